@@ -1,0 +1,220 @@
+//! Keys and values: texts of limited length.
+ghost use Rattle.std.specs.Prelude.{◌≡◌, true, false, Some, IfOk, bytes_eq, ◌↔◌, IfErr, ◌⊎◌, refl};
+ghost use Rattle.std.proofs.Common.{rules};
+ghost use Rattle.std.specs.Hash as fed;
+ghost use Rattle.std.specs.Ordering.{nat_cmp};
+ghost use Rattle.std.specs.Cmp.{partial_equiv_from_equiv};
+ghost use Rattle.std.specs.Cmp.Lexicographic.{slice_cmp, nat_list_eq_equiv, nat_list_cmp_total, texts_ties, texts_po};
+ghost use Rattle.std.specs.Cmp.Rules.{hashing};
+ghost use Rattle.std.specs.List.{list_all};
+ghost use Rattle.tag.specs.Names.{is_key_byte, is_key, is_value};
+
+use crate::Memory;
+use std::alloc::Global;
+use std::cmp::Ordering;
+use std::hash::{Hash, Hasher};
+use std::marker::Model;
+use thiserror::Error;
+
+/// Why a text or a number is no name.
+#[derive(Clone, Copy, Debug, PartialEq, Eq, Error)]
+pub enum NameError {
+    #[error("a key is 1 to 64 ASCII letters, digits, `.`, `_` or `-`")]
+    BadKey,
+    #[error("a value is at most 256 bytes")]
+    BadValue,
+    #[error("a client's name is 1 to 65535")]
+    BadClient,
+    #[error("no memory")]
+    Memory,
+}
+
+/// A key: 1 to 64 bytes, each an ASCII letter, a digit, or one of `.` `_` `-`.
+#[derive(Debug, Drop)]
+pub struct Key {
+    name: String,
+}
+
+impl Model for Key {
+    ghost use Rattle.std.specs.Prelude.{◌≡◌, true, List, ℕ, string_bytes};
+    ghost use Rattle.tag.specs.Names.{is_key};
+
+    ghost Value = { List ℕ };
+
+    ghost view = { λ k. string_bytes k.name };
+
+    ghost invariant = { λ k. is_key (string_bytes k.name) ≡ true };
+}
+
+fn is_key_byte(byte: u8) -> bool
+    ensures { result ≡ is_key_byte byte }
+{
+    byte.is_ascii_alphanumeric() || byte == b'.' || byte == b'_' || byte == b'-'
+}
+
+fn has_key_bytes(text: &str) -> bool
+    ensures { result ≡ list_all is_key_byte text.now }
+{
+    text.as_bytes().iter().all(|b| is_key_byte(*b))
+}
+
+fn is_key(text: &str) -> bool
+    ensures { result ≡ is_key text.now }
+{
+    !text.is_empty() && text.len() <= 64 && has_key_bytes(text)
+}
+
+fn is_value(text: &str) -> bool
+    ensures { result ≡ is_value text.now }
+{
+    text.len() <= 256
+}
+
+impl Key {
+    ghost use Rattle.std.specs.Prelude.{ok_or};
+
+    /// The key of that text. `BadKey` comes exactly where the text is no key, `Memory` only where
+    /// the copy of a key's text was refused.
+    pub fn new(alloc: Global, text: &str) -> Result<Key, NameError>
+        ensures value { IfOk result (λ key. (key ≡ text.now) × (is_key text.now ≡ true)) }
+        ensures bad { (result ≡ Err NameError.BadKey) ↔ (is_key text.now ≡ false) }
+        ensures only { IfErr result (λ error. (error ≡ NameError.BadKey) ⊎ (error ≡ NameError.Memory)) }
+    {
+        if !is_key(text) {
+            return Err(NameError::BadKey);
+        }
+        match String::from_str(alloc, text) {
+            Ok(name) => Ok(Key { name }),
+            Err(_) => Err(NameError::Memory),
+        }
+    }
+
+    /// The text.
+    pub fn as_str(&self) -> &str
+        ensures { result.now ≡ self.now }
+    {
+        self.name.as_str()
+    }
+
+    /// An equal key.
+    pub fn copy(&self) -> Result<Key, Memory>
+        ensures { IfOk result (λ key. key ≡ self.now) }
+    {
+        Ok(Key {
+            name: self.name.clone()?,
+        })
+    }
+}
+
+impl PartialEq for Key {
+    ghost eq = { bytes_eq };
+
+    ghost laws = { partial_equiv_from_equiv nat_list_eq_equiv };
+
+    fn eq(&self, other: &Key) -> bool {
+        self.as_str() == other.as_str()
+    }
+}
+
+impl Eq for Key {
+    ghost laws = { nat_list_eq_equiv };
+}
+
+impl PartialOrd for Key {
+    ghost partial_cmp = { λ a b. Some (slice_cmp nat_cmp a b) };
+
+    ghost laws = { texts_po };
+
+    fn partial_cmp(&self, other: &Key) -> Option<Ordering> {
+        Some(self.cmp(other))
+    }
+}
+
+impl Ord for Key {
+    ghost cmp = { slice_cmp nat_cmp };
+
+    ghost total = { nat_list_cmp_total };
+
+    ghost matches_partial_cmp = { λ a b. refl };
+
+    ghost matches_eq = { texts_ties };
+
+    fn cmp(&self, other: &Key) -> Ordering {
+        self.as_str().cmp(other.as_str())
+    }
+}
+
+impl Hash for Key {
+    ghost hash_input = { fed.str };
+
+    ghost respects_eq = { Prim.search (hashing, rules) };
+
+    fn hash<H: Hasher>(&self, state: &mut H) {
+        self.as_str().hash(state);
+    }
+}
+
+/// A value: a text of at most 256 bytes.
+#[derive(Debug, Drop)]
+pub struct Value {
+    text: String,
+}
+
+impl Model for Value {
+    ghost use Rattle.std.specs.Prelude.{◌≡◌, true, List, ℕ, string_bytes};
+    ghost use Rattle.tag.specs.Names.{is_value};
+
+    ghost Value = { List ℕ };
+
+    ghost view = { λ v. string_bytes v.text };
+
+    ghost invariant = { λ v. is_value (string_bytes v.text) ≡ true };
+}
+
+impl Value {
+    /// The value of that text. `BadValue` comes exactly where the text has more than 256 bytes,
+    /// `Memory` only where the copy of a value's text was refused.
+    pub fn new(alloc: Global, text: &str) -> Result<Value, NameError>
+        ensures value { IfOk result (λ value. (value ≡ text.now) × (is_value text.now ≡ true)) }
+        ensures bad { (result ≡ Err NameError.BadValue) ↔ (is_value text.now ≡ false) }
+        ensures only { IfErr result (λ error. (error ≡ NameError.BadValue) ⊎ (error ≡ NameError.Memory)) }
+    {
+        if !is_value(text) {
+            return Err(NameError::BadValue);
+        }
+        match String::from_str(alloc, text) {
+            Ok(text) => Ok(Value { text }),
+            Err(_) => Err(NameError::Memory),
+        }
+    }
+
+    /// The text.
+    pub fn as_str(&self) -> &str
+        ensures { result.now ≡ self.now }
+    {
+        self.text.as_str()
+    }
+
+    /// An equal value.
+    pub fn copy(&self) -> Result<Value, Memory>
+        ensures { IfOk result (λ value. value ≡ self.now) }
+    {
+        Ok(Value {
+            text: self.text.clone()?,
+        })
+    }
+}
+
+impl PartialEq for Value {
+    ghost eq = { bytes_eq };
+
+    ghost laws = { partial_equiv_from_equiv nat_list_eq_equiv };
+
+    fn eq(&self, other: &Value) -> bool {
+        self.text == other.text
+    }
+}
+
+impl Eq for Value {
+    ghost laws = { nat_list_eq_equiv };
+}
