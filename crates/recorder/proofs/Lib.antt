@@ -1,0 +1,13 @@
+mod Lists
+mod Numbers
+mod OneMore
+mod States
+mod Busy
+mod Answering
+mod Keeps
+mod Entries
+mod Recorded
+mod PartBelow
+mod PartsBelow
+mod Sorted
+mod OneList

@@ -1,0 +1,147 @@
+-- The states beside the rows, with one row more.
+use Rattle.std.proofs.Common.{ℕ, ◌≡◌, ◌↔◌, ◌⊎◌, inl, inr, List, [], ◌∷◌, ◌++◌, Option, Some, None, IsSome, true, false, length, set, sym, ◌∙◌, ap, subst, refl, arith, length-append, length-set}
+use Rattle.std.specs.List.{slice_get, Contains}
+use Rattle.std.proofs.lemmas.Option.{slice_get_within}
+use Rattle.std.proofs.lemmas.List.Elements.{Contains-append_left, Contains-push, Contains-push_cases}
+use Rattle.tag.specs.declared.actions.Action.{Action}
+use Rattle.tag.specs.declared.actions.Returned.{Returned}
+use Rattle.tag.specs.declared.numbers.OpId.{OpId}
+use Rattle.tag.specs.Tags.{Tag}
+use Rattle.recorder.specs.declared.row.Row.{Row}
+use Rattle.recorder.specs.declared.row.Row.TheVariants.{Invoke, Note, Respond}
+use Rattle.recorder.specs.declared.history.CallState.{CallState}
+use Rattle.recorder.specs.Histories.{call_count, HasNote, HasResponse, IsPendingCall, IsPendingOp, IsWellFormed}
+use Rattle.recorder.specs.States.{Describes, AreStates, RespondsAt, is_write}
+use Rattle.recorder.proofs.Lists.{place_of, get_at, push_cases, slice_get-set, slice_get-push_last, Contains-slice_get}
+use Rattle.recorder.proofs.Numbers.{count_push, number_below, no_note, no_response}
+use Rattle.recorder.proofs.OneMore.{HasResponse-back, Describes-push, noted_same, answered_same}
+
+-- what a state says of its call
+module _ (rows : List Row) (op : OpId) (state : CallState) (d : Describes rows op state) where
+  pub not_noted : state.note ≡ None → HasNote rows op → ⊥
+  not_noted none h = let some : state.note ≡ Some h.0 = (d.noted h.0).1 h.1 in cc
+
+  pub has_note : IsSome state.note → HasNote rows op
+  has_note some = by state.note refl some
+    where
+      by : (note : Option Tag) → state.note ≡ note → IsSome note → HasNote rows op
+      by None e h = absurd (cc)
+      by (Some tag) e h = (tag, (d.noted tag).0 e)
+
+  pub not_answered : state.response ≡ None → HasResponse rows op → ⊥
+  not_answered none h =
+      let k = place_of rows (Respond op h.0) h.1 in
+      let some : state.response ≡ Some k.0 = (d.answered k.0).1 (h.0, k.1) in
+      cc
+
+  pub has_response : IsSome state.response → HasResponse rows op
+  has_response some = by state.response refl some
+    where
+      by : (response : Option ℕ) → state.response ≡ response → IsSome response → HasResponse rows op
+      by None e h = absurd (cc)
+      by (Some place) e h =
+          let r = (d.answered place).0 e in
+          (r.0, Contains-slice_get rows place (Respond op r.0) r.1)
+
+  pub pending_from : state.response ≡ None → IsPendingCall rows op state.client d.action
+  pending_from waits = record { key = d.key; invoked = d.invoked; unanswered = not_answered waits }
+
+-- a call whose state, if any, has a response isn't pending
+pub not_pending : (rows : List Row) (states : List CallState) → IsWellFormed rows → AreStates rows states → (op : OpId) → ((state : CallState) → slice_get states op.0 ≡ Some state → IsSome state.response) → IsPendingOp rows op → ⊥
+not_pending rows states formed are op done pending =
+    let p = pending.2 in
+    let below = number_below rows formed op pending.0 p.key pending.1 p.invoked in
+    let s = get_at states op.0 (omega (arith, below, are.all)) in
+    p.unanswered (has_response rows op s.0 (are.each op s.0 s.1) (done s.0 s.1))
+
+pub same_op : (a b : OpId) → a.0 ≡ b.0 → a ≡ b
+same_op a b e = ap (λ (n : ℕ). let x : OpId = record { 0 = n } in x) e
+
+-- one note more
+module _ (rows : List Row) (op : OpId) (tag : Tag) where
+  pub Describes-noted : (state : CallState) → state.note ≡ None → Describes rows op state → Describes (rows ++ Note op tag ∷ []) op (record state { note = Some tag })
+  Describes-noted state none d =
+      let same = answered_same rows (Note op tag) op (λ r e. cc) in
+      record {
+        key = d.key;
+        action = d.action;
+        kind = d.kind;
+        invoked = Contains-append_left rows (Note op tag ∷ []) (Invoke op state.client d.key d.action) d.invoked;
+        noted = λ t. (λ e. let here : tag ≡ t = cc in subst (λ (x : Tag). Contains (rows ++ Note op tag ∷ []) (Note op x)) here (Contains-push rows (Note op tag)), λ h. by t (Contains-push_cases rows (Note op tag) (Note op t) h));
+        answered = λ place. (λ e. (same place).0 ((d.answered place).0 e), λ h. (d.answered place).1 ((same place).1 h));
+      }
+    where
+      by : (t : Tag) → Contains rows (Note op t) ⊎ (Note op tag ≡ Note op t) → Some tag ≡ Some t
+      by t (inl h) = absurd (not_noted rows op state d none (t, h))
+      by t (inr e) = cc
+
+  pub states_note : (states : List CallState) (state noted : CallState) → AreStates rows states → slice_get states op.0 ≡ Some state → state.note ≡ None → noted ≡ record state { note = Some tag } → AreStates (rows ++ Note op tag ∷ []) (set states op.0 noted)
+  states_note states state noted are at none is = record {
+    all = length-set states op.0 noted ∙ (are.all ∙ sym (count_push rows (Note op tag) ∙ omega arith));
+    each = λ o s there. elim (slice_get-set states op.0 o.0 noted (slice_get_within states op.0 state at)) [
+      | inl w ↦
+          let here : o ≡ op = same_op o op w.0 in
+          let same : record state { note = Some tag } ≡ s = cc (w.1, there) in
+          let d = Describes-noted state none (are.each op state at) in
+          subst (λ (x : OpId). Describes (rows ++ Note op tag ∷ []) x s) (sym here) (subst (λ (x : CallState). Describes (rows ++ Note op tag ∷ []) op x) same d)
+      | inr w ↦ Describes-push rows (Note op tag) o s (λ t e. w.0 (let same : op ≡ o = cc in ap (λ (x : OpId). x.0) (sym same))) (λ r e. cc) (are.each o s (sym w.1 ∙ there))
+    ];
+  }
+
+-- one response more
+module _ (rows : List Row) (op : OpId) (returned : Returned) where
+  pub Describes-answered : (state : CallState) → state.response ≡ None → Describes rows op state → Describes (rows ++ Respond op returned ∷ []) op (record state { response = Some (length rows) })
+  Describes-answered state none d =
+      let same = noted_same rows (Respond op returned) op (λ t e. cc) in
+      record {
+        key = d.key;
+        action = d.action;
+        kind = d.kind;
+        invoked = Contains-append_left rows (Respond op returned ∷ []) (Invoke op state.client d.key d.action) d.invoked;
+        noted = λ t. (λ e. (same t).0 ((d.noted t).0 e), λ h. (d.noted t).1 ((same t).1 h));
+        answered = λ place. (λ e. let here : length rows ≡ place = cc in (returned, subst (λ (k : ℕ). slice_get (rows ++ Respond op returned ∷ []) k ≡ Some (Respond op returned)) here (slice_get-push_last rows (Respond op returned))), λ h. by place h.0 (push_cases rows (Respond op returned) place (Respond op h.0) h.1));
+      }
+    where
+      by : (place : ℕ) (r : Returned) → (slice_get rows place ≡ Some (Respond op r)) ⊎ ((place ≡ length rows) × (Respond op returned ≡ Respond op r)) → Some (length rows) ≡ Some place
+      by place r (inl h) = absurd (not_answered rows op state d none (r, Contains-slice_get rows place (Respond op r) h))
+      by place r (inr e) = ap Some (sym e.0)
+
+  pub states_respond : (states : List CallState) (state answered : CallState) → AreStates rows states → slice_get states op.0 ≡ Some state → state.response ≡ None → answered ≡ record state { response = Some (length rows) } → AreStates (rows ++ Respond op returned ∷ []) (set states op.0 answered)
+  states_respond states state answered are at none is = record {
+    all = length-set states op.0 answered ∙ (are.all ∙ sym (count_push rows (Respond op returned) ∙ omega arith));
+    each = λ o s there. elim (slice_get-set states op.0 o.0 answered (slice_get_within states op.0 state at)) [
+      | inl w ↦
+          let here : o ≡ op = same_op o op w.0 in
+          let same : record state { response = Some (length rows) } ≡ s = cc (w.1, there) in
+          let d = Describes-answered state none (are.each op state at) in
+          subst (λ (x : OpId). Describes (rows ++ Respond op returned ∷ []) x s) (sym here) (subst (λ (x : CallState). Describes (rows ++ Respond op returned ∷ []) op x) same d)
+      | inr w ↦ Describes-push rows (Respond op returned) o s (λ t e. cc) (λ r e. w.0 (let same : op ≡ o = cc in ap (λ (x : OpId). x.0) (sym same))) (are.each o s (sym w.1 ∙ there))
+    ];
+  }
+
+-- one invocation more
+module _ (rows : List Row) (formed : IsWellFormed rows) (op : OpId) (client : ℕ) (key : List ℕ) (action : Action) (fresh : op.0 ≡ call_count rows) where
+  pub Describes-begun : Describes (rows ++ Invoke op client key action ∷ []) op (record { client = client; is_write = is_write action; note = None; response = None })
+  Describes-begun =
+      let notes = noted_same rows (Invoke op client key action) op (λ t e. cc) in
+      let answers = answered_same rows (Invoke op client key action) op (λ r e. cc) in
+      record {
+        key = key;
+        action = action;
+        kind = refl;
+        invoked = Contains-push rows (Invoke op client key action);
+        noted = λ t. (λ e. absurd (cc), λ h. absurd (no_note rows formed op fresh (t, (notes t).1 h)));
+        answered = λ place. (λ e. absurd (cc), λ h. let r = (answers place).1 h in absurd (no_response rows formed op fresh (r.0, Contains-slice_get rows place (Respond op r.0) r.1)));
+      }
+
+  pub states_invoke : (states : List CallState) (state : CallState) → AreStates rows states → state ≡ record { client = client; is_write = is_write action; note = None; response = None } → AreStates (rows ++ Invoke op client key action ∷ []) (states ++ state ∷ [])
+  states_invoke states state are is = record {
+    all = simp length-append (omega (arith, count_push rows (Invoke op client key action), are.all));
+    each = λ o s there. elim (push_cases states state o.0 s there) [
+      | inl w ↦ Describes-push rows (Invoke op client key action) o s (λ t e. cc) (λ r e. cc) (are.each o s w)
+      | inr w ↦
+          let here : o ≡ op = same_op o op (omega (arith, w.0, are.all, fresh)) in
+          let same : record { client = client; is_write = is_write action; note = None; response = None } ≡ s = sym is ∙ w.1 in
+          subst (λ (x : OpId). Describes (rows ++ Invoke op client key action ∷ []) x s) (sym here) (subst (λ (x : CallState). Describes (rows ++ Invoke op client key action ∷ []) op x) same Describes-begun)
+    ];
+  }

@@ -1,0 +1,9 @@
+pub mod Parts
+pub mod Orders
+pub mod Histories
+pub mod States
+pub mod Kept
+pub mod Answers
+pub mod Records
+pub mod Sound
+pub mod Adding

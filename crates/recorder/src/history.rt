@@ -1,0 +1,218 @@
+//! Histories: rows of calls as they come.
+ghost use Rattle.std.specs.Prelude.{◌≡◌, ◌≤◌, [], IfOk, IfSome, IfNone, IsSome, Some, None, slice_get, true, false, IsTrue, ◌↔◌};
+ghost use Rattle.recorder.specs.declared.history.CallState.{CallState};
+ghost use Rattle.recorder.specs.Histories.{IsBusy, IsWellFormed, call_count};
+ghost use Rattle.recorder.specs.Answers.{Adds};
+ghost use Rattle.recorder.specs.States.{is_write};
+
+mod parts;
+
+use crate::row::{Row, RowRefusal};
+use std::alloc::Global;
+use std::collections::HashSet;
+use std::marker::Model;
+use tag::{Action, ClientId, Key, Memory, OpId, Returned, Tag};
+
+/// What a history knows of a call without a look at its rows.
+#[derive(Clone, Copy, Debug)]
+struct CallState {
+    client: u32,
+    is_write: bool,
+    note: Option<Tag>,
+    /// The place of its response's row.
+    response: Option<usize>,
+}
+
+/// The rows of calls, as they came.
+///
+/// Calls are numbered 0, 1, 2 and so on as they begin. A client has one pending call at most. A
+/// call gets one note and one response at most, both while it is pending, and an answer of its
+/// kind. A row that breaks a rule is refused and leaves the history as it was; adding one takes
+/// the same time however many there are.
+#[derive(Drop)]
+pub struct History {
+    rows: Vec<Row>,
+    states: Vec<CallState>,
+    busy: HashSet<u32>,
+    limit: u32,
+}
+
+impl Model for History {
+    ghost use Rattle.recorder.specs.Histories.{Recorded};
+
+    ghost Value = { Recorded };
+
+    ghost use Rattle.recorder.specs.Kept.{recorded, IsKept};
+
+    ghost view = { recorded };
+
+    ghost invariant = { IsKept };
+}
+
+impl History {
+    /// A history without a row, that may have so many calls.
+    pub fn new(alloc: Global, limit: u32) -> History
+        requires { limit ≤ 1000000 }
+        ensures { result ≡ record { rows = []; limit = limit } }
+    {
+        History {
+            rows: Vec::new(alloc),
+            states: Vec::new(alloc),
+            busy: HashSet::new(alloc),
+            limit,
+        }
+    }
+
+    /// The rows, in the order in which they came.
+    pub fn rows(&self) -> &[Row]
+        ensures rows { result.now ≡ self.now.rows }
+        ensures formed { IsWellFormed self.now.rows }
+    {
+        self.rows.as_slice()
+    }
+
+    /// How many calls were begun.
+    pub fn calls(&self) -> usize
+        ensures count { result ≡ call_count self.now.rows }
+        ensures most { result ≤ self.now.limit }
+    {
+        self.states.len()
+    }
+
+    /// How many calls may be begun.
+    pub fn limit(&self) -> u32
+        ensures limit { result ≡ self.now.limit }
+        ensures most { result ≤ 1000000 }
+    {
+        self.limit
+    }
+
+    /// An equal history: the same rows and the same limit. `Memory` comes only where a growth was
+    /// refused.
+    pub fn copy(&self) -> Result<History, Memory>
+        ensures { IfOk result (λ history. history ≡ self.now) }
+    {
+        let alloc = *self.rows.allocator();
+        Ok(History {
+            rows: copied_rows(alloc, &self.rows)?,
+            states: Vec::from_slice(alloc, &self.states)?,
+            busy: self.busy.clone()?,
+            limit: self.limit,
+        })
+    }
+
+    /// Whether the client has a pending call.
+    pub fn is_busy(&self, client: ClientId) -> bool
+        ensures busy { IsTrue result → IsBusy self.now.rows client }
+        ensures idle { (result ≡ false) → IsBusy self.now.rows client → ⊥ }
+    {
+        self.busy.contains(&client.get())
+    }
+
+    /// Begins a call, and answers its number. `OpsFull` comes where the history has all the calls
+    /// that it may have, else `ClientBusy` where the client has a pending call, else `Memory` only
+    /// where a growth was refused; each leaves the history as it was.
+    pub fn invoke(&mut self, client: ClientId, key: Key, action: Action) -> Result<OpId, RowRefusal>
+        ensures row { Adds self.old (Row.Invoke (record { 0 = call_count self.old.rows }) client key action) result self.new }
+        ensures number { IfOk result (λ op. op.0 ≡ call_count self.old.rows) }
+    {
+        let count = self.states.len();
+        if count >= self.limit as usize {
+            return Err(RowRefusal::OpsFull);
+        }
+        if self.busy.contains(&client.get()) {
+            return Err(RowRefusal::ClientBusy);
+        }
+        let op = OpId(count as u32);
+        let is_write = is_write(&action);
+        // Whatever can be refused comes first.
+        self.rows.reserve(1)?;
+        self.states.reserve(1)?;
+        self.busy.insert(client.get())?;
+        self.states.push(CallState {
+            client: client.get(),
+            is_write,
+            note: None,
+            response: None,
+        })?;
+        self.rows.push(Row::Invoke {
+            op,
+            client,
+            key,
+            action,
+        })?;
+        Ok(op)
+    }
+
+    /// Fixes a pending call's tag. `NotPending` comes where the call isn't pending, else
+    /// `NoteTwice` where it has a note, else `Memory` only where a growth was refused; each leaves
+    /// the history as it was.
+    pub fn note(&mut self, op: OpId, tag: Tag) -> Result<(), RowRefusal>
+        ensures { Adds self.old (Row.Note op tag) result self.new }
+    {
+        let Some(state) = pending_state(&self.states, op) else {
+            return Err(RowRefusal::NotPending);
+        };
+        if state.note.is_some() {
+            return Err(RowRefusal::NoteTwice);
+        }
+        self.rows.push(Row::Note { op, tag })?;
+        self.states[op.0 as usize].note = Some(tag);
+        Ok(())
+    }
+
+    /// Answers a pending call. `NotPending` comes where the call isn't pending, else `WrongKind`
+    /// where the answer isn't of the call's kind, else `Memory` only where a growth was refused;
+    /// each leaves the history as it was.
+    pub fn respond(&mut self, op: OpId, returned: Returned) -> Result<(), RowRefusal>
+        ensures { Adds self.old (Row.Respond op returned) result self.new }
+    {
+        let Some(state) = pending_state(&self.states, op) else {
+            return Err(RowRefusal::NotPending);
+        };
+        if state.is_write != is_done(&returned) {
+            return Err(RowRefusal::WrongKind);
+        }
+        let place = self.rows.len();
+        self.rows.push(Row::Respond { op, returned })?;
+        self.states[op.0 as usize].response = Some(place);
+        self.busy.remove(&state.client);
+        Ok(())
+    }
+}
+
+/// Copies of the rows.
+fn copied_rows(alloc: Global, rows: &[Row]) -> Result<Vec<Row>, Memory>
+    ensures { IfOk result (λ copies. copies.items ≡ rows.now) }
+{
+    let mut copies = Vec::with_capacity(alloc, rows.len())?;
+    for row in rows {
+        copies.push(row.copy()?)?;
+    }
+    Ok(copies)
+}
+
+/// Whether the action is a write.
+fn is_write(action: &Action) -> bool
+    ensures { result ≡ is_write action.now }
+{
+    matches!(action, Action::Write(_))
+}
+
+/// Whether the answer is a write's.
+fn is_done(returned: &Returned) -> bool
+    ensures { IsTrue result ↔ (returned.now ≡ Returned.Written) }
+{
+    matches!(returned, Returned::Written)
+}
+
+/// The state of a call, where it is pending.
+fn pending_state(states: &[CallState], op: OpId) -> Option<CallState>
+    ensures some { IfSome result (λ state. (slice_get states.now op.0 ≡ Some state) × (state.response ≡ None)) }
+    ensures none { IfNone result ((state : CallState) → slice_get states.now op.0 ≡ Some state → IsSome state.response) }
+{
+    match states.get(op.0 as usize) {
+        Some(state) if state.response.is_none() => Some(*state),
+        _ => None,
+    }
+}

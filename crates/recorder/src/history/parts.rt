@@ -1,0 +1,85 @@
+//! The parts of a history.
+ghost use Rattle.std.specs.Prelude.{◌≡◌, List, [], ◌∷◌, ◌++◌, IfOk, OnOk, Contains};
+ghost use Rattle.std.specs.Option.{ForSome};
+ghost use Rattle.recorder.specs.declared.part.Call.{Call};
+ghost use Rattle.tag.specs.declared.numbers.OpId.{OpId};
+ghost use Rattle.recorder.specs.Parts.{IsSequence};
+ghost use Rattle.recorder.specs.States.{RespondsAt};
+ghost use Rattle.recorder.specs.Adding.{AddsCall, IsResponseAt};
+
+use super::History;
+use crate::part::{Call, Part, Response};
+use crate::row::Row;
+use indexmap::IndexMap;
+use tag::{Key, Memory, OpId};
+
+impl History {
+    ghost use Rattle.recorder.specs.Records.{AreParts};
+
+    /// The calls of each key as the rows record them, in one pass; the keys in the order in which
+    /// they are first seen. `Memory` comes only where a growth was refused.
+    pub fn parts(&self) -> Result<IndexMap<Key, Part>, Memory>
+        ensures { IfOk result (λ parts. AreParts self.now.rows parts.entries) }
+    {
+        let mut parts = IndexMap::new(*self.rows.allocator());
+        for (place, row) in self.rows.iter().enumerate() {
+            if let Row::Invoke {
+                op,
+                client,
+                key,
+                action,
+            } = row
+            {
+                let state = self.states[op.0 as usize];
+                let call = Call {
+                    op: *op,
+                    client: *client,
+                    action: action.copy()?,
+                    note: state.note,
+                    invoked: place,
+                    response: response_at(&self.rows, state.response)?,
+                };
+                add_call(&mut parts, key, call)?;
+            }
+        }
+        Ok(parts)
+    }
+}
+
+/// The response whose row stands at that place.
+fn response_at(rows: &[Row], place: Option<usize>) -> Result<Option<Response>, Memory>
+    requires { ForSome place (λ k. (op : OpId) × RespondsAt rows.now op k) }
+    ensures { IfOk result (λ response. IsResponseAt rows.now place response) }
+{
+    let Some(place) = place else {
+        return Ok(None);
+    };
+    match &rows[place] {
+        Row::Respond { returned, .. } => Ok(Some(Response {
+            place,
+            returned: returned.copy()?,
+        })),
+        Row::Invoke { .. } | Row::Note { .. } => unreachable!(),
+    }
+}
+
+/// Adds a call behind all others on its key.
+fn add_call(parts: &mut IndexMap<Key, Part>, key: &Key, call: Call) -> Result<(), Memory>
+    requires first { IsSequence (call ∷ []) }
+    requires later { (part : List Call) → Contains parts.old.entries (key.now, part) → IsSequence (part ++ call ∷ []) }
+    ensures { OnOk result (AddsCall parts.old.entries key.now call parts.new.entries) }
+{
+    match parts.get_index_of(key) {
+        Some(slot) => {
+            let (_, part) = parts.pair_mut(slot);
+            part.push(call)?;
+        }
+        None => {
+            let alloc = *parts.allocator();
+            let mut part = Part::empty(alloc);
+            part.push(call)?;
+            parts.insert(key.copy()?, part)?;
+        }
+    }
+    Ok(())
+}

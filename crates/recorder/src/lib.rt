@@ -1,0 +1,19 @@
+//! Histories of calls, and the parts that they fall into, one for each key.
+//!
+//! A `History` is well-formed by its type: a row comes in only where it may follow the rows
+//! before it, in time that doesn't grow with their number. `History::parts` gives the calls of
+//! each key as the rows record them, in one pass.
+#![tactic(auto)]
+
+mod history;
+pub mod laws;
+mod order;
+mod part;
+mod row;
+#[cfg(test)]
+mod tests;
+
+pub use history::History;
+pub use order::{KeyOrder, Order};
+pub use part::{Call, Part, Response};
+pub use row::{Row, RowRefusal};

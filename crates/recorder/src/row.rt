@@ -1,0 +1,93 @@
+//! Rows of a history, and why one may be refused.
+ghost use Rattle.std.specs.Prelude.{◌≡◌, IfOk};
+
+use std::alloc::{AllocError, AllocFailed};
+use tag::{Action, ClientId, Key, Memory, OpId, Returned, Tag};
+use thiserror::Error;
+
+/// A row of a history.
+#[derive(Debug, Drop, PartialEq, Eq)]
+pub enum Row {
+    /// A client begins a call on a key.
+    Invoke {
+        op: OpId,
+        client: ClientId,
+        key: Key,
+        action: Action,
+    },
+    /// A call's tag is fixed.
+    Note {
+        op: OpId,
+        tag: Tag,
+    },
+    /// A call is answered.
+    Respond {
+        op: OpId,
+        returned: Returned,
+    },
+}
+
+impl Row {
+    /// An equal row. `Memory` comes only where a text's copy was refused.
+    pub fn copy(&self) -> Result<Row, Memory>
+        ensures { IfOk result (λ row. row ≡ self.now) }
+    {
+        match self {
+            Row::Invoke {
+                op,
+                client,
+                key,
+                action,
+            } => Ok(Row::Invoke {
+                op: *op,
+                client: *client,
+                key: key.copy()?,
+                action: action.copy()?,
+            }),
+            Row::Note { op, tag } => Ok(Row::Note { op: *op, tag: *tag }),
+            Row::Respond { op, returned } => Ok(Row::Respond {
+                op: *op,
+                returned: returned.copy()?,
+            }),
+        }
+    }
+}
+
+/// Why a row was refused: of all reasons that apply the first in this list.
+#[derive(Clone, Copy, Debug, PartialEq, Eq, Error)]
+pub enum RowRefusal {
+    #[error("the history has all the calls that it may have")]
+    OpsFull,
+    #[error("the client has a call without a response")]
+    ClientBusy,
+    #[error("the call isn't pending: it never began, or it has its response")]
+    NotPending,
+    #[error("the answer isn't of the call's kind: a write is answered `written`, a read a value or none")]
+    WrongKind,
+    #[error("the call has a note already")]
+    NoteTwice,
+    #[error("no memory")]
+    Memory,
+}
+
+impl From<AllocError> for RowRefusal {
+    ghost use Rattle.std.specs.Prelude.{◌≡◌};
+    ghost use Rattle.recorder.specs.declared.row.RowRefusal.TheVariants.{Memory};
+
+    ghost from_gives = { λ _ e. e ≡ Memory };
+
+    fn from(_: AllocError) -> RowRefusal {
+        RowRefusal::Memory
+    }
+}
+
+impl<T: Drop> From<AllocFailed<T>> for RowRefusal {
+    ghost use Rattle.std.specs.Prelude.{◌≡◌};
+    ghost use Rattle.recorder.specs.declared.row.RowRefusal.TheVariants.{Memory};
+
+    ghost from_gives = { λ _ e. e ≡ Memory };
+
+    fn from(_: AllocFailed<T>) -> RowRefusal {
+        RowRefusal::Memory
+    }
+}
