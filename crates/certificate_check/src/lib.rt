@@ -1,0 +1,15 @@
+//! The verdict on an order of a part's calls: exactly the definition's.
+//!
+//! An order is judged in one pass for each kind of fault, in `n log n` steps; no pass compares all
+//! pairs, and the definition speaks of nothing else.
+#![tactic(auto)]
+
+mod check;
+pub mod laws;
+mod listing;
+#[cfg(test)]
+mod tests;
+mod verdict;
+
+pub use check::check_part;
+pub use verdict::{Fault, Verdict};
