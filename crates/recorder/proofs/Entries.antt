@@ -1,5 +1,5 @@
 -- Entries of a map whose keys are texts, by place.
-use Rattle.std.proofs.Common.{ℕ, zero, suc, ◌≡◌, List, [], ◌∷◌, Option, Some, None, is_some, Bool, true, false, cond, set, get_or, map, position, sym, ◌∙◌, ap, subst, refl}
+use Rattle.std.proofs.Common.{ℕ, zero, suc, ◌≡◌, List, [], ◌∷◌, Option, Some, is_some, Bool, true, false, cond, set, get_or, position, sym, ◌∙◌, ap, subst}
 use Rattle.std.specs.List.{slice_get, Contains}
 use Rattle.std.specs.Option.{option_map}
 use Rattle.std.specs.Str.{bytes_eq}

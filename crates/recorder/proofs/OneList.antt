@@ -1,5 +1,5 @@
 -- The part of a key, and the parts of a history, are one list.
-use Rattle.std.proofs.Common.{ℕ, ◌≡◌, ◌↔◌, List, Option, Some, None, sym, ◌∙◌, ap, subst, refl, arith}
+use Rattle.std.proofs.Common.{ℕ, ◌≡◌, List, Option, Some, None, sym, ap, subst, refl, arith}
 use Rattle.std.specs.List.{slice_get, Contains}
 use Rattle.tag.specs.declared.actions.Action.{Action}
 use Rattle.tag.specs.declared.numbers.OpId.{OpId}
@@ -9,7 +9,6 @@ use Rattle.recorder.specs.declared.row.Row.TheVariants.{Invoke, Note, Respond}
 use Rattle.recorder.specs.declared.part.Call.{Call}
 use Rattle.recorder.specs.declared.part.Response.{Response}
 use Rattle.recorder.specs.Records.{IsRecorded, IsPart, IsFirstSeen, AreParts}
-use Rattle.recorder.proofs.Lists.{Contains-slice_get}
 use Rattle.recorder.proofs.Sorted.{IsInOrder, same_in_order}
 
 -- two options that are the same values are one

@@ -1,5 +1,5 @@
 -- The parts of the rows before a place.
-use Rattle.std.proofs.Common.{ℕ, ◌≡◌, ◌≢◌, ◌<◌, ◌+◌, ◌⊎◌, inl, inr, List, [], ◌∷◌, ◌++◌, Some, length, set, sym, ◌∙◌, ap, subst, refl, arith}
+use Rattle.std.proofs.Common.{ℕ, ◌≡◌, ◌≢◌, ◌<◌, ◌+◌, ◌⊎◌, inl, inr, List, [], ◌∷◌, ◌++◌, Some, length, set, sym, ◌∙◌, ap, subst, arith}
 use Rattle.std.specs.List.{slice_get, Contains}
 use Rattle.std.proofs.lemmas.Option.{slice_get_within, some_pair_parts}
 use Rattle.std.proofs.lemmas.Bool.{cases_lt}
@@ -7,16 +7,13 @@ use Rattle.std.proofs.lemmas.List.Elements.{Contains-append_left, Contains-push}
 use Rattle.recorder.specs.declared.row.Row.{Row}
 use Rattle.recorder.specs.declared.row.Row.TheVariants.{Invoke}
 use Rattle.recorder.specs.declared.part.Call.{Call}
-use Rattle.recorder.specs.Records.{IsRecorded, IsPart, BeginsAt, IsFirstSeen, AreParts}
+use Rattle.recorder.specs.Records.{IsRecorded, BeginsAt, IsFirstSeen, AreParts}
 use Rattle.recorder.specs.Adding.{AddsCall, Extends, Begins}
 use Rattle.recorder.proofs.Lists.{place_of, push_cases, slice_get-set, Contains-slice_get}
 use Rattle.recorder.specs.Histories.{IsWellFormed}
 use Rattle.recorder.specs.Parts.{IsSequence}
 use Rattle.recorder.proofs.Recorded.{IsSequence-recorded}
 use Rattle.recorder.proofs.PartBelow.{IsPartBelow, below_or_at, IsPartBelow-none, IsPartBelow-skip, IsPartBelow-push, IsPart-all}
-
-abbrev pub Parts : Type 0
-Parts = List (List ℕ × List Call)
 
 -- the parts of the calls that are begun before place n
 pub record ArePartsBelow (rows : List Row) (n : ℕ) (parts : List (List ℕ × List Call)) : Type 0 where

@@ -10,10 +10,9 @@ use Rattle.recorder.specs.declared.history.CallState.{CallState}
 use Rattle.recorder.specs.declared.part.Call.{Call}
 use Rattle.recorder.specs.declared.part.Response.{Response}
 use Rattle.recorder.specs.Histories.{IsWellFormed}
-use Rattle.recorder.specs.States.{Describes}
+use Rattle.recorder.specs.States.{Describes, IsResponseAt}
 use Rattle.recorder.specs.Parts.{IsSequence}
 use Rattle.recorder.specs.Records.{IsRecorded}
-use Rattle.recorder.specs.Adding.{IsResponseAt}
 use Rattle.recorder.proofs.Lists.{Contains-slice_get}
 use Rattle.recorder.proofs.Numbers.{numbers_rise, begun_before}
 

@@ -1,5 +1,5 @@
 -- Lists in the order of a place that each element has.
-use Rattle.std.proofs.Common.{ℕ, zero, suc, ◌≡◌, ◌<◌, ◌+◌, ◌⊎◌, inl, inr, List, [], ◌∷◌, Some, length, sym, ◌∙◌, ap, subst, refl, arith}
+use Rattle.std.proofs.Common.{ℕ, zero, suc, ◌≡◌, ◌<◌, List, [], ◌∷◌, Some, sym, ◌∙◌, subst, refl, arith}
 use Rattle.std.specs.List.{slice_get, Contains}
 use Rattle.recorder.proofs.Lists.{place_of, Contains-slice_get}
 

@@ -1,5 +1,5 @@
 -- The states beside the rows, with one row more.
-use Rattle.std.proofs.Common.{ℕ, ◌≡◌, ◌↔◌, ◌⊎◌, inl, inr, List, [], ◌∷◌, ◌++◌, Option, Some, None, IsSome, true, false, length, set, sym, ◌∙◌, ap, subst, refl, arith, length-append, length-set}
+use Rattle.std.proofs.Common.{ℕ, ◌≡◌, ◌⊎◌, inl, inr, List, [], ◌∷◌, ◌++◌, Option, Some, None, IsSome, length, set, sym, ◌∙◌, ap, subst, refl, arith, length-append, length-set}
 use Rattle.std.specs.List.{slice_get, Contains}
 use Rattle.std.proofs.lemmas.Option.{slice_get_within}
 use Rattle.std.proofs.lemmas.List.Elements.{Contains-append_left, Contains-push, Contains-push_cases}
@@ -11,10 +11,10 @@ use Rattle.recorder.specs.declared.row.Row.{Row}
 use Rattle.recorder.specs.declared.row.Row.TheVariants.{Invoke, Note, Respond}
 use Rattle.recorder.specs.declared.history.CallState.{CallState}
 use Rattle.recorder.specs.Histories.{call_count, HasNote, HasResponse, IsPendingCall, IsPendingOp, IsWellFormed}
-use Rattle.recorder.specs.States.{Describes, AreStates, RespondsAt, is_write}
+use Rattle.recorder.specs.States.{Describes, AreStates, is_write}
 use Rattle.recorder.proofs.Lists.{place_of, get_at, push_cases, slice_get-set, slice_get-push_last, Contains-slice_get}
 use Rattle.recorder.proofs.Numbers.{count_push, number_below, no_note, no_response}
-use Rattle.recorder.proofs.OneMore.{HasResponse-back, Describes-push, noted_same, answered_same}
+use Rattle.recorder.proofs.OneMore.{Describes-push, noted_same, answered_same}
 
 -- what a state says of its call
 module _ (rows : List Row) (op : OpId) (state : CallState) (d : Describes rows op state) where

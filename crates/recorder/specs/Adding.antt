@@ -1,11 +1,6 @@
 -- How the parts of a history grow by a call.
-use Rattle.std.specs.Prelude.{ℕ, ◌≡◌, ◌⊎◌, List, [], ◌∷◌, ◌++◌, Option, Some, None, slice_get, slice_set, Contains}
-use Rattle.tag.specs.declared.actions.Returned.{Returned}
-use Rattle.tag.specs.declared.numbers.OpId.{OpId}
-use Rattle.recorder.specs.declared.row.Row.{Row}
-use Rattle.recorder.specs.declared.row.Row.TheVariants.{Respond}
+use Rattle.std.specs.Prelude.{ℕ, ◌≡◌, ◌⊎◌, List, [], ◌∷◌, ◌++◌, Some, slice_get, slice_set, Contains}
 use Rattle.recorder.specs.declared.part.Call.{Call}
-use Rattle.recorder.specs.declared.part.Response.{Response}
 
 -- the call comes to the end of its key's part
 pub record Extends (old : List (List ℕ × List Call)) (key : List ℕ) (call : Call) (new : List (List ℕ × List Call)) : Type 0 where
@@ -22,8 +17,3 @@ pub record Begins (old : List (List ℕ × List Call)) (key : List ℕ) (call : 
 -- the call is added to the parts
 abbrev pub AddsCall : List (List ℕ × List Call) → List ℕ → Call → List (List ℕ × List Call) → Type 0
 AddsCall old key call new = Extends old key call new ⊎ Begins old key call new
-
--- the response, if any, is what the row at its place says
-pub record IsResponseAt (rows : List Row) (place : Option ℕ) (response : Option Response) : Type 0 where
-  pub none : place ≡ None → response ≡ None
-  pub some : (k : ℕ) (op : OpId) (returned : Returned) → place ≡ Some k → slice_get rows k ≡ Some (Respond op returned) → response ≡ Some (record { place = k; returned = returned })

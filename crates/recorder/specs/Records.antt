@@ -7,7 +7,6 @@ use Rattle.tag.specs.Tags.{Tag}
 use Rattle.recorder.specs.declared.row.Row.{Row}
 use Rattle.recorder.specs.declared.row.Row.TheVariants.{Invoke, Note, Respond}
 use Rattle.recorder.specs.declared.part.Call.{Call}
-use Rattle.recorder.specs.declared.part.Response.{Response}
 
 -- the call is what the rows say of it: its invocation, its note and its response
 pub record IsRecorded (rows : List Row) (key : List ℕ) (call : Call) : Type 0 where

@@ -1,6 +1,5 @@
 -- Tags that justify a record (Lynch and Shvartsman 1997): sorted by them, the calls of a part are an order of it.
-use Rattle.std.specs.Prelude.{ℕ, ◌≡◌, ◌≢◌, ◌<◌, ◌⊎◌, List, Some, None, slice_get, length, Contains}
-use Rattle.tag.specs.declared.actions.Action.{Action}
+use Rattle.std.specs.Prelude.{ℕ, ◌≡◌, ◌≢◌, ◌<◌, ◌⊎◌, List, Some, None, length, Contains}
 use Rattle.tag.specs.declared.actions.Action.TheVariants.{Read, Write}
 use Rattle.tag.specs.declared.actions.Returned.TheVariants.{Value}
 use Rattle.tag.specs.declared.numbers.OpId.{OpId}

@@ -1,5 +1,5 @@
 -- What a history keeps of each call beside its rows.
-use Rattle.std.specs.Prelude.{ℕ, ◌≡◌, ◌↔◌, List, Some, Bool, true, false, slice_get, length, Contains}
+use Rattle.std.specs.Prelude.{ℕ, ◌≡◌, ◌↔◌, List, Option, Some, None, Bool, true, false, slice_get, length, Contains}
 use Rattle.tag.specs.declared.actions.Action.{Action}
 use Rattle.tag.specs.declared.actions.Action.TheVariants.{Read, Write}
 use Rattle.tag.specs.declared.actions.Returned.{Returned}
@@ -8,6 +8,7 @@ use Rattle.tag.specs.Tags.{Tag}
 use Rattle.recorder.specs.declared.row.Row.{Row}
 use Rattle.recorder.specs.declared.row.Row.TheVariants.{Invoke, Note, Respond}
 use Rattle.recorder.specs.declared.history.CallState.{CallState}
+use Rattle.recorder.specs.declared.part.Response.{Response}
 use Rattle.recorder.specs.Histories.{call_count}
 
 -- whether the action is a write
@@ -32,3 +33,8 @@ pub record Describes (rows : List Row) (op : OpId) (state : CallState) : Type 0 
 pub record AreStates (rows : List Row) (states : List CallState) : Type 0 where
   pub all : length states ≡ call_count rows
   pub each : (op : OpId) (state : CallState) → slice_get states op.0 ≡ Some state → Describes rows op state
+
+-- the response, if any, is what the row at its place says
+pub record IsResponseAt (rows : List Row) (place : Option ℕ) (response : Option Response) : Type 0 where
+  pub none : place ≡ None → response ≡ None
+  pub some : (k : ℕ) (op : OpId) (returned : Returned) → place ≡ Some k → slice_get rows k ≡ Some (Respond op returned) → response ≡ Some (record { place = k; returned = returned })

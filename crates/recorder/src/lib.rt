@@ -1,8 +1,8 @@
 //! Histories of calls, and the parts that they fall into, one for each key.
 //!
 //! A `History` is well-formed by its type: a row comes in only where it may follow the rows
-//! before it, in time that doesn't grow with their number. `History::parts` gives the calls of
-//! each key as the rows record them, in one pass.
+//! before it, and adding one takes the same time however many there are. `History::parts` gives
+//! the calls of each key as the rows record them, in one pass.
 #![tactic(auto)]
 
 mod history;

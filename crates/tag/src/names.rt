@@ -14,6 +14,7 @@ use std::alloc::Global;
 use std::cmp::Ordering;
 use std::hash::{Hash, Hasher};
 use std::marker::Model;
+use std::sync::ArcStr;
 use thiserror::Error;
 
 /// Why a text or a number is no name.
@@ -155,20 +156,23 @@ impl Hash for Key {
 }
 
 /// A value: a text of at most 256 bytes.
+///
+/// Copies share one text, so that a record and its parts hold each value once.
 #[derive(Debug, Drop)]
 pub struct Value {
-    text: String,
+    text: ArcStr,
 }
 
 impl Model for Value {
-    ghost use Rattle.std.specs.Prelude.{◌≡◌, true, List, ℕ, string_bytes};
+    ghost use Rattle.std.specs.Prelude.{◌≡◌, true, List, ℕ};
+    ghost use Rattle.std.specs.Arc.{arc_str_bytes};
     ghost use Rattle.tag.specs.Names.{is_value};
 
     ghost Value = { List ℕ };
 
-    ghost view = { λ v. string_bytes v.text };
+    ghost view = { λ v. arc_str_bytes v.text };
 
-    ghost invariant = { λ v. is_value (string_bytes v.text) ≡ true };
+    ghost invariant = { λ v. is_value (arc_str_bytes v.text) ≡ true };
 }
 
 impl Value {
@@ -182,7 +186,7 @@ impl Value {
         if !is_value(text) {
             return Err(NameError::BadValue);
         }
-        match String::from_str(alloc, text) {
+        match ArcStr::from_str(alloc, text) {
             Ok(text) => Ok(Value { text }),
             Err(_) => Err(NameError::Memory),
         }

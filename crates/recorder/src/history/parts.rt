@@ -4,8 +4,8 @@ ghost use Rattle.std.specs.Option.{ForSome};
 ghost use Rattle.recorder.specs.declared.part.Call.{Call};
 ghost use Rattle.tag.specs.declared.numbers.OpId.{OpId};
 ghost use Rattle.recorder.specs.Parts.{IsSequence};
-ghost use Rattle.recorder.specs.States.{RespondsAt};
-ghost use Rattle.recorder.specs.Adding.{AddsCall, IsResponseAt};
+ghost use Rattle.recorder.specs.States.{RespondsAt, IsResponseAt};
+ghost use Rattle.recorder.specs.Adding.{AddsCall};
 
 use super::History;
 use crate::part::{Call, Part, Response};

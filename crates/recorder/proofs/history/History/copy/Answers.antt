@@ -1,4 +1,4 @@
-use Rattle.std.proofs.Common.{◌≡◌, ℕ, ap, ◌∙◌, refl, nat_eq}
+use Rattle.std.proofs.Common.{◌≡◌, ap, ◌∙◌, refl, nat_eq}
 use Rattle.std.specs.List.{list_any}
 use Rattle.std.proofs.lemmas.List.Elements.{same_from_all_zip}
 use Rattle.recorder.proofs.Keeps.{IsKept-same}

@@ -1,5 +1,5 @@
-use Rattle.std.proofs.Common.{arith, rules, ◌≡◌, Some, ap, sym, ◌∙◌, refl, true, false, List, nat_eq}
-use Rattle.std.specs.List.{slice_get, list_any}
+use Rattle.std.proofs.Common.{arith, ◌≡◌, ap, sym, ◌∙◌, refl, false, nat_eq}
+use Rattle.std.specs.List.{list_any}
 use Rattle.recorder.specs.Histories.{MayFollow, call_count}
 use Rattle.std.specs.HashSet.{contains}
 use Rattle.tag.specs.declared.numbers.OpId.{OpId}

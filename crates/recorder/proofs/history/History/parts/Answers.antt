@@ -6,12 +6,10 @@ use Rattle.tag.specs.declared.numbers.OpId.{OpId}
 use Rattle.recorder.specs.declared.row.Row.{Row}
 use Rattle.recorder.specs.declared.row.Row.TheVariants.{Invoke}
 use Rattle.recorder.specs.declared.history.CallState.{CallState}
-use Rattle.recorder.specs.declared.part.Call.{Call}
 use Rattle.recorder.specs.declared.part.Response.{Response}
 use Rattle.recorder.specs.Histories.{IsWellFormed}
-use Rattle.recorder.specs.States.{AreStates}
+use Rattle.recorder.specs.States.{AreStates, IsResponseAt}
 use Rattle.recorder.specs.Records.{IsRecorded}
-use Rattle.recorder.specs.Adding.{IsResponseAt}
 use Rattle.recorder.proofs.Lists.{Contains-slice_get}
 use Rattle.recorder.proofs.Numbers.{number_below}
 use Rattle.recorder.proofs.Recorded.{IsRecorded-made, IsSequence-one}

@@ -1,4 +1,4 @@
-use Rattle.std.proofs.Common.{arith, rules, ◌≡◌, Some, ap, sym, ◌∙◌, refl, true, false, List, length, ℕ}
+use Rattle.std.proofs.Common.{arith, ◌≡◌, Some, ap, sym, ◌∙◌, refl, length, ℕ}
 use Rattle.std.specs.List.{slice_get}
 use Rattle.std.proofs.lemmas.Option.{slice_get_within, slice_get-get_or}
 use Rattle.recorder.specs.declared.history.CallState.{CallState}
