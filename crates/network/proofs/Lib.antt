@@ -1,0 +1,3 @@
+mod Bags
+mod Unsending
+mod Writing

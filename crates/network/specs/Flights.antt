@@ -1,0 +1,34 @@
+-- The flights under way: a finite map from numbers to a message and the count of its copies.
+use Rattle.std.specs.Prelude.{ℕ, ◌-◌, ◌+◌, ◌==◌, Option, None, Some, option_map, if◌then◌else◌}
+use Rattle.std.specs.Option.{option_map_or}
+use Rattle.std.specs.Ordering.{nat_cmp}
+use Rattle.std.specs.FinMap as finite
+use Rattle.network.specs.declared.messages.Message.{Message}
+-- a message with the count of its copies
+pub use Rattle.network.specs.declared.flights.Flight.{Flight}
+
+-- the flights that have a copy, by number
+abbrev pub Flights : Type 0
+Flights = finite.FinMap nat_cmp Flight
+
+-- how many copies a flight has
+abbrev pub copies_of : Flights → ℕ → ℕ
+copies_of flights number = option_map_or (λ flight. flight.copies) (finite.get flights number) 0
+
+-- the message of a flight that has a copy
+abbrev pub message_of : Flights → ℕ → Option Message
+message_of flights number = option_map (λ flight. flight.message) (finite.get flights number)
+
+-- the flights where one is that message with so many copies
+abbrev pub with_copies : Flights → ℕ → Message → ℕ → Flights
+with_copies flights number message copies = finite.insert flights number (record { message = message; copies = copies })
+
+-- one copy less of what a number names: with its last copy a flight goes out
+abbrev pub one_less : Flights → ℕ → Option Flight → Flights
+one_less flights number None = flights
+one_less flights number (Some flight) = if flight.copies == 1 then finite.remove flights number else with_copies flights number flight.message (flight.copies - 1)
+
+-- one copy more of what a number names
+abbrev pub one_more : Flights → ℕ → Option Flight → Flights
+one_more flights number None = flights
+one_more flights number (Some flight) = with_copies flights number flight.message (flight.copies + 1)

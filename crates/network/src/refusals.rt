@@ -1,0 +1,28 @@
+//! Why the network refuses.
+use tag::Memory;
+use thiserror::Error;
+
+/// Why a call of the pool was refused, with its number in the table of refusals. The pool then
+/// equals what it was.
+#[derive(Clone, Copy, Debug, PartialEq, Eq, Error)]
+pub enum NetRefusal {
+    #[error("the flight isn't under way")]
+    NotInFlight = 7,
+    #[error("the flight has 1000 copies")]
+    CopiesFull = 11,
+    #[error("as many flights were sent as may be")]
+    FlightsFull = 13,
+    #[error("no memory")]
+    Memory = 15,
+}
+
+impl From<Memory> for NetRefusal {
+    ghost use Rattle.std.specs.Prelude.{◌≡◌};
+    ghost use Rattle.network.specs.declared.refusals.NetRefusal.TheVariants.{Memory};
+
+    ghost from_gives = { λ _ refusal. refusal ≡ Memory };
+
+    fn from(_: Memory) -> NetRefusal {
+        NetRefusal::Memory
+    }
+}

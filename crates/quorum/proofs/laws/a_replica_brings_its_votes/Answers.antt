@@ -1,0 +1,5 @@
+use Rattle.quorum.proofs.Votes.{votes_of-insert}
+use Rattle.quorum.proofs.laws.a_replica_brings_its_votes.Goals as goal
+
+pub returns : goal.returns
+returns c = votes_of-insert

@@ -1,0 +1,5 @@
+use Rattle.quorum.proofs.Meet.{quorums_share}
+use Rattle.quorum.proofs.laws.quorums_share_a_replica.Goals as goal
+
+pub returns : goal.returns
+returns c = quorums_share

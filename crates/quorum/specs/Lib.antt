@@ -1,0 +1,4 @@
+pub mod Bits
+pub mod Padding
+pub mod Quorums
+pub mod Sets

@@ -1,0 +1,3 @@
+pub mod Maps
+mod Adopting
+pub mod Rising

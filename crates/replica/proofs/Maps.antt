@@ -1,0 +1,58 @@
+-- A tree map, seen as the finite map of its entries.
+use Rattle.std.proofs.Common.{◌≡◌, ◌+◌, List, [], ◌∷◌, Option, Some, None, IsSome, cond, is_some, length, ap, sym, ◌∙◌, refl, add-one}
+use Rattle.std.specs.declared.cmp.Ordering.{Ordering}
+use Rattle.std.specs.declared.cmp.Ordering.TheVariants.{Less}
+use Rattle.std.specs.Ordering.{is_eq, eq_by_cmp}
+use Rattle.std.specs.List.{AllByRecursion}
+use Rattle.std.specs.List.Sorted.{IsStrictlySortedBy}
+use Rattle.std.proofs.lemmas.Map.Keys.{sorted_head, sorted_tail}
+use Rattle.std.specs.Cmp.{IsTotalOrder, eq_by_cmp_equiv}
+use Rattle.std.specs.Map.{lookup, keys_of}
+use Rattle.std.specs.BTreeMap.{BTreeMap, IsOrdered, Updates, WritesThrough, is_at, get}
+use Rattle.std.specs.FinMap as finite
+use Rattle.std.specs.FinMap.{IsAntisymmetric, find}
+
+module _ {K X : Type 0} {R : K → K → Ordering} (total : IsTotalOrder R) where
+  -- both look along the entries for the first that the order ties with the key
+  find-lookup : (q : K) (es : List (K × X)) → find R q es ≡ lookup (is_at (R q)) es
+  find-lookup q [] = refl
+  find-lookup q (e ∷ es) = ap (cond (is_eq (R q e.0)) (Some e.1)) (find-lookup q es)
+
+  -- what the finite map has at a key is what the tree map has there
+  pub get-from_tree : (m : BTreeMap K X) (q : K) → finite.get (finite.from_entries {R = R} m.entries) q ≡ get R m q
+  get-from_tree m q = finite.get-from_entries total m.entries q ∙ find-lookup q m.entries
+
+  -- a key ties with another as the other does with it
+  tied : (k q : K) (w v : Option X) → cond (is_eq (R k q)) w v ≡ cond (eq_by_cmp R q k) w v
+  tied k q w v = ap (λ b. cond b w v) ((eq_by_cmp_equiv total).symm k q)
+
+  -- maps that answer alike are equal: after an insertion, and after a removal
+  pub from_tree-insert : IsAntisymmetric R → (m n : BTreeMap K X) (k : K) (v : X) → Updates R m n k (Some v) → finite.from_entries {R = R} n.entries ≡ finite.insert (finite.from_entries m.entries) k v
+  from_tree-insert apart m n k v updates =
+      finite.same_map total apart _ _ (λ q. get-from_tree n q ∙ updates.0 q ∙ tied k q (Some v) (get R m q) ∙ ap (cond (eq_by_cmp R q k) (Some v)) (sym (get-from_tree m q)) ∙ sym (finite.get-insert total (finite.from_entries m.entries) k v q))
+
+  pub from_tree-remove : IsAntisymmetric R → (m n : BTreeMap K X) (k : K) → Updates R m n k None → finite.from_entries {R = R} n.entries ≡ finite.remove (finite.from_entries m.entries) k
+  from_tree-remove apart m n k updates =
+      finite.same_map total apart _ _ (λ q. get-from_tree n q ∙ updates.0 q ∙ tied k q None (get R m q) ∙ ap (cond (eq_by_cmp R q k) None) (sym (get-from_tree m q)) ∙ sym (finite.get-remove total (finite.from_entries m.entries) k q))
+
+  -- the same after a value is written in place
+  pub from_tree-written : IsAntisymmetric R → (m n : BTreeMap K X) (k : K) (v : X) → WritesThrough R (R k) m v n → IsSome (get R m k) → finite.from_entries {R = R} n.entries ≡ finite.insert (finite.from_entries m.entries) k v
+  from_tree-written apart m n k v written found = from_tree-insert apart m n k v (written.3 found)
+
+  -- a key below all others is new
+  find-below : (k : K) (es : List (K × X)) → AllByRecursion (λ q. R k q ≡ Less) (keys_of es) → find R k es ≡ None
+  find-below k [] below = refl
+  find-below k (e ∷ es) below = ap (λ o. cond (is_eq o) (Some e.1) (find R k es)) below.0 ∙ find-below k es below.1
+
+  len-from_sorted : (es : List (K × X)) → IsStrictlySortedBy R (keys_of es) → finite.len (finite.from_entries {R = R} es) ≡ length es
+  len-from_sorted [] sorted = finite.len-empty R X
+  len-from_sorted (e ∷ es) sorted =
+      finite.len-insert total (finite.from_entries es) e.0 e.1
+      ∙ ap (λ o. cond (is_some o) (finite.len (finite.from_entries {R = R} es)) (finite.len (finite.from_entries {R = R} es) + 1))
+      (finite.get-from_entries total es e.0 ∙ find-below e.0 es (sorted_head R e.0 (keys_of es) sorted))
+      ∙ ap (λ n. n + 1) (len-from_sorted es (sorted_tail R e.0 (keys_of es) sorted))
+      ∙ add-one (length es)
+
+  -- both have as many entries
+  pub from_tree-len : (m : BTreeMap K X) → IsOrdered R m → finite.len (finite.from_entries {R = R} m.entries) ≡ length m.entries
+  from_tree-len m ordered = len-from_sorted m.entries ordered

@@ -1,0 +1,87 @@
+-- What a put changes: its own key alone, and that one's tag upwards.
+use Rattle.std.proofs.Common.{◌≡◌, ◌≢◌, ℕ, Bool, true, false, List, Some, cond, unwrap_or, ap, sym, subst, ◌∙◌, refl, rules}
+use Rattle.std.specs.Ordering.{nat_cmp, is_eq, is_le, is_lt, eq_by_cmp, ordering_reverse}
+use Rattle.std.specs.declared.cmp.Ordering.{Ordering}
+use Rattle.std.specs.declared.cmp.Ordering.TheVariants.{Less, Equal, Greater}
+use Rattle.std.specs.Cmp.{IsTotalOrder, tied_itself}
+use Rattle.std.specs.Cmp.Rules.{comparing}
+use Rattle.std.specs.Cmp.Lexicographic.{slice_cmp, nat_list_cmp_total}
+use Rattle.std.specs.FinMap as finite
+use Rattle.std.specs.FinMap.{nat_cmp-IsAntisymmetric, slice_cmp-IsAntisymmetric}
+use Rattle.tag.specs.Tags.{Tag, tag_cmp}
+use Rattle.replica.specs.Pairs.{Pair, Pairs, no_pair, pair_of, adopt}
+use Rattle.replica.specs.Replicas.{pairs_after}
+use Rattle.replica.specs.declared.requests.Request.{Request}
+use Rattle.replica.specs.declared.requests.Request.TheVariants.{Query, Put}
+
+pub tag_cmp_total : IsTotalOrder tag_cmp
+tag_cmp_total = search (comparing, rules)
+
+equal : (o : Ordering) → is_eq o ≡ true → o ≡ Equal
+equal Less e = cc
+equal Equal e = refl
+equal Greater e = cc
+
+le-lt : (o : Ordering) → is_lt o ≡ true → is_le o ≡ true
+le-lt Less e = refl
+le-lt Equal e = cc
+le-lt Greater e = cc
+
+le-reverse : (o : Ordering) → is_lt o ≡ false → is_le (ordering_reverse o) ≡ true
+le-reverse Less e = cc
+le-reverse Equal e = refl
+le-reverse Greater e = refl
+
+pub tag_cmp_refl : (tag : Tag) → is_le (tag_cmp tag tag) ≡ true
+tag_cmp_refl tag = ap is_le (tied_itself tag_cmp_total tag)
+
+-- ---- the pair of a key after an insertion
+pub pair_of-insert : (pairs : Pairs) (key : List ℕ) (pair : Pair) (q : List ℕ) → pair_of (finite.insert pairs key pair) q ≡ cond (eq_by_cmp (slice_cmp nat_cmp) q key) pair (pair_of pairs q)
+pair_of-insert pairs key pair q =
+    ap (λ o. unwrap_or o no_pair) (finite.get-insert nat_list_cmp_total pairs key pair q)
+    ∙ elim (eq_by_cmp (slice_cmp nat_cmp) q key) as (λ b. unwrap_or (cond b (Some pair) (finite.get pairs q)) no_pair ≡ cond b pair (pair_of pairs q)) [ true ↦ refl | false ↦ refl ]
+
+pub pair_of-insert_same : (pairs : Pairs) (key : List ℕ) (pair : Pair) → pair_of (finite.insert pairs key pair) key ≡ pair
+pair_of-insert_same pairs key pair = pair_of-insert pairs key pair key ∙ ap (λ o. cond (is_eq o) pair (pair_of pairs key)) (tied_itself nat_list_cmp_total key)
+
+same_key : (q key : List ℕ) → eq_by_cmp (slice_cmp nat_cmp) q key ≡ true → q ≡ key
+same_key q key e = slice_cmp-IsAntisymmetric nat_cmp-IsAntisymmetric q key (equal _ e)
+
+other_key : (q key : List ℕ) (b : Bool) → eq_by_cmp (slice_cmp nat_cmp) q key ≡ b → q ≢ key → b ≡ false
+other_key q key true e apart = absurd (apart (same_key q key e))
+other_key q key false e apart = refl
+
+pub pair_of-insert_other : (pairs : Pairs) (key : List ℕ) (pair : Pair) (q : List ℕ) → q ≢ key → pair_of (finite.insert pairs key pair) q ≡ pair_of pairs q
+pair_of-insert_other pairs key pair q apart = pair_of-insert pairs key pair q ∙ ap (λ b. cond b pair (pair_of pairs q)) (other_key q key _ refl apart)
+
+-- ---- the pair of a key after a put
+pub pair_of-adopt_other : (pairs : Pairs) (key q : List ℕ) (pair : Pair) → q ≢ key → pair_of (adopt pairs key pair) q ≡ pair_of pairs q
+pair_of-adopt_other pairs key q pair apart =
+    elim (is_lt (tag_cmp (pair_of pairs key).tag pair.tag)) as (λ b. pair_of (cond b (finite.insert pairs key pair) pairs) q ≡ pair_of pairs q)
+    [ true ↦ pair_of-insert_other pairs key pair q apart | false ↦ refl ]
+
+-- what is put is kept, or what was there before has a tag that is at least its
+kept_by : (pairs : Pairs) (key : List ℕ) (pair : Pair) (b : Bool) → is_lt (tag_cmp (pair_of pairs key).tag pair.tag) ≡ b
+    → is_le (tag_cmp pair.tag (pair_of (cond b (finite.insert pairs key pair) pairs) key).tag) ≡ true
+kept_by pairs key pair true e = ap (λ (p : Pair). is_le (tag_cmp pair.tag p.tag)) (pair_of-insert_same pairs key pair) ∙ tag_cmp_refl pair.tag
+kept_by pairs key pair false e = ap is_le (tag_cmp_total.antisymm pair.tag (pair_of pairs key).tag) ∙ le-reverse _ e
+
+pub adopt-kept : (pairs : Pairs) (key : List ℕ) (pair : Pair) → is_le (tag_cmp pair.tag (pair_of (adopt pairs key pair) key).tag) ≡ true
+adopt-kept pairs key pair = kept_by pairs key pair _ refl
+
+own_rises : (pairs : Pairs) (key : List ℕ) (pair : Pair) (b : Bool) → is_lt (tag_cmp (pair_of pairs key).tag pair.tag) ≡ b
+    → is_le (tag_cmp (pair_of pairs key).tag (pair_of (cond b (finite.insert pairs key pair) pairs) key).tag) ≡ true
+own_rises pairs key pair true e = ap (λ (p : Pair). is_le (tag_cmp (pair_of pairs key).tag p.tag)) (pair_of-insert_same pairs key pair) ∙ le-lt _ e
+own_rises pairs key pair false e = tag_cmp_refl (pair_of pairs key).tag
+
+rises_by : (pairs : Pairs) (key q : List ℕ) (pair : Pair) (same : Bool) → eq_by_cmp (slice_cmp nat_cmp) q key ≡ same
+    → is_le (tag_cmp (pair_of pairs q).tag (pair_of (adopt pairs key pair) q).tag) ≡ true
+rises_by pairs key q pair true e = let P : List ℕ → Type 0 = λ k. is_le (tag_cmp (pair_of pairs k).tag (pair_of (adopt pairs key pair) k).tag) ≡ true in
+    subst P (sym (same_key q key e)) (own_rises pairs key pair _ refl)
+rises_by pairs key q pair false e =
+    let apart : q ≢ key = λ is. let h : true ≡ false = sym (ap is_eq (tied_itself nat_list_cmp_total q)) ∙ ap (λ k. eq_by_cmp (slice_cmp nat_cmp) q k) is ∙ e in cc in
+    ap (λ (p : Pair). is_le (tag_cmp (pair_of pairs q).tag p.tag)) (pair_of-adopt_other pairs key q pair apart) ∙ tag_cmp_refl (pair_of pairs q).tag
+
+pub pairs_after-rises : (pairs : Pairs) (request : Request) (key : List ℕ) → is_le (tag_cmp (pair_of pairs key).tag (pair_of (pairs_after pairs request) key).tag) ≡ true
+pairs_after-rises pairs (Query op k) key = tag_cmp_refl (pair_of pairs key).tag
+pairs_after-rises pairs (Put op k tag value) key = rises_by pairs k key (record { tag = tag; value = value }) _ refl
