@@ -1,0 +1,81 @@
+-- Bytes that a reader gives, one piece after another.
+use Rattle.std.proofs.Common.{ℕ, ◌≡◌, ◌+◌, List, [], ◌++◌, Option, Some, None, Result, Ok, Err, refl, sym, ap, ◌∙◌, append_assoc, inl, inr, arith}
+use Rattle.std.specs.Prelude.{IfOk, IfErr, MatchResult}
+use Rattle.std.specs.Io.KnownBytes.{Consumes, Keeps, IsAtEnd}
+use Rattle.history_file.specs.declared.fault.FileFault.{FileFault}
+use Rattle.history_file.specs.declared.fault.FaultKind.{FaultKind}
+use Rattle.history_file.specs.declared.fault.FaultKind.TheVariants as kind
+use Rattle.history_file.specs.declared.feed.Feed.{Feed}
+use Rattle.history_file.specs.Formats.{Format}
+use Rattle.history_file.specs.Feeds.{Stands, Fed, FaultSoFar, FaultInAll}
+use Rattle.history_file.specs.Deliveries.{Delivers, Holds, StopsAt, StopsWith, IsUnderWay, HasFailed}
+
+Consumes-none : (a : Option (List ℕ)) → Consumes a a []
+Consumes-none None = tt
+Consumes-none (Some xs) = refl
+
+Consumes-join : (a b c : Option (List ℕ)) (xs ys : List ℕ) → Consumes a b xs → Consumes b c ys → Consumes a c (xs ++ ys)
+Consumes-join None b c xs ys h k = tt
+Consumes-join (Some x) None c xs ys h k = absurd h
+Consumes-join (Some x) (Some y) None xs ys h k = absurd k
+Consumes-join (Some x) (Some y) (Some z) xs ys h k = h ∙ ap (λ (l : List ℕ). xs ++ l) k ∙ sym (append_assoc xs ys z)
+
+Consumes-keeps : (a b c : Option (List ℕ)) (bytes : List ℕ) → Consumes a b bytes → Keeps b c → Consumes a c bytes
+Consumes-keeps None b c bytes h k = tt
+Consumes-keeps (Some x) None c bytes h k = absurd h
+Consumes-keeps (Some x) (Some y) None bytes h k = absurd k
+Consumes-keeps (Some x) (Some y) (Some z) bytes h k = h ∙ ap (λ (l : List ℕ). bytes ++ l) (sym k)
+
+module _ {Item Contents : Type 0} (format : Format Item) (Makes : List Item → Contents → Type 0) where
+  pub Holds-start : (a : Option (List ℕ)) (feed : Feed Contents) → Stands format Makes [] feed → Holds format Makes a a feed
+  Holds-start a feed s = record { bytes = []; given = Consumes-none a; fact = s }
+
+  pub Holds-step : (a b c : Option (List ℕ)) (old new : Feed Contents) (piece : List ℕ) → Holds format Makes a b old → Consumes b c piece → ((bytes : List ℕ) → Stands format Makes bytes old → Fed format Makes (bytes ++ piece) (Ok tt) new) → Holds format Makes a c new
+  Holds-step a b c old new piece h k fed = record { bytes = h.bytes ++ piece; given = Consumes-join a b c h.bytes piece h.given k; fact = fed h.bytes h.fact }
+
+  so_far : (left : Option (List ℕ)) (bytes : List ℕ) (number : ℕ) (k : FaultKind) → FaultSoFar format bytes number k → StopsWith format left number k bytes
+  so_far left bytes number (kind.Line fault) h = inl h
+  so_far left bytes number kind.Device h = absurd h
+  so_far left bytes number kind.Memory h = tt
+
+  never_failed : (bytes : List ℕ) (number : ℕ) (k : FaultKind) (old new : ℕ) → FaultSoFar format bytes number k → HasFailed k old new
+  never_failed bytes number (kind.Line fault) old new h = tt
+  never_failed bytes number kind.Device old new h = absurd h
+  never_failed bytes number kind.Memory old new h = tt
+
+  pub Holds-stop : (a b c : Option (List ℕ)) (old new : Feed Contents) (piece : List ℕ) (fault : FileFault) → Holds format Makes a b old → Consumes b c piece → ((bytes : List ℕ) → Stands format Makes bytes old → Fed format Makes (bytes ++ piece) (Err fault) new) → Delivers a c (StopsAt format c fault)
+  Holds-stop a b c old new piece fault h k fed = record { bytes = h.bytes ++ piece; given = Consumes-join a b c h.bytes piece h.given k; fact = so_far c (h.bytes ++ piece) fault.line fault.kind (fed h.bytes h.fact) }
+
+  pub Holds-no_device : (a b : Option (List ℕ)) (old new : Feed Contents) (piece : List ℕ) (fault : FileFault) (m n : ℕ) → Holds format Makes a b old → ((bytes : List ℕ) → Stands format Makes bytes old → Fed format Makes (bytes ++ piece) (Err fault) new) → HasFailed fault.kind m n
+  Holds-no_device a b old new piece fault m n h fed = never_failed (h.bytes ++ piece) fault.line fault.kind m n (fed h.bytes h.fact)
+
+  -- the reader failed at the line under way
+  pub Holds-device : (a b c : Option (List ℕ)) (feed : Feed Contents) (number : ℕ) → Holds format Makes a b feed → Keeps b c → (feed.fault ≡ None → number ≡ feed.progress.lines + 1) → Delivers a c (λ bytes. IsUnderWay bytes number)
+  Holds-device a b c feed number h k line = record {
+    bytes = h.bytes;
+    given = Consumes-keeps a b c h.bytes h.given k;
+    fact = (h.fact.lines, feed.rest.items, h.fact.splits, omega (arith, line h.fact.sound, h.fact.at.counted));
+  }
+
+  at_end : (left : Option (List ℕ)) (bytes : List ℕ) (number : ℕ) (k : FaultKind) → IsAtEnd left → FaultInAll format bytes number k → StopsWith format left number k bytes
+  at_end left bytes number (kind.Line fault) e h = inr (e, h)
+  at_end left bytes number kind.Device e h = absurd h
+  at_end left bytes number kind.Memory e h = tt
+
+  end_never_failed : (bytes : List ℕ) (number : ℕ) (k : FaultKind) (old new : ℕ) → FaultInAll format bytes number k → HasFailed k old new
+  end_never_failed bytes number (kind.Line fault) old new h = tt
+  end_never_failed bytes number kind.Device old new h = absurd h
+  end_never_failed bytes number kind.Memory old new h = tt
+
+  -- the end: what was made of all the bytes, or the first fault of all
+  pub finish_read : {X : Type 0} (Good : List ℕ → X → Type 0) (a c : Option (List ℕ)) (feed : Feed Contents) (r : Result X FileFault) → Holds format Makes a c feed → IsAtEnd c → ((bytes : List ℕ) → Stands format Makes bytes feed → MatchResult r (λ x. Good bytes x) (λ fault. FaultInAll format bytes fault.line fault.kind)) → IfOk r (λ x. Delivers a c (λ bytes. IsAtEnd c × Good bytes x))
+  finish_read Good a c feed (Ok x) h e ends = record { bytes = h.bytes; given = h.given; fact = (e, ends h.bytes h.fact) }
+  finish_read Good a c feed (Err fault) h e ends = tt
+
+  pub finish_fault : {X : Type 0} (Good : List ℕ → X → Type 0) (a c : Option (List ℕ)) (feed : Feed Contents) (r : Result X FileFault) → Holds format Makes a c feed → IsAtEnd c → ((bytes : List ℕ) → Stands format Makes bytes feed → MatchResult r (λ x. Good bytes x) (λ fault. FaultInAll format bytes fault.line fault.kind)) → IfErr r (λ fault. Delivers a c (StopsAt format c fault))
+  finish_fault Good a c feed (Ok x) h e ends = tt
+  finish_fault Good a c feed (Err fault) h e ends = record { bytes = h.bytes; given = h.given; fact = at_end c h.bytes fault.line fault.kind e (ends h.bytes h.fact) }
+
+  pub finish_device : {X : Type 0} (Good : List ℕ → X → Type 0) (a c : Option (List ℕ)) (feed : Feed Contents) (r : Result X FileFault) (m n : ℕ) → Holds format Makes a c feed → ((bytes : List ℕ) → Stands format Makes bytes feed → MatchResult r (λ x. Good bytes x) (λ fault. FaultInAll format bytes fault.line fault.kind)) → IfErr r (λ fault. HasFailed fault.kind m n)
+  finish_device Good a c feed (Ok x) m n h ends = tt
+  finish_device Good a c feed (Err fault) m n h ends = end_never_failed h.bytes fault.line fault.kind m n (ends h.bytes h.fact)

@@ -1,0 +1,159 @@
+-- Lines that are taken one after another.
+use Rattle.std.proofs.Common.{ℕ, ◌≡◌, ◌<◌, ◌+◌, List, [], ◌∷◌, ◌++◌, length, Result, Ok, Err, refl, sym, ap, ◌∙◌, append_assoc, append-nil, length-append, arith, subst, inl, inr}
+use Rattle.std.specs.List.{AllZip}
+use Rattle.history_file.specs.declared.judging.Judgement.{Judgement}
+use Rattle.history_file.specs.declared.fault.LineFault.{LineFault}
+use Rattle.history_file.specs.declared.fault.FileFault.{FileFault}
+use Rattle.history_file.specs.declared.fault.FaultKind.{FaultKind}
+use Rattle.history_file.specs.declared.fault.FaultKind.TheVariants as kind
+use Rattle.history_file.specs.declared.progress.Progress.{Progress}
+use Rattle.history_file.specs.Lines.{Shows, ShowsItem}
+use Rattle.history_file.specs.Formats.{Format}
+use Rattle.history_file.specs.Files.{IsLineOf, AreSpelled, HasFault, IsFirstFault, IsFirstOfKind, IsAt, Takes, TakesJudged}
+use Rattle.history_file.proofs.Zips.{AllZip-push_both}
+
+module _ {Item Contents : Type 0} (format : Format Item) (Makes : List Item → Contents → Type 0) where
+  AreSpelled-push : (before : List (List ℕ)) (items : List Item) (line : List ℕ) (item : Item) → 0 < length before → AreSpelled format before items → IsLineOf format line item → AreSpelled format (before ++ line ∷ []) (items ++ item ∷ [])
+  AreSpelled-push [] items line item some h l = absurd (omega arith)
+  AreSpelled-push (header ∷ lines) items line item some h l = (h.0, AllZip-push_both (IsLineOf format) lines items line item h.1 l)
+
+  -- an item's line more
+  pub taken_item : (before : List (List ℕ)) (line : List ℕ) (old new : Progress Contents) (item : Item) (at : IsAt format Makes before old) → 0 < length before → IsLineOf format line item → format.Fits (at.items ++ item ∷ []) → Makes (at.items ++ item ∷ []) new.contents → new.lines ≡ old.lines + 1 → IsAt format Makes (before ++ line ∷ []) new
+  taken_item before line old new item at some l fits made lines = record {
+    items = at.items ++ item ∷ [];
+    sound = record { spelled = AreSpelled-push before at.items line item some at.sound.spelled l; fits = fits };
+    made = made;
+    counted = omega (arith, lines, at.counted, length-append before (line ∷ []));
+  }
+
+  faulty_behind : (before : List (List ℕ)) (items : List Item) (line : List ℕ) (item : Item) (fault : LineFault) → 0 < length before → IsLineOf format line item → format.HasFault items item fault → HasFault format before items line fault
+  faulty_behind [] items line item fault some l h = absurd (omega arith)
+  faulty_behind (header ∷ lines) items line item fault some l h = inr (item, l, h)
+
+  faulty_itself : (before : List (List ℕ)) (items : List Item) (line : List ℕ) (fault : LineFault) → 0 < length before → Shows format.meaning line (Err fault) → HasFault format before items line fault
+  faulty_itself [] items line fault some h = absurd (omega arith)
+  faulty_itself (header ∷ lines) items line fault some h = inl h
+
+  first_at : (before : List (List ℕ)) (line : List ℕ) (old : Progress Contents) (fault : LineFault) (number : ℕ) (at : IsAt format Makes before old) → number ≡ old.lines + 1 → HasFault format before at.items line fault → IsFirstFault format (before ++ line ∷ []) number fault
+  first_at before line old fault number at counted faulty = record {
+    earlier = before;
+    line = line;
+    later = [];
+    place = refl;
+    counted = omega (arith, counted, at.counted);
+    items = at.items;
+    sound = at.sound;
+    faulty = faulty;
+  }
+
+  -- an item's line that has a fault where it stands
+  pub stopped_item : (before : List (List ℕ)) (line : List ℕ) (old : Progress Contents) (item : Item) (fault : LineFault) (number : ℕ) (at : IsAt format Makes before old) → 0 < length before → IsLineOf format line item → number ≡ old.lines + 1 → format.HasFault at.items item fault → IsFirstFault format (before ++ line ∷ []) number fault
+  stopped_item before line old item fault number at some l counted h = first_at before line old fault number at counted (faulty_behind before at.items line item fault some l h)
+
+  -- a line that has a fault by itself
+  pub stopped_line : (before : List (List ℕ)) (line : List ℕ) (old : Progress Contents) (fault : LineFault) (number : ℕ) (at : IsAt format Makes before old) → 0 < length before → Shows format.meaning line (Err fault) → number ≡ old.lines + 1 → IsFirstFault format (before ++ line ∷ []) number fault
+  stopped_line before line old fault number at some h counted = first_at before line old fault number at counted (faulty_itself before at.items line fault some h)
+
+  -- lines behind the first fault change nothing
+  pub IsFirstFault-more : (lines more : List (List ℕ)) (number : ℕ) (k : FaultKind) → IsFirstOfKind format lines number k → IsFirstOfKind format (lines ++ more) number k
+  IsFirstFault-more lines more number (kind.Line fault) h = record {
+    earlier = h.earlier;
+    line = h.line;
+    later = h.later ++ more;
+    place = ap (λ (ls : List (List ℕ)). ls ++ more) h.place ∙ append_assoc h.earlier (h.line ∷ h.later) more;
+    counted = h.counted;
+    items = h.items;
+    sound = h.sound;
+    faulty = h.faulty;
+  }
+  IsFirstFault-more lines more number kind.Device h = h
+  IsFirstFault-more lines more number kind.Memory h = tt
+
+  -- some of the lines were taken, and what is left is judged
+  pub record Half (before lines : List (List ℕ)) (new : Progress Contents) (judgements : List (Judgement Item)) : Type 0 where
+    pub done : List (List ℕ)
+    pub rest : List (List ℕ)
+    pub whole : lines ≡ done ++ rest
+    pub at : IsAt format Makes (before ++ done) new
+    pub shown : AllZip (ShowsItem format.meaning) rest judgements
+
+  pub record Goes (lines : List (List ℕ)) (old new : Progress Contents) (judgements : List (Judgement Item)) : Type 0 where
+    pub each : (before : List (List ℕ)) → IsAt format Makes before old → 0 < length before → Half before lines new judgements
+
+  pub Goes-start : (lines : List (List ℕ)) (old : Progress Contents) (judgements : List (Judgement Item)) → AllZip (ShowsItem format.meaning) lines judgements → Goes lines old old judgements
+  Goes-start lines old judgements shown = record {
+    each = λ before at some. record {
+      done = [];
+      rest = lines;
+      whole = refl;
+      at = let P : List (List ℕ) → Type 0 = λ ls. IsAt format Makes ls old in subst P (sym (append-nil before)) at;
+      shown = shown;
+    };
+  }
+
+  some_more : (before done : List (List ℕ)) → 0 < length before → 0 < length (before ++ done)
+  some_more before done some = omega (arith, length-append before done)
+
+  half_step : (before lines done rest : List (List ℕ)) (mid new : Progress Contents) (j : Judgement Item) (js : List (Judgement Item)) → 0 < length before → lines ≡ done ++ rest → IsAt format Makes (before ++ done) mid → AllZip (ShowsItem format.meaning) rest (j ∷ js) → TakesJudged format Makes mid j (Ok tt) new → Half before lines new js
+  half_step before lines done [] mid new j js some whole at shown takes = absurd shown
+  half_step before lines done (line ∷ rest) mid new j js some whole at shown takes = record {
+    done = done ++ line ∷ [];
+    rest = rest;
+    whole = whole ∙ sym (append_assoc done (line ∷ []) rest);
+    at = let P : List (List ℕ) → Type 0 = λ ls. IsAt format Makes ls new in subst P (append_assoc before done (line ∷ [])) (takes (before ++ done) line at (some_more before done some) shown.0);
+    shown = shown.1;
+  }
+
+  pub Goes-step : (lines : List (List ℕ)) (old mid new : Progress Contents) (j : Judgement Item) (js : List (Judgement Item)) → Goes lines old mid (j ∷ js) → TakesJudged format Makes mid j (Ok tt) new → Goes lines old new js
+  Goes-step lines old mid new j js goes takes = record {
+    each = λ before at some. let h = goes.each before at some in half_step before lines h.done h.rest mid new j js some h.whole h.at h.shown takes;
+  }
+
+  half_stop : (before lines done rest : List (List ℕ)) (mid new : Progress Contents) (j : Judgement Item) (js : List (Judgement Item)) (fault : FileFault) → 0 < length before → lines ≡ done ++ rest → IsAt format Makes (before ++ done) mid → AllZip (ShowsItem format.meaning) rest (j ∷ js) → TakesJudged format Makes mid j (Err fault) new → IsFirstOfKind format (before ++ lines) fault.line fault.kind
+  half_stop before lines done [] mid new j js fault some whole at shown takes = absurd shown
+  half_stop before lines done (line ∷ rest) mid new j js fault some whole at shown takes =
+      let P : List (List ℕ) → Type 0 = λ ls. IsFirstOfKind format ls fault.line fault.kind in
+      let one = takes (before ++ done) line at (some_more before done some) shown.0 in
+      let same : ((before ++ done) ++ line ∷ []) ++ rest ≡ before ++ lines =
+      append_assoc (before ++ done) (line ∷ []) rest ∙ append_assoc before done (line ∷ rest) ∙ ap (λ (ls : List (List ℕ)). before ++ ls) (sym whole) in
+      subst P same (IsFirstFault-more ((before ++ done) ++ line ∷ []) rest fault.line fault.kind one)
+
+  pub Goes-stop : (lines : List (List ℕ)) (old mid new : Progress Contents) (j : Judgement Item) (js : List (Judgement Item)) (fault : FileFault) → Goes lines old mid (j ∷ js) → TakesJudged format Makes mid j (Err fault) new → (before : List (List ℕ)) → IsAt format Makes before old → 0 < length before → IsFirstOfKind format (before ++ lines) fault.line fault.kind
+  Goes-stop lines old mid new j js fault goes takes before at some =
+      let h = goes.each before at some in half_stop before lines h.done h.rest mid new j js fault some h.whole h.at h.shown takes
+
+  half_end : (before lines done rest : List (List ℕ)) (new : Progress Contents) → lines ≡ done ++ rest → IsAt format Makes (before ++ done) new → AllZip (ShowsItem format.meaning) rest [] → IsAt format Makes (before ++ lines) new
+  half_end before lines done [] new whole at shown = let P : List (List ℕ) → Type 0 = λ ls. IsAt format Makes (before ++ ls) new in subst P (sym (append-nil done) ∙ sym whole) at
+  half_end before lines done (line ∷ rest) new whole at shown = absurd shown
+
+  pub Goes-end : (lines : List (List ℕ)) (old new : Progress Contents) → Goes lines old new [] → (before : List (List ℕ)) → IsAt format Makes before old → 0 < length before → IsAt format Makes (before ++ lines) new
+  Goes-end lines old new goes before at some = let h = goes.each before at some in half_end before lines h.done h.rest new h.whole h.at h.shown
+
+  pub Takes-same : (a b c d : List (List ℕ)) (r : Result (Unit {0}) FileFault) (new : Progress Contents) → a ++ b ≡ c ++ d → Takes format Makes a b r new → Takes format Makes c d r new
+  Takes-same a b c d (Ok done) new e h = let P : List (List ℕ) → Type 0 = λ ls. IsAt format Makes ls new in subst P e h
+  Takes-same a b c d (Err fault) new e h = let P : List (List ℕ) → Type 0 = λ ls. IsFirstOfKind format ls fault.line fault.kind in subst P e h
+
+  none_before : (before : List (List ℕ)) → length before ≡ 0 → before ≡ []
+  none_before [] e = refl
+  none_before (line ∷ before) e = absurd (omega arith)
+
+  -- nothing is before, where no line was counted
+  pub nothing_before : (before : List (List ℕ)) (progress : Progress Contents) → IsAt format Makes before progress → progress.lines ≡ 0 → before ≡ []
+  nothing_before before progress at none = none_before before (sym at.counted ∙ none)
+
+  -- the first line's fault is the first of all
+  pub Takes-header_fault : (before lines rest : List (List ℕ)) (header : List ℕ) (fault : FileFault) (progress new : Progress Contents) → IsAt format Makes before progress → progress.lines ≡ 0 → lines ≡ header ∷ rest → (IsAt format Makes [] progress → Takes format Makes [] (header ∷ []) (Err fault) new) → Takes format Makes before lines (Err fault) new
+  Takes-header_fault before lines rest header fault progress new at none whole takes =
+      let nothing = nothing_before before progress at none in
+      let A : List (List ℕ) → Type 0 = λ ls. IsAt format Makes ls progress in
+      let P : List (List ℕ) → Type 0 = λ ls. IsFirstOfKind format ls fault.line fault.kind in
+      let same : header ∷ rest ≡ before ++ lines = sym whole ∙ ap (λ (ls : List (List ℕ)). ls ++ lines) (sym nothing) in
+      subst P same (IsFirstFault-more (header ∷ []) rest fault.line fault.kind (takes (subst A nothing at)))
+
+  -- the first line, and then the others
+  pub Takes-header_then : (before lines rest : List (List ℕ)) (header : List ℕ) (r : Result (Unit {0}) FileFault) (progress mid new : Progress Contents) → IsAt format Makes before progress → progress.lines ≡ 0 → lines ≡ header ∷ rest → (IsAt format Makes [] progress → IsAt format Makes (header ∷ []) mid) → ((front : List (List ℕ)) → IsAt format Makes front mid → 0 < length front → Takes format Makes front rest r new) → Takes format Makes before lines r new
+  Takes-header_then before lines rest header r progress mid new at none whole first later =
+      let nothing = nothing_before before progress at none in
+      let A : List (List ℕ) → Type 0 = λ ls. IsAt format Makes ls progress in
+      let same : (header ∷ []) ++ rest ≡ before ++ lines = sym whole ∙ ap (λ (ls : List (List ℕ)). ls ++ lines) (sym nothing) in
+      Takes-same (header ∷ []) rest before lines r new same (later (header ∷ []) (first (subst A nothing at)) (omega arith))

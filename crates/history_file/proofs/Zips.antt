@@ -1,0 +1,23 @@
+-- Two lists, item for item.
+use Rattle.std.proofs.Common.{ℕ, ◌<◌, ◌+◌, List, [], ◌∷◌, ◌++◌, length, get_or, take, map, sym, subst}
+use Rattle.std.specs.List.{AllZip}
+use Rattle.std.proofs.lemmas.List.{take_more}
+
+pub AllZip-push_both : {A B : Type 0} (R : A → B → Type 0) (xs : List A) (ys : List B) (x : A) (y : B) → AllZip R xs ys → R x y → AllZip R (xs ++ x ∷ []) (ys ++ y ∷ [])
+AllZip-push_both R [] [] x y h r = (r, tt)
+AllZip-push_both R [] (b ∷ ys) x y h r = absurd h
+AllZip-push_both R (a ∷ xs) [] x y h r = absurd h
+AllZip-push_both R (a ∷ xs) (b ∷ ys) x y h r = (h.0, AllZip-push_both R xs ys x y h.1 r)
+
+-- one item more of the first list
+pub AllZip-take_more : {A B : Type 0} (R : A → B → Type 0) (xs : List A) (ys : List B) (i : ℕ) (d : A) (y : B) → i < length xs → AllZip R (take i xs) ys → R (get_or xs i d) y → AllZip R (take (i + 1) xs) (ys ++ y ∷ [])
+AllZip-take_more {A = A} {B = B} R xs ys i d y lt h r =
+    let P : List A → Type 0 = λ front. AllZip R front (ys ++ y ∷ []) in
+    subst P (sym (take_more xs i d lt)) (AllZip-push_both R (take i xs) ys (get_or xs i d) y h r)
+
+-- over a view of the first list's items
+pub AllZip-seen : {A B C : Type 0} (R : C → B → Type 0) (v : A → C) (xs : List A) (ys : List B) → AllZip (λ x y. R (v x) y) xs ys → AllZip R (map v xs) ys
+AllZip-seen R v [] [] h = tt
+AllZip-seen R v [] (b ∷ ys) h = absurd h
+AllZip-seen R v (a ∷ xs) [] h = absurd h
+AllZip-seen R v (a ∷ xs) (b ∷ ys) h = (h.0, AllZip-seen R v xs ys h.1)

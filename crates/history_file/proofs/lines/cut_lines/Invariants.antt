@@ -1,0 +1,14 @@
+use Rattle.std.proofs.Common.{◌≡◌, ◌++◌, length, map}
+use Rattle.std.specs.Prelude.{All}
+use Rattle.std.specs.List.{flat_map}
+use Rattle.history_file.specs.Cuts.{HasNoEnd, ended}
+use Rattle.history_file.proofs.lines.cut_lines.Given as goal
+
+abbrev pub invariant-loop-end : goal.invariant-loop-end
+invariant-loop-end l = record {
+  whole : l.bytes ≡ flat_map ended (map (λ line. line.now) l.lines.items) ++ l.rest;
+  each : All HasNoEnd (map (λ line. line.now) l.lines.items);
+}
+
+abbrev pub decreases-loop-end : goal.decreases-loop-end
+decreases-loop-end l = length l.rest

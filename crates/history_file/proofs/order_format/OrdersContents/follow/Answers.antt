@@ -1,0 +1,17 @@
+use Rattle.std.proofs.Common.{◌∷◌, [], length, arith, ap}
+use Rattle.std.proofs.lemmas.List.Sums.{sum_by-append}
+use Rattle.recorder.specs.declared.order.KeyOrder.{KeyOrder}
+use Rattle.history_file.proofs.Joining.{joined_more}
+use Rattle.history_file.proofs.order_format.OrdersContents.follow.Goals as goal
+
+pub returns : goal.returns
+returns c = λ pieces made fits.
+    let piece = c.args.piece in
+    let grown = sum_by-append (λ (p : KeyOrder). length p.order) pieces (piece ∷ []) in
+    let count = ap length c.as_slice-count.ensures in (
+      record { few = omega (arith, grown, count, made.counted, c.if-count-self.false) },
+      record {
+        joined = joined_more pieces piece c.args.self.now.orders.entries c.join.new.orders.entries made.joined c.in_ok-join.ensures;
+        counted = omega (arith, grown, count, made.counted);
+      },
+    )

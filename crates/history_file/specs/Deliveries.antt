@@ -1,0 +1,44 @@
+-- What a reader delivered, and what was made of it.
+use Rattle.std.specs.Prelude.{ℕ, ◌≡◌, ◌+◌, ◌⊎◌, List, length, Option}
+use Rattle.std.specs.Io.KnownBytes.{Consumes, IsAtEnd}
+use Rattle.history_file.specs.declared.fault.FileFault.{FileFault}
+use Rattle.history_file.specs.declared.fault.FaultKind.{FaultKind}
+use Rattle.history_file.specs.declared.fault.FaultKind.TheVariants as kind
+use Rattle.history_file.specs.declared.feed.Feed.{Feed}
+use Rattle.history_file.specs.Counts.{HasGrown}
+use Rattle.history_file.specs.Cuts.{Splits}
+use Rattle.history_file.specs.Formats.{Format}
+use Rattle.history_file.specs.Feeds.{Stands, Reads, FirstFaultSoFar, FirstFaultInAll}
+
+-- the bytes that a reader gave between two of its states, and a fact of them
+pub record Delivers (old new : Option (List ℕ)) (P : List ℕ → Type 0) : Type 0 where
+  pub bytes : List ℕ
+  pub given : Consumes old new bytes
+  pub fact : P bytes
+
+-- the feed stands for the bytes that a reader gave
+abbrev pub Holds : {Item Contents : Type 0} → Format Item → (List Item → Contents → Type 0) → Option (List ℕ) → Option (List ℕ) → Feed Contents → Type 0
+Holds format Makes old new feed = Delivers old new (λ bytes. Stands format Makes bytes feed)
+
+-- the reader is at its end, and of all its bytes that is made
+abbrev pub ReadsAll : {Item Contents : Type 0} → Format Item → (List Item → Contents → Type 0) → Option (List ℕ) → Contents → List ℕ → Type 0
+ReadsAll format Makes left contents bytes = IsAtEnd left × Reads format Makes bytes contents
+
+-- the line under way, behind the whole ones
+abbrev pub IsUnderWay : List ℕ → ℕ → Type 0
+IsUnderWay bytes number = (lines : List (List ℕ)) × (rest : List ℕ) × Splits bytes lines rest × (number ≡ length lines + 1)
+
+-- of what was delivered the first fault of a line is that, at the reader's end or before it; a
+-- device's fault names the line under way
+abbrev pub StopsWith : {Item : Type 0} → Format Item → Option (List ℕ) → ℕ → FaultKind → List ℕ → Type 0
+StopsWith format left number (kind.Line fault) bytes = FirstFaultSoFar format bytes number fault ⊎ (IsAtEnd left × FirstFaultInAll format bytes number fault)
+StopsWith format left number kind.Device bytes = IsUnderWay bytes number
+StopsWith format left number kind.Memory bytes = Unit {0}
+
+abbrev pub StopsAt : {Item : Type 0} → Format Item → Option (List ℕ) → FileFault → List ℕ → Type 0
+StopsAt format left fault bytes = StopsWith format left fault.line fault.kind bytes
+
+-- a device's fault comes only where the count of failures grew
+abbrev pub HasFailed : FaultKind → ℕ → ℕ → Type 0
+HasFailed kind.Device old new = HasGrown old new
+HasFailed k old new = Unit {0}

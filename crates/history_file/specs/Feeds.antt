@@ -1,0 +1,93 @@
+-- What a feed stands for, and what is read of whole files.
+use Rattle.std.specs.Prelude.{ℕ, ◌≡◌, ◌≤◌, ◌<◌, ◌⊎◌, List, [], ◌∷◌, ◌++◌, length, Result, Ok, Err, None, nat_lt, if◌then◌else◌, MatchResult}
+use Rattle.history_file.specs.declared.fault.LineFault.{LineFault}
+use Rattle.history_file.specs.declared.fault.LineFault.TheVariants.{NoHeader}
+use Rattle.history_file.specs.declared.fault.FileFault.{FileFault}
+use Rattle.history_file.specs.declared.fault.FaultKind.{FaultKind}
+use Rattle.history_file.specs.declared.fault.FaultKind.TheVariants as kind
+use Rattle.history_file.specs.declared.progress.Progress.{Progress}
+use Rattle.history_file.specs.declared.feed.Feed.{Feed}
+use Rattle.history_file.specs.Cuts.{Splits}
+use Rattle.history_file.specs.Formats.{Format}
+use Rattle.history_file.specs.Files.{AreLinesOf, IsAt, IsFirstFault}
+
+-- the feed stands for what all lines of the bytes make that are whole so far
+pub record Stands {Item Contents : Type 0} (format : Format Item) (Makes : List Item → Contents → Type 0) (bytes : List ℕ) (feed : Feed Contents) : Type 0 where
+  pub lines : List (List ℕ)
+  pub splits : Splits bytes lines feed.rest.items
+  pub at : IsAt format Makes lines feed.progress
+  pub short : length feed.rest.items ≤ 65536
+  pub fed : feed.fed ≡ length bytes
+  pub sound : feed.fault ≡ None
+
+-- the whole lines so far: each that has its end, and a rest that is too long already
+abbrev pub whole_lines : List (List ℕ) → List ℕ → List (List ℕ)
+whole_lines lines rest = if nat_lt 65536 (length rest) then lines ++ rest ∷ [] else lines
+
+-- the lines at the end: each that has its end, and a rest that isn't empty
+abbrev pub last_lines : List (List ℕ) → List ℕ → List (List ℕ)
+last_lines lines [] = lines
+last_lines lines (b ∷ rest) = lines ++ (b ∷ rest) ∷ []
+
+-- among the lines that are whole so far, the first with a fault has that number and that fault
+pub record FirstFaultSoFar {Item : Type 0} (format : Format Item) (bytes : List ℕ) (number : ℕ) (fault : LineFault) : Type 0 where
+  pub lines : List (List ℕ)
+  pub rest : List ℕ
+  pub splits : Splits bytes lines rest
+  pub first : IsFirstFault format (whole_lines lines rest) number fault
+
+-- the same of a fault of any kind: a feed has no fault of a device, and of memory nothing is said
+abbrev pub FaultSoFar : {Item : Type 0} → Format Item → List ℕ → ℕ → FaultKind → Type 0
+FaultSoFar format bytes number (kind.Line fault) = FirstFaultSoFar format bytes number fault
+FaultSoFar format bytes number kind.Device = ⊥
+FaultSoFar format bytes number kind.Memory = Unit {0}
+
+-- what a feed answers, when it was fed these bytes in all
+abbrev pub Fed : {Item Contents : Type 0} → Format Item → (List Item → Contents → Type 0) → List ℕ → Result (Unit {0}) FileFault → Feed Contents → Type 0
+Fed format Makes bytes (Ok done) new = Stands format Makes bytes new
+Fed format Makes bytes (Err fault) new = FaultSoFar format bytes fault.line fault.kind
+
+-- the bytes of a whole file are a header and the lines of items, of which that is made
+pub record Reads {Item Contents : Type 0} (format : Format Item) (Makes : List Item → Contents → Type 0) (bytes : List ℕ) (contents : Contents) : Type 0 where
+  pub lines : List (List ℕ)
+  pub rest : List ℕ
+  pub splits : Splits bytes lines rest
+  pub some : 0 < length (last_lines lines rest)
+  pub items : List Item
+  pub read : AreLinesOf format (last_lines lines rest) items
+  pub made : Makes items contents
+
+-- the first fault of a whole file; one without a line has no header
+pub record FirstFaultInAll {Item : Type 0} (format : Format Item) (bytes : List ℕ) (number : ℕ) (fault : LineFault) : Type 0 where
+  pub lines : List (List ℕ)
+  pub rest : List ℕ
+  pub splits : Splits bytes lines rest
+  pub first : IsFirstFault format (last_lines lines rest) number fault ⊎ ((last_lines lines rest ≡ []) × (number ≡ 1) × (fault ≡ NoHeader))
+
+abbrev pub FaultInAll : {Item : Type 0} → Format Item → List ℕ → ℕ → FaultKind → Type 0
+FaultInAll format bytes number (kind.Line fault) = FirstFaultInAll format bytes number fault
+FaultInAll format bytes number kind.Device = ⊥
+FaultInAll format bytes number kind.Memory = Unit {0}
+
+-- what is answered at the end of these bytes
+abbrev pub Ends : {Item Contents : Type 0} → Format Item → (List Item → Contents → Type 0) → List ℕ → Result Contents FileFault → Type 0
+Ends format Makes bytes result = MatchResult result (λ contents. Reads format Makes bytes contents) (λ fault. FaultInAll format bytes fault.line fault.kind)
+
+-- the bytes' lines were taken, and that rest is left
+pub record Passed {Item Contents : Type 0} (format : Format Item) (Makes : List Item → Contents → Type 0) (old : Progress Contents) (bytes rest : List ℕ) (new : Progress Contents) : Type 0 where
+  pub lines : List (List ℕ)
+  pub splits : Splits bytes lines rest
+  pub short : length rest ≤ 65536
+  pub taken : (before : List (List ℕ)) → IsAt format Makes before old → IsAt format Makes (before ++ lines) new
+
+-- the first fault among the lines before and those of the bytes
+pub record FaultPassed {Item Contents : Type 0} (format : Format Item) (Makes : List Item → Contents → Type 0) (old : Progress Contents) (bytes : List ℕ) (number : ℕ) (fault : LineFault) : Type 0 where
+  pub lines : List (List ℕ)
+  pub rest : List ℕ
+  pub splits : Splits bytes lines rest
+  pub first : (before : List (List ℕ)) → IsAt format Makes before old → IsFirstFault format (whole_lines (before ++ lines) rest) number fault
+
+abbrev pub PassStops : {Item Contents : Type 0} → Format Item → (List Item → Contents → Type 0) → Progress Contents → List ℕ → ℕ → FaultKind → Type 0
+PassStops format Makes old bytes number (kind.Line fault) = FaultPassed format Makes old bytes number fault
+PassStops format Makes old bytes number kind.Device = (before : List (List ℕ)) → IsAt format Makes before old → ⊥
+PassStops format Makes old bytes number kind.Memory = Unit {0}

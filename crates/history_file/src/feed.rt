@@ -1,0 +1,94 @@
+//! A file that comes in pieces.
+ghost use Rattle.std.specs.Prelude.{ℕ, ◌≡◌, ◌≤◌, ◌+◌, ◌^◌, ◌++◌, List, [], Some, None, length, IfOk, IfErr};
+
+use crate::format::Contents;
+use crate::pieces::take_piece;
+use crate::progress::Progress;
+use crate::{FaultKind, FileFault, LineFault};
+use std::alloc::Global;
+
+/// What the whole lines so far made, and what came of the next line.
+#[derive(Drop)]
+pub struct Feed<C> {
+    pub progress: Progress<C>,
+    pub rest: Vec<u8>,
+    pub fed: u64,
+    pub fault: Option<FileFault>,
+    ghost few: { fed ≤ 2 ^ 62 },
+    ghost room: { fault ≡ None → progress.lines + length rest.items ≤ fed },
+}
+
+impl<C: Contents> Feed<C> {
+    ghost use Rattle.history_file.specs.Feeds.{Stands, Fed, Ends};
+
+    /// No byte yet.
+    pub fn new(alloc: Global) -> Feed<C>
+        ensures { Stands C.format C.Makes [] result }
+    {
+        Feed {
+            progress: Progress {
+                contents: C::opening(alloc),
+                lines: 0,
+            },
+            rest: Vec::new(alloc),
+            fed: 0,
+            fault: None,
+        }
+    }
+
+    /// The number of the line that is under way.
+    pub fn line(&self) -> u64
+        ensures { self.now.fault ≡ None → result ≡ self.now.progress.lines + 1 }
+    {
+        self.progress.lines.saturating_add(1)
+    }
+
+    /// Takes the next piece.
+    pub fn feed(&mut self, piece: &[u8]) -> Result<(), FileFault>
+        requires { self.old.fed + length piece.now ≤ 2 ^ 62 }
+        ensures fed { (bytes : List ℕ) → Stands C.format C.Makes bytes self.old → Fed C.format C.Makes (bytes ++ piece.now) result self.new }
+        ensures count { IfOk result (λ _. self.new.fed ≡ self.old.fed + length piece.now) }
+        ensures kept { IfErr result (λ fault. self.new.fault ≡ Some fault) }
+        ensures stays { (fault : _) → self.old.fault ≡ Some fault → (result ≡ Err fault) × (self.new ≡ self.old) }
+    {
+        if let Some(fault) = self.fault {
+            return Err(fault);
+        }
+        match take_piece(&mut self.progress, &mut self.rest, piece) {
+            Ok(()) => {
+                self.fed += piece.len() as u64;
+                Ok(())
+            }
+            Err(fault) => {
+                self.fault = Some(fault);
+                Err(fault)
+            }
+        }
+    }
+
+    /// Ends the file.
+    pub fn finish(self) -> Result<C, FileFault>
+        ensures ends { (bytes : List ℕ) → Stands C.format C.Makes bytes self → Ends C.format C.Makes bytes result }
+        ensures kept { (fault : _) → self.fault ≡ Some fault → result ≡ Err fault }
+    {
+        let Feed {
+            mut progress,
+            rest,
+            fault,
+            ..
+        } = self;
+        if let Some(fault) = fault {
+            return Err(fault);
+        }
+        if !rest.is_empty() {
+            progress.take(*rest.allocator(), &[rest.as_slice()])?;
+        }
+        if progress.lines == 0 {
+            return Err(FileFault {
+                line: 1,
+                kind: FaultKind::Line(LineFault::NoHeader),
+            });
+        }
+        Ok(progress.contents)
+    }
+}

@@ -1,0 +1,83 @@
+//! An order file that comes in pieces.
+ghost use Rattle.std.specs.Prelude.{ℕ, ◌≡◌, ◌≤◌, ◌+◌, ◌^◌, ◌++◌, List, [], None, Some, length, IfOk, IfErr, MatchResult};
+ghost use Rattle.history_file.specs.Feeds.{Stands, Reads, FaultInAll};
+ghost use Rattle.history_file.specs.OrderFormat.{order_format, AreJoined};
+ghost use Rattle.history_file.specs.Joins.{MakesOrders};
+ghost use Rattle.history_file.specs.Fed.{StandsForOrders, FedOrders};
+
+use crate::feed::Feed;
+use crate::order_format::Orders;
+use crate::orders::listed;
+use crate::{FaultKind, FileFault};
+use recorder::KeyOrder;
+use std::alloc::Global;
+
+/// An order file that comes in pieces of any size: the orders of its lines so far.
+#[derive(Drop)]
+pub struct OrderFeed {
+    feed: Feed<Orders>,
+}
+
+impl OrderFeed {
+    /// No byte yet.
+    pub fn new(alloc: Global) -> OrderFeed
+        ensures { StandsForOrders [] result }
+    {
+        OrderFeed {
+            feed: Feed::new(alloc),
+        }
+    }
+
+    /// How many bytes the pieces had that were taken.
+    pub fn fed(&self) -> u64
+        ensures fed { result ≡ self.now.feed.fed }
+        ensures most { result ≤ 2 ^ 62 }
+    {
+        self.feed.fed
+    }
+
+    /// The number of the line that is under way.
+    pub fn line(&self) -> u64
+        ensures { self.now.feed.fault ≡ None → result ≡ self.now.feed.progress.lines + 1 }
+    {
+        self.feed.line()
+    }
+
+    /// Takes the next piece, however the file was cut. The first fault of the bytes so far is
+    /// answered, and then by each later call; `Memory` comes only where a growth was refused.
+    pub fn feed(&mut self, piece: &[u8]) -> Result<(), FileFault>
+        requires { self.old.feed.fed + length piece.now ≤ 2 ^ 62 }
+        ensures fed { (bytes : List ℕ) → StandsForOrders bytes self.old → FedOrders (bytes ++ piece.now) result self.new }
+        ensures count { IfOk result (λ _. self.new.feed.fed ≡ self.old.feed.fed + length piece.now) }
+        ensures kept { IfErr result (λ fault. self.new.feed.fault ≡ Some fault) }
+        ensures stays { (fault : _) → self.old.feed.fault ≡ Some fault → (result ≡ Err fault) × (self.new ≡ self.old) }
+    {
+        self.feed.feed(piece)
+    }
+
+    /// The orders, at the end of the file; or the first fault of the file, or the one that an
+    /// earlier call answered.
+    pub fn finish(self) -> Result<Vec<KeyOrder>, FileFault>
+        ensures ends { (bytes : List ℕ) → StandsForOrders bytes self → MatchResult result (λ orders. Reads order_format AreJoined bytes orders.items) (λ fault. FaultInAll order_format bytes fault.line fault.kind) }
+        ensures kept { (fault : _) → self.feed.fault ≡ Some fault → result ≡ Err fault }
+    {
+        finish_orders(self.feed)
+    }
+}
+
+/// The orders of a feed, at the end of the file.
+pub fn finish_orders(feed: Feed<Orders>) -> Result<Vec<KeyOrder>, FileFault>
+    ensures ends { (bytes : List ℕ) → Stands order_format MakesOrders bytes feed → MatchResult result (λ orders. Reads order_format AreJoined bytes orders.items) (λ fault. FaultInAll order_format bytes fault.line fault.kind) }
+    ensures kept { (fault : _) → feed.fault ≡ Some fault → result ≡ Err fault }
+{
+    let alloc = *feed.rest.allocator();
+    let line = feed.line();
+    let Orders { orders, .. } = feed.finish()?;
+    match listed(alloc, orders) {
+        Ok(orders) => Ok(orders),
+        Err(_) => Err(FileFault {
+            line,
+            kind: FaultKind::Memory,
+        }),
+    }
+}

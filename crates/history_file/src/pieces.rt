@@ -1,0 +1,78 @@
+//! Pieces of a file, cut into lines that are taken.
+ghost use Rattle.std.specs.Prelude.{◌≡◌, ◌<◌, ◌≤◌, ◌+◌, ◌^◌, ◌++◌, length, IfOk, MatchResult};
+ghost use Rattle.history_file.specs.Cuts.{HasNoEnd};
+ghost use Rattle.history_file.specs.Feeds.{Passed, PassStops};
+
+use crate::format::Contents;
+use crate::judging::LONGEST;
+use crate::lines::{cut_lines, first_end};
+use crate::progress::Progress;
+use crate::{FaultKind, FileFault, LineFault};
+use std::alloc::Global;
+
+/// Want of memory at that line.
+fn memory_at(line: u64) -> FileFault
+    ensures { result.kind ≡ FaultKind.Memory }
+{
+    FileFault {
+        line,
+        kind: FaultKind::Memory,
+    }
+}
+
+/// A line without its end so far must not be too long.
+fn check_length(lines: u64, rest: &[u8]) -> Result<(), FileFault>
+    requires { lines < 2 ^ 63 }
+    ensures { MatchResult result (λ _. length rest.now ≤ 65536) (λ fault. (65536 < length rest.now) × (fault.line ≡ lines + 1) × (fault.kind ≡ FaultKind.Line LineFault.TooLong)) }
+{
+    if rest.len() > LONGEST {
+        return Err(FileFault {
+            line: lines + 1,
+            kind: FaultKind::Line(LineFault::TooLong),
+        });
+    }
+    Ok(())
+}
+
+/// Takes the whole lines of the bytes, and gives the rest.
+fn pass<C: Contents>(
+    alloc: Global,
+    progress: &mut Progress<C>,
+    bytes: &[u8],
+) -> Result<Vec<u8>, FileFault>
+    requires { progress.old.lines + length bytes.now < 2 ^ 63 }
+    ensures passes { MatchResult result (λ rest. Passed C.format C.Makes progress.old bytes.now rest.items progress.new) (λ fault. PassStops C.format C.Makes progress.old bytes.now fault.line fault.kind) }
+    ensures lines { IfOk result (λ rest. progress.new.lines + length rest.items ≤ progress.old.lines + length bytes.now) }
+{
+    let Ok(found) = cut_lines(alloc, bytes) else {
+        return Err(memory_at(progress.lines + 1));
+    };
+    progress.take(alloc, found.lines.as_slice())?;
+    check_length(progress.lines, found.rest)?;
+    match Vec::from_slice(alloc, found.rest) {
+        Ok(rest) => Ok(rest),
+        Err(_) => Err(memory_at(progress.lines + 1)),
+    }
+}
+
+/// Takes the whole lines of the rest and the piece behind it; the rest is then what is left.
+pub fn take_piece<C: Contents>(
+    progress: &mut Progress<C>,
+    rest: &mut Vec<u8>,
+    piece: &[u8],
+) -> Result<(), FileFault>
+    requires { progress.old.lines + length rest.old.items + length piece.now < 2 ^ 63 }
+    ensures passes { HasNoEnd rest.old.items → MatchResult result (λ _. Passed C.format C.Makes progress.old (rest.old.items ++ piece.now) rest.new.items progress.new) (λ fault. PassStops C.format C.Makes progress.old (rest.old.items ++ piece.now) fault.line fault.kind) }
+    ensures lines { IfOk result (λ _. progress.new.lines + length rest.new.items ≤ progress.old.lines + length rest.old.items + length piece.now) }
+{
+    if rest.extend_from_slice(piece).is_err() {
+        return Err(memory_at(progress.lines + 1));
+    }
+    // a piece without a line's end only makes the rest longer
+    if first_end(piece).is_none() {
+        return check_length(progress.lines, rest.as_slice());
+    }
+    let alloc = *rest.allocator();
+    *rest = pass(alloc, progress, rest.as_slice())?;
+    Ok(())
+}

@@ -1,0 +1,96 @@
+//! How far the lines of a file were taken.
+ghost use Rattle.std.specs.Prelude.{ℕ, ◌≡◌, ◌<◌, ◌+◌, ◌^◌, List, [], ◌∷◌, length, map, OnOk};
+ghost use Rattle.history_file.specs.Files.{IsAt, Takes, TakesJudged, kind_of};
+
+use crate::fault::Stop;
+use crate::format::Contents;
+use crate::judging::{Judgement, judge_all, judge_header};
+use crate::{FaultKind, FileFault};
+use std::alloc::Global;
+
+/// What the lines so far made, and how many they were, the header among them.
+#[derive(Drop)]
+pub struct Progress<C> {
+    pub contents: C,
+    pub lines: u64,
+}
+
+/// The fault of that line.
+fn fault_at(line: u64, stop: Stop) -> FileFault
+    ensures line { result.line ≡ line }
+    ensures kind { result.kind ≡ kind_of stop }
+{
+    let kind = match stop {
+        Stop::Fault(fault) => FaultKind::Line(fault),
+        Stop::Memory => FaultKind::Memory,
+    };
+    FileFault { line, kind }
+}
+
+impl<C: Contents> Progress<C> {
+    /// Takes the first line.
+    fn take_header(&mut self, alloc: Global, line: &[u8]) -> Result<(), FileFault>
+        requires { self.old.lines ≡ 0 }
+        ensures taken { IsAt C.format C.Makes [] self.old → Takes C.format C.Makes [] (line.now ∷ []) result self.new }
+        ensures lines { OnOk result (self.new.lines ≡ 1) }
+    {
+        match judge_header(alloc, C::name(), line) {
+            Ok(()) => {
+                self.lines = 1;
+                Ok(())
+            }
+            Err(stop) => Err(fault_at(1, stop)),
+        }
+    }
+
+    /// Takes what a later line shows.
+    fn take_judgement(&mut self, judgement: Judgement<C::Item>) -> Result<(), FileFault>
+        requires { self.old.lines < 2 ^ 63 }
+        ensures taken { TakesJudged C.format C.Makes self.old judgement result self.new }
+        ensures lines { OnOk result (self.new.lines ≡ self.old.lines + 1) }
+    {
+        let line = self.lines + 1;
+        match judgement {
+            Judgement::Fault(fault) => Err(fault_at(line, Stop::Fault(fault))),
+            Judgement::Item(item) => match self.contents.follow(item) {
+                Ok(()) => {
+                    self.lines = line;
+                    Ok(())
+                }
+                Err(stop) => Err(fault_at(line, stop)),
+            },
+        }
+    }
+
+    /// Takes later lines.
+    fn take_rest(&mut self, alloc: Global, lines: &[&[u8]]) -> Result<(), FileFault>
+        requires { self.old.lines + length lines.now < 2 ^ 63 }
+        ensures taken { (before : List (List ℕ)) → IsAt C.format C.Makes before self.old → 0 < length before → Takes C.format C.Makes before (map (λ line. line.now) lines.now) result self.new }
+        ensures lines { OnOk result (self.new.lines ≡ self.old.lines + length lines.now) }
+    {
+        let judgements = match judge_all::<C>(alloc, lines) {
+            Ok(judgements) => judgements,
+            Err(_) => return Err(fault_at(self.lines + 1, Stop::Memory)),
+        };
+        for judgement in judgements {
+            self.take_judgement(judgement)?;
+        }
+        Ok(())
+    }
+
+    /// Takes lines.
+    pub fn take(&mut self, alloc: Global, lines: &[&[u8]]) -> Result<(), FileFault>
+        requires { self.old.lines + length lines.now < 2 ^ 63 }
+        ensures taken { (before : List (List ℕ)) → IsAt C.format C.Makes before self.old → Takes C.format C.Makes before (map (λ line. line.now) lines.now) result self.new }
+        ensures lines { OnOk result (self.new.lines ≡ self.old.lines + length lines.now) }
+    {
+        if lines.is_empty() {
+            return Ok(());
+        }
+        if self.lines > 0 {
+            return self.take_rest(alloc, lines);
+        }
+        self.take_header(alloc, lines[0])?;
+        self.take_rest(alloc, &lines[1..])
+    }
+}

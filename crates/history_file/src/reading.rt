@@ -1,0 +1,113 @@
+//! Files from readers.
+ghost use Rattle.std.specs.Prelude.{ℕ, ◌≡◌, ◌<◌, ◌≤◌, List, Option, length, true, false, IfOk, IfErr, MatchResult};
+ghost use Rattle.std.specs.Io.KnownBytes.{IsAtEnd};
+ghost use Rattle.history_file.specs.Deliveries.{Delivers, Holds, ReadsAll, StopsAt, HasFailed};
+ghost use Rattle.history_file.specs.HistoryFormat.{history_format, MakesHistory};
+ghost use Rattle.history_file.specs.OrderFormat.{order_format, AreJoined};
+
+use crate::feed::Feed;
+use crate::format::Contents;
+use crate::order_feed::finish_orders;
+use crate::order_format::Orders;
+use crate::{Counting, FaultKind, FileFault};
+use recorder::{History, KeyOrder};
+use std::alloc::{AllocError, Global};
+use std::io::Read;
+
+/// The most bytes of a piece.
+const PIECE: usize = 1_048_576;
+
+/// Room for pieces of that size.
+fn room_for(alloc: Global, size: usize) -> Result<Vec<u8>, AllocError>
+    ensures { IfOk result (λ room. length room.items ≡ size) }
+{
+    vec![in alloc; 0u8; size]
+}
+
+/// Feeds the next bytes of the reader, and says whether there were some.
+fn feed_next<C: Contents, R: Read>(
+    feed: &mut Feed<C>,
+    reader: &mut Counting<R>,
+    room: &mut [u8],
+) -> Result<bool, FileFault>
+    requires some { 0 < length room.old }
+    requires fed { feed.old.fed ≤ reader.old.given }
+    ensures goes { (start : Option (List ℕ)) → Holds C.format C.Makes start (R.remaining reader.old.inner) feed.old → MatchResult result (λ _. Holds C.format C.Makes start (R.remaining reader.new.inner) feed.new) (λ fault. Delivers start (R.remaining reader.new.inner) (StopsAt C.format (R.remaining reader.new.inner) fault) × HasFailed fault.kind reader.old.failures reader.new.failures) }
+    ensures fed { IfOk result (λ _. feed.new.fed ≤ reader.new.given) }
+    ensures end { IfOk result (λ more. more ≡ false → IsAtEnd (R.remaining reader.new.inner)) }
+    ensures more { IfOk result (λ more. more ≡ true → reader.old.given < reader.new.given) }
+    ensures counted { IfOk result (λ _. reader.new.failures ≡ reader.old.failures) }
+{
+    match reader.read(room) {
+        Ok(count) => {
+            feed.feed(&room[..count])?;
+            Ok(count > 0)
+        }
+        Err(_) => Err(FileFault {
+            line: feed.line(),
+            kind: FaultKind::Device,
+        }),
+    }
+}
+
+/// Feeds the bytes of the reader, to its end, in pieces of that room.
+fn feed_in_pieces<C: Contents, R: Read>(
+    alloc: Global,
+    reader: &mut Counting<R>,
+    room: &mut [u8],
+) -> Result<Feed<C>, FileFault>
+    requires { 0 < length room.old }
+    ensures holds { IfOk result (λ feed. Holds C.format C.Makes (R.remaining reader.old.inner) (R.remaining reader.new.inner) feed × IsAtEnd (R.remaining reader.new.inner)) }
+    ensures fault { IfErr result (λ fault. Delivers (R.remaining reader.old.inner) (R.remaining reader.new.inner) (StopsAt C.format (R.remaining reader.new.inner) fault) × HasFailed fault.kind reader.old.failures reader.new.failures) }
+{
+    let mut feed = Feed::<C>::new(alloc);
+    'pieces: while feed_next(&mut feed, reader, room)? {}
+    Ok(feed)
+}
+
+/// Feeds the bytes of the reader, to its end.
+fn feed_all<C: Contents, R: Read>(
+    alloc: Global,
+    reader: &mut Counting<R>,
+) -> Result<Feed<C>, FileFault>
+    ensures holds { IfOk result (λ feed. Holds C.format C.Makes (R.remaining reader.old.inner) (R.remaining reader.new.inner) feed × IsAtEnd (R.remaining reader.new.inner)) }
+    ensures fault { IfErr result (λ fault. Delivers (R.remaining reader.old.inner) (R.remaining reader.new.inner) (StopsAt C.format (R.remaining reader.new.inner) fault)) }
+    ensures device { IfErr result (λ fault. HasFailed fault.kind reader.old.failures reader.new.failures) }
+{
+    let Ok(mut room) = room_for(alloc, PIECE) else {
+        return Err(FileFault {
+            line: 1,
+            kind: FaultKind::Memory,
+        });
+    };
+    feed_in_pieces(alloc, reader, room.as_mut_slice())
+}
+
+/// The history that the reader's bytes are, all of them up to its end.
+///
+/// A file with a fault is refused with its first one: of lines that came whole the first that has
+/// a fault, then `Device` at the line under way where the reader failed. `Memory` comes only where
+/// a growth was refused. The reader keeps what follows the bytes that were read.
+pub fn read_history<R: Read>(alloc: Global, reader: &mut Counting<R>) -> Result<History, FileFault>
+    ensures read { IfOk result (λ history. Delivers (R.remaining reader.old.inner) (R.remaining reader.new.inner) (ReadsAll history_format MakesHistory (R.remaining reader.new.inner) history)) }
+    ensures fault { IfErr result (λ fault. Delivers (R.remaining reader.old.inner) (R.remaining reader.new.inner) (StopsAt history_format (R.remaining reader.new.inner) fault)) }
+    ensures device { IfErr result (λ fault. HasFailed fault.kind reader.old.failures reader.new.failures) }
+{
+    feed_all::<History, R>(alloc, reader)?.finish()
+}
+
+/// The orders that the reader's bytes are, all of them up to its end: the keys in the order of
+/// their first lines, each with its pieces joined.
+///
+/// A file with a fault is refused as by `read_history`.
+pub fn read_orders<R: Read>(
+    alloc: Global,
+    reader: &mut Counting<R>,
+) -> Result<Vec<KeyOrder>, FileFault>
+    ensures read { IfOk result (λ orders. Delivers (R.remaining reader.old.inner) (R.remaining reader.new.inner) (ReadsAll order_format AreJoined (R.remaining reader.new.inner) orders.items)) }
+    ensures fault { IfErr result (λ fault. Delivers (R.remaining reader.old.inner) (R.remaining reader.new.inner) (StopsAt order_format (R.remaining reader.new.inner) fault)) }
+    ensures device { IfErr result (λ fault. HasFailed fault.kind reader.old.failures reader.new.failures) }
+{
+    let feed = feed_all::<Orders, R>(alloc, reader)?;
+    finish_orders(feed)
+}
