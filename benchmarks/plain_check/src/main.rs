@@ -1,0 +1,148 @@
+//! What `abd check` does, in plain sequential Rust with serde_json: the yardstick of the benchmark.
+//! It reads lawful files only, and stops at the first line that is none.
+use serde_json::Value;
+use std::collections::{HashMap, HashSet};
+use std::fs::File;
+use std::io::{BufRead, BufReader};
+use std::time::Instant;
+
+enum Row {
+    Invoke { op: u32, client: u32, key: String, write: Option<String> },
+    Note { op: u32, number: u32, writer: u32 },
+    Respond { op: u32, answer: Option<Option<String>> },
+}
+
+struct Call {
+    op: u32,
+    write: Option<String>,
+    note: Option<(u32, u32)>,
+    invoked: usize,
+    response: Option<(usize, Option<Option<String>>)>,
+}
+
+fn number(value: &Value, name: &str) -> u32 {
+    value.get(name).and_then(Value::as_u64).expect("a number") as u32
+}
+
+fn text(value: &Value, name: &str) -> String {
+    value.get(name).and_then(Value::as_str).expect("a text").to_owned()
+}
+
+fn row_of(value: &Value) -> Row {
+    let op = number(value, "call");
+    match value.get("row").and_then(Value::as_str).expect("a row") {
+        "invoke" => Row::Invoke {
+            op,
+            client: number(value, "client"),
+            key: text(value, "key"),
+            write: (value.get("do").and_then(Value::as_str) == Some("write")).then(|| text(value, "value")),
+        },
+        "note" => Row::Note { op, number: number(value, "number"), writer: number(value, "writer") },
+        _ => Row::Respond { op, answer: value.get("value").map(|v| v.as_str().map(str::to_owned)) },
+    }
+}
+
+fn read_history(path: &str) -> Vec<Row> {
+    let mut reader = BufReader::with_capacity(1 << 20, File::open(path).expect("a history"));
+    let (mut line, mut rows, mut busy) = (String::new(), Vec::new(), HashSet::new());
+    let mut callers: Vec<u32> = Vec::new();
+    reader.read_line(&mut line).expect("a header");
+    loop {
+        line.clear();
+        if reader.read_line(&mut line).expect("a line") == 0 {
+            return rows;
+        }
+        let row = row_of(&serde_json::from_str(&line).expect("JSON"));
+        match &row {
+            Row::Invoke { op, client, .. } => {
+                assert!(*op as usize == callers.len() && busy.insert(*client));
+                callers.push(*client);
+            }
+            Row::Note { .. } => {}
+            Row::Respond { op, .. } => assert!(busy.remove(&callers[*op as usize])),
+        }
+        rows.push(row);
+    }
+}
+
+fn read_orders(path: &str) -> HashMap<String, Vec<u32>> {
+    let mut orders: HashMap<String, Vec<u32>> = HashMap::new();
+    for line in BufReader::new(File::open(path).expect("orders")).lines().skip(1) {
+        let value: Value = serde_json::from_str(&line.expect("a line")).expect("JSON");
+        let calls = value["order"].as_array().expect("an order");
+        let order = orders.entry(text(&value, "key")).or_default();
+        order.extend(calls.iter().map(|c| c.as_u64().expect("a call") as u32));
+    }
+    orders
+}
+
+fn parts_of(rows: Vec<Row>) -> Vec<(String, Vec<Call>)> {
+    let (mut slots, mut places) = (HashMap::new(), Vec::new());
+    let mut parts: Vec<(String, Vec<Call>)> = Vec::new();
+    for (place, row) in rows.into_iter().enumerate() {
+        match row {
+            Row::Invoke { op, key, write, .. } => {
+                let slot = *slots.entry(key.clone()).or_insert_with(|| {
+                    parts.push((key, Vec::new()));
+                    parts.len() - 1
+                });
+                places.push((slot, parts[slot].1.len()));
+                parts[slot].1.push(Call { op, write, note: None, invoked: place, response: None });
+            }
+            Row::Note { op, number, writer } => {
+                let (slot, index) = places[op as usize];
+                parts[slot].1[index].note = Some((number, writer));
+            }
+            Row::Respond { op, answer } => {
+                let (slot, index) = places[op as usize];
+                parts[slot].1[index].response = Some((place, answer));
+            }
+        }
+    }
+    parts
+}
+
+fn is_order(part: &[Call], order: &[u32]) -> bool {
+    let mut marks = vec![false; part.len()];
+    let (mut current, mut latest) = (None, 0);
+    for op in order {
+        let Ok(index) = part.binary_search_by_key(op, |call| call.op) else { return false };
+        let call = &part[index];
+        if marks[index] {
+            return false;
+        }
+        marks[index] = true;
+        match (&call.write, &call.response) {
+            (Some(value), _) => current = Some(value),
+            (None, None) => return false,
+            (None, Some((_, answer))) => {
+                if answer.as_ref().map(Option::as_ref) != Some(current) {
+                    return false;
+                }
+            }
+        }
+        if call.response.as_ref().is_some_and(|(place, _)| *place < latest) {
+            return false;
+        }
+        latest = latest.max(call.invoked);
+    }
+    part.iter().zip(&marks).all(|(call, mark)| *mark || call.response.is_none())
+}
+
+fn main() {
+    let files: Vec<String> = std::env::args().skip(1).collect();
+    let start = Instant::now();
+    let rows = read_history(&files[0]);
+    let read = start.elapsed();
+    let orders = read_orders(&files[1]);
+    let parts = parts_of(rows);
+    let empty = Vec::new();
+    let mut yes = 0;
+    for (key, part) in &parts {
+        let is_yes = is_order(part, orders.get(key).unwrap_or(&empty));
+        yes += is_yes as u32;
+        println!("{key}: {}", if is_yes { "yes" } else { "no" });
+    }
+    let notes = parts.iter().flat_map(|part| &part.1).filter(|call| call.note.is_some()).count();
+    eprintln!("{yes} of {} keys yes, {notes} notes; history read in {read:?}, all in {:?}", parts.len(), start.elapsed());
+}

@@ -1,0 +1,58 @@
+//! Readers and writers over memory, and such as fail.
+use std::alloc::Global;
+use std::io;
+use std::io::{ErrorKind, Read, Write};
+
+/// A reader that gives a text in pieces of one size, and then ends or fails.
+#[derive(Drop)]
+pub struct Pieces<'a> {
+    pub left: &'a [u8],
+    pub size: usize,
+    pub fails: bool,
+}
+
+impl Read for Pieces<'_> {
+    fn read(&mut self, buffer: &mut [u8]) -> io::Result<usize> {
+        if self.left.is_empty() && self.fails {
+            return Err(io::Error::from(ErrorKind::TimedOut));
+        }
+        let count = self.size.min(buffer.len()).min(self.left.len());
+        for (to, from) in buffer.iter_mut().zip(self.left) {
+            *to = *from;
+        }
+        self.left = &self.left[count..];
+        Ok(count)
+    }
+}
+
+/// A writer with room for so many bytes.
+#[derive(Drop)]
+pub struct Bounded {
+    pub taken: Vec<u8>,
+    pub room: usize,
+}
+
+impl Bounded {
+    pub fn new(alloc: Global, room: usize) -> Bounded {
+        Bounded {
+            taken: Vec::new(alloc),
+            room,
+        }
+    }
+}
+
+impl Write for Bounded {
+    fn write(&mut self, bytes: &[u8]) -> io::Result<usize> {
+        let count = bytes.len().min(self.room);
+        if count == 0 && !bytes.is_empty() {
+            return Err(io::Error::from(ErrorKind::StorageFull));
+        }
+        self.taken.extend_from_slice(&bytes[..count])?;
+        self.room = self.room.saturating_sub(count);
+        Ok(count)
+    }
+
+    fn flush(&mut self) -> io::Result<()> {
+        Ok(())
+    }
+}

@@ -1,0 +1,11 @@
+//! The worked rows that cross crates, as tests over the commands. There is nothing else here.
+#![tactic(auto)]
+
+#[cfg(test)]
+mod devices;
+
+#[cfg(test)]
+mod checking;
+
+#[cfg(test)]
+mod wording;

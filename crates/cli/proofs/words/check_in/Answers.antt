@@ -1,0 +1,33 @@
+-- The rows of the matches are what `get_str` reads.
+use Rattle.std.proofs.Common.{◌≡◌, Option, Some, None, option_map, codes, List, ℕ, sym, ◌∙◌, Bor, refl, ap}
+use Rattle.clap.specs.Words.{first_of, first_value, found_of, rows_of, Row}
+use Rattle.clap.proofs.WalkLemmas.{first_value-rows}
+use Rattle.cli.specs.Words.{Makes, NamesFiles}
+use Rattle.cli.specs.declared.asked.Command.{Command}
+use Rattle.cli.specs.declared.asked.Command.TheVariants.{Check}
+use Rattle.cli.proofs.words.check_in.Goals as goal
+
+-- without the one file or the other, the rows make no command
+no_history : (rows : List Row) → first_of (codes "HISTORY") rows ≡ None → (command : Command) → Makes rows command → ⊥
+no_history rows none (Check history orders) makes = let h = makes.history_named in cc
+
+no_orders : (rows : List Row) → first_of (codes "ORDERS") rows ≡ None → (command : Command) → Makes rows command → ⊥
+no_orders rows none (Check history orders) makes = let h = makes.orders_named in cc
+
+pub returns-in_err-history : goal.returns-in_err-history
+returns-in_err-history c =
+    let found = found_of c.args.matches.now in
+    rw c.from_residual.ensures (no_history (rows_of found) (sym (first_value-rows found (codes "HISTORY")) ∙ sym c.in_err-history.ensures))
+
+pub returns-in_err-orders : goal.returns-in_err-orders
+returns-in_err-orders c =
+    let found = found_of c.args.matches.now in
+    rw c.from_residual-in_err-orders.ensures (no_orders (rows_of found) (sym (first_value-rows found (codes "ORDERS")) ∙ sym c.in_err-orders.ensures))
+
+pub returns : goal.returns
+returns c =
+    let found = found_of c.args.matches.now in
+    record {
+      history_named = sym (first_value-rows found (codes "HISTORY")) ∙ sym c.in_ok-history.ensures;
+      orders_named = sym (first_value-rows found (codes "ORDERS")) ∙ sym c.in_ok-orders.ensures;
+    }

@@ -1,0 +1,28 @@
+-- The exit statuses.
+use Rattle.std.specs.Prelude.{ℕ}
+use Rattle.history_file.specs.declared.fault.FaultKind.{FaultKind}
+use Rattle.history_file.specs.declared.fault.FaultKind.TheVariants as kind
+use Rattle.cli.specs.declared.status.Status.{Status}
+use Rattle.cli.specs.declared.status.Status.TheVariants.{Good, Refused, Usage, Format, Failed}
+use Rattle.cli.specs.declared.status.Failure.{Failure}
+use Rattle.cli.specs.declared.status.Failure.TheVariants as failure
+
+-- 0 all is well, 1 a key is refused, 2 usage, 3 a file's opening or format, 4 memory or a device
+abbrev pub code_of : Status → ℕ
+code_of Good = 0
+code_of Refused = 1
+code_of Usage = 2
+code_of Format = 3
+code_of Failed = 4
+
+-- a fault of a line is the file's own; a reader that fails and want of memory are not
+abbrev pub status_of_kind : FaultKind → Status
+status_of_kind (kind.Line fault) = Format
+status_of_kind kind.Device = Failed
+status_of_kind kind.Memory = Failed
+
+abbrev pub status_of : Failure → Status
+status_of (failure.Closed name) = Format
+status_of (failure.File name fault) = status_of_kind fault.kind
+status_of failure.Output = Failed
+status_of failure.Memory = Failed

@@ -1,0 +1,18 @@
+//! What a command line asks for.
+/// What a command line asks for.
+#[derive(Clone, Copy, Debug, PartialEq, Eq)]
+pub enum Command<'a> {
+    /// To judge the orders of a history's keys.
+    Check { history: &'a str, orders: &'a str },
+}
+
+/// Why a command line asks for nothing.
+#[derive(Debug, Drop)]
+pub enum Usage {
+    /// It asks for help, which is this text.
+    Help(String),
+    /// It has none of the forms; the text says why, and what they are.
+    Fault(String),
+    /// Want of memory.
+    Memory,
+}

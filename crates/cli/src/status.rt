@@ -1,0 +1,89 @@
+//! How a command ends: its exit status, and what it says of a failure.
+ghost use Rattle.std.specs.Prelude.{◌≡◌};
+ghost use Rattle.cli.specs.Statuses.{code_of, status_of};
+
+use history_file::{FaultKind, FileFault};
+use std::alloc::AllocError;
+use std::io::Write;
+use tag::Memory;
+use thiserror::Error;
+
+/// How a command ended.
+#[derive(Clone, Copy, Debug, PartialEq, Eq)]
+pub enum Status {
+    /// All is as it should be: each key is judged yes, or help was asked for.
+    Good,
+    /// A key is refused.
+    Refused,
+    /// The words of the command line make no command.
+    Usage,
+    /// A file can't be opened, or isn't of its format.
+    Format,
+    /// Want of memory, or a device that failed.
+    Failed,
+}
+
+impl Status {
+    /// The exit status of the program.
+    pub fn code(self) -> u8
+        ensures { result ≡ code_of self }
+    {
+        match self {
+            Status::Good => 0,
+            Status::Refused => 1,
+            Status::Usage => 2,
+            Status::Format => 3,
+            Status::Failed => 4,
+        }
+    }
+}
+
+/// Why a command ended before its time.
+#[derive(Clone, Copy, Debug, PartialEq, Eq, Error)]
+pub enum Failure<'a> {
+    #[error("{name}: cannot open")]
+    Closed { name: &'a str },
+    #[error("{name}: {fault}")]
+    File { name: &'a str, fault: FileFault },
+    #[error("output failed")]
+    Output,
+    #[error("no memory")]
+    Memory,
+}
+
+impl Failure<'_> {
+    /// The status that the program ends with.
+    pub fn status(self) -> Status
+        ensures { result ≡ status_of self.entry }
+    {
+        match self {
+            Failure::Closed { .. } => Status::Format,
+            Failure::File { fault, .. } => match fault.kind {
+                FaultKind::Line(_) => Status::Format,
+                FaultKind::Device | FaultKind::Memory => Status::Failed,
+            },
+            Failure::Output | Failure::Memory => Status::Failed,
+        }
+    }
+
+    /// Says it on the writer, one line, and answers its status. What the writer refuses is lost,
+    /// as there is nowhere else to say it.
+    pub fn report<E: Write>(self, errors: &mut E) -> Status
+        ensures { result ≡ status_of self.entry }
+    {
+        let _ = writeln!(errors, "abd: {self}");
+        self.status()
+    }
+}
+
+impl From<Memory> for Failure<'_> {
+    fn from(_: Memory) -> Self {
+        Failure::Memory
+    }
+}
+
+impl From<AllocError> for Failure<'_> {
+    fn from(_: AllocError) -> Self {
+        Failure::Memory
+    }
+}
