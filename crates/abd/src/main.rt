@@ -2,11 +2,9 @@
 #![tactic(auto)]
 
 use cli::{Command, Failure, Source, Status, Usage, check_command, command};
-use std::env;
-use std::fs;
-use std::io;
-use std::io::{BufWriter, Write};
+use std::io::{BufWriter, ErrorKind};
 use std::process::ExitCode;
+use std::{env, fs};
 
 /// Shows the help that was asked for.
 fn help(rt: &HostRuntime, text: &str) -> Status {
@@ -48,6 +46,9 @@ fn check(rt: &HostRuntime, history: &str, orders: &str) -> Status {
 fn run(rt: &HostRuntime) -> Status {
     let words = match env::args(rt) {
         Ok(words) => words,
+        Err(error) if error.kind() == ErrorKind::OutOfMemory => {
+            return Failure::Memory.report(&mut rt.stderr());
+        }
         Err(_) => {
             let _ = rt.eprintln("abd: the arguments aren't text; see abd --help");
             return Status::Usage;

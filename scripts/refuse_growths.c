@@ -1,0 +1,36 @@
+/* Preloaded before a program: the growth numbered REFUSE_AT, from 1, is refused, and file descriptor 9 is told so. */
+#include <stddef.h>
+#include <errno.h>
+#include <stdlib.h>
+#include <unistd.h>
+
+extern void *__libc_malloc(size_t);
+extern void *__libc_calloc(size_t, size_t);
+extern void *__libc_realloc(void *, size_t);
+extern void *__libc_memalign(size_t, size_t);
+
+static int refused(void)
+{
+    static unsigned long at, seen;
+    if (at == 0) {
+        const char *text = getenv("REFUSE_AT");
+        at = text ? strtoul(text, NULL, 10) : (unsigned long)-1;
+    }
+    if (++seen != at)
+        return 0;
+    if (write(9, "refused\n", 8) < 0)
+        _exit(99);
+    errno = ENOMEM;
+    return 1;
+}
+
+void *malloc(size_t size) { return refused() ? NULL : __libc_malloc(size); }
+void *calloc(size_t count, size_t size) { return refused() ? NULL : __libc_calloc(count, size); }
+void *realloc(void *old, size_t size) { return refused() ? NULL : __libc_realloc(old, size); }
+void *aligned_alloc(size_t align, size_t size) { return refused() ? NULL : __libc_memalign(align, size); }
+void *memalign(size_t align, size_t size) { return refused() ? NULL : __libc_memalign(align, size); }
+int posix_memalign(void **to, size_t align, size_t size)
+{
+    *to = refused() ? NULL : __libc_memalign(align, size);
+    return *to ? 0 : ENOMEM;
+}
