@@ -1,5 +1,5 @@
 -- What the words of a command line ask for, by clap's reading of a simple command.
-use Rattle.std.specs.Prelude.{ℕ, ◌≡◌, List, Option, Some, true, codes}
+use Rattle.std.specs.Prelude.{◌≡◌, List, Option, Some, true, codes}
 use Rattle.clap.specs.Words.{App, Row, Rule, Text, first_of, new_app, new_rule, subcommand_of, takes, with_rule, with_subcommand}
 use Rattle.cli.specs.declared.asked.Command.{Command}
 use Rattle.cli.specs.declared.asked.Command.TheVariants.{Check}

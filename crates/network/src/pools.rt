@@ -175,6 +175,7 @@ impl Pool {
     /// Its message is given back, and its number counts as never given. Otherwise the answer is
     /// `None`. No memory is taken.
     pub fn unsend(&mut self) -> Option<Message>
+        // Before the first send `sent - 1` is 0, a number that has no copy.
         ensures some { IsSome result ↔ (copies_of self.old.flights (self.old.sent - 1) ≡ 1) }
         ensures message { IfSome result (λ message. message_of self.old.flights (self.old.sent - 1) ≡ Some message) }
         ensures after { OnSome result (self.new ≡ without_last self.old) }

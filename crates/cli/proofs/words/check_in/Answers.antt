@@ -1,8 +1,8 @@
 -- The rows of the matches are what `get_str` reads.
-use Rattle.std.proofs.Common.{◌≡◌, Option, Some, None, option_map, codes, List, ℕ, sym, ◌∙◌, Bor, refl, ap}
-use Rattle.clap.specs.Words.{first_of, first_value, found_of, rows_of, Row}
+use Rattle.std.proofs.Common.{◌≡◌, None, codes, List, sym, ◌∙◌}
+use Rattle.clap.specs.Words.{first_of, found_of, rows_of, Row}
 use Rattle.clap.proofs.WalkLemmas.{first_value-rows}
-use Rattle.cli.specs.Words.{Makes, NamesFiles}
+use Rattle.cli.specs.Words.{Makes}
 use Rattle.cli.specs.declared.asked.Command.{Command}
 use Rattle.cli.specs.declared.asked.Command.TheVariants.{Check}
 use Rattle.cli.proofs.words.check_in.Goals as goal

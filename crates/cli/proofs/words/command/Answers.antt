@@ -1,5 +1,5 @@
 -- Where clap refuses the words, or meets no command, the definition asks for nothing.
-use Rattle.std.proofs.Common.{◌≡◌, true, List, ℕ, Option, ap, sym, subst, ◌∙◌, map, string_bytes, refl}
+use Rattle.std.proofs.Common.{◌≡◌, true, List, Option, ap, sym, subst, ◌∙◌, map, string_bytes}
 use Rattle.clap.specs.Words.{App, Row, Text, takes, app_of, is_simple, kind_of, subcommand_of, subcommand_rows_of}
 use Rattle.clap.specs.declared.error.kind.ErrorKind.{ErrorKind}
 use Rattle.clap.specs.declared.error.kind.ErrorKind.TheVariants.{OutOfMemory}

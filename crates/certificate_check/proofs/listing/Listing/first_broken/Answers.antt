@@ -1,4 +1,4 @@
-use Rattle.std.proofs.Common.{arith, rules, ◌≡◌, Some, ap}
+use Rattle.std.proofs.Common.{arith, ◌≡◌, ap}
 use Rattle.recorder.specs.declared.part.Response.{Response}
 use Rattle.certificate_check.proofs.Stands.{broken_more, broken_here, most_more, reached_more, place_within}
 use Rattle.certificate_check.proofs.listing.Listing.first_broken.Goals as goal

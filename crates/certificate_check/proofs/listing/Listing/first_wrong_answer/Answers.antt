@@ -1,7 +1,6 @@
-use Rattle.std.proofs.Common.{arith, rules, ◌≡◌, Some, ap, ◌∙◌}
+use Rattle.std.proofs.Common.{arith, rules, ◌≡◌, ap, ◌∙◌}
 use Rattle.std.specs.Option.{option_copied}
 use Rattle.recorder.specs.declared.part.Response.{Response}
-use Rattle.tag.specs.declared.actions.Returned.TheVariants.{Value}
 use Rattle.certificate_check.proofs.Stands.{legal_more, wrong_here, last_written, last_kept, place_within}
 use Rattle.certificate_check.proofs.listing.Listing.first_wrong_answer.Goals as goal
 use Rattle.certificate_check.proofs.listing.Listing.first_wrong_answer.Goals.{in-Write, in-Read+in-Some+else-not-answers, in-Read+in_default}

@@ -1,4 +1,4 @@
-use Rattle.std.proofs.Common.{arith, rules, ◌≡◌, ◌<◌, ◌≤◌, ℕ, List, Some, true, false, ap, sym, ◌∙◌, get_or, length, length-set}
+use Rattle.std.proofs.Common.{arith, ◌≡◌, ◌<◌, ◌≤◌, ℕ, List, Some, true, false, ap, sym, ◌∙◌, get_or, length, length-set}
 use Rattle.std.specs.List.{slice_get}
 use Rattle.std.proofs.lemmas.Option.{slice_get-get_or}
 use Rattle.certificate_check.proofs.Stands.{repeated_call, repeated_index, once_more, listed_more, marked_more, Marks-from_indexes}

@@ -1,0 +1,95 @@
+-- The least completed call without a note.
+use Rattle.std.proofs.Common.{ℕ, ◌≡◌, ◌<◌, ◌+◌, inl, inr, List, Option, Some, None, is_some, true, false, length, below_more, sym, ap, subst, refl, arith}
+use Rattle.std.specs.List.{slice_get}
+use Rattle.std.proofs.lemmas.Option.{slice_get_within}
+use Rattle.std.proofs.lemmas.Bool.{cases_lt}
+use Rattle.recorder.specs.declared.part.Call.{Call}
+use Rattle.tag.specs.declared.numbers.OpId.{OpId}
+use Rattle.tag.specs.Tags.{Tag}
+use Rattle.recorder.specs.declared.part.Response.{Response}
+use Rattle.recorder.specs.Parts.{IsSequence, IsCompleted}
+use Rattle.witness_order.specs.Notes.{IsNotedCall, AllNoted, IsLeastUnnoted}
+use Rattle.witness_order.proofs.Lists.{In-Contains, Contains-slice_get}
+
+-- the call at a place, if it is completed, has a note
+abbrev pub IsNotedAt : List Call → ℕ → Type 0
+IsNotedAt calls k = (call : Call) → slice_get calls k ≡ Some call → IsCompleted call → IsNotedCall call
+
+pub noted_more : (calls : List Call) (n : ℕ) (call : Call) → slice_get calls n ≡ Some call → (IsCompleted call → IsNotedCall call) → ((k : ℕ) → k < n → IsNotedAt calls k) → (k : ℕ) → k < n + 1 → IsNotedAt calls k
+noted_more calls n call at here before =
+    below_more (IsNotedAt calls) n before (λ other there completed.
+    let same : call ≡ other = cc in
+    subst IsNotedCall same (here (subst IsCompleted (sym same) completed)))
+
+pub noted_all : (calls : List Call) (n : ℕ) → length calls < n + 1 → ((k : ℕ) → k < n → IsNotedAt calls k) → AllNoted calls
+noted_all calls n long before call h completed =
+    let i = In-Contains calls call h in
+    let within = slice_get_within calls i.0 call i.1 in
+    before i.0 (omega (arith, within)) call i.1 completed
+
+-- the first such call is the one of the least number
+pub least_unnoted : (calls : List Call) → IsSequence calls → (n : ℕ) (call : Call) → slice_get calls n ≡ Some call → IsCompleted call → call.note ≡ None → ((k : ℕ) → k < n → IsNotedAt calls k) → IsLeastUnnoted calls call.op
+least_unnoted calls sequence n call at completed unnoted before = record {
+  call = call;
+  recorded = Contains-slice_get calls n call at;
+  number = refl;
+  completed = completed;
+  unnoted = unnoted;
+  least = λ other h done less.
+      let i = In-Contains calls other h in
+      elim (cases_lt i.0 n) [
+        | inl w ↦ before i.0 w other i.1 done
+        | inr w ↦ elim (cases_lt n i.0) [
+          | inl v ↦ absurd (let up : call.op.0 < other.op.0 = sequence.numbers n i.0 call other v at i.1 in omega arith)
+          | inr v ↦
+              let places : i.0 ≡ n = omega arith in
+              let there : slice_get calls i.0 ≡ slice_get calls n = ap (slice_get calls) places in
+              let same : other ≡ call = cc (at, i.1, there) in
+              let number : other.op.0 ≡ call.op.0 = ap (λ (c : Call). c.op.0) same in
+              absurd (omega arith)
+        ]
+      ];
+}
+
+-- options by their tests
+pub completed_from_test : (call : Call) → is_some call.response ≡ true → IsCompleted call
+completed_from_test call h = by call.response refl h
+  where
+    by : (o : Option Response) → call.response ≡ o → is_some o ≡ true → IsCompleted call
+    by None is t = absurd (cc)
+    by (Some response) is t = (response, is)
+
+pub not_completed : (call : Call) → is_some call.response ≡ false → IsCompleted call → ⊥
+not_completed call h completed = let test : is_some call.response ≡ true = ap is_some completed.1 in cc
+
+pub noted_from_test : (call : Call) → is_some call.note ≡ true → IsNotedCall call
+noted_from_test call h = by call.note refl h
+  where
+    by : (o : Option Tag) → call.note ≡ o → is_some o ≡ true → IsNotedCall call
+    by None is t = absurd (cc)
+    by (Some tag) is t = (tag, is)
+
+pub unnoted_from_test : (call : Call) → is_some call.note ≡ false → call.note ≡ None
+unnoted_from_test call h = by call.note refl h
+  where
+    by : (o : Option Tag) → call.note ≡ o → is_some o ≡ false → call.note ≡ None
+    by None is t = is
+    by (Some tag) is t = absurd (cc)
+
+-- there is one such number
+pub one_least : (calls : List Call) (a b : OpId) → IsLeastUnnoted calls a → IsLeastUnnoted calls b → a ≡ b
+one_least calls a b p q =
+    elim (cases_lt a.0 b.0) [
+      | inl h ↦ absurd (none p.call p.unnoted (q.least p.call p.recorded p.completed (rw p.number h)))
+      | inr h ↦ elim (cases_lt b.0 a.0) [
+        | inl g ↦ absurd (none q.call q.unnoted (p.least q.call q.recorded q.completed (rw q.number g)))
+        | inr g ↦ let number : a.0 ≡ b.0 = omega arith in λ i. record { 0 = number i }
+      ]
+    ]
+  where
+    none : (call : Call) → call.note ≡ None → IsNotedCall call → ⊥
+    none call unnoted noted = let e = noted.1 in cc
+
+-- where each has a note there is none
+pub none_unnoted : (calls : List Call) (op : OpId) → AllNoted calls → IsLeastUnnoted calls op → ⊥
+none_unnoted calls op noted u = let e = (noted u.call u.recorded u.completed).1 in let none = u.unnoted in cc

@@ -1,0 +1,36 @@
+//! Why a part has no tag order.
+use std::alloc::{AllocError, AllocFailed};
+use tag::OpId;
+use thiserror::Error;
+
+/// Why there is no tag order.
+#[derive(Clone, Copy, Debug, PartialEq, Eq, Error)]
+pub enum WitnessError {
+    /// The completed call has no note, and no completed call of a lower number lacks one.
+    #[error("no note for call {}", .0.0)]
+    NoNote(OpId),
+    #[error("no memory")]
+    Memory,
+}
+
+impl From<AllocError> for WitnessError {
+    ghost use Rattle.std.specs.Prelude.{◌≡◌};
+    ghost use Rattle.witness_order.specs.declared.error.WitnessError.TheVariants.{Memory};
+
+    ghost from_gives = { λ _ e. e ≡ Memory };
+
+    fn from(_: AllocError) -> WitnessError {
+        WitnessError::Memory
+    }
+}
+
+impl<T: Drop> From<AllocFailed<T>> for WitnessError {
+    ghost use Rattle.std.specs.Prelude.{◌≡◌};
+    ghost use Rattle.witness_order.specs.declared.error.WitnessError.TheVariants.{Memory};
+
+    ghost from_gives = { λ _ e. e ≡ Memory };
+
+    fn from(_: AllocFailed<T>) -> WitnessError {
+        WitnessError::Memory
+    }
+}

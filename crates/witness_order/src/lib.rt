@@ -1,0 +1,15 @@
+//! The order that the tags of a part give.
+//!
+//! `order_of` sorts the settled calls of a part by their tags, in `n log n` steps. Where the tags
+//! are sound, that list is an order of the part.
+#![tactic(auto)]
+
+mod error;
+pub mod laws;
+mod sort_key;
+mod tag_order;
+#[cfg(test)]
+mod tests;
+
+pub use error::WitnessError;
+pub use tag_order::order_of;

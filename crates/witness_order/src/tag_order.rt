@@ -1,0 +1,68 @@
+//! The tag order of a part.
+ghost use Rattle.std.specs.Prelude.{◌≡◌, ◌↔◌, Err, IfOk, MatchOption, IsPermutation, IsSorted, filter_map, map};
+ghost use Rattle.tag.specs.declared.numbers.OpId.{OpId};
+ghost use Rattle.recorder.specs.Parts.{IsSequence};
+ghost use Rattle.recorder.specs.Sound.{IsByTag};
+ghost use Rattle.witness_order.specs.Keys.{key_of, key_cmp};
+ghost use Rattle.witness_order.specs.Notes.{AllNoted, IsLeastUnnoted};
+
+use crate::WitnessError;
+use crate::sort_key::{SortKey, sort_key};
+use recorder::{Call, Order, Part};
+use std::alloc::{AllocError, Global};
+use tag::OpId;
+
+/// The tag order of the part: its settled calls, which are the completed calls and the noted
+/// pending writes, by tag, a write before a read of the same tag, then by place of invocation.
+///
+/// `NoNote` comes exactly where a completed call has no note, and names the least such call;
+/// `Memory` only where each has one and a growth was refused.
+pub fn order_of(alloc: Global, part: &Part) -> Result<Order, WitnessError>
+    ensures order { IfOk result (λ order. IsByTag part.now order) }
+    ensures no_note { (op : OpId) → (result ≡ Err (WitnessError.NoNote op)) ↔ IsLeastUnnoted part.now op }
+    ensures memory { (result ≡ Err WitnessError.Memory) → AllNoted part.now }
+{
+    let calls = part.calls();
+    if let Some(op) = first_unnoted(calls) {
+        return Err(WitnessError::NoNote(op));
+    }
+    let keys = sorted_keys(alloc, calls)?;
+    Ok(Order::from_vec(numbers(alloc, &keys)?))
+}
+
+/// The least completed call without a note.
+fn first_unnoted(calls: &[Call]) -> Option<OpId>
+    requires { IsSequence calls.now }
+    ensures { MatchOption result (AllNoted calls.now) (λ op. IsLeastUnnoted calls.now op) }
+{
+    for call in calls {
+        if call.response.is_some() && call.note.is_none() {
+            return Some(call.op);
+        }
+    }
+    None
+}
+
+/// What the settled calls are sorted by, sorted.
+fn sorted_keys(alloc: Global, calls: &[Call]) -> Result<Vec<SortKey>, AllocError>
+    ensures settled { IfOk result (λ keys. IsPermutation (filter_map key_of calls.now) keys.items) }
+    ensures sorted { IfOk result (λ keys. IsSorted key_cmp keys.items) }
+{
+    let mut keys = sort_keys(alloc, calls)?;
+    keys.sort_unstable();
+    Ok(keys)
+}
+
+/// What the settled calls are sorted by, in the order of the calls.
+fn sort_keys(alloc: Global, calls: &[Call]) -> Result<Vec<SortKey>, AllocError>
+    ensures { IfOk result (λ keys. keys.items ≡ filter_map key_of calls.now) }
+{
+    calls.iter().filter_map(sort_key).collect(alloc)
+}
+
+/// The numbers of the calls that have these keys.
+fn numbers(alloc: Global, keys: &[SortKey]) -> Result<Vec<OpId>, AllocError>
+    ensures { IfOk result (λ ops. ops.items ≡ map (λ key. key.op) keys.now) }
+{
+    keys.iter().map(|key| key.op).collect(alloc)
+}
