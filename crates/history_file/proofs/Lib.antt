@@ -5,3 +5,6 @@ pub mod Feeding
 pub mod Consuming
 pub mod Listed
 pub mod Joining
+pub mod Saying
+pub mod SayingPieces
+pub mod Once

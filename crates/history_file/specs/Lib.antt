@@ -16,3 +16,4 @@ pub mod Deliveries
 pub mod OrderFormat
 pub mod Joins
 pub mod Fed
+pub mod Says

@@ -3,7 +3,7 @@ use Rattle.std.specs.Prelude.{ℕ, ◌≡◌, ◌≢◌, ◌≤◌, List, Result
 use Rattle.tag.specs.declared.actions.Action.{Action}
 use Rattle.recorder.specs.declared.row.Row.{Row}
 use Rattle.recorder.specs.declared.row.Row.TheVariants.{Invoke, Note, Respond}
-use Rattle.recorder.specs.Histories.{Recorded, IsBusy, IsPendingOp, IsPendingCall, HasNote, Fits, call_count}
+use Rattle.recorder.specs.Histories.{Recorded, MayFollow, IsBusy, IsPendingOp, IsPendingCall, HasNote, Fits, call_count}
 use Rattle.recorder.specs.Answers.{with_row}
 use Rattle.history_file.specs.declared.fault.LineFault.{LineFault}
 use Rattle.history_file.specs.declared.fault.LineFault.TheVariants.{CallOutOfTurn, ClientBusy, CallNotPending, WrongKind, NoteTwice, TooManyCalls}
@@ -51,8 +51,12 @@ IsMisplaced rows row NoteTwice = IsSecondNote rows row
 IsMisplaced rows row TooManyCalls = (IsOutOfTurn rows row → ⊥) × (IsByBusy rows row → ⊥) × IsOneTooMany rows row
 IsMisplaced rows row fault = ⊥
 
--- the row is added at the end, or it has that fault
+-- the row has no fault where it stands
+abbrev pub IsPlaced : List Row → Row → Type 0
+IsPlaced rows row = MayFollow rows row × (IsOneTooMany rows row → ⊥)
+
+-- the row is added at the end, or it has that fault; memory is wanted only for a row without one
 abbrev pub FollowsRow : Recorded → Row → Result (Unit {0}) Stop → Recorded → Type 0
 FollowsRow old row (Ok done) new = new ≡ with_row old row
 FollowsRow old row (Err (stop.Fault fault)) new = IsMisplaced old.rows row fault × (new ≡ old)
-FollowsRow old row (Err stop.Memory) new = new ≡ old
+FollowsRow old row (Err stop.Memory) new = IsPlaced old.rows row × (new ≡ old)

@@ -15,6 +15,7 @@ mod header;
 mod history_feed;
 mod history_format;
 mod judging;
+pub mod laws;
 mod lines;
 mod order_feed;
 mod order_format;

@@ -93,7 +93,8 @@ pub fn read_history<R: Read>(alloc: Global, reader: &mut Counting<R>) -> Result<
     ensures fault { IfErr result (λ fault. Delivers (R.remaining reader.old.inner) (R.remaining reader.new.inner) (StopsAt history_format (R.remaining reader.new.inner) fault)) }
     ensures device { IfErr result (λ fault. HasFailed fault.kind reader.old.failures reader.new.failures) }
 {
-    feed_all::<History, R>(alloc, reader)?.finish()
+    let feed = feed_all::<History, R>(alloc, reader)?;
+    feed.finish()
 }
 
 /// The orders that the reader's bytes are, all of them up to its end: the keys in the order of

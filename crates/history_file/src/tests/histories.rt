@@ -79,7 +79,11 @@ fn a_reader_that_fails_is_a_device_fault_behind_the_whole_lines(rt: HostRuntime)
             fails: true,
         });
         let fault = fault_of(read_history(rt.alloc(), &mut reader));
-        assert_eq!(rt; fault, (13, line_behind(whole)), "failed behind {length} bytes");
+        assert_eq!(rt;
+            fault,
+            (13, line_behind(whole)),
+            "failed behind {length} bytes"
+        );
         assert_eq!(rt; reader.failures(), 1);
     }
 }
