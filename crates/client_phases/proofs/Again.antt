@@ -1,14 +1,13 @@
 -- A reply that comes again is stale.
-use Rattle.std.proofs.Common.{◌≡◌, ℕ, Bool, true, false, cond, List, Option, refl, sym, ap, ◌∙◌}
+use Rattle.std.proofs.Common.{◌≡◌, ℕ, Bool, true, false, cond, List, Option, refl, ap, ◌∙◌}
 use Rattle.std.specs.Prelude.{◌||◌, ◌&&◌, not, nat_eq, nat_lt, length}
 use Rattle.std.specs.FinSet as finite
-use Rattle.std.proofs.lemmas.Bool.{eq-eqb, and_left, and_right}
+use Rattle.std.proofs.lemmas.Bool.{eq-eqb}
 use Rattle.tag.specs.declared.numbers.OpId.{OpId}
 use Rattle.tag.specs.Tags.{Tag}
 use Rattle.quorum.specs.Bits.{contains-insert}
 use Rattle.quorum.specs.Sets.{Replicas}
 use Rattle.quorum.specs.Quorums.{is_ask_quorum, is_put_quorum}
-use Rattle.replica.specs.declared.pairs.Pair.{Pair}
 use Rattle.replica.specs.declared.replies.Reply.{Reply}
 use Rattle.replica.specs.declared.replies.Reply.TheVariants.{Held, Kept}
 use Rattle.client_phases.specs.declared.rules.Rules.{Rules}

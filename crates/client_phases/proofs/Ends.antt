@@ -1,14 +1,11 @@
 -- What an asking comes to, by its tests.
-use Rattle.std.proofs.Common.{◌≡◌, ℕ, ◌≤◌, Bool, true, false, cond, List, Option, refl, sym, ap, subst, ◌∙◌}
-use Rattle.std.specs.Prelude.{◌↔◌, IsTrue, not, nat_le, if◌then◌else◌}
+use Rattle.std.proofs.Common.{◌≡◌, ℕ, Bool, true, false, cond, List, Option, refl, sym, ap, subst, ◌∙◌}
 use Rattle.std.specs.FinSet as finite
-use Rattle.std.proofs.lemmas.Bool.{le-leb, not-false, not-true, false≢true}
 use Rattle.tag.specs.declared.numbers.OpId.{OpId}
 use Rattle.tag.specs.declared.actions.Action.{Action}
-use Rattle.tag.specs.declared.actions.Action.TheVariants.{Read, Write}
+use Rattle.tag.specs.declared.actions.Action.TheVariants.{Read}
 use Rattle.std.specs.Ordering.{is_lt}
 use Rattle.tag.specs.Tags.{Tag, tag_cmp}
-use Rattle.quorum.specs.Sets.{Replicas}
 use Rattle.quorum.specs.Quorums.{is_ask_quorum, is_put_quorum}
 use Rattle.replica.specs.declared.pairs.Pair.{Pair}
 use Rattle.replica.specs.declared.replies.Reply.{Reply}
@@ -19,8 +16,8 @@ use Rattle.client_phases.specs.declared.outcomes.Taken.{Taken}
 use Rattle.client_phases.specs.declared.outcomes.Taken.TheVariants.{Stale, Counted, Noted, Agreed}
 use Rattle.client_phases.specs.declared.outcomes.Taken.TheVariants as outcome
 use Rattle.client_phases.specs.declared.states.State.{State}
-use Rattle.client_phases.specs.declared.states.State.TheVariants.{Idle, Ask, Put, Ready, Stopped}
-use Rattle.client_phases.specs.Calls.{Call, Chosen, pair_to_put, value_to_put}
+use Rattle.client_phases.specs.declared.states.State.TheVariants.{Ask, Put, Ready}
+use Rattle.client_phases.specs.Calls.{Call, pair_to_put}
 use Rattle.client_phases.specs.Asking.{Asking, asking_from, is_agreed, LeavesRoom, asking_with, counts}
 use Rattle.client_phases.specs.States.{asked, heard, kept, MayHear}
 

@@ -1,5 +1,5 @@
 -- The asking phase (Lynch and Shvartsman 1997).
-use Rattle.std.specs.Prelude.{◌≡◌, ℕ, ◌<◌, Bool, true, false, not, ◌&&◌, ◌||◌, cond, if◌then◌else◌, nat_lt, nat_eq, List, length, Option, None}
+use Rattle.std.specs.Prelude.{ℕ, ◌<◌, Bool, true, false, not, ◌&&◌, ◌||◌, if◌then◌else◌, nat_lt, nat_eq, List, length, Option}
 use Rattle.std.specs.Ordering.{is_lt, is_eq}
 use Rattle.std.specs.FinSet as finite
 use Rattle.tag.specs.Tags.{Tag, least, tag_cmp}
@@ -7,13 +7,13 @@ use Rattle.tag.specs.declared.numbers.OpId.{OpId}
 use Rattle.tag.specs.declared.actions.Action.{Action}
 use Rattle.tag.specs.declared.actions.Action.TheVariants.{Read, Write}
 use Rattle.quorum.specs.Sets.{Replicas}
-use Rattle.quorum.specs.Quorums.{Quorums, is_put_quorum}
+use Rattle.quorum.specs.Quorums.{is_put_quorum}
 use Rattle.replica.specs.Pairs.{no_pair}
 use Rattle.replica.specs.declared.pairs.Pair.{Pair}
 use Rattle.replica.specs.declared.requests.Request.{Request}
 use Rattle.replica.specs.declared.requests.Request.TheVariants.{Query}
 use Rattle.client_phases.specs.declared.rules.ReadMode.{ReadMode}
-use Rattle.client_phases.specs.declared.rules.ReadMode.TheVariants.{Full, Short}
+use Rattle.client_phases.specs.declared.rules.ReadMode.TheVariants.{Short}
 use Rattle.client_phases.specs.declared.rules.Rules.{Rules}
 use Rattle.client_phases.specs.declared.asking.Tally.{Tally}
 use Rattle.client_phases.specs.Calls.{Call}

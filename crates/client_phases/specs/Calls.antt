@@ -1,5 +1,5 @@
 -- A client's calls.
-use Rattle.std.specs.Prelude.{ℕ, List, Option, Some, None, ◌+◌}
+use Rattle.std.specs.Prelude.{ℕ, List, Option, Some}
 use Rattle.tag.specs.Tags.{next_of}
 use Rattle.tag.specs.declared.actions.Action.{Action}
 use Rattle.tag.specs.declared.actions.Action.TheVariants.{Read, Write}
@@ -7,7 +7,7 @@ use Rattle.tag.specs.declared.actions.Returned.{Returned}
 use Rattle.tag.specs.declared.actions.Returned.TheVariants.{Value, Written}
 use Rattle.replica.specs.declared.pairs.Pair.{Pair}
 use Rattle.replica.specs.declared.requests.Request.{Request}
-use Rattle.replica.specs.declared.requests.Request.TheVariants.{Query, Put}
+use Rattle.replica.specs.declared.requests.Request.TheVariants.{Put}
 -- a call: its number, its key and what it asks
 pub use Rattle.client_phases.specs.declared.calls.Call.{Call}
 

@@ -1,10 +1,8 @@
 -- How a reply changes a client's state (Lynch and Shvartsman 1997).
-use Rattle.std.specs.Prelude.{◌≡◌, ℕ, Bool, true, false, cond, if◌then◌else◌}
+use Rattle.std.specs.Prelude.{◌≡◌, true, if◌then◌else◌}
 use Rattle.std.specs.FinSet as finite
-use Rattle.tag.specs.declared.numbers.OpId.{OpId}
 use Rattle.quorum.specs.Sets.{Replicas}
 use Rattle.quorum.specs.Quorums.{is_ask_quorum, is_put_quorum}
-use Rattle.replica.specs.declared.pairs.Pair.{Pair}
 use Rattle.replica.specs.declared.replies.Reply.{Reply}
 use Rattle.replica.specs.declared.replies.Reply.TheVariants.{Held, Kept}
 use Rattle.client_phases.specs.declared.rules.Rules.{Rules}
@@ -12,7 +10,7 @@ use Rattle.client_phases.specs.declared.outcomes.Taken.{Taken}
 use Rattle.client_phases.specs.declared.outcomes.Taken.TheVariants.{Stale, Counted, Noted, Agreed}
 use Rattle.client_phases.specs.declared.outcomes.Taken.TheVariants as outcome
 use Rattle.client_phases.specs.declared.states.State.{State}
-use Rattle.client_phases.specs.declared.states.State.TheVariants.{Idle, Ask, Put, Ready, Stopped}
+use Rattle.client_phases.specs.declared.states.State.TheVariants.{Ask, Put, Ready}
 use Rattle.client_phases.specs.Calls.{Chosen, pair_to_put}
 use Rattle.client_phases.specs.Asking.{Asking, counts, asking_with, is_agreed, LeavesRoom}
 

@@ -1,5 +1,5 @@
 //! Clients.
-ghost use Rattle.std.specs.Prelude.{◌≡◌, IfOk, Some};
+ghost use Rattle.std.specs.Prelude.{◌≡◌, IfOk, None, Ok, Some};
 ghost use Rattle.client_phases.specs.Clients.{MayTake, answer_of, client_after, client_of, counted_by, invoked, pending_of, phase_of, request_of, responded, stopped, taken};
 
 use crate::asking::Asking;
@@ -47,7 +47,7 @@ impl Client {
         }
     }
 
-    /// Begins to ask for a call.
+    /// Begins to ask for the call, with nobody counted. It has to be idle.
     pub fn invoke(&mut self, op: OpId, key: Key, action: Action)
         requires { phase_of self.old ≡ Phase.Idle }
         ensures { self.new ≡ invoked self.old op key action }
@@ -56,8 +56,10 @@ impl Client {
     }
 
     /// What it sends to replicas: a query while it asks, its pair while it puts, and else nothing.
+    /// `Memory` comes only where a copy of a text was refused.
     pub fn request(&self) -> Result<Option<Request>, Memory>
-        ensures { IfOk result (λ request. request ≡ request_of self.now) }
+        ensures value { IfOk result (λ request. request ≡ request_of self.now) }
+        ensures nothing { request_of self.now ≡ None → result ≡ Ok None }
     {
         match &self.state {
             State::Ask(asking) => Ok(Some(asking.request()?)),
@@ -66,7 +68,8 @@ impl Client {
         }
     }
 
-    /// What `take` would make of the reply.
+    /// What `take` would make of the reply. As there, a pair that a write counts has to have a number
+    /// below 1,000,000.
     pub fn foresee(&self, reply: &Reply) -> Taken
         requires { MayTake self.now reply.now }
         ensures { result ≡ taken self.now reply.now }
@@ -74,7 +77,10 @@ impl Client {
         self.rules.foreseen(&self.state, reply)
     }
 
-    /// Takes a reply. A stale one changes nothing.
+    /// Takes a reply. A stale one changes nothing; one that counts may end the phase.
+    ///
+    /// A reply counts where it names the pending call, is `Held` while the client asks or `Kept` while
+    /// it puts, and comes from a replica below the count that this phase hasn't counted.
     pub fn take(&mut self, reply: Reply) -> Taken
         requires { MayTake self.old reply }
         ensures answer { result ≡ taken self.old reply }
@@ -87,9 +93,11 @@ impl Client {
         taken
     }
 
-    /// A copy of the answer, which is there exactly when it is ready.
+    /// A copy of the answer, which is there exactly when the client is ready. `Memory` comes only where
+    /// the copy was refused.
     pub fn answer(&self) -> Result<Option<Returned>, Memory>
-        ensures { IfOk result (λ answer. answer ≡ answer_of self.now) }
+        ensures value { IfOk result (λ answer. answer ≡ answer_of self.now) }
+        ensures nothing { answer_of self.now ≡ None → result ≡ Ok None }
     {
         match &self.state {
             State::Ready(chosen) => Ok(Some(chosen.answer()?)),
@@ -97,7 +105,7 @@ impl Client {
         }
     }
 
-    /// Answers, and is idle again.
+    /// Gives the answer, and is idle again. It has to be ready.
     pub fn respond(&mut self) -> Returned
         requires { phase_of self.old ≡ Phase.Ready }
         ensures answer { Some result ≡ answer_of self.old }
@@ -116,7 +124,7 @@ impl Client {
         self.state = State::Stopped;
     }
 
-    /// The number of the pending call.
+    /// The number of the pending call; none where the client is idle or stopped.
     pub fn pending(&self) -> Option<OpId>
         ensures { result ≡ pending_of self.now }
     {

@@ -1,11 +1,10 @@
 -- The quorums of a majority keep the rules.
-use Rattle.std.proofs.Common.{◌≡◌, ℕ, ◌+◌, ◌-◌, ◌*◌, ◌/◌, ◌≤◌, ◌<◌, ◌++◌, ◌∙◌, List, length, take, replicate, sum, refl, sym, ap, subst, arith, length-append}
+use Rattle.std.proofs.Common.{◌≡◌, ℕ, ◌+◌, ◌-◌, ◌*◌, ◌/◌, ◌≤◌, ◌++◌, ◌∙◌, List, length, take, replicate, sum, sym, ap, subst, arith, length-append}
 use Rattle.std.proofs.lemmas.List.{take-replicate, take-append-le, length-replicate}
 use Rattle.std.proofs.lemmas.List.Elements.{All-replicate}
 use Rattle.std.proofs.lemmas.List.Folds.{sum_by-replicate}
 use Rattle.quorum.specs.Quorums.{Quorums, IsLawful}
 use Rattle.quorum.specs.Padding.{IsStored}
-use Rattle.quorum.specs.declared.quorums.Quorums.TheInside.{Inside}
 
 abbrev ones : ℕ → List ℕ
 ones n = replicate n 1

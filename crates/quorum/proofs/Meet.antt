@@ -4,7 +4,7 @@ use Rattle.std.proofs.Math.Seq.{take-length}
 use Rattle.std.proofs.lemmas.List.Sums.{fold_more}
 use Rattle.std.specs.FinSet as finite
 use Rattle.quorum.specs.Sets.{Replicas}
-use Rattle.quorum.specs.Quorums.{Quorums, IsLawful, IsAskQuorum, IsPutQuorum, Share, votes_below, votes_of}
+use Rattle.quorum.specs.Quorums.{Quorums, IsLawful, IsAskQuorum, IsPutQuorum, Share, votes_below}
 
 -- the two share a replica below a number
 record ShareBelow (n : ℕ) (some other : Replicas) : Type 0 where

@@ -1,14 +1,14 @@
 -- The votes of a set, one member at a time.
 use Rattle.std.proofs.Common.{◌≡◌, ℕ, zero, suc, ◌+◌, ◌-◌, ◌*◌, ◌/◌, ◌<◌, ◌≤◌, ◌≢◌, Bool, true, false, cond, List, length, slice_index, replicate, refl, sym, ap, subst, ◌∙◌, arith}
-use Rattle.std.specs.Prelude.{◌||◌, ◌&&◌, not, nat_eq, ◌↔◌, IsTrue}
+use Rattle.std.specs.Prelude.{◌||◌, ◌&&◌, not, nat_eq, ◌↔◌}
 use Rattle.std.specs.FinSet as finite
 use Rattle.std.specs.Ordering.{nat_cmp}
 use Rattle.std.specs.Cmp.{nat_cmp_total, unsigned_tied}
-use Rattle.std.proofs.lemmas.Bool.{eq-eqb, ne_eqb, eqb-true, false≢true, and_parts, false_from_ne_true, not-true, eqb-false}
+use Rattle.std.proofs.lemmas.Bool.{eq-eqb, ne_eqb, false≢true, and_parts, false_from_ne_true, not-true, eqb-false}
 use Rattle.std.proofs.lemmas.List.{length-replicate, get_or-replicate}
 use Rattle.quorum.specs.Sets.{Replicas, IsAmong, IsMajority}
 use Rattle.quorum.specs.Bits.{contains-insert}
-use Rattle.quorum.specs.Quorums.{Quorums, IsAskQuorum, IsPutQuorum, majority_of, votes_below, votes_of}
+use Rattle.quorum.specs.Quorums.{IsAskQuorum, IsPutQuorum, majority_of, votes_below, votes_of}
 
 -- one replica more
 pub votes_below-suc : (votes : List ℕ) (n : ℕ) (set : Replicas) → votes_below votes (n + 1) set ≡ votes_below votes n set + cond (finite.contains set n) (slice_index votes n) 0

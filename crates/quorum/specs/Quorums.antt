@@ -1,5 +1,5 @@
 -- Quorums by votes (Gifford 1979).
-use Rattle.std.specs.Prelude.{ℕ, zero, suc, ◌+◌, ◌/◌, ◌<◌, ◌≤◌, Bool, cond, if◌then◌else◌, nat_le, List, length, slice_index, replicate, sum, All, IsTrue}
+use Rattle.std.specs.Prelude.{ℕ, zero, suc, ◌+◌, ◌/◌, ◌<◌, ◌≤◌, Bool, if◌then◌else◌, nat_le, List, length, slice_index, replicate, sum, All, IsTrue}
 use Rattle.std.specs.FinSet as finite
 use Rattle.quorum.specs.Sets.{Replicas}
 

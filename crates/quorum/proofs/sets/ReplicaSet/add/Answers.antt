@@ -1,6 +1,5 @@
-use Rattle.std.proofs.Common.{◌≡◌, ◌<◌, ap, ◌∙◌, arith}
+use Rattle.std.proofs.Common.{◌<◌, ap, ◌∙◌, arith}
 use Rattle.std.specs.FinSet as finite
-use Rattle.quorum.specs.Bits.{set_of_bits}
 use Rattle.quorum.proofs.BitLemmas.{or-fits, set_of_bits-or}
 use Rattle.quorum.proofs.sets.ReplicaSet.add.Goals as goal
 
