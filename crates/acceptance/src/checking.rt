@@ -5,6 +5,7 @@ use std::alloc::Global;
 use std::test::Fail;
 
 const HISTORY: &str = "{\"abd\":\"history\",\"version\":1}\n";
+
 const ORDERS: &str = "{\"abd\":\"orders\",\"version\":1}\n";
 
 /// A write of `a` to `x` by client 1, then a read of it by client 2, each with its note.
@@ -39,12 +40,7 @@ struct Said {
 }
 
 /// The check of files named `h` and `o`, each read in pieces of that size.
-fn checked(
-    alloc: Global,
-    history: Pieces<'_>,
-    orders: Pieces<'_>,
-    room: usize,
-) -> Said {
+fn checked(alloc: Global, history: Pieces<'_>, orders: Pieces<'_>, room: usize) -> Said {
     let mut out = Bounded::new(alloc, room);
     let mut errors = Bounded::new(alloc, 1000);
     let mut history = Source::new("h", history);
@@ -83,17 +79,70 @@ fn verdicts_of_the_worked_rows(rt: HostRuntime) -> Result<(), Fail> {
     let six_lines = &TWO_CALLS[..280];
     let rows: [Row<'_>; 12] = [
         (HISTORY, &[], Status::Good, ""),
-        (TWO_CALLS, &["{\"key\":\"x\",\"order\":[0,1]}"], Status::Good, "x: yes\n"),
-        (WITHOUT_NOTES, &["{\"key\":\"x\",\"order\":[0,1]}"], Status::Good, "x: yes\n"),
-        (MISSED_WRITE, &["{\"key\":\"x\",\"order\":[1,0]}"], Status::Refused, "x: no 6 order broken at 0 and 1\n"),
-        (MISSED_WRITE, &["{\"key\":\"x\",\"order\":[0,1]}"], Status::Refused, "x: no 5 wrong answer at 1\n"),
-        (six_lines, &["{\"key\":\"x\",\"order\":[0,999999]}"], Status::Refused, "x: no 1 unknown call at 1\n"),
-        (six_lines, &["{\"key\":\"x\",\"order\":[0,0]}"], Status::Refused, "x: no 2 call twice at 1\n"),
+        (
+            TWO_CALLS,
+            &["{\"key\":\"x\",\"order\":[0,1]}"],
+            Status::Good,
+            "x: yes\n",
+        ),
+        (
+            WITHOUT_NOTES,
+            &["{\"key\":\"x\",\"order\":[0,1]}"],
+            Status::Good,
+            "x: yes\n",
+        ),
+        (
+            MISSED_WRITE,
+            &["{\"key\":\"x\",\"order\":[1,0]}"],
+            Status::Refused,
+            "x: no 6 order broken at 0 and 1\n",
+        ),
+        (
+            MISSED_WRITE,
+            &["{\"key\":\"x\",\"order\":[0,1]}"],
+            Status::Refused,
+            "x: no 5 wrong answer at 1\n",
+        ),
+        (
+            six_lines,
+            &["{\"key\":\"x\",\"order\":[0,999999]}"],
+            Status::Refused,
+            "x: no 1 unknown call at 1\n",
+        ),
+        (
+            six_lines,
+            &["{\"key\":\"x\",\"order\":[0,0]}"],
+            Status::Refused,
+            "x: no 2 call twice at 1\n",
+        ),
         (six_lines, &[], Status::Refused, "x: no 3 missing call 0\n"),
-        (six_lines, &["{\"key\":\"x\",\"order\":[0,1]}"], Status::Refused, "x: no 4 pending read at 1\n"),
-        (six_lines, &["{\"key\":\"x\",\"order\":[1,0,0]}"], Status::Refused, "x: no 2 call twice at 2\n"),
-        (six_lines, &["{\"key\":\"x\",\"order\":[0]}"], Status::Good, "x: yes\n"),
-        (six_lines, &["{\"key\":\"z\",\"order\":[0]}", "{\"key\":\"x\",\"order\":[0]}"], Status::Refused, "x: yes\nz: no 1 unknown call at 0\n"),
+        (
+            six_lines,
+            &["{\"key\":\"x\",\"order\":[0,1]}"],
+            Status::Refused,
+            "x: no 4 pending read at 1\n",
+        ),
+        (
+            six_lines,
+            &["{\"key\":\"x\",\"order\":[1,0,0]}"],
+            Status::Refused,
+            "x: no 2 call twice at 2\n",
+        ),
+        (
+            six_lines,
+            &["{\"key\":\"x\",\"order\":[0]}"],
+            Status::Good,
+            "x: yes\n",
+        ),
+        (
+            six_lines,
+            &[
+                "{\"key\":\"z\",\"order\":[0]}",
+                "{\"key\":\"x\",\"order\":[0]}",
+            ],
+            Status::Refused,
+            "x: yes\nz: no 1 unknown call at 0\n",
+        ),
     ];
     for (history, lines, status, text) in rows {
         let orders = order_file(rt.alloc(), lines)?;
@@ -107,11 +156,22 @@ fn verdicts_of_the_worked_rows(rt: HostRuntime) -> Result<(), Fail> {
 
 #[test]
 fn pieces_of_an_order_are_joined(rt: HostRuntime) -> Result<(), Fail> {
-    let lines = ["{\"key\":\"x\",\"order\":[0]}", "{\"key\":\"x\",\"order\":[1]}"];
+    let lines = [
+        "{\"key\":\"x\",\"order\":[0]}",
+        "{\"key\":\"x\",\"order\":[1]}",
+    ];
     let orders = order_file(rt.alloc(), &lines)?;
     for size in [1, 7, 1000] {
-        let history = Pieces { left: TWO_CALLS.as_bytes(), size, fails: false };
-        let orders = Pieces { left: orders.as_bytes(), size, fails: false };
+        let history = Pieces {
+            left: TWO_CALLS.as_bytes(),
+            size,
+            fails: false,
+        };
+        let orders = Pieces {
+            left: orders.as_bytes(),
+            size,
+            fails: false,
+        };
         let said = checked(rt.alloc(), history, orders, 1000);
         assert_eq!(rt; said.out.as_slice(), b"x: yes\n".as_slice());
     }
@@ -124,19 +184,43 @@ type Torn<'a> = (usize, bool, Status, &'a str);
 #[test]
 fn torn_files_are_named(rt: HostRuntime) -> Result<(), Fail> {
     let rows: [Torn<'_>; 7] = [
-        (300, false, Status::Format, "abd: h: line 7: fault 1 not JSON\n"),
-        (0, false, Status::Format, "abd: h: line 1: fault 2 no header\n"),
+        (
+            300,
+            false,
+            Status::Format,
+            "abd: h: line 7: fault 1 not JSON\n",
+        ),
+        (
+            0,
+            false,
+            Status::Format,
+            "abd: h: line 1: fault 2 no header\n",
+        ),
         (0, true, Status::Failed, "abd: h: line 1: fault 13 device\n"),
-        (153, true, Status::Failed, "abd: h: line 4: fault 13 device\n"),
+        (
+            153,
+            true,
+            Status::Failed,
+            "abd: h: line 4: fault 13 device\n",
+        ),
         (279, false, Status::Good, ""),
         (280, false, Status::Good, ""),
-        (280, true, Status::Failed, "abd: h: line 7: fault 13 device\n"),
+        (
+            280,
+            true,
+            Status::Failed,
+            "abd: h: line 7: fault 13 device\n",
+        ),
     ];
     let orders = order_file(rt.alloc(), &["{\"key\":\"x\",\"order\":[0]}"])?;
     for (length, fails, status, text) in rows {
         let left = TWO_CALLS.as_bytes();
         assert!(rt; length <= left.len());
-        let history = Pieces { left: &left[..length], size: 64, fails };
+        let history = Pieces {
+            left: &left[..length],
+            size: 64,
+            fails,
+        };
         let said = checked(rt.alloc(), history, whole(orders.as_str()), 1000);
         assert_eq!(rt; said.errors.as_slice(), text.as_bytes(), "{length}");
         assert_eq!(rt; said.status, status, "{length}");
@@ -150,12 +234,30 @@ fn faults_of_the_orders_are_named(rt: HostRuntime) -> Result<(), Fail> {
     for (text, said_of_it) in [
         ("", "abd: o: line 1: fault 2 no header\n"),
         (HISTORY, "abd: o: line 1: fault 2 no header\n"),
-        ("{\"abd\":\"orders\",\"version\":2}\n", "abd: o: line 1: fault 3 version\n"),
-        ("{\"abd\":\"orders\",\"version\":1}\n[]\n", "abd: o: line 2: fault 4 member\n"),
-        ("{\"abd\":\"orders\",\"version\":1}\n{\"key\":\"x\",\"order\":[0,\"1\"]}\n", "abd: o: line 2: fault 4 member\n"),
-        ("{\"abd\":\"orders\",\"version\":1}\n{\"key\":\"x/y\",\"order\":[0]}\n", "abd: o: line 2: fault 5 range\n"),
-        ("{\"abd\":\"orders\",\"version\":1}\n{\"key\":\"x\",\"order\":[4294967296]}\n", "abd: o: line 2: fault 5 range\n"),
-        ("{\"abd\":\"orders\",\"version\":1}\n\n", "abd: o: line 2: fault 1 not JSON\n"),
+        (
+            "{\"abd\":\"orders\",\"version\":2}\n",
+            "abd: o: line 1: fault 3 version\n",
+        ),
+        (
+            "{\"abd\":\"orders\",\"version\":1}\n[]\n",
+            "abd: o: line 2: fault 4 member\n",
+        ),
+        (
+            "{\"abd\":\"orders\",\"version\":1}\n{\"key\":\"x\",\"order\":[0,\"1\"]}\n",
+            "abd: o: line 2: fault 4 member\n",
+        ),
+        (
+            "{\"abd\":\"orders\",\"version\":1}\n{\"key\":\"x/y\",\"order\":[0]}\n",
+            "abd: o: line 2: fault 5 range\n",
+        ),
+        (
+            "{\"abd\":\"orders\",\"version\":1}\n{\"key\":\"x\",\"order\":[4294967296]}\n",
+            "abd: o: line 2: fault 5 range\n",
+        ),
+        (
+            "{\"abd\":\"orders\",\"version\":1}\n\n",
+            "abd: o: line 2: fault 1 not JSON\n",
+        ),
     ] {
         let said = checked(rt.alloc(), whole(TWO_CALLS), whole(text), 1000);
         assert_eq!(rt; said.errors.as_slice(), said_of_it.as_bytes());
@@ -169,7 +271,10 @@ fn faults_of_the_orders_are_named(rt: HostRuntime) -> Result<(), Fail> {
 fn orders_of_any_numbers_are_judged(rt: HostRuntime) -> Result<(), Fail> {
     let greatest = order_file(rt.alloc(), &["{\"key\":\"x\",\"order\":[4294967295]}"])?;
     let said = checked(rt.alloc(), whole(TWO_CALLS), whole(greatest.as_str()), 1000);
-    assert_eq!(rt; said.out.as_slice(), b"x: no 1 unknown call at 0\n".as_slice());
+    assert_eq!(rt;
+        said.out.as_slice(),
+        b"x: no 1 unknown call at 0\n".as_slice()
+    );
     let mut zeros = order_file(rt.alloc(), &[])?;
     for _ in 0..1000 {
         zeros.push_str("{\"key\":\"x\",\"order\":[0")?;
@@ -179,10 +284,16 @@ fn orders_of_any_numbers_are_judged(rt: HostRuntime) -> Result<(), Fail> {
         zeros.push_str("]}\n")?;
     }
     let said = checked(rt.alloc(), whole(TWO_CALLS), whole(zeros.as_str()), 1000);
-    assert_eq!(rt; said.out.as_slice(), b"x: no 2 call twice at 1\n".as_slice());
+    assert_eq!(rt;
+        said.out.as_slice(),
+        b"x: no 2 call twice at 1\n".as_slice()
+    );
     zeros.push_str("{\"key\":\"x\",\"order\":[0]}\n")?;
     let said = checked(rt.alloc(), whole(TWO_CALLS), whole(zeros.as_str()), 1000);
-    assert_eq!(rt; said.errors.as_slice(), b"abd: o: line 1002: fault 12 too many calls\n".as_slice());
+    assert_eq!(rt;
+        said.errors.as_slice(),
+        b"abd: o: line 1002: fault 12 too many calls\n".as_slice()
+    );
     Ok(())
 }
 

@@ -2,10 +2,8 @@
 #![tactic(auto)]
 
 #[cfg(test)]
-mod devices;
-
-#[cfg(test)]
 mod checking;
-
+#[cfg(test)]
+mod devices;
 #[cfg(test)]
 mod wording;

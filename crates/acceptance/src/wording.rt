@@ -16,7 +16,13 @@ fn check_names_its_files(rt: HostRuntime) -> Result<(), Fail> {
     let words = words_of(rt.alloc(), &["abd", "check", "a history", "b"])?;
     match command(rt.alloc(), words.as_slice()) {
         Ok(asked) => {
-            assert_eq!(rt; asked, Command::Check { history: "a history", orders: "b" });
+            assert_eq!(rt;
+                asked,
+                Command::Check {
+                    history: "a history",
+                    orders: "b"
+                }
+            );
         }
         Err(_) => assert!(rt; false),
     }
