@@ -61,85 +61,79 @@ fn whole(text: &str) -> Pieces<'_> {
     }
 }
 
-/// The order file with one line for each key.
-fn order_file(alloc: Global, lines: &[&str]) -> Result<String, Fail> {
+/// The order file with those lines behind its header.
+fn order_file(alloc: Global, lines: &str) -> Result<String, Fail> {
     let mut text = String::from_str(alloc, ORDERS)?;
-    for line in lines {
-        text.push_str(line)?;
-        text.push('\n')?;
-    }
+    text.push_str(lines)?;
     Ok(text)
 }
 
 /// A history, the lines of an order file, the status, and what goes out.
-type Row<'a> = (&'a str, &'a [&'a str], Status, &'a str);
+type Row<'a> = (&'a str, &'a str, Status, &'a str);
 
 #[test]
 fn verdicts_of_the_worked_rows(rt: HostRuntime) -> Result<(), Fail> {
     let six_lines = &TWO_CALLS[..280];
     let rows: [Row<'_>; 12] = [
-        (HISTORY, &[], Status::Good, ""),
+        (HISTORY, "", Status::Good, ""),
         (
             TWO_CALLS,
-            &["{\"key\":\"x\",\"order\":[0,1]}"],
+            "{\"key\":\"x\",\"order\":[0,1]}\n",
             Status::Good,
             "x: yes\n",
         ),
         (
             WITHOUT_NOTES,
-            &["{\"key\":\"x\",\"order\":[0,1]}"],
+            "{\"key\":\"x\",\"order\":[0,1]}\n",
             Status::Good,
             "x: yes\n",
         ),
         (
             MISSED_WRITE,
-            &["{\"key\":\"x\",\"order\":[1,0]}"],
+            "{\"key\":\"x\",\"order\":[1,0]}\n",
             Status::Refused,
             "x: no 6 order broken at 0 and 1\n",
         ),
         (
             MISSED_WRITE,
-            &["{\"key\":\"x\",\"order\":[0,1]}"],
+            "{\"key\":\"x\",\"order\":[0,1]}\n",
             Status::Refused,
             "x: no 5 wrong answer at 1\n",
         ),
         (
             six_lines,
-            &["{\"key\":\"x\",\"order\":[0,999999]}"],
+            "{\"key\":\"x\",\"order\":[0,999999]}\n",
             Status::Refused,
             "x: no 1 unknown call at 1\n",
         ),
         (
             six_lines,
-            &["{\"key\":\"x\",\"order\":[0,0]}"],
+            "{\"key\":\"x\",\"order\":[0,0]}\n",
             Status::Refused,
             "x: no 2 call twice at 1\n",
         ),
-        (six_lines, &[], Status::Refused, "x: no 3 missing call 0\n"),
+        (six_lines, "", Status::Refused, "x: no 3 missing call 0\n"),
         (
             six_lines,
-            &["{\"key\":\"x\",\"order\":[0,1]}"],
+            "{\"key\":\"x\",\"order\":[0,1]}\n",
             Status::Refused,
             "x: no 4 pending read at 1\n",
         ),
         (
             six_lines,
-            &["{\"key\":\"x\",\"order\":[1,0,0]}"],
+            "{\"key\":\"x\",\"order\":[1,0,0]}\n",
             Status::Refused,
             "x: no 2 call twice at 2\n",
         ),
         (
             six_lines,
-            &["{\"key\":\"x\",\"order\":[0]}"],
+            "{\"key\":\"x\",\"order\":[0]}\n",
             Status::Good,
             "x: yes\n",
         ),
         (
             six_lines,
-            &[
-                "{\"key\":\"z\",\"order\":[0]}",
-                "{\"key\":\"x\",\"order\":[0]}",
-            ],
+            "{\"key\":\"z\",\"order\":[0]}\n{\"key\":\"x\",\"order\":[0]}\n",
             Status::Refused,
             "x: yes\nz: no 1 unknown call at 0\n",
         ),
@@ -147,8 +141,8 @@ fn verdicts_of_the_worked_rows(rt: HostRuntime) -> Result<(), Fail> {
     for (history, lines, status, text) in rows {
         let orders = order_file(rt.alloc(), lines)?;
         let said = checked(rt.alloc(), whole(history), whole(orders.as_str()), 1000);
-        assert_eq!(rt; said.out.as_slice(), text.as_bytes(), "{lines:?}");
-        assert_eq!(rt; said.status, status, "{lines:?}");
+        assert_eq!(rt; said.out.as_slice(), text.as_bytes(), "{lines}");
+        assert_eq!(rt; said.status, status, "{lines}");
         assert!(rt; said.errors.is_empty());
     }
     Ok(())
@@ -156,11 +150,8 @@ fn verdicts_of_the_worked_rows(rt: HostRuntime) -> Result<(), Fail> {
 
 #[test]
 fn pieces_of_an_order_are_joined(rt: HostRuntime) -> Result<(), Fail> {
-    let lines = [
-        "{\"key\":\"x\",\"order\":[0]}",
-        "{\"key\":\"x\",\"order\":[1]}",
-    ];
-    let orders = order_file(rt.alloc(), &lines)?;
+    let lines = "{\"key\":\"x\",\"order\":[0]}\n{\"key\":\"x\",\"order\":[1]}\n";
+    let orders = order_file(rt.alloc(), lines)?;
     for size in [1, 7, 1000] {
         let history = Pieces {
             left: TWO_CALLS.as_bytes(),
@@ -212,7 +203,7 @@ fn torn_files_are_named(rt: HostRuntime) -> Result<(), Fail> {
             "abd: h: line 7: fault 13 device\n",
         ),
     ];
-    let orders = order_file(rt.alloc(), &["{\"key\":\"x\",\"order\":[0]}"])?;
+    let orders = order_file(rt.alloc(), "{\"key\":\"x\",\"order\":[0]}\n")?;
     for (length, fails, status, text) in rows {
         let left = TWO_CALLS.as_bytes();
         assert!(rt; length <= left.len());
@@ -269,13 +260,13 @@ fn faults_of_the_orders_are_named(rt: HostRuntime) -> Result<(), Fail> {
 
 #[test]
 fn orders_of_any_numbers_are_judged(rt: HostRuntime) -> Result<(), Fail> {
-    let greatest = order_file(rt.alloc(), &["{\"key\":\"x\",\"order\":[4294967295]}"])?;
+    let greatest = order_file(rt.alloc(), "{\"key\":\"x\",\"order\":[4294967295]}\n")?;
     let said = checked(rt.alloc(), whole(TWO_CALLS), whole(greatest.as_str()), 1000);
     assert_eq!(rt;
         said.out.as_slice(),
         b"x: no 1 unknown call at 0\n".as_slice()
     );
-    let mut zeros = order_file(rt.alloc(), &[])?;
+    let mut zeros = order_file(rt.alloc(), "")?;
     for _ in 0..1000 {
         zeros.push_str("{\"key\":\"x\",\"order\":[0")?;
         for _ in 1..1000 {
@@ -299,7 +290,7 @@ fn orders_of_any_numbers_are_judged(rt: HostRuntime) -> Result<(), Fail> {
 
 #[test]
 fn a_writer_that_fails_is_told(rt: HostRuntime) -> Result<(), Fail> {
-    let orders = order_file(rt.alloc(), &["{\"key\":\"x\",\"order\":[0,1]}"])?;
+    let orders = order_file(rt.alloc(), "{\"key\":\"x\",\"order\":[0,1]}\n")?;
     for room in 0..7 {
         let said = checked(rt.alloc(), whole(TWO_CALLS), whole(orders.as_str()), room);
         assert_eq!(rt; said.status, Status::Failed);
