@@ -1,5 +1,6 @@
 #!/usr/bin/env bash
-# Times `abd check` beside plain Rust on histories of 1,000,000 calls: over 100 keys, over 1 key and over 100,000 keys.
+# Times `abd check` and `abd justify` beside plain Rust on histories of 1,000,000 calls: over 100 keys, over 1 key and over 100,000 keys,
+# and `abd simulate` beside plain Rust on a script of 1,000,000 random steps and on one of 100,000 calls.
 set -eu
 here=$(cd "$(dirname "$0")" && pwd)
 abd=$here/../crates/abd/out/abd
@@ -18,4 +19,27 @@ for keys in 100 1 100000; do
     /usr/bin/time -f "${program##*/}: %e s, %U s of them computing, %M KiB" $program $files > "$work/out" 2> "$work/said"
     tail -n 1 "$work/said"
   done
+  for program in "$abd justify" "$work/plain/target/release/plain_check"; do
+    # shellcheck disable=SC2086
+    /usr/bin/time -f "justify, ${program##*/}: %e s, %U s of them computing, %M KiB" $program "$work/$keys.history" > "$work/out" 2> "$work/said"
+    tail -n 1 "$work/said"
+  done
 done
+# Scripts; what the two programs write is compared too.
+mkdir -p "$work/simulate"
+cp -r "$here/plain_simulate/." "$work/simulate"
+(cd "$work/simulate" && cargo build --release --offline --quiet)
+for load in random pairs; do
+  echo "== the script of $load"
+  python3 "$here/big_script.py" --load $load > "$work/$load.script"
+  for program in "$abd simulate" "$work/simulate/target/release/plain_simulate"; do
+    name=${program##*/}
+    # shellcheck disable=SC2086
+    /usr/bin/time -f "$name: %e s, %U s of them computing, %M KiB" $program "$work/$load.script" > "$work/${name% *}.out" 2> "$work/said"
+    tail -n 1 "$work/said"
+  done
+  cmp "$work/abd.out" "$work/plain_simulate.out"
+done
+# Steps of the world: 10,000,000 random ones.
+steps=$here/../crates/step_speed/out/step_speed
+[ -x "$steps" ] && /usr/bin/time -f "${steps##*/}: %e s, %M KiB" "$steps"

@@ -1,9 +1,9 @@
-//! What `abd check` does, in plain sequential Rust with serde_json: the yardstick of the benchmark.
-//! It reads lawful files only, and stops at the first line that is none.
+//! What `abd check` (two files) and `abd justify` (one) do, in plain sequential Rust with serde_json: the yardstick of the
+//! benchmark. It reads lawful files only, and stops at the first line that is none.
 use serde_json::Value;
 use std::collections::{HashMap, HashSet};
 use std::fs::File;
-use std::io::{BufRead, BufReader};
+use std::io::{BufRead, BufReader, BufWriter, Write};
 use std::time::Instant;
 
 enum Row {
@@ -129,11 +129,37 @@ fn is_order(part: &[Call], order: &[u32]) -> bool {
     part.iter().zip(&marks).all(|(call, mark)| *mark || call.response.is_none())
 }
 
+/// The settled calls by tag, a write before a read of the same tag, then by place of invocation.
+fn order_of(part: &[Call]) -> Vec<u32> {
+    let settled = part.iter().filter(|call| call.response.is_some() || (call.write.is_some() && call.note.is_some()));
+    let mut keys: Vec<_> = settled.map(|call| (call.note.expect("a note"), call.write.is_none(), call.invoked, call.op)).collect();
+    keys.sort_unstable();
+    keys.into_iter().map(|key| key.3).collect()
+}
+
+fn justify(parts: &[(String, Vec<Call>)]) {
+    let mut out = BufWriter::with_capacity(1 << 16, std::io::stdout().lock());
+    let orders: Vec<_> = parts.iter().map(|(_, part)| order_of(part)).collect();
+    assert!(parts.iter().zip(&orders).all(|((_, part), order)| is_order(part, order)));
+    out.write_all(b"{\"abd\":\"orders\",\"version\":1}\n").expect("written");
+    for ((key, _), order) in parts.iter().zip(&orders) {
+        for piece in order.chunks(1000) {
+            let calls: Vec<String> = piece.iter().map(u32::to_string).collect();
+            writeln!(out, "{{\"key\":\"{key}\",\"order\":[{}]}}", calls.join(",")).expect("written");
+        }
+    }
+}
+
 fn main() {
     let files: Vec<String> = std::env::args().skip(1).collect();
     let start = Instant::now();
     let rows = read_history(&files[0]);
     let read = start.elapsed();
+    if files.len() == 1 {
+        justify(&parts_of(rows));
+        eprintln!("history read in {read:?}, all in {:?}", start.elapsed());
+        return;
+    }
     let orders = read_orders(&files[1]);
     let parts = parts_of(rows);
     let empty = Vec::new();

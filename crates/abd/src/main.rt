@@ -1,9 +1,13 @@
 //! The program `abd`: it opens files, hands them to the commands, and ends with their status.
 #![tactic(auto)]
 
-use cli::{Command, Failure, Source, Status, Usage, check_command, command};
+use cli::{
+    Command, Counting, Failure, Source, Status, Usage, check_command, command, justify_command,
+    simulate_command,
+};
 use std::io::{BufWriter, ErrorKind};
 use std::process::ExitCode;
+use std::thread::Threads;
 use std::{env, fs};
 
 /// Shows the help that was asked for.
@@ -27,7 +31,7 @@ fn refuse(rt: &HostRuntime, usage: Usage) -> Status {
 }
 
 /// Opens both files before either is read, and checks.
-fn check(rt: &HostRuntime, history: &str, orders: &str) -> Status {
+fn check(rt: &HostRuntime, threads: &(impl Threads + Sync), history: &str, orders: &str) -> Status {
     let mut errors = rt.stderr();
     let Ok(history_file) = fs::open(rt, history) else {
         return Failure::Closed { name: history }.report(&mut errors);
@@ -40,10 +44,39 @@ fn check(rt: &HostRuntime, history: &str, orders: &str) -> Status {
     };
     let mut history = Source::new(history, history_file);
     let mut orders = Source::new(orders, orders_file);
-    check_command(rt.alloc(), &mut history, &mut orders, &mut out, &mut errors)
+    check_command(
+        threads,
+        rt.alloc(),
+        &mut history,
+        &mut orders,
+        &mut out,
+        &mut errors,
+    )
 }
 
-fn run(rt: &HostRuntime) -> Status {
+/// Opens the history, and justifies it.
+fn justify(rt: &HostRuntime, threads: &(impl Threads + Sync), history: &str) -> Status {
+    let mut errors = rt.stderr();
+    let Ok(history_file) = fs::open(rt, history) else {
+        return Failure::Closed { name: history }.report(&mut errors);
+    };
+    let mut history = Source::new(history, history_file);
+    let mut out = Counting::new(rt.stdout());
+    justify_command(threads, rt.alloc(), &mut history, &mut out, &mut errors)
+}
+
+/// Opens the script, and simulates it.
+fn simulate(rt: &HostRuntime, script: &str) -> Status {
+    let mut errors = Counting::new(rt.stderr());
+    let Ok(script_file) = fs::open(rt, script) else {
+        return Failure::Closed { name: script }.report(&mut errors);
+    };
+    let mut script = Source::new(script, script_file);
+    let mut out = Counting::new(rt.stdout());
+    simulate_command(rt.alloc(), &mut script, &mut out, &mut errors)
+}
+
+fn run(rt: &HostRuntime, threads: &(impl Threads + Sync)) -> Status {
     let words = match env::args(rt) {
         Ok(words) => words,
         Err(error) if error.kind() == ErrorKind::OutOfMemory => {
@@ -59,11 +92,13 @@ fn run(rt: &HostRuntime) -> Status {
         Err(_) => return Failure::Memory.report(&mut rt.stderr()),
     };
     match command(rt.alloc(), words.as_slice()) {
-        Ok(Command::Check { history, orders }) => check(rt, history, orders),
+        Ok(Command::Check { history, orders }) => check(rt, threads, history, orders),
+        Ok(Command::Justify { history }) => justify(rt, threads, history),
+        Ok(Command::Simulate { script }) => simulate(rt, script),
         Err(usage) => refuse(rt, usage),
     }
 }
 
 fn main(rt: HostRuntime) -> ExitCode {
-    ExitCode::from(run(&rt).code())
+    ExitCode::from(run(&rt, &rt).code())
 }

@@ -2,7 +2,9 @@
 use crate::devices::{Bounded, Pieces};
 use cli::{Source, Status, check_command};
 use std::alloc::Global;
+use std::process::Abort;
 use std::test::Fail;
+use std::thread::Threads;
 
 const HISTORY: &str = "{\"abd\":\"history\",\"version\":1}\n";
 
@@ -40,12 +42,18 @@ struct Said {
 }
 
 /// The check of files named `h` and `o`, each read in pieces of that size.
-fn checked(alloc: Global, history: Pieces<'_>, orders: Pieces<'_>, room: usize) -> Said {
+fn checked(
+    rt: &(impl Threads + Sync),
+    alloc: Global,
+    history: Pieces<'_>,
+    orders: Pieces<'_>,
+    room: usize,
+) -> Said {
     let mut out = Bounded::new(alloc, room);
     let mut errors = Bounded::new(alloc, 1000);
     let mut history = Source::new("h", history);
     let mut orders = Source::new("o", orders);
-    let status = check_command(alloc, &mut history, &mut orders, &mut out, &mut errors);
+    let status = check_command(rt, alloc, &mut history, &mut orders, &mut out, &mut errors);
     Said {
         status,
         out: out.taken,
@@ -68,83 +76,74 @@ fn order_file(alloc: Global, lines: &str) -> Result<String, Fail> {
     Ok(text)
 }
 
-/// A history, the lines of an order file, the status, and what goes out.
-type Row<'a> = (&'a str, &'a str, Status, &'a str);
+/// The order file that has this order for `x`, or none where that is empty.
+fn order_of_x(alloc: Global, order: &str) -> Result<String, Fail> {
+    let mut text = String::from_str(alloc, ORDERS)?;
+    if !order.is_empty() {
+        text.push_str("{\"key\":\"x\",\"order\":")?;
+        text.push_str(order)?;
+        text.push_str("}\n")?;
+    }
+    Ok(text)
+}
 
-#[test]
-fn verdicts_of_the_worked_rows(rt: HostRuntime) -> Result<(), Fail> {
-    let six_lines = &TWO_CALLS[..280];
-    let rows: [Row<'_>; 12] = [
-        (HISTORY, "", Status::Good, ""),
-        (
-            TWO_CALLS,
-            "{\"key\":\"x\",\"order\":[0,1]}\n",
-            Status::Good,
-            "x: yes\n",
-        ),
-        (
-            WITHOUT_NOTES,
-            "{\"key\":\"x\",\"order\":[0,1]}\n",
-            Status::Good,
-            "x: yes\n",
-        ),
-        (
-            MISSED_WRITE,
-            "{\"key\":\"x\",\"order\":[1,0]}\n",
-            Status::Refused,
-            "x: no 6 order broken at 0 and 1\n",
-        ),
-        (
-            MISSED_WRITE,
-            "{\"key\":\"x\",\"order\":[0,1]}\n",
-            Status::Refused,
-            "x: no 5 wrong answer at 1\n",
-        ),
-        (
-            six_lines,
-            "{\"key\":\"x\",\"order\":[0,999999]}\n",
-            Status::Refused,
-            "x: no 1 unknown call at 1\n",
-        ),
-        (
-            six_lines,
-            "{\"key\":\"x\",\"order\":[0,0]}\n",
-            Status::Refused,
-            "x: no 2 call twice at 1\n",
-        ),
-        (six_lines, "", Status::Refused, "x: no 3 missing call 0\n"),
-        (
-            six_lines,
-            "{\"key\":\"x\",\"order\":[0,1]}\n",
-            Status::Refused,
-            "x: no 4 pending read at 1\n",
-        ),
-        (
-            six_lines,
-            "{\"key\":\"x\",\"order\":[1,0,0]}\n",
-            Status::Refused,
-            "x: no 2 call twice at 2\n",
-        ),
-        (
-            six_lines,
-            "{\"key\":\"x\",\"order\":[0]}\n",
-            Status::Good,
-            "x: yes\n",
-        ),
-        (
-            six_lines,
-            "{\"key\":\"z\",\"order\":[0]}\n{\"key\":\"x\",\"order\":[0]}\n",
-            Status::Refused,
-            "x: yes\nz: no 1 unknown call at 0\n",
-        ),
-    ];
-    for (history, lines, status, text) in rows {
-        let orders = order_file(rt.alloc(), lines)?;
-        let said = checked(rt.alloc(), whole(history), whole(orders.as_str()), 1000);
-        assert_eq!(rt; said.out.as_slice(), text.as_bytes(), "{lines}");
-        assert_eq!(rt; said.status, status, "{lines}");
+/// A history, an order for `x`, or none where that is empty, and what goes out.
+type Row<'a> = (&'a str, &'a str, &'a str);
+
+/// Each row ends with the status.
+fn ends_with(
+    rt: &(impl Abort + Threads + Sync),
+    alloc: Global,
+    status: Status,
+    rows: &[Row<'_>],
+) -> Result<(), Fail> {
+    for (history, order, text) in rows {
+        let orders = order_of_x(alloc, order)?;
+        let said = checked(rt, alloc, whole(history), whole(orders.as_str()), 1000);
+        assert_eq!(rt; said.out.as_slice(), text.as_bytes(), "{order}");
+        assert_eq!(rt; said.status, status, "{order}");
         assert!(rt; said.errors.is_empty());
     }
+    Ok(())
+}
+
+#[test]
+fn orders_that_are_accepted(rt: HostRuntime) -> Result<(), Fail> {
+    let rows: [Row<'_>; 4] = [
+        (HISTORY, "", ""),
+        (TWO_CALLS, "[0,1]", "x: yes\n"),
+        (WITHOUT_NOTES, "[0,1]", "x: yes\n"),
+        (&TWO_CALLS[..280], "[0]", "x: yes\n"),
+    ];
+    ends_with(&rt, rt.alloc(), Status::Good, &rows)
+}
+
+#[test]
+fn orders_that_are_refused(rt: HostRuntime) -> Result<(), Fail> {
+    let pending = &TWO_CALLS[..280];
+    let rows: [Row<'_>; 7] = [
+        (MISSED_WRITE, "[1,0]", "x: no 6 order broken at 0 and 1\n"),
+        (MISSED_WRITE, "[0,1]", "x: no 5 wrong answer at 1\n"),
+        (pending, "[0,999999]", "x: no 1 unknown call at 1\n"),
+        (pending, "[0,0]", "x: no 2 call twice at 1\n"),
+        (pending, "", "x: no 3 missing call 0\n"),
+        (pending, "[0,1]", "x: no 4 pending read at 1\n"),
+        (pending, "[1,0,0]", "x: no 2 call twice at 2\n"),
+    ];
+    ends_with(&rt, rt.alloc(), Status::Refused, &rows)
+}
+
+#[test]
+fn keys_of_the_orders_alone_come_last(rt: HostRuntime) -> Result<(), Fail> {
+    let lines = "{\"key\":\"z\",\"order\":[0]}\n{\"key\":\"x\",\"order\":[0]}\n";
+    let orders = order_file(rt.alloc(), lines)?;
+    let pending = whole(&TWO_CALLS[..280]);
+    let said = checked(&rt, rt.alloc(), pending, whole(orders.as_str()), 1000);
+    assert_eq!(rt;
+        said.out.as_slice(),
+        b"x: yes\nz: no 1 unknown call at 0\n".as_slice()
+    );
+    assert_eq!(rt; said.status, Status::Refused);
     Ok(())
 }
 
@@ -163,7 +162,7 @@ fn pieces_of_an_order_are_joined(rt: HostRuntime) -> Result<(), Fail> {
             size,
             fails: false,
         };
-        let said = checked(rt.alloc(), history, orders, 1000);
+        let said = checked(&rt, rt.alloc(), history, orders, 1000);
         assert_eq!(rt; said.out.as_slice(), b"x: yes\n".as_slice());
     }
     Ok(())
@@ -212,7 +211,7 @@ fn torn_files_are_named(rt: HostRuntime) -> Result<(), Fail> {
             size: 64,
             fails,
         };
-        let said = checked(rt.alloc(), history, whole(orders.as_str()), 1000);
+        let said = checked(&rt, rt.alloc(), history, whole(orders.as_str()), 1000);
         assert_eq!(rt; said.errors.as_slice(), text.as_bytes(), "{length}");
         assert_eq!(rt; said.status, status, "{length}");
         assert_eq!(rt; said.out.is_empty(), status != Status::Good, "{length}");
@@ -250,7 +249,7 @@ fn faults_of_the_orders_are_named(rt: HostRuntime) -> Result<(), Fail> {
             "abd: o: line 2: fault 1 not JSON\n",
         ),
     ] {
-        let said = checked(rt.alloc(), whole(TWO_CALLS), whole(text), 1000);
+        let said = checked(&rt, rt.alloc(), whole(TWO_CALLS), whole(text), 1000);
         assert_eq!(rt; said.errors.as_slice(), said_of_it.as_bytes());
         assert_eq!(rt; said.status, Status::Format);
         assert!(rt; said.out.is_empty());
@@ -261,7 +260,13 @@ fn faults_of_the_orders_are_named(rt: HostRuntime) -> Result<(), Fail> {
 #[test]
 fn orders_of_any_numbers_are_judged(rt: HostRuntime) -> Result<(), Fail> {
     let greatest = order_file(rt.alloc(), "{\"key\":\"x\",\"order\":[4294967295]}\n")?;
-    let said = checked(rt.alloc(), whole(TWO_CALLS), whole(greatest.as_str()), 1000);
+    let said = checked(
+        &rt,
+        rt.alloc(),
+        whole(TWO_CALLS),
+        whole(greatest.as_str()),
+        1000,
+    );
     assert_eq!(rt;
         said.out.as_slice(),
         b"x: no 1 unknown call at 0\n".as_slice()
@@ -274,13 +279,25 @@ fn orders_of_any_numbers_are_judged(rt: HostRuntime) -> Result<(), Fail> {
         }
         zeros.push_str("]}\n")?;
     }
-    let said = checked(rt.alloc(), whole(TWO_CALLS), whole(zeros.as_str()), 1000);
+    let said = checked(
+        &rt,
+        rt.alloc(),
+        whole(TWO_CALLS),
+        whole(zeros.as_str()),
+        1000,
+    );
     assert_eq!(rt;
         said.out.as_slice(),
         b"x: no 2 call twice at 1\n".as_slice()
     );
     zeros.push_str("{\"key\":\"x\",\"order\":[0]}\n")?;
-    let said = checked(rt.alloc(), whole(TWO_CALLS), whole(zeros.as_str()), 1000);
+    let said = checked(
+        &rt,
+        rt.alloc(),
+        whole(TWO_CALLS),
+        whole(zeros.as_str()),
+        1000,
+    );
     assert_eq!(rt;
         said.errors.as_slice(),
         b"abd: o: line 1002: fault 12 too many calls\n".as_slice()
@@ -292,7 +309,13 @@ fn orders_of_any_numbers_are_judged(rt: HostRuntime) -> Result<(), Fail> {
 fn a_writer_that_fails_is_told(rt: HostRuntime) -> Result<(), Fail> {
     let orders = order_file(rt.alloc(), "{\"key\":\"x\",\"order\":[0,1]}\n")?;
     for room in 0..7 {
-        let said = checked(rt.alloc(), whole(TWO_CALLS), whole(orders.as_str()), room);
+        let said = checked(
+            &rt,
+            rt.alloc(),
+            whole(TWO_CALLS),
+            whole(orders.as_str()),
+            room,
+        );
         assert_eq!(rt; said.status, Status::Failed);
         assert_eq!(rt; said.errors.as_slice(), b"abd: output failed\n".as_slice());
         assert!(rt; said.out.len() <= room);

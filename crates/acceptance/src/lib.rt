@@ -6,4 +6,10 @@ mod checking;
 #[cfg(test)]
 mod devices;
 #[cfg(test)]
+mod histories;
+#[cfg(test)]
+mod justifying;
+#[cfg(test)]
+mod simulating;
+#[cfg(test)]
 mod wording;

@@ -20,10 +20,10 @@ fn is_fault(answer: &Result<Command<'_>, Usage>) -> bool {
     }
 }
 
-/// Whether the answer is a help that speaks of `check`.
-fn is_help(answer: &Result<Command<'_>, Usage>) -> bool {
+/// Whether the answer is a help that speaks of that word.
+fn is_help(answer: &Result<Command<'_>, Usage>, word: &str) -> bool {
     match answer {
-        Err(Usage::Help(text)) => text.as_str().contains("check"),
+        Err(Usage::Help(text)) => text.as_str().contains(word),
         _ => false,
     }
 }
@@ -47,6 +47,35 @@ fn check_names_its_files(rt: HostRuntime) -> Result<(), Fail> {
 }
 
 #[test]
+fn justify_names_its_file(rt: HostRuntime) -> Result<(), Fail> {
+    let words = words_of(rt.alloc(), "abd|justify|a history")?;
+    match command(rt.alloc(), words.as_slice()) {
+        Ok(asked) => {
+            assert_eq!(rt;
+                asked,
+                Command::Justify {
+                    history: "a history"
+                }
+            );
+        }
+        Err(_) => assert!(rt; false),
+    }
+    Ok(())
+}
+
+#[test]
+fn simulate_names_its_script(rt: HostRuntime) -> Result<(), Fail> {
+    let words = words_of(rt.alloc(), "abd|simulate|a script")?;
+    match command(rt.alloc(), words.as_slice()) {
+        Ok(asked) => {
+            assert_eq!(rt; asked, Command::Simulate { script: "a script" });
+        }
+        Err(_) => assert!(rt; false),
+    }
+    Ok(())
+}
+
+#[test]
 fn other_words_are_a_fault(rt: HostRuntime) -> Result<(), Fail> {
     for line in [
         "abd",
@@ -54,6 +83,10 @@ fn other_words_are_a_fault(rt: HostRuntime) -> Result<(), Fail> {
         "abd|check|h",
         "abd|check|h|o|p",
         "abd|check|--workers|2|h|o",
+        "abd|justify",
+        "abd|justify|h|o",
+        "abd|simulate",
+        "abd|simulate|s|t",
         "abd|frob",
         "abd|--frob",
     ] {
@@ -66,15 +99,19 @@ fn other_words_are_a_fault(rt: HostRuntime) -> Result<(), Fail> {
 
 #[test]
 fn help_is_no_fault(rt: HostRuntime) -> Result<(), Fail> {
-    for line in [
-        "abd|--help",
-        "abd|help",
-        "abd|check|--help",
-        "abd|help|check",
+    for (line, word) in [
+        ("abd|--help", "check"),
+        ("abd|help", "justify"),
+        ("abd|check|--help", "ORDERS"),
+        ("abd|help|check", "ORDERS"),
+        ("abd|justify|--help", "HISTORY"),
+        ("abd|help|justify", "HISTORY"),
+        ("abd|simulate|--help", "SCRIPT"),
+        ("abd|help|simulate", "SCRIPT"),
     ] {
         let words = words_of(rt.alloc(), line)?;
         let answer = command(rt.alloc(), words.as_slice());
-        assert!(rt; is_help(&answer), "{line}");
+        assert!(rt; is_help(&answer, word), "{line}");
     }
     Ok(())
 }

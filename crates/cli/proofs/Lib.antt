@@ -1,0 +1,9 @@
+mod CommandNames
+mod DeviceFailures
+pub mod EachKey
+pub mod Entries
+pub mod Judgements
+pub mod Keyed
+pub mod Reading
+pub mod Prefixes
+pub mod Noted

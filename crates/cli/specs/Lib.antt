@@ -1,2 +1,6 @@
+pub mod Checks
+pub mod Judging
+pub mod Justified
+pub mod Simulated
 pub mod Words
 pub mod Statuses

@@ -2,6 +2,8 @@
 use Rattle.std.specs.Prelude.{ℕ}
 use Rattle.history_file.specs.declared.fault.FaultKind.{FaultKind}
 use Rattle.history_file.specs.declared.fault.FaultKind.TheVariants as kind
+use Rattle.fault_script.specs.declared.fault.ErrorKind.{ErrorKind}
+use Rattle.fault_script.specs.declared.fault.ErrorKind.TheVariants as error
 use Rattle.cli.specs.declared.status.Status.{Status}
 use Rattle.cli.specs.declared.status.Status.TheVariants.{Good, Refused, Usage, Format, Failed}
 use Rattle.cli.specs.declared.status.Failure.{Failure}
@@ -21,8 +23,14 @@ status_of_kind (kind.Line fault) = Format
 status_of_kind kind.Device = Failed
 status_of_kind kind.Memory = Failed
 
+abbrev pub status_of_error : ErrorKind → Status
+status_of_error (error.Line fault) = Format
+status_of_error error.Device = Failed
+status_of_error error.Memory = Failed
+
 abbrev pub status_of : Failure → Status
 status_of (failure.Closed name) = Format
 status_of (failure.File name fault) = status_of_kind fault.kind
+status_of (failure.Script name error) = status_of_error error.kind
 status_of failure.Output = Failed
 status_of failure.Memory = Failed

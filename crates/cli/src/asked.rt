@@ -4,6 +4,10 @@
 pub enum Command<'a> {
     /// To judge the orders of a history's keys.
     Check { history: &'a str, orders: &'a str },
+    /// To make the orders of a history's keys from its notes.
+    Justify { history: &'a str },
+    /// To run a script and write the history of its run.
+    Simulate { script: &'a str },
 }
 
 /// Why a command line asks for nothing.

@@ -1,15 +1,18 @@
 //! `abd check`: the verdict on each key's order.
-ghost use Rattle.std.specs.Prelude.{◌≡◌};
+ghost use Rattle.std.specs.Prelude.{◌≡◌, IfOk, IfErr};
+ghost use Rattle.history_file.specs.Deliveries.{Delivers, ReadsAll};
+ghost use Rattle.history_file.specs.HistoryFormat.{history_format, MakesHistory};
+ghost use Rattle.history_file.specs.OrderFormat.{order_format, AreJoined};
+ghost use Rattle.cli.specs.Checks.{Ends, Stops};
+ghost use Rattle.cli.specs.Statuses.{status_of};
 
+use crate::judging::{Halt, judge};
 use crate::status::{Failure, Status};
-use certificate_check::{Verdict, check_part};
 use history_file::{Counting, read_history, read_orders};
-use indexmap::IndexMap;
-use recorder::{KeyOrder, Part};
+use recorder::{History, KeyOrder};
 use std::alloc::Global;
-use std::fmt::Write as _;
 use std::io::{Read, Write};
-use tag::{Key, OpId};
+use std::thread::Threads;
 
 /// A file that was opened: its name as it was given, and its bytes.
 #[derive(Drop)]
@@ -32,103 +35,40 @@ impl<'a, R> Source<'a, R> {
     }
 }
 
-/// What is said of each key, a line each.
-#[derive(Drop)]
-struct Lines<'w, W> {
-    out: &'w mut W,
-    line: String,
-}
-
-impl<W: Write> Lines<'_, W> {
-    /// Says the verdict on a key.
-    fn say(&mut self, key: &Key, verdict: Verdict) -> Result<(), Failure<'static>> {
-        self.line.clear();
-        writeln!(self.line, "{}: {verdict}", key.as_str())?;
-        self.out
-            .write_all(self.line.as_bytes())
-            .map_err(|_| Failure::Output)
-    }
-}
-
-/// For each part the place of its key's order in the list, if it is there.
-fn places_of(
+/// The history that the file is.
+fn history_in<'a, R: Read>(
+    rt: &(impl Threads + Sync),
     alloc: Global,
-    parts: &IndexMap<Key, Part>,
-    orders: &[KeyOrder],
-) -> Result<Vec<Option<usize>>, Failure<'static>> {
-    let mut places = vec![in alloc; None; parts.len()]?;
-    for (place, order) in orders.iter().enumerate() {
-        if let Some(index) = parts.get_index_of(&order.key) {
-            if let Some(slot) = places.get_mut(index) {
-                *slot = Some(place);
-            }
-        }
-    }
-    Ok(places)
-}
-
-/// The order at the place, or the empty one where no line of the order file names the key.
-fn order_at(orders: &[KeyOrder], place: Option<usize>) -> &[OpId] {
-    match place.and_then(|place| orders.get(place)) {
-        Some(order) => order.order.as_slice(),
-        None => &[],
+    source: &mut Source<'a, R>,
+) -> Result<History, Failure<'a>>
+    ensures read { IfOk result (λ history. Delivers (R.remaining source.old.reader.inner) (R.remaining source.new.reader.inner) (ReadsAll history_format MakesHistory (R.remaining source.new.reader.inner) history)) }
+    ensures fault { IfErr result (λ failure. Stops history_format (R.remaining source.old.reader.inner) (R.remaining source.new.reader.inner) (status_of failure)) }
+{
+    match read_history(rt, alloc, &mut source.reader) {
+        Ok(history) => Ok(history),
+        Err(fault) => Err(Failure::File {
+            name: source.name,
+            fault,
+        }),
     }
 }
 
-/// Judges the keys of the history, and then those that only the orders have, against no call.
-fn judge_keys<W: Write>(
+/// The orders that the file is.
+fn orders_in<'a, R: Read>(
+    rt: &(impl Threads + Sync),
     alloc: Global,
-    parts: &IndexMap<Key, Part>,
-    orders: &[KeyOrder],
-    out: &mut W,
-) -> Result<Status, Failure<'static>> {
-    let mut status = Status::Good;
-    let mut lines = Lines {
-        out,
-        line: String::new(alloc),
-    };
-    let places = places_of(alloc, parts, orders)?;
-    for (index, (key, part)) in parts.iter().enumerate() {
-        let place = places.get(index).copied().unwrap_or(None);
-        let verdict = check_part(alloc, part, order_at(orders, place))?;
-        if verdict != Verdict::Yes {
-            status = Status::Refused;
-        }
-        lines.say(key, verdict)?;
+    source: &mut Source<'a, R>,
+) -> Result<Vec<KeyOrder>, Failure<'a>>
+    ensures read { IfOk result (λ orders. Delivers (R.remaining source.old.reader.inner) (R.remaining source.new.reader.inner) (ReadsAll order_format AreJoined (R.remaining source.new.reader.inner) orders.items)) }
+    ensures fault { IfErr result (λ failure. Stops order_format (R.remaining source.old.reader.inner) (R.remaining source.new.reader.inner) (status_of failure)) }
+{
+    match read_orders(rt, alloc, &mut source.reader) {
+        Ok(orders) => Ok(orders),
+        Err(fault) => Err(Failure::File {
+            name: source.name,
+            fault,
+        }),
     }
-    let nothing = Part::empty(alloc);
-    for order in orders {
-        if !parts.contains_key(&order.key) {
-            let verdict = check_part(alloc, &nothing, order.order.as_slice())?;
-            if verdict != Verdict::Yes {
-                status = Status::Refused;
-            }
-            lines.say(&order.key, verdict)?;
-        }
-    }
-    lines.out.flush().map_err(|_| Failure::Output)?;
-    Ok(status)
-}
-
-/// Reads both files, and then judges.
-fn check<'a, H: Read, O: Read, W: Write>(
-    alloc: Global,
-    history: &mut Source<'a, H>,
-    orders: &mut Source<'a, O>,
-    out: &mut W,
-) -> Result<Status, Failure<'a>> {
-    let name = history.name;
-    let history = read_history(alloc, &mut history.reader).map_err(|fault| Failure::File {
-        name,
-        fault,
-    })?;
-    let name = orders.name;
-    let orders = read_orders(alloc, &mut orders.reader).map_err(|fault| Failure::File {
-        name,
-        fault,
-    })?;
-    let parts = history.parts()?;
-    judge_keys(alloc, &parts, orders.as_slice(), out)
 }
 
 /// Reads the history and then the orders, and prints a line for each key: the keys of the history
@@ -137,14 +77,30 @@ fn check<'a, H: Read, O: Read, W: Write>(
 /// Nothing goes to `out` where either file has a fault; a failure is said on `errors`. `Good`
 /// where every line says yes, `Refused` where one says no.
 pub fn check_command<'a, H: Read, O: Read, W: Write, E: Write>(
+    rt: &(impl Threads + Sync),
     alloc: Global,
     history: &mut Source<'a, H>,
     orders: &mut Source<'a, O>,
     out: &mut W,
     errors: &mut E,
-) -> Status {
-    match check(alloc, history, orders, out) {
+) -> Status
+    ensures ends { Ends
+        (record { history = H.remaining history.old.reader.inner; orders = O.remaining orders.old.reader.inner })
+        (record { history = H.remaining history.new.reader.inner; orders = O.remaining orders.new.reader.inner })
+        result }
+    ensures quiet { result ≡ Status.Format → out.new ≡ out.old }
+{
+    let history = match history_in(rt, alloc, history) {
+        Ok(history) => history,
+        Err(failure) => return failure.report(errors),
+    };
+    let orders = match orders_in(rt, alloc, orders) {
+        Ok(orders) => orders,
+        Err(failure) => return failure.report(errors),
+    };
+    match judge(alloc, &history, orders, out) {
         Ok(status) => status,
-        Err(failure) => failure.report(errors),
+        Err(Halt::Output) => Failure::Output.report(errors),
+        Err(Halt::Memory) => Failure::Memory.report(errors),
     }
 }

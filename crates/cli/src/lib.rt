@@ -6,10 +6,18 @@
 
 mod asked;
 mod check;
+mod judging;
+mod justify;
+mod justifying;
+mod simulate;
 mod status;
 mod words;
 
 pub use asked::{Command, Usage};
 pub use check::{Source, check_command};
+pub use history_file::Counting;
+pub use justify::justify_command;
+pub use justifying::{Unjustified, justified_orders};
+pub use simulate::simulate_command;
 pub use status::{Failure, Status};
 pub use words::command;

@@ -2,16 +2,15 @@
 ghost use Rattle.std.specs.Prelude.{◌≡◌};
 ghost use Rattle.cli.specs.Statuses.{code_of, status_of};
 
+use fault_script::{ErrorKind, ScriptError};
 use history_file::{FaultKind, FileFault};
-use std::alloc::AllocError;
 use std::io::Write;
-use tag::Memory;
 use thiserror::Error;
 
 /// How a command ended.
 #[derive(Clone, Copy, Debug, PartialEq, Eq)]
 pub enum Status {
-    /// All is as it should be: each key is judged yes, or help was asked for.
+    /// All is as it should be: each key is judged yes, a script was run, or help was asked for.
     Good,
     /// A key is refused.
     Refused,
@@ -45,6 +44,8 @@ pub enum Failure<'a> {
     Closed { name: &'a str },
     #[error("{name}: {fault}")]
     File { name: &'a str, fault: FileFault },
+    #[error("{name}: {error}")]
+    Script { name: &'a str, error: ScriptError },
     #[error("output failed")]
     Output,
     #[error("no memory")]
@@ -62,6 +63,10 @@ impl Failure<'_> {
                 FaultKind::Line(_) => Status::Format,
                 FaultKind::Device | FaultKind::Memory => Status::Failed,
             },
+            Failure::Script { error, .. } => match error.kind {
+                ErrorKind::Line(_) => Status::Format,
+                ErrorKind::Device | ErrorKind::Memory => Status::Failed,
+            },
             Failure::Output | Failure::Memory => Status::Failed,
         }
     }
@@ -73,17 +78,5 @@ impl Failure<'_> {
     {
         let _ = writeln!(errors, "abd: {self}");
         self.status()
-    }
-}
-
-impl From<Memory> for Failure<'_> {
-    fn from(_: Memory) -> Self {
-        Failure::Memory
-    }
-}
-
-impl From<AllocError> for Failure<'_> {
-    fn from(_: AllocError) -> Self {
-        Failure::Memory
     }
 }

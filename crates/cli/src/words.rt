@@ -1,8 +1,8 @@
 //! The words of a command line.
-ghost use Rattle.std.specs.Prelude.{◌≡◌, false, IfOk, IfErr, MatchOption, map, string_bytes};
+ghost use Rattle.std.specs.Prelude.{◌≡◌, false, codes, IfOk, IfErr, MatchOption, map, string_bytes};
 ghost use Rattle.clap.specs.Words.{app_of, found_of, kind_of, rows_of, subcommand_rows_of};
 ghost use Rattle.clap.specs.declared.builder.command.Command.TheViews.{out-Command as fields_of};
-ghost use Rattle.cli.specs.Words.{abd_app, check_app, Asks, AsksNothing, Makes, MakesOf};
+ghost use Rattle.cli.specs.Words.{abd_app, check_app, justify_app, simulate_app, Asks, AsksNothing, MakesAs, MakesOf};
 ghost use Rattle.cli.specs.declared.asked.Command.{Command};
 
 use crate::asked::{Command, Usage};
@@ -32,15 +32,60 @@ fn check_words<'a>(alloc: Global) -> Result<clap::Command<'a>, AllocError>
     check.arg(history)?.arg(orders)
 }
 
+/// `abd justify HISTORY`.
+fn justify_words<'a>(alloc: Global) -> Result<clap::Command<'a>, AllocError>
+    ensures app { IfOk result (λ words. app_of words ≡ justify_app) }
+    ensures local { IfOk result (λ words. (fields_of words).has_globals ≡ false) }
+{
+    let history = Arg::new(alloc, "HISTORY")
+        .required(true)
+        .help("The recorded calls, with their notes: a history file");
+    let justify = clap::Command::new(alloc, "justify")
+        .about("Make from the notes an order of each key's calls, check it, and write the orders")
+        .after_help(
+            "Writes an order file, for `abd check`, keys in the order in which the history first sees \
+             them. Where a key has no such order it writes nothing, and says the first such key on \
+             standard error.\nExit status: 0 written, 1 a key has no order, 2 usage, 3 the file can't be \
+             opened or read as its format, 4 memory or a device.\n\nExample: abd justify \
+             examples/new_then_old.history",
+        );
+    justify.arg(history)
+}
+
+/// `abd simulate SCRIPT`.
+fn simulate_words<'a>(alloc: Global) -> Result<clap::Command<'a>, AllocError>
+    ensures app { IfOk result (λ words. app_of words ≡ simulate_app) }
+    ensures local { IfOk result (λ words. (fields_of words).has_globals ≡ false) }
+{
+    let script = Arg::new(alloc, "SCRIPT").required(true).help(
+        "What clients, replicas and the network do, step by step: a script",
+    );
+    let simulate = clap::Command::new(alloc, "simulate")
+        .about("Run a script of calls and faults, and write the history of its run")
+        .after_help(
+            "Writes a history file, for `abd justify` and `abd check`. A note on standard error says \
+             which line was refused and why, and how many random steps were taken.\nExit status: 0 \
+             written, 2 usage, 3 the script can't be opened or has a fault, 4 memory or a \
+             device.\n\nExample: abd simulate examples/new_then_old.script",
+        );
+    simulate.arg(script)
+}
+
 /// `abd` with its commands.
 fn abd_words<'a>(alloc: Global) -> Result<clap::Command<'a>, AllocError>
     ensures { IfOk result (λ words. app_of words ≡ abd_app) }
 {
     let check = check_words(alloc)?;
+    let justify = justify_words(alloc)?;
+    let simulate = simulate_words(alloc)?;
     let abd = clap::Command::new(alloc, "abd")
-        .about("A checker of certificates that a register store's record is atomic")
+        .about(
+            "Simulates a register store, and makes and checks certificates that its record is atomic",
+        )
         .subcommand_required(true);
-    abd.subcommand(check)
+    abd.subcommand(check)?
+        .subcommand(justify)?
+        .subcommand(simulate)
 }
 
 /// What an error of clap's says.
@@ -57,12 +102,32 @@ fn usage_of(alloc: Global, error: &Error) -> Usage
 /// `check`, of the words behind its name.
 fn check_in<'a>(matches: &ArgMatches<'a>) -> Option<Command<'a>>
     ensures { MatchOption result
-        ((command : Command) → Makes (rows_of (found_of matches.now)) command → ⊥)
-        (Makes (rows_of (found_of matches.now))) }
+        ((command : Command) → MakesAs (codes "check") (rows_of (found_of matches.now)) command → ⊥)
+        (MakesAs (codes "check") (rows_of (found_of matches.now))) }
 {
     let history = matches.get_str("HISTORY")?;
     let orders = matches.get_str("ORDERS")?;
     Some(Command::Check { history, orders })
+}
+
+/// `justify`, of the words behind its name.
+fn justify_in<'a>(matches: &ArgMatches<'a>) -> Option<Command<'a>>
+    ensures { MatchOption result
+        ((command : Command) → MakesAs (codes "justify") (rows_of (found_of matches.now)) command → ⊥)
+        (MakesAs (codes "justify") (rows_of (found_of matches.now))) }
+{
+    let history = matches.get_str("HISTORY")?;
+    Some(Command::Justify { history })
+}
+
+/// `simulate`, of the words behind its name.
+fn simulate_in<'a>(matches: &ArgMatches<'a>) -> Option<Command<'a>>
+    ensures { MatchOption result
+        ((command : Command) → MakesAs (codes "simulate") (rows_of (found_of matches.now)) command → ⊥)
+        (MakesAs (codes "simulate") (rows_of (found_of matches.now))) }
+{
+    let script = matches.get_str("SCRIPT")?;
+    Some(Command::Simulate { script })
 }
 
 /// The command that was met.
@@ -74,6 +139,10 @@ fn command_in<'a>(matches: &ArgMatches<'a>) -> Option<Command<'a>>
     let (name, found) = matches.subcommand()?;
     if name == "check" {
         check_in(found)
+    } else if name == "justify" {
+        justify_in(found)
+    } else if name == "simulate" {
+        simulate_in(found)
     } else {
         None
     }

@@ -1,6 +1,5 @@
 //! Calls, and calls with the pair that they put.
-ghost use Rattle.std.specs.Prelude.{◌≡◌, IfOk, Some};
-ghost use Rattle.std.specs.Option.{option_copied};
+ghost use Rattle.std.specs.Prelude.{◌≡◌, IfOk};
 ghost use Rattle.client_phases.specs.Calls.{answer_from, put_of};
 
 use replica::Request;
@@ -31,15 +30,6 @@ impl Model for Chosen {
     ghost view = { λ c. record { call = c.call; pair = record { tag = c.tag; value = value_to_put c.call.action c.found } } };
 }
 
-fn copied(value: Option<&Value>) -> Result<Option<Value>, Memory>
-    ensures { IfOk result (λ copy. copy ≡ option_copied value.entry) }
-{
-    match value {
-        None => Ok(None),
-        Some(value) => Ok(Some(value.copy()?)),
-    }
-}
-
 impl Chosen {
     /// What it asks of replicas.
     pub fn request(&self) -> Result<Request, Memory>
@@ -53,7 +43,7 @@ impl Chosen {
             op: self.call.op,
             key: self.call.key.copy()?,
             tag: self.tag,
-            value: copied(value)?,
+            value: Value::copy_of(value)?,
         })
     }
 
@@ -62,7 +52,7 @@ impl Chosen {
         ensures { IfOk result (λ answer. answer ≡ answer_from self.now) }
     {
         match &self.call.action {
-            Action::Read => Ok(Returned::Value(copied(self.found.as_ref())?)),
+            Action::Read => Ok(Returned::Value(Value::copy_of(self.found.as_ref())?)),
             Action::Write(_) => Ok(Returned::Written),
         }
     }

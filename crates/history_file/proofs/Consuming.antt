@@ -10,17 +10,17 @@ use Rattle.history_file.specs.Formats.{Format}
 use Rattle.history_file.specs.Feeds.{Stands, Fed, FaultSoFar, FaultInAll}
 use Rattle.history_file.specs.Deliveries.{Delivers, Holds, StopsAt, StopsWith, IsUnderWay, HasFailed}
 
-Consumes-none : (a : Option (List ℕ)) → Consumes a a []
+pub Consumes-none : (a : Option (List ℕ)) → Consumes a a []
 Consumes-none None = tt
 Consumes-none (Some xs) = refl
 
-Consumes-join : (a b c : Option (List ℕ)) (xs ys : List ℕ) → Consumes a b xs → Consumes b c ys → Consumes a c (xs ++ ys)
+pub Consumes-join : (a b c : Option (List ℕ)) (xs ys : List ℕ) → Consumes a b xs → Consumes b c ys → Consumes a c (xs ++ ys)
 Consumes-join None b c xs ys h k = tt
 Consumes-join (Some x) None c xs ys h k = absurd h
 Consumes-join (Some x) (Some y) None xs ys h k = absurd k
 Consumes-join (Some x) (Some y) (Some z) xs ys h k = h ∙ ap (λ (l : List ℕ). xs ++ l) k ∙ sym (append_assoc xs ys z)
 
-Consumes-keeps : (a b c : Option (List ℕ)) (bytes : List ℕ) → Consumes a b bytes → Keeps b c → Consumes a c bytes
+pub Consumes-keeps : (a b c : Option (List ℕ)) (bytes : List ℕ) → Consumes a b bytes → Keeps b c → Consumes a c bytes
 Consumes-keeps None b c bytes h k = tt
 Consumes-keeps (Some x) None c bytes h k = absurd h
 Consumes-keeps (Some x) (Some y) None bytes h k = absurd k

@@ -37,11 +37,11 @@ Splits-room bytes lines rest s = omega (arith, ends_long lines, ap length s.whol
 pub Splits-none : (bytes : List ℕ) → HasNoEnd bytes → Splits bytes [] bytes
 Splits-none bytes h = record { whole = refl; each = All-nil HasNoEnd; partial = h }
 
-last_some : (lines : List (List ℕ)) (rest : List ℕ) → 0 < length rest → last_lines lines rest ≡ lines ++ rest ∷ []
+pub last_some : (lines : List (List ℕ)) (rest : List ℕ) → 0 < length rest → last_lines lines rest ≡ lines ++ rest ∷ []
 last_some lines [] some = absurd (omega arith)
 last_some lines (b ∷ rest) some = refl
 
-last_none : (lines : List (List ℕ)) (rest : List ℕ) → length rest ≡ 0 → last_lines lines rest ≡ lines
+pub last_none : (lines : List (List ℕ)) (rest : List ℕ) → length rest ≡ 0 → last_lines lines rest ≡ lines
 last_none lines [] none = refl
 last_none lines (b ∷ rest) none = absurd (omega arith)
 

@@ -11,7 +11,7 @@ use Rattle.tag.specs.declared.numbers.OpId.{OpId}
 use Rattle.recorder.specs.declared.order.KeyOrder.{KeyOrder}
 use Rattle.history_file.specs.OrderFormat.{key_in, order_in, order_on, IsFirstAt, AreFirsts, AreJoined}
 use Rattle.history_file.specs.Joins.{order_of, Joins}
-use Rattle.history_file.proofs.Listed.{slice_get-push_left, slice_get-push_last, push_cases, slice_get-set}
+use Rattle.recorder.proofs.Lists.{slice_get-push_left, slice_get-push_last, push_cases, slice_get-set}
 
 wide : (names : List (List ℕ)) (more name : List ℕ) (place : ℕ) → IsFirstAt names name place → IsFirstAt (names ++ more ∷ []) name place
 wide names more name place h = record {
@@ -102,12 +102,12 @@ order_on-none key (piece ∷ pieces) none = step (bytes_eq piece.key key) (not_e
     step true e h = absurd (cc)
     step false e h = h
 
-mapped_at : {X Y : Type 0} (f : X → Y) (xs : List X) (i : ℕ) (y : Y) → slice_get (map f xs) i ≡ Some y → (x : X) × (slice_get xs i ≡ Some x) × (f x ≡ y)
+pub mapped_at : {X Y : Type 0} (f : X → Y) (xs : List X) (i : ℕ) (y : Y) → slice_get (map f xs) i ≡ Some y → (x : X) × (slice_get xs i ≡ Some x) × (f x ≡ y)
 mapped_at f [] i y h = absurd (cc)
 mapped_at f (x ∷ xs) zero y h = (x, refl, cc)
 mapped_at f (x ∷ xs) (suc i) y h = mapped_at f xs i y h
 
-map_at : {X Y : Type 0} (f : X → Y) (xs : List X) (i : ℕ) (x : X) → slice_get xs i ≡ Some x → slice_get (map f xs) i ≡ Some (f x)
+pub map_at : {X Y : Type 0} (f : X → Y) (xs : List X) (i : ℕ) (x : X) → slice_get xs i ≡ Some x → slice_get (map f xs) i ≡ Some (f x)
 map_at f [] i x h = absurd (cc)
 map_at f (y ∷ xs) zero x h = cc
 map_at f (y ∷ xs) (suc i) x h = map_at f xs i x h
@@ -130,7 +130,7 @@ keys_push : (pieces : List KeyOrder) (piece : KeyOrder) → map key_in (pieces +
 keys_push pieces piece = map-append key_in pieces (piece ∷ [])
 
 -- a piece at the end of an order
-joined_extended : (pieces orders : List KeyOrder) (piece : KeyOrder) (slot : ℕ) (order : List OpId) → AreJoined pieces orders → slice_get orders slot ≡ Some (record { key = piece.key; order = order }) → AreJoined (pieces ++ piece ∷ []) (set orders slot (record { key = piece.key; order = order ++ piece.order }))
+pub joined_extended : (pieces orders : List KeyOrder) (piece : KeyOrder) (slot : ℕ) (order : List OpId) → AreJoined pieces orders → slice_get orders slot ≡ Some (record { key = piece.key; order = order }) → AreJoined (pieces ++ piece ∷ []) (set orders slot (record { key = piece.key; order = order ++ piece.order }))
 joined_extended pieces orders piece slot order h at =
     let made : KeyOrder = record { key = piece.key; order = order ++ piece.order } in
     let here : slice_get (map key_in orders) slot ≡ Some piece.key = map_at key_in orders slot (record { key = piece.key; order = order }) at in
@@ -156,7 +156,7 @@ joined_extended pieces orders piece slot order h at =
         subst P made (ap (λ (l : List OpId). l ++ piece.order) had ∙ sym (order_on-same piece.key pieces piece refl))
 
 -- the first piece of a key
-joined_begun : (pieces orders : List KeyOrder) (piece : KeyOrder) → AreJoined pieces orders → ((i : ℕ) → slice_get (map key_in orders) i ≡ Some piece.key → ⊥) → AreJoined (pieces ++ piece ∷ []) (orders ++ piece ∷ [])
+pub joined_begun : (pieces orders : List KeyOrder) (piece : KeyOrder) → AreJoined pieces orders → ((i : ℕ) → slice_get (map key_in orders) i ≡ Some piece.key → ⊥) → AreJoined (pieces ++ piece ∷ []) (orders ++ piece ∷ [])
 joined_begun pieces orders piece h none =
     let Keys : List (List ℕ) → Type 0 = λ ks. AreFirsts (map key_in (pieces ++ piece ∷ [])) ks in
     let Names : List (List ℕ) → Type 0 = λ ns. AreFirsts ns (map key_in orders ++ piece.key ∷ []) in

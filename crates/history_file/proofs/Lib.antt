@@ -1,4 +1,16 @@
 pub mod Zips
+pub mod Spelling
+pub mod Compact
+pub mod WrittenLines
+pub mod WrittenFiles
+pub mod WrittenHistories
+pub mod WrittenOrders
+pub mod Leaving
+pub mod Ranging
+pub mod SideBySide
+pub mod Converting
+pub mod Looking
+pub mod OrderPieces
 pub mod Showing
 pub mod Taking
 pub mod Feeding
@@ -8,3 +20,6 @@ pub mod Joining
 pub mod Saying
 pub mod SayingPieces
 pub mod Once
+pub mod OneOrder
+pub mod OneFault
+pub mod SharpFormats

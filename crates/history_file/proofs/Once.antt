@@ -110,7 +110,7 @@ module _ {Item : Type 0} (format : Format Item) where
       let others = items_once lines is js h.1 k.1 in
       cc
 
-  spelled_once : (lines : List (List ℕ)) (is js : List Item) → AreSpelled format lines is → AreSpelled format lines js → is ≡ js
+  pub spelled_once : (lines : List (List ℕ)) (is js : List Item) → AreSpelled format lines is → AreSpelled format lines js → is ≡ js
   spelled_once [] is js h k = h ∙ sym k
   spelled_once (header ∷ lines) is js h k = items_once lines is js h.1 k.1
 

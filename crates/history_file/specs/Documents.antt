@@ -1,9 +1,9 @@
 -- The JSON value that a line is.
-use Rattle.std.specs.Prelude.{◌≡◌, List, ℕ, Option, Some, None, Result, Ok, Err, IsUtf8, is_some, false}
+use Rattle.std.specs.Prelude.{◌≡◌, List, ℕ, Option, Some, None, Result, Ok, Err, IsUtf8, is_some, unwrap_or, false}
 use Rattle.serde_json.specs.Data.{Data, null, string}
-use Rattle.serde_json.specs.Read.{read}
+use Rattle.serde_json.specs.Read.{read, of_json}
 use Rattle.serde_json.specs.Find.{as_null, as_str}
-use Rattle.serde_json.specs.View.{view}
+use Rattle.json.specs.Value.{value_view}
 use Rattle.history_file.specs.declared.fault.LineFault.TheVariants.{NotJson}
 use Rattle.history_file.specs.declared.fault.Stop.{Stop}
 use Rattle.history_file.specs.declared.fault.Stop.TheVariants as stop
@@ -13,7 +13,7 @@ use Rattle.history_file.specs.declared.document.Member.TheVariants as member
 
 -- the value of a document
 abbrev pub data_in : Document → Data
-data_in document = view document.value
+data_in document = unwrap_or (of_json (value_view document.value)) null
 
 -- the line is one JSON text of that value
 abbrev pub IsJson : List ℕ → Data → Type 0

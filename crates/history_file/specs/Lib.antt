@@ -1,5 +1,6 @@
 pub mod Numbers
 pub mod Cuts
+pub mod Trees
 pub mod Documents
 pub mod Members
 pub mod Rows
@@ -17,3 +18,8 @@ pub mod OrderFormat
 pub mod Joins
 pub mod Fed
 pub mod Says
+pub mod Texts
+pub mod PlainTexts
+pub mod Ranges
+pub mod Sendings
+pub mod ReadAgain

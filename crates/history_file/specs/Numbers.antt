@@ -4,6 +4,8 @@ use Rattle.history_file.specs.declared.fault.LineFault.{LineFault}
 use Rattle.history_file.specs.declared.fault.LineFault.TheVariants.{NotJson, NoHeader, Version, Member, Range, CallOutOfTurn, ClientBusy, CallNotPending, WrongKind, NoteTwice, TooLong, TooManyCalls}
 use Rattle.history_file.specs.declared.fault.FaultKind.{FaultKind}
 use Rattle.history_file.specs.declared.fault.FaultKind.TheVariants.{Line, Device, Memory}
+use Rattle.history_file.specs.declared.fault.WriteFault.{WriteFault}
+use Rattle.history_file.specs.declared.fault.WriteFault.TheVariants as write
 
 -- the number of a line's fault
 abbrev pub line_fault_number : LineFault → ℕ
@@ -25,3 +27,8 @@ abbrev pub fault_number : FaultKind → ℕ
 fault_number (Line fault) = line_fault_number fault
 fault_number Device = 13
 fault_number Memory = 14
+
+-- the number of a fault of writing
+abbrev pub write_fault_number : WriteFault → ℕ
+write_fault_number write.Device = 13
+write_fault_number write.Memory = 14

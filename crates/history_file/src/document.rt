@@ -1,21 +1,25 @@
 //! The JSON value that a line is.
-ghost use Rattle.std.specs.Prelude.{◌≡◌, MatchResult, IfOk, option_map};
-ghost use Rattle.serde_json.specs.Data.{Data};
+ghost use Rattle.std.specs.Prelude.{◌≡◌, true, option_map};
+ghost use Rattle.json.specs.Find.{as_array};
+ghost use Rattle.json.specs.Value.{value_view, items_view};
 ghost use Rattle.serde_json.specs.Find.{get};
-ghost use Rattle.serde_json.specs.View.{items_view};
-ghost use Rattle.history_file.specs.Members.{Gives, needed, text_at, number_at, numbers_at, numbers_in};
-ghost use Rattle.history_file.specs.Documents.{data_in, Describes, IsRead};
+ghost use Rattle.history_file.specs.Members.{Gives, needed, text_at, number_at, numbers_at};
+ghost use Rattle.history_file.specs.Trees.{has_numbers, unsigned_of, all_unsigned};
 
 use crate::LineFault;
 use crate::fault::Stop;
-use serde_json::Value as Json;
+use crate::numerals::unsigned_in;
+use crate::tree::{has_numbers, tree_in};
+use json::{Scratch, Value as Json};
 use std::alloc::Global;
+use std::str;
 use tag::Memory;
 
-/// The JSON value of a line, as `serde_json` reads it.
+/// The JSON value of a line, as `serde_json` reads it; its texts stay where they lie.
 #[derive(Drop)]
-pub struct Document {
-    value: Json,
+pub struct Document<'a> {
+    value: Json<'a>,
+    ghost numbers: { has_numbers (value_view value) ≡ true },
 }
 
 /// A member that may be missing.
@@ -26,46 +30,54 @@ pub enum Member<'a> {
     Other,
 }
 
-impl Document {
+impl<'a> Document<'a> {
+    ghost use Rattle.history_file.specs.Documents.{data_in, Describes, IsRead};
+
     /// The value that the line is; `NotJson` exactly where it is none.
-    pub fn read(alloc: Global, line: &[u8]) -> Result<Document, Stop>
+    pub fn read(
+        alloc: Global,
+        line: &'a [u8],
+        scratch: &'a mut Scratch,
+    ) -> Result<Document<'a>, Stop>
         ensures { IsRead line.now result }
     {
-        match Json::from_slice(alloc, line) {
-            Ok(value) => Ok(Document { value }),
-            Err(error) => {
-                if error.is_memory() {
-                    Err(Stop::Memory)
-                } else {
-                    Err(Stop::Fault(LineFault::NotJson))
-                }
-            }
+        let Ok(text) = str::from_utf8(line) else {
+            return Err(Stop::Fault(LineFault::NotJson));
+        };
+        let value = tree_in(alloc, text, scratch)?;
+        if !has_numbers(&value) {
+            return Err(Stop::Fault(LineFault::NotJson));
         }
+        Ok(Document { value })
     }
 
     /// The text that is the member of that name.
     pub fn text(&self, name: &str) -> Option<&str>
         ensures { option_map (λ text. text.now) result ≡ text_at name.now (data_in self.now) }
     {
-        self.value.get(name).and_then(Json::as_str)
+        self.value.get(name)?.as_str()
     }
 
     /// The number that is the member of that name.
     pub fn number(&self, name: &str) -> Option<u64>
         ensures { result ≡ number_at name.now (data_in self.now) }
     {
-        self.value.get(name).and_then(Json::as_u64)
+        number_in(self.value.get(name)?)
     }
 
     /// The member of that name.
     pub fn member(&self, name: &str) -> Member<'_>
         ensures { Describes (get name.now (data_in self.now)) result }
     {
-        match self.value.get(name) {
-            None => Member::Missing,
-            Some(Json::Null) => Member::Null,
-            Some(Json::String(text)) => Member::Text(text.as_str()),
-            Some(_) => Member::Other,
+        let Some(value) = self.value.get(name) else {
+            return Member::Missing;
+        };
+        if value.is_null() {
+            return Member::Null;
+        }
+        match value.as_str() {
+            Some(text) => Member::Text(text),
+            None => Member::Other,
         }
     }
 
@@ -88,20 +100,41 @@ impl Document {
     pub fn needed_numbers(&self, alloc: Global, name: &str) -> Result<Vec<u64>, Stop>
         ensures { Gives (λ numbers. numbers.items) result (needed (numbers_at name.now (data_in self.now))) }
     {
-        match self.value.get(name).and_then(Json::as_array) {
-            Some(items) => numbers_in(alloc, items.as_slice()),
+        let Some(value) = self.value.get(name) else {
+            return Err(Stop::Fault(LineFault::Member));
+        };
+        match items_in(value) {
+            Some(items) => numbers_in(alloc, items),
             None => Err(Stop::Fault(LineFault::Member)),
         }
     }
 }
 
+/// The items of the array that the tree is.
+fn items_in<'v, 'a>(value: &'v Json<'a>) -> Option<&'v [Json<'a>]>
+    ensures { option_map (λ items. items_view items.now) result ≡ as_array (value_view value.now) }
+{
+    if let Json::Array(items) = value {
+        Some(items.as_slice())
+    } else {
+        None
+    }
+}
+
+/// The number that the tree is.
+fn number_in(value: &Json<'_>) -> Option<u64>
+    ensures { result ≡ unsigned_of (value_view value.now) }
+{
+    unsigned_in(value.as_number()?)
+}
+
 /// The numbers that all the items are.
-fn numbers_in(alloc: Global, items: &[Json]) -> Result<Vec<u64>, Stop>
-    ensures { Gives (λ numbers. numbers.items) result (needed (numbers_in (items_view items.now))) }
+fn numbers_in(alloc: Global, items: &[Json<'_>]) -> Result<Vec<u64>, Stop>
+    ensures { Gives (λ numbers. numbers.items) result (needed (all_unsigned (items_view items.now))) }
 {
     let mut numbers = Vec::new(alloc);
     for item in items {
-        match item.as_u64() {
+        match number_in(item) {
             Some(number) => numbers.push(number).map_err(Memory::from)?,
             None => return Err(Stop::Fault(LineFault::Member)),
         }

@@ -1,6 +1,6 @@
-//! Faults of files.
+//! Faults of files, and of writing them.
 ghost use Rattle.std.specs.Prelude.{◌≡◌};
-ghost use Rattle.history_file.specs.Numbers.{line_fault_number, fault_number};
+ghost use Rattle.history_file.specs.Numbers.{line_fault_number, fault_number, write_fault_number};
 
 use tag::Memory;
 use thiserror::Error;
@@ -70,6 +70,17 @@ pub struct FileFault {
     pub kind: FaultKind,
 }
 
+/// Why a text didn't go out whole.
+#[derive(Clone, Copy, Debug, PartialEq, Eq, Error)]
+pub enum WriteFault {
+    /// The writer failed.
+    #[error("device")]
+    Device,
+    /// A growth was refused.
+    #[error("memory")]
+    Memory,
+}
+
 /// Why the judgement of a line stopped: the line has a fault, or a growth was refused.
 #[derive(Clone, Copy, Debug, PartialEq, Eq)]
 pub enum Stop {
@@ -109,6 +120,29 @@ impl FaultKind {
             FaultKind::Device => 13,
             FaultKind::Memory => 14,
         }
+    }
+}
+
+impl WriteFault {
+    /// The fault's number, 13 or 14.
+    pub fn number(self) -> u8
+        ensures { result ≡ write_fault_number self }
+    {
+        match self {
+            WriteFault::Device => 13,
+            WriteFault::Memory => 14,
+        }
+    }
+}
+
+impl From<Memory> for WriteFault {
+    ghost use Rattle.std.specs.Prelude.{◌≡◌};
+    ghost use Rattle.history_file.specs.declared.fault.WriteFault.TheVariants.{Memory};
+
+    ghost from_gives = { λ _ e. e ≡ Memory };
+
+    fn from(_: Memory) -> WriteFault {
+        WriteFault::Memory
     }
 }
 

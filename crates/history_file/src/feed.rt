@@ -6,6 +6,7 @@ use crate::pieces::take_piece;
 use crate::progress::Progress;
 use crate::{FaultKind, FileFault, LineFault};
 use std::alloc::Global;
+use std::thread::Threads;
 
 /// What the whole lines so far made, and what came of the next line.
 #[derive(Drop)]
@@ -44,7 +45,7 @@ impl<C: Contents> Feed<C> {
     }
 
     /// Takes the next piece.
-    pub fn feed(&mut self, piece: &[u8]) -> Result<(), FileFault>
+    pub fn feed(&mut self, rt: &(impl Threads + Sync), piece: &[u8]) -> Result<(), FileFault>
         requires { self.old.fed + length piece.now ≤ 2 ^ 62 }
         ensures fed { (bytes : List ℕ) → Stands C.format C.Makes bytes self.old → Fed C.format C.Makes (bytes ++ piece.now) result self.new }
         ensures count { IfOk result (λ _. self.new.fed ≡ self.old.fed + length piece.now) }
@@ -54,7 +55,7 @@ impl<C: Contents> Feed<C> {
         if let Some(fault) = self.fault {
             return Err(fault);
         }
-        match take_piece(&mut self.progress, &mut self.rest, piece) {
+        match take_piece(rt, &mut self.progress, &mut self.rest, piece) {
             Ok(()) => {
                 self.fed += piece.len() as u64;
                 Ok(())
@@ -67,7 +68,7 @@ impl<C: Contents> Feed<C> {
     }
 
     /// Ends the file.
-    pub fn finish(self) -> Result<C, FileFault>
+    pub fn finish(self, rt: &(impl Threads + Sync)) -> Result<C, FileFault>
         ensures ends { (bytes : List ℕ) → Stands C.format C.Makes bytes self → Ends C.format C.Makes bytes result }
         ensures kept { (fault : _) → self.fault ≡ Some fault → result ≡ Err fault }
     {
@@ -81,7 +82,7 @@ impl<C: Contents> Feed<C> {
             return Err(fault);
         }
         if !rest.is_empty() {
-            progress.take(*rest.allocator(), &[rest.as_slice()])?;
+            progress.take(rt, *rest.allocator(), &[rest.as_slice()])?;
         }
         if progress.lines == 0 {
             return Err(FileFault {

@@ -1,16 +1,33 @@
 //! Formats of files.
-ghost use Rattle.std.specs.Prelude.{◌≡◌, List, [], ℕ};
+ghost use Rattle.std.specs.Prelude.{◌≡◌, List, [], ℕ, IfOk, Result};
+ghost use Rattle.std.specs.List.{AllZip};
+ghost use Rattle.std.specs.Thread.{IsSync};
+ghost use Rattle.serde_json.specs.Data.{Data};
+ghost use Rattle.history_file.specs.declared.fault.LineFault.{LineFault};
 ghost use Rattle.history_file.specs.Documents.{data_in};
 ghost use Rattle.history_file.specs.Members.{Gives};
+ghost use Rattle.history_file.specs.Lines.{ShowsItem};
 ghost use Rattle.history_file.specs.Formats.{Format, Follows, IsFine};
 
 use crate::document::Document;
 use crate::fault::Stop;
+use crate::judging::Judgement;
 use std::alloc::Global;
+use std::thread::Threads;
+use tag::Memory;
+
+/// What a line behind the header says.
+pub trait LineItem: Drop + Sized {
+    ghost meaning: { Data → Result Self LineFault };
+
+    /// The item that the value says.
+    fn item_in(alloc: Global, document: &Document<'_>) -> Result<Self, Stop>
+        ensures said { Gives (λ item. item) result (meaning (data_in document.now)) }
+        ensures fine { IsFine (meaning (data_in document.now)) };
+}
 
 /// What the lines of a file make, one after another.
 pub trait Contents: Drop {
-    /// What a line behind the header says.
     type Item: Drop;
 
     ghost format: { Format Self.Item };
@@ -28,10 +45,14 @@ pub trait Contents: Drop {
         ensures made { Makes [] result }
         ensures fits { format.Fits [] };
 
-    /// The item that the value says.
-    fn item_in(alloc: Global, document: &Document) -> Result<Self::Item, Stop>
-        ensures said { Gives (λ item. item) result (format.meaning (data_in document.now)) }
-        ensures fine { IsFine (format.meaning (data_in document.now)) };
+    /// What each line shows behind the header, in order. Lines are judged side by side.
+    fn judge_all<R: Threads + Sync>(
+        rt: &R,
+        alloc: Global,
+        lines: &[&[u8]],
+    ) -> Result<Vec<Judgement<Self::Item>>, Memory>
+        requires { IsSync R.row }
+        ensures { IfOk result (λ judgements. AllZip (λ line judgement. ShowsItem format.meaning line.now judgement) lines.now judgements.items) };
 
     /// Takes the next item, or says which fault it has behind the others.
     fn follow(&mut self, item: Self::Item) -> Result<(), Stop>

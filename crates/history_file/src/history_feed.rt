@@ -6,6 +6,7 @@ use crate::FileFault;
 use crate::feed::Feed;
 use recorder::History;
 use std::alloc::Global;
+use std::thread::Threads;
 
 /// A history file that comes in pieces of any size: the history of its lines so far.
 #[derive(Drop)]
@@ -40,22 +41,22 @@ impl HistoryFeed {
 
     /// Takes the next piece, however the file was cut. The first fault of the bytes so far is
     /// answered, and then by each later call; `Memory` comes only where a growth was refused.
-    pub fn feed(&mut self, piece: &[u8]) -> Result<(), FileFault>
+    pub fn feed(&mut self, rt: &(impl Threads + Sync), piece: &[u8]) -> Result<(), FileFault>
         requires { self.old.feed.fed + length piece.now ≤ 2 ^ 62 }
         ensures fed { (bytes : List ℕ) → StandsForRows bytes self.old → FedRows (bytes ++ piece.now) result self.new }
         ensures count { IfOk result (λ _. self.new.feed.fed ≡ self.old.feed.fed + length piece.now) }
         ensures kept { IfErr result (λ fault. self.new.feed.fault ≡ Some fault) }
         ensures stays { (fault : _) → self.old.feed.fault ≡ Some fault → (result ≡ Err fault) × (self.new ≡ self.old) }
     {
-        self.feed.feed(piece)
+        self.feed.feed(rt, piece)
     }
 
     /// The history, at the end of the file; or the first fault of the file, or the one that an
     /// earlier call answered.
-    pub fn finish(self) -> Result<History, FileFault>
+    pub fn finish(self, rt: &(impl Threads + Sync)) -> Result<History, FileFault>
         ensures ends { (bytes : List ℕ) → StandsForRows bytes self → EndsRows bytes result }
         ensures kept { (fault : _) → self.feed.fault ≡ Some fault → result ≡ Err fault }
     {
-        self.feed.finish()
+        self.feed.finish(rt)
     }
 }

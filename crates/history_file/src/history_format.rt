@@ -1,13 +1,29 @@
 //! The format of history files.
+ghost use Rattle.std.specs.Prelude.{IfOk};
+ghost use Rattle.history_file.specs.Lines.{ShowsItem};
+ghost use Rattle.history_file.specs.Rows.{row_in};
 ghost use Rattle.history_file.specs.HistoryFormat.{history_format, MakesHistory};
 
 use crate::document::Document;
 use crate::fault::Stop;
 use crate::follow::{MOST_CALLS, follow};
-use crate::format::Contents;
+use crate::format::{Contents, LineItem};
+use crate::judging::{Judgement, judge};
 use crate::rows::row_in;
+use json::Scratch;
+use rayon::prelude::*;
 use recorder::{History, Row};
 use std::alloc::Global;
+use std::thread::Threads;
+use tag::Memory;
+
+impl LineItem for Row {
+    ghost meaning = { row_in };
+
+    fn item_in(alloc: Global, document: &Document<'_>) -> Result<Row, Stop> {
+        row_in(alloc, document)
+    }
+}
 
 impl Contents for History {
     type Item = Row;
@@ -24,8 +40,26 @@ impl Contents for History {
         History::new(alloc, MOST_CALLS)
     }
 
-    fn item_in(alloc: Global, document: &Document) -> Result<Row, Stop> {
-        row_in(alloc, document)
+    fn judge_all<R: Threads + Sync>(
+        rt: &R,
+        alloc: Global,
+        lines: &[&[u8]],
+    ) -> Result<Vec<Judgement<Row>>, Memory> {
+        let judged: Result<Vec<Judgement<Row>>, Memory> = lines
+            .par_iter()
+            .map_init(
+                || Box::new(alloc, Scratch::new(alloc)).ok(),
+                |scratch: &mut Option<Box<Scratch>>, line: &&[u8]| -> Result<Judgement<Row>, Memory>
+                    ensures { IfOk result (ShowsItem row_in line.now.now) }
+                {
+                    match scratch {
+                        Some(scratch) => judge::<Row>(alloc, scratch, line),
+                        None => Err(Memory),
+                    }
+                },
+            )
+            .collect(rt, alloc)?;
+        judged
     }
 
     fn follow(&mut self, row: Row) -> Result<(), Stop> {

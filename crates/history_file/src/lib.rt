@@ -17,6 +17,7 @@ mod history_format;
 mod judging;
 pub mod laws;
 mod lines;
+mod numerals;
 mod order_feed;
 mod order_format;
 mod order_lines;
@@ -26,11 +27,18 @@ mod progress;
 mod ranges;
 mod reading;
 mod rows;
+mod sending;
 #[cfg(test)]
 mod tests;
+mod texts;
+mod tree;
+mod writing;
 
 pub use counting::Counting;
-pub use fault::{FaultKind, FileFault, LineFault};
+pub use fault::{FaultKind, FileFault, LineFault, WriteFault};
 pub use history_feed::HistoryFeed;
+pub use lines::first_end;
 pub use order_feed::OrderFeed;
 pub use reading::{read_history, read_orders};
+pub use sending::write_text;
+pub use writing::{history_text, write_history, write_orders};

@@ -11,6 +11,7 @@ use crate::orders::listed;
 use crate::{FaultKind, FileFault};
 use recorder::KeyOrder;
 use std::alloc::Global;
+use std::thread::Threads;
 
 /// An order file that comes in pieces of any size: the orders of its lines so far.
 #[derive(Drop)]
@@ -45,34 +46,37 @@ impl OrderFeed {
 
     /// Takes the next piece, however the file was cut. The first fault of the bytes so far is
     /// answered, and then by each later call; `Memory` comes only where a growth was refused.
-    pub fn feed(&mut self, piece: &[u8]) -> Result<(), FileFault>
+    pub fn feed(&mut self, rt: &(impl Threads + Sync), piece: &[u8]) -> Result<(), FileFault>
         requires { self.old.feed.fed + length piece.now ≤ 2 ^ 62 }
         ensures fed { (bytes : List ℕ) → StandsForOrders bytes self.old → FedOrders (bytes ++ piece.now) result self.new }
         ensures count { IfOk result (λ _. self.new.feed.fed ≡ self.old.feed.fed + length piece.now) }
         ensures kept { IfErr result (λ fault. self.new.feed.fault ≡ Some fault) }
         ensures stays { (fault : _) → self.old.feed.fault ≡ Some fault → (result ≡ Err fault) × (self.new ≡ self.old) }
     {
-        self.feed.feed(piece)
+        self.feed.feed(rt, piece)
     }
 
     /// The orders, at the end of the file; or the first fault of the file, or the one that an
     /// earlier call answered.
-    pub fn finish(self) -> Result<Vec<KeyOrder>, FileFault>
+    pub fn finish(self, rt: &(impl Threads + Sync)) -> Result<Vec<KeyOrder>, FileFault>
         ensures ends { (bytes : List ℕ) → StandsForOrders bytes self → MatchResult result (λ orders. Reads order_format AreJoined bytes orders.items) (λ fault. FaultInAll order_format bytes fault.line fault.kind) }
         ensures kept { (fault : _) → self.feed.fault ≡ Some fault → result ≡ Err fault }
     {
-        finish_orders(self.feed)
+        finish_orders(rt, self.feed)
     }
 }
 
 /// The orders of a feed, at the end of the file.
-pub fn finish_orders(feed: Feed<Orders>) -> Result<Vec<KeyOrder>, FileFault>
+pub fn finish_orders(
+    rt: &(impl Threads + Sync),
+    feed: Feed<Orders>,
+) -> Result<Vec<KeyOrder>, FileFault>
     ensures ends { (bytes : List ℕ) → Stands order_format MakesOrders bytes feed → MatchResult result (λ orders. Reads order_format AreJoined bytes orders.items) (λ fault. FaultInAll order_format bytes fault.line fault.kind) }
     ensures kept { (fault : _) → feed.fault ≡ Some fault → result ≡ Err fault }
 {
     let alloc = *feed.rest.allocator();
     let line = feed.line();
-    let Orders { orders, .. } = feed.finish()?;
+    let Orders { orders, .. } = feed.finish(rt)?;
     match listed(alloc, orders) {
         Ok(orders) => Ok(orders),
         Err(_) => Err(FileFault {

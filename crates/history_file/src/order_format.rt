@@ -1,18 +1,24 @@
 //! The format of order files.
-ghost use Rattle.std.specs.Prelude.{◌≡◌, ◌≤◌, ◌++◌, OnOk};
+ghost use Rattle.std.specs.Prelude.{◌≡◌, ◌≤◌, ◌++◌, OnOk, IfOk};
+ghost use Rattle.history_file.specs.Lines.{ShowsItem};
+ghost use Rattle.history_file.specs.OrderLines.{piece_in};
 ghost use Rattle.history_file.specs.OrderFormat.{order_format};
 
 use crate::LineFault;
 use crate::document::Document;
 use crate::fault::Stop;
 use crate::follow::MOST_CALLS;
-use crate::format::Contents;
+use crate::format::{Contents, LineItem};
+use crate::judging::{Judgement, judge};
 use crate::order_lines::piece_in;
 use crate::orders::join;
 use indexmap::IndexMap;
+use json::Scratch;
+use rayon::prelude::*;
 use recorder::{KeyOrder, Order};
 use std::alloc::Global;
-use tag::Key;
+use std::thread::Threads;
+use tag::{Key, Memory};
 
 /// The orders that the pieces so far make, and how many calls they have together.
 #[derive(Drop)]
@@ -20,6 +26,14 @@ pub struct Orders {
     pub orders: IndexMap<Key, Order>,
     pub calls: usize,
     ghost few: { calls ≤ 1000000 },
+}
+
+impl LineItem for KeyOrder {
+    ghost meaning = { piece_in };
+
+    fn item_in(alloc: Global, document: &Document<'_>) -> Result<KeyOrder, Stop> {
+        piece_in(alloc, document)
+    }
 }
 
 impl Contents for Orders {
@@ -42,8 +56,29 @@ impl Contents for Orders {
         }
     }
 
-    fn item_in(alloc: Global, document: &Document) -> Result<KeyOrder, Stop> {
-        piece_in(alloc, document)
+    fn judge_all<R: Threads + Sync>(
+        rt: &R,
+        alloc: Global,
+        lines: &[&[u8]],
+    ) -> Result<Vec<Judgement<KeyOrder>>, Memory> {
+        let judged: Result<Vec<Judgement<KeyOrder>>, Memory> = lines
+            .par_iter()
+            .map_init(
+                || Box::new(alloc, Scratch::new(alloc)).ok(),
+                |scratch: &mut Option<Box<Scratch>>, line: &&[u8]| -> Result<
+                    Judgement<KeyOrder>,
+                    Memory,
+                >
+                    ensures { IfOk result (ShowsItem piece_in line.now.now) }
+                {
+                    match scratch {
+                        Some(scratch) => judge::<KeyOrder>(alloc, scratch, line),
+                        None => Err(Memory),
+                    }
+                },
+            )
+            .collect(rt, alloc)?;
+        judged
     }
 
     fn follow(&mut self, piece: KeyOrder) -> Result<(), Stop> {

@@ -9,6 +9,7 @@ use crate::lines::{cut_lines, first_end};
 use crate::progress::Progress;
 use crate::{FaultKind, FileFault, LineFault};
 use std::alloc::Global;
+use std::thread::Threads;
 
 /// Want of memory at that line.
 fn memory_at(line: u64) -> FileFault
@@ -36,6 +37,7 @@ fn check_length(lines: u64, rest: &[u8]) -> Result<(), FileFault>
 
 /// Takes the whole lines of the bytes, and gives the rest.
 fn pass<C: Contents>(
+    rt: &(impl Threads + Sync),
     alloc: Global,
     progress: &mut Progress<C>,
     bytes: &[u8],
@@ -47,7 +49,7 @@ fn pass<C: Contents>(
     let Ok(found) = cut_lines(alloc, bytes) else {
         return Err(memory_at(progress.lines + 1));
     };
-    progress.take(alloc, found.lines.as_slice())?;
+    progress.take(rt, alloc, found.lines.as_slice())?;
     check_length(progress.lines, found.rest)?;
     match Vec::from_slice(alloc, found.rest) {
         Ok(rest) => Ok(rest),
@@ -57,6 +59,7 @@ fn pass<C: Contents>(
 
 /// Takes the whole lines of the rest and the piece behind it; the rest is then what is left.
 pub fn take_piece<C: Contents>(
+    rt: &(impl Threads + Sync),
     progress: &mut Progress<C>,
     rest: &mut Vec<u8>,
     piece: &[u8],
@@ -73,6 +76,6 @@ pub fn take_piece<C: Contents>(
         return check_length(progress.lines, rest.as_slice());
     }
     let alloc = *rest.allocator();
-    *rest = pass(alloc, progress, rest.as_slice())?;
+    *rest = pass(rt, alloc, progress, rest.as_slice())?;
     Ok(())
 }

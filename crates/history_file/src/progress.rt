@@ -4,9 +4,10 @@ ghost use Rattle.history_file.specs.Files.{IsAt, Takes, TakesJudged, kind_of};
 
 use crate::fault::Stop;
 use crate::format::Contents;
-use crate::judging::{Judgement, judge_all, judge_header};
+use crate::judging::{Judgement, judge_header};
 use crate::{FaultKind, FileFault};
 use std::alloc::Global;
+use std::thread::Threads;
 
 /// What the lines so far made, and how many they were, the header among them.
 #[derive(Drop)]
@@ -63,12 +64,17 @@ impl<C: Contents> Progress<C> {
     }
 
     /// Takes later lines.
-    fn take_rest(&mut self, alloc: Global, lines: &[&[u8]]) -> Result<(), FileFault>
+    fn take_rest(
+        &mut self,
+        rt: &(impl Threads + Sync),
+        alloc: Global,
+        lines: &[&[u8]],
+    ) -> Result<(), FileFault>
         requires { self.old.lines + length lines.now < 2 ^ 63 }
         ensures taken { (before : List (List ℕ)) → IsAt C.format C.Makes before self.old → 0 < length before → Takes C.format C.Makes before (map (λ line. line.now) lines.now) result self.new }
         ensures lines { OnOk result (self.new.lines ≡ self.old.lines + length lines.now) }
     {
-        let judgements = match judge_all::<C>(alloc, lines) {
+        let judgements = match C::judge_all(rt, alloc, lines) {
             Ok(judgements) => judgements,
             Err(_) => return Err(fault_at(self.lines + 1, Stop::Memory)),
         };
@@ -79,7 +85,12 @@ impl<C: Contents> Progress<C> {
     }
 
     /// Takes lines.
-    pub fn take(&mut self, alloc: Global, lines: &[&[u8]]) -> Result<(), FileFault>
+    pub fn take(
+        &mut self,
+        rt: &(impl Threads + Sync),
+        alloc: Global,
+        lines: &[&[u8]],
+    ) -> Result<(), FileFault>
         requires { self.old.lines + length lines.now < 2 ^ 63 }
         ensures taken { (before : List (List ℕ)) → IsAt C.format C.Makes before self.old → Takes C.format C.Makes before (map (λ line. line.now) lines.now) result self.new }
         ensures lines { OnOk result (self.new.lines ≡ self.old.lines + length lines.now) }
@@ -88,9 +99,9 @@ impl<C: Contents> Progress<C> {
             return Ok(());
         }
         if self.lines > 0 {
-            return self.take_rest(alloc, lines);
+            return self.take_rest(rt, alloc, lines);
         }
         self.take_header(alloc, lines[0])?;
-        self.take_rest(alloc, &lines[1..])
+        self.take_rest(rt, alloc, &lines[1..])
     }
 }

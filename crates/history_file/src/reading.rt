@@ -13,6 +13,7 @@ use crate::{Counting, FaultKind, FileFault};
 use recorder::{History, KeyOrder};
 use std::alloc::{AllocError, Global};
 use std::io::Read;
+use std::thread::Threads;
 
 /// The most bytes of a piece.
 const PIECE: usize = 1_048_576;
@@ -26,6 +27,7 @@ fn room_for(alloc: Global, size: usize) -> Result<Vec<u8>, AllocError>
 
 /// Feeds the next bytes of the reader, and says whether there were some.
 fn feed_next<C: Contents, R: Read>(
+    rt: &(impl Threads + Sync),
     feed: &mut Feed<C>,
     reader: &mut Counting<R>,
     room: &mut [u8],
@@ -40,7 +42,7 @@ fn feed_next<C: Contents, R: Read>(
 {
     match reader.read(room) {
         Ok(count) => {
-            feed.feed(&room[..count])?;
+            feed.feed(rt, &room[..count])?;
             Ok(count > 0)
         }
         Err(_) => Err(FileFault {
@@ -52,6 +54,7 @@ fn feed_next<C: Contents, R: Read>(
 
 /// Feeds the bytes of the reader, to its end, in pieces of that room.
 fn feed_in_pieces<C: Contents, R: Read>(
+    rt: &(impl Threads + Sync),
     alloc: Global,
     reader: &mut Counting<R>,
     room: &mut [u8],
@@ -61,12 +64,13 @@ fn feed_in_pieces<C: Contents, R: Read>(
     ensures fault { IfErr result (λ fault. Delivers (R.remaining reader.old.inner) (R.remaining reader.new.inner) (StopsAt C.format (R.remaining reader.new.inner) fault) × HasFailed fault.kind reader.old.failures reader.new.failures) }
 {
     let mut feed = Feed::<C>::new(alloc);
-    'pieces: while feed_next(&mut feed, reader, room)? {}
+    'pieces: while feed_next(rt, &mut feed, reader, room)? {}
     Ok(feed)
 }
 
 /// Feeds the bytes of the reader, to its end.
 fn feed_all<C: Contents, R: Read>(
+    rt: &(impl Threads + Sync),
     alloc: Global,
     reader: &mut Counting<R>,
 ) -> Result<Feed<C>, FileFault>
@@ -80,7 +84,7 @@ fn feed_all<C: Contents, R: Read>(
             kind: FaultKind::Memory,
         });
     };
-    feed_in_pieces(alloc, reader, room.as_mut_slice())
+    feed_in_pieces(rt, alloc, reader, room.as_mut_slice())
 }
 
 /// The history that the reader's bytes are, all of them up to its end.
@@ -88,13 +92,17 @@ fn feed_all<C: Contents, R: Read>(
 /// A file with a fault is refused with its first one: of lines that came whole the first that has
 /// a fault, then `Device` at the line under way where the reader failed. `Memory` comes only where
 /// a growth was refused. The reader keeps what follows the bytes that were read.
-pub fn read_history<R: Read>(alloc: Global, reader: &mut Counting<R>) -> Result<History, FileFault>
+pub fn read_history<R: Read>(
+    rt: &(impl Threads + Sync),
+    alloc: Global,
+    reader: &mut Counting<R>,
+) -> Result<History, FileFault>
     ensures read { IfOk result (λ history. Delivers (R.remaining reader.old.inner) (R.remaining reader.new.inner) (ReadsAll history_format MakesHistory (R.remaining reader.new.inner) history)) }
     ensures fault { IfErr result (λ fault. Delivers (R.remaining reader.old.inner) (R.remaining reader.new.inner) (StopsAt history_format (R.remaining reader.new.inner) fault)) }
     ensures device { IfErr result (λ fault. HasFailed fault.kind reader.old.failures reader.new.failures) }
 {
-    let feed = feed_all::<History, R>(alloc, reader)?;
-    feed.finish()
+    let feed = feed_all::<History, R>(rt, alloc, reader)?;
+    feed.finish(rt)
 }
 
 /// The orders that the reader's bytes are, all of them up to its end: the keys in the order of
@@ -102,6 +110,7 @@ pub fn read_history<R: Read>(alloc: Global, reader: &mut Counting<R>) -> Result<
 ///
 /// A file with a fault is refused as by `read_history`.
 pub fn read_orders<R: Read>(
+    rt: &(impl Threads + Sync),
     alloc: Global,
     reader: &mut Counting<R>,
 ) -> Result<Vec<KeyOrder>, FileFault>
@@ -109,6 +118,6 @@ pub fn read_orders<R: Read>(
     ensures fault { IfErr result (λ fault. Delivers (R.remaining reader.old.inner) (R.remaining reader.new.inner) (StopsAt order_format (R.remaining reader.new.inner) fault)) }
     ensures device { IfErr result (λ fault. HasFailed fault.kind reader.old.failures reader.new.failures) }
 {
-    let feed = feed_all::<Orders, R>(alloc, reader)?;
-    finish_orders(feed)
+    let feed = feed_all::<Orders, R>(rt, alloc, reader)?;
+    finish_orders(rt, feed)
 }

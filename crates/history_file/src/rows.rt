@@ -29,7 +29,7 @@ fn begun(alloc: Global, call: u64, client: u64, key: &str, action: Action) -> Re
 }
 
 #[tactic(auto, unfolding(crate::specs::Rows::written_in))]
-fn written_in(alloc: Global, document: &Document) -> Result<Action, Stop>
+fn written_in(alloc: Global, document: &Document<'_>) -> Result<Action, Stop>
     ensures { Gives (λ action. action) result (written_in (data_in document.now)) }
 {
     let text = document.needed_text("value")?;
@@ -38,7 +38,7 @@ fn written_in(alloc: Global, document: &Document) -> Result<Action, Stop>
 }
 
 #[tactic(auto, unfolding(crate::specs::Rows::action_of))]
-fn action_of(alloc: Global, action: &str, document: &Document) -> Result<Action, Stop>
+fn action_of(alloc: Global, action: &str, document: &Document<'_>) -> Result<Action, Stop>
     ensures { Gives (λ action. action) result (action_of action.now (data_in document.now)) }
 {
     if action == "read" {
@@ -51,7 +51,7 @@ fn action_of(alloc: Global, action: &str, document: &Document) -> Result<Action,
 }
 
 #[tactic(auto, unfolding(crate::specs::Rows::invoke_in))]
-fn invoke_in(alloc: Global, document: &Document) -> Result<Row, Stop>
+fn invoke_in(alloc: Global, document: &Document<'_>) -> Result<Row, Stop>
     ensures { Gives (λ row. row) result (invoke_in (data_in document.now)) }
 {
     let call = document.needed_number("call")?;
@@ -63,7 +63,7 @@ fn invoke_in(alloc: Global, document: &Document) -> Result<Row, Stop>
 }
 
 #[tactic(auto, unfolding(crate::specs::Rows::note_in))]
-fn note_in(document: &Document) -> Result<Row, Stop>
+fn note_in(document: &Document<'_>) -> Result<Row, Stop>
     ensures { Gives (λ row. row) result (note_in (data_in document.now)) }
 {
     let call = document.needed_number("call")?;
@@ -83,7 +83,7 @@ fn answer_of(alloc: Global, text: &str) -> Result<Returned, Stop>
 }
 
 #[tactic(auto, unfolding(crate::specs::Rows::returned_of, crate::specs::Rows::answer_of))]
-fn returned_in(alloc: Global, document: &Document) -> Result<Returned, Stop>
+fn returned_in(alloc: Global, document: &Document<'_>) -> Result<Returned, Stop>
     ensures { Gives (λ returned. returned) result (returned_of (get (codes "value") (data_in document.now))) }
 {
     match document.member("value") {
@@ -95,7 +95,7 @@ fn returned_in(alloc: Global, document: &Document) -> Result<Returned, Stop>
 }
 
 #[tactic(auto, unfolding(crate::specs::Rows::respond_in))]
-fn respond_in(alloc: Global, document: &Document) -> Result<Row, Stop>
+fn respond_in(alloc: Global, document: &Document<'_>) -> Result<Row, Stop>
     ensures { Gives (λ row. row) result (respond_in (data_in document.now)) }
 {
     let call = document.needed_number("call")?;
@@ -105,7 +105,7 @@ fn respond_in(alloc: Global, document: &Document) -> Result<Row, Stop>
 }
 
 #[tactic(auto, unfolding(crate::specs::Rows::row_of))]
-fn row_of(alloc: Global, kind: &str, document: &Document) -> Result<Row, Stop>
+fn row_of(alloc: Global, kind: &str, document: &Document<'_>) -> Result<Row, Stop>
     ensures { Gives (λ row. row) result (row_of kind.now (data_in document.now)) }
 {
     if kind == "invoke" {
@@ -121,7 +121,7 @@ fn row_of(alloc: Global, kind: &str, document: &Document) -> Result<Row, Stop>
 
 /// The row that the value says.
 #[tactic(auto, unfolding(crate::specs::Rows::row_in))]
-pub fn row_in(alloc: Global, document: &Document) -> Result<Row, Stop>
+pub fn row_in(alloc: Global, document: &Document<'_>) -> Result<Row, Stop>
     ensures { Gives (λ row. row) result (row_in (data_in document.now)) }
 {
     let kind = document.needed_text("row")?;

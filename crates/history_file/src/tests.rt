@@ -3,6 +3,7 @@
 mod feeds;
 mod histories;
 mod orders;
+mod writing;
 
 use crate::{Counting, FaultKind, FileFault, LineFault, read_history, read_orders};
 use recorder::{History, KeyOrder};
@@ -11,6 +12,7 @@ use std::io;
 use std::io::{ErrorKind, Read, Write};
 use std::process::Abort;
 use std::test::Fail;
+use std::thread::Threads;
 
 /// A write and a read of it: lines of 29, 71, 45, 26, 58, 45 and 38 bytes, and their ends.
 const WRITE_THEN_READ: &str = r#"{"abd":"history","version":1}
@@ -50,12 +52,20 @@ fn whole(bytes: &[u8]) -> Counting<Pieces<'_>> {
     })
 }
 
-fn history_in(alloc: Global, bytes: &[u8]) -> Result<History, FileFault> {
-    read_history(alloc, &mut whole(bytes))
+fn history_in(
+    rt: &(impl Threads + Sync),
+    alloc: Global,
+    bytes: &[u8],
+) -> Result<History, FileFault> {
+    read_history(rt, alloc, &mut whole(bytes))
 }
 
-fn orders_in(alloc: Global, bytes: &[u8]) -> Result<Vec<KeyOrder>, FileFault> {
-    read_orders(alloc, &mut whole(bytes))
+fn orders_in(
+    rt: &(impl Threads + Sync),
+    alloc: Global,
+    bytes: &[u8],
+) -> Result<Vec<KeyOrder>, FileFault> {
+    read_orders(rt, alloc, &mut whole(bytes))
 }
 
 /// The fault's number and line, or no numbers where the file was read.

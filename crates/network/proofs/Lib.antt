@@ -1,3 +1,3 @@
 mod Bags
-mod Unsending
+pub mod Unsending
 mod Writing

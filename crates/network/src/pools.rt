@@ -1,5 +1,5 @@
 //! The pool: the network of all clients and replicas.
-ghost use Rattle.std.specs.Prelude.{◌≡◌, ◌<◌, ◌≤◌, ◌-◌, ◌↔◌, ◌⊎◌, None, Err, IfOk, IfErr, IsOk, OnOk, OnErr, IsSome, IfSome, Some, OnSome, IfNone};
+ghost use Rattle.std.specs.Prelude.{◌≡◌, ◌<◌, ◌≤◌, ◌-◌, ◌↔◌, ◌⊎◌, None, Err, IfOk, IfErr, IsOk, OnOk, OnErr, IsSome, IfSome, Some, OnSome, IfNone, IsTrue};
 ghost use Rattle.std.specs.Option.{option_copied};
 ghost use Rattle.std.specs.FinMap as finite;
 ghost use Rattle.network.specs.Flights.{copies_of, message_of};
@@ -56,6 +56,20 @@ impl Pool {
         ensures bag { IsBag self.now }
     {
         self.sent
+    }
+
+    /// How many messages may ever be sent.
+    pub fn limit(&self) -> u32
+        ensures { result ≡ self.now.limit }
+    {
+        self.limit
+    }
+
+    /// Whether as many messages were sent as may ever be.
+    pub fn is_full(&self) -> bool
+        ensures { IsTrue result ↔ (self.now.limit ≤ self.now.sent) }
+    {
+        self.limit <= self.sent
     }
 
     /// How many flights have a copy.

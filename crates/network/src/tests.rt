@@ -41,7 +41,7 @@ fn a_message_just_sent_is_delivered(rt: HostRuntime) -> Result<(), Fail> {
     assert_eq!(rt; (pool.sent(), pool.stored()), (2, 1));
     assert_eq!(rt; pool.send(kept(6)?)?, 2);
     assert_eq!(rt; pool.send(kept(7)?), Err(NetRefusal::FlightsFull));
-    assert_eq!(rt; (pool.sent(), pool.stored()), (3, 2));
+    assert_eq!(rt; (pool.sent(), pool.limit(), pool.stored()), (3, 3, 2));
     Ok(())
 }
 

@@ -120,6 +120,7 @@ impl Quorums {
     /// How many replicas there are.
     pub fn replicas(&self) -> u8
         ensures count { result ≡ length self.now.votes }
+        ensures lawful { IsLawful self.now }
         ensures least { 1 ≤ result }
         ensures most { result ≤ 15 }
     {

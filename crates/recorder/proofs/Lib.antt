@@ -1,4 +1,4 @@
-mod Lists
+pub mod Lists
 mod Numbers
 mod OneMore
 mod States
@@ -11,3 +11,4 @@ mod PartBelow
 mod PartsBelow
 mod Sorted
 mod OneList
+pub mod Callers

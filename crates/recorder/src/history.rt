@@ -1,7 +1,7 @@
 //! Histories: rows of calls as they come.
 ghost use Rattle.std.specs.Prelude.{◌≡◌, ◌≤◌, [], IfOk, IfSome, IfNone, IsSome, Some, None, slice_get, true, false, IsTrue, ◌↔◌};
 ghost use Rattle.recorder.specs.declared.history.CallState.{CallState};
-ghost use Rattle.recorder.specs.Histories.{IsBusy, IsWellFormed, call_count};
+ghost use Rattle.recorder.specs.Histories.{IsBusy, IsWellFormed, call_count, caller_of};
 ghost use Rattle.recorder.specs.Answers.{Adds};
 ghost use Rattle.recorder.specs.States.{is_write};
 
@@ -16,7 +16,7 @@ use tag::{Action, ClientId, Key, Memory, OpId, Returned, Tag};
 /// What a history knows of a call without a look at its rows.
 #[derive(Clone, Copy, Debug)]
 struct CallState {
-    client: u32,
+    client: ClientId,
     is_write: bool,
     note: Option<Tag>,
     /// The place of its response's row.
@@ -109,6 +109,16 @@ impl History {
         self.busy.contains(&client.get())
     }
 
+    /// The client that began the call, if it was begun.
+    pub fn caller(&self, op: OpId) -> Option<ClientId>
+        ensures { result ≡ caller_of self.now.rows op }
+    {
+        match self.states.get(op.0 as usize) {
+            Some(state) => Some(state.client),
+            None => None,
+        }
+    }
+
     /// Begins a call, and answers its number. `OpsFull` comes where the history has all the calls
     /// that it may have, else `ClientBusy` where the client has a pending call, else `Memory` only
     /// where a growth was refused; each leaves the history as it was.
@@ -130,7 +140,7 @@ impl History {
         self.states.reserve(1)?;
         self.busy.insert(client.get())?;
         self.states.push(CallState {
-            client: client.get(),
+            client,
             is_write,
             note: None,
             response: None,
@@ -176,7 +186,7 @@ impl History {
         let place = self.rows.len();
         self.rows.push(Row::Respond { op, returned })?;
         self.states[op.0 as usize].response = Some(place);
-        self.busy.remove(&state.client);
+        self.busy.remove(&state.client.get());
         Ok(())
     }
 }

@@ -1,6 +1,5 @@
 //! What a replica keeps for a key.
-ghost use Rattle.std.specs.Prelude.{◌≡◌, IfOk, IsOk, None};
-ghost use Rattle.std.specs.Option.{option_copied};
+ghost use Rattle.std.specs.Prelude.{◌≡◌, IfOk};
 
 use tag::{Memory, Tag, Value};
 
@@ -18,18 +17,7 @@ impl Pair {
     {
         Ok(Pair {
             tag: self.tag,
-            value: copied(self.value.as_ref())?,
+            value: Value::copy_of(self.value.as_ref())?,
         })
-    }
-}
-
-/// An equal value, or absent.
-pub(crate) fn copied(value: Option<&Value>) -> Result<Option<Value>, Memory>
-    ensures copy { IfOk result (λ copy. copy ≡ option_copied value.entry) }
-    ensures spare { option_copied value.entry ≡ None → IsOk result }
-{
-    match value {
-        None => Ok(None),
-        Some(value) => Ok(Some(value.copy()?)),
     }
 }

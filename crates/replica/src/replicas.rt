@@ -7,7 +7,6 @@ ghost use Rattle.tag.specs.Tags.{tag_cmp};
 ghost use Rattle.replica.specs.Pairs.{pair_of, adopt};
 ghost use Rattle.replica.specs.Replicas.{TakesNoMemory, replica_after, reply_of};
 
-use crate::pairs::copied;
 use crate::{Pair, Reply, Request};
 use std::alloc::Global;
 use std::collections::BTreeMap;
@@ -84,7 +83,7 @@ impl Replica {
                     op: *op,
                     replica: self.number,
                     tag,
-                    value: copied(value)?,
+                    value: Value::copy_of(value)?,
                 })
             }
             Request::Put {
@@ -112,7 +111,7 @@ impl Replica {
         }
         let pair = Pair {
             tag,
-            value: copied(value)?,
+            value: Value::copy_of(value)?,
         };
         self.pairs.insert(key.copy()?, pair)?;
         Ok(())

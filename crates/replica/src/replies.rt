@@ -1,7 +1,6 @@
 //! What a replica answers.
 ghost use Rattle.std.specs.Prelude.{◌≡◌, IfOk};
 
-use crate::pairs::copied;
 use tag::{Memory, OpId, ReplicaId, Tag, Value};
 
 /// What a replica answers to a request of a call.
@@ -36,7 +35,7 @@ impl Reply {
                 op: *op,
                 replica: *replica,
                 tag: *tag,
-                value: copied(value.as_ref())?,
+                value: Value::copy_of(value.as_ref())?,
             }),
             Reply::Kept { op, replica } => Ok(Reply::Kept {
                 op: *op,

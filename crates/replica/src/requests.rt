@@ -1,7 +1,6 @@
 //! What a client asks of a replica.
 ghost use Rattle.std.specs.Prelude.{◌≡◌, IfOk};
 
-use crate::pairs::copied;
 use tag::{Key, Memory, OpId, Tag, Value};
 
 /// What a client asks of a replica, in the name of a call.
@@ -40,7 +39,7 @@ impl Request {
                 op: *op,
                 key: key.copy()?,
                 tag: *tag,
-                value: copied(value.as_ref())?,
+                value: Value::copy_of(value.as_ref())?,
             }),
         }
     }

@@ -2,6 +2,7 @@
 //! growth that was refused leaves the replica as it was.
 use crate::{Pair, Replica, Reply, Request};
 use std::alloc::Global;
+use std::process::Abort;
 use std::test::Fail;
 use tag::{Key, OpId, ReplicaId, Tag, Value};
 
@@ -19,6 +20,13 @@ fn put_of(alloc: Global, name: &str, tag: Tag, text: &str) -> Result<Request, Fa
         key: key_of(alloc, name)?,
         tag,
         value: Some(Value::new(alloc, text)?),
+    })
+}
+
+fn query_of(alloc: Global, name: &str) -> Result<Request, Fail> {
+    Ok(Request::Query {
+        op: OpId(7),
+        key: key_of(alloc, name)?,
     })
 }
 
@@ -58,10 +66,7 @@ fn a_pair_is_adopted_where_its_tag_is_greater(rt: HostRuntime) -> Result<(), Fai
 #[test]
 fn a_query_is_answered_with_the_pair(rt: HostRuntime) -> Result<(), Fail> {
     let mut replica = replica_of(rt.alloc(), 14)?;
-    let query = Request::Query {
-        op: OpId(7),
-        key: key_of(rt.alloc(), "k.1")?,
-    };
+    let query = query_of(rt.alloc(), "k.1")?;
     let absent = Reply::Held {
         op: OpId(7),
         replica: replica.number(),
@@ -81,29 +86,46 @@ fn a_query_is_answered_with_the_pair(rt: HostRuntime) -> Result<(), Fail> {
     Ok(())
 }
 
+/// The answer. Where a growth is refused the replica is as it was, and answers when asked again.
+fn handled(
+    rt: &impl Abort,
+    alloc: Global,
+    replica: &mut Replica,
+    request: &Request,
+) -> Result<Reply, Fail> {
+    let before = format!(in alloc; "{replica:?}")?;
+    match replica.handle(request) {
+        Ok(reply) => Ok(reply),
+        Err(_) => {
+            assert_eq!(rt; format!(in alloc; "{replica:?}")?, before);
+            Ok(replica.handle(request)?)
+        }
+    }
+}
+
 /// With each allocation refused in turn (`rt try --test --fail-alloc N`) one of these is refused.
 #[test]
 fn a_refused_growth_changes_nothing(rt: HostRuntime) -> Result<(), Fail> {
     let mut replica = replica_of(rt.alloc(), 0)?;
     for (name, number) in [("a", 1), ("b", 1), ("a", 2), ("c", 1), ("b", 2)] {
         let put = put_of(rt.alloc(), name, tag_of(number, 1)?, name)?;
-        let key = key_of(rt.alloc(), name)?;
-        let before = replica.held(&key).0;
-        if replica.handle(&put).is_err() {
-            assert_eq!(rt; replica.held(&key).0, before);
-            let _ = replica.handle(&put)?;
-        }
-        assert_eq!(rt; replica.held(&key).0, tag_of(number, 1)?);
+        let kept = handled(&rt, rt.alloc(), &mut replica, &put)?;
+        assert!(rt; matches!(kept, Reply::Kept { .. }));
+        let query = query_of(rt.alloc(), name)?;
+        let held = Reply::Held {
+            op: OpId(7),
+            replica: replica.number(),
+            tag: tag_of(number, 1)?,
+            value: Some(Value::new(rt.alloc(), name)?),
+        };
+        assert_eq!(rt; handled(&rt, rt.alloc(), &mut replica, &query)?, held);
     }
     Ok(())
 }
 
 #[test]
 fn copies_are_equal(rt: HostRuntime) -> Result<(), Fail> {
-    let query = Request::Query {
-        op: OpId(1),
-        key: key_of(rt.alloc(), "x")?,
-    };
+    let query = query_of(rt.alloc(), "x")?;
     for request in [query, put_of(rt.alloc(), "x", tag_of(1, 1)?, "a")?] {
         assert_eq!(rt; request.copy()?, request);
     }

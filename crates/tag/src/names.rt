@@ -1,5 +1,5 @@
 //! Keys and values: texts of limited length.
-ghost use Rattle.std.specs.Prelude.{◌≡◌, true, false, Some, IfOk, bytes_eq, ◌↔◌, IfErr, ◌⊎◌, refl};
+ghost use Rattle.std.specs.Prelude.{◌≡◌, true, false, None, Some, IfOk, IsOk, bytes_eq, ◌↔◌, IfErr, ◌⊎◌, refl};
 ghost use Rattle.std.proofs.Common.{rules};
 ghost use Rattle.std.specs.Hash as fed;
 ghost use Rattle.std.specs.Ordering.{nat_cmp};
@@ -7,6 +7,7 @@ ghost use Rattle.std.specs.Cmp.{partial_equiv_from_equiv};
 ghost use Rattle.std.specs.Cmp.Lexicographic.{slice_cmp, nat_list_eq_equiv, nat_list_cmp_total, texts_ties, texts_po};
 ghost use Rattle.std.specs.Cmp.Rules.{hashing};
 ghost use Rattle.std.specs.List.{list_all};
+ghost use Rattle.std.specs.Option.{option_copied};
 ghost use Rattle.tag.specs.Names.{is_key_byte, is_key, is_value};
 
 use crate::Memory;
@@ -92,7 +93,8 @@ impl Key {
 
     /// The text.
     pub fn as_str(&self) -> &str
-        ensures { result.now ≡ self.now }
+        ensures text { result.now ≡ self.now }
+        ensures lawful { is_key self.now ≡ true }
     {
         self.name.as_str()
     }
@@ -194,7 +196,8 @@ impl Value {
 
     /// The text.
     pub fn as_str(&self) -> &str
-        ensures { result.now ≡ self.now }
+        ensures text { result.now ≡ self.now }
+        ensures lawful { is_value self.now ≡ true }
     {
         self.text.as_str()
     }
@@ -206,6 +209,17 @@ impl Value {
         Ok(Value {
             text: self.text.clone()?,
         })
+    }
+
+    /// An equal value, or absent where there is none to copy.
+    pub fn copy_of(value: Option<&Value>) -> Result<Option<Value>, Memory>
+        ensures copy { IfOk result (λ copy. copy ≡ option_copied value.entry) }
+        ensures spare { option_copied value.entry ≡ None → IsOk result }
+    {
+        match value {
+            None => Ok(None),
+            Some(value) => Ok(Some(value.copy()?)),
+        }
     }
 }
 

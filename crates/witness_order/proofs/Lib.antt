@@ -1,11 +1,11 @@
 mod Lists
 mod Tags
 mod Parts
-mod Unnoted
+pub mod Unnoted
 mod CallKeys
 mod KeyOrder
 mod ByKeys
 mod SortedLists
 mod Insertion
 mod OneList
-mod SoundOrder
+pub mod SoundOrder

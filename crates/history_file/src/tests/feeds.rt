@@ -4,7 +4,7 @@ use crate::{HistoryFeed, OrderFeed};
 
 /// Feeds the bytes in pieces of that size.
 fn feed_all(
-    rt: &impl Abort,
+    rt: &(impl Abort + Threads + Sync),
     alloc: Global,
     bytes: &[u8],
     size: usize,
@@ -13,14 +13,14 @@ fn feed_all(
     assert!(rt; size > 0);
     for piece in bytes.chunks(size) {
         assert!(rt; feed.fed() < 1_000_000_000 && piece.len() < 1_000_000_000);
-        feed.feed(piece)?;
+        feed.feed(rt, piece)?;
     }
-    feed.finish()
+    feed.finish(rt)
 }
 
 #[test]
 fn pieces_of_any_size_are_one_file(rt: HostRuntime) -> Result<(), Fail> {
-    let whole = history_in(rt.alloc(), WRITE_THEN_READ.as_bytes())?;
+    let whole = history_in(&rt, rt.alloc(), WRITE_THEN_READ.as_bytes())?;
     for size in [1, 7, 29, 30, 319, 4_096] {
         let history = feed_all(&rt, rt.alloc(), WRITE_THEN_READ.as_bytes(), size)?;
         assert_eq!(rt; history.rows(), whole.rows(), "pieces of {size}");
@@ -63,18 +63,18 @@ fn the_first_fault_is_named(rt: HostRuntime) -> Result<(), Fail> {
 fn a_fault_stays(rt: HostRuntime) -> Result<(), Fail> {
     let mut feed = HistoryFeed::new(rt.alloc());
     assert_eq!(rt; feed.line(), 1);
-    feed.feed(b"{\"abd\":\"history\",\"version\":1}\n")?;
+    feed.feed(&rt, b"{\"abd\":\"history\",\"version\":1}\n")?;
     assert_eq!(rt; (feed.fed(), feed.line()), (30, 2));
     assert!(rt; feed.fed() < 1_000_000);
     let fault = FileFault {
         line: 2,
         kind: FaultKind::Line(LineFault::NotJson),
     };
-    assert_eq!(rt; feed.feed(b"x\n"), Err(fault));
+    assert_eq!(rt; feed.feed(&rt, b"x\n"), Err(fault));
     assert!(rt; feed.fed() < 1_000_000);
-    assert_eq!(rt; feed.feed(b"{}\n"), Err(fault));
+    assert_eq!(rt; feed.feed(&rt, b"{}\n"), Err(fault));
     assert_eq!(rt; feed.fed(), 30);
-    assert_eq!(rt; fault_of(feed.finish()), (1, 2));
+    assert_eq!(rt; fault_of(feed.finish(&rt)), (1, 2));
     Ok(())
 }
 
@@ -85,10 +85,10 @@ fn orders_come_in_pieces_too(rt: HostRuntime) -> Result<(), Fail> {
     let mut feed = OrderFeed::new(rt.alloc());
     for piece in text.as_bytes().chunks(5) {
         assert!(rt; feed.fed() < 1_000_000 && piece.len() < 1_000_000);
-        feed.feed(piece)?;
+        feed.feed(&rt, piece)?;
     }
     assert_eq!(rt; (feed.fed(), feed.line()), (76, 3));
-    let orders = feed.finish()?;
+    let orders = feed.finish(&rt)?;
     assert_eq!(rt; orders.len(), 1);
     assert_eq!(rt; orders[0].order.as_slice().len(), 2);
     Ok(())

@@ -5,7 +5,7 @@ use tag::{Action, ClientId, Key, OpId, Returned, Tag, Value};
 const HEADER: &str = "{\"abd\":\"history\",\"version\":1}\n";
 
 /// The history that the first file of these tests records.
-fn write_then_read(alloc: Global) -> Result<History, Fail> {
+pub fn write_then_read(alloc: Global) -> Result<History, Fail> {
     let mut history = History::new(alloc, 1_000_000);
     let tag = Tag::new(1, 1).ok_or("a tag")?;
     let key = Key::new(alloc, "x")?;
@@ -28,7 +28,7 @@ fn a_file_is_read_as_its_rows(rt: HostRuntime) -> Result<(), Fail> {
             size,
             fails: false,
         });
-        let history = read_history(rt.alloc(), &mut reader)?;
+        let history = read_history(&rt, rt.alloc(), &mut reader)?;
         assert_eq!(rt; history.rows(), want.rows());
         assert_eq!(rt; (reader.given(), reader.failures()), (319, 0));
     }
@@ -60,7 +60,7 @@ fn a_torn_file_is_refused_at_the_line_that_is_cut(rt: HostRuntime) {
         assert!(rt; length <= bytes.len());
         let cut = &bytes[..length];
         assert_eq!(rt;
-            fault_of(history_in(rt.alloc(), cut)),
+            fault_of(history_in(&rt, rt.alloc(), cut)),
             fault_of_cut(length),
             "cut behind {length} bytes"
         );
@@ -78,7 +78,7 @@ fn a_reader_that_fails_is_a_device_fault_behind_the_whole_lines(rt: HostRuntime)
             size: 13,
             fails: true,
         });
-        let fault = fault_of(read_history(rt.alloc(), &mut reader));
+        let fault = fault_of(read_history(&rt, rt.alloc(), &mut reader));
         assert_eq!(rt;
             fault,
             (13, line_behind(whole)),
@@ -108,155 +108,112 @@ fn forged_lines_have_their_faults(rt: HostRuntime) -> Result<(), Fail> {
         ("\u{feff}{\"abd\":\"history\",\"version\":1}\n", 1, 1),
     ];
     for (text, number, line) in cases {
-        let fault = fault_of(history_in(rt.alloc(), text.as_bytes()));
+        let fault = fault_of(history_in(&rt, rt.alloc(), text.as_bytes()));
         assert_eq!(rt; fault, (number, line), "{text:?}");
     }
     Ok(())
 }
 
+const WRITE: &str =
+    "{\"call\":0,\"client\":1,\"do\":\"write\",\"key\":\"x\",\"row\":\"invoke\",\"value\":\"a\"}\n";
+
+const READ: &str = "{\"call\":0,\"client\":1,\"do\":\"read\",\"key\":\"x\",\"row\":\"invoke\"}\n";
+
+const DONE: &str = "{\"call\":0,\"row\":\"respond\"}\n";
+
+const NOTE: &str = "{\"call\":0,\"number\":1,\"row\":\"note\",\"writer\":1}\n";
+
+/// The fault of the header and those lines.
+fn fault_in(
+    rt: &(impl Threads + Sync),
+    alloc: Global,
+    before: &str,
+    last: &str,
+) -> Result<(u8, u64), Fail> {
+    let text = format!(in alloc; "{HEADER}{before}{last}")?;
+    Ok(fault_of(history_in(rt, alloc, text.as_bytes())))
+}
+
 #[test]
-fn forged_rows_have_their_faults(rt: HostRuntime) -> Result<(), Fail> {
-    let write =
-        "{\"call\":0,\"client\":1,\"do\":\"write\",\"key\":\"x\",\"row\":\"invoke\",\"value\":\"a\"}\n";
-    let read = "{\"call\":0,\"client\":1,\"do\":\"read\",\"key\":\"x\",\"row\":\"invoke\"}\n";
-    let done = "{\"call\":0,\"row\":\"respond\"}\n";
-    let note = "{\"call\":0,\"number\":1,\"row\":\"note\",\"writer\":1}\n";
-    let cases = [
-        ("", "\n", 1, 2),
-        ("", "{\"row\":\"invoke\"}x\n", 1, 2),
-        ("", "[]\n", 4, 2),
-        ("", "{}\n", 4, 2),
-        ("", "{\"row\":1}\n", 4, 2),
-        ("", "{\"row\":\"Invoke\"}\n", 5, 2),
-        ("", "{\"row\":\"Invoke\",\"call\":-1}\n", 5, 2),
-        (
-            "",
-            "{\"call\":-1,\"client\":1,\"do\":\"read\",\"key\":\"x\",\"row\":\"invoke\"}\n",
-            4,
-            2,
-        ),
-        (
-            "",
-            "{\"call\":0.0,\"client\":1,\"do\":\"read\",\"key\":\"x\",\"row\":\"invoke\"}\n",
-            4,
-            2,
-        ),
-        (
-            "",
-            "{\"call\":-0,\"client\":1,\"do\":\"read\",\"key\":\"x\",\"row\":\"invoke\"}\n",
-            4,
-            2,
-        ),
-        (
-            "",
-            "{\"call\":1e3,\"client\":1,\"do\":\"read\",\"key\":\"x\",\"row\":\"invoke\"}\n",
-            4,
-            2,
-        ),
-        (
-            "",
-            "{\"call\":4294967296,\"client\":1,\"do\":\"read\",\"key\":\"x\",\"row\":\"invoke\"}\n",
-            5,
-            2,
-        ),
-        (
-            "",
-            "{\"call\":0,\"client\":0,\"do\":\"read\",\"key\":\"x\",\"row\":\"invoke\"}\n",
-            5,
-            2,
-        ),
-        (
-            "",
-            "{\"call\":0,\"client\":65536,\"do\":\"read\",\"key\":\"x\",\"row\":\"invoke\"}\n",
-            5,
-            2,
-        ),
-        (
-            "",
-            "{\"call\":0,\"client\":1,\"do\":\"read\",\"key\":\"\",\"row\":\"invoke\"}\n",
-            5,
-            2,
-        ),
-        (
-            "",
-            "{\"call\":0,\"client\":1,\"do\":\"Read\",\"key\":\"x\",\"row\":\"invoke\"}\n",
-            5,
-            2,
-        ),
-        (
-            "",
-            "{\"call\":0,\"client\":1,\"do\":\"write\",\"key\":\"x\",\"row\":\"invoke\"}\n",
-            4,
-            2,
-        ),
-        (
-            "",
-            "{\"call\":0,\"client\":1,\"do\":\"read\",\"key\":\"x\",\"row\":\"invoke\",\"value\":5}\n",
-            0,
-            0,
-        ),
-        (
-            "",
-            "{\"call\":5,\"client\":1,\"do\":\"read\",\"key\":\"x\",\"row\":\"invoke\"}\n",
-            6,
-            2,
-        ),
-        (
-            write,
-            "{\"call\":1,\"client\":1,\"do\":\"read\",\"key\":\"x\",\"row\":\"invoke\"}\n",
-            7,
-            3,
-        ),
-        ("", note, 8, 2),
-        ("", done, 8, 2),
-        (
-            write,
-            "{\"call\":0,\"row\":\"respond\",\"value\":null}\n",
-            9,
-            3,
-        ),
-        (
-            write,
-            "{\"call\":0,\"row\":\"respond\",\"value\":\"a\"}\n",
-            9,
-            3,
-        ),
-        (read, done, 9, 3),
-        (read, "{\"call\":0,\"row\":\"respond\",\"value\":5}\n", 4, 3),
-        (
-            read,
-            "{\"call\":0,\"row\":\"respond\",\"value\":null}\n",
-            0,
-            0,
-        ),
-        (
-            read,
-            "{\"call\":0,\"number\":1000001,\"row\":\"note\",\"writer\":1}\n",
-            5,
-            3,
-        ),
-        (
-            read,
-            "{\"call\":0,\"number\":0,\"row\":\"note\",\"writer\":65536}\n",
-            5,
-            3,
-        ),
-    ];
-    for (before, last, number, line) in cases {
-        let text = format!(in rt.alloc(); "{HEADER}{before}{last}")?;
-        let fault = fault_of(history_in(rt.alloc(), text.as_bytes()));
-        assert_eq!(rt; fault, (number, line), "{before:?} and {last:?}");
-    }
-    for (row, number) in [(note, 8), (done, 8)] {
-        let text = format!(in rt.alloc(); "{HEADER}{write}{done}{row}")?;
+fn a_line_without_a_row_has_its_fault(rt: HostRuntime) -> Result<(), Fail> {
+    for (line, number) in [
+        ("\n", 1),
+        ("{\"row\":\"invoke\"}x\n", 1),
+        ("[]\n", 4),
+        ("{}\n", 4),
+        ("{\"row\":1}\n", 4),
+        ("{\"row\":\"Invoke\"}\n", 5),
+        ("{\"row\":\"Invoke\",\"call\":-1}\n", 5),
+    ] {
         assert_eq!(rt;
-            fault_of(history_in(rt.alloc(), text.as_bytes())),
-            (number, 4),
-            "{row:?}"
+            fault_in(&rt, rt.alloc(), "", line)?,
+            (number, 2),
+            "{line:?}"
         );
     }
-    let text = format!(in rt.alloc(); "{HEADER}{write}{note}{note}")?;
-    assert_eq!(rt; fault_of(history_in(rt.alloc(), text.as_bytes())), (10, 4));
+    Ok(())
+}
+
+#[test]
+fn members_of_an_invocation_have_their_ranges(rt: HostRuntime) -> Result<(), Fail> {
+    for (call, client, action, key, number) in [
+        ("-1", "1", "read", "x", 4),
+        ("0.0", "1", "read", "x", 4),
+        ("-0", "1", "read", "x", 4),
+        ("1e3", "1", "read", "x", 4),
+        ("4294967296", "1", "read", "x", 5),
+        ("0", "0", "read", "x", 5),
+        ("0", "65536", "read", "x", 5),
+        ("0", "1", "read", "", 5),
+        ("0", "1", "Read", "x", 5),
+        ("0", "1", "write", "x", 4),
+        ("5", "1", "read", "x", 6),
+    ] {
+        let line = format!(in rt.alloc();
+            "{{\"call\":{call},\"client\":{client},\"do\":\"{action}\",\"key\":\"{key}\",\"row\":\"invoke\"}}\n"
+        )?;
+        let fault = fault_in(&rt, rt.alloc(), "", line.as_str())?;
+        assert_eq!(rt; fault, (number, 2), "{:?}", line.as_str());
+    }
+    Ok(())
+}
+
+#[test]
+fn a_row_out_of_place_has_its_fault(rt: HostRuntime) -> Result<(), Fail> {
+    let busy = "{\"call\":1,\"client\":1,\"do\":\"read\",\"key\":\"x\",\"row\":\"invoke\"}\n";
+    let with_null = "{\"call\":0,\"row\":\"respond\",\"value\":null}\n";
+    let with_text = "{\"call\":0,\"row\":\"respond\",\"value\":\"a\"}\n";
+    let with_number = "{\"call\":0,\"row\":\"respond\",\"value\":5}\n";
+    let great_tag = "{\"call\":0,\"number\":1000001,\"row\":\"note\",\"writer\":1}\n";
+    let great_writer = "{\"call\":0,\"number\":0,\"row\":\"note\",\"writer\":65536}\n";
+    let valued =
+        "{\"call\":0,\"client\":1,\"do\":\"read\",\"key\":\"x\",\"row\":\"invoke\",\"value\":5}\n";
+    for (before, last, number, line) in [
+        ("", valued, 0, 0),
+        (WRITE, busy, 7, 3),
+        ("", NOTE, 8, 2),
+        ("", DONE, 8, 2),
+        (WRITE, with_null, 9, 3),
+        (WRITE, with_text, 9, 3),
+        (READ, DONE, 9, 3),
+        (READ, with_number, 4, 3),
+        (READ, with_null, 0, 0),
+        (READ, great_tag, 5, 3),
+        (READ, great_writer, 5, 3),
+    ] {
+        let fault = fault_in(&rt, rt.alloc(), before, last)?;
+        assert_eq!(rt; fault, (number, line), "{before:?} and {last:?}");
+    }
+    Ok(())
+}
+
+#[test]
+fn a_row_after_a_calls_end_has_its_fault(rt: HostRuntime) -> Result<(), Fail> {
+    for (second, third, number) in [(DONE, NOTE, 8), (DONE, DONE, 8), (NOTE, NOTE, 10)] {
+        let before = format!(in rt.alloc(); "{WRITE}{second}")?;
+        let fault = fault_in(&rt, rt.alloc(), before.as_str(), third)?;
+        assert_eq!(rt; fault, (number, 4), "{second:?} and {third:?}");
+    }
     Ok(())
 }
 
@@ -281,7 +238,7 @@ fn lines_are_short_and_text(rt: HostRuntime) -> Result<(), Fail> {
         for end in ["", "\n"] {
             text.extend_from_slice(end.as_bytes())?;
             assert_eq!(rt;
-                fault_of(history_in(rt.alloc(), text.as_slice())),
+                fault_of(history_in(&rt, rt.alloc(), text.as_slice())),
                 (number, 2),
                 "{count} of {byte}"
             );

@@ -29,7 +29,7 @@ fn lines_of_a_key_are_pieces_of_its_order(rt: HostRuntime) -> Result<(), Fail> {
     ];
     for (lines, want) in cases {
         let text = format!(in rt.alloc(); "{HEADER}{lines}")?;
-        let orders = orders_in(rt.alloc(), text.as_bytes())?;
+        let orders = orders_in(&rt, rt.alloc(), text.as_bytes())?;
         assert_eq!(rt;
             said(rt.alloc(), orders.as_slice())?.as_str(),
             want,
@@ -58,7 +58,7 @@ fn forged_order_lines_have_their_faults(rt: HostRuntime) -> Result<(), Fail> {
     for (line, number) in cases {
         let text = format!(in rt.alloc(); "{HEADER}{line}\n")?;
         assert_eq!(rt;
-            fault_of(orders_in(rt.alloc(), text.as_bytes())),
+            fault_of(orders_in(&rt, rt.alloc(), text.as_bytes())),
             (number, 2),
             "{line:?}"
         );
@@ -69,7 +69,7 @@ fn forged_order_lines_have_their_faults(rt: HostRuntime) -> Result<(), Fail> {
         ("{\"abd\":\"orders\",\"version\":0}\n", 3),
     ] {
         assert_eq!(rt;
-            fault_of(orders_in(rt.alloc(), text.as_bytes())),
+            fault_of(orders_in(&rt, rt.alloc(), text.as_bytes())),
             (number, 1),
             "{text:?}"
         );
@@ -93,10 +93,13 @@ fn lines_of(alloc: Global, lines: u32) -> Result<String, Fail> {
 #[test]
 fn a_million_calls_are_read_and_one_more_is_too_many(rt: HostRuntime) -> Result<(), Fail> {
     let mut text = lines_of(rt.alloc(), 40)?;
-    let orders = orders_in(rt.alloc(), text.as_bytes())?;
+    let orders = orders_in(&rt, rt.alloc(), text.as_bytes())?;
     assert_eq!(rt; orders.len(), 1);
     assert_eq!(rt; orders[0].order.as_slice().len(), 1_000_000);
     text.push_str("{\"key\":\"y\",\"order\":[]}\n{\"key\":\"y\",\"order\":[0]}\n")?;
-    assert_eq!(rt; fault_of(orders_in(rt.alloc(), text.as_bytes())), (12, 43));
+    assert_eq!(rt;
+        fault_of(orders_in(&rt, rt.alloc(), text.as_bytes())),
+        (12, 43)
+    );
     Ok(())
 }

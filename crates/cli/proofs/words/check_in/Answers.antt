@@ -1,18 +1,23 @@
 -- The rows of the matches are what `get_str` reads.
-use Rattle.std.proofs.Common.{◌≡◌, None, codes, List, sym, ◌∙◌}
+use Rattle.std.proofs.Common.{◌≡◌, None, codes, List, refl, sym, ◌∙◌}
 use Rattle.clap.specs.Words.{first_of, found_of, rows_of, Row}
 use Rattle.clap.proofs.WalkLemmas.{first_value-rows}
-use Rattle.cli.specs.Words.{Makes}
+use Rattle.cli.specs.Words.{MakesAs}
 use Rattle.cli.specs.declared.asked.Command.{Command}
-use Rattle.cli.specs.declared.asked.Command.TheVariants.{Check}
+use Rattle.cli.specs.declared.asked.Command.TheVariants.{Check, Justify, Simulate}
+use Rattle.cli.proofs.CommandNames.{check_is_not_justify, check_is_not_simulate}
 use Rattle.cli.proofs.words.check_in.Goals as goal
 
--- without the one file or the other, the rows make no command
-no_history : (rows : List Row) → first_of (codes "HISTORY") rows ≡ None → (command : Command) → Makes rows command → ⊥
-no_history rows none (Check history orders) makes = let h = makes.history_named in cc
+-- without the one file or the other, the rows make no command of that name
+no_history : (rows : List Row) → first_of (codes "HISTORY") rows ≡ None → (command : Command) → MakesAs (codes "check") rows command → ⊥
+no_history rows none (Check history orders) makes = let h = makes.1.history_named in cc
+no_history rows none (Justify history) makes = check_is_not_justify (sym makes.0)
+no_history rows none (Simulate script) makes = check_is_not_simulate (sym makes.0)
 
-no_orders : (rows : List Row) → first_of (codes "ORDERS") rows ≡ None → (command : Command) → Makes rows command → ⊥
-no_orders rows none (Check history orders) makes = let h = makes.orders_named in cc
+no_orders : (rows : List Row) → first_of (codes "ORDERS") rows ≡ None → (command : Command) → MakesAs (codes "check") rows command → ⊥
+no_orders rows none (Check history orders) makes = let h = makes.1.orders_named in cc
+no_orders rows none (Justify history) makes = check_is_not_justify (sym makes.0)
+no_orders rows none (Simulate script) makes = check_is_not_simulate (sym makes.0)
 
 pub returns-in_err-history : goal.returns-in_err-history
 returns-in_err-history c =
@@ -26,8 +31,10 @@ returns-in_err-orders c =
 
 pub returns : goal.returns
 returns c =
-    let found = found_of c.args.matches.now in
-    record {
-      history_named = sym (first_value-rows found (codes "HISTORY")) ∙ sym c.in_ok-history.ensures;
-      orders_named = sym (first_value-rows found (codes "ORDERS")) ∙ sym c.in_ok-orders.ensures;
-    }
+    let found = found_of c.args.matches.now in (
+      refl,
+      record {
+        history_named = sym (first_value-rows found (codes "HISTORY")) ∙ sym c.in_ok-history.ensures;
+        orders_named = sym (first_value-rows found (codes "ORDERS")) ∙ sym c.in_ok-orders.ensures;
+      },
+    )

@@ -6,12 +6,12 @@ use Rattle.history_file.specs.Joins.{order_of}
 use Rattle.history_file.proofs.order_feed.finish_orders.Goals as goal
 
 pub returns-in_err-orders-clause-ends : goal.returns-in_err-orders-clause-ends
-returns-in_err-orders-clause-ends c =
+returns-in_err-orders-clause-ends g c =
     let p = err_from_is_err_and c.from_residual.result c.from_residual.ensures.1 in
     λ bytes s. rw (p.1, p.2) (c.in_err-orders.ensures.ends bytes s)
 
 pub returns-in-Ok-clause-ends : goal.returns-in-Ok-clause-ends
-returns-in-Ok-clause-ends c = λ bytes s.
+returns-in-Ok-clause-ends g c = λ bytes s.
     let r = c.in_ok-orders.ensures.ends bytes s in
     let Made : List KeyOrder → Type 0 = λ orders. AreJoined r.items orders in
     let same : map order_of c.in_ok-orders.field-0.orders.entries ≡ c.in-Ok.orders.items = sym c.in-Ok.ensures in

@@ -2,7 +2,8 @@ use Rattle.std.proofs.Common.{◌≡◌, inl, inr, refl, sym, is_some, false}
 use Rattle.std.specs.Str.{bytes_eq}
 use Rattle.std.specs.Map.{lookup}
 use Rattle.indexmap.proofs.CallerLemmas.{insert_entry-new}
-use Rattle.history_file.proofs.Listed.{found_key, absent_key, set_value_at-set, None-from_test}
+use Rattle.recorder.proofs.Lists.{None-from_test}
+use Rattle.history_file.proofs.Listed.{found_key, absent_key, set_value_at-set}
 use Rattle.history_file.proofs.orders.join.Goals as goal
 
 pub returns-in_ok-append-in-Some : goal.returns-in_ok-append-in-Some

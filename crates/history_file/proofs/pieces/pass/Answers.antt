@@ -5,8 +5,8 @@ use Rattle.history_file.specs.Files.{IsAt, IsFirstOfKind}
 use Rattle.history_file.proofs.Feeding.{Splits-room, pass_stops}
 use Rattle.history_file.proofs.pieces.pass.Goals as goal
 
-pub take-requires : goal.take-requires
-take-requires g c =
+pub take-requires-after_bounds : goal.take-requires-after_bounds
+take-requires-after_bounds g c =
     let lines = map (λ (line : Bor (List ℕ)). line.now) c.in-Ok.found.lines.items in
     omega (arith, Splits-room c.args.bytes.now lines c.in-Ok.found.rest.now c.in-Ok.ensures, length-map c.in-Ok.found.lines.items (λ (line : Bor (List ℕ)). line.now), ap length c.as_slice.ensures.value, c.requires)
 

@@ -30,7 +30,7 @@ invariant_of-self-2 c =
     let may : MayFollow rows (Invoke op whose c.args.key c.args.action) = (fresh, c.self.invariant.not_busy whose absent) in
     record {
       formed = rw (c.in_ok-push-2.ensures.items, c.reserve.ensures.items) (IsWellFormed-push rows (Invoke op whose c.args.key c.args.action) c.self.invariant.formed may);
-      states = rw (c.in_ok-push-2.ensures.items, c.reserve.ensures.items, c.in_ok-push.ensures.items, c.reserve-2.ensures.items) (states_invoke rows c.self.invariant.formed op whose c.args.key c.args.action fresh h.states.items _ c.self.invariant.states (rw (c.get-3.ensures.name, c.is_write-is_write.ensures) refl));
+      states = rw (c.in_ok-push-2.ensures.items, c.reserve.ensures.items, c.in_ok-push.ensures.items, c.reserve-2.ensures.items) (states_invoke rows c.self.invariant.formed op whose c.args.key c.args.action fresh h.states.items _ c.self.invariant.states (rw c.is_write-is_write.ensures refl));
       busy = λ client b. rw (c.in_ok-push-2.ensures.items, c.reserve.ensures.items) (busy_invoke rows c.self.invariant.formed op whose c.args.key c.args.action fresh client _ _ _ refl (rw c.get-2.ensures.name at (c.in_ok-insert.ensures.updates.0 client)) (c.self.invariant.busy client) b);
       not_busy = λ client b held. not_busy_invoke rows c.self.invariant.formed op whose c.args.key c.args.action fresh client _ _ _ refl (rw c.get-2.ensures.name at (c.in_ok-insert.ensures.updates.0 client)) (c.self.invariant.not_busy client) b (rw (c.in_ok-push-2.ensures.items, c.reserve.ensures.items) at held);
       room = rw (c.in_ok-push-2.ensures.items, c.reserve.ensures.items) (omega (arith, count_push rows (Invoke op whose c.args.key c.args.action), c.if-count-self.false, fresh));

@@ -9,5 +9,5 @@ pub returns-clause-ok : goal.returns-clause-ok
 returns-clause-ok c =
     rw (← c.self.view_is)
     (ap (λ (pairs : Pairs). let r : Replica = record { number = c.self.inside.number; pairs = pairs } in r)
-    (adopt-copied c.self.inside.pairs c.insert.new.self c.args.key.now c.in_ok-copy.field-0 c.args.tag c.held.result.0 (option_copied c.args.value) c.in_ok-copied.field-0
-    c.in_ok-copy.ensures c.in_ok-copied.ensures.copy (rw (← c.self.view_is) at c.held.ensures.tag) c.if-ge.ensures c.in_ok-insert.ensures.updates))
+    (adopt-copied c.self.inside.pairs c.insert.new.self c.args.key.now c.in_ok-copy.field-0 c.args.tag c.held.result.0 (option_copied c.args.value) c.in_ok-copy_of.field-0
+    c.in_ok-copy.ensures c.in_ok-copy_of.ensures.copy (rw (← c.self.view_is) at c.held.ensures.tag) c.if-ge.ensures c.in_ok-insert.ensures.updates))

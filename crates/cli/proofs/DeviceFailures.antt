@@ -1,0 +1,17 @@
+-- After a device failed, what went out as history is nothing, or a beginning of its text.
+use Rattle.std.proofs.Common.{◌≡◌, ◌⊎◌, inl, inr, ℕ, List, Option}
+use Rattle.std.specs.Io.KnownBytes.{Appends}
+use Rattle.history_file.specs.Sendings.{Begins}
+use Rattle.history_file.specs.Texts.{history_text}
+use Rattle.fault_script.specs.Simulations.{Simulates}
+
+module _ (old new out out_after notes notes_after : Option (List ℕ)) (Same : Type 0) (same : Same → out_after ≡ out) where
+  abbrev Sent : List ℕ → List ℕ → Type 0
+  Sent said text = (Begins notes notes_after said × Same) ⊎ (Appends notes notes_after said × Begins out out_after text)
+
+  by_fact : (run : Simulates old new Sent) → Sent run.notes (history_text run.rows) → (out_after ≡ out) ⊎ Simulates old new (λ said text. Begins out out_after text)
+  by_fact run (inl early) = inl (same early.1)
+  by_fact run (inr late) = inr (record { script = run.script; read = run.read; rows = run.rows; notes = run.notes; run = run.run; fact = late.1 })
+
+  pub begun : Simulates old new Sent → (out_after ≡ out) ⊎ Simulates old new (λ said text. Begins out out_after text)
+  begun run = by_fact run run.fact

@@ -1,0 +1,9 @@
+-- A fault breaks the definition of an order.
+use Rattle.certificate_check.proofs.Faults.{refuted}
+use Rattle.cli.proofs.judging.Lines.judge.Goals as goal
+
+pub returns-in-Yes : goal.returns-in-Yes
+returns-in-Yes g c = rw c.in-Yes.is at c.in_ok-verdict.ensures
+
+pub returns-in-No : goal.returns-in-No
+returns-in-No g c = refuted c.args.part.now c.args.order.now c.in-No.field-0 (rw c.in-No.is at c.in_ok-verdict.ensures)

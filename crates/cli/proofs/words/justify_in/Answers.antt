@@ -1,0 +1,25 @@
+-- The rows of the matches are what `get_str` reads.
+use Rattle.std.proofs.Common.{◌≡◌, None, codes, List, refl, sym, ◌∙◌}
+use Rattle.clap.specs.Words.{first_of, found_of, rows_of, Row}
+use Rattle.clap.proofs.WalkLemmas.{first_value-rows}
+use Rattle.cli.specs.Words.{MakesAs}
+use Rattle.cli.specs.declared.asked.Command.{Command}
+use Rattle.cli.specs.declared.asked.Command.TheVariants.{Check, Justify, Simulate}
+use Rattle.cli.proofs.CommandNames.{check_is_not_justify, justify_is_not_simulate}
+use Rattle.cli.proofs.words.justify_in.Goals as goal
+
+-- without the file, the rows make no command of that name
+no_history : (rows : List Row) → first_of (codes "HISTORY") rows ≡ None → (command : Command) → MakesAs (codes "justify") rows command → ⊥
+no_history rows none (Check history orders) makes = check_is_not_justify makes.0
+no_history rows none (Justify history) makes = let h = makes.1 in cc
+no_history rows none (Simulate script) makes = justify_is_not_simulate (sym makes.0)
+
+pub returns-in_err-history : goal.returns-in_err-history
+returns-in_err-history c =
+    let found = found_of c.args.matches.now in
+    rw c.from_residual.ensures (no_history (rows_of found) (sym (first_value-rows found (codes "HISTORY")) ∙ sym c.in_err-history.ensures))
+
+pub returns : goal.returns
+returns c =
+    let found = found_of c.args.matches.now in
+    (refl, sym (first_value-rows found (codes "HISTORY")) ∙ sym c.in_ok-history.ensures)

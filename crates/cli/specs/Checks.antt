@@ -1,0 +1,65 @@
+-- What a check of a history file and an order file comes to.
+use Rattle.std.specs.Prelude.{ℕ, ◌≡◌, ◌⊎◌, List, Option}
+use Rattle.recorder.specs.declared.row.Row.{Row}
+use Rattle.recorder.specs.declared.part.Call.{Call}
+use Rattle.recorder.specs.declared.order.KeyOrder.{KeyOrder}
+use Rattle.recorder.specs.Records.{IsPart}
+use Rattle.recorder.specs.Orders.{IsOrder}
+use Rattle.history_file.specs.declared.fault.LineFault.{LineFault}
+use Rattle.history_file.specs.declared.fault.FaultKind.TheVariants as kind
+use Rattle.history_file.specs.Deliveries.{Delivers, ReadsAll, StopsWith}
+use Rattle.history_file.specs.Formats.{Format}
+use Rattle.history_file.specs.HistoryFormat.{history_format, MakesHistory}
+use Rattle.history_file.specs.OrderFormat.{order_format, order_on}
+use Rattle.cli.specs.declared.status.Status.{Status}
+use Rattle.cli.specs.declared.status.Status.TheVariants as status
+
+-- the order that the pieces give for the key is an order of the key's part of the rows
+pub record IsYes (rows : List Row) (pieces : List KeyOrder) (key : List ℕ) : Type 0 where
+  pub part : List Call
+  pub recorded : IsPart rows key part
+  pub ordered : IsOrder part (order_on key pieces)
+
+-- it is none
+pub record IsNo (rows : List Row) (pieces : List KeyOrder) (key : List ℕ) : Type 0 where
+  pub part : List Call
+  pub recorded : IsPart rows key part
+  pub unordered : IsOrder part (order_on key pieces) → ⊥
+
+-- the status that says it: all is well where each key's order is one, refused where some key's isn't
+abbrev pub Judges : List Row → List KeyOrder → Status → Type 0
+Judges rows pieces status.Good = (key : List ℕ) → IsYes rows pieces key
+Judges rows pieces status.Refused = (key : List ℕ) × IsNo rows pieces key
+Judges rows pieces s = ⊥
+
+-- what two readers have left
+pub record Left : Type 0 where
+  pub history : Option (List ℕ)
+  pub orders : Option (List ℕ)
+
+-- the readers came to their ends, and gave a history of these rows and an order file of these pieces
+pub record AreRead (old new : Left) (rows : List Row) (pieces : List KeyOrder) : Type 0 where
+  pub history_read : Delivers old.history new.history (ReadsAll history_format MakesHistory new.history (record { rows = rows; limit = 1000000 }))
+  pub orders_read : Delivers old.orders new.orders (ReadsAll order_format (λ items all. all ≡ items) new.orders pieces)
+
+-- a line of what the reader gave has a fault, the first of them
+abbrev pub IsFaulty : {Item : Type 0} → Format Item → Option (List ℕ) → Option (List ℕ) → Type 0
+IsFaulty format old new = (number : ℕ) × (fault : LineFault) × Delivers old new (StopsWith format new number (kind.Line fault))
+
+-- the status of a file that isn't read whole: a line has a fault, or of want of memory and of devices no more is said
+abbrev pub Stops : {Item : Type 0} → Format Item → Option (List ℕ) → Option (List ℕ) → Status → Type 0
+Stops format old new status.Format = IsFaulty format old new
+Stops format old new status.Failed = Unit {0}
+Stops format old new s = ⊥
+
+-- both files were read, and the status judges them
+abbrev pub JudgesRead : Left → Left → Status → Type 0
+JudgesRead old new s = (rows : List Row) × (pieces : List KeyOrder) × AreRead old new rows pieces × Judges rows pieces s
+
+-- what the status of a check says; of want of memory and of devices it says nothing more
+abbrev pub Ends : Left → Left → Status → Type 0
+Ends old new status.Good = JudgesRead old new status.Good
+Ends old new status.Refused = JudgesRead old new status.Refused
+Ends old new status.Usage = ⊥
+Ends old new status.Format = IsFaulty history_format old.history new.history ⊎ IsFaulty order_format old.orders new.orders
+Ends old new status.Failed = Unit {0}

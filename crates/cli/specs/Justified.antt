@@ -1,0 +1,87 @@
+-- Orders that the notes of a history give its keys.
+use Rattle.std.specs.Prelude.{ℕ, ◌≡◌, ◌⊎◌, List, ◌∷◌, ◌++◌, Option, Some, length, slice_get}
+use Rattle.std.specs.Io.KnownBytes.{Appends}
+use Rattle.tag.specs.declared.numbers.OpId.{OpId}
+use Rattle.recorder.specs.declared.row.Row.{Row}
+use Rattle.recorder.specs.declared.part.Call.{Call}
+use Rattle.recorder.specs.declared.order.KeyOrder.{KeyOrder}
+use Rattle.recorder.specs.Records.{AreParts}
+use Rattle.recorder.specs.Orders.{IsOrder}
+use Rattle.recorder.specs.Sound.{IsByTag}
+use Rattle.witness_order.specs.Notes.{AllNoted, IsLeastUnnoted}
+use Rattle.certificate_check.specs.Verdicts.{IsFault}
+use Rattle.history_file.specs.Deliveries.{Delivers, ReadsAll}
+use Rattle.history_file.specs.HistoryFormat.{history_format, MakesHistory}
+use Rattle.history_file.specs.Sendings.{Begins}
+use Rattle.history_file.specs.Texts.{orders_text}
+use Rattle.cli.specs.declared.justifying.Unjustified.{Unjustified}
+use Rattle.cli.specs.declared.justifying.Unjustified.TheVariants as unjustified
+use Rattle.cli.specs.declared.status.Status.{Status}
+use Rattle.cli.specs.declared.status.Status.TheVariants as status
+use Rattle.cli.specs.Checks.{IsFaulty}
+
+-- a key with its part
+abbrev pub KeyPart : Type 0
+KeyPart = List ℕ × List Call
+
+-- the order is the key's, the one that the tags of its part give, and it is an order of the part
+pub record IsJustifiedOrder (entry : KeyPart) (order : KeyOrder) : Type 0 where
+  pub same_key : order.key ≡ entry.0
+  pub by_tag : IsByTag entry.1 order.order
+  pub ordered : IsOrder entry.1 order.order
+
+-- each key with its part has its order, in the same place
+pub record AreJustified (parts : List KeyPart) (orders : List KeyOrder) : Type 0 where
+  pub all : length orders ≡ length parts
+  pub each : (i : ℕ) (entry : KeyPart) (order : KeyOrder) → slice_get parts i ≡ Some entry → slice_get orders i ≡ Some order → IsJustifiedOrder entry order
+
+-- the key has no such order: its least completed call without a note is that, or its tag order has
+-- that fault; want of memory comes only where each completed call has a note
+abbrev pub IsUnjustified : KeyPart → Unjustified → Type 0
+IsUnjustified entry (unjustified.NoNote key op) = (key.now ≡ entry.0) × IsLeastUnnoted entry.1 op
+IsUnjustified entry (unjustified.NoOrder key fault) = (key.now ≡ entry.0) × ((order : List OpId) × IsByTag entry.1 order × IsFault entry.1 order fault)
+IsUnjustified entry unjustified.Memory = AllNoted entry.1
+
+-- each key before it has its order, and that one has none
+pub record IsFirstUnjustified (parts : List KeyPart) (refusal : Unjustified) : Type 0 where
+  pub before : List KeyPart
+  pub entry : KeyPart
+  pub behind : List KeyPart
+  pub split : parts ≡ before ++ entry ∷ behind
+  pub orders : List KeyOrder
+  pub justified : AreJustified before orders
+  pub refused : IsUnjustified entry refusal
+
+-- a key without its order is refused, want of memory is a failure
+abbrev pub status_of_refusal : Unjustified → Status
+status_of_refusal (unjustified.NoNote key op) = status.Refused
+status_of_refusal (unjustified.NoOrder key fault) = status.Refused
+status_of_refusal unjustified.Memory = status.Failed
+
+-- two states of a reader, or of a writer
+pub record Passage : Type 0 where
+  pub old : Option (List ℕ)
+  pub new : Option (List ℕ)
+
+-- the reader came to its end, and gave a history whose keys have these parts
+pub record HasParts (reader : Passage) (parts : List KeyPart) : Type 0 where
+  pub rows : List Row
+  pub read : Delivers reader.old reader.new (ReadsAll history_format MakesHistory reader.new (record { rows = rows; limit = 1000000 }))
+  pub split : AreParts rows parts
+
+-- the history's keys have these orders
+abbrev pub HasOrders : Passage → List KeyOrder → Type 0
+HasOrders reader orders = (parts : List KeyPart) × HasParts reader parts × AreJustified parts orders
+
+-- the history has a key without one
+abbrev pub HasNoOrders : Passage → Type 0
+HasNoOrders reader = (parts : List KeyPart) × (refusal : Unjustified) × HasParts reader parts × IsFirstUnjustified parts refusal × (status_of_refusal refusal ≡ status.Refused)
+
+-- what the status of a justification says: the text of the orders went out, or a key has none, or the file has a fault,
+-- or all that went out is a beginning of that text
+abbrev pub Justifies : Passage → Passage → Status → Type 0
+Justifies reader writer status.Good = (orders : List KeyOrder) × HasOrders reader orders × Appends writer.old writer.new (orders_text orders)
+Justifies reader writer status.Refused = HasNoOrders reader
+Justifies reader writer status.Usage = ⊥
+Justifies reader writer status.Format = IsFaulty history_format reader.old reader.new
+Justifies reader writer status.Failed = (writer.new ≡ writer.old) ⊎ ((orders : List KeyOrder) × HasOrders reader orders × Begins writer.old writer.new (orders_text orders))

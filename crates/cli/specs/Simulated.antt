@@ -1,0 +1,27 @@
+-- What the run of a script comes to.
+use Rattle.std.specs.Prelude.{ℕ, ◌≡◌, ◌⊎◌, List}
+use Rattle.std.specs.Io.KnownBytes.{Appends}
+use Rattle.history_file.specs.Deliveries.{Delivers}
+use Rattle.history_file.specs.Sendings.{Begins}
+use Rattle.fault_script.specs.Deliveries.{StopsWith}
+use Rattle.fault_script.specs.Simulations.{Simulates}
+use Rattle.fault_script.specs.declared.fault.LineFault.{LineFault}
+use Rattle.fault_script.specs.declared.fault.ErrorKind.TheVariants as kind
+use Rattle.cli.specs.declared.status.Status.{Status}
+use Rattle.cli.specs.declared.status.Status.TheVariants as status
+use Rattle.cli.specs.Justified.{Passage}
+
+-- of what the script's reader delivered a line is the first with a fault
+pub record IsFaultyScript (script : Passage) : Type 0 where
+  pub line : ℕ
+  pub fault : LineFault
+  pub stops : Delivers script.old script.new (StopsWith script.new line (kind.Line fault))
+
+-- what the status says: the script was run, and its notes and the text of its history went out; or it has a fault;
+-- or all that went out as history is a beginning of that text
+abbrev pub EndsSimulation : Passage → Passage → Passage → Status → Type 0
+EndsSimulation script out notes status.Good = Simulates script.old script.new (λ said text. Appends notes.old notes.new said × Appends out.old out.new text)
+EndsSimulation script out notes status.Refused = ⊥
+EndsSimulation script out notes status.Usage = ⊥
+EndsSimulation script out notes status.Format = IsFaultyScript script
+EndsSimulation script out notes status.Failed = (out.new ≡ out.old) ⊎ Simulates script.old script.new (λ said text. Begins out.old out.new text)

@@ -1,0 +1,176 @@
+//! Judging the orders of a history's keys, with a line for each.
+ghost use Rattle.std.specs.Prelude.{◌≡◌, List, ℕ, Some, IfOk, MatchBool, Contains, unwrap_or, is_some, true};
+ghost use Rattle.std.specs.Str.{bytes_eq};
+ghost use Rattle.std.specs.Map.{lookup};
+ghost use Rattle.tag.specs.declared.numbers.OpId.{OpId};
+ghost use Rattle.recorder.specs.declared.order.KeyOrder.{KeyOrder};
+ghost use Rattle.recorder.specs.Orders.{IsOrder};
+ghost use Rattle.history_file.specs.OrderFormat.{AreJoined};
+ghost use Rattle.cli.specs.Checks.{Judges};
+ghost use Rattle.cli.specs.Judging.{JudgesAll, JudgesOthers, JudgesParts, list_at};
+
+use crate::status::Status;
+use certificate_check::{Verdict, check_part};
+use indexmap::IndexMap;
+use recorder::{History, KeyOrder, Order, Part};
+use std::alloc::{AllocError, Global};
+use std::fmt::Write as _;
+use std::io::Write;
+use tag::{Key, Memory, OpId};
+
+/// Why judging ended before its time.
+#[derive(Clone, Copy, Debug)]
+pub enum Halt {
+    /// The output failed.
+    Output,
+    /// A growth was refused.
+    Memory,
+}
+
+impl From<Memory> for Halt {
+    ghost use Rattle.std.specs.Prelude.{◌≡◌};
+    ghost use Rattle.cli.specs.declared.judging.Halt.TheVariants.{Memory};
+
+    ghost from_gives = { λ _ e. e ≡ Memory };
+
+    fn from(_: Memory) -> Halt {
+        Halt::Memory
+    }
+}
+
+impl From<AllocError> for Halt {
+    ghost use Rattle.std.specs.Prelude.{◌≡◌};
+    ghost use Rattle.cli.specs.declared.judging.Halt.TheVariants.{Memory};
+
+    ghost from_gives = { λ _ e. e ≡ Memory };
+
+    fn from(_: AllocError) -> Halt {
+        Halt::Memory
+    }
+}
+
+/// What is said of each key, a line each.
+#[derive(Drop)]
+struct Lines<'w, W> {
+    out: &'w mut W,
+    line: String,
+}
+
+impl<W: Write> Lines<'_, W> {
+    /// Says the verdict on a key.
+    fn say(&mut self, key: &Key, verdict: Verdict) -> Result<(), Halt> {
+        self.line.clear();
+        writeln!(self.line, "{}: {verdict}", key.as_str())?;
+        self.out
+            .write_all(self.line.as_bytes())
+            .map_err(|_| Halt::Output)
+    }
+
+    /// Judges a key's order, and says the verdict. Whether it is yes.
+    fn judge(&mut self, key: &Key, part: &Part, order: &[OpId]) -> Result<bool, Halt>
+        ensures { IfOk result (λ yes. MatchBool yes (IsOrder part.now order.now) (IsOrder part.now order.now → ⊥)) }
+    {
+        let verdict = check_part(*self.line.allocator(), part, order)?;
+        self.say(key, verdict)?;
+        match verdict {
+            Verdict::Yes => Ok(true),
+            Verdict::No(_) => Ok(false),
+        }
+    }
+
+    /// Judges the keys of the history. Whether each is judged yes.
+    fn judge_parts(
+        &mut self,
+        parts: &IndexMap<Key, Part>,
+        orders: &IndexMap<Key, Order>,
+    ) -> Result<bool, Halt>
+        ensures { IfOk result (JudgesParts parts.now.entries orders.now.entries) }
+    {
+        let mut yes = true;
+        for (key, part) in parts {
+            if !self.judge(key, part, order_at(orders, key))? {
+                yes = false;
+            }
+        }
+        Ok(yes)
+    }
+
+    /// Judges the keys that only the orders have, against no call. Whether each is judged yes.
+    fn judge_others(
+        &mut self,
+        parts: &IndexMap<Key, Part>,
+        orders: &IndexMap<Key, Order>,
+    ) -> Result<bool, Halt>
+        ensures { IfOk result (JudgesOthers parts.now.entries orders.now.entries) }
+    {
+        let nothing = Part::empty(*self.line.allocator());
+        let mut yes = true;
+        for (key, order) in orders {
+            if !parts.contains_key(key) && !self.judge(key, &nothing, order.as_slice())? {
+                yes = false;
+            }
+        }
+        Ok(yes)
+    }
+}
+
+/// The orders by key.
+fn orders_by_key(alloc: Global, orders: Vec<KeyOrder>) -> Result<IndexMap<Key, Order>, Memory>
+    ensures found { IfOk result (λ map. (key : List ℕ) (order : List OpId) → Contains map.entries (key, order) → Contains orders.items (record { key = key; order = order })) }
+    ensures all { IfOk result (λ map. (order : KeyOrder) → Contains orders.items order → is_some (lookup (bytes_eq order.key) map.entries) ≡ true) }
+{
+    let mut map = IndexMap::with_capacity(alloc, orders.len())?;
+    for KeyOrder { key, order } in orders {
+        let _ = map.insert(key, order)?;
+    }
+    Ok(map)
+}
+
+/// The key's order, or the empty one where no line of the order file names the key.
+fn order_at<'o>(orders: &'o IndexMap<Key, Order>, key: &Key) -> &'o [OpId]
+    ensures { result.now ≡ list_at orders.now.entries key.now }
+{
+    match orders.get(key) {
+        Some(order) => order.as_slice(),
+        None => &[],
+    }
+}
+
+/// Judges the keys of the history, and then those that only the orders have. Whether each is
+/// judged yes.
+fn judge_keys<W: Write>(
+    alloc: Global,
+    parts: &IndexMap<Key, Part>,
+    orders: &IndexMap<Key, Order>,
+    out: &mut W,
+) -> Result<bool, Halt>
+    ensures { IfOk result (JudgesAll parts.now.entries orders.now.entries) }
+{
+    let mut lines = Lines {
+        out,
+        line: String::new(alloc),
+    };
+    let recorded = lines.judge_parts(parts, orders)?;
+    let others = lines.judge_others(parts, orders)?;
+    lines.out.flush().map_err(|_| Halt::Output)?;
+    Ok(recorded && others)
+}
+
+/// Judges a history by the orders of an order file, and says a line for each key: `Good` where
+/// every line says yes, `Refused` where one says no.
+pub fn judge<W: Write>(
+    alloc: Global,
+    history: &History,
+    orders: Vec<KeyOrder>,
+    out: &mut W,
+) -> Result<Status, Halt>
+    ensures { IfOk result (λ status. (pieces : List KeyOrder) → AreJoined pieces orders.items → Judges history.now.rows pieces status) }
+{
+    let parts = history.parts()?;
+    let orders = orders_by_key(alloc, orders)?;
+    if judge_keys(alloc, &parts, &orders, out)? {
+        Ok(Status::Good)
+    } else {
+        Ok(Status::Refused)
+    }
+}

@@ -1,0 +1,40 @@
+//! `abd simulate`: the history of a script's run.
+ghost use Rattle.std.specs.Prelude.{◌≡◌};
+ghost use Rattle.cli.specs.Simulated.{EndsSimulation};
+
+use crate::check::Source;
+use crate::status::{Failure, Status};
+use fault_script::{SimulateError, simulate};
+use history_file::Counting;
+use std::alloc::Global;
+use std::io::{Read, Write};
+
+/// Reads the script, runs it, and writes what is said of its lines to `errors` and then the history
+/// of the run to `out`.
+///
+/// Nothing goes to `out` before the whole run was made. A line that is refused is no failure: it has
+/// its note, and the status is `Good`. A failure is said on `errors`, behind the notes that went
+/// there.
+pub fn simulate_command<'a, S: Read, W: Write, E: Write>(
+    alloc: Global,
+    script: &mut Source<'a, S>,
+    out: &mut Counting<W>,
+    errors: &mut Counting<E>,
+) -> Status
+    ensures ends { EndsSimulation
+        (record { old = S.remaining script.old.reader.inner; new = S.remaining script.new.reader.inner })
+        (record { old = W.contents out.old.inner; new = W.contents out.new.inner })
+        (record { old = E.contents errors.old.inner; new = E.contents errors.new.inner })
+        result }
+    ensures faulty { result ≡ Status.Format → out.new ≡ out.old }
+{
+    match simulate(alloc, &mut script.reader, out, errors) {
+        Ok(()) => Status::Good,
+        Err(SimulateError::Script(error)) => {
+            let name = script.name;
+            Failure::Script { name, error }.report(errors)
+        }
+        Err(SimulateError::Memory) => Failure::Memory.report(errors),
+        Err(SimulateError::Device) => Failure::Output.report(errors),
+    }
+}

@@ -1,0 +1,228 @@
+-- Bytes that come in pieces.
+use Rattle.std.proofs.Common.{ℕ, zero, suc, ◌≡◌, ◌≢◌, ◌<◌, ◌≤◌, ◌+◌, inl, inr, List, [], ◌∷◌, ◌++◌, length, take, drop, get_or, Result, Ok, Err, refl, sym, ap, ◌∙◌, subst, append_assoc, append-nil, length-append, arith}
+use Rattle.std.specs.Prelude.{All}
+use Rattle.std.specs.List.{flat_map}
+use Rattle.std.proofs.lemmas.Grind.{flat_map-append}
+use Rattle.std.proofs.lemmas.List.Elements.{All-append, All-nil}
+use Rattle.history_file.specs.Cuts.{ended, HasNoEnd, Splits}
+use Rattle.history_file.specs.Feeds.{last_lines}
+use Rattle.history_file.proofs.Feeding.{last_some, last_none}
+use Rattle.fault_script.specs.declared.command.Script.{Script}
+use Rattle.fault_script.specs.declared.progress.Progress.{Progress}
+use Rattle.fault_script.specs.declared.feed.Feed.{Feed}
+use Rattle.fault_script.specs.declared.fault.LineFault.TheVariants.{TooLong}
+use Rattle.fault_script.specs.declared.fault.ScriptError.{ScriptError}
+use Rattle.fault_script.specs.declared.fault.ErrorKind.{ErrorKind}
+use Rattle.fault_script.specs.declared.fault.ErrorKind.TheVariants as kind
+use Rattle.fault_script.specs.Lines.{is_long}
+use Rattle.fault_script.specs.Scripts.{no_line, HasFault}
+use Rattle.fault_script.specs.Feeds.{IsDraft, IsAt, HasFaultOf, Takes, EndsBy, Stands, IsWhole, FirstFault, ErrorSoFar, Fed, Ended, ErrorAtEnd, Ends}
+
+no_end-append : (xs ys : List ℕ) → HasNoEnd xs → HasNoEnd ys → HasNoEnd (xs ++ ys)
+no_end-append xs ys h k = All-append (λ (b : ℕ). b ≢ 10) xs ys h k
+
+no_end-nil : HasNoEnd []
+no_end-nil = All-nil (λ (b : ℕ). b ≢ 10)
+
+-- no byte
+pub Stands-none : (feed : Feed) → IsDraft [] feed.progress.draft → feed.progress.lines ≡ 0 → feed.rest.items ≡ [] → Stands [] feed
+Stands-none feed drafted lines empty =
+    let S : List ℕ → Type 0 = λ rest. Splits [] [] rest in
+    record {
+      lines = [];
+      splits = subst S (sym empty) (record { whole = refl; each = All-nil HasNoEnd; partial = no_end-nil });
+      at = record { saids = []; read = no_line; drafted = drafted; counted = lines };
+      short = omega (arith, ap length empty);
+    }
+
+-- bytes that end no line are kept
+Splits-keep : (bytes part : List ℕ) (lines : List (List ℕ)) (rest : List ℕ) → Splits bytes lines rest → HasNoEnd part → Splits (bytes ++ part) lines (rest ++ part)
+Splits-keep bytes part lines rest s none = record {
+  whole = ap (λ (xs : List ℕ). xs ++ part) s.whole ∙ append_assoc (flat_map ended lines) rest part;
+  each = s.each;
+  partial = no_end-append rest part s.partial none;
+}
+
+pub Stands-keep : (bytes part : List ℕ) (old new : Feed) → Stands bytes old → HasNoEnd part → new.progress ≡ old.progress → new.rest.items ≡ old.rest.items ++ part → length old.rest.items + length part ≤ 65536 → Stands (bytes ++ part) new
+Stands-keep bytes part old new s none progress rest short =
+    let S : List ℕ → Type 0 = λ xs. Splits (bytes ++ part) s.lines xs in
+    let A : Progress → Type 0 = λ p. IsAt s.lines p in
+    record {
+      lines = s.lines;
+      splits = subst S (sym rest) (Splits-keep bytes part s.lines old.rest.items s.splits none);
+      at = subst A (sym progress) s.at;
+      short = omega (arith, ap length rest, length-append old.rest.items part, short);
+    }
+
+-- bytes that end no line, and are too many
+pub first_long : (bytes part : List ℕ) (old : Feed) (number : ℕ) → Stands bytes old → HasNoEnd part → 65536 < length old.rest.items + length part → number ≡ old.progress.lines + 1 → FirstFault (bytes ++ part) number TooLong
+first_long bytes part old number s none more counted =
+    let t = Splits-keep bytes part s.lines old.rest.items s.splits none in
+    let line : List ℕ = old.rest.items ++ part in
+    let much : 65536 < length line = omega (arith, length-append old.rest.items part) in
+    record {
+      earlier = s.lines;
+      line = line;
+      later = [];
+      place = t.whole ∙ ap (λ (xs : List ℕ). flat_map ended s.lines ++ xs) (sym (append-nil line));
+      each = t.each;
+      one = t.partial;
+      whole = inr much;
+      faulty = record { saids = s.at.saids; read = s.at.read; counted = omega (arith, counted, s.at.counted); faulty = is_long much };
+    }
+
+All-one : (line : List ℕ) → HasNoEnd line → All HasNoEnd (line ∷ [])
+All-one line h zero d lt = h
+All-one line h (suc k) d lt = absurd (omega arith)
+
+-- a line and its end
+ended_more : (lines : List (List ℕ)) (line : List ℕ) → flat_map ended (lines ++ line ∷ []) ≡ flat_map ended lines ++ ended line
+ended_more lines line = flat_map-append ended lines (line ∷ []) ∙ ap (λ (xs : List ℕ). flat_map ended lines ++ xs) (append-nil (ended line))
+
+end_whole : (bytes part : List ℕ) (lines : List (List ℕ)) (rest : List ℕ) → bytes ≡ flat_map ended lines ++ rest → bytes ++ ended part ≡ flat_map ended lines ++ ended (rest ++ part)
+end_whole bytes part lines rest e =
+    ap (λ (xs : List ℕ). xs ++ ended part) e
+    ∙ append_assoc (flat_map ended lines) rest (ended part)
+    ∙ ap (λ (xs : List ℕ). flat_map ended lines ++ xs) (sym (append_assoc rest part (10 ∷ [])))
+
+Splits-end : (bytes part : List ℕ) (lines : List (List ℕ)) (rest : List ℕ) → Splits bytes lines rest → HasNoEnd part → Splits (bytes ++ ended part) (lines ++ (rest ++ part) ∷ []) []
+Splits-end bytes part lines rest s none = record {
+  whole = end_whole bytes part lines rest s.whole ∙ sym (ended_more lines (rest ++ part)) ∙ sym (append-nil (flat_map ended (lines ++ (rest ++ part) ∷ [])));
+  each = All-append HasNoEnd lines ((rest ++ part) ∷ []) s.each (All-one (rest ++ part) (no_end-append rest part s.partial none));
+  partial = no_end-nil;
+}
+
+pub Stands-end : (bytes part line : List ℕ) (old new : Feed) (s : Stands bytes old) → HasNoEnd part → line ≡ old.rest.items ++ part → IsAt (s.lines ++ line ∷ []) new.progress → new.rest.items ≡ [] → Stands (bytes ++ ended part) new
+Stands-end bytes part line old new s none is at empty =
+    let A : List ℕ → Type 0 = λ x. IsAt (s.lines ++ x ∷ []) new.progress in
+    let S : List ℕ → Type 0 = λ xs. Splits (bytes ++ ended part) (s.lines ++ (old.rest.items ++ part) ∷ []) xs in
+    record {
+      lines = s.lines ++ (old.rest.items ++ part) ∷ [];
+      splits = subst S (sym empty) (Splits-end bytes part s.lines old.rest.items s.splits none);
+      at = subst A is at;
+      short = omega (arith, ap length empty);
+    }
+
+-- a fault of the line that ends
+pub stops_end : (bytes part line : List ℕ) (old : Feed) (number : ℕ) (k : ErrorKind) (s : Stands bytes old) → HasNoEnd part → line ≡ old.rest.items ++ part → HasFaultOf s.lines line number k → (later : List ℕ) → ErrorSoFar ((bytes ++ ended part) ++ later) number k
+stops_end bytes part line old number (kind.Line fault) s none is h later =
+    let whole : List ℕ = old.rest.items ++ part in
+    let F : List ℕ → Type 0 = λ x. HasFault s.lines x number fault in
+    let seam : ended whole ++ later ≡ whole ++ 10 ∷ later = append_assoc whole (10 ∷ []) later in
+    record {
+      earlier = s.lines;
+      line = whole;
+      later = 10 ∷ later;
+      place = ap (λ (xs : List ℕ). xs ++ later) (end_whole bytes part s.lines old.rest.items s.splits.whole) ∙ append_assoc (flat_map ended s.lines) (ended whole) later ∙ ap (λ (xs : List ℕ). flat_map ended s.lines ++ xs) seam;
+      each = s.splits.each;
+      one = no_end-append old.rest.items part s.splits.partial none;
+      whole = inl (later, refl);
+      faulty = subst F is h;
+    }
+stops_end bytes part line old number kind.Device s none is h later = h
+stops_end bytes part line old number kind.Memory s none is h later = tt
+
+-- what a line's end makes of the line that was taken, or refused
+pub end_of : (bytes part line : List ℕ) (old new : Feed) (r : Result (Unit {0}) ScriptError) (s : Stands bytes old) → HasNoEnd part → line ≡ old.rest.items ++ part → Takes s.lines line r new.progress → new.rest.items ≡ [] → Ended (bytes ++ ended part) r new
+end_of bytes part line old new (Ok done) s none is taken empty = Stands-end bytes part line old new s none is taken empty
+end_of bytes part line old new (Err error) s none is taken empty = stops_end bytes part line old error.line error.kind s none is taken
+
+whole_more : (line later more : List ℕ) → IsWhole line later → IsWhole line (later ++ more)
+whole_more line later more (inl w) = inl (w.0 ++ more, ap (λ (xs : List ℕ). xs ++ more) w.1)
+whole_more line later more (inr long) = inr long
+
+-- an error so far stays one, whatever stands behind
+pub error_more : (bytes more : List ℕ) (number : ℕ) (k : ErrorKind) → ErrorSoFar bytes number k → ErrorSoFar (bytes ++ more) number k
+error_more bytes more number (kind.Line fault) h = record {
+  earlier = h.earlier;
+  line = h.line;
+  later = h.later ++ more;
+  place = ap (λ (xs : List ℕ). xs ++ more) h.place ∙ append_assoc (flat_map ended h.earlier) (h.line ++ h.later) more ∙ ap (λ (xs : List ℕ). flat_map ended h.earlier ++ xs) (append_assoc h.line h.later more);
+  each = h.each;
+  one = h.one;
+  whole = whole_more h.line h.later more h.whole;
+  faulty = h.faulty;
+}
+error_more bytes more number kind.Device h = h
+error_more bytes more number kind.Memory h = tt
+
+seam : (bytes part later : List ℕ) → (bytes ++ part) ++ 10 ∷ later ≡ (bytes ++ ended part) ++ later
+seam bytes part later = append_assoc bytes part (10 ∷ later) ∙ ap (λ (xs : List ℕ). bytes ++ xs) (sym (append_assoc part (10 ∷ []) later)) ∙ sym (append_assoc bytes (ended part) later)
+
+-- an error of the part of a line is one of the line
+pub error_ends : (bytes part : List ℕ) (number : ℕ) (k : ErrorKind) → ErrorSoFar (bytes ++ part) number k → (later : List ℕ) → ErrorSoFar ((bytes ++ ended part) ++ later) number k
+error_ends bytes part number k h later =
+    let P : List ℕ → Type 0 = λ xs. ErrorSoFar xs number k in
+    subst P (seam bytes part later) (error_more (bytes ++ part) (10 ∷ later) number k h)
+
+-- a line whose bytes were kept ends with no further byte
+pub end_kept : (bytes part : List ℕ) (kept new : Feed) (r : Result (Unit {0}) ScriptError) (s : Stands (bytes ++ part) kept) → Takes s.lines kept.rest.items r new.progress → new.rest.items ≡ [] → Ended (bytes ++ ended part) r new
+end_kept bytes part kept new r s taken empty =
+    let P : List ℕ → Type 0 = λ xs. Ended xs r new in
+    subst P (append_assoc bytes part (10 ∷ [])) (end_of (bytes ++ part) [] kept.rest.items kept new r s no_end-nil (sym (append-nil kept.rest.items)) taken empty)
+
+-- a fault of a line whose bytes were kept
+pub stop_kept : (bytes part : List ℕ) (kept : Feed) (number : ℕ) (k : ErrorKind) (s : Stands (bytes ++ part) kept) → HasFaultOf s.lines kept.rest.items number k → (later : List ℕ) → ErrorSoFar ((bytes ++ ended part) ++ later) number k
+stop_kept bytes part kept number k s h later =
+    let P : List ℕ → Type 0 = λ xs. ErrorSoFar (xs ++ later) number k in
+    subst P (append_assoc bytes part (10 ∷ [])) (stops_end (bytes ++ part) [] kept.rest.items kept number k s no_end-nil (sym (append-nil kept.rest.items)) h later)
+
+-- a line's end divides the bytes
+pub cut_at : (left : List ℕ) (i : ℕ) → i < length left → get_or left i 0 ≡ 10 → left ≡ ended (take i left) ++ drop (suc i) left
+cut_at [] i lt e = absurd (omega arith)
+cut_at (x ∷ xs) zero lt e = ap (λ (b : ℕ). b ∷ xs) e
+cut_at (x ∷ xs) (suc i) lt e = ap (λ (l : List ℕ). x ∷ l) (cut_at xs i (omega arith) e)
+
+-- the lines of a beginning of the piece were taken
+pub record Goes (old : Feed) (piece left : List ℕ) (new : Feed) : Type 0 where
+  pub done : List ℕ
+  pub split : piece ≡ done ++ left
+  pub stands : (bytes : List ℕ) → Stands bytes old → Stands (bytes ++ done) new
+
+pub Goes-step : (old mid new : Feed) (piece left part more : List ℕ) → Goes old piece left mid → left ≡ ended part ++ more → HasNoEnd part → ((bytes : List ℕ) → Stands bytes mid → HasNoEnd part → Ended (bytes ++ ended part) (Ok tt) new) → Goes old piece more new
+Goes-step old mid new piece left part more g cut none ends = record {
+  done = g.done ++ ended part;
+  split = g.split ∙ ap (λ (xs : List ℕ). g.done ++ xs) cut ∙ sym (append_assoc g.done (ended part) more);
+  stands = λ bytes s. let P : List ℕ → Type 0 = λ xs. Stands xs new in subst P (append_assoc bytes g.done (ended part)) (ends (bytes ++ g.done) (g.stands bytes s) none);
+}
+
+-- a fault of one of its lines
+pub Goes-stop : (old mid new : Feed) (piece left part more : List ℕ) (error : ScriptError) → Goes old piece left mid → left ≡ ended part ++ more → HasNoEnd part → ((bytes : List ℕ) → Stands bytes mid → HasNoEnd part → Ended (bytes ++ ended part) (Err error) new) → (bytes : List ℕ) → Stands bytes old → ErrorSoFar (bytes ++ piece) error.line error.kind
+Goes-stop old mid new piece left part more error g cut none ends bytes s =
+    let P : List ℕ → Type 0 = λ xs. ErrorSoFar xs error.line error.kind in
+    let same : ((bytes ++ g.done) ++ ended part) ++ more ≡ bytes ++ piece =
+    append_assoc (bytes ++ g.done) (ended part) more
+    ∙ ap (λ (xs : List ℕ). (bytes ++ g.done) ++ xs) (sym cut)
+    ∙ append_assoc bytes g.done left
+    ∙ ap (λ (xs : List ℕ). bytes ++ xs) (sym g.split) in
+    subst P same (ends (bytes ++ g.done) (g.stands bytes s) none more)
+
+-- what is left when the last line's end was passed
+pub Goes-end : (old mid new : Feed) (piece left : List ℕ) (r : Result (Unit {0}) ScriptError) → Goes old piece left mid → HasNoEnd left → ((bytes : List ℕ) → Stands bytes mid → HasNoEnd left → Fed (bytes ++ left) r new) → (bytes : List ℕ) → Stands bytes old → Fed (bytes ++ piece) r new
+Goes-end old mid new piece left r g none keeps bytes s =
+    let P : List ℕ → Type 0 = λ xs. Fed xs r new in
+    subst P (append_assoc bytes g.done left ∙ ap (λ (xs : List ℕ). bytes ++ xs) (sym g.split)) (keeps (bytes ++ g.done) (g.stands bytes s) none)
+
+-- the last line, which has no end, has a fault
+pub last_stop : (bytes : List ℕ) (feed : Feed) (number : ℕ) (k : ErrorKind) (s : Stands bytes feed) → 0 < length feed.rest.items → HasFaultOf s.lines feed.rest.items number k → ErrorAtEnd bytes number k
+last_stop bytes feed number (kind.Line fault) s some h = inl (record { lines = s.lines; rest = feed.rest.items; splits = s.splits; some = some; faulty = h })
+last_stop bytes feed number kind.Device s some h = h
+last_stop bytes feed number kind.Memory s some h = tt
+
+ends_by : (bytes : List ℕ) (lines : List (List ℕ)) (rest : List ℕ) (r : Result Script ScriptError) → Splits bytes lines rest → EndsBy (last_lines lines rest) r → Ends bytes r
+ends_by bytes lines rest (Ok script) s h = record { lines = lines; rest = rest; splits = s; saids = h.0; read = h.1; made = h.2 }
+ends_by bytes lines rest (Err error) s h =
+    let P : ErrorKind → Type 0 = λ k. ErrorAtEnd bytes error.line k in
+    subst P (sym h.2) (inr (record { lines = lines; rest = rest; splits = s; read = h.0 }, h.1, refl))
+
+-- the end of bytes that end with a line's end
+pub ends_whole : (bytes : List ℕ) (feed : Feed) (r : Result Script ScriptError) (s : Stands bytes feed) → length feed.rest.items ≡ 0 → EndsBy s.lines r → Ends bytes r
+ends_whole bytes feed r s empty h =
+    let P : List (List ℕ) → Type 0 = λ ls. EndsBy ls r in
+    ends_by bytes s.lines feed.rest.items r s.splits (subst P (sym (last_none s.lines feed.rest.items empty)) h)
+
+-- the end behind a last line without one
+pub ends_rest : (bytes : List ℕ) (feed : Feed) (r : Result Script ScriptError) (s : Stands bytes feed) → 0 < length feed.rest.items → EndsBy (s.lines ++ feed.rest.items ∷ []) r → Ends bytes r
+ends_rest bytes feed r s some h =
+    let P : List (List ℕ) → Type 0 = λ ls. EndsBy ls r in
+    ends_by bytes s.lines feed.rest.items r s.splits (subst P (sym (last_some s.lines feed.rest.items some)) h)

@@ -1,0 +1,61 @@
+-- Texts of a script's run.
+use Rattle.std.proofs.Common.{ℕ, ◌≡◌, true, false, List, Option, Result, Ok, Err, MatchResult, IfOk, IfErr, is_ok, sym, ap, ◌∙◌, subst}
+use Rattle.world_steps.specs.Systems.{opening}
+use Rattle.recorder.specs.Histories.{Recorded}
+use Rattle.recorder.specs.Records.{IsPart}
+use Rattle.recorder.specs.Sound.{TagSound}
+use Rattle.recorder.specs.declared.part.Call.{Call}
+use Rattle.recorder.specs.declared.row.Row.{Row}
+use Rattle.history_file.specs.Deliveries.{Delivers}
+use Rattle.history_file.specs.ReadAgain.{IsTextOf}
+use Rattle.history_file.specs.Texts.{history_text}
+use Rattle.fault_script.specs.Deliveries.{ReadsAll}
+use Rattle.fault_script.specs.Running.{IsRunSoFar}
+use Rattle.fault_script.specs.Simulations.{IsSoundRun, Simulates}
+use Rattle.fault_script.specs.declared.command.Script.{Script}
+use Rattle.fault_script.specs.declared.script_run.ScriptRun.{ScriptRun}
+
+-- the run of all commands, and the text of its record
+pub run_of : (script : Script) (run : ScriptRun) (history : Recorded) (text : List ℕ) → IsRunSoFar (opening script.config) script.commands.items run
+    → history ≡ run.world.history → ((key : List ℕ) (part : List Call) → IsPart run.world.history.rows key part → TagSound part) → text ≡ history_text history.rows → IsTextOf text history.rows
+    → (rows : List Row) × IsSoundRun script rows run.notes.items × (text ≡ history_text rows)
+run_of script run history text so_far is sound written read =
+    let P : List ℕ → Type 0 = λ t. IsTextOf t history.rows in
+    let Q : Recorded → Type 0 = λ h. (key : List ℕ) (part : List Call) → IsPart h.rows key part → TagSound part in (
+      history.rows,
+      record {
+        run = record { last = run.world; runs = so_far; recorded = ap (λ (h : Recorded). h.rows) (sym is) };
+        text = subst P written read;
+        sound = subst Q (sym is) sound;
+      },
+      written,
+    )
+
+abbrev ok : {T D : Type 0} → T → Result T D
+ok x = Ok x
+
+-- what was parsed, where the error was named anew
+pub parsed : {T E D : Type 0} (r : Result T E) (s : Result T D) (x : T) (P : T → Type 0) (Q : E → Type 0) → MatchResult r (λ y. s ≡ Ok y) Q → is_ok s ≡ is_ok r → s ≡ Ok x → IfOk r P → P x
+parsed {T} {E} {D} (Ok y) s x P Q cases same was h =
+    let both : ok {T = T} {D = D} y ≡ ok x = sym cases ∙ was in
+    let one : y ≡ x = cc in
+    subst P one h
+parsed {T} {E} {D} (Err e) s x P Q cases same was h =
+    let no : true ≡ false = sym (ap (is_ok {T = T} {E = D}) was) ∙ same in
+    absurd cc
+
+-- a script that was read, the texts of its run, and what holds of them
+pub simulated : {old new : Option (List ℕ)} {P : List ℕ → List ℕ → Type 0} (script : Script) (notes text : List ℕ) → Delivers old new (ReadsAll new script)
+    → (rows : List Row) × IsSoundRun script rows notes × (text ≡ history_text rows) → P notes text → Simulates old new P
+simulated {old} {new} {P} script notes text read (rows, run, is) fact = record {
+  script = script;
+  read = read;
+  rows = rows;
+  notes = notes;
+  run = run;
+  fact = subst (P notes) is fact;
+}
+
+-- what holds after every error holds after this one
+pub begun_at : {T E P : Type 0} (r : Result T E) (error : E) → r ≡ Err error → IfErr r (λ e. P) → P
+begun_at {T} {E} {P} r error is h = let Q : Result T E → Type 0 = λ x. IfErr x (λ e. P) in subst Q is h

@@ -1,0 +1,72 @@
+-- What a script leaves is what some list of steps leaves.
+use Rattle.std.proofs.Common.{ℕ, zero, suc, ◌≡◌, ◌≤◌, List, [], ◌∷◌, ◌++◌, Option, None, is_some, cond, refl, sym, ap, ◌∙◌, subst}
+use Rattle.quorum.specs.Quorums.{IsLawful}
+use Rattle.random_steps.specs.Choices.{draw, generator_of, step_of}
+use Rattle.recorder.specs.Records.{IsPart}
+use Rattle.recorder.specs.Sound.{TagSound}
+use Rattle.recorder.specs.declared.part.Call.{Call}
+use Rattle.recorder.specs.declared.row.Row.{Row}
+use Rattle.world_steps.specs.Refusals.{refusal_of}
+use Rattle.world_steps.specs.Runs.{after_from, next}
+use Rattle.world_steps.specs.Systems.{moved, opening}
+use Rattle.world_steps.specs.declared.refusal.Refusal.{Refusal}
+use Rattle.world_steps.specs.declared.step.Step.{Step}
+use Rattle.world_steps.specs.declared.system.System.{System}
+use Rattle.world_steps.proofs.Headline.{headline}
+use Rattle.fault_script.specs.declared.command.Command.{Command}
+use Rattle.fault_script.specs.declared.command.Numbered.{Numbered}
+use Rattle.fault_script.specs.declared.command.Script.{Script}
+use Rattle.fault_script.specs.ScriptRuns.{Walk, stride, walked, Runs, takes, refuses, finishes, stays, randomly, RunsAll, done, goes, IsRunOf}
+
+-- a step that isn't refused is the next one
+next_moved : (s : System) (step : Step) (found : Option Refusal) → refusal_of s step ≡ found → found ≡ None → moved s step ≡ next s step
+next_moved s step found is none = sym (ap (λ (o : Option Refusal). cond (is_some o) s (moved s step)) (is ∙ none))
+
+-- steps and then others
+after_append : (s : System) (xs ys : List Step) → after_from s (xs ++ ys) ≡ after_from (after_from s xs) ys
+after_append s [] ys = refl
+after_append s (x ∷ xs) ys = after_append (next s x) xs ys
+
+-- some steps lead from the one system to the other
+pub record Leads (old new : System) : Type 0 where
+  pub steps : List Step
+  pub is : new ≡ after_from old steps
+
+leads_on : (a b c : System) → Leads a b → Leads b c → Leads a c
+leads_on a b c h k = record {
+  steps = h.steps ++ k.steps;
+  is = k.is ∙ ap (λ (s : System). after_from s k.steps) h.is ∙ sym (after_append a h.steps k.steps);
+}
+
+one_step : (s : System) (step : Step) → Leads s (next s step)
+one_step s step = record { steps = step ∷ []; is = refl }
+
+no_step : (s : System) → Leads s s
+no_step s = record { steps = []; is = refl }
+
+stride_leads : (walk : Walk) → Leads walk.system (stride walk).system
+unfolding stride
+stride_leads walk = one_step walk.system (step_of walk.system (draw walk.generator))
+
+walk_leads : (walk : Walk) (count : ℕ) → Leads walk.system (walked walk count).system
+walk_leads walk zero = no_step walk.system
+walk_leads walk (suc count) = leads_on walk.system (walked walk count).system (stride (walked walk count)).system (walk_leads walk count) (stride_leads (walked walk count))
+
+one_leads : (line : ℕ) (a b : System) (command : Command) (note : List ℕ) → Runs line a command b note → Leads a b
+one_leads line a b command note (takes s step none) = record { steps = step ∷ []; is = next_moved s step (refusal_of s step) refl none }
+one_leads line a b command note (refuses s step why refused) = no_step s
+one_leads line a b command note (finishes s name steps may settles) = record { steps = steps; is = refl }
+one_leads line a b command note (stays s name why holds) = no_step s
+one_leads line a b command note (randomly s seed count) = walk_leads (record { system = s; generator = generator_of seed; taken = 0 }) count
+
+pub all_lead : (a b : System) (commands : List Numbered) (notes : List ℕ) → RunsAll a commands b notes → Leads a b
+all_lead a b commands notes (done s) = no_step s
+all_lead a b commands notes (goes s mid last numbered others first rest one all) =
+    leads_on s mid last (one_leads numbered.line s mid numbered.command first one) (all_lead mid last others rest all)
+
+-- so it is sound
+pub run_sound : (script : Script) (rows : List Row) (notes key : List ℕ) (part : List Call) → IsLawful script.config.quorums → script.config.calls ≤ 1000000 → IsRunOf script rows notes → IsPart rows key part → TagSound part
+run_sound script rows notes key part lawful calls run is =
+    let led = all_lead (opening script.config) run.last script.commands.items notes run.runs in
+    let P : List Row → Type 0 = λ r. IsPart r key part in
+    headline script.config led.steps key part lawful calls (subst P (sym run.recorded ∙ ap (λ (s : System). s.history.rows) led.is) is)

@@ -1,0 +1,168 @@
+-- Words, taken from a text one after another.
+use Rattle.std.proofs.Common.{ℕ, suc, ◌≡◌, ◌<◌, ◌+◌, ◌||◌, ◌==◌, inl, inr, List, [], ◌∷◌, length, get_or, take, drop, Bool, true, false, not, cond, filter, refl, sym, ap, ◌∙◌, subst, arith, eqb-true}
+use Rattle.std.specs.Prelude.{IsUtf8}
+use Rattle.std.specs.List.{slice_split, onto_first, before_first, after_first, position_or_len}
+use Rattle.std.proofs.lemmas.Str.{IsUtf8-drop, IsUtf8-nil, IsCharBoundary-after_ascii}
+use Rattle.std.proofs.lemmas.List.{drop_all}
+use Rattle.std.proofs.lemmas.Bool.{cases_lt}
+use Rattle.fault_script.specs.Words.{is_space, has_bytes, words, without_spaces, behind_word}
+
+one_more : (n : ℕ) → 1 + n ≡ suc n
+one_more n = omega arith
+
+two_more : (n : ℕ) → 1 + n + 1 ≡ suc (n + 1)
+two_more n = omega arith
+
+-- how a list is cut at its first element that passes
+data Cuts (p : ℕ → Bool) (xs : List ℕ) : Type 0 where
+  cut : slice_split p xs ≡ before_first p xs ∷ slice_split p (after_first p xs) → Cuts p xs
+  whole : slice_split p xs ≡ before_first p xs ∷ [] → after_first p xs ≡ [] → Cuts p xs
+
+before_more : (p : ℕ → Bool) (x : ℕ) (xs : List ℕ) → p x ≡ false → before_first p (x ∷ xs) ≡ x ∷ before_first p xs
+before_more p x xs e =
+    ap (λ (b : Bool). take (cond (not b) (1 + position_or_len p xs) 0) (x ∷ xs)) e ∙ ap (λ (k : ℕ). take k (x ∷ xs)) (one_more (position_or_len p xs))
+
+after_more : (p : ℕ → Bool) (x : ℕ) (xs : List ℕ) → p x ≡ false → after_first p (x ∷ xs) ≡ after_first p xs
+after_more p x xs e =
+    ap (λ (b : Bool). drop (cond (not b) (1 + position_or_len p xs) 0 + 1) (x ∷ xs)) e ∙ ap (λ (k : ℕ). drop k (x ∷ xs)) (two_more (position_or_len p xs))
+
+before_here : (p : ℕ → Bool) (x : ℕ) (xs : List ℕ) → p x ≡ true → before_first p (x ∷ xs) ≡ []
+before_here p x xs e = ap (λ (b : Bool). take (cond (not b) (1 + position_or_len p xs) 0) (x ∷ xs)) e
+
+after_here : (p : ℕ → Bool) (x : ℕ) (xs : List ℕ) → p x ≡ true → after_first p (x ∷ xs) ≡ xs
+after_here p x xs e = ap (λ (b : Bool). drop (cond (not b) (1 + position_or_len p xs) 0 + 1) (x ∷ xs)) e
+
+split_here : (p : ℕ → Bool) (x : ℕ) (xs : List ℕ) → p x ≡ true → slice_split p (x ∷ xs) ≡ [] ∷ slice_split p xs
+split_here p x xs e = ap (λ (b : Bool). cond b ([] ∷ slice_split p xs) (onto_first x (slice_split p xs))) e
+
+split_more : (p : ℕ → Bool) (x : ℕ) (xs : List ℕ) → p x ≡ false → slice_split p (x ∷ xs) ≡ onto_first x (slice_split p xs)
+split_more p x xs e = ap (λ (b : Bool). cond b ([] ∷ slice_split p xs) (onto_first x (slice_split p xs))) e
+
+cuts_more : (p : ℕ → Bool) (x : ℕ) (xs : List ℕ) → p x ≡ false → Cuts p xs → Cuts p (x ∷ xs)
+cuts_more p x xs e (cut h) =
+    cut (split_more p x xs e ∙ ap (onto_first x) h ∙ λ i. (sym (before_more p x xs e) i) ∷ slice_split p (sym (after_more p x xs e) i))
+cuts_more p x xs e (whole h none) =
+    whole (split_more p x xs e ∙ ap (onto_first x) h ∙ λ i. (sym (before_more p x xs e) i) ∷ []) (after_more p x xs e ∙ none)
+
+cuts_by : (p : ℕ → Bool) (x : ℕ) (xs : List ℕ) (b : Bool) → p x ≡ b → Cuts p xs → Cuts p (x ∷ xs)
+cuts_by p x xs true e h =
+    cut (split_here p x xs e ∙ λ i. (sym (before_here p x xs e) i) ∷ slice_split p (sym (after_here p x xs e) i))
+cuts_by p x xs false e h = cuts_more p x xs e h
+
+cuts : (p : ℕ → Bool) (xs : List ℕ) → Cuts p xs
+cuts p [] = whole refl refl
+cuts p (x ∷ xs) = cuts_by p x xs (p x) refl (cuts p xs)
+
+pub words-nil : words [] ≡ []
+unfolding words
+words-nil = refl
+
+words_space : (b : ℕ) (xs : List ℕ) → is_space b ≡ true → words (b ∷ xs) ≡ words xs
+unfolding words
+words_space b xs e = ap (filter has_bytes) (split_here is_space b xs e)
+
+first_by : (text : List ℕ) → has_bytes (before_first is_space text) ≡ true → Cuts is_space text → words text ≡ before_first is_space text ∷ words (after_first is_space text)
+unfolding words
+first_by text some (cut h) =
+    ap (filter has_bytes) h ∙ ap (λ (b : Bool). cond b (before_first is_space text ∷ filter has_bytes (slice_split is_space (after_first is_space text))) (filter has_bytes (slice_split is_space (after_first is_space text)))) some
+first_by text some (whole h none) =
+    ap (filter has_bytes) h ∙ ap (λ (b : Bool). cond b (before_first is_space text ∷ []) []) some ∙ ap (λ (rest : List ℕ). before_first is_space text ∷ filter has_bytes (slice_split is_space rest)) (sym none)
+
+-- a text that begins with a byte of a word
+words_first : (b : ℕ) (bs : List ℕ) → is_space b ≡ false → words (b ∷ bs) ≡ before_first is_space (b ∷ bs) ∷ words (after_first is_space (b ∷ bs))
+words_first b bs e = first_by (b ∷ bs) (ap has_bytes (before_more is_space b bs e)) (cuts is_space (b ∷ bs))
+
+-- what is left without the spaces that a text begins with: nothing, or what begins with a word
+data Begins (text : List ℕ) : Type 0 where
+  nothing : without_spaces text ≡ [] → words text ≡ [] → Begins text
+  something : (b : ℕ) (bs : List ℕ) → without_spaces text ≡ b ∷ bs → is_space b ≡ false → words text ≡ words (b ∷ bs) → Begins text
+
+skip_here : (b : ℕ) (bs : List ℕ) → is_space b ≡ false → without_spaces (b ∷ bs) ≡ b ∷ bs
+skip_here b bs e = ap (λ (t : Bool). drop (cond (not (not t)) (1 + position_or_len (λ c. not (is_space c)) bs) 0) (b ∷ bs)) e
+
+skip_more : (b : ℕ) (bs : List ℕ) → is_space b ≡ true → without_spaces (b ∷ bs) ≡ without_spaces bs
+skip_more b bs e =
+    ap (λ (t : Bool). drop (cond (not (not t)) (1 + position_or_len (λ c. not (is_space c)) bs) 0) (b ∷ bs)) e ∙ ap (λ (k : ℕ). drop k (b ∷ bs)) (one_more (position_or_len (λ c. not (is_space c)) bs))
+
+begins_more : (b : ℕ) (bs : List ℕ) → is_space b ≡ true → Begins bs → Begins (b ∷ bs)
+begins_more b bs e (nothing left none) = nothing (skip_more b bs e ∙ left) (words_space b bs e ∙ none)
+begins_more b bs e (something c cs left word same) = something c cs (skip_more b bs e ∙ left) word (words_space b bs e ∙ same)
+
+begins_by : (b : ℕ) (bs : List ℕ) (t : Bool) → is_space b ≡ t → Begins bs → Begins (b ∷ bs)
+begins_by b bs true e h = begins_more b bs e h
+begins_by b bs false e h = something b bs (skip_here b bs e) e refl
+
+begins : (text : List ℕ) → Begins text
+begins [] = nothing refl words-nil
+begins (b ∷ bs) = begins_by b bs (is_space b) refl (begins bs)
+
+none_by : (text : List ℕ) → length (without_spaces text) ≡ 0 → Begins text → words text ≡ []
+none_by text e (nothing left none) = none
+none_by text e (something b bs left word same) = absurd (omega (arith, ap length left))
+
+pub words-none : (text : List ℕ) → length (without_spaces text) ≡ 0 → words text ≡ []
+words-none text e = none_by text e (begins text)
+
+some_by : (text : List ℕ) → 0 < length (without_spaces text) → Begins text → words text ≡ before_first is_space (without_spaces text) ∷ words (after_first is_space (without_spaces text))
+some_by text some (nothing left none) = absurd (omega (arith, ap length left))
+some_by text some (something b bs left word same) =
+    let P : List ℕ → Type 0 = λ t. words text ≡ before_first is_space t ∷ words (after_first is_space t) in
+    subst P (sym left) (same ∙ words_first b bs word)
+
+pub words-some : (text : List ℕ) → 0 < length (without_spaces text) → words text ≡ before_first is_space (without_spaces text) ∷ words (after_first is_space (without_spaces text))
+words-some text some = some_by text some (begins text)
+
+either_space : (x y : Bool) (b : ℕ) → b == 32 ≡ x → b == 9 ≡ y → (x || y) ≡ true → b < 128
+either_space true y b p q e = omega (arith, eqb-true b 32 p)
+either_space false true b p q e = omega (arith, eqb-true b 9 q)
+either_space false false b p q e = absurd (cc)
+
+space_small : (b : ℕ) → is_space b ≡ true → b < 128
+space_small b e = either_space (b == 32) (b == 9) b refl refl e
+
+tail_text : (b : ℕ) (bs : List ℕ) → b < 128 → IsUtf8 (b ∷ bs) → IsUtf8 bs
+tail_text b bs small text = IsUtf8-drop (b ∷ bs) 1 text (IsCharBoundary-after_ascii (b ∷ bs) 0 text (omega arith) small)
+
+skip_text_by : (b : ℕ) (bs : List ℕ) (t : Bool) → is_space b ≡ t → IsUtf8 (b ∷ bs) → (IsUtf8 bs → IsUtf8 (without_spaces bs)) → IsUtf8 (without_spaces (b ∷ bs))
+skip_text_by b bs true e text more = let P : List ℕ → Type 0 = λ xs. IsUtf8 xs in subst P (sym (skip_more b bs e)) (more (tail_text b bs (space_small b e) text))
+skip_text_by b bs false e text more = let P : List ℕ → Type 0 = λ xs. IsUtf8 xs in subst P (sym (skip_here b bs e)) text
+
+skip_text : (text : List ℕ) → IsUtf8 text → IsUtf8 (without_spaces text)
+skip_text [] h = h
+skip_text (b ∷ bs) h = skip_text_by b bs (is_space b) refl h (skip_text bs)
+
+-- the byte at the first place that passes
+at_by : (b : ℕ) (bs : List ℕ) (t : Bool) → is_space b ≡ t → position_or_len is_space (b ∷ bs) < length (b ∷ bs) → (position_or_len is_space bs < length bs → is_space (get_or bs (position_or_len is_space bs) 0) ≡ true) → is_space (get_or (b ∷ bs) (position_or_len is_space (b ∷ bs)) 0) ≡ true
+at_by b bs true e lt more = ap (λ (t : Bool). is_space (get_or (b ∷ bs) (cond (not t) (1 + position_or_len is_space bs) 0) 0)) e ∙ e
+at_by b bs false e lt more =
+    let n = position_or_len is_space bs in
+    let same : position_or_len is_space (b ∷ bs) ≡ suc n = ap (λ (t : Bool). cond (not t) (1 + n) 0) e ∙ one_more n in
+    ap (λ (k : ℕ). is_space (get_or (b ∷ bs) k 0)) same ∙ more (omega (arith, same))
+
+at_space : (text : List ℕ) → position_or_len is_space text < length text → is_space (get_or text (position_or_len is_space text) 0) ≡ true
+at_space [] lt = absurd (omega arith)
+at_space (b ∷ bs) lt = at_by b bs (is_space b) refl lt (at_space bs)
+
+after_text : (text : List ℕ) → IsUtf8 text → IsUtf8 (after_first is_space text)
+after_text text h =
+    let n = position_or_len is_space text in
+    elim (cases_lt n (length text)) [
+      | inl lt ↦ IsUtf8-drop text (n + 1) h (IsCharBoundary-after_ascii text n h lt (space_small (get_or text n 0) (at_space text lt)))
+      | inr le ↦ let P : List ℕ → Type 0 = λ xs. IsUtf8 xs in subst P (sym (drop_all (n + 1) text (omega arith))) IsUtf8-nil
+    ]
+
+-- what stands behind a word of a text is a text
+pub behind-text : (text : List ℕ) → IsUtf8 text → IsUtf8 (behind_word text)
+unfolding behind_word
+behind-text text h = after_text (without_spaces text) (skip_text text h)
+
+behind_by : (text word : List ℕ) (others : List (List ℕ)) → words text ≡ word ∷ others → Begins text → words (behind_word text) ≡ others
+unfolding behind_word
+behind_by text word others e (nothing left none) = absurd (cc)
+behind_by text word others e (something b bs left first same) =
+    let some : words text ≡ before_first is_space (without_spaces text) ∷ words (after_first is_space (without_spaces text)) = some_by text (omega (arith, ap length left)) (something b bs left first same) in
+    cc
+
+-- behind the first word stand the other words
+pub words-behind : (text word : List ℕ) (others : List (List ℕ)) → words text ≡ word ∷ others → words (behind_word text) ≡ others
+words-behind text word others e = behind_by text word others e (begins text)

@@ -1,0 +1,9 @@
+use Rattle.std.proofs.Common.{subst}
+use Rattle.recorder.specs.Histories.{Recorded}
+use Rattle.recorder.specs.Records.{IsPart}
+use Rattle.fault_script.proofs.justified.justified_run.Goals as goal
+
+pub key_orders-requires : goal.key_orders-requires
+key_orders-requires c = λ key part there.
+    let h = c.into_history-history in
+    h.ensures.parts key part (subst (λ (r : Recorded). IsPart r.rows key part) h.ensures.history (c.in_ok-parts.ensures.each key part there))

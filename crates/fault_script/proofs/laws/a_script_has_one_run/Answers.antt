@@ -1,0 +1,5 @@
+use Rattle.fault_script.proofs.RunsOnce.{run_once}
+use Rattle.fault_script.proofs.laws.a_script_has_one_run.Goals as goal
+
+pub returns : goal.returns
+returns c = run_once

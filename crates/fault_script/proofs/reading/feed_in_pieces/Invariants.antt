@@ -1,0 +1,13 @@
+use Rattle.std.proofs.Common.{◌≡◌, ◌≤◌, ◌+◌, ◌-◌, ◌^◌, length}
+use Rattle.fault_script.specs.Deliveries.{Holds}
+use Rattle.fault_script.proofs.reading.feed_in_pieces.Given as goal
+
+abbrev pub invariant-pieces : goal.invariant-pieces
+invariant-pieces g l = record {
+  holds : Holds (g.R.Read.remaining l.fn.reader.inner) (g.R.Read.remaining l.reader.inner) l.feed;
+  same : l.reader.failures ≡ l.fn.reader.failures;
+  fed : l.feed.progress.lines + length l.feed.rest.items ≤ l.reader.given;
+}
+
+abbrev pub decreases-pieces : goal.decreases-pieces
+decreases-pieces g l = 2 ^ 62 - l.reader.given

@@ -1,0 +1,9 @@
+use Rattle.std.proofs.lemmas.Result.{on_ok_weaker}
+use Rattle.fault_script.proofs.RunSteps.{walked_on}
+use Rattle.fault_script.proofs.script_run.ScriptRun.randomize.Goals as goal
+
+pub returns : goal.returns
+returns c =
+    on_ok_weaker c.note_random.result
+    (walked_on c.args.self.now (record { world = c.walk.new.world; notes = c.note_random.new.notes }) c.args.line c.args.seed c.args.count c.in_ok-taken.taken c.in_ok-taken.ensures)
+    c.note_random.ensures

@@ -1,0 +1,135 @@
+-- The commands behind the configuration, by the words of their lines.
+use Rattle.std.specs.Prelude.{ℕ, List, Result, Ok, Err, codes, bytes_eq, if◌then◌else◌}
+use Rattle.tag.specs.declared.actions.Action.{Action}
+use Rattle.tag.specs.declared.actions.Action.TheVariants.{Read, Write}
+use Rattle.world_steps.specs.declared.step.Step.{Step}
+use Rattle.world_steps.specs.declared.step.Step.TheVariants as step
+use Rattle.fault_script.specs.declared.command.Command.{Command}
+use Rattle.fault_script.specs.declared.command.Command.TheVariants as command
+use Rattle.fault_script.specs.declared.fault.LineFault.{LineFault}
+use Rattle.fault_script.specs.declared.fault.LineFault.TheVariants.{UnknownCommand}
+use Rattle.fault_script.specs.Words.{words, behind_word}
+use Rattle.fault_script.specs.Says.{◌>>=◌, needed_word, needed_text, needed_number, one_number, nothing_more, within, client_of, replica_of, flight_of, key_of, value_of}
+
+-- one name of a client, one number of a replica or of a flight
+unfoldable pub client_in : List (List ℕ) → Result ℕ LineFault
+client_in words = do
+  number ← one_number words
+  client_of number
+
+unfoldable pub replica_in : List (List ℕ) → Result ℕ LineFault
+replica_in words = do
+  number ← one_number words
+  replica_of number
+
+unfoldable pub flight_in : List (List ℕ) → Result ℕ LineFault
+flight_in words = do
+  number ← one_number words
+  flight_of number
+
+-- what a call asks: `read` and nothing more, or `write` and then the value, spaces included
+unfoldable pub action_in : List ℕ → List ℕ → Result Action LineFault
+action_in action behind_key =
+    if bytes_eq action (codes "read") then (do
+      nothing ← nothing_more (words behind_key)
+      Ok Read)
+    else if bytes_eq action (codes "write") then (do
+      value ← value_of behind_key
+      Ok (Write value))
+    else Err UnknownCommand
+
+-- `CLIENT read KEY` or `CLIENT write KEY VALUE`
+unfoldable pub invoke_in : List ℕ → Result Step LineFault
+invoke_in args = do
+  client ← needed_number (words args)
+  action ← needed_word client.1
+  key ← needed_word action.1
+  asked ← action_in action.0 (behind_word (behind_word (behind_word args)))
+  name ← client_of client.0
+  text ← key_of key.0
+  Ok (step.Invoke name text asked)
+
+-- `CLIENT REPLICA`
+unfoldable pub send_in : List (List ℕ) → Result Step LineFault
+send_in words = do
+  client ← needed_number words
+  replica ← needed_number client.1
+  nothing ← nothing_more replica.1
+  name ← client_of client.0
+  number ← replica_of replica.0
+  Ok (step.Send name number)
+
+-- `client CLIENT` or `replica REPLICA`
+unfoldable pub stopped_in : List ℕ → List (List ℕ) → Result Step LineFault
+stopped_in kind words =
+    if bytes_eq kind (codes "client") then (do
+      client ← client_in words
+      Ok (step.StopClient client))
+    else if bytes_eq kind (codes "replica") then (do
+      replica ← replica_in words
+      Ok (step.StopReplica replica))
+    else Err UnknownCommand
+
+unfoldable pub stop_in : List (List ℕ) → Result Step LineFault
+stop_in words = do
+  kind ← needed_word words
+  stopped_in kind.0 kind.1
+
+-- `replica REPLICA`
+unfoldable pub start_in : List (List ℕ) → Result Step LineFault
+start_in words = do
+  others ← needed_text (codes "replica") words
+  replica ← replica_in others
+  Ok (step.StartReplica replica)
+
+-- `SEED COUNT`
+unfoldable pub random_in : List (List ℕ) → Result Command LineFault
+random_in words = do
+  seed ← needed_number words
+  count ← needed_number seed.1
+  nothing ← nothing_more count.1
+  first ← within 0 18446744073709551615 seed.0
+  steps ← within 0 1000000 count.0
+  Ok (command.Random first steps)
+
+-- a step of a client
+unfoldable pub client_step_in : List ℕ → List (List ℕ) → Result Step LineFault
+client_step_in verb words =
+    if bytes_eq verb (codes "join") then (do
+      client ← client_in words
+      Ok (step.Join client))
+    else if bytes_eq verb (codes "send") then send_in words
+    else if bytes_eq verb (codes "respond") then (do
+      client ← client_in words
+      Ok (step.Respond client))
+    else Err UnknownCommand
+
+-- a step on a flight, or one that stops or starts, or one of a client
+unfoldable pub step_in : List ℕ → List (List ℕ) → Result Step LineFault
+step_in verb words =
+    if bytes_eq verb (codes "deliver") then (do
+      flight ← flight_in words
+      Ok (step.Deliver flight))
+    else if bytes_eq verb (codes "lose") then (do
+      flight ← flight_in words
+      Ok (step.Lose flight))
+    else if bytes_eq verb (codes "repeat") then (do
+      flight ← flight_in words
+      Ok (step.Repeat flight))
+    else if bytes_eq verb (codes "stop") then stop_in words
+    else if bytes_eq verb (codes "start") then start_in words
+    else client_step_in verb words
+
+-- the command of that first word, and of what stands behind it
+unfoldable pub command_in : List ℕ → List ℕ → Result Command LineFault
+command_in verb args =
+    if bytes_eq verb (codes "invoke") then (do
+      step ← invoke_in args
+      Ok (command.Step step))
+    else if bytes_eq verb (codes "finish") then (do
+      client ← client_in (words args)
+      Ok (command.Finish client))
+    else if bytes_eq verb (codes "random") then random_in (words args)
+    else (do
+      step ← step_in verb (words args)
+      Ok (command.Step step))

@@ -1,0 +1,17 @@
+pub mod Numbers
+pub mod Words
+pub mod Says
+pub mod Settings
+pub mod Commands
+pub mod Forms
+pub mod SettingForms
+pub mod Saying
+pub mod Lines
+pub mod Scripts
+pub mod Feeds
+pub mod Deliveries
+pub mod Justified
+pub mod NoteTexts
+pub mod ScriptRuns
+pub mod Simulations
+pub mod Running

@@ -1,0 +1,81 @@
+-- What words say, read one after another: a word that is missing, or one too many, is a fault.
+use Rattle.std.specs.Prelude.{ℕ, ◌≡◌, ◌&&◌, List, [], ◌∷◌, Bool, Option, Some, None, Result, Ok, Err, nat_le, bytes_eq, if◌then◌else◌}
+use Rattle.tag.specs.Names.{is_key, is_value}
+use Rattle.fault_script.specs.declared.fault.LineFault.{LineFault}
+use Rattle.fault_script.specs.declared.fault.LineFault.TheVariants.{UnknownCommand, Range}
+use Rattle.fault_script.specs.declared.fault.Stop.{Stop}
+use Rattle.fault_script.specs.declared.fault.Stop.TheVariants as stop
+use Rattle.fault_script.specs.Words.{number_of}
+
+-- the first fault of two steps, or what the second makes of the first
+infixl 10 ◌>>=◌
+abbrev pub ◌>>=◌ : {A B : Type 0} → Result A LineFault → (A → Result B LineFault) → Result B LineFault
+(Ok x) >>= f = f x
+(Err e) >>= f = Err e
+
+-- what a function returned, seen by view, is what is said, unless memory ran out
+abbrev pub Fails : {Y : Type 0} → Stop → Result Y LineFault → Type 0
+Fails stop.Memory said = Unit {0}
+Fails (stop.Fault f) said = said ≡ Err f
+
+abbrev pub Gives : {X Y : Type 0} → (X → Y) → Result X Stop → Result Y LineFault → Type 0
+Gives view (Ok x) said = said ≡ Ok (view x)
+Gives view (Err e) said = Fails e said
+
+-- the next word, and those behind it
+unfoldable pub needed_word : List (List ℕ) → Result (List ℕ × List (List ℕ)) LineFault
+needed_word [] = Err UnknownCommand
+needed_word (word ∷ others) = Ok (word, others)
+
+-- no word is left
+unfoldable pub nothing_more : List (List ℕ) → Result (Unit {0}) LineFault
+nothing_more [] = Ok tt
+nothing_more (word ∷ others) = Err UnknownCommand
+
+-- the next word is that one
+unfoldable pub needed_text : List ℕ → List (List ℕ) → Result (List (List ℕ)) LineFault
+needed_text text words = do
+  word ← needed_word words
+  if bytes_eq word.0 text then Ok word.1 else Err UnknownCommand
+
+-- the next word is a number
+unfoldable pub needed_number : List (List ℕ) → Result (Option ℕ × List (List ℕ)) LineFault
+needed_number words = do
+  word ← needed_word words
+  number ← number_of word.0
+  Ok (number, word.1)
+
+-- the next word, where there is one, is a number
+unfoldable pub number_or : ℕ → List (List ℕ) → Result (Option ℕ × List (List ℕ)) LineFault
+number_or default [] = Ok (Some default, [])
+number_or default (word ∷ others) = needed_number (word ∷ others)
+
+-- one number is all
+unfoldable pub one_number : List (List ℕ) → Result (Option ℕ) LineFault
+one_number words = do
+  number ← needed_number words
+  nothing ← nothing_more number.1
+  Ok number.0
+
+-- what is outside its range is a fault
+abbrev pub ranged : {X : Type 0} → Bool → X → Result X LineFault
+ranged fits x = if fits then Ok x else Err Range
+
+unfoldable pub within : ℕ → ℕ → Option ℕ → Result ℕ LineFault
+within least most None = Err Range
+within least most (Some n) = ranged (nat_le least n && nat_le n most) n
+
+abbrev pub client_of : Option ℕ → Result ℕ LineFault
+client_of number = within 1 65535 number
+
+abbrev pub replica_of : Option ℕ → Result ℕ LineFault
+replica_of number = within 0 14 number
+
+abbrev pub flight_of : Option ℕ → Result ℕ LineFault
+flight_of number = within 0 4294967295 number
+
+abbrev pub key_of : List ℕ → Result (List ℕ) LineFault
+key_of key = ranged (is_key key) key
+
+abbrev pub value_of : List ℕ → Result (List ℕ) LineFault
+value_of value = ranged (is_value value) value

@@ -1,0 +1,62 @@
+-- The runs of a script: its commands in their order, from the opening system of its configuration, and what is said of them.
+use Rattle.std.specs.Prelude.{ℕ, zero, suc, ◌≡◌, ◌+◌, List, [], ◌∷◌, ◌++◌, None, Some, is_some, if◌then◌else◌}
+use Rattle.rand_pcg.specs.Lcg.{Lcg}
+use Rattle.random_steps.specs.Choices.{draw, generator_of, step_of}
+use Rattle.recorder.specs.declared.row.Row.{Row}
+use Rattle.world_settle.specs.Refusing.{IsUnsettled, MaySettle}
+use Rattle.world_settle.specs.Settling.{Settles}
+use Rattle.world_settle.specs.declared.errors.SettleError.{SettleError}
+use Rattle.world_steps.specs.Refusals.{refusal_of}
+use Rattle.world_steps.specs.Runs.{after_from, next}
+use Rattle.world_steps.specs.Systems.{moved, opening}
+use Rattle.world_steps.specs.declared.refusal.Refusal.{Refusal}
+use Rattle.world_steps.specs.declared.step.Step.{Step}
+use Rattle.world_steps.specs.declared.system.System.{System}
+use Rattle.fault_script.specs.declared.command.Command.{Command}
+use Rattle.fault_script.specs.declared.command.Command.TheVariants as command
+use Rattle.fault_script.specs.declared.command.Numbered.{Numbered}
+use Rattle.fault_script.specs.declared.command.Script.{Script}
+use Rattle.fault_script.specs.NoteTexts.{random_note, refused_note, unfinished_note}
+
+-- a system behind some random steps, the generator of those to come, and how many were taken
+pub record Walk : Type 0 where
+  pub system : System
+  pub generator : Lcg
+  pub taken : ℕ
+
+-- one random step more: three words are drawn, and the step that they choose is taken or passed over
+unfoldable pub stride : Walk → Walk
+stride walk =
+    let step = step_of walk.system (draw walk.generator) in
+    record {
+      system = next walk.system step;
+      generator = (draw walk.generator).rest;
+      taken = if is_some (refusal_of walk.system step) then walk.taken else walk.taken + 1;
+    }
+
+abbrev pub walked : Walk → ℕ → Walk
+walked walk zero = walk
+walked walk (suc n) = stride (walked walk n)
+
+-- so many random steps of a seed
+abbrev pub random_walk : System → ℕ → ℕ → Walk
+random_walk s seed count = walked (record { system = s; generator = generator_of seed; taken = 0 }) count
+
+-- what the command of a line makes of the system, and what is said of it
+pub data Runs (line : ℕ) : System → Command → System → List ℕ → Type 0 where
+  takes : (s : System) (step : Step) → refusal_of s step ≡ None → Runs line s (command.Step step) (moved s step) []
+  refuses : (s : System) (step : Step) (why : Refusal) → refusal_of s step ≡ Some why → Runs line s (command.Step step) s (refused_note line why)
+  finishes : (s : System) (name : ℕ) (steps : List Step) → MaySettle s name → Settles name s steps → Runs line s (command.Finish name) (after_from s steps) []
+  stays : (s : System) (name : ℕ) (why : SettleError) → IsUnsettled s name why → Runs line s (command.Finish name) s (unfinished_note line why)
+  randomly : (s : System) (seed count : ℕ) → Runs line s (command.Random seed count) (random_walk s seed count).system (random_note line (random_walk s seed count).taken count)
+
+-- the commands one after another, and what is said of them
+pub data RunsAll : System → List Numbered → System → List ℕ → Type 0 where
+  done : (s : System) → RunsAll s [] s []
+  goes : (s mid last : System) (numbered : Numbered) (others : List Numbered) (note notes : List ℕ) → Runs numbered.line s numbered.command mid note → RunsAll mid others last notes → RunsAll s (numbered ∷ others) last (note ++ notes)
+
+-- a run of the script has those rows in its record, and says those notes
+pub record IsRunOf (script : Script) (rows : List Row) (notes : List ℕ) : Type 0 where
+  pub last : System
+  pub runs : RunsAll (opening script.config) script.commands.items last notes
+  pub recorded : last.history.rows ≡ rows

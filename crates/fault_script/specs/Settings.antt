@@ -1,0 +1,76 @@
+-- The lines of the configuration: `replicas`, `reads` and `votes`.
+use Rattle.std.specs.Prelude.{ℕ, zero, suc, ◌+◌, ◌&&◌, List, [], ◌∷◌, Bool, Option, Some, None, Result, Ok, Err, codes, bytes_eq, length, min, nat_le, nat_lt, sum, if◌then◌else◌}
+use Rattle.std.specs.List.{list_all}
+use Rattle.quorum.specs.Quorums.{Quorums}
+use Rattle.client_phases.specs.declared.rules.ReadMode.{ReadMode}
+use Rattle.client_phases.specs.declared.rules.ReadMode.TheVariants.{Full, Short}
+use Rattle.world_steps.specs.Configs.{Config, config_of}
+use Rattle.fault_script.specs.declared.fault.LineFault.{LineFault}
+use Rattle.fault_script.specs.declared.fault.LineFault.TheVariants.{UnknownCommand}
+use Rattle.fault_script.specs.Says.{◌>>=◌, needed_word, needed_text, needed_number, number_or, nothing_more, ranged, within}
+
+-- so many replicas, calls and messages
+unfoldable pub config_in : Option ℕ → Option ℕ → Option ℕ → Result Config LineFault
+config_in replicas calls flights = do
+  n ← within 1 15 replicas
+  most_calls ← within 1 1000000 calls
+  most_flights ← within 1 16000000 flights
+  Ok (config_of n most_calls most_flights)
+
+-- `N [CALLS [FLIGHTS]]`, with 1,000,000 calls and 4,000,000 messages where none are said
+unfoldable pub replicas_in : List (List ℕ) → Result Config LineFault
+replicas_in words = do
+  replicas ← needed_number words
+  calls ← number_or 1000000 replicas.1
+  flights ← number_or 4000000 calls.1
+  nothing ← nothing_more flights.1
+  config_in replicas.0 calls.0 flights.0
+
+-- `full` or `short`
+unfoldable pub mode_of : List ℕ → Result ReadMode LineFault
+mode_of word = if bytes_eq word (codes "full") then Ok Full else if bytes_eq word (codes "short") then Ok Short else Err UnknownCommand
+
+unfoldable pub reads_in : List (List ℕ) → Result ReadMode LineFault
+reads_in words = do
+  mode ← needed_word words
+  nothing ← nothing_more mode.1
+  mode_of mode.0
+
+-- a number of votes; above 255 all are alike, since the rules allow none of them
+abbrev pub capped : Option ℕ → ℕ
+capped None = 255
+capped (Some n) = min n 255
+
+-- so many numbers of votes, and the words behind them
+unfoldable pub numbers_in : ℕ → List (List ℕ) → Result (List ℕ × List (List ℕ)) LineFault
+numbers_in zero words = Ok ([], words)
+numbers_in (suc n) words = do
+  first ← needed_number words
+  others ← numbers_in n first.1
+  Ok (capped first.0 ∷ others.0, others.1)
+
+-- the test of the rules for votes
+abbrev pub is_lawful : Quorums → Bool
+is_lawful quorums =
+    nat_le 1 (length quorums.votes)
+    && nat_le (length quorums.votes) 15
+    && list_all (λ v. nat_le 1 v && nat_le v 9) quorums.votes
+    && nat_le 1 quorums.ask
+    && nat_le quorums.ask (sum quorums.votes)
+    && nat_le 1 quorums.put
+    && nat_le quorums.put (sum quorums.votes)
+    && nat_lt (sum quorums.votes) (quorums.ask + quorums.put)
+
+abbrev pub quorums_of : List ℕ → ℕ → ℕ → Result Quorums LineFault
+quorums_of votes ask put = ranged (is_lawful (record { votes = votes; ask = ask; put = put })) (record { votes = votes; ask = ask; put = put })
+
+-- `V0 .. ask R put W`, a vote for each of n replicas
+unfoldable pub votes_in : ℕ → List (List ℕ) → Result Quorums LineFault
+votes_in n words = do
+  votes ← numbers_in n words
+  asking ← needed_text (codes "ask") votes.1
+  ask ← needed_number asking
+  putting ← needed_text (codes "put") ask.1
+  put ← needed_number putting
+  nothing ← nothing_more put.1
+  quorums_of votes.0 (capped ask.0) (capped put.0)

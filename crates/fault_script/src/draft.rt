@@ -1,0 +1,86 @@
+//! What the lines of a script made so far.
+ghost use Rattle.std.specs.Prelude.{ℕ, ◌≡◌, ◌<◌, ◌++◌, ◌∷◌, [], List, OnOk};
+ghost use Rattle.fault_script.specs.Scripts.{Placed, opened_after};
+ghost use Rattle.fault_script.specs.declared.command.Command.{Command};
+
+use crate::command::{Command, Numbered};
+use crate::fault::Stop;
+use crate::lines::shown_by;
+use crate::saying::{Last, Opened, Said};
+use std::alloc::Global;
+use tag::Memory;
+
+/// The configuration so far, the commands behind it, and how many lines were commands, those of the
+/// configuration among them.
+#[derive(Drop)]
+pub struct Draft {
+    pub opened: Option<Opened>,
+    pub commands: Vec<Numbered>,
+    pub count: usize,
+}
+
+/// The configuration behind a command.
+fn behind_command(before: Option<Opened>) -> Option<Opened>
+    ensures { (command : Command) → result ≡ opened_after before (Said.Runs command) }
+{
+    match before {
+        Some(opened) => Some(Opened {
+            config: opened.config,
+            last: Last::Other,
+        }),
+        None => None,
+    }
+}
+
+impl Draft {
+    ghost use Rattle.fault_script.specs.Feeds.{IsDraft, Draws};
+
+    /// Of no line.
+    pub fn new(alloc: Global) -> Draft
+        ensures { IsDraft [] result }
+    {
+        Draft {
+            opened: None,
+            commands: Vec::new(alloc),
+            count: 0,
+        }
+    }
+
+    /// Sets the configuration, as a line of whatever number says.
+    fn open(&mut self, opened: Opened)
+        requires { self.old.count < 1000000 }
+        ensures { (saids : List Placed) (line : ℕ) → IsDraft saids self.old → IsDraft (saids ++ record { line = line; said = Said.Opens opened } ∷ []) self.new }
+    {
+        self.opened = Some(opened);
+        self.count += 1;
+    }
+
+    /// Adds the command of the line of that number.
+    fn run(&mut self, line: u64, command: Command) -> Result<(), Memory>
+        requires { self.old.count < 1000000 }
+        ensures { OnOk result ((saids : List Placed) → IsDraft saids self.old → IsDraft (saids ++ record { line = line; said = Said.Runs command } ∷ []) self.new) }
+    {
+        self.commands.push(Numbered { line, command })?;
+        self.opened = behind_command(self.opened);
+        self.count += 1;
+        Ok(())
+    }
+
+    /// Takes the line of that number.
+    pub fn take(&mut self, number: u64, line: &[u8]) -> Result<(), Stop>
+        ensures { Draws self.old line.now number result self.new }
+    {
+        let alloc = *self.commands.allocator();
+        match shown_by(alloc, self.opened, self.count, line)? {
+            Some(Said::Opens(opened)) => {
+                self.open(opened);
+                Ok(())
+            }
+            Some(Said::Runs(command)) => {
+                self.run(number, command)?;
+                Ok(())
+            }
+            None => Ok(()),
+        }
+    }
+}

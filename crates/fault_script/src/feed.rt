@@ -1,0 +1,104 @@
+//! A script that comes in pieces.
+ghost use Rattle.std.specs.Prelude.{ℕ, ◌≡◌, ◌<◌, ◌≤◌, ◌+◌, ◌^◌, ◌++◌, List, [], length, OnOk};
+ghost use Rattle.history_file.specs.Cuts.{HasNoEnd, ended};
+
+use crate::command::Script;
+use crate::draft::Draft;
+use crate::fault::Stop;
+use crate::lines::LONGEST;
+use crate::progress::{Progress, error_at};
+use crate::{LineFault, ScriptError};
+use history_file::first_end;
+use std::alloc::Global;
+
+/// What the whole lines so far made, and what came of the next line.
+#[derive(Drop)]
+pub struct Feed {
+    pub progress: Progress,
+    pub rest: Vec<u8>,
+}
+
+impl Feed {
+    ghost use Rattle.fault_script.specs.Feeds.{Stands, Fed, Ended, Ends};
+
+    /// No byte yet.
+    pub fn new(alloc: Global) -> Feed
+        ensures stands { Stands [] result }
+        ensures lines { result.progress.lines ≡ 0 }
+        ensures rest { length result.rest.items ≡ 0 }
+    {
+        Feed {
+            progress: Progress {
+                draft: Draft::new(alloc),
+                lines: 0,
+            },
+            rest: Vec::new(alloc),
+        }
+    }
+
+    /// The number of the line that is under way.
+    pub fn line(&self) -> u64
+        requires { self.now.progress.lines < 2 ^ 63 }
+        ensures { result ≡ self.now.progress.lines + 1 }
+    {
+        self.progress.lines + 1
+    }
+
+    /// Keeps bytes of the line that is under way.
+    fn keep(&mut self, part: &[u8]) -> Result<(), ScriptError>
+        requires { self.old.progress.lines < 2 ^ 63 }
+        ensures fed { (bytes : List ℕ) → Stands bytes self.old → HasNoEnd part.now → Fed (bytes ++ part.now) result self.new }
+        ensures lines { OnOk result (self.new.progress.lines ≡ self.old.progress.lines) }
+        ensures rest { OnOk result (length self.new.rest.items ≡ length self.old.rest.items + length part.now) }
+    {
+        if self.rest.len().saturating_add(part.len()) > LONGEST {
+            return Err(error_at(self.line(), Stop::Fault(LineFault::TooLong)));
+        }
+        match self.rest.extend_from_slice(part) {
+            Ok(()) => Ok(()),
+            Err(_) => Err(error_at(self.line(), Stop::Memory)),
+        }
+    }
+
+    /// Ends the line that is under way, of which these are the last bytes.
+    fn end_line(&mut self, part: &[u8]) -> Result<(), ScriptError>
+        requires { self.old.progress.lines < 2 ^ 63 }
+        ensures ended { (bytes : List ℕ) → Stands bytes self.old → HasNoEnd part.now → Ended (bytes ++ ended part.now) result self.new }
+        ensures lines { OnOk result (self.new.progress.lines ≡ self.old.progress.lines + 1) }
+        ensures rest { OnOk result (length self.new.rest.items ≡ 0) }
+    {
+        if self.rest.is_empty() {
+            return self.progress.take(part);
+        }
+        self.keep(part)?;
+        self.progress.take(self.rest.as_slice())?;
+        self.rest.clear();
+        Ok(())
+    }
+
+    /// Takes the next piece.
+    pub fn feed(&mut self, piece: &[u8]) -> Result<(), ScriptError>
+        requires { self.old.progress.lines + length self.old.rest.items + length piece.now < 2 ^ 63 }
+        ensures fed { (bytes : List ℕ) → Stands bytes self.old → Fed (bytes ++ piece.now) result self.new }
+        ensures room { OnOk result (self.new.progress.lines + length self.new.rest.items ≤ self.old.progress.lines + length self.old.rest.items + length piece.now) }
+    {
+        let mut left = piece;
+        while let Some(end) = first_end(left) {
+            self.end_line(&left[..end])?;
+            left = &left[end + 1..];
+        }
+        self.keep(left)
+    }
+
+    /// The script, at the end of the bytes.
+    pub fn finish(self) -> Result<Script, ScriptError>
+        requires { self.progress.lines < 2 ^ 63 }
+        ensures { (bytes : List ℕ) → Stands bytes self → Ends bytes result }
+    {
+        let Feed { mut progress, rest } = self;
+        if !rest.is_empty() {
+            progress.take(rest.as_slice())?;
+        }
+        progress.finish()
+    }
+}

@@ -1,0 +1,34 @@
+//! Fault scripts: what their bytes are read as, and the first fault of those that are none.
+//!
+//! A script comes from a reader and is read line by line, each where it lies; only what a command
+//! keeps is copied. What was read is what the lines say one for one, to the reader's end; a script
+//! with a fault is refused with its first one. A script's run is simulated to the text of its record, with
+//! a note for each command that is refused; a run of steps comes with the orders that show its record
+//! atomic.
+#![tactic(auto)]
+
+mod command;
+mod draft;
+mod fault;
+mod feed;
+mod justified;
+pub mod laws;
+mod lines;
+mod notes;
+mod numbers;
+mod progress;
+mod reading;
+mod saying;
+mod script_run;
+mod settings;
+mod simulating;
+mod steps;
+#[cfg(test)]
+mod tests;
+mod words;
+
+pub use command::{Command, Numbered, Script};
+pub use fault::{ErrorKind, LineFault, ScriptError};
+pub use justified::justified_run;
+pub use reading::parse;
+pub use simulating::{SimulateError, simulate};

@@ -1,0 +1,32 @@
+//! Lines of a script.
+ghost use Rattle.std.specs.Prelude.{◌<◌, IfOk, IsSome};
+ghost use Rattle.fault_script.specs.Lines.{ShowsBy};
+
+use crate::LineFault;
+use crate::fault::Stop;
+use crate::saying::{Opened, Said, text_says};
+use crate::words::without_return;
+use std::alloc::Global;
+
+/// The most bytes of a line, its end not counted.
+pub const LONGEST: usize = 65_536;
+
+/// What the line, without its end, shows behind the lines before, of which so many were commands:
+/// nothing where it is blank or a comment.
+pub fn shown_by(
+    alloc: Global,
+    before: Option<Opened>,
+    count: usize,
+    line: &[u8],
+) -> Result<Option<Said>, Stop>
+    ensures shown { ShowsBy before count line.now result }
+    ensures few { IfOk result (λ said. IsSome said → count < 1000000) }
+{
+    if line.len() > LONGEST {
+        return Err(Stop::Fault(LineFault::TooLong));
+    }
+    let Ok(_) = str::from_utf8(line) else {
+        return Err(Stop::Fault(LineFault::NotUtf8));
+    };
+    text_says(alloc, before, count, without_return(line))
+}

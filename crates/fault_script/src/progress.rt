@@ -1,0 +1,65 @@
+//! How far the lines of a script were taken.
+ghost use Rattle.std.specs.Prelude.{ℕ, ◌≡◌, ◌<◌, ◌+◌, ◌^◌, List, OnOk};
+ghost use Rattle.fault_script.specs.Feeds.{kind_of};
+
+use crate::command::Script;
+use crate::draft::Draft;
+use crate::fault::Stop;
+use crate::{ErrorKind, LineFault, ScriptError};
+
+/// What the lines so far made, and how many they were.
+#[derive(Drop)]
+pub struct Progress {
+    pub draft: Draft,
+    pub lines: u64,
+}
+
+/// The error of that line.
+pub fn error_at(line: u64, stop: Stop) -> ScriptError
+    ensures line { result.line ≡ line }
+    ensures kind { result.kind ≡ kind_of stop }
+{
+    let kind = match stop {
+        Stop::Fault(fault) => ErrorKind::Line(fault),
+        Stop::Memory => ErrorKind::Memory,
+    };
+    ScriptError { line, kind }
+}
+
+impl Progress {
+    ghost use Rattle.fault_script.specs.Feeds.{IsAt, Takes, EndsBy};
+
+    /// Takes the next line.
+    pub fn take(&mut self, line: &[u8]) -> Result<(), ScriptError>
+        requires { self.old.lines < 2 ^ 63 }
+        ensures taken { (before : List (List ℕ)) → IsAt before self.old → Takes before line.now result self.new }
+        ensures lines { OnOk result (self.new.lines ≡ self.old.lines + 1) }
+    {
+        let number = self.lines + 1;
+        match self.draft.take(number, line) {
+            Ok(()) => {
+                self.lines = number;
+                Ok(())
+            }
+            Err(stop) => Err(error_at(number, stop)),
+        }
+    }
+
+    /// The script that the lines make.
+    pub fn finish(self) -> Result<Script, ScriptError>
+        ensures { (lines : List (List ℕ)) → IsAt lines self → EndsBy lines result }
+    {
+        let Draft {
+            opened,
+            commands,
+            ..
+        } = self.draft;
+        match opened {
+            Some(opened) => Ok(Script {
+                config: opened.config,
+                commands,
+            }),
+            None => Err(error_at(1, Stop::Fault(LineFault::NoReplicas))),
+        }
+    }
+}

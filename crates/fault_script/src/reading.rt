@@ -1,0 +1,87 @@
+//! Scripts from readers.
+ghost use Rattle.std.specs.Prelude.{ℕ, ◌≡◌, ◌<◌, ◌≤◌, ◌+◌, ◌^◌, List, Option, length, true, false, IfOk, IfErr, MatchResult};
+ghost use Rattle.std.specs.Io.KnownBytes.{IsAtEnd};
+ghost use Rattle.history_file.specs.Deliveries.{Delivers};
+ghost use Rattle.fault_script.specs.Deliveries.{Holds, ReadsAll, StopsAt, HasFailed};
+
+use crate::command::Script;
+use crate::feed::Feed;
+use crate::{ErrorKind, ScriptError};
+use history_file::Counting;
+use std::alloc::{AllocError, Global};
+use std::io::Read;
+
+/// The most bytes of a piece.
+const PIECE: usize = 1_048_576;
+
+/// Room for pieces of that size.
+fn room_for(alloc: Global, size: usize) -> Result<Vec<u8>, AllocError>
+    ensures { IfOk result (λ room. length room.items ≡ size) }
+{
+    vec![in alloc; 0u8; size]
+}
+
+/// Feeds the next bytes of the reader, and says whether there were some.
+fn feed_next<R: Read>(
+    feed: &mut Feed,
+    reader: &mut Counting<R>,
+    room: &mut [u8],
+) -> Result<bool, ScriptError>
+    requires some { 0 < length room.old }
+    requires fed { feed.old.progress.lines + length feed.old.rest.items ≤ reader.old.given }
+    ensures goes { (start : Option (List ℕ)) → Holds start (R.remaining reader.old.inner) feed.old → MatchResult result (λ _. Holds start (R.remaining reader.new.inner) feed.new) (λ error. Delivers start (R.remaining reader.new.inner) (StopsAt (R.remaining reader.new.inner) error) × HasFailed error.kind reader.old.failures reader.new.failures) }
+    ensures fed { IfOk result (λ _. feed.new.progress.lines + length feed.new.rest.items ≤ reader.new.given) }
+    ensures end { IfOk result (λ more. more ≡ false → IsAtEnd (R.remaining reader.new.inner)) }
+    ensures more { IfOk result (λ more. more ≡ true → reader.old.given < reader.new.given) }
+    ensures counted { IfOk result (λ _. reader.new.failures ≡ reader.old.failures) }
+{
+    let _given = reader.given();
+    match reader.read(room) {
+        Ok(count) => {
+            let _now = reader.given();
+            feed.feed(&room[..count])?;
+            Ok(count > 0)
+        }
+        Err(_) => Err(ScriptError {
+            line: feed.line(),
+            kind: ErrorKind::Device,
+        }),
+    }
+}
+
+/// Feeds the bytes of the reader, to its end, in pieces of that room.
+fn feed_in_pieces<R: Read>(
+    alloc: Global,
+    reader: &mut Counting<R>,
+    room: &mut [u8],
+) -> Result<Feed, ScriptError>
+    requires { 0 < length room.old }
+    ensures holds { IfOk result (λ feed. Holds (R.remaining reader.old.inner) (R.remaining reader.new.inner) feed × IsAtEnd (R.remaining reader.new.inner)) }
+    ensures error { IfErr result (λ error. Delivers (R.remaining reader.old.inner) (R.remaining reader.new.inner) (StopsAt (R.remaining reader.new.inner) error) × HasFailed error.kind reader.old.failures reader.new.failures) }
+    ensures room { IfOk result (λ feed. feed.progress.lines < 2 ^ 63) }
+{
+    let mut feed = Feed::new(alloc);
+    'pieces: while feed_next(&mut feed, reader, room)? {}
+    let _given = reader.given();
+    Ok(feed)
+}
+
+/// The script that the reader's bytes are, all of them up to its end.
+///
+/// Bytes with a fault are refused with their first one: of lines that came whole the first that has
+/// a fault, then `Device` at the line under way where the reader failed. `Memory` comes only where
+/// a growth was refused. The reader keeps what follows the bytes that were read.
+pub fn parse<R: Read>(alloc: Global, reader: &mut Counting<R>) -> Result<Script, ScriptError>
+    ensures read { IfOk result (λ script. Delivers (R.remaining reader.old.inner) (R.remaining reader.new.inner) (ReadsAll (R.remaining reader.new.inner) script)) }
+    ensures fault { IfErr result (λ error. Delivers (R.remaining reader.old.inner) (R.remaining reader.new.inner) (StopsAt (R.remaining reader.new.inner) error)) }
+    ensures device { IfErr result (λ error. HasFailed error.kind reader.old.failures reader.new.failures) }
+{
+    let Ok(mut room) = room_for(alloc, PIECE) else {
+        return Err(ScriptError {
+            line: 1,
+            kind: ErrorKind::Memory,
+        });
+    };
+    let feed = feed_in_pieces(alloc, reader, room.as_mut_slice())?;
+    feed.finish()
+}

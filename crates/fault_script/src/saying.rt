@@ -1,0 +1,170 @@
+//! What a line says behind the lines before it.
+ghost use Rattle.std.specs.Prelude.{◌≡◌, ◌==◌, ◌<◌, slice_index, IsUtf8, IfOk, IsSome};
+ghost use Rattle.fault_script.specs.Words.{words};
+ghost use Rattle.fault_script.specs.Says.{Gives};
+ghost use Rattle.fault_script.specs.Saying.{reads_behind, votes_set, votes_behind, first_said, said_in, command_says, text_says};
+
+use crate::LineFault;
+use crate::command::Command;
+use crate::fault::Stop;
+use crate::settings::{reads_in, replicas_in, votes_in};
+use crate::steps::command_in;
+use crate::words::{is, next_word};
+use std::alloc::Global;
+use world_steps::Config;
+
+/// The most commands of a script.
+pub const MOST_COMMANDS: usize = 1_000_000;
+
+/// Which line was the last that isn't blank and no comment.
+#[derive(Clone, Copy, Debug)]
+pub enum Last {
+    Replicas,
+    Reads,
+    Other,
+}
+
+/// The configuration so far, and the last line: `reads` may stand behind `replicas` alone, `votes`
+/// behind the two.
+#[derive(Clone, Copy, Debug)]
+pub struct Opened {
+    pub config: Config,
+    pub last: Last,
+}
+
+/// What a line says: a configuration, or a command.
+#[derive(Debug, Drop)]
+pub enum Said {
+    Opens(Opened),
+    Runs(Command),
+}
+
+#[tactic(auto, unfolding(crate::specs::Saying::reads_behind))]
+fn reads_behind(opened: Opened, args: &[u8]) -> Result<Opened, Stop>
+    ensures { Gives (λ opened. opened) result (reads_behind opened.config opened.last (words args.now)) }
+{
+    match opened.last {
+        Last::Replicas => {
+            let mode = reads_in(args)?;
+            Ok(Opened {
+                config: opened.config.with_reads(mode),
+                last: Last::Reads,
+            })
+        }
+        _ => Err(Stop::Fault(LineFault::UnknownCommand)),
+    }
+}
+
+#[tactic(auto, unfolding(crate::specs::Saying::votes_set))]
+fn votes_set(config: Config, args: &[u8]) -> Result<Opened, Stop>
+    ensures { Gives (λ opened. opened) result (votes_set config (words args.now)) }
+{
+    let quorums = votes_in(config.replicas(), args)?;
+    match config.with_quorums(quorums) {
+        Some(config) => Ok(Opened {
+            config,
+            last: Last::Other,
+        }),
+        None => Err(Stop::Fault(LineFault::UnknownCommand)),
+    }
+}
+
+#[tactic(auto, unfolding(crate::specs::Saying::votes_behind))]
+fn votes_behind(opened: Opened, args: &[u8]) -> Result<Opened, Stop>
+    ensures { Gives (λ opened. opened) result (votes_behind opened.config opened.last (words args.now)) }
+{
+    match opened.last {
+        Last::Replicas | Last::Reads => votes_set(opened.config, args),
+        Last::Other => Err(Stop::Fault(LineFault::UnknownCommand)),
+    }
+}
+
+/// What the first command says.
+#[tactic(auto, unfolding(crate::specs::Saying::first_said))]
+fn first_said(verb: &[u8], args: &[u8]) -> Result<Said, Stop>
+    ensures { Gives (λ said. said) result (first_said verb.now (words args.now)) }
+{
+    if is(verb, "replicas") {
+        let config = replicas_in(args)?;
+        Ok(Said::Opens(Opened {
+            config,
+            last: Last::Replicas,
+        }))
+    } else {
+        Err(Stop::Fault(LineFault::NoReplicas))
+    }
+}
+
+/// What a line of that first word says behind the lines before.
+#[tactic(auto, unfolding(crate::specs::Saying::said_in))]
+fn said_in(alloc: Global, before: Option<Opened>, verb: &[u8], args: &[u8]) -> Result<Said, Stop>
+    requires { IsUtf8 args.now }
+    ensures { Gives (λ said. said) result (said_in before verb.now args.now) }
+{
+    let Some(opened) = before else {
+        return first_said(verb, args);
+    };
+    if is(verb, "replicas") {
+        Err(Stop::Fault(LineFault::UnknownCommand))
+    } else if is(verb, "reads") {
+        let opened = reads_behind(opened, args)?;
+        Ok(Said::Opens(opened))
+    } else if is(verb, "votes") {
+        let opened = votes_behind(opened, args)?;
+        Ok(Said::Opens(opened))
+    } else {
+        let command = command_in(alloc, verb, args)?;
+        Ok(Said::Runs(command))
+    }
+}
+
+fn is_comment(word: &[u8]) -> bool
+    ensures { result ≡ (slice_index word.now 0 == 35) }
+{
+    match word.first() {
+        Some(byte) => *byte == b'#',
+        None => false,
+    }
+}
+
+/// What a line of that first word says behind the lines before, of which so many were commands:
+/// nothing where it is a comment.
+#[tactic(auto, unfolding(crate::specs::Saying::command_says))]
+fn command_says(
+    alloc: Global,
+    before: Option<Opened>,
+    count: usize,
+    verb: &[u8],
+    args: &[u8],
+) -> Result<Option<Said>, Stop>
+    requires { IsUtf8 args.now }
+    ensures said { Gives (λ said. said) result (command_says before count verb.now args.now) }
+    ensures few { IfOk result (λ said. IsSome said → count < 1000000) }
+{
+    if is_comment(verb) {
+        return Ok(None);
+    }
+    if count >= MOST_COMMANDS {
+        return Err(Stop::Fault(LineFault::TooManyCommands));
+    }
+    let said = said_in(alloc, before, verb, args)?;
+    Ok(Some(said))
+}
+
+/// What the text of a line says behind the lines before, of which so many were commands: nothing
+/// where it is blank or a comment.
+pub fn text_says(
+    alloc: Global,
+    before: Option<Opened>,
+    count: usize,
+    text: &[u8],
+) -> Result<Option<Said>, Stop>
+    requires { IsUtf8 text.now }
+    ensures said { Gives (λ said. said) result (text_says before count text.now) }
+    ensures few { IfOk result (λ said. IsSome said → count < 1000000) }
+{
+    match next_word(text) {
+        Some((verb, args)) => command_says(alloc, before, count, verb, args),
+        None => Ok(None),
+    }
+}

@@ -1,0 +1,106 @@
+//! Scripts from readers, and the records of their runs to writers.
+ghost use Rattle.std.specs.Prelude.{◌≡◌, ◌⊎◌, IfErr, IfOk, IsErrOf, List, ℕ, OnOk};
+ghost use Rattle.std.specs.Io.KnownBytes.{Appends};
+ghost use Rattle.history_file.specs.Counts.{HasGrown};
+ghost use Rattle.history_file.specs.Deliveries.{Delivers};
+ghost use Rattle.history_file.specs.Sendings.{Begins};
+ghost use Rattle.history_file.specs.Texts.{history_text};
+ghost use Rattle.recorder.specs.declared.row.Row.{Row};
+ghost use Rattle.fault_script.specs.Deliveries.{HasFailed, StopsAt};
+ghost use Rattle.fault_script.specs.Simulations.{IfScript, IsSoundRun, Simulates};
+
+use crate::command::Script;
+use crate::script_run::ScriptRun;
+use crate::{ScriptError, parse};
+use history_file::{Counting, history_text, write_text};
+use std::alloc::Global;
+use std::io::{Read, Write};
+use tag::Memory;
+use thiserror::Error;
+
+/// Why a script wasn't simulated.
+#[derive(Clone, Copy, Debug, PartialEq, Eq, Error)]
+pub enum SimulateError {
+    /// The script couldn't be read.
+    #[error(transparent)]
+    Script(ScriptError),
+    /// A growth was refused.
+    #[error("no memory")]
+    Memory,
+    /// A writer failed.
+    #[error("device")]
+    Device,
+}
+
+impl From<Memory> for SimulateError {
+    ghost use Rattle.std.specs.Prelude.{◌≡◌};
+    ghost use Rattle.fault_script.specs.declared.simulating.SimulateError.TheVariants.{Memory};
+
+    ghost from_gives = { λ _ e. e ≡ Memory };
+
+    fn from(_: Memory) -> SimulateError {
+        SimulateError::Memory
+    }
+}
+
+/// What a run of a script says, and the text of its record.
+#[derive(Drop)]
+struct Texts {
+    notes: Vec<u8>,
+    history: Vec<u8>,
+}
+
+/// The texts of the script's run.
+fn texts_of(alloc: Global, script: Script) -> Result<Texts, Memory>
+    ensures { IfOk result (λ texts. (rows : List Row) × IsSoundRun script rows texts.notes.items × (texts.history.items ≡ history_text rows)) }
+{
+    let ScriptRun { world, notes } = ScriptRun::of(alloc, script)?;
+    let history = history_text(alloc, &world.into_history())?;
+    Ok(Texts { notes, history })
+}
+
+/// Writes the notes, and then the history.
+fn write_texts<W: Write, N: Write>(
+    texts: &Texts,
+    out: &mut Counting<W>,
+    notes: &mut Counting<N>,
+) -> Result<(), SimulateError>
+    ensures written { OnOk result (Appends (N.contents notes.old.inner) (N.contents notes.new.inner) texts.now.notes.items × Appends (W.contents out.old.inner) (W.contents out.new.inner) texts.now.history.items) }
+    ensures begun { IfErr result (λ error. (Begins (N.contents notes.old.inner) (N.contents notes.new.inner) texts.now.notes.items × (out.new ≡ out.old)) ⊎ (Appends (N.contents notes.old.inner) (N.contents notes.new.inner) texts.now.notes.items × Begins (W.contents out.old.inner) (W.contents out.new.inner) texts.now.history.items)) }
+    ensures device { IfErr result (λ error. (error ≡ SimulateError.Device) × (HasGrown notes.old.failures notes.new.failures ⊎ HasGrown out.old.failures out.new.failures)) }
+{
+    if write_text(texts.notes.as_slice(), notes).is_err() {
+        return Err(SimulateError::Device);
+    }
+    match write_text(texts.history.as_slice(), out) {
+        Ok(()) => Ok(()),
+        Err(_) => Err(SimulateError::Device),
+    }
+}
+
+/// Reads a script to its reader's end, runs it, and writes what is said of its commands to `notes` and
+/// then the text of its record to `out`.
+///
+/// A step that is refused has a note and changes nothing, and so has a call that can't be finished;
+/// random steps have one note together, which tells how many of them were taken. What is written to
+/// `out` is the history of a run whose parts have sound tags, so that the calls of a key sorted by tag
+/// are an order of it. Both texts are made before the first byte of either goes out: a script that
+/// can't be read, or a growth that is refused, leaves both writers as they were. `Device` comes only
+/// where a writer failed; a beginning of the notes may then have gone out, or the notes and a
+/// beginning of the history.
+pub fn simulate<R: Read, W: Write, N: Write>(
+    alloc: Global,
+    reader: &mut Counting<R>,
+    out: &mut Counting<W>,
+    notes: &mut Counting<N>,
+) -> Result<(), SimulateError>
+    ensures written { OnOk result (Simulates (R.remaining reader.old.inner) (R.remaining reader.new.inner) (λ said text. Appends (N.contents notes.old.inner) (N.contents notes.new.inner) said × Appends (W.contents out.old.inner) (W.contents out.new.inner) text)) }
+    ensures begun { IsErrOf result SimulateError.Device → Simulates (R.remaining reader.old.inner) (R.remaining reader.new.inner) (λ said text. (Begins (N.contents notes.old.inner) (N.contents notes.new.inner) said × (out.new ≡ out.old)) ⊎ (Appends (N.contents notes.old.inner) (N.contents notes.new.inner) said × Begins (W.contents out.old.inner) (W.contents out.new.inner) text)) }
+    ensures device { IsErrOf result SimulateError.Device → HasGrown notes.old.failures notes.new.failures ⊎ HasGrown out.old.failures out.new.failures }
+    ensures fault { IfErr result (λ error. IfScript error (λ why. Delivers (R.remaining reader.old.inner) (R.remaining reader.new.inner) (StopsAt (R.remaining reader.new.inner) why) × HasFailed why.kind reader.old.failures reader.new.failures × (out.new ≡ out.old) × (notes.new ≡ notes.old))) }
+    ensures memory { IsErrOf result SimulateError.Memory → (out.new ≡ out.old) × (notes.new ≡ notes.old) }
+{
+    let script = parse(alloc, reader).map_err(SimulateError::Script)?;
+    let texts = texts_of(alloc, script)?;
+    write_texts(&texts, out, notes)
+}

@@ -1,0 +1,109 @@
+//! Words of a line.
+ghost use Rattle.std.specs.Prelude.{◌≡◌, ◌∷◌, [], not, position, IfSome, MatchOption, IfOk, IsUtf8, bytes_eq};
+ghost use Rattle.std.specs.List.{before_first, after_first};
+ghost use Rattle.fault_script.specs.Words.{is_space, words, behind_word, without_return, without_spaces};
+ghost use Rattle.fault_script.specs.Says.{Gives, needed_word, nothing_more, needed_text};
+
+use crate::LineFault;
+use crate::fault::Stop;
+
+fn is_space(byte: u8) -> bool
+    ensures { result ≡ is_space byte }
+{
+    byte == b' ' || byte == b'\t'
+}
+
+/// The line without a final byte 13.
+pub fn without_return(line: &[u8]) -> &[u8]
+    ensures { result.now ≡ without_return line.now }
+{
+    match line.split_last() {
+        Some((b'\r', text)) => text,
+        _ => line,
+    }
+}
+
+/// Whether the word is that text.
+pub fn is(word: &[u8], text: &str) -> bool
+    ensures { result ≡ bytes_eq word.now text.now }
+{
+    word == text.as_bytes()
+}
+
+fn first_other(text: &[u8]) -> Option<usize>
+    ensures { result ≡ position (λ b. not (is_space b)) text.now }
+{
+    text.iter().position(|byte| !is_space(*byte))
+}
+
+fn first_space(text: &[u8]) -> Option<usize>
+    ensures { result ≡ position is_space text.now }
+{
+    text.iter().position(|byte| is_space(*byte))
+}
+
+fn without_spaces(text: &[u8]) -> &[u8]
+    ensures { result.now ≡ without_spaces text.now }
+{
+    let start = first_other(text).unwrap_or(text.len());
+    &text[start..]
+}
+
+/// What stands before the first space or tab, and what stands behind it.
+fn cut_at_space(text: &[u8]) -> (&[u8], &[u8])
+    ensures before { result.0.now ≡ before_first is_space text.now }
+    ensures after { result.1.now ≡ after_first is_space text.now }
+{
+    match first_space(text) {
+        Some(end) => (&text[..end], &text[end + 1..]),
+        None => (text, &text[text.len()..]),
+    }
+}
+
+/// The first word, and what stands behind the one space or tab that ends it.
+pub fn next_word(text: &[u8]) -> Option<(&[u8], &[u8])>
+    ensures words { MatchOption result (words text.now ≡ []) (λ found. words text.now ≡ found.0.now ∷ words found.1.now) }
+    ensures behind { IfSome result (λ found. found.1.now ≡ behind_word text.now) }
+    ensures text { IsUtf8 text.now → IfSome result (λ found. IsUtf8 found.1.now) }
+{
+    let text = without_spaces(text);
+    if text.is_empty() {
+        return None;
+    }
+    Some(cut_at_space(text))
+}
+
+/// The next word, which must be there.
+pub fn needed_word(text: &[u8]) -> Result<(&[u8], &[u8]), Stop>
+    ensures word { Gives (λ found. (found.0.now, words found.1.now)) result (needed_word (words text.now)) }
+    ensures behind { IfOk result (λ found. found.1.now ≡ behind_word text.now) }
+    ensures text { IsUtf8 text.now → IfOk result (λ found. IsUtf8 found.1.now) }
+{
+    match next_word(text) {
+        Some((word, behind)) => Ok((word, behind)),
+        None => Err(Stop::Fault(LineFault::UnknownCommand)),
+    }
+}
+
+/// No word is left.
+pub fn nothing_more(text: &[u8]) -> Result<(), Stop>
+    ensures { Gives (λ nothing. tt) result (nothing_more (words text.now)) }
+{
+    match next_word(text) {
+        Some(_) => Err(Stop::Fault(LineFault::UnknownCommand)),
+        None => Ok(()),
+    }
+}
+
+/// The next word, which must be that text; what stands behind it is given.
+#[tactic(auto, unfolding(crate::specs::Says::needed_text))]
+pub fn needed_text<'a>(text: &str, line: &'a [u8]) -> Result<&'a [u8], Stop>
+    ensures { Gives (λ behind. words behind.now) result (needed_text text.now (words line.now)) }
+{
+    let (word, behind) = needed_word(line)?;
+    if is(word, text) {
+        Ok(behind)
+    } else {
+        Err(Stop::Fault(LineFault::UnknownCommand))
+    }
+}

@@ -1,0 +1,72 @@
+-- What the types of a row's and of an order's parts carry: each is in its range.
+use Rattle.std.specs.Prelude.{ℕ, ◌≡◌, ◌≤◌, ◌<◌, ◌^◌, List, Some, None, slice_get, true, IsUtf8}
+use Rattle.tag.specs.declared.actions.Action.{Action}
+use Rattle.tag.specs.declared.actions.Action.TheVariants.{Read, Write}
+use Rattle.tag.specs.declared.actions.Returned.{Returned}
+use Rattle.tag.specs.declared.actions.Returned.TheVariants.{Value, Written}
+use Rattle.tag.specs.declared.numbers.OpId.{OpId}
+use Rattle.tag.specs.Names.{is_key, is_value}
+use Rattle.tag.specs.Tags.{Tag}
+use Rattle.recorder.specs.declared.row.Row.{Row}
+use Rattle.recorder.specs.declared.row.Row.TheVariants.{Invoke, Note, Respond}
+use Rattle.recorder.specs.declared.order.KeyOrder.{KeyOrder}
+
+-- a number of 32 bits
+abbrev pub IsOp : OpId → Type 0
+IsOp op = op.0 < 2 ^ 32
+
+-- a text of at most 256 bytes
+pub record IsValue (value : List ℕ) : Type 0 where
+  pub text : IsUtf8 value
+  pub short : is_value value ≡ true
+
+abbrev pub HasValueIn : Action → Type 0
+HasValueIn Read = Unit {0}
+HasValueIn (Write value) = IsValue value
+
+abbrev pub HasAnswerIn : Returned → Type 0
+HasAnswerIn Written = Unit {0}
+HasAnswerIn (Value None) = Unit {0}
+HasAnswerIn (Value (Some value)) = IsValue value
+
+-- a client's name is 1 to 65,535
+pub record IsInvocation (op : OpId) (client : ℕ) (key : List ℕ) (action : Action) : Type 0 where
+  pub call : IsOp op
+  pub least : 1 ≤ client
+  pub most : client ≤ 65535
+  pub named : is_key key ≡ true
+  pub asks : HasValueIn action
+
+-- a tag's number is at most 1,000,000, its writer at most 65,535
+pub record IsNote (op : OpId) (tag : Tag) : Type 0 where
+  pub call : IsOp op
+  pub few : tag.number ≤ 1000000
+  pub named : tag.writer ≤ 65535
+
+pub record IsResponse (op : OpId) (returned : Returned) : Type 0 where
+  pub call : IsOp op
+  pub answers : HasAnswerIn returned
+
+-- the row's parts are in their ranges
+abbrev pub IsInRange : Row → Type 0
+IsInRange (Invoke op client key action) = IsInvocation op client key action
+IsInRange (Note op tag) = IsNote op tag
+IsInRange (Respond op returned) = IsResponse op returned
+
+abbrev pub AreInRange : List Row → Type 0
+AreInRange rows = (k : ℕ) (row : Row) → slice_get rows k ≡ Some row → IsInRange row
+
+abbrev pub AreOps : List OpId → Type 0
+AreOps ops = (k : ℕ) (op : OpId) → slice_get ops k ≡ Some op → IsOp op
+
+-- the order's key is one, and its calls are numbers of 32 bits
+pub record IsOrderInRange (order : KeyOrder) : Type 0 where
+  pub named : is_key order.key ≡ true
+  pub calls : AreOps order.order
+
+abbrev pub AreOrdersInRange : List KeyOrder → Type 0
+AreOrdersInRange orders = (k : ℕ) (order : KeyOrder) → slice_get orders k ≡ Some order → IsOrderInRange order
+
+-- no two orders are of one key
+abbrev pub HaveDistinctKeys : List KeyOrder → Type 0
+HaveDistinctKeys orders = (i j : ℕ) (a b : KeyOrder) → i < j → slice_get orders i ≡ Some a → slice_get orders j ≡ Some b → a.key ≡ b.key → ⊥

@@ -1,0 +1,10 @@
+pub mod CandidateLemmas
+pub mod Counts
+pub mod Counting
+pub mod Standing
+pub mod Brings
+pub mod Rounds
+pub mod Replies
+pub mod Earlier
+pub mod Plans
+pub mod Forward

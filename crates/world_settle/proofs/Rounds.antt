@@ -1,0 +1,193 @@
+-- A round: its three steps, none of which is refused, and the system that they leave.
+use Rattle.std.proofs.Common.{◌≡◌, ◌≢◌, ℕ, ◌+◌, ◌≤◌, Bool, true, false, cond, not, is_none, is_some, length, slice_set, List, Option, None, Some, option_map, slice_get, refl, sym, ◌∙◌, ap, subst, inl, inr, arith}
+use Rattle.std.proofs.lemmas.Bool.{lt-leb, ne_eqb}
+use Rattle.std.proofs.lemmas.Option.{slice_get_within}
+use Rattle.std.specs.Cmp.{nat_cmp_total, unsigned_tied}
+use Rattle.std.specs.FinMap as finite
+use Rattle.std.specs.Ordering.{nat_cmp}
+use Rattle.replica.specs.Replicas.{replica_after, reply_of}
+use Rattle.replica.specs.declared.requests.Request.{Request}
+use Rattle.client_phases.specs.Asking.{query_of}
+use Rattle.client_phases.specs.Calls.{put_of}
+use Rattle.client_phases.specs.Clients.{client_after, phase_of, request_of, taken}
+use Rattle.client_phases.specs.declared.clients.Client.{Client}
+use Rattle.client_phases.specs.declared.rules.Rules.{Rules}
+use Rattle.client_phases.specs.declared.states.State.{State}
+use Rattle.client_phases.specs.declared.states.State.TheVariants.{Idle, Ask, Put, Ready, Stopped}
+use Rattle.network.specs.Flights.{Flights, message_of, one_less}
+use Rattle.network.specs.Pools.{Pool, with_sent, with_one_less}
+use Rattle.network.specs.declared.flights.Flight.{Flight}
+use Rattle.network.specs.declared.messages.Message.TheVariants.{ToReplica, ToClient}
+use Rattle.recorder.specs.Histories.{caller_of}
+use Rattle.world_steps.specs.Clients.{with_client}
+use Rattle.world_steps.specs.Moves.{IsClient}
+use Rattle.world_steps.specs.Refusals.{refusal_of, arrival_refusals, first_of, phase_at, is_stopped, has_request, is_down, no_such_client, no_such_replica, flights_full}
+use Rattle.world_steps.specs.Runs.{next, after_from}
+use Rattle.world_steps.specs.Systems.{moved, send, deliver, handle, lose, take, op_of, answered_op, with_note}
+use Rattle.world_steps.specs.declared.nodes.Node.{Node}
+use Rattle.world_steps.specs.declared.refusal.Refusal.{Refusal}
+use Rattle.world_steps.specs.declared.refusal.Refusal.TheVariants as refusal
+use Rattle.world_steps.specs.declared.step.Step.{Step}
+use Rattle.world_steps.specs.declared.step.Step.TheVariants as step
+use Rattle.world_steps.specs.declared.system.System.{System}
+use Rattle.world_steps.proofs.Lookups.{get_cases}
+use Rattle.world_steps.proofs.Passed.{phase_is}
+use Rattle.world_settle.specs.Settling.{round, AreTaken}
+
+-- ---- maps by number
+module _ {X : Type 0} where
+  pub get_same : (m : finite.FinMap nat_cmp X) (k : ℕ) (v : X) → finite.get (finite.insert m k v) k ≡ Some v
+  get_same m k v = elim (get_cases m k v k) [ inl here ↦ here.1 | inr there ↦ absurd (there.0 refl) ]
+
+  pub get_other : (m : finite.FinMap nat_cmp X) (k : ℕ) (v : X) (q : ℕ) → q ≢ k → finite.get (finite.insert m k v) q ≡ finite.get m q
+  get_other m k v q ne = elim (get_cases m k v q) [ inl here ↦ absurd (ne here.0) | inr there ↦ there.1 ]
+
+  pub removed_other : (m : finite.FinMap nat_cmp X) (k q : ℕ) → q ≢ k → finite.get (finite.remove m k) q ≡ finite.get m q
+  removed_other m k q ne = finite.get-remove nat_cmp_total m k q ∙ ap (λ b. cond b None (finite.get m q)) (unsigned_tied q k ∙ ne_eqb q k ne)
+
+-- ---- steps that aren't refused
+pub pass : (why : Refusal) (test : Bool) (rest : Option Refusal) → test ≡ false → rest ≡ None → cond test (Some why) rest ≡ None
+pass why true rest e r = absurd cc
+pass why false rest e r = r
+
+pub next_moved : (s : System) (step : Step) → refusal_of s step ≡ None → next s step ≡ moved s step
+next_moved s step e = ap (λ o. cond (is_some o) s (moved s step)) e
+
+-- ---- a client with a request
+not_stopped : (rules : Rules) (state : State) (request : Request) → request_of (record { rules = rules; state = state }) ≡ Some request → is_stopped (Some (phase_of (record { rules = rules; state = state }))) ≡ false
+not_stopped rules (Ask asking) request e = refl
+not_stopped rules (Put chosen counted) request e = refl
+not_stopped rules Idle request e = absurd cc
+not_stopped rules (Ready chosen) request e = absurd cc
+not_stopped rules Stopped request e = absurd cc
+
+sending : (rules : Rules) (state : State) (request : Request) → request_of (record { rules = rules; state = state }) ≡ Some request → has_request (Some (phase_of (record { rules = rules; state = state }))) ≡ true
+sending rules (Ask asking) request e = refl
+sending rules (Put chosen counted) request e = refl
+sending rules Idle request e = absurd cc
+sending rules (Ready chosen) request e = absurd cc
+sending rules Stopped request e = absurd cc
+
+pub sent_by : (s : System) (replica : ℕ) (rules : Rules) (state : State) (request : Request) → request_of (record { rules = rules; state = state }) ≡ Some request
+    → send s replica (Some (record { rules = rules; state = state })) ≡ record s { pool = with_sent s.pool (ToReplica replica request) }
+sent_by s replica rules (Ask asking) request e =
+    let same : query_of asking ≡ request = cc in
+    ap (λ (q : Request). let x : System = record s { pool = with_sent s.pool (ToReplica replica q) } in x) same
+sent_by s replica rules (Put chosen counted) request e =
+    let same : put_of chosen ≡ request = cc in
+    ap (λ (q : Request). let x : System = record s { pool = with_sent s.pool (ToReplica replica q) } in x) same
+sent_by s replica rules Idle request e = absurd cc
+sent_by s replica rules (Ready chosen) request e = absurd cc
+sent_by s replica rules Stopped request e = absurd cc
+
+-- ---- what a round finds: a client with a request, a replica that is up, who made the call, and room for two flights
+pub record MayRound (s : System) (name replica : ℕ) (client : Client) (request : Request) (node : Node) : Type 0 where
+  pub is : IsClient s name client
+  pub sends : request_of client ≡ Some request
+  pub there : slice_get s.nodes replica ≡ Some node
+  pub up : node.is_up ≡ true
+  pub caller : caller_of s.history.rows (op_of request) ≡ Some name
+  pub room : s.pool.sent + 2 ≤ s.pool.limit
+
+-- ---- the system after the first, the second and the third step
+abbrev pub first_system : System → ℕ → Request → System
+first_system s replica request = record s { pool = with_sent s.pool (ToReplica replica request) }
+
+abbrev pub handled_nodes : System → ℕ → Request → Node → List Node
+handled_nodes s replica request node = slice_set s.nodes replica (record node { replica = replica_after node.replica request })
+
+-- both messages sent
+abbrev pub both_sent : System → ℕ → ℕ → Request → Node → Pool
+both_sent s name replica request node = with_sent (with_sent s.pool (ToReplica replica request)) (ToClient name (reply_of node.replica request))
+
+abbrev pub second_system : System → ℕ → ℕ → Request → Node → System
+second_system s name replica request node = record s {
+  nodes = handled_nodes s replica request node;
+  pool = with_one_less (both_sent s name replica request node) s.pool.sent;
+}
+
+abbrev pub third_system : System → ℕ → ℕ → Client → Request → Node → System
+third_system s name replica client request node = record s {
+  members = with_client s.members name (client_after client (reply_of node.replica request));
+  nodes = handled_nodes s replica request node;
+  pool = with_one_less (with_one_less (both_sent s name replica request node) s.pool.sent) (s.pool.sent + 1);
+  history = with_note s.history (answered_op (reply_of node.replica request)) (taken client (reply_of node.replica request));
+}
+
+module _ (s : System) (name replica : ℕ) (client : Client) (request : Request) (node : Node) (may : MayRound s name replica client request node) where
+  in_phase : is_stopped (phase_at s name) ≡ false
+  in_phase = ap is_stopped (phase_is s name client may.is) ∙ not_stopped client.rules client.state request may.sends
+
+  pub asking_or_putting : has_request (phase_at s name) ≡ true
+  asking_or_putting = ap has_request (phase_is s name client may.is) ∙ sending client.rules client.state request may.sends
+
+  -- the request is sent
+  send_taken : refusal_of s (step.Send name replica) ≡ None
+  send_taken =
+      let room = may.room in
+      let below = slice_get_within s.nodes replica node may.there in
+      pass refusal.NoSuchReplica (no_such_replica s replica) _ (lt-leb (length s.nodes) replica below)
+      (pass refusal.NoSuchClient (no_such_client s name) _ (ap is_none may.is)
+      (pass refusal.ClientStopped (is_stopped (phase_at s name)) _ in_phase
+      (pass refusal.NothingToSend (not (has_request (phase_at s name))) _ (ap not asking_or_putting)
+      (pass refusal.FlightsFull (flights_full s) None (lt-leb s.pool.limit s.pool.sent (omega (arith, room))) refl))))
+
+  first_is : next s (step.Send name replica) ≡ first_system s replica request
+  first_is = next_moved s (step.Send name replica) send_taken ∙ ap (send s replica) may.is ∙ sent_by s replica client.rules client.state request may.sends
+
+  -- the request comes to the replica
+  request_there : message_of (first_system s replica request).pool.flights s.pool.sent ≡ Some (ToReplica replica request)
+  request_there = ap (option_map (λ (f : Flight). f.message)) (get_same s.pool.flights s.pool.sent (record { message = ToReplica replica request; copies = 1 }))
+
+  request_taken : refusal_of (first_system s replica request) (step.Deliver s.pool.sent) ≡ None
+  request_taken =
+      let room = may.room in
+      ap (λ o. first_of (arrival_refusals (first_system s replica request) o)) request_there
+      ∙ pass refusal.ReplicaDown (is_down (slice_get s.nodes replica)) _ (ap is_down may.there ∙ ap not may.up)
+      (pass refusal.FlightsFull (flights_full (first_system s replica request)) None (lt-leb s.pool.limit (s.pool.sent + 1) (omega (arith, room))) refl)
+
+  second_is : next (first_system s replica request) (step.Deliver s.pool.sent) ≡ second_system s name replica request node
+  second_is =
+      let t : System = first_system s replica request in
+      next_moved t (step.Deliver s.pool.sent) request_taken
+      ∙ ap (deliver t s.pool.sent) request_there
+      ∙ ap (λ o. lose (handle t replica request o (caller_of s.history.rows (op_of request))) s.pool.sent) may.there
+      ∙ ap (λ o. lose (handle t replica request (Some node) o) s.pool.sent) may.caller
+
+  -- the reply comes to the client
+  first_flight : finite.get (both_sent s name replica request node).flights s.pool.sent ≡ Some (record { message = ToReplica replica request; copies = 1 })
+  first_flight =
+      get_other (with_sent s.pool (ToReplica replica request)).flights (s.pool.sent + 1) (record { message = ToClient name (reply_of node.replica request); copies = 1 }) s.pool.sent (λ e. omega arith)
+      ∙ get_same s.pool.flights s.pool.sent (record { message = ToReplica replica request; copies = 1 })
+
+  spent : (second_system s name replica request node).pool.flights ≡ finite.remove (both_sent s name replica request node).flights s.pool.sent
+  spent = ap (one_less (both_sent s name replica request node).flights s.pool.sent) first_flight
+
+  reply_there : message_of (second_system s name replica request node).pool.flights (s.pool.sent + 1) ≡ Some (ToClient name (reply_of node.replica request))
+  reply_there =
+      ap (λ (m : Flights). message_of m (s.pool.sent + 1)) spent
+      ∙ ap (option_map (λ (f : Flight). f.message))
+      (removed_other (both_sent s name replica request node).flights s.pool.sent (s.pool.sent + 1) (λ e. omega arith)
+      ∙ get_same (with_sent s.pool (ToReplica replica request)).flights (s.pool.sent + 1) (record { message = ToClient name (reply_of node.replica request); copies = 1 }))
+
+  reply_taken : refusal_of (second_system s name replica request node) (step.Deliver (s.pool.sent + 1)) ≡ None
+  reply_taken =
+      ap (λ o. first_of (arrival_refusals (second_system s name replica request node) o)) reply_there
+      ∙ pass refusal.ClientStopped (is_stopped (phase_at s name)) None in_phase refl
+
+  third_is : next (second_system s name replica request node) (step.Deliver (s.pool.sent + 1)) ≡ third_system s name replica client request node
+  third_is =
+      let t : System = second_system s name replica request node in
+      next_moved t (step.Deliver (s.pool.sent + 1)) reply_taken
+      ∙ ap (deliver t (s.pool.sent + 1)) reply_there
+      ∙ ap (λ o. lose (take t name (reply_of node.replica request) o) (s.pool.sent + 1)) may.is
+
+  -- ---- the round
+  second_after : next (next s (step.Send name replica)) (step.Deliver s.pool.sent) ≡ second_system s name replica request node
+  second_after = ap (λ t. next t (step.Deliver s.pool.sent)) first_is ∙ second_is
+
+  pub round_is : after_from s (round s name replica) ≡ third_system s name replica client request node
+  round_is = ap (λ t. next t (step.Deliver (s.pool.sent + 1))) second_after ∙ third_is
+
+  pub round_taken : AreTaken s (round s name replica)
+  round_taken = (send_taken, (subst (λ t. refusal_of t (step.Deliver s.pool.sent) ≡ None) (sym first_is) request_taken, (subst (λ t. refusal_of t (step.Deliver (s.pool.sent + 1)) ≡ None) (sym second_after) reply_taken, tt)))

@@ -1,0 +1,17 @@
+use Rattle.world_settle.proofs.Forward.{settled_earlier, settled_completes, settled_within}
+use Rattle.world_settle.proofs.settling.settle.Goals as goal
+
+pub returns-in_err-refuse-clause-sound : goal.returns-in_err-refuse-clause-sound
+returns-in_err-refuse-clause-sound c = c.refuse.ensures.sound
+
+pub complete-requires-clause-sound : goal.complete-requires-clause-sound
+complete-requires-clause-sound c = c.refuse.ensures.sound
+
+pub returns-clause-earlier : goal.returns-clause-earlier
+returns-clause-earlier c = settled_earlier c.args.world.now c.args.client c.complete.result c.complete.new.world c.complete.ensures.settles
+
+pub returns-clause-completes : goal.returns-clause-completes
+returns-clause-completes c = settled_completes c.args.world.now c.args.client c.complete.result c.complete.new.world c.refuse.ensures.sound c.complete.ensures.settles
+
+pub returns-clause-within : goal.returns-clause-within
+returns-clause-within c = settled_within c.args.world.now c.args.client c.complete.result c.complete.new.world c.refuse.ensures.sound c.complete.ensures.settles

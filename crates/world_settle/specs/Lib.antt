@@ -1,0 +1,3 @@
+pub mod Settling
+pub mod Refusing
+pub mod Settled

@@ -1,0 +1,78 @@
+-- What `settle` answers, and what it leaves.
+use Rattle.std.specs.Prelude.{ℕ, ◌≡◌, ◌≢◌, ◌+◌, ◌*◌, ◌<◌, ◌≤◌, List, [], ◌∷◌, ◌++◌, Some, Result, Ok, Err, length}
+use Rattle.tag.specs.declared.actions.Returned.{Returned}
+use Rattle.tag.specs.declared.numbers.OpId.{OpId}
+use Rattle.client_phases.specs.declared.outcomes.Phase.TheVariants as phase
+use Rattle.network.specs.Flights.{copies_of}
+use Rattle.recorder.specs.declared.row.Row.{Row}
+use Rattle.recorder.specs.declared.row.Row.TheVariants.{Respond}
+use Rattle.world_steps.specs.Refusals.{phase_at}
+use Rattle.world_steps.specs.Runs.{after_from}
+use Rattle.world_steps.specs.declared.step.Step.{Step}
+use Rattle.world_steps.specs.declared.system.System.{System}
+use Rattle.world_settle.specs.Settling.{Settles}
+use Rattle.world_settle.specs.Refusing.{MaySettle, IsUnsettled, NeedsAt, pending_at}
+use Rattle.world_settle.specs.declared.errors.SettleError.{SettleError}
+use Rattle.world_settle.specs.declared.errors.SettleError.TheVariants as error
+
+-- all the steps, so many of them
+pub record AllTaken (old : System) (name count : ℕ) (new : System) : Type 0 where
+  pub may : MaySettle old name
+  pub steps : List Step
+  pub settles : Settles name old steps
+  pub counted : length steps ≡ count
+  pub after : new ≡ after_from old steps
+
+-- the first of the steps, so many of them, and not all
+pub record SomeTaken (old : System) (name count : ℕ) (new : System) : Type 0 where
+  pub may : MaySettle old name
+  pub taken : List Step
+  pub rest : List Step
+  pub settles : Settles name old (taken ++ rest)
+  pub some_left : rest ≢ []
+  pub counted : length taken ≡ count
+  pub after : new ≡ after_from old taken
+
+-- what is answered, and what it leaves
+abbrev pub SettlesBy : System → ℕ → Result ℕ SettleError → System → Type 0
+SettlesBy old name (Ok count) new = AllTaken old name count new
+SettlesBy old name (Err (error.Memory count)) new = SomeTaken old name count new
+SettlesBy old name (Err error.NoMajority) new = IsUnsettled old name error.NoMajority × (new ≡ old)
+SettlesBy old name (Err error.NotPending) new = IsUnsettled old name error.NotPending × (new ≡ old)
+SettlesBy old name (Err error.Room) new = IsUnsettled old name error.Room × (new ≡ old)
+
+-- all of these steps, behind so many
+pub record TakesAll (old : System) (steps : List Step) (before after : ℕ) (new : System) : Type 0 where
+  pub counted : after ≡ before + length steps
+  pub after_all : new ≡ after_from old steps
+
+-- the first of these steps and not all, behind so many
+pub record TakesSome (old : System) (steps : List Step) (before : ℕ) (why : SettleError) (new : System) : Type 0 where
+  pub taken : List Step
+  pub rest : List Step
+  pub are : taken ++ rest ≡ steps
+  pub some_left : rest ≢ []
+  pub counted : why ≡ error.Memory (before + length taken)
+  pub after_some : new ≡ after_from old taken
+
+-- the steps are taken, behind so many, until a growth is refused
+abbrev pub Takes : System → List Step → ℕ → Result ℕ SettleError → System → Type 0
+Takes old steps before (Ok after) new = TakesAll old steps before after new
+Takes old steps before (Err why) new = TakesSome old steps before why new
+
+-- flights that were sent earlier keep the copies that they had
+abbrev pub KeepsEarlier : System → System → Type 0
+KeepsEarlier old new = (flight : ℕ) → flight < old.pool.sent → copies_of new.pool.flights flight ≡ copies_of old.pool.flights flight
+
+-- the call that was pending has its response, the last row of the record, and the client is idle
+pub record Completes (old : System) (name : ℕ) (new : System) : Type 0 where
+  pub op : OpId
+  pub pending : pending_at old name ≡ Some op
+  pub rows : List Row
+  pub returned : Returned
+  pub last : new.history.rows ≡ rows ++ Respond op returned ∷ []
+  pub idle : phase_at new name ≡ Some phase.Idle
+
+-- at most three steps for each replica that is needed, and one
+abbrev pub IsWithin : System → ℕ → ℕ → Type 0
+IsWithin s name count = (a b : ℕ) → NeedsAt s name a b → count ≤ 3 * (a + b) + 1

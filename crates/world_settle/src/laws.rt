@@ -1,0 +1,27 @@
+//! Laws of the definitions, each the contract of a function that does nothing.
+ghost use Rattle.std.specs.Prelude.{◌≡◌, ◌+◌, ◌*◌, ◌/◌, ◌≤◌, ℕ, List, length};
+ghost use Rattle.quorum.specs.Quorums.{majority_of};
+ghost use Rattle.world_steps.specs.SoundSystems.{IsSound};
+ghost use Rattle.world_steps.specs.declared.step.Step.{Step};
+ghost use Rattle.world_steps.specs.declared.system.System.{System};
+ghost use Rattle.world_settle.specs.Refusing.{MaySettle, NeedsAt};
+ghost use Rattle.world_settle.specs.Settled.{IsWithin};
+ghost use Rattle.world_settle.specs.Settling.{AreTaken, Settles};
+
+/// Where a pending call can be completed, there are steps that complete it, none of them is refused,
+/// and they are at most three for each replica that is needed, and one.
+pub fn a_pending_call_has_steps()
+    ensures { (s : System) (name : ℕ) → IsSound s → MaySettle s name → (steps : List Step) × Settles name s steps × AreTaken s steps × IsWithin s name (length steps) }
+{}
+
+/// The steps that complete a pending call are one list.
+pub fn the_steps_are_one_list()
+    ensures { (s : System) (name : ℕ) (steps other : List Step) → Settles name s steps → Settles name s other → steps ≡ other }
+{}
+
+/// A call needs no more replicas than the quorums have votes. With majorities of n replicas it then takes
+/// at most 6 (n / 2 + 1) + 1 steps, where all divisions round down.
+pub fn a_call_needs_few_replicas()
+    ensures quorums { (s : System) (name a b : ℕ) → IsSound s → NeedsAt s name a b → (a ≤ s.config.quorums.ask) × (b ≤ s.config.quorums.put) }
+    ensures majorities { (s : System) (n name a b : ℕ) → IsSound s → s.config.quorums ≡ majority_of n → NeedsAt s name a b → 3 * (a + b) + 1 ≤ 6 * (n / 2 + 1) + 1 }
+{}

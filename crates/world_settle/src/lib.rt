@@ -1,0 +1,17 @@
+//! Completing a client's pending call by the steps that it needs.
+//!
+//! While the client asks or puts, its request goes to the least replica that is up and not counted
+//! yet, and the reply comes back; then the client responds. Flights that were sent earlier stay as
+//! they are. It takes three steps for each replica that is needed, and one.
+#![tactic(auto)]
+
+mod candidates;
+mod errors;
+pub mod laws;
+mod refusing;
+mod settling;
+#[cfg(test)]
+mod tests;
+
+pub use errors::SettleError;
+pub use settling::settle;

@@ -1,0 +1,40 @@
+-- A run, step by step.
+use Rattle.std.proofs.Common.{◌≡◌, ℕ, zero, suc, ◌+◌, List, [], ◌∷◌, ◌++◌, Option, None, Some, is_some, Result, Ok, Err, inl, inr, cond, take, slice_get, sym, ap, ◌∙◌, refl, arith}
+use Rattle.world_steps.specs.Configs.{Config}
+use Rattle.world_steps.specs.Refusals.{refusal_of}
+use Rattle.world_steps.specs.Runs.{next, after, after_from, Steps}
+use Rattle.world_steps.specs.Systems.{moved, opening}
+use Rattle.world_steps.specs.declared.effect.Effect.{Effect}
+use Rattle.world_steps.specs.declared.refusal.Refusal.{Refusal}
+use Rattle.world_steps.specs.declared.refusal.Refusal.TheVariants as refusal
+use Rattle.world_steps.specs.declared.step.Step.{Step}
+use Rattle.world_steps.specs.declared.system.System.{System}
+
+-- the next system, by whether the step is refused
+next_by : (s : System) (step : Step) (found : Option Refusal) → refusal_of s step ≡ found → next s step ≡ cond (is_some found) s (moved s step)
+next_by s step found e = ap (λ o. cond (is_some o) s (moved s step)) e
+
+-- a step that isn't refused for memory leaves the next system
+pub next_is : (s : System) (step : Step) (result : Result Effect Refusal) (new : System) → Steps s step result new → (result ≡ Err refusal.Memory → ⊥) → new ≡ next s step
+next_is s step (Ok effect) new (none, answered, is) fine = is ∙ sym (next_by s step None none)
+next_is s step (Err why) new (inl refused, same) fine = same ∙ sym (next_by s step (Some why) refused)
+next_is s step (Err why) new (inr (none, memory, grows), same) fine = absurd (fine (ap Err memory))
+
+-- a run with one step more
+after_push : (s : System) (steps : List Step) (step : Step) → after_from s (steps ++ step ∷ []) ≡ next (after_from s steps) step
+after_push s [] step = refl
+after_push s (first ∷ steps) step = after_push (next s first) steps step
+
+pub after_step : (config : Config) (steps : List Step) (step : Step) → after config (steps ++ step ∷ []) ≡ next (after config steps) step
+after_step config steps step = after_push (opening config) steps step
+
+-- the first steps, with the one behind them
+pub take_push : {X : Type 0} (xs : List X) (i : ℕ) (x : X) → slice_get xs i ≡ Some x → take (suc i) xs ≡ take i xs ++ x ∷ []
+take_push [] i x e = absurd cc
+take_push (y ∷ ys) zero x e = let same : y ≡ x = cc in ap (λ z. z ∷ []) same
+take_push (y ∷ ys) (suc i) x e = ap (λ zs. y ∷ zs) (take_push ys i x e)
+
+pub run_step : (config : Config) (steps : List Step) (i : ℕ) (step : Step) (world new : System) → slice_get steps i ≡ Some step → world ≡ after config (take i steps) → new ≡ next world step → new ≡ after config (take (i + 1) steps)
+run_step config steps i step world new at was is =
+    let one : suc i ≡ i + 1 = omega arith in
+    is ∙ ap (λ w. next w step) was ∙ sym (after_step config (take i steps) step) ∙ sym (ap (after config) (take_push steps i step at)) ∙ ap (λ n. after config (take n steps)) one

@@ -1,0 +1,84 @@
+-- Each step, and each list of steps, keeps the system sound.
+use Rattle.std.proofs.Common.{◌≡◌, ℕ, ◌≤◌, true, false, cond, is_some, List, [], ◌∷◌, Option, None, Some, refl}
+use Rattle.std.specs.FinMap as finite
+use Rattle.tag.specs.declared.actions.Action.{Action}
+use Rattle.quorum.specs.Quorums.{IsLawful}
+use Rattle.network.specs.Flights.{message_of}
+use Rattle.network.specs.declared.messages.Message.{Message}
+use Rattle.network.specs.declared.messages.Message.TheVariants.{ToReplica, ToClient}
+use Rattle.world_steps.specs.Configs.{Config}
+use Rattle.world_steps.specs.Refusals.{refusal_of, no_such_client}
+use Rattle.world_steps.specs.Runs.{next, after_from, after}
+use Rattle.world_steps.specs.SoundSystems.{Flies, IsSound}
+use Rattle.world_steps.specs.Systems.{opening, arrive, deliver, join, invoke, respond, moved}
+use Rattle.world_steps.specs.declared.refusal.Refusal.{Refusal}
+use Rattle.world_steps.specs.declared.step.Step.{Step}
+use Rattle.world_steps.specs.declared.step.Step.TheVariants as step
+use Rattle.world_steps.specs.declared.system.System.{System}
+use Rattle.world_steps.proofs.Finding.{flies}
+use Rattle.world_steps.proofs.Handling.{handle_sound, set_up_sound}
+use Rattle.world_steps.proofs.Lookups.{none_of}
+use Rattle.world_steps.proofs.OpeningSound.{opening_sound}
+use Rattle.world_steps.proofs.Passed.{passed, not_not, client_there, idle_there, ready_there, replica_there, room_for_call}
+use Rattle.world_steps.proofs.Sending.{send_sound, lose_sound, repeat_sound}
+use Rattle.world_steps.proofs.Taking.{take_sound}
+use Rattle.world_steps.proofs.Turning.{join_sound, invoke_sound, respond_sound, stop_sound}
+
+module _ (s : System) (sound : IsSound s) where
+  joined_sound : (name : ℕ) → refusal_of s (step.Join name) ≡ None → IsSound (join s name)
+  joined_sound name none = join_sound s sound name (none_of (finite.get s.members.clients name) (not_not (no_such_client s name) (passed _ _ _ none).0))
+
+  asked_sound : (name : ℕ) (key : List ℕ) (action : Action) → refusal_of s (step.Invoke name key action) ≡ None → IsSound (invoke s name key action (finite.get s.members.clients name))
+  asked_sound name key action none =
+      let first = passed _ _ _ none in
+      let second = passed _ _ _ first.1 in
+      let third = passed _ _ _ second.1 in
+      let fourth = passed _ _ _ third.1 in
+      let (client, is) = client_there s name first.0 in
+      invoke_sound s sound name key action client is (idle_there s name client is third.0) (room_for_call s fourth.0)
+
+  answered_sound : (name : ℕ) → refusal_of s (step.Respond name) ≡ None → IsSound (respond s name (finite.get s.members.clients name))
+  answered_sound name none =
+      let first = passed _ _ _ none in
+      let second = passed _ _ _ first.1 in
+      let third = passed _ _ _ second.1 in
+      let (client, is) = client_there s name first.0 in
+      let (chosen, ready) = ready_there s name client is third.0 in
+      respond_sound s sound name client chosen is ready
+
+  -- ---- a message comes, and a copy of it goes
+  pub arrive_sound : (message : Message) → Flies s.pool.flights message → IsSound (arrive s message)
+  arrive_sound (ToReplica number request) f = handle_sound s sound number request f
+  arrive_sound (ToClient name reply) f = take_sound s sound name reply f
+
+  delivered_sound : (flight : ℕ) (found : Option Message) → message_of s.pool.flights flight ≡ found → IsSound (deliver s flight found)
+  delivered_sound flight None is = sound
+  delivered_sound flight (Some message) is = lose_sound (arrive s message) (arrive_sound message (flies s flight message is)) flight
+
+-- ---- every step that isn't refused
+pub moved_sound : (s : System) (step : Step) → IsSound s → refusal_of s step ≡ None → IsSound (moved s step)
+moved_sound s (step.Join name) sound none = joined_sound s sound name none
+moved_sound s (step.Invoke name key action) sound none = asked_sound s sound name key action none
+moved_sound s (step.Send name replica) sound none = send_sound s sound name replica (replica_there s replica (passed _ _ _ none).0)
+moved_sound s (step.Deliver flight) sound none = delivered_sound s sound flight (message_of s.pool.flights flight) refl
+moved_sound s (step.Lose flight) sound none = lose_sound s sound flight
+moved_sound s (step.Repeat flight) sound none = repeat_sound s sound flight
+moved_sound s (step.Respond name) sound none = answered_sound s sound name none
+moved_sound s (step.StopClient name) sound none = stop_sound s sound name
+moved_sound s (step.StopReplica number) sound none = set_up_sound s sound number false
+moved_sound s (step.StartReplica number) sound none = set_up_sound s sound number true
+
+-- ---- every step, and every list of steps
+next_by : (s : System) (step : Step) (found : Option Refusal) → IsSound s → refusal_of s step ≡ found → IsSound (cond (is_some found) s (moved s step))
+next_by s step (Some why) sound is = sound
+next_by s step None sound is = moved_sound s step sound is
+
+pub next_sound : (s : System) (step : Step) → IsSound s → IsSound (next s step)
+next_sound s step sound = next_by s step (refusal_of s step) sound refl
+
+pub after_from_sound : (s : System) (steps : List Step) → IsSound s → IsSound (after_from s steps)
+after_from_sound s [] sound = sound
+after_from_sound s (step ∷ steps) sound = after_from_sound (next s step) steps (next_sound s step sound)
+
+pub after_sound : (config : Config) (steps : List Step) → IsLawful config.quorums → config.calls ≤ 1000000 → IsSound (after config steps)
+after_sound config steps lawful calls = after_from_sound (opening config) steps (opening_sound config lawful calls)

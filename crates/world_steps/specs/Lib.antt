@@ -1,0 +1,9 @@
+pub mod Configs
+pub mod Clients
+pub mod Nodes
+pub mod Systems
+pub mod Refusals
+pub mod Runs
+pub mod Sound
+pub mod SoundSystems
+pub mod Moves

@@ -1,0 +1,41 @@
+-- Steps and runs.
+use Rattle.std.specs.Prelude.{◌≡◌, ◌⊎◌, List, [], ◌∷◌, None, Some, Result, Ok, Err, is_some, if◌then◌else◌}
+use Rattle.world_steps.specs.Configs.{Config}
+use Rattle.world_steps.specs.Systems.{opening, moved, effect_of}
+use Rattle.world_steps.specs.declared.system.System.{System}
+use Rattle.world_steps.specs.Refusals.{refusal_of}
+use Rattle.world_steps.specs.declared.step.Step.{Step}
+use Rattle.world_steps.specs.declared.step.Step.TheVariants as step
+use Rattle.world_steps.specs.declared.effect.Effect.{Effect}
+use Rattle.world_steps.specs.declared.refusal.Refusal.{Refusal}
+use Rattle.world_steps.specs.declared.refusal.Refusal.TheVariants as refusal
+
+-- a step is refused and changes nothing, or the system moves
+abbrev pub next : System → Step → System
+next s step = if is_some (refusal_of s step) then s else moved s step
+
+-- the system after a list of steps
+abbrev pub after_from : System → List Step → System
+after_from s [] = s
+after_from s (step ∷ steps) = after_from (next s step) steps
+
+abbrev pub after : Config → List Step → System
+after config steps = after_from (opening config) steps
+
+-- a step for which something may grow
+abbrev pub MayGrow : Step → Type 0
+MayGrow (step.Lose flight) = ⊥
+MayGrow (step.Repeat flight) = ⊥
+MayGrow (step.StopClient name) = ⊥
+MayGrow (step.StopReplica number) = ⊥
+MayGrow (step.StartReplica number) = ⊥
+MayGrow other = Unit {0}
+
+-- the refusal is the one of the table; want of memory only where nothing refuses the step and something may grow
+abbrev pub IsRefused : System → Step → Refusal → Type 0
+IsRefused s step why = (refusal_of s step ≡ Some why) ⊎ ((refusal_of s step ≡ None) × (why ≡ refusal.Memory) × MayGrow step)
+
+-- what a step answers, and what it leaves
+abbrev pub Steps : System → Step → Result Effect Refusal → System → Type 0
+Steps old step (Ok effect) new = (refusal_of old step ≡ None) × (effect_of old step ≡ Some effect) × (new ≡ moved old step)
+Steps old step (Err why) new = IsRefused old step why × (new ≡ old)

@@ -1,0 +1,109 @@
+//! The clients that joined.
+ghost use Rattle.std.specs.Prelude.{◌≡◌, [], OnOk, OnErr, Some};
+ghost use Rattle.std.specs.Option.{option_copied};
+ghost use Rattle.std.specs.FinMap as finite;
+ghost use Rattle.client_phases.specs.Clients.{MayTake, client_after, invoked, phase_of, responded, stopped, taken};
+ghost use Rattle.client_phases.specs.declared.clients.Client.{Client};
+ghost use Rattle.client_phases.specs.declared.outcomes.Phase.{Phase};
+ghost use Rattle.world_steps.specs.Clients.{with_client, with_member};
+
+use client_phases::{Client, Taken};
+use replica::Reply;
+use std::alloc::Global;
+use std::collections::BTreeMap;
+use std::marker::Model;
+use tag::{Action, ClientId, Key, Memory, OpId};
+
+/// The names in the order in which they joined, and the client of each.
+#[derive(Debug, Drop)]
+pub(crate) struct Members {
+    joined: Vec<ClientId>,
+    clients: BTreeMap<u32, Client>,
+}
+
+impl Model for Members {
+    ghost use Rattle.std.specs.Prelude.{ℕ, List, refl};
+    ghost use Rattle.std.specs.Coded.{code_by, coded×, coded_ℕ, coded_list};
+    ghost use Rattle.std.specs.FinMap as finite;
+    ghost use Rattle.client_phases.specs.contracts.clients.Client as client;
+    ghost use Rattle.world_steps.specs.Clients.{Clients, Members};
+
+    ghost Value = { Members };
+
+    ghost coded = { code_by (List ℕ × Clients) (coded× (coded_list coded_ℕ) (finite.code coded_ℕ client.the_row.coded)) (λ m. (m.joined, m.clients)) (λ p. record { joined = p.0; clients = p.1 }) (λ _. refl) };
+
+    ghost view = { λ m. record { joined = m.joined.items; clients = finite.from_entries m.clients.entries } };
+}
+
+impl Members {
+    pub(crate) fn new(alloc: Global) -> Members
+        ensures { result ≡ record { joined = []; clients = finite.empty } }
+    {
+        Members {
+            joined: Vec::new(alloc),
+            clients: BTreeMap::new(alloc),
+        }
+    }
+
+    pub(crate) fn joined(&self) -> &[ClientId]
+        ensures { result.now ≡ self.now.joined }
+    {
+        self.joined.as_slice()
+    }
+
+    pub(crate) fn get(&self, name: ClientId) -> Option<&Client>
+        ensures { option_copied result ≡ finite.get self.now.clients name }
+    {
+        self.clients.get(&name.get())
+    }
+
+    /// Adds a client behind all others. On `Memory` nothing changed.
+    pub(crate) fn add(&mut self, name: ClientId, client: Client) -> Result<(), Memory>
+        ensures ok { OnOk result (self.new ≡ with_member self.old name client) }
+        ensures err { OnErr result (self.new ≡ self.old) }
+    {
+        self.joined.reserve(1)?;
+        self.clients.insert(name.get(), client)?;
+        self.joined.push(name)?;
+        Ok(())
+    }
+
+    /// Has an idle client begin to ask for a call.
+    pub(crate) fn invoke(&mut self, name: ClientId, op: OpId, key: Key, action: Action)
+        requires { (client : Client) → finite.get self.old.clients name ≡ Some client → phase_of client ≡ Phase.Idle }
+        ensures { (client : Client) → finite.get self.old.clients name ≡ Some client → self.new ≡ with_client self.old name (invoked client op key action) }
+    {
+        if let Some(client) = self.clients.get_mut(&name.get()) {
+            client.invoke(op, key, action);
+        }
+    }
+
+    /// Has a client take a reply.
+    pub(crate) fn take(&mut self, name: ClientId, reply: Reply)
+        requires { (client : Client) → finite.get self.old.clients name ≡ Some client → MayTake client reply }
+        ensures { (client : Client) → finite.get self.old.clients name ≡ Some client → self.new ≡ with_client self.old name (client_after client reply) }
+    {
+        if let Some(client) = self.clients.get_mut(&name.get()) {
+            client.take(reply);
+        }
+    }
+
+    /// Has a client that is ready be idle again.
+    pub(crate) fn respond(&mut self, name: ClientId)
+        requires { (client : Client) → finite.get self.old.clients name ≡ Some client → phase_of client ≡ Phase.Ready }
+        ensures { (client : Client) → finite.get self.old.clients name ≡ Some client → self.new ≡ with_client self.old name (responded client) }
+    {
+        if let Some(client) = self.clients.get_mut(&name.get()) {
+            client.respond();
+        }
+    }
+
+    /// Has a client stop.
+    pub(crate) fn stop(&mut self, name: ClientId)
+        ensures { (client : Client) → finite.get self.old.clients name ≡ Some client → self.new ≡ with_client self.old name (stopped client) }
+    {
+        if let Some(client) = self.clients.get_mut(&name.get()) {
+            client.stop();
+        }
+    }
+}

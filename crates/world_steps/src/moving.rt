@@ -1,0 +1,248 @@
+//! What a step makes of a system that doesn't refuse it.
+ghost use Rattle.std.specs.Prelude.{◌≡◌, ◌<◌, IfOk, OnOk, OnErr, Some, length, true, false};
+ghost use Rattle.network.specs.Pools.{IsBag, with_sent};
+ghost use Rattle.network.specs.declared.messages.Message.{Message};
+ghost use Rattle.recorder.specs.Histories.{MayFollow};
+ghost use Rattle.recorder.specs.Answers.{with_row};
+ghost use Rattle.recorder.specs.declared.row.Row.{Row};
+ghost use Rattle.client_phases.specs.Clients.{taken};
+ghost use Rattle.client_phases.specs.declared.clients.Client.{Client};
+ghost use Rattle.world_steps.specs.Systems.{answered_op, arrive, lose, op_of};
+ghost use Rattle.world_steps.specs.Moves.{IsClient, MayAnswer, MayDeliver, MayHandle, MayHear, MayInvoke, MayMove, MayRespond, MaySend, Moves};
+
+use crate::system::System;
+use crate::{Effect, Step};
+use client_phases::{Client, Taken};
+use network::{Message, NetRefusal};
+use recorder::RowRefusal;
+use replica::{Reply, Request};
+use tag::{Action, ClientId, Key, Memory, OpId, ReplicaId, Returned, Tag};
+
+/// The call that a request belongs to.
+fn op_of(request: &Request) -> OpId
+    ensures { result ≡ op_of request.now }
+{
+    match request {
+        Request::Query { op, .. } | Request::Put { op, .. } => *op,
+    }
+}
+
+/// The call that a reply belongs to.
+fn answered_op(reply: &Reply) -> OpId
+    ensures { result ≡ answered_op reply.now }
+{
+    match reply {
+        Reply::Held { op, .. } | Reply::Kept { op, .. } => *op,
+    }
+}
+
+impl System {
+    fn join(&mut self, name: ClientId) -> Result<Effect, Memory>
+        ensures { Moves self.old (Step.Join name) result self.new }
+    {
+        let client = Client::new(name, self.config.quorums(), self.config.reads());
+        self.members.add(name, client)?;
+        Ok(Effect::Joined)
+    }
+
+    fn invoke(&mut self, name: ClientId, key: Key, action: Action) -> Result<Effect, Memory>
+        requires { MayInvoke self.old name }
+        ensures { Moves self.old (Step.Invoke name key action) result self.new }
+    {
+        match self.history.invoke(name, key.copy()?, action.copy()?) {
+            Ok(op) => {
+                self.members.invoke(name, op, key, action);
+                Ok(Effect::Invoked(op))
+            }
+            Err(RowRefusal::Memory) => Err(Memory),
+            Err(_) => unreachable!(),
+        }
+    }
+
+    /// Sends a message. There has to be room for it.
+    fn post(&mut self, message: Message) -> Result<u32, Memory>
+        requires { self.old.pool.sent < self.old.pool.limit }
+        ensures number { IfOk result (λ number. number ≡ self.old.pool.sent) }
+        ensures ok { OnOk result (self.new ≡ record self.old { pool = with_sent self.old.pool message }) }
+        ensures bag { IsBag self.old.pool }
+        ensures err { OnErr result (self.new ≡ self.old) }
+    {
+        let number = self.pool.sent();
+        match self.pool.send(message) {
+            Ok(_) => Ok(number),
+            Err(NetRefusal::Memory) => Err(Memory),
+            Err(_) => unreachable!(),
+        }
+    }
+
+    fn send(&mut self, name: ClientId, replica: ReplicaId) -> Result<Effect, Memory>
+        requires { MaySend self.old name }
+        ensures { Moves self.old (Step.Send name replica) result self.new }
+    {
+        let request = match self.members.get(name) {
+            Some(client) => client.request()?,
+            None => None,
+        };
+        let Some(request) = request else {
+            unreachable!()
+        };
+        let flight = self.post(Message::ToReplica(replica, request))?;
+        Ok(Effect::Sent(flight))
+    }
+
+    /// Records a call's note.
+    fn note(&mut self, op: OpId, tag: Tag) -> Result<(), Memory>
+        requires { MayFollow self.old.history.rows (Row.Note op tag) }
+        ensures ok { OnOk result (self.new ≡ record self.old { history = with_row self.old.history (Row.Note op tag) }) }
+        ensures err { OnErr result (self.new ≡ self.old) }
+    {
+        match self.history.note(op, tag) {
+            Ok(()) => Ok(()),
+            Err(RowRefusal::Memory) => Err(Memory),
+            Err(_) => unreachable!(),
+        }
+    }
+
+    /// Records a call's response.
+    #[tactic(auto, using(crate::proofs::Refused::respond_not_refused))]
+    fn answer(&mut self, op: OpId, returned: Returned) -> Result<(), Memory>
+        requires { MayAnswer self.old op returned }
+        ensures ok { OnOk result (self.new ≡ record self.old { history = with_row self.old.history (Row.Respond op returned) }) }
+        ensures err { OnErr result (self.new ≡ self.old) }
+    {
+        match self.history.respond(op, returned) {
+            Ok(()) => Ok(()),
+            Err(RowRefusal::Memory) => Err(Memory),
+            Err(_) => unreachable!(),
+        }
+    }
+
+    /// Has a replica handle a request, and sends its reply. What may grow first is what can be taken
+    /// back: a `Kept`, since the replica can't forget what it adopted.
+    fn handle(&mut self, number: ReplicaId, request: &Request) -> Result<Effect, Memory>
+        requires { MayHandle self.old number request.now }
+        ensures effect { IfOk result (λ effect. effect ≡ Effect.Answered self.old.pool.sent) }
+        ensures ok { OnOk result (self.new ≡ arrive self.old (Message.ToReplica number request.now)) }
+        ensures err { OnErr result (self.new ≡ self.old) }
+    {
+        let Some(client) = self.history.caller(op_of(request)) else {
+            unreachable!()
+        };
+        let flight = match request {
+            Request::Query { .. } => {
+                let reply = self.nodes.handle(number, request)?;
+                self.post(Message::ToClient(client, reply))?
+            }
+            Request::Put { op, .. } => {
+                let kept = Reply::Kept {
+                    op: *op,
+                    replica: number,
+                };
+                let flight = self.post(Message::ToClient(client, kept))?;
+                if self.nodes.handle(number, request).is_err() {
+                    self.pool.unsend();
+                    return Err(Memory);
+                }
+                flight
+            }
+        };
+        Ok(Effect::Answered(flight))
+    }
+
+    /// Has a client take a reply, and records the note that it may make.
+    fn hear(&mut self, name: ClientId, reply: Reply) -> Result<Effect, Memory>
+        requires { MayHear self.old name reply }
+        ensures effect { IfOk result (λ effect. (client : Client) → IsClient self.old name client → effect ≡ Effect.Taken (taken client reply)) }
+        ensures ok { OnOk result (self.new ≡ arrive self.old (Message.ToClient name reply)) }
+        ensures err { OnErr result (self.new ≡ self.old) }
+    {
+        let taken = match self.members.get(name) {
+            Some(client) => client.foresee(&reply),
+            None => unreachable!(),
+        };
+        match taken {
+            Taken::Noted(tag) | Taken::Agreed(tag) => self.note(answered_op(&reply), tag)?,
+            _ => {}
+        }
+        self.members.take(name, reply);
+        Ok(Effect::Taken(taken))
+    }
+
+    fn deliver(&mut self, flight: u32) -> Result<Effect, Memory>
+        requires { MayDeliver self.old flight }
+        ensures { Moves self.old (Step.Deliver flight) result self.new }
+    {
+        let message = match self.pool.look(flight) {
+            Some(message) => message.copy()?,
+            None => unreachable!(),
+        };
+        let effect = match message {
+            Message::ToReplica(number, request) => self.handle(number, &request)?,
+            Message::ToClient(name, reply) => self.hear(name, reply)?,
+        };
+        self.lose(flight);
+        Ok(effect)
+    }
+
+    /// A copy of the flight goes, where there is one.
+    fn lose(&mut self, flight: u32)
+        ensures { self.new ≡ lose self.old flight }
+    {
+        let _ = self.pool.lose(flight);
+    }
+
+    fn respond(&mut self, name: ClientId) -> Result<Effect, Memory>
+        requires { MayRespond self.old name }
+        ensures { Moves self.old (Step.Respond name) result self.new }
+    {
+        let Some(client) = self.members.get(name) else {
+            unreachable!()
+        };
+        match (client.pending(), client.answer()?) {
+            (Some(op), Some(returned)) => {
+                self.answer(op, returned)?;
+                self.members.respond(name);
+                Ok(Effect::Responded(op))
+            }
+            _ => unreachable!(),
+        }
+    }
+
+    /// Takes a step that nothing refuses. On `Memory` nothing changed.
+    pub(crate) fn moved(&mut self, step: Step) -> Result<Effect, Memory>
+        requires { MayMove self.old step }
+        ensures { Moves self.old step result self.new }
+    {
+        match step {
+            Step::Join { client } => self.join(client),
+            Step::Invoke {
+                client,
+                key,
+                action,
+            } => self.invoke(client, key, action),
+            Step::Send { client, replica } => self.send(client, replica),
+            Step::Deliver { flight } => self.deliver(flight),
+            Step::Lose { flight } => {
+                self.lose(flight);
+                Ok(Effect::Lost)
+            }
+            Step::Repeat { flight } => {
+                let _ = self.pool.repeat(flight);
+                Ok(Effect::Repeated)
+            }
+            Step::Respond { client } => self.respond(client),
+            Step::StopClient { client } => {
+                self.members.stop(client);
+                Ok(Effect::Stopped)
+            }
+            Step::StopReplica { replica } => {
+                self.nodes.set_up(replica, false);
+                Ok(Effect::Stopped)
+            }
+            Step::StartReplica { replica } => {
+                self.nodes.set_up(replica, true);
+                Ok(Effect::Started)
+            }
+        }
+    }
+}

@@ -1,0 +1,48 @@
+//! Why a step is refused.
+use tag::Memory;
+use thiserror::Error;
+
+/// Why a step was refused, with its number. Of all reasons that apply it is the one with the lowest
+/// number. The world then equals what it was.
+#[derive(Clone, Copy, Debug, PartialEq, Eq, Error)]
+pub enum Refusal {
+    #[error("no replica has that number")]
+    NoSuchReplica = 1,
+    #[error("no client of that name joined")]
+    NoSuchClient = 2,
+    #[error("a client of that name joined before")]
+    ClientTaken = 3,
+    #[error("the client is stopped")]
+    ClientStopped = 4,
+    #[error("the client has a pending call")]
+    ClientBusy = 5,
+    #[error("the client neither asks nor puts")]
+    NothingToSend = 6,
+    #[error("the flight isn't under way")]
+    NotInFlight = 7,
+    #[error("the client has no answer yet")]
+    NotReady = 8,
+    #[error("the replica is down")]
+    ReplicaDown = 9,
+    #[error("the replica is up")]
+    ReplicaUp = 10,
+    #[error("the flight has 1000 copies")]
+    CopiesFull = 11,
+    #[error("the record has all the calls that it may have")]
+    OpsFull = 12,
+    #[error("as many flights were sent as may be")]
+    FlightsFull = 13,
+    #[error("no memory")]
+    Memory = 15,
+}
+
+impl From<Memory> for Refusal {
+    ghost use Rattle.std.specs.Prelude.{◌≡◌};
+    ghost use Rattle.world_steps.specs.declared.refusal.Refusal.TheVariants.{Memory};
+
+    ghost from_gives = { λ _ refusal. refusal ≡ Memory };
+
+    fn from(_: Memory) -> Refusal {
+        Refusal::Memory
+    }
+}

@@ -1,0 +1,138 @@
+//! Worlds.
+ghost use Rattle.std.specs.Prelude.{◌≡◌, IfOk, List, ℕ, false, option_map, slice_get};
+ghost use Rattle.std.specs.Option.{option_copied, option_map_or};
+ghost use Rattle.std.specs.FinMap as finite;
+ghost use Rattle.recorder.specs.Records.{IsPart};
+ghost use Rattle.recorder.specs.Sound.{TagSound};
+ghost use Rattle.recorder.specs.declared.part.Call.{Call};
+ghost use Rattle.world_steps.specs.Runs.{Steps};
+ghost use Rattle.world_steps.specs.SoundSystems.{IsSound};
+ghost use Rattle.world_steps.specs.Systems.{opening};
+
+use crate::system::System;
+use crate::{Config, Effect, Refusal, Step};
+use client_phases::Client;
+use network::Pool;
+use recorder::History;
+use replica::Replica;
+use std::alloc::Global;
+use std::marker::Model;
+use tag::{ClientId, Memory, ReplicaId};
+
+/// Clients, replicas, the network between them and the record, as steps from an opening world left
+/// them.
+///
+/// Every world that exists is sound: tags come from notes, replicas' tags never fall, what is said to
+/// be kept is stored, a put quorum holds each completed call, and what is told carries what precedes.
+#[derive(Drop)]
+pub struct World {
+    system: System,
+}
+
+impl Model for World {
+    ghost use Rattle.world_steps.specs.contracts.system.System as whole;
+    ghost use Rattle.world_steps.specs.SoundSystems.{IsSound};
+    ghost use Rattle.world_steps.specs.declared.system.System.{System};
+
+    ghost Value = { System };
+
+    ghost coded = { whole.the_row.coded };
+
+    ghost view = { λ w. w.system };
+
+    ghost invariant = { λ w. IsSound w.system };
+}
+
+impl World {
+    /// The world before the first step: nobody joined, all replicas are up and empty, nothing was sent
+    /// or recorded. `Memory` comes only where a growth was refused.
+    pub fn new(alloc: Global, config: Config) -> Result<World, Memory>
+        ensures opening { IfOk result (λ world. world ≡ opening config) }
+        ensures sound { IfOk result (λ world. IsSound world) }
+    {
+        let system = System::new(alloc, config)?;
+        Ok(World { system })
+    }
+
+    /// Takes a step, and answers what it did.
+    ///
+    /// Of the refusals that apply the one with the lowest number is answered, and the world then
+    /// equals what it was. `Memory` comes only where no other applies and a growth was refused; the
+    /// steps `Lose`, `Repeat`, `StopClient`, `StopReplica` and `StartReplica` take no memory.
+    pub fn step(&mut self, step: Step) -> Result<Effect, Refusal>
+        ensures step { Steps self.old step result self.new }
+        ensures sound { IsSound self.new }
+    {
+        if let Some(refusal) = self.system.refusal(&step) {
+            return Err(refusal);
+        }
+        Ok(self.system.moved(step)?)
+    }
+
+    /// The configuration that it was made with.
+    pub fn config(&self) -> Config
+        ensures config { result ≡ self.now.config }
+        ensures world { IsSound self.now }
+    {
+        self.system.config
+    }
+
+    /// The record. The tags of each of its parts are sound.
+    pub fn history(&self) -> &History
+        ensures history { result.now ≡ self.now.history }
+        ensures world { IsSound self.now }
+        ensures parts { (key : List ℕ) (part : List Call) → IsPart self.now.history.rows key part → TagSound part }
+    {
+        &self.system.history
+    }
+
+    /// The record, of a world that isn't needed any more. The tags of each of its parts are sound.
+    pub fn into_history(self) -> History
+        ensures history { result ≡ self.history }
+        ensures parts { (key : List ℕ) (part : List Call) → IsPart self.history.rows key part → TagSound part }
+    {
+        let World { system } = self;
+        system.history
+    }
+
+    /// The replica of that number, if there is one.
+    pub fn replica(&self, number: ReplicaId) -> Option<&Replica>
+        ensures { option_copied result ≡ option_map (λ node. node.replica) (slice_get self.now.nodes number) }
+    {
+        match self.system.nodes.get(number) {
+            Some(node) => Some(&node.replica),
+            None => None,
+        }
+    }
+
+    /// Whether the replica of that number is up; a replica that isn't there is not.
+    pub fn is_up(&self, number: ReplicaId) -> bool
+        ensures { result ≡ option_map_or (λ node. node.is_up) (slice_get self.now.nodes number) false }
+    {
+        match self.system.nodes.get(number) {
+            Some(node) => node.is_up,
+            None => false,
+        }
+    }
+
+    /// The client of that name, if it joined.
+    pub fn client(&self, name: ClientId) -> Option<&Client>
+        ensures { option_copied result ≡ finite.get self.now.members.clients name }
+    {
+        self.system.members.get(name)
+    }
+
+    /// The network.
+    pub fn pool(&self) -> &Pool
+        ensures { result.now ≡ self.now.pool }
+    {
+        &self.system.pool
+    }
+
+    /// The names that joined, stopped ones included, in the order in which they joined.
+    pub fn joined(&self) -> &[ClientId]
+        ensures { result.now ≡ self.now.members.joined }
+    {
+        self.system.members.joined()
+    }
+}

@@ -1,0 +1,124 @@
+//! The slow world: lists alone, each found by going through it, as the definitions read.
+mod clients;
+mod moving;
+mod refusing;
+mod replicas;
+
+use client_phases::Phase;
+pub(crate) use clients::Rules;
+use clients::SlowClient;
+use network::Message;
+use recorder::Row;
+use replicas::SlowReplica;
+use std::alloc::Global;
+use std::test::Fail;
+use tag::{ClientId, ReplicaId};
+use world_steps::{Effect, Refusal, Step};
+
+/// A message with the count of its copies: 0 once it is spent.
+#[derive(Drop)]
+pub(crate) struct SlowFlight {
+    message: Message,
+    copies: u32,
+}
+
+/// The rules and limits, the clients that joined, the replicas, all flights by number, and the record.
+#[derive(Drop)]
+pub(crate) struct SlowWorld {
+    alloc: Global,
+    rules: Rules,
+    calls: u32,
+    limit: u32,
+    clients: Vec<SlowClient>,
+    replicas: Vec<SlowReplica>,
+    flights: Vec<SlowFlight>,
+    rows: Vec<Row>,
+}
+
+impl SlowWorld {
+    /// Before the first step: no client, all replicas up and empty, nothing sent, nothing recorded.
+    pub(crate) fn new(
+        alloc: Global,
+        rules: Rules,
+        calls: u32,
+        limit: u32,
+    ) -> Result<SlowWorld, Fail> {
+        let mut replicas = Vec::new(alloc);
+        for number in 0u8..15 {
+            if usize::from(number) < rules.votes.len() {
+                let number = ReplicaId::new(number).ok_or("a replica")?;
+                replicas.push(SlowReplica::new(alloc, number))?;
+            }
+        }
+        Ok(SlowWorld {
+            alloc,
+            rules,
+            calls,
+            limit,
+            clients: Vec::new(alloc),
+            replicas,
+            flights: Vec::new(alloc),
+            rows: Vec::new(alloc),
+        })
+    }
+
+    /// The record.
+    pub(crate) fn rows(&self) -> &[Row] {
+        &self.rows
+    }
+
+    /// Takes a step: refuses it by the table, or moves.
+    pub(crate) fn take(&mut self, step: &Step) -> Result<Result<Effect, Refusal>, Fail> {
+        match self.refusal(step) {
+            Some(refusal) => Ok(Err(refusal)),
+            None => Ok(Ok(self.moved(step)?)),
+        }
+    }
+}
+
+/// What the tests of the refusals ask.
+impl SlowWorld {
+    /// Where a client stands, if it joined.
+    fn phase(&self, name: ClientId) -> Option<Phase> {
+        for client in &self.clients {
+            if client.name == name {
+                return Some(client.phase);
+            }
+        }
+        None
+    }
+
+    fn has_replica(&self, number: ReplicaId) -> bool {
+        usize::from(number.get()) < self.replicas.len()
+    }
+
+    fn is_down(&self, number: ReplicaId) -> bool {
+        match self.replicas.get(usize::from(number.get())) {
+            Some(replica) => !replica.is_up,
+            None => false,
+        }
+    }
+
+    /// How many calls are recorded.
+    fn call_count(&self) -> u32 {
+        let mut count = 0u32;
+        for row in &self.rows {
+            if let Row::Invoke { .. } = row {
+                count = count.saturating_add(1);
+            }
+        }
+        count
+    }
+
+    /// How many messages were sent.
+    fn sent(&self) -> u32 {
+        u32::try_from(self.flights.len()).unwrap_or(u32::MAX)
+    }
+
+    fn copies(&self, flight: u32) -> u32 {
+        match self.flights.get(flight as usize) {
+            Some(flight) => flight.copies,
+            None => 0,
+        }
+    }
+}
