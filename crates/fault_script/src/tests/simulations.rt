@@ -7,6 +7,7 @@ use std::io;
 use std::io::Write;
 use std::process::Abort;
 use std::test::Fail;
+use std::thread::Threads;
 use witness_order::order_of;
 
 /// The first line of each history.
@@ -313,7 +314,7 @@ fn a_writer_without_room_has_a_beginning(rt: HostRuntime) -> Result<(), Fail> {
 }
 
 /// The history of random steps has an order of each key's calls by their tags.
-fn has_orders(rt: &impl Abort, alloc: Global, seed: u32) -> Result<(), Fail> {
+fn has_orders(rt: &(impl Abort + Threads + Sync), alloc: Global, seed: u32) -> Result<(), Fail> {
     let script = format!(in alloc;
         "replicas 5\njoin 1\njoin 2\njoin 3\njoin 4\nrandom {seed} 2000\n"
     )?;
@@ -324,7 +325,7 @@ fn has_orders(rt: &impl Abort, alloc: Global, seed: u32) -> Result<(), Fail> {
         size: 1_048_576,
         fails: false,
     });
-    let history = read_history(alloc, &mut reader)?;
+    let history = read_history(rt, alloc, &mut reader)?;
     assert!(rt; history.calls() > 0, "seed {seed}");
     for (_, part) in &history.parts()? {
         let _ = order_of(alloc, part)?;
