@@ -1,10 +1,10 @@
 -- Bytes that come in pieces.
-use Rattle.std.proofs.Common.{ℕ, ◌≡◌, ◌<◌, ◌≤◌, ◌+◌, inl, inr, List, [], ◌∷◌, ◌++◌, length, Bool, true, false, cond, nat_lt, Result, Ok, Err, None, refl, sym, ap, ◌∙◌, append_assoc, append-nil, length-append, arith, subst}
+use Rattle.std.proofs.Common.{ℕ, ◌≡◌, ◌≢◌, ◌<◌, ◌≤◌, ◌+◌, eqb, eqb-true, inl, inr, List, [], ◌∷◌, ◌++◌, length, Bool, true, false, cond, nat_lt, Result, Ok, Err, None, refl, sym, ap, ◌∙◌, append_assoc, append-nil, length-append, arith, subst}
 use Rattle.std.specs.Prelude.{MatchResult}
 use Rattle.std.specs.List.{flat_map}
 use Rattle.std.proofs.lemmas.Grind.{flat_map-append}
-use Rattle.std.proofs.lemmas.List.Elements.{All-append, All-nil}
-use Rattle.std.proofs.lemmas.Bool.{lt-ltb}
+use Rattle.std.proofs.lemmas.List.Elements.{All-append, All-nil, All-cons, All-head, All-tail}
+use Rattle.std.proofs.lemmas.Bool.{lt-ltb, eqb-false}
 use Rattle.history_file.specs.declared.fault.LineFault.{LineFault}
 use Rattle.history_file.specs.declared.fault.LineFault.TheVariants.{NoHeader, TooLong}
 use Rattle.history_file.specs.declared.fault.FileFault.{FileFault}
@@ -15,7 +15,7 @@ use Rattle.history_file.specs.declared.feed.Feed.{Feed}
 use Rattle.history_file.specs.Cuts.{ended, HasNoEnd, Splits}
 use Rattle.history_file.specs.Formats.{Format}
 use Rattle.history_file.specs.Files.{AreLinesOf, HasFault, IsFirstFault, IsFirstOfKind, IsAt}
-use Rattle.history_file.specs.Feeds.{Stands, last_lines, FaultSoFar, Reads, FirstFaultInAll, FaultInAll, Passed, FaultPassed, PassStops}
+use Rattle.history_file.specs.Feeds.{Stands, last_lines, whole_lines, FaultSoFar, Reads, FirstFaultInAll, FaultInAll, Passed, FaultPassed, PassStops}
 use Rattle.history_file.proofs.Taking.{IsFirstFault-more}
 
 pub Splits-join : (bytes piece : List ℕ) (lines more : List (List ℕ)) (rest last : List ℕ) → Splits bytes lines rest → Splits (rest ++ piece) more last → Splits (bytes ++ piece) (lines ++ more) last
@@ -36,6 +36,53 @@ Splits-room bytes lines rest s = omega (arith, ends_long lines, ap length s.whol
 -- bytes without an end are no line
 pub Splits-none : (bytes : List ℕ) → HasNoEnd bytes → Splits bytes [] bytes
 Splits-none bytes h = record { whole = refl; each = All-nil HasNoEnd; partial = h }
+
+-- a line begun by the rest and ended behind the front, before the lines of the tail
+pub Splits-line : (rest front tail : List ℕ) (lines : List (List ℕ)) (last : List ℕ) → HasNoEnd rest → HasNoEnd front → Splits tail lines last → Splits (rest ++ (front ++ 10 ∷ tail)) ((rest ++ front) ∷ lines) last
+Splits-line rest front tail lines last r f s = record {
+  whole = sym (append_assoc rest front (10 ∷ tail)) ∙ ap (λ (xs : List ℕ). (rest ++ front) ++ 10 ∷ xs) s.whole ∙ sym (append_assoc (rest ++ front) (10 ∷ []) (flat_map ended lines ++ last)) ∙ sym (append_assoc (ended (rest ++ front)) (flat_map ended lines) last);
+  each = All-cons HasNoEnd (rest ++ front) lines (All-append (λ (b : ℕ). b ≢ 10) rest front r f) s.each;
+  partial = s.partial;
+}
+
+-- the bytes' lines and their rest
+pub record Cut (bytes : List ℕ) : Type 0 where
+  pub lines : List (List ℕ)
+  pub rest : List ℕ
+  pub splits : Splits bytes lines rest
+
+cut_longer : (b : ℕ) (bytes : List ℕ) (lines : List (List ℕ)) (rest : List ℕ) → b ≢ 10 → Splits bytes lines rest → Cut (b ∷ bytes)
+cut_longer b bytes [] rest other s = record {
+  lines = [];
+  rest = b ∷ rest;
+  splits = record {
+    whole = ap (λ (xs : List ℕ). b ∷ xs) s.whole;
+    each = All-nil HasNoEnd;
+    partial = All-cons (λ (x : ℕ). x ≢ 10) b rest other s.partial;
+  };
+}
+cut_longer b bytes (line ∷ lines) rest other s = record {
+  lines = (b ∷ line) ∷ lines;
+  rest = rest;
+  splits = record {
+    whole = ap (λ (xs : List ℕ). b ∷ xs) s.whole;
+    each = All-cons HasNoEnd (b ∷ line) lines (All-cons (λ (x : ℕ). x ≢ 10) b line other (All-head HasNoEnd line lines s.each)) (All-tail HasNoEnd line lines s.each);
+    partial = s.partial;
+  };
+}
+
+cut_more : (b : ℕ) (bytes : List ℕ) (ends : Bool) → eqb b 10 ≡ ends → Cut bytes → Cut (b ∷ bytes)
+cut_more b bytes true e c = record {
+  lines = [] ∷ c.lines;
+  rest = c.rest;
+  splits = let P : ℕ → Type 0 = λ x. Splits (x ∷ bytes) ([] ∷ c.lines) c.rest in subst P (sym (eqb-true b 10 e)) (Splits-line [] [] bytes c.lines c.rest (All-nil (λ (x : ℕ). x ≢ 10)) (All-nil (λ (x : ℕ). x ≢ 10)) c.splits);
+}
+cut_more b bytes false e c = cut_longer b bytes c.lines c.rest (eqb-false b 10 e) c.splits
+
+-- all bytes are lines and a rest
+pub cut_of : (bytes : List ℕ) → Cut bytes
+cut_of [] = record { lines = []; rest = []; splits = Splits-none [] (All-nil (λ (x : ℕ). x ≢ 10)) }
+cut_of (b ∷ bytes) = cut_more b bytes (eqb b 10) refl (cut_of bytes)
 
 pub last_some : (lines : List (List ℕ)) (rest : List ℕ) → 0 < length rest → last_lines lines rest ≡ lines ++ rest ∷ []
 last_some lines [] some = absurd (omega arith)
@@ -185,3 +232,31 @@ module _ {Item Contents : Type 0} (format : Format Item) (Makes : List Item → 
   pub passes_alone : (old : Progress Contents) (bytes : List ℕ) (r : Result (Unit {0}) FileFault) → HasNoEnd bytes → MatchResult r (λ x. length bytes ≤ 65536) (λ fault. (65536 < length bytes) × (fault.line ≡ old.lines + 1) × (fault.kind ≡ kind.Line TooLong)) → MatchResult r (λ x. Passed format Makes old bytes bytes old) (λ fault. PassStops format Makes old bytes fault.line fault.kind)
   passes_alone old bytes (Ok done) none h = Passed-none old bytes none h
   passes_alone old bytes (Err fault) none h = long_alone old bytes fault.line fault.kind none h.0 h.1 h.2
+
+  -- the first line of the bytes was taken, and then those behind it
+  pub Passed-line : (old mid new : Progress Contents) (rest front tail left : List ℕ) → HasNoEnd rest → HasNoEnd front → ((before : List (List ℕ)) → IsAt format Makes before old → IsAt format Makes (before ++ (rest ++ front) ∷ []) mid) → Passed format Makes mid tail left new → Passed format Makes old (rest ++ (front ++ 10 ∷ tail)) left new
+  Passed-line old mid new rest front tail left r f one p = record {
+    lines = (rest ++ front) ∷ p.lines;
+    splits = Splits-line rest front tail p.lines left r f p.splits;
+    short = p.short;
+    taken = λ before at. let P : List (List ℕ) → Type 0 = λ ls. IsAt format Makes ls new in subst P (append_assoc before ((rest ++ front) ∷ []) p.lines) (p.taken (before ++ (rest ++ front) ∷ []) (one before at));
+  }
+
+  -- a fault of the first line of the bytes
+  pub line_stops : (old : Progress Contents) (rest front tail : List ℕ) (number : ℕ) (k : FaultKind) → HasNoEnd rest → HasNoEnd front → ((before : List (List ℕ)) → IsAt format Makes before old → IsFirstOfKind format (before ++ (rest ++ front) ∷ []) number k) → PassStops format Makes old (rest ++ (front ++ 10 ∷ tail)) number k
+  line_stops old rest front tail number k r f h =
+      let cut = cut_of tail in
+      let line = rest ++ front in
+      let P : List (List ℕ) → Type 0 = λ ls. IsFirstOfKind format ls number k in
+      pass_stops old (rest ++ (front ++ 10 ∷ tail)) (line ∷ cut.lines) cut.rest number k (Splits-line rest front tail cut.lines cut.rest r f cut.splits) (λ before at. subst P (append_assoc before (line ∷ []) cut.lines) (IsFirstFault-more format Makes (before ++ line ∷ []) cut.lines number k (h before at)))
+
+  -- a fault behind the first line of the bytes
+  pub PassStops-line : (old mid : Progress Contents) (rest front tail : List ℕ) (number : ℕ) (k : FaultKind) → HasNoEnd rest → HasNoEnd front → ((before : List (List ℕ)) → IsAt format Makes before old → IsAt format Makes (before ++ (rest ++ front) ∷ []) mid) → PassStops format Makes mid tail number k → PassStops format Makes old (rest ++ (front ++ 10 ∷ tail)) number k
+  PassStops-line old mid rest front tail number (kind.Line fault) r f one p = record {
+    lines = (rest ++ front) ∷ p.lines;
+    rest = p.rest;
+    splits = Splits-line rest front tail p.lines p.rest r f p.splits;
+    first = λ before at. let P : List (List ℕ) → Type 0 = λ ls. IsFirstFault format (whole_lines ls p.rest) number fault in subst P (append_assoc before ((rest ++ front) ∷ []) p.lines) (p.first (before ++ (rest ++ front) ∷ []) (one before at));
+  }
+  PassStops-line old mid rest front tail number kind.Device r f one p = λ before at. p (before ++ (rest ++ front) ∷ []) (one before at)
+  PassStops-line old mid rest front tail number kind.Memory r f one p = tt

@@ -57,7 +57,20 @@ fn pass<C: Contents>(
     }
 }
 
+/// Makes the rest longer.
+fn lengthen(lines: u64, rest: &mut Vec<u8>, bytes: &[u8]) -> Result<(), FileFault>
+    requires { lines < 2 ^ 63 }
+    ensures { MatchResult result (λ _. rest.new.items ≡ rest.old.items ++ bytes.now) (λ fault. fault.kind ≡ FaultKind.Memory) }
+{
+    if rest.extend_from_slice(bytes).is_err() {
+        return Err(memory_at(lines + 1));
+    }
+    Ok(())
+}
+
 /// Takes the whole lines of the rest and the piece behind it; the rest is then what is left.
+///
+/// The piece's first line is put behind the rest; the others are taken where they lie.
 pub fn take_piece<C: Contents>(
     rt: &(impl Threads + Sync),
     progress: &mut Progress<C>,
@@ -68,14 +81,13 @@ pub fn take_piece<C: Contents>(
     ensures passes { HasNoEnd rest.old.items → MatchResult result (λ _. Passed C.format C.Makes progress.old (rest.old.items ++ piece.now) rest.new.items progress.new) (λ fault. PassStops C.format C.Makes progress.old (rest.old.items ++ piece.now) fault.line fault.kind) }
     ensures lines { IfOk result (λ _. progress.new.lines + length rest.new.items ≤ progress.old.lines + length rest.old.items + length piece.now) }
 {
-    if rest.extend_from_slice(piece).is_err() {
-        return Err(memory_at(progress.lines + 1));
-    }
-    // a piece without a line's end only makes the rest longer
-    if first_end(piece).is_none() {
+    let Some(end) = first_end(piece) else {
+        lengthen(progress.lines, rest, piece)?;
         return check_length(progress.lines, rest.as_slice());
-    }
+    };
+    lengthen(progress.lines, rest, &piece[..end])?;
     let alloc = *rest.allocator();
-    *rest = pass(rt, alloc, progress, rest.as_slice())?;
+    progress.take(rt, alloc, &[rest.as_slice()])?;
+    *rest = pass(rt, alloc, progress, &piece[end + 1..])?;
     Ok(())
 }

@@ -1,30 +1,78 @@
-use Rattle.std.proofs.Common.{ℕ, ◌≡◌, ◌≢◌, ◌≤◌, ◌<◌, ◌+◌, ◌++◌, List, length, Bool, true, false, not, cond, Option, Some, None, Result, Ok, Err, sym, ◌∙◌, subst}
-use Rattle.std.specs.Prelude.{is_ok, is_err, is_some, MatchOption, MatchResult}
+use Rattle.std.proofs.Common.{ℕ, ◌≡◌, ◌≢◌, ◌≤◌, ◌<◌, ◌+◌, ◌-◌, ◌++◌, List, [], ◌∷◌, length, take, drop, slice_index, sym, ap, ◌∙◌, subst}
+use Rattle.std.specs.Prelude.{MatchResult}
+use Rattle.std.proofs.lemmas.List.{drop_more, take_rest, take-append-drop}
 use Rattle.std.proofs.lemmas.List.Elements.{All-append}
+use Rattle.std.proofs.lemmas.Result.{err_from_is_err_and}
 use Rattle.history_file.specs.declared.fault.LineFault.TheVariants.{TooLong}
 use Rattle.history_file.specs.declared.fault.FaultKind.TheVariants as kind
 use Rattle.history_file.specs.Cuts.{HasNoEnd}
-use Rattle.history_file.proofs.Feeding.{passes_alone}
+use Rattle.history_file.specs.Feeds.{Passed, PassStops}
+use Rattle.history_file.specs.Files.{IsAt, IsFirstOfKind}
+use Rattle.history_file.proofs.Feeding.{Passed-line, PassStops-line, line_stops, passes_alone}
 use Rattle.history_file.proofs.pieces.take_piece.Goals as goal
 
-at_ok : {T E X : Type 0} (r : Result T E) (x y z : X) → z ≡ cond (is_ok r) x y → is_err r ≡ false → z ≡ x
-at_ok (Ok t) x y z e n = e
-at_ok (Err t) x y z e n = cc
+-- what stands behind that place
+abbrev behind : List ℕ → ℕ → List ℕ
+behind piece i = take (length piece - (i + 1)) (drop (i + 1) piece)
 
-at_none : {X : Type 0} (o : Option X) (b : Bool) (P : Type 0) (Q : X → Type 0) → MatchOption o P Q → is_some o ≡ not b → b ≡ true → P
-at_none None b P Q h e t = h
-at_none (Some x) true P Q h e t = cc
-at_none (Some x) false P Q h e t = cc
+-- the piece, cut at its first end
+cut_at : (piece : List ℕ) (i : ℕ) → i < length piece → slice_index piece i ≡ 10 → piece ≡ take i piece ++ 10 ∷ behind piece i
+cut_at piece i inside ten = sym (take-append-drop i piece) ∙ ap (λ (xs : List ℕ). take i piece ++ xs) (drop_more piece i 0 inside ∙ ap (λ (b : ℕ). b ∷ drop (i + 1) piece) ten ∙ ap (λ (xs : List ℕ). 10 ∷ xs) (sym (take_rest piece (i + 1))))
 
-pub returns-then-is_none-clause-passes : goal.returns-then-is_none-clause-passes
-returns-then-is_none-clause-passes g c = λ partial.
-    let format = g.C.Contents.format in
-    let Makes = g.C.Contents.Makes in
+pub returns-in_default-clause-passes : goal.returns-in_default-clause-passes
+returns-in_default-clause-passes g c = λ partial.
     let old = c.args.progress.now in
     let all = c.args.rest.now.items ++ c.args.piece.now in
-    let whole : c.extend_from_slice.new.self.items ≡ all = at_ok {X = List ℕ} c.extend_from_slice.result _ _ _ c.extend_from_slice.ensures.items (sym c.is_err.ensures.value ∙ c.if-is_err.false) in
-    let none : HasNoEnd all = All-append (λ (b : ℕ). b ≢ 10) c.args.rest.now.items c.args.piece.now partial (at_none c.first_end.result c.is_none.result _ _ c.first_end.ensures c.is_none.ensures c.if-is_none.true) in
+    let whole : c.lengthen.new.rest.items ≡ all = c.in_ok-lengthen.ensures in
+    let none : HasNoEnd all = All-append (λ (b : ℕ). b ≢ 10) c.args.rest.now.items c.args.piece.now partial c.in_default.ensures in
     let r = c.check_length.result in
     let Long : List ℕ → Type 0 = λ xs. MatchResult r (λ x. length xs ≤ 65536) (λ fault. (65536 < length xs) × (fault.line ≡ old.lines + 1) × (fault.kind ≡ kind.Line TooLong)) in
     let long : Long all = subst Long (c.as_slice.ensures.value ∙ whole) c.check_length.ensures in
-    rw whole (passes_alone format Makes old all r none long)
+    rw whole (passes_alone g.C.Contents.format g.C.Contents.Makes old all r none long)
+
+pub returns-in_err-take-clause-passes : goal.returns-in_err-take-clause-passes
+returns-in_err-take-clause-passes g c = λ partial.
+    let p = err_from_is_err_and c.from_residual-in_err-take.result c.from_residual-in_err-take.ensures.1 in
+    let old = c.args.progress.now in
+    let end = c.in-Some.end in
+    let rest = c.args.rest.now.items in
+    let piece = c.args.piece.now in
+    let front = take end piece in
+    let tail = behind piece end in
+    let fault = c.in_err-take.field-0.0 in
+    let same : c.as_slice-2.result.now ≡ rest ++ front = c.as_slice-2.ensures.value ∙ c.in_ok-lengthen-2.ensures in
+    let P : List ℕ → Type 0 = λ xs. (before : List (List ℕ)) → IsAt g.C.Contents.format g.C.Contents.Makes before old → IsFirstOfKind g.C.Contents.format (before ++ xs ∷ []) fault.line fault.kind in
+    let Q : List ℕ → Type 0 = λ xs. PassStops g.C.Contents.format g.C.Contents.Makes old (rest ++ xs) fault.line fault.kind in
+    rw (p.1, p.2) (subst Q (sym (cut_at piece end c.in-Some.ensures.0 c.in-Some.ensures.2)) (line_stops g.C.Contents.format g.C.Contents.Makes old rest front tail fault.line fault.kind partial c.in-Some.ensures.1 (subst P same c.in_err-take.ensures.taken)))
+
+pub returns-in_err-rest-clause-passes : goal.returns-in_err-rest-clause-passes
+returns-in_err-rest-clause-passes g c = λ partial.
+    let p = err_from_is_err_and c.from_residual-in_err-rest.result c.from_residual-in_err-rest.ensures.1 in
+    let old = c.args.progress.now in
+    let mid = c.take.new.self in
+    let end = c.in-Some.end in
+    let rest = c.args.rest.now.items in
+    let piece = c.args.piece.now in
+    let front = take end piece in
+    let tail = behind piece end in
+    let fault = c.in_err-rest.field-0.0 in
+    let same : c.as_slice-2.result.now ≡ rest ++ front = c.as_slice-2.ensures.value ∙ c.in_ok-lengthen-2.ensures in
+    let P : List ℕ → Type 0 = λ xs. (before : List (List ℕ)) → IsAt g.C.Contents.format g.C.Contents.Makes before old → IsAt g.C.Contents.format g.C.Contents.Makes (before ++ xs ∷ []) mid in
+    let Q : List ℕ → Type 0 = λ xs. PassStops g.C.Contents.format g.C.Contents.Makes old (rest ++ xs) fault.line fault.kind in
+    rw (p.1, p.2) (subst Q (sym (cut_at piece end c.in-Some.ensures.0 c.in-Some.ensures.2)) (PassStops-line g.C.Contents.format g.C.Contents.Makes old mid rest front tail fault.line fault.kind partial c.in-Some.ensures.1 (subst P same c.in_ok-take.ensures.taken) c.in_err-rest.ensures.passes))
+
+pub returns-clause-passes : goal.returns-clause-passes
+returns-clause-passes g c = λ partial.
+    let old = c.args.progress.now in
+    let mid = c.take.new.self in
+    let new = c.pass.new.progress in
+    let left = c.in_ok-rest.field-0.items in
+    let end = c.in-Some.end in
+    let rest = c.args.rest.now.items in
+    let piece = c.args.piece.now in
+    let front = take end piece in
+    let tail = behind piece end in
+    let same : c.as_slice-2.result.now ≡ rest ++ front = c.as_slice-2.ensures.value ∙ c.in_ok-lengthen-2.ensures in
+    let P : List ℕ → Type 0 = λ xs. (before : List (List ℕ)) → IsAt g.C.Contents.format g.C.Contents.Makes before old → IsAt g.C.Contents.format g.C.Contents.Makes (before ++ xs ∷ []) mid in
+    let Q : List ℕ → Type 0 = λ xs. Passed g.C.Contents.format g.C.Contents.Makes old (rest ++ xs) left new in
+    subst Q (sym (cut_at piece end c.in-Some.ensures.0 c.in-Some.ensures.2)) (Passed-line g.C.Contents.format g.C.Contents.Makes old mid new rest front tail left partial c.in-Some.ensures.1 (subst P same c.in_ok-take.ensures.taken) c.in_ok-rest.ensures.passes)
