@@ -1,3 +1,4 @@
 mod Bags
+mod Hashed
 pub mod Unsending
 mod Writing

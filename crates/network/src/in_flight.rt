@@ -6,14 +6,14 @@ ghost use Rattle.network.specs.Flights.{Flight, with_copies};
 
 use crate::Flight;
 use std::alloc::Global;
-use std::collections::BTreeMap;
+use std::collections::HashMap;
 use std::marker::Model;
 use tag::Memory;
 
 /// A map from numbers to flights, seen as a finite map.
 #[derive(Debug, Drop)]
 pub(crate) struct InFlight {
-    by_number: BTreeMap<u32, Flight>,
+    by_number: HashMap<u32, Flight>,
 }
 
 impl Model for InFlight {
@@ -34,7 +34,7 @@ impl InFlight {
         ensures { result ≡ finite.empty }
     {
         InFlight {
-            by_number: BTreeMap::new(alloc),
+            by_number: HashMap::new(alloc),
         }
     }
 
