@@ -5,13 +5,16 @@ use Rattle.history_file.specs.Sendings.{Begins}
 use Rattle.history_file.specs.Texts.{history_text}
 use Rattle.fault_script.specs.Simulations.{Simulates}
 
-module _ (old new out out_after notes notes_after : Option (List ℕ)) (Same : Type 0) (same : Same → out_after ≡ out) where
+module _ (old new out out_after notes notes_after : Option (List ℕ)) (Same Said Grown : Type 0) (same : Same → out_after ≡ out) where
   abbrev Sent : List ℕ → List ℕ → Type 0
-  Sent said text = (Begins notes notes_after said × Same) ⊎ (Appends notes notes_after said × Begins out out_after text)
+  Sent said text = (Begins notes notes_after said × Said × Same) ⊎ (Appends notes notes_after said × Begins out out_after text × Grown)
 
-  by_fact : (run : Simulates old new Sent) → Sent run.notes (history_text run.rows) → (out_after ≡ out) ⊎ Simulates old new (λ said text. Begins out out_after text)
-  by_fact run (inl early) = inl (same early.1)
-  by_fact run (inr late) = inr (record { script = run.script; read = run.read; rows = run.rows; notes = run.notes; run = run.run; fact = late.1 })
+  abbrev Left : Type 0
+  Left = (out_after ≡ out) ⊎ (Simulates old new (λ said text. Begins out out_after text) × Grown)
 
-  pub begun : Simulates old new Sent → (out_after ≡ out) ⊎ Simulates old new (λ said text. Begins out out_after text)
+  by_fact : (run : Simulates old new Sent) → Sent run.notes (history_text run.rows) → Left
+  by_fact run (inl early) = inl (same early.2)
+  by_fact run (inr late) = inr (record { script = run.script; read = run.read; rows = run.rows; notes = run.notes; run = run.run; fact = late.1 }, late.2)
+
+  pub begun : Simulates old new Sent → Left
   begun run = by_fact run run.fact

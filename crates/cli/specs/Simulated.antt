@@ -1,6 +1,7 @@
 -- What the run of a script comes to.
-use Rattle.std.specs.Prelude.{ℕ, ◌≡◌, ◌⊎◌, List}
+use Rattle.std.specs.Prelude.{ℕ, ◌≡◌, ◌⊎◌, List, Option}
 use Rattle.std.specs.Io.KnownBytes.{Appends}
+use Rattle.history_file.specs.Counts.{HasGrown}
 use Rattle.history_file.specs.Deliveries.{Delivers}
 use Rattle.history_file.specs.Sendings.{Begins}
 use Rattle.fault_script.specs.Deliveries.{StopsWith}
@@ -17,11 +18,18 @@ pub record IsFaultyScript (script : Passage) : Type 0 where
   pub fault : LineFault
   pub stops : Delivers script.old script.new (StopsWith script.new line (kind.Line fault))
 
+-- two states of a writer, and how often it had failed in each
+pub record Writing : Type 0 where
+  pub old : Option (List ℕ)
+  pub new : Option (List ℕ)
+  pub failures : ℕ
+  pub failures_now : ℕ
+
 -- what the status says: the script was run, and its notes and the text of its history went out; or it has a fault;
--- or all that went out as history is a beginning of that text
-abbrev pub EndsSimulation : Passage → Passage → Passage → Status → Type 0
+-- or nothing went out as history, or, where its writer failed, a beginning of that text
+abbrev pub EndsSimulation : Passage → Writing → Passage → Status → Type 0
 EndsSimulation script out notes status.Good = Simulates script.old script.new (λ said text. Appends notes.old notes.new said × Appends out.old out.new text)
 EndsSimulation script out notes status.Refused = ⊥
 EndsSimulation script out notes status.Usage = ⊥
 EndsSimulation script out notes status.Format = IsFaultyScript script
-EndsSimulation script out notes status.Failed = (out.new ≡ out.old) ⊎ Simulates script.old script.new (λ said text. Begins out.old out.new text)
+EndsSimulation script out notes status.Failed = (out.new ≡ out.old) ⊎ (Simulates script.old script.new (λ said text. Begins out.old out.new text) × HasGrown out.failures out.failures_now)

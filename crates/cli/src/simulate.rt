@@ -23,7 +23,7 @@ pub fn simulate_command<'a, S: Read, W: Write, E: Write>(
 ) -> Status
     ensures ends { EndsSimulation
         (record { old = S.remaining script.old.reader.inner; new = S.remaining script.new.reader.inner })
-        (record { old = W.contents out.old.inner; new = W.contents out.new.inner })
+        (record { old = W.contents out.old.inner; new = W.contents out.new.inner; failures = out.old.failures; failures_now = out.new.failures })
         (record { old = E.contents errors.old.inner; new = E.contents errors.new.inner })
         result }
     ensures faulty { result ≡ Status.Format → out.new ≡ out.old }

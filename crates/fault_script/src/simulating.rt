@@ -66,8 +66,8 @@ fn write_texts<W: Write, N: Write>(
     notes: &mut Counting<N>,
 ) -> Result<(), SimulateError>
     ensures written { OnOk result (Appends (N.contents notes.old.inner) (N.contents notes.new.inner) texts.now.notes.items × Appends (W.contents out.old.inner) (W.contents out.new.inner) texts.now.history.items) }
-    ensures begun { IfErr result (λ error. (Begins (N.contents notes.old.inner) (N.contents notes.new.inner) texts.now.notes.items × (out.new ≡ out.old)) ⊎ (Appends (N.contents notes.old.inner) (N.contents notes.new.inner) texts.now.notes.items × Begins (W.contents out.old.inner) (W.contents out.new.inner) texts.now.history.items)) }
-    ensures device { IfErr result (λ error. (error ≡ SimulateError.Device) × (HasGrown notes.old.failures notes.new.failures ⊎ HasGrown out.old.failures out.new.failures)) }
+    ensures begun { IfErr result (λ error. (Begins (N.contents notes.old.inner) (N.contents notes.new.inner) texts.now.notes.items × HasGrown notes.old.failures notes.new.failures × (out.new ≡ out.old)) ⊎ (Appends (N.contents notes.old.inner) (N.contents notes.new.inner) texts.now.notes.items × Begins (W.contents out.old.inner) (W.contents out.new.inner) texts.now.history.items × HasGrown out.old.failures out.new.failures)) }
+    ensures device { IfErr result (λ error. error ≡ SimulateError.Device) }
 {
     if write_text(texts.notes.as_slice(), notes).is_err() {
         return Err(SimulateError::Device);
@@ -95,8 +95,7 @@ pub fn simulate<R: Read, W: Write, N: Write>(
     notes: &mut Counting<N>,
 ) -> Result<(), SimulateError>
     ensures written { OnOk result (Simulates (R.remaining reader.old.inner) (R.remaining reader.new.inner) (λ said text. Appends (N.contents notes.old.inner) (N.contents notes.new.inner) said × Appends (W.contents out.old.inner) (W.contents out.new.inner) text)) }
-    ensures begun { IsErrOf result SimulateError.Device → Simulates (R.remaining reader.old.inner) (R.remaining reader.new.inner) (λ said text. (Begins (N.contents notes.old.inner) (N.contents notes.new.inner) said × (out.new ≡ out.old)) ⊎ (Appends (N.contents notes.old.inner) (N.contents notes.new.inner) said × Begins (W.contents out.old.inner) (W.contents out.new.inner) text)) }
-    ensures device { IsErrOf result SimulateError.Device → HasGrown notes.old.failures notes.new.failures ⊎ HasGrown out.old.failures out.new.failures }
+    ensures begun { IsErrOf result SimulateError.Device → Simulates (R.remaining reader.old.inner) (R.remaining reader.new.inner) (λ said text. (Begins (N.contents notes.old.inner) (N.contents notes.new.inner) said × HasGrown notes.old.failures notes.new.failures × (out.new ≡ out.old)) ⊎ (Appends (N.contents notes.old.inner) (N.contents notes.new.inner) said × Begins (W.contents out.old.inner) (W.contents out.new.inner) text × HasGrown out.old.failures out.new.failures)) }
     ensures fault { IfErr result (λ error. IfScript error (λ why. Delivers (R.remaining reader.old.inner) (R.remaining reader.new.inner) (StopsAt (R.remaining reader.new.inner) why) × HasFailed why.kind reader.old.failures reader.new.failures × (out.new ≡ out.old) × (notes.new ≡ notes.old))) }
     ensures memory { IsErrOf result SimulateError.Memory → (out.new ≡ out.old) × (notes.new ≡ notes.old) }
 {

@@ -2,6 +2,7 @@
 //! what a reader that fails leaves.
 mod feeds;
 mod histories;
+mod limits;
 mod orders;
 mod writing;
 

@@ -144,6 +144,12 @@ fn a_line_without_a_row_has_its_fault(rt: HostRuntime) -> Result<(), Fail> {
         ("{\"row\":1}\n", 4),
         ("{\"row\":\"Invoke\"}\n", 5),
         ("{\"row\":\"Invoke\",\"call\":-1}\n", 5),
+        // of repeated members the last counts
+        ("{\"row\":\"note\",\"row\":\"Invoke\"}\n", 5),
+        ("{\"row\":\"Invoke\",\"row\":1}\n", 4),
+        // names are read with their escapes
+        ("{\"r\\u006fw\":\"Invoke\"}\n", 5),
+        ("{\"row\":\"\\ud800\"}\n", 1),
     ] {
         assert_eq!(rt;
             fault_in(&rt, rt.alloc(), "", line)?,
@@ -162,6 +168,9 @@ fn members_of_an_invocation_have_their_ranges(rt: HostRuntime) -> Result<(), Fai
         ("-0", "1", "read", "x", 4),
         ("1e3", "1", "read", "x", 4),
         ("4294967296", "1", "read", "x", 5),
+        ("18446744073709551615", "1", "read", "x", 5),
+        ("18446744073709551616", "1", "read", "x", 4),
+        ("1e999", "1", "read", "x", 1),
         ("0", "0", "read", "x", 5),
         ("0", "65536", "read", "x", 5),
         ("0", "1", "read", "", 5),
@@ -188,8 +197,10 @@ fn a_row_out_of_place_has_its_fault(rt: HostRuntime) -> Result<(), Fail> {
     let great_writer = "{\"call\":0,\"number\":0,\"row\":\"note\",\"writer\":65536}\n";
     let valued =
         "{\"call\":0,\"client\":1,\"do\":\"read\",\"key\":\"x\",\"row\":\"invoke\",\"value\":5}\n";
+    let escaped = "{\"call\":0,\"row\":\"re\\u0073pond\",\"value\":\"\\n\\\"\\u00e9\"}\n";
     for (before, last, number, line) in [
         ("", valued, 0, 0),
+        (READ, escaped, 0, 0),
         (WRITE, busy, 7, 3),
         ("", NOTE, 8, 2),
         ("", DONE, 8, 2),
