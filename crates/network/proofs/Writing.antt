@@ -1,5 +1,5 @@
 -- The table of flights as the finite map that it is seen as, and what is written to it.
-use Rattle.std.proofs.Common.{◌≡◌, ◌==◌, ℕ, Option, None, Some, IsSome, length, ap, sym, subst, ◌∙◌, unwrap_or, rules}
+use Rattle.std.proofs.Common.{◌≡◌, ◌==◌, ℕ, None, Some, IsSome, length, ap, sym, subst, ◌∙◌, unwrap_or, rules}
 use Rattle.std.specs.Ordering.{is_eq, nat_cmp}
 use Rattle.std.specs.Cmp.{nat_cmp_total, unsigned_ties}
 use Rattle.std.specs.HashMap.{HashMap, IsUnique, Updates, WritesThrough, get}
