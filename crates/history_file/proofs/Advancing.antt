@@ -69,8 +69,7 @@ module _ {Item Contents : Type 0} (format : Format Item) (Makes : List Item → 
   pub opening_stands : (ahead : Ahead Contents Item) → format.Fits [] → Makes [] ahead.progress.contents → ahead.progress.lines ≡ 0 → ahead.judged.judgements.items ≡ [] → ahead.judged.rest.items ≡ [] → ahead.fed ≡ 0 → StandsAhead format Makes [] ahead
   opening_stands ahead fits made lines none r f =
       let Q : List ℕ → Type 0 = λ xs. Splits [] [] xs in
-      let A : List (Judgement Item) → Type 0 = λ js. AllZip (ShowsItem format.meaning) [] js in
-      (
+      let A : List (Judgement Item) → Type 0 = λ js. AllZip (ShowsItem format.meaning) [] js in (
         record {
           taken = [];
           waiting = [];
@@ -89,8 +88,7 @@ module _ {Item Contents : Type 0} (format : Format Item) (Makes : List Item → 
       let P : List (List ℕ) → Type 0 = λ ls. Splits bytes ls feed.rest.items in
       let Q : List ℕ → Type 0 = λ xs. Splits bytes (s.lines ++ []) xs in
       let R : Progress Contents → Type 0 = λ x. IsAt format Makes s.lines x in
-      let A : List (Judgement Item) → Type 0 = λ js. AllZip (ShowsItem format.meaning) [] js in
-      (
+      let A : List (Judgement Item) → Type 0 = λ js. AllZip (ShowsItem format.meaning) [] js in (
         record {
           taken = s.lines;
           waiting = [];

@@ -92,7 +92,11 @@ impl<C: Contents> Ahead<C, C::Item> {
     }
 
     /// Takes a piece at once.
-    fn take_at_once(self, rt: &(impl Threads + Sync), piece: &[u8]) -> Result<Ahead<C, C::Item>, FileFault>
+    fn take_at_once(
+        self,
+        rt: &(impl Threads + Sync),
+        piece: &[u8],
+    ) -> Result<Ahead<C, C::Item>, FileFault>
         requires { self.fed + length piece.now ≤ 2 ^ 62 }
         ensures goes { (bytes : List ℕ) → StandsAhead C.format C.Makes bytes self → GoesAhead C.format C.Makes (bytes ++ piece.now) result }
         ensures count { IfOk result (λ new. new.fed ≡ self.fed + length piece.now) }

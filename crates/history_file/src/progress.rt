@@ -79,10 +79,7 @@ impl<C: Contents> Progress<C> {
     }
 
     /// The same of a progress that is handed over.
-    pub fn recorded(
-        mut self,
-        judgements: Vec<Judgement<C::Item>>,
-    ) -> Result<Progress<C>, FileFault>
+    pub fn recorded(mut self, judgements: Vec<Judgement<C::Item>>) -> Result<Progress<C>, FileFault>
         requires { self.lines + length judgements.items < 2 ^ 63 }
         ensures taken { Records C.format C.Makes self judgements.items result }
         ensures lines { IfOk result (λ new. new.lines ≡ self.lines + length judgements.items) }

@@ -37,8 +37,7 @@ returns-in_ok-next-in-Ok-clause-goes g c = λ start holds.
 
 pub returns-in_ok-feed-in-Err-clause-goes : goal.returns-in_ok-feed-in-Err-clause-goes
 returns-in_ok-feed-in-Err-clause-goes g c = λ start holds.
-    let feed = c.in_ok-feed-in-Err.feed in
-    (
+    let feed = c.in_ok-feed-in-Err.feed in (
       Holds-device g.C.Contents.format g.C.Contents.Makes start (g.R.Read.remaining c.args.reader.now.inner) (g.R.Read.remaining c.read.new.self.inner) feed c.line.result (record { bytes = holds.bytes; given = holds.given; fact = c.in_ok-feed-in-Err.ensures.settles holds.bytes holds.fact }) c.in-Err.ensures.bytes c.line.ensures,
       c.in-Err.ensures.counted,
     )

@@ -48,8 +48,8 @@ returns-in_err-take_judgement-clause-taken g c =
     let steps : into_iter_items at.judgement-iterator ≡ j ∷ into_iter_items c.next.new.self = c.in-Some.ensures.steps.0 in
     let p = err_from_is_err_and c.from_residual.result c.from_residual.ensures.1 in
     λ lines shown before was some.
-        let P : List (Judgement g.row.C-Item.Denot) → Type 0 = λ js. Goes g.C.Contents.format g.C.Contents.Makes lines old at.self js in
-        rw (p.1, p.2) (Goes-stop g.C.Contents.format g.C.Contents.Makes lines old at.self c.take_judgement.new.self j (into_iter_items c.next.new.self) c.in_err-take_judgement.field-0.0 (subst P steps (at.invariant.goes lines shown)) c.in_err-take_judgement.ensures.taken before was some)
+    let P : List (Judgement g.row.C-Item.Denot) → Type 0 = λ js. Goes g.C.Contents.format g.C.Contents.Makes lines old at.self js in
+    rw (p.1, p.2) (Goes-stop g.C.Contents.format g.C.Contents.Makes lines old at.self c.take_judgement.new.self j (into_iter_items c.next.new.self) c.in_err-take_judgement.field-0.0 (subst P steps (at.invariant.goes lines shown)) c.in_err-take_judgement.ensures.taken before was some)
 
 pub returns-clause-taken : goal.returns-clause-taken
 returns-clause-taken g c =
@@ -58,5 +58,5 @@ returns-clause-taken g c =
     let old = c.args.self.now in
     let empty : into_iter_items at.judgement-iterator ≡ [] = nothing_left _ (sym at.invariant.known ∙ none.0) in
     λ lines shown.
-        let P : List (Judgement g.row.C-Item.Denot) → Type 0 = λ js. Goes g.C.Contents.format g.C.Contents.Makes lines old at.self js in
-        Goes-end g.C.Contents.format g.C.Contents.Makes lines old at.self (subst P empty (at.invariant.goes lines shown))
+    let P : List (Judgement g.row.C-Item.Denot) → Type 0 = λ js. Goes g.C.Contents.format g.C.Contents.Makes lines old at.self js in
+    Goes-end g.C.Contents.format g.C.Contents.Makes lines old at.self (subst P empty (at.invariant.goes lines shown))
