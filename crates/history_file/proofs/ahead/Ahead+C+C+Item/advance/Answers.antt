@@ -1,4 +1,4 @@
-use Rattle.std.proofs.Common.{ℕ, ◌<◌, ◌++◌, Result, refl, arith, subst}
+use Rattle.std.proofs.Common.{◌<◌, ◌++◌, Result, refl, arith, subst}
 use Rattle.std.specs.Prelude.{IfOk}
 use Rattle.std.proofs.lemmas.Result.{err_from_is_err_and}
 use Rattle.history_file.specs.declared.fault.FileFault.{FileFault}

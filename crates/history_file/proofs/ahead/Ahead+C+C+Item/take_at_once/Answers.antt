@@ -1,4 +1,4 @@
-use Rattle.std.proofs.Common.{ℕ, ◌≡◌, ◌≤◌, ◌+◌, length, refl, ap, arith}
+use Rattle.std.proofs.Common.{length, refl, ap, arith}
 use Rattle.std.proofs.lemmas.Result.{err_from_is_err_and}
 use Rattle.history_file.proofs.Advancing.{nothing_waits}
 use Rattle.history_file.proofs.ahead.Ahead+C+C+Item.take_at_once.Goals as goal
