@@ -1,5 +1,4 @@
 pub mod Checks
-pub mod Halts
 pub mod Judging
 pub mod Justified
 pub mod Simulated

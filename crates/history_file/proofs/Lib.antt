@@ -14,7 +14,6 @@ pub mod OrderPieces
 pub mod Showing
 pub mod Taking
 pub mod Feeding
-pub mod Advancing
 pub mod Consuming
 pub mod Listed
 pub mod Joining

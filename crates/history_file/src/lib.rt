@@ -5,7 +5,6 @@
 //! A line is read where it lies, and only what it adds to the answer is copied.
 #![tactic(auto)]
 
-mod ahead;
 mod counting;
 mod document;
 mod fault;
@@ -15,7 +14,6 @@ mod format;
 mod header;
 mod history_feed;
 mod history_format;
-mod judged;
 mod judging;
 pub mod laws;
 mod lines;
