@@ -5,7 +5,7 @@ use cli::{
     Command, Counting, Failure, Source, Status, Usage, check_command, command, justify_command,
     simulate_command,
 };
-use std::io::{BufWriter, ErrorKind};
+use std::io::ErrorKind;
 use std::process::ExitCode;
 use std::thread::Threads;
 use std::{env, fs};
@@ -39,11 +39,9 @@ fn check(rt: &HostRuntime, threads: &(impl Threads + Sync), history: &str, order
     let Ok(orders_file) = fs::open(rt, orders) else {
         return Failure::Closed { name: orders }.report(&mut errors);
     };
-    let Ok(mut out) = BufWriter::new(rt.alloc(), rt.stdout()) else {
-        return Failure::Memory.report(&mut errors);
-    };
     let mut history = Source::new(history, history_file);
     let mut orders = Source::new(orders, orders_file);
+    let mut out = Counting::new(rt.stdout());
     check_command(
         threads,
         rt.alloc(),

@@ -1,6 +1,6 @@
 //! `abd check` on the worked rows.
 use crate::devices::{Bounded, Pieces};
-use cli::{Source, Status, check_command};
+use cli::{Counting, Source, Status, check_command};
 use std::alloc::Global;
 use std::process::Abort;
 use std::test::Fail;
@@ -49,14 +49,14 @@ fn checked(
     orders: Pieces<'_>,
     room: usize,
 ) -> Said {
-    let mut out = Bounded::new(alloc, room);
+    let mut out = Counting::new(Bounded::new(alloc, room));
     let mut errors = Bounded::new(alloc, 1000);
     let mut history = Source::new("h", history);
     let mut orders = Source::new("o", orders);
     let status = check_command(rt, alloc, &mut history, &mut orders, &mut out, &mut errors);
     Said {
         status,
-        out: out.taken,
+        out: out.into_inner().taken,
         errors: errors.taken,
     }
 }

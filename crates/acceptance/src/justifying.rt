@@ -47,7 +47,7 @@ fn order_file(alloc: Global, lines: &str) -> Result<String, Fail> {
 
 /// Whether each line that a check of both files prints says yes.
 fn is_all_yes(rt: &(impl Threads + Sync), alloc: Global, history: &str, orders: &[u8]) -> bool {
-    let mut out = Bounded::new(alloc, 1000);
+    let mut out = Counting::new(Bounded::new(alloc, 1000));
     let mut errors = Bounded::new(alloc, 1000);
     let mut history = Source::new("h", whole(history.as_bytes()));
     let mut orders = Source::new("o", whole(orders));

@@ -246,7 +246,7 @@ fn orders_for(rt: &(impl Threads + Sync), alloc: Global, history: &[u8]) -> Opti
 
 /// Whether each line that a check of both files prints says yes.
 fn is_all_yes(rt: &(impl Threads + Sync), alloc: Global, history: &[u8], orders: &[u8]) -> bool {
-    let mut out = Bounded::new(alloc, 1000);
+    let mut out = Counting::new(Bounded::new(alloc, 1000));
     let mut errors = Bounded::new(alloc, 1000);
     let mut history = Source::new("h", whole(history));
     let mut orders = Source::new("o", whole(orders));

@@ -1,4 +1,5 @@
 pub mod Checks
+pub mod Halts
 pub mod Judging
 pub mod Justified
 pub mod Simulated

@@ -1,5 +1,6 @@
 //! `abd check`: the verdict on each key's order.
-ghost use Rattle.std.specs.Prelude.{◌≡◌, IfOk, IfErr};
+ghost use Rattle.std.specs.Prelude.{◌≡◌, ◌⊎◌, IfOk, IfErr};
+ghost use Rattle.history_file.specs.Counts.{HasGrown};
 ghost use Rattle.history_file.specs.Deliveries.{Delivers, ReadsAll};
 ghost use Rattle.history_file.specs.HistoryFormat.{history_format, MakesHistory};
 ghost use Rattle.history_file.specs.OrderFormat.{order_format, AreJoined};
@@ -74,14 +75,14 @@ fn orders_in<'a, R: Read>(
 /// Reads the history and then the orders, and prints a line for each key: the keys of the history
 /// in the order in which it first sees them, then those that only the orders have.
 ///
-/// Nothing goes to `out` where either file has a fault; a failure is said on `errors`. `Good`
-/// where every line says yes, `Refused` where one says no.
+/// Nothing goes to `out` before all keys are judged, or where either file has a fault; a failure is
+/// said on `errors`. `Good` where every line says yes, `Refused` where one says no.
 pub fn check_command<'a, H: Read, O: Read, W: Write, E: Write>(
     rt: &(impl Threads + Sync),
     alloc: Global,
     history: &mut Source<'a, H>,
     orders: &mut Source<'a, O>,
-    out: &mut W,
+    out: &mut Counting<W>,
     errors: &mut E,
 ) -> Status
     ensures ends { Ends
@@ -89,6 +90,7 @@ pub fn check_command<'a, H: Read, O: Read, W: Write, E: Write>(
         (record { history = H.remaining history.new.reader.inner; orders = O.remaining orders.new.reader.inner })
         result }
     ensures quiet { result ≡ Status.Format → out.new ≡ out.old }
+    ensures failed { result ≡ Status.Failed → (out.new ≡ out.old) ⊎ HasGrown out.old.failures out.new.failures }
 {
     let history = match history_in(rt, alloc, history) {
         Ok(history) => history,

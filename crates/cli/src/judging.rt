@@ -1,5 +1,5 @@
 //! Judging the orders of a history's keys, with a line for each.
-ghost use Rattle.std.specs.Prelude.{◌≡◌, List, ℕ, Some, IfOk, MatchBool, Contains, unwrap_or, is_some, true};
+ghost use Rattle.std.specs.Prelude.{◌≡◌, List, ℕ, Some, IfOk, IfErr, MatchBool, Contains, unwrap_or, is_some, true};
 ghost use Rattle.std.specs.Str.{bytes_eq};
 ghost use Rattle.std.specs.Map.{lookup};
 ghost use Rattle.tag.specs.declared.numbers.OpId.{OpId};
@@ -7,13 +7,15 @@ ghost use Rattle.recorder.specs.declared.order.KeyOrder.{KeyOrder};
 ghost use Rattle.recorder.specs.Orders.{IsOrder};
 ghost use Rattle.history_file.specs.OrderFormat.{AreJoined};
 ghost use Rattle.cli.specs.Checks.{Judges};
+ghost use Rattle.cli.specs.Halts.{Halts};
 ghost use Rattle.cli.specs.Judging.{JudgesAll, JudgesOthers, JudgesParts, list_at};
 
 use crate::status::Status;
 use certificate_check::{Verdict, check_part};
+use history_file::{Counting, write_text};
 use indexmap::IndexMap;
 use recorder::{History, KeyOrder, Order, Part};
-use std::alloc::{AllocError, Global};
+use std::alloc::Global;
 use std::fmt::Write as _;
 use std::io::Write;
 use tag::{Key, Memory, OpId};
@@ -38,39 +40,24 @@ impl From<Memory> for Halt {
     }
 }
 
-impl From<AllocError> for Halt {
-    ghost use Rattle.std.specs.Prelude.{◌≡◌};
-    ghost use Rattle.cli.specs.declared.judging.Halt.TheVariants.{Memory};
-
-    ghost from_gives = { λ _ e. e ≡ Memory };
-
-    fn from(_: AllocError) -> Halt {
-        Halt::Memory
-    }
-}
-
-/// What is said of each key, a line each.
+/// What is said of the keys so far, a line each.
 #[derive(Drop)]
-struct Lines<'w, W> {
-    out: &'w mut W,
-    line: String,
+struct Lines {
+    text: String,
 }
 
-impl<W: Write> Lines<'_, W> {
+impl Lines {
     /// Says the verdict on a key.
-    fn say(&mut self, key: &Key, verdict: Verdict) -> Result<(), Halt> {
-        self.line.clear();
-        writeln!(self.line, "{}: {verdict}", key.as_str())?;
-        self.out
-            .write_all(self.line.as_bytes())
-            .map_err(|_| Halt::Output)
+    fn say(&mut self, key: &Key, verdict: Verdict) -> Result<(), Memory> {
+        writeln!(self.text, "{}: {verdict}", key.as_str())?;
+        Ok(())
     }
 
     /// Judges a key's order, and says the verdict. Whether it is yes.
-    fn judge(&mut self, key: &Key, part: &Part, order: &[OpId]) -> Result<bool, Halt>
+    fn judge(&mut self, key: &Key, part: &Part, order: &[OpId]) -> Result<bool, Memory>
         ensures { IfOk result (λ yes. MatchBool yes (IsOrder part.now order.now) (IsOrder part.now order.now → ⊥)) }
     {
-        let verdict = check_part(*self.line.allocator(), part, order)?;
+        let verdict = check_part(*self.text.allocator(), part, order)?;
         self.say(key, verdict)?;
         match verdict {
             Verdict::Yes => Ok(true),
@@ -83,7 +70,7 @@ impl<W: Write> Lines<'_, W> {
         &mut self,
         parts: &IndexMap<Key, Part>,
         orders: &IndexMap<Key, Order>,
-    ) -> Result<bool, Halt>
+    ) -> Result<bool, Memory>
         ensures { IfOk result (JudgesParts parts.now.entries orders.now.entries) }
     {
         let mut yes = true;
@@ -100,10 +87,10 @@ impl<W: Write> Lines<'_, W> {
         &mut self,
         parts: &IndexMap<Key, Part>,
         orders: &IndexMap<Key, Order>,
-    ) -> Result<bool, Halt>
+    ) -> Result<bool, Memory>
         ensures { IfOk result (JudgesOthers parts.now.entries orders.now.entries) }
     {
-        let nothing = Part::empty(*self.line.allocator());
+        let nothing = Part::empty(*self.text.allocator());
         let mut yes = true;
         for (key, order) in orders {
             if !parts.contains_key(key) && !self.judge(key, &nothing, order.as_slice())? {
@@ -137,38 +124,40 @@ fn order_at<'o>(orders: &'o IndexMap<Key, Order>, key: &Key) -> &'o [OpId]
 }
 
 /// Judges the keys of the history, and then those that only the orders have. Whether each is
-/// judged yes.
-fn judge_keys<W: Write>(
+/// judged yes, and a line for each.
+fn judge_keys(
     alloc: Global,
     parts: &IndexMap<Key, Part>,
     orders: &IndexMap<Key, Order>,
-    out: &mut W,
-) -> Result<bool, Halt>
-    ensures { IfOk result (JudgesAll parts.now.entries orders.now.entries) }
+) -> Result<(bool, String), Memory>
+    ensures { IfOk result (λ judged. JudgesAll parts.now.entries orders.now.entries judged.0) }
 {
     let mut lines = Lines {
-        out,
-        line: String::new(alloc),
+        text: String::new(alloc),
     };
     let recorded = lines.judge_parts(parts, orders)?;
     let others = lines.judge_others(parts, orders)?;
-    lines.out.flush().map_err(|_| Halt::Output)?;
-    Ok(recorded && others)
+    Ok((recorded && others, lines.text))
 }
 
-/// Judges a history by the orders of an order file, and says a line for each key: `Good` where
-/// every line says yes, `Refused` where one says no.
+/// Judges a history by the orders of an order file, and says a line for each key once all are
+/// judged: `Good` where every line says yes, `Refused` where one says no.
 pub fn judge<W: Write>(
     alloc: Global,
     history: &History,
     orders: Vec<KeyOrder>,
-    out: &mut W,
+    out: &mut Counting<W>,
 ) -> Result<Status, Halt>
-    ensures { IfOk result (λ status. (pieces : List KeyOrder) → AreJoined pieces orders.items → Judges history.now.rows pieces status) }
+    ensures judged { IfOk result (λ status. (pieces : List KeyOrder) → AreJoined pieces orders.items → Judges history.now.rows pieces status) }
+    ensures output { IfErr result (λ halt. Halts halt out.old out.new) }
 {
     let parts = history.parts()?;
     let orders = orders_by_key(alloc, orders)?;
-    if judge_keys(alloc, &parts, &orders, out)? {
+    let (yes, text) = judge_keys(alloc, &parts, &orders)?;
+    if write_text(text.as_bytes(), out).is_err() {
+        return Err(Halt::Output);
+    }
+    if yes {
         Ok(Status::Good)
     } else {
         Ok(Status::Refused)

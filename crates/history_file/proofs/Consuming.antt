@@ -7,7 +7,9 @@ use Rattle.history_file.specs.declared.fault.FaultKind.{FaultKind}
 use Rattle.history_file.specs.declared.fault.FaultKind.TheVariants as kind
 use Rattle.history_file.specs.declared.feed.Feed.{Feed}
 use Rattle.history_file.specs.Formats.{Format}
-use Rattle.history_file.specs.Feeds.{Stands, Fed, FaultSoFar, FaultInAll}
+use Rattle.history_file.specs.Feeds.{Stands, FaultSoFar, FaultInAll}
+use Rattle.history_file.specs.Ahead.{FaultStays}
+use Rattle.history_file.proofs.Advancing.{stays_now}
 use Rattle.history_file.specs.Deliveries.{Delivers, Holds, StopsAt, StopsWith, IsUnderWay, HasFailed}
 
 pub Consumes-none : (a : Option (List ℕ)) → Consumes a a []
@@ -30,8 +32,13 @@ module _ {Item Contents : Type 0} (format : Format Item) (Makes : List Item → 
   pub Holds-start : (a : Option (List ℕ)) (feed : Feed Contents) → Stands format Makes [] feed → Holds format Makes a a feed
   Holds-start a feed s = record { bytes = []; given = Consumes-none a; fact = s }
 
-  pub Holds-step : (a b c : Option (List ℕ)) (old new : Feed Contents) (piece : List ℕ) → Holds format Makes a b old → Consumes b c piece → ((bytes : List ℕ) → Stands format Makes bytes old → Fed format Makes (bytes ++ piece) (Ok tt) new) → Holds format Makes a c new
-  Holds-step a b c old new piece h k fed = record { bytes = h.bytes ++ piece; given = Consumes-join a b c h.bytes piece h.given k; fact = fed h.bytes h.fact }
+  -- what was made of the bytes, made of these bytes too
+  pub Delivers-more : (P Q : List ℕ → Type 0) (a b c : Option (List ℕ)) (piece : List ℕ) → Delivers a b P → Consumes b c piece → ((bytes : List ℕ) → P bytes → Q (bytes ++ piece)) → Delivers a c Q
+  Delivers-more P Q a b c piece h k goes = record { bytes = h.bytes ++ piece; given = Consumes-join a b c h.bytes piece h.given k; fact = goes h.bytes h.fact }
+
+  -- the same, where nothing more was given
+  pub Delivers-then : (P Q : List ℕ → Type 0) (a b c : Option (List ℕ)) → Delivers a b P → Keeps b c → ((bytes : List ℕ) → P bytes → Q bytes) → Delivers a c Q
+  Delivers-then P Q a b c h k goes = record { bytes = h.bytes; given = Consumes-keeps a b c h.bytes h.given k; fact = goes h.bytes h.fact }
 
   so_far : (left : Option (List ℕ)) (bytes : List ℕ) (number : ℕ) (k : FaultKind) → FaultSoFar format bytes number k → StopsWith format left number k bytes
   so_far left bytes number (kind.Line fault) h = inl h
@@ -43,11 +50,19 @@ module _ {Item Contents : Type 0} (format : Format Item) (Makes : List Item → 
   never_failed bytes number kind.Device old new h = absurd h
   never_failed bytes number kind.Memory old new h = tt
 
-  pub Holds-stop : (a b c : Option (List ℕ)) (old new : Feed Contents) (piece : List ℕ) (fault : FileFault) → Holds format Makes a b old → Consumes b c piece → ((bytes : List ℕ) → Stands format Makes bytes old → Fed format Makes (bytes ++ piece) (Err fault) new) → Delivers a c (StopsAt format c fault)
-  Holds-stop a b c old new piece fault h k fed = record { bytes = h.bytes ++ piece; given = Consumes-join a b c h.bytes piece h.given k; fact = so_far c (h.bytes ++ piece) fault.line fault.kind (fed h.bytes h.fact) }
+  -- a fault of a line
+  pub Delivers-stop : (P : List ℕ → Type 0) (a b c : Option (List ℕ)) (piece : List ℕ) (fault : FileFault) → Delivers a b P → Consumes b c piece → ((bytes : List ℕ) → P bytes → FaultSoFar format (bytes ++ piece) fault.line fault.kind) → Delivers a c (StopsAt format c fault)
+  Delivers-stop P a b c piece fault h k stops = Delivers-more P (StopsAt format c fault) a b c piece h k (λ bytes p. so_far c (bytes ++ piece) fault.line fault.kind (stops bytes p))
 
-  pub Holds-no_device : (a b : Option (List ℕ)) (old new : Feed Contents) (piece : List ℕ) (fault : FileFault) (m n : ℕ) → Holds format Makes a b old → ((bytes : List ℕ) → Stands format Makes bytes old → Fed format Makes (bytes ++ piece) (Err fault) new) → HasFailed fault.kind m n
-  Holds-no_device a b old new piece fault m n h fed = never_failed (h.bytes ++ piece) fault.line fault.kind m n (fed h.bytes h.fact)
+  pub stop_no_device : (P : List ℕ → Type 0) (a b : Option (List ℕ)) (piece : List ℕ) (fault : FileFault) (m n : ℕ) → Delivers a b P → ((bytes : List ℕ) → P bytes → FaultSoFar format (bytes ++ piece) fault.line fault.kind) → HasFailed fault.kind m n
+  stop_no_device P a b piece fault m n h stops = never_failed (h.bytes ++ piece) fault.line fault.kind m n (stops h.bytes h.fact)
+
+  -- a fault of a line that had waited
+  pub Delivers-late : (P : List ℕ → Type 0) (a b c : Option (List ℕ)) (fault : FileFault) → Delivers a b P → Keeps b c → ((bytes : List ℕ) → P bytes → FaultSoFar format bytes fault.line fault.kind) → Delivers a c (StopsAt format c fault)
+  Delivers-late P a b c fault h k stops = Delivers-then P (StopsAt format c fault) a b c h k (λ bytes p. so_far c bytes fault.line fault.kind (stops bytes p))
+
+  pub late_no_device : (P : List ℕ → Type 0) (a b : Option (List ℕ)) (fault : FileFault) (m n : ℕ) → Delivers a b P → ((bytes : List ℕ) → P bytes → FaultSoFar format bytes fault.line fault.kind) → HasFailed fault.kind m n
+  late_no_device P a b fault m n h stops = never_failed h.bytes fault.line fault.kind m n (stops h.bytes h.fact)
 
   -- the reader failed at the line under way
   pub Holds-device : (a b c : Option (List ℕ)) (feed : Feed Contents) (number : ℕ) → Holds format Makes a b feed → Keeps b c → (feed.fault ≡ None → number ≡ feed.progress.lines + 1) → Delivers a c (λ bytes. IsUnderWay bytes number)
@@ -56,6 +71,17 @@ module _ {Item Contents : Type 0} (format : Format Item) (Makes : List Item → 
     given = Consumes-keeps a b c h.bytes h.given k;
     fact = (h.fact.lines, feed.rest.items, h.fact.splits, omega (arith, line h.fact.sound, h.fact.at.counted));
   }
+
+  -- the feed, when the lines that waited are taken
+  pub settled_holds : (P : List ℕ → Type 0) (a c : Option (List ℕ)) (r : Result (Feed Contents) FileFault) → Delivers a c P → IsAtEnd c → ((bytes : List ℕ) → P bytes → MatchResult r (λ feed. Stands format Makes bytes feed) (λ fault. FaultStays format bytes fault)) → IfOk r (λ feed. Holds format Makes a c feed × IsAtEnd c)
+  settled_holds P a c (Ok feed) h e settles = (record { bytes = h.bytes; given = h.given; fact = settles h.bytes h.fact }, e)
+  settled_holds P a c (Err fault) h e settles = tt
+
+  pub settled_fault : (P : List ℕ → Type 0) (a c : Option (List ℕ)) (r : Result (Feed Contents) FileFault) (m n : ℕ) → Delivers a c P → ((bytes : List ℕ) → P bytes → MatchResult r (λ feed. Stands format Makes bytes feed) (λ fault. FaultStays format bytes fault)) → IfErr r (λ fault. Delivers a c (StopsAt format c fault) × HasFailed fault.kind m n)
+  settled_fault P a c (Ok feed) m n h settles = tt
+  settled_fault P a c (Err fault) m n h settles =
+      let now = stays_now format Makes h.bytes fault (settles h.bytes h.fact) in
+      (record { bytes = h.bytes; given = h.given; fact = so_far c h.bytes fault.line fault.kind now }, never_failed h.bytes fault.line fault.kind m n now)
 
   at_end : (left : Option (List ℕ)) (bytes : List ℕ) (number : ℕ) (k : FaultKind) → IsAtEnd left → FaultInAll format bytes number k → StopsWith format left number k bytes
   at_end left bytes number (kind.Line fault) e h = inr (e, h)

@@ -1,8 +1,9 @@
 -- Bytes that come in pieces.
-use Rattle.std.proofs.Common.{ℕ, ◌≡◌, ◌≢◌, ◌<◌, ◌≤◌, ◌+◌, eqb, eqb-true, inl, inr, List, [], ◌∷◌, ◌++◌, length, Bool, true, false, cond, nat_lt, Result, Ok, Err, None, refl, sym, ap, ◌∙◌, append_assoc, append-nil, length-append, arith, subst}
+use Rattle.std.proofs.Common.{ℕ, ◌≡◌, ◌≢◌, ◌<◌, ◌≤◌, ◌+◌, ◌-◌, take, drop, slice_index, eqb, eqb-true, inl, inr, List, [], ◌∷◌, ◌++◌, length, Bool, true, false, cond, nat_lt, Result, Ok, Err, None, refl, sym, ap, ◌∙◌, append_assoc, append-nil, length-append, arith, subst}
 use Rattle.std.specs.Prelude.{MatchResult}
 use Rattle.std.specs.List.{flat_map}
 use Rattle.std.proofs.lemmas.Grind.{flat_map-append}
+use Rattle.std.proofs.lemmas.List.{drop_more, take_rest, take-append-drop}
 use Rattle.std.proofs.lemmas.List.Elements.{All-append, All-nil, All-cons, All-head, All-tail}
 use Rattle.std.proofs.lemmas.Bool.{lt-ltb, eqb-false}
 use Rattle.history_file.specs.declared.fault.LineFault.{LineFault}
@@ -44,6 +45,14 @@ Splits-line rest front tail lines last r f s = record {
   each = All-cons HasNoEnd (rest ++ front) lines (All-append (λ (b : ℕ). b ≢ 10) rest front r f) s.each;
   partial = s.partial;
 }
+
+-- what stands behind that place
+abbrev pub behind : List ℕ → ℕ → List ℕ
+behind piece i = take (length piece - (i + 1)) (drop (i + 1) piece)
+
+-- the piece, cut at its first end
+pub cut_at : (piece : List ℕ) (i : ℕ) → i < length piece → slice_index piece i ≡ 10 → piece ≡ take i piece ++ 10 ∷ behind piece i
+cut_at piece i inside ten = sym (take-append-drop i piece) ∙ ap (λ (xs : List ℕ). take i piece ++ xs) (drop_more piece i 0 inside ∙ ap (λ (b : ℕ). b ∷ drop (i + 1) piece) ten ∙ ap (λ (xs : List ℕ). 10 ∷ xs) (sym (take_rest piece (i + 1))))
 
 -- the bytes' lines and their rest
 pub record Cut (bytes : List ℕ) : Type 0 where
@@ -97,7 +106,7 @@ none_of [] e = refl
 none_of (line ∷ lines) e = absurd (omega arith)
 
 module _ {Item Contents : Type 0} (format : Format Item) (Makes : List Item → Contents → Type 0) where
-  with_more : (b : Bool) (lines : List (List ℕ)) (rest : List ℕ) (number : ℕ) (fault : LineFault) → IsFirstFault format lines number fault → IsFirstFault format (cond b (lines ++ rest ∷ []) lines) number fault
+  pub with_more : (b : Bool) (lines : List (List ℕ)) (rest : List ℕ) (number : ℕ) (fault : LineFault) → IsFirstFault format lines number fault → IsFirstFault format (cond b (lines ++ rest ∷ []) lines) number fault
   with_more true lines rest number fault h = IsFirstFault-more format Makes lines (rest ∷ []) number (kind.Line fault) h
   with_more false lines rest number fault h = h
 
@@ -116,7 +125,7 @@ module _ {Item Contents : Type 0} (format : Format Item) (Makes : List Item → 
   long_behind [] items rest long = long
   long_behind (header ∷ lines) items rest long = inl long
 
-  long_first : (b : Bool) (lines : List (List ℕ)) (rest : List ℕ) (items : List Item) (number : ℕ) → b ≡ true → 65536 < length rest → AreLinesOf format lines items → number ≡ length lines + 1 → IsFirstFault format (cond b (lines ++ rest ∷ []) lines) number TooLong
+  pub long_first : (b : Bool) (lines : List (List ℕ)) (rest : List ℕ) (items : List Item) (number : ℕ) → b ≡ true → 65536 < length rest → AreLinesOf format lines items → number ≡ length lines + 1 → IsFirstFault format (cond b (lines ++ rest ∷ []) lines) number TooLong
   long_first false lines rest items number e long sound counted = cc
   long_first true lines rest items number e long sound counted = record {
     earlier = lines;

@@ -5,9 +5,11 @@ use Rattle.history_file.specs.declared.fault.FileFault.{FileFault}
 use Rattle.history_file.specs.declared.fault.FaultKind.{FaultKind}
 use Rattle.history_file.specs.declared.fault.FaultKind.TheVariants as kind
 use Rattle.history_file.specs.declared.feed.Feed.{Feed}
+use Rattle.history_file.specs.declared.ahead.Ahead.{Ahead}
 use Rattle.history_file.specs.Counts.{HasGrown}
 use Rattle.history_file.specs.Cuts.{Splits}
 use Rattle.history_file.specs.Formats.{Format}
+use Rattle.history_file.specs.Ahead.{StandsAhead}
 use Rattle.history_file.specs.Feeds.{Stands, Reads, FirstFaultSoFar, FirstFaultInAll}
 
 -- the bytes that a reader gave between two of its states, and a fact of them
@@ -19,6 +21,10 @@ pub record Delivers (old new : Option (List ℕ)) (P : List ℕ → Type 0) : Ty
 -- the feed stands for the bytes that a reader gave
 abbrev pub Holds : {Item Contents : Type 0} → Format Item → (List Item → Contents → Type 0) → Option (List ℕ) → Option (List ℕ) → Feed Contents → Type 0
 Holds format Makes old new feed = Delivers old new (λ bytes. Stands format Makes bytes feed)
+
+-- the same of lines that are judged ahead
+abbrev pub HoldsAhead : {Item Contents : Type 0} → Format Item → (List Item → Contents → Type 0) → Option (List ℕ) → Option (List ℕ) → Ahead Contents Item → Type 0
+HoldsAhead format Makes old new ahead = Delivers old new (λ bytes. StandsAhead format Makes bytes ahead)
 
 -- the reader is at its end, and of all its bytes that is made
 abbrev pub ReadsAll : {Item Contents : Type 0} → Format Item → (List Item → Contents → Type 0) → Option (List ℕ) → Contents → List ℕ → Type 0

@@ -12,6 +12,7 @@ pub mod Formats
 pub mod Files
 pub mod Feeds
 pub mod HistoryFormat
+pub mod Ahead
 pub mod Counts
 pub mod Deliveries
 pub mod OrderFormat

@@ -49,6 +49,7 @@ impl<C: Contents> Feed<C> {
         requires { self.old.fed + length piece.now ≤ 2 ^ 62 }
         ensures fed { (bytes : List ℕ) → Stands C.format C.Makes bytes self.old → Fed C.format C.Makes (bytes ++ piece.now) result self.new }
         ensures count { IfOk result (λ _. self.new.fed ≡ self.old.fed + length piece.now) }
+        ensures sound { IfOk result (λ _. self.new.fault ≡ None) }
         ensures kept { IfErr result (λ fault. self.new.fault ≡ Some fault) }
         ensures stays { (fault : _) → self.old.fault ≡ Some fault → (result ≡ Err fault) × (self.new ≡ self.old) }
     {

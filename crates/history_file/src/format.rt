@@ -27,8 +27,8 @@ pub trait LineItem: Drop + Sized {
 }
 
 /// What the lines of a file make, one after another.
-pub trait Contents: Drop {
-    type Item: Drop;
+pub trait Contents: Drop + Send {
+    type Item: Drop + Send;
 
     ghost format: { Format Self.Item };
 

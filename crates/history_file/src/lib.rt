@@ -5,6 +5,7 @@
 //! A line is read where it lies, and only what it adds to the answer is copied.
 #![tactic(auto)]
 
+mod ahead;
 mod counting;
 mod document;
 mod fault;
@@ -14,6 +15,7 @@ mod format;
 mod header;
 mod history_feed;
 mod history_format;
+mod judged;
 mod judging;
 pub mod laws;
 mod lines;

@@ -1,5 +1,8 @@
 //! How far the lines of a file were taken.
-ghost use Rattle.std.specs.Prelude.{ℕ, ◌≡◌, ◌<◌, ◌+◌, ◌^◌, List, [], ◌∷◌, length, map, OnOk};
+ghost use Rattle.std.specs.Prelude.{ℕ, ◌≡◌, ◌<◌, ◌+◌, ◌^◌, List, [], ◌∷◌, length, map, IfOk, OnOk};
+ghost use Rattle.std.specs.List.{AllZip};
+ghost use Rattle.history_file.specs.Ahead.{Records};
+ghost use Rattle.history_file.specs.Lines.{ShowsItem};
 ghost use Rattle.history_file.specs.Files.{IsAt, Takes, TakesJudged, kind_of};
 
 use crate::fault::Stop;
@@ -63,6 +66,28 @@ impl<C: Contents> Progress<C> {
         }
     }
 
+    /// Takes what later lines show.
+    pub fn record(&mut self, judgements: Vec<Judgement<C::Item>>) -> Result<(), FileFault>
+        requires { self.old.lines + length judgements.items < 2 ^ 63 }
+        ensures taken { (lines : List (List ℕ)) → AllZip (ShowsItem C.format.meaning) lines judgements.items → (before : List (List ℕ)) → IsAt C.format C.Makes before self.old → 0 < length before → Takes C.format C.Makes before lines result self.new }
+        ensures lines { OnOk result (self.new.lines ≡ self.old.lines + length judgements.items) }
+    {
+        for judgement in judgements {
+            self.take_judgement(judgement)?;
+        }
+        Ok(())
+    }
+
+    /// The same of a progress that is handed over.
+    pub fn recorded(mut self, judgements: Vec<Judgement<C::Item>>) -> Result<Progress<C>, FileFault>
+        requires { self.lines + length judgements.items < 2 ^ 63 }
+        ensures taken { Records C.format C.Makes self judgements.items result }
+        ensures lines { IfOk result (λ new. new.lines ≡ self.lines + length judgements.items) }
+    {
+        self.record(judgements)?;
+        Ok(self)
+    }
+
     /// Takes later lines.
     fn take_rest(
         &mut self,
@@ -74,14 +99,10 @@ impl<C: Contents> Progress<C> {
         ensures taken { (before : List (List ℕ)) → IsAt C.format C.Makes before self.old → 0 < length before → Takes C.format C.Makes before (map (λ line. line.now) lines.now) result self.new }
         ensures lines { OnOk result (self.new.lines ≡ self.old.lines + length lines.now) }
     {
-        let judgements = match C::judge_all(rt, alloc, lines) {
-            Ok(judgements) => judgements,
-            Err(_) => return Err(fault_at(self.lines + 1, Stop::Memory)),
-        };
-        for judgement in judgements {
-            self.take_judgement(judgement)?;
+        match C::judge_all(rt, alloc, lines) {
+            Ok(judgements) => self.record(judgements),
+            Err(_) => Err(fault_at(self.lines + 1, Stop::Memory)),
         }
-        Ok(())
     }
 
     /// Takes lines.

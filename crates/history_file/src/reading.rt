@@ -1,10 +1,11 @@
 //! Files from readers.
 ghost use Rattle.std.specs.Prelude.{ℕ, ◌≡◌, ◌<◌, ◌≤◌, List, Option, length, true, false, IfOk, IfErr, MatchResult};
 ghost use Rattle.std.specs.Io.KnownBytes.{IsAtEnd};
-ghost use Rattle.history_file.specs.Deliveries.{Delivers, Holds, ReadsAll, StopsAt, HasFailed};
+ghost use Rattle.history_file.specs.Deliveries.{Delivers, Holds, HoldsAhead, ReadsAll, StopsAt, HasFailed};
 ghost use Rattle.history_file.specs.HistoryFormat.{history_format, MakesHistory};
 ghost use Rattle.history_file.specs.OrderFormat.{order_format, AreJoined};
 
+use crate::ahead::Ahead;
 use crate::feed::Feed;
 use crate::format::Contents;
 use crate::order_feed::finish_orders;
@@ -25,36 +26,39 @@ fn room_for(alloc: Global, size: usize) -> Result<Vec<u8>, AllocError>
     vec![in alloc; 0u8; size]
 }
 
-/// Feeds the next bytes of the reader, and says whether there were some.
-fn feed_next<C: Contents, R: Read>(
-    rt: &(impl Threads + Sync),
-    feed: &mut Feed<C>,
+/// Judges the next bytes of the reader, and says whether there were some.
+fn read_next<C: Contents, R: Read, T: Threads + Sync>(
+    rt: &T,
+    ahead: Ahead<C, C::Item>,
     reader: &mut Counting<R>,
     room: &mut [u8],
-) -> Result<bool, FileFault>
+) -> Result<(Ahead<C, C::Item>, bool), FileFault>
     requires some { 0 < length room.old }
-    requires fed { feed.old.fed ≤ reader.old.given }
-    ensures goes { (start : Option (List ℕ)) → Holds C.format C.Makes start (R.remaining reader.old.inner) feed.old → MatchResult result (λ _. Holds C.format C.Makes start (R.remaining reader.new.inner) feed.new) (λ fault. Delivers start (R.remaining reader.new.inner) (StopsAt C.format (R.remaining reader.new.inner) fault) × HasFailed fault.kind reader.old.failures reader.new.failures) }
-    ensures fed { IfOk result (λ _. feed.new.fed ≤ reader.new.given) }
-    ensures end { IfOk result (λ more. more ≡ false → IsAtEnd (R.remaining reader.new.inner)) }
-    ensures more { IfOk result (λ more. more ≡ true → reader.old.given < reader.new.given) }
+    requires fed { ahead.fed ≤ reader.old.given }
+    ensures goes { (start : Option (List ℕ)) → HoldsAhead C.format C.Makes start (R.remaining reader.old.inner) ahead → MatchResult result (λ next. HoldsAhead C.format C.Makes start (R.remaining reader.new.inner) next.0) (λ fault. Delivers start (R.remaining reader.new.inner) (StopsAt C.format (R.remaining reader.new.inner) fault) × HasFailed fault.kind reader.old.failures reader.new.failures) }
+    ensures fed { IfOk result (λ next. next.0.fed ≤ reader.new.given) }
+    ensures end { IfOk result (λ next. next.1 ≡ false → IsAtEnd (R.remaining reader.new.inner)) }
+    ensures more { IfOk result (λ next. next.1 ≡ true → reader.old.given < reader.new.given) }
     ensures counted { IfOk result (λ _. reader.new.failures ≡ reader.old.failures) }
 {
     match reader.read(room) {
         Ok(count) => {
-            feed.feed(rt, &room[..count])?;
-            Ok(count > 0)
+            let next = ahead.advance(rt, &room[..count])?;
+            Ok((next, count > 0))
         }
-        Err(_) => Err(FileFault {
-            line: feed.line(),
-            kind: FaultKind::Device,
-        }),
+        Err(_) => {
+            let feed = ahead.settle()?;
+            Err(FileFault {
+                line: feed.line(),
+                kind: FaultKind::Device,
+            })
+        }
     }
 }
 
 /// Feeds the bytes of the reader, to its end, in pieces of that room.
-fn feed_in_pieces<C: Contents, R: Read>(
-    rt: &(impl Threads + Sync),
+fn feed_in_pieces<C: Contents, R: Read, T: Threads + Sync>(
+    rt: &T,
     alloc: Global,
     reader: &mut Counting<R>,
     room: &mut [u8],
@@ -63,9 +67,14 @@ fn feed_in_pieces<C: Contents, R: Read>(
     ensures holds { IfOk result (λ feed. Holds C.format C.Makes (R.remaining reader.old.inner) (R.remaining reader.new.inner) feed × IsAtEnd (R.remaining reader.new.inner)) }
     ensures fault { IfErr result (λ fault. Delivers (R.remaining reader.old.inner) (R.remaining reader.new.inner) (StopsAt C.format (R.remaining reader.new.inner) fault) × HasFailed fault.kind reader.old.failures reader.new.failures) }
 {
-    let mut feed = Feed::<C>::new(alloc);
-    'pieces: while feed_next(rt, &mut feed, reader, room)? {}
-    Ok(feed)
+    let mut ahead = Ahead::<C, C::Item>::new(alloc);
+    'pieces: loop {
+        let (next, more) = read_next(rt, ahead, reader, room)?;
+        if !more {
+            return next.settle();
+        }
+        ahead = next;
+    }
 }
 
 /// Feeds the bytes of the reader, to its end.

@@ -1,5 +1,6 @@
 //! What no clause says: that calls succeed with ample memory, that the clauses mean the format, and
 //! what a reader that fails leaves.
+mod ahead;
 mod feeds;
 mod histories;
 mod limits;

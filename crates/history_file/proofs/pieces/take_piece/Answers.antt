@@ -1,6 +1,5 @@
-use Rattle.std.proofs.Common.{ℕ, ◌≡◌, ◌≢◌, ◌≤◌, ◌<◌, ◌+◌, ◌-◌, ◌++◌, List, [], ◌∷◌, length, take, drop, slice_index, sym, ap, ◌∙◌, subst}
+use Rattle.std.proofs.Common.{ℕ, ◌≡◌, ◌≢◌, ◌≤◌, ◌<◌, ◌+◌, ◌++◌, List, [], ◌∷◌, length, take, sym, ◌∙◌, subst}
 use Rattle.std.specs.Prelude.{MatchResult}
-use Rattle.std.proofs.lemmas.List.{drop_more, take_rest, take-append-drop}
 use Rattle.std.proofs.lemmas.List.Elements.{All-append}
 use Rattle.std.proofs.lemmas.Result.{err_from_is_err_and}
 use Rattle.history_file.specs.declared.fault.LineFault.TheVariants.{TooLong}
@@ -8,16 +7,8 @@ use Rattle.history_file.specs.declared.fault.FaultKind.TheVariants as kind
 use Rattle.history_file.specs.Cuts.{HasNoEnd}
 use Rattle.history_file.specs.Feeds.{Passed, PassStops}
 use Rattle.history_file.specs.Files.{IsAt, IsFirstOfKind}
-use Rattle.history_file.proofs.Feeding.{Passed-line, PassStops-line, line_stops, passes_alone}
+use Rattle.history_file.proofs.Feeding.{behind, cut_at, Passed-line, PassStops-line, line_stops, passes_alone}
 use Rattle.history_file.proofs.pieces.take_piece.Goals as goal
-
--- what stands behind that place
-abbrev behind : List ℕ → ℕ → List ℕ
-behind piece i = take (length piece - (i + 1)) (drop (i + 1) piece)
-
--- the piece, cut at its first end
-cut_at : (piece : List ℕ) (i : ℕ) → i < length piece → slice_index piece i ≡ 10 → piece ≡ take i piece ++ 10 ∷ behind piece i
-cut_at piece i inside ten = sym (take-append-drop i piece) ∙ ap (λ (xs : List ℕ). take i piece ++ xs) (drop_more piece i 0 inside ∙ ap (λ (b : ℕ). b ∷ drop (i + 1) piece) ten ∙ ap (λ (xs : List ℕ). 10 ∷ xs) (sym (take_rest piece (i + 1))))
 
 pub returns-in_default-clause-passes : goal.returns-in_default-clause-passes
 returns-in_default-clause-passes g c = λ partial.

@@ -5,18 +5,18 @@ use Rattle.cli.proofs.Judgements.{told_pass, told_fail, told_all}
 use Rattle.cli.proofs.judging.Lines.judge_parts.Goals as goal
 
 pub loop-key-preserved-then-not-branch : goal.loop-key-preserved-then-not-branch
-loop-key-preserved-then-not-branch g c =
+loop-key-preserved-then-not-branch c =
     let orders = c.args.orders.now.entries in
     told_fail (HasOrder orders) (λ (entry : List ℕ × List Call). HasOrder orders entry → ⊥) c.args.parts.now.entries (c.in-Some.key.now, c.in-Some.part.now) c.next.new.self c.loop-key.key-iterator c.loop-key.yes
     c.in-Some.ensures.steps c.loop-key.invariant (rw (c.if-not-branch.true, c.order_at.ensures) at c.in_ok-judge.ensures)
 
 pub loop-key-preserved : goal.loop-key-preserved
-loop-key-preserved g c =
+loop-key-preserved c =
     let orders = c.args.orders.now.entries in
     told_pass (HasOrder orders) (λ (entry : List ℕ × List Call). HasOrder orders entry → ⊥) c.args.parts.now.entries (c.in-Some.key.now, c.in-Some.part.now) c.next.new.self c.loop-key.key-iterator c.loop-key.yes
     c.in-Some.ensures.steps c.loop-key.invariant (rw (c.if-not-branch.false, c.order_at.ensures) at c.in_ok-judge.ensures)
 
 pub returns : goal.returns
-returns g c =
+returns c =
     let orders = c.args.orders.now.entries in
     told_all (HasOrder orders) (λ (entry : List ℕ × List Call). HasOrder orders entry → ⊥) c.args.parts.now.entries c.loop-key.key-iterator c.loop-key.yes c.in-None.ensures.steps.0 c.loop-key.invariant

@@ -3,4 +3,4 @@ use Rattle.cli.proofs.Judgements.{ToldSoFar}
 use Rattle.cli.proofs.judging.Lines.judge_parts.Given as goal
 
 abbrev pub invariant-loop-key : goal.invariant-loop-key
-invariant-loop-key g l = ToldSoFar (HasOrder l.orders.entries) (λ entry. HasOrder l.orders.entries entry → ⊥) l.parts.entries l.key-iterator l.yes
+invariant-loop-key l = ToldSoFar (HasOrder l.orders.entries) (λ entry. HasOrder l.orders.entries entry → ⊥) l.parts.entries l.key-iterator l.yes

@@ -1,66 +1,24 @@
-use Rattle.std.proofs.Common.{◌≡◌, ◌∷◌, [], List, ℕ, Bor, length, map, sym, ap, ◌∙◌, subst, arith, refl}
-use Rattle.std.specs.Vec.Iter.{into_iter_items}
+use Rattle.std.proofs.Common.{ℕ, ◌≡◌, ◌+◌, List, Bor, length, map, subst, arith}
+use Rattle.std.specs.Prelude.{OnOk}
 use Rattle.std.specs.List.{AllZip}
 use Rattle.std.proofs.lemmas.Slice.Zip.{AllZip-long}
-use Rattle.std.proofs.lemmas.Result.{err_from_is_err_and}
 use Rattle.history_file.specs.declared.judging.Judgement.{Judgement}
 use Rattle.history_file.specs.Lines.{ShowsItem}
 use Rattle.history_file.proofs.Zips.{AllZip-seen}
-use Rattle.history_file.proofs.Taking.{Goes, Goes-start, Goes-step, Goes-stop, Goes-end}
 use Rattle.history_file.proofs.progress.Progress.take_rest.Goals as goal
 
-nothing_left : {X : Type 0} (l : List X) → length l ≡ 0 → l ≡ []
-nothing_left [] h = refl
-nothing_left (x ∷ xs) h = absurd (omega arith)
+pub record-requires-after_bounds : goal.record-requires-after_bounds
+record-requires-after_bounds g c κs within =
+    omega (arith, c.requires, AllZip-long (λ (line : Bor (List ℕ)) (judgement : Judgement g.row.C-Item.Denot). ShowsItem g.C.Contents.format.meaning line.now judgement) c.args.lines.now c.in-Ok.judgements.items c.in-Ok.ensures)
 
-pub loop-judgement-init : goal.loop-judgement-init
-loop-judgement-init g c =
-    let gives = c.into_iter-judgement-iterator.ensures.into_iter_gives in
+pub returns-in-Ok-clause-taken : goal.returns-in-Ok-clause-taken
+returns-in-Ok-clause-taken g c =
     let lines = map (λ (line : Bor (List ℕ)). line.now) c.args.lines.now in
     let shown : AllZip (ShowsItem g.C.Contents.format.meaning) lines c.in-Ok.judgements.items = AllZip-seen (ShowsItem g.C.Contents.format.meaning) (λ (line : Bor (List ℕ)). line.now) c.args.lines.now c.in-Ok.judgements.items c.in-Ok.ensures in
-    let P : List (Judgement g.row.C-Item.Denot) → Type 0 = λ js. Goes g.C.Contents.format g.C.Contents.Makes lines c.args.self.now c.args.self.now js in
-    let same = ap length gives.0 in
-    let long = AllZip-long (λ (line : Bor (List ℕ)) (judgement : Judgement g.row.C-Item.Denot). ShowsItem g.C.Contents.format.meaning line.now judgement) c.args.lines.now c.in-Ok.judgements.items c.in-Ok.ensures in
-    record {
-      goes = subst P (sym gives.0) (Goes-start g.C.Contents.format g.C.Contents.Makes lines c.args.self.now c.in-Ok.judgements.items shown);
-      known = omega (arith, gives.1, c.in-Ok.judgements.ok.0);
-      room = omega arith;
-    }
+    c.record.ensures.taken lines shown
 
-pub loop-judgement-preserved : goal.loop-judgement-preserved
-loop-judgement-preserved g c =
-    let at = c.loop-judgement in
-    let j = c.in-Some.judgement in
-    let old = c.args.self.now in
-    let lines = map (λ (line : Bor (List ℕ)). line.now) c.args.lines.now in
-    let steps : into_iter_items at.judgement-iterator ≡ j ∷ into_iter_items c.next.new.self = c.in-Some.ensures.steps.0 in
-    let P : List (Judgement g.row.C-Item.Denot) → Type 0 = λ js. Goes g.C.Contents.format g.C.Contents.Makes lines old at.self js in
-    let short = ap length steps in
-    let gone = c.in-Some.ensures.steps.1 in
-    let grown = c.in_ok-take_judgement.ensures.lines in
-    record {
-      goes = Goes-step g.C.Contents.format g.C.Contents.Makes lines old at.self c.take_judgement.new.self j (into_iter_items c.next.new.self) (subst P steps at.invariant.goes) c.in_ok-take_judgement.ensures.taken;
-      known = omega arith;
-      room = omega arith;
-    }
-
-pub returns-in_err-take_judgement-clause-taken : goal.returns-in_err-take_judgement-clause-taken
-returns-in_err-take_judgement-clause-taken g c =
-    let at = c.loop-judgement in
-    let j = c.in-Some.judgement in
-    let old = c.args.self.now in
-    let lines = map (λ (line : Bor (List ℕ)). line.now) c.args.lines.now in
-    let steps : into_iter_items at.judgement-iterator ≡ j ∷ into_iter_items c.next.new.self = c.in-Some.ensures.steps.0 in
-    let P : List (Judgement g.row.C-Item.Denot) → Type 0 = λ js. Goes g.C.Contents.format g.C.Contents.Makes lines old at.self js in
-    let p = err_from_is_err_and c.from_residual.result c.from_residual.ensures.1 in
-    λ before was some. rw (p.1, p.2) (Goes-stop g.C.Contents.format g.C.Contents.Makes lines old at.self c.take_judgement.new.self j (into_iter_items c.next.new.self) c.in_err-take_judgement.field-0.0 (subst P steps at.invariant.goes) c.in_err-take_judgement.ensures.taken before was some)
-
-pub returns-clause-taken : goal.returns-clause-taken
-returns-clause-taken g c =
-    let at = c.loop-judgement in
-    let none = c.in-None.ensures.steps in
-    let old = c.args.self.now in
-    let lines = map (λ (line : Bor (List ℕ)). line.now) c.args.lines.now in
-    let empty : into_iter_items at.judgement-iterator ≡ [] = nothing_left _ (sym at.invariant.known ∙ none.0) in
-    let P : List (Judgement g.row.C-Item.Denot) → Type 0 = λ js. Goes g.C.Contents.format g.C.Contents.Makes lines old at.self js in
-    Goes-end g.C.Contents.format g.C.Contents.Makes lines old at.self (subst P empty at.invariant.goes)
+pub returns-in-Ok-clause-lines : goal.returns-in-Ok-clause-lines
+returns-in-Ok-clause-lines g c =
+    let long : length c.in-Ok.judgements.items ≡ length c.args.lines.now = AllZip-long (λ (line : Bor (List ℕ)) (judgement : Judgement g.row.C-Item.Denot). ShowsItem g.C.Contents.format.meaning line.now judgement) c.args.lines.now c.in-Ok.judgements.items c.in-Ok.ensures in
+    let P : ℕ → Type 0 = λ n. OnOk c.record.result (c.record.new.self.lines ≡ c.args.self.now.lines + n) in
+    subst P long c.record.ensures.lines

@@ -1,0 +1,7 @@
+use Rattle.std.proofs.lemmas.Result.{err_from_is_err_and}
+use Rattle.history_file.proofs.progress.Progress.recorded.Goals as goal
+
+pub returns-in_err-record-clause-taken : goal.returns-in_err-record-clause-taken
+returns-in_err-record-clause-taken g c =
+    let p = err_from_is_err_and c.from_residual.result c.from_residual.ensures.1 in
+    rw (p.1, p.2) c.in_err-record.ensures.taken

@@ -1,0 +1,183 @@
+//! A file whose lines are judged ahead of where they are taken.
+ghost use Rattle.std.specs.Prelude.{ℕ, ◌≡◌, ◌≤◌, ◌<◌, ◌+◌, ◌^◌, ◌++◌, List, [], None, length, IfOk, MatchResult};
+ghost use Rattle.std.specs.Thread.{IsSync};
+ghost use Rattle.history_file.specs.Cuts.{HasNoEnd};
+
+use crate::feed::Feed;
+use crate::format::Contents;
+use crate::judged::{Judged, judge_piece};
+use crate::judging::LONGEST;
+use crate::progress::Progress;
+use crate::{FaultKind, FileFault, LineFault};
+use std::alloc::Global;
+use std::thread::{Threads, join};
+use tag::Memory;
+
+/// The least bytes of a piece that is worth a thread.
+const LEAST: usize = 65_536;
+
+/// What the lines so far made but for the last piece's, which were judged and are taken while the
+/// next piece is judged.
+#[derive(Drop)]
+pub struct Ahead<C, T> {
+    pub progress: Progress<C>,
+    pub judged: Judged<T>,
+    pub fed: u64,
+    ghost few: { fed ≤ 2 ^ 62 },
+    ghost room: { progress.lines + length judged.judgements.items + length judged.rest.items ≤ fed },
+}
+
+impl<C: Contents> Ahead<C, C::Item> {
+    ghost use Rattle.history_file.specs.Feeds.{Stands};
+    ghost use Rattle.history_file.specs.Ahead.{IsJudged, Records, IsAhead, StandsAhead, GoesAhead, CatchesUp, FaultStays};
+
+    /// No byte yet.
+    pub fn new(alloc: Global) -> Ahead<C, C::Item>
+        ensures opening { StandsAhead C.format C.Makes [] result }
+        ensures fed { result.fed ≡ 0 }
+    {
+        Ahead {
+            progress: Progress {
+                contents: C::opening(alloc),
+                lines: 0,
+            },
+            judged: Judged {
+                judgements: Vec::new(alloc),
+                rest: Vec::new(alloc),
+            },
+            fed: 0,
+        }
+    }
+
+    /// Takes the lines that were judged.
+    fn catch_up(self) -> Result<Ahead<C, C::Item>, FileFault>
+        ensures goes { (bytes : List ℕ) → IsAhead C.format C.Makes bytes self → CatchesUp C.format C.Makes bytes result }
+        ensures same { IfOk result (λ new. (new.fed ≡ self.fed) × (new.judged.rest ≡ self.judged.rest)) }
+        ensures none { IfOk result (λ new. new.judged.judgements.items ≡ []) }
+    {
+        if self.judged.judgements.is_empty() {
+            return Ok(self);
+        }
+        let Ahead {
+            progress,
+            judged,
+            fed,
+        } = self;
+        let Judged { judgements, rest } = judged;
+        let progress = progress.recorded(judgements)?;
+        let judgements = Vec::new(*rest.allocator());
+        Ok(Ahead {
+            progress,
+            judged: Judged { judgements, rest },
+            fed,
+        })
+    }
+
+    /// The feed that stands for all bytes so far.
+    pub fn settle(self) -> Result<Feed<C>, FileFault>
+        ensures settles { (bytes : List ℕ) → StandsAhead C.format C.Makes bytes self → MatchResult result (λ feed. Stands C.format C.Makes bytes feed) (λ fault. FaultStays C.format bytes fault) }
+        ensures fed { IfOk result (λ feed. (feed.fed ≡ self.fed) × (feed.fault ≡ None)) }
+    {
+        let Ahead {
+            progress,
+            judged,
+            fed,
+        } = self.catch_up()?;
+        Ok(Feed {
+            progress,
+            rest: judged.rest,
+            fed,
+            fault: None,
+        })
+    }
+
+    /// Takes a piece at once.
+    fn take_at_once(
+        self,
+        rt: &(impl Threads + Sync),
+        piece: &[u8],
+    ) -> Result<Ahead<C, C::Item>, FileFault>
+        requires { self.fed + length piece.now ≤ 2 ^ 62 }
+        ensures goes { (bytes : List ℕ) → StandsAhead C.format C.Makes bytes self → GoesAhead C.format C.Makes (bytes ++ piece.now) result }
+        ensures count { IfOk result (λ new. new.fed ≡ self.fed + length piece.now) }
+    {
+        let mut feed = self.settle()?;
+        feed.feed(rt, piece)?;
+        let Feed {
+            progress,
+            rest,
+            fed,
+            ..
+        } = feed;
+        let judgements = Vec::new(*rest.allocator());
+        Ok(Ahead {
+            progress,
+            judged: Judged { judgements, rest },
+            fed,
+        })
+    }
+
+    /// Refuses a line under way that is too long, after the lines before it.
+    fn check_length(self) -> Result<Ahead<C, C::Item>, FileFault>
+        ensures goes { (bytes : List ℕ) → IsAhead C.format C.Makes bytes self → GoesAhead C.format C.Makes bytes result }
+        ensures count { IfOk result (λ new. new.fed ≡ self.fed) }
+    {
+        if self.judged.rest.len() <= LONGEST {
+            return Ok(self);
+        }
+        let ahead = self.catch_up()?;
+        Err(FileFault {
+            line: ahead.progress.lines + 1,
+            kind: FaultKind::Line(LineFault::TooLong),
+        })
+    }
+
+    /// Judges the next piece while the lines before it are taken. A piece that isn't worth a thread,
+    /// or before which no line came, is taken at once.
+    pub fn advance<R: Threads + Sync>(
+        self,
+        rt: &R,
+        piece: &[u8],
+    ) -> Result<Ahead<C, C::Item>, FileFault>
+        requires { self.fed + length piece.now ≤ 2 ^ 62 }
+        ensures goes { (bytes : List ℕ) → StandsAhead C.format C.Makes bytes self → GoesAhead C.format C.Makes (bytes ++ piece.now) result }
+        ensures count { IfOk result (λ new. new.fed ≡ self.fed + length piece.now) }
+    {
+        if self.progress.lines == 0 || piece.len() < LEAST {
+            return self.take_at_once(rt, piece);
+        }
+        let Ahead {
+            progress,
+            judged,
+            fed,
+        } = self;
+        let Judged { judgements, rest } = judged;
+        let alloc = *rest.allocator();
+        let (taken, next) = join(
+            rt,
+            || -> Result<Progress<C>, FileFault>
+                requires { progress.lines + length judgements.items < 2 ^ 63 }
+                ensures taken { Records C.format C.Makes progress judgements.items result }
+                ensures lines { IfOk result (λ new. new.lines ≡ progress.lines + length judgements.items) }
+            { progress.recorded(judgements) },
+            || -> Result<Judged<C::Item>, Memory>
+                requires { IsSync R.row }
+                ensures judged { IfOk result (λ judged. HasNoEnd rest.items → IsJudged C.format (rest.items ++ piece.entry.now) judged) }
+                ensures room { IfOk result (λ judged. length judged.judgements.items + length judged.rest.items ≤ length rest.items + length piece.entry.now) }
+            { judge_piece::<C, R>(rt, alloc, rest.as_slice(), piece) },
+        );
+        let progress = taken?;
+        let Ok(judged) = next else {
+            return Err(FileFault {
+                line: progress.lines + 1,
+                kind: FaultKind::Memory,
+            });
+        };
+        let ahead = Ahead {
+            progress,
+            judged,
+            fed: fed + piece.len() as u64,
+        };
+        ahead.check_length()
+    }
+}

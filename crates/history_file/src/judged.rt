@@ -1,0 +1,48 @@
+//! Pieces of a file, cut into lines that are judged.
+ghost use Rattle.std.specs.Prelude.{◌≤◌, ◌+◌, ◌++◌, length, IfOk};
+ghost use Rattle.history_file.specs.Ahead.{IsJudged};
+ghost use Rattle.history_file.specs.Cuts.{HasNoEnd};
+
+use crate::format::Contents;
+use crate::judging::Judgement;
+use crate::lines::{cut_lines, first_end};
+use std::alloc::Global;
+use std::thread::Threads;
+use tag::Memory;
+
+/// What whole lines show by themselves, and the rest behind them, a line under way.
+#[derive(Drop)]
+pub struct Judged<T> {
+    pub judgements: Vec<Judgement<T>>,
+    pub rest: Vec<u8>,
+}
+
+/// Judges the whole lines of the rest and the piece behind it.
+///
+/// The piece's first line is put behind the rest; the others are judged where they lie.
+pub fn judge_piece<C: Contents, R: Threads + Sync>(
+    rt: &R,
+    alloc: Global,
+    rest: &[u8],
+    piece: &[u8],
+) -> Result<Judged<C::Item>, Memory>
+    ensures judged { IfOk result (λ judged. HasNoEnd rest.now → IsJudged C.format (rest.now ++ piece.now) judged) }
+    ensures room { IfOk result (λ judged. length judged.judgements.items + length judged.rest.items ≤ length rest.now + length piece.now) }
+{
+    let mut first = Vec::from_slice(alloc, rest)?;
+    let Some(end) = first_end(piece) else {
+        first.extend_from_slice(piece)?;
+        return Ok(Judged {
+            judgements: Vec::new(alloc),
+            rest: first,
+        });
+    };
+    first.extend_from_slice(&piece[..end])?;
+    let mut found = cut_lines(alloc, &piece[end + 1..])?;
+    found.lines.insert(0, first.as_slice())?;
+    let judgements = C::judge_all(rt, alloc, found.lines.as_slice())?;
+    Ok(Judged {
+        judgements,
+        rest: Vec::from_slice(alloc, found.rest)?,
+    })
+}
