@@ -1,4 +1,6 @@
 //! Readers and writers over memory, and such as fail.
+ghost use Rattle.std.specs.Prelude.{◌≡◌, []};
+
 use std::alloc::Global;
 use std::io;
 use std::io::{ErrorKind, Read, Write};
@@ -33,7 +35,11 @@ pub struct Bounded {
 }
 
 impl Bounded {
-    pub fn new(alloc: Global, room: usize) -> Bounded {
+    /// With nothing taken.
+    pub fn new(alloc: Global, room: usize) -> Bounded
+        ensures taken { result.taken.items ≡ [] }
+        ensures room { result.room ≡ room }
+    {
         Bounded {
             taken: Vec::new(alloc),
             room,

@@ -6,6 +6,7 @@
 #![tactic(auto)]
 
 mod ahead;
+mod batches;
 mod counting;
 mod document;
 mod fault;
