@@ -36,7 +36,7 @@ pub struct Bounded {
 
 impl Bounded {
     /// With nothing taken.
-    pub fn new(alloc: Global, room: usize) -> Bounded
+    pub(crate) fn new(alloc: Global, room: usize) -> Bounded
         ensures taken { result.taken.items ≡ [] }
         ensures room { result.room ≡ room }
     {
