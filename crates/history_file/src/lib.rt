@@ -6,7 +6,6 @@
 #![tactic(auto)]
 
 mod ahead;
-mod batches;
 mod counting;
 mod document;
 mod fault;
