@@ -1,5 +1,5 @@
 -- The client that begins a call.
-use Rattle.std.proofs.Common.{ℕ, zero, suc, ◌≡◌, ◌<◌, List, [], ◌∷◌, Option, Some, None, Bool, true, false, cond, nat_eq, eqb-true, length, sym, ◌∙◌, ap, subst, refl, arith}
+use Rattle.std.proofs.Common.{ℕ, zero, suc, ◌≡◌, ◌<◌, List, [], ◌∷◌, Some, None, Bool, true, false, cond, nat_eq, eqb-true, ap, refl}
 use Rattle.std.specs.List.{slice_get, Contains}
 use Rattle.std.proofs.lemmas.Bool.{eqb-false}
 use Rattle.tag.specs.declared.actions.Action.{Action}

@@ -32,20 +32,23 @@ pub enum NameError {
 }
 
 /// A key: 1 to 64 bytes, each an ASCII letter, a digit, or one of `.` `_` `-`.
+///
+/// Copies share one text.
 #[derive(Debug, Drop)]
 pub struct Key {
-    name: String,
+    name: ArcStr,
 }
 
 impl Model for Key {
-    ghost use Rattle.std.specs.Prelude.{◌≡◌, true, List, ℕ, string_bytes};
+    ghost use Rattle.std.specs.Prelude.{◌≡◌, true, List, ℕ};
+    ghost use Rattle.std.specs.Arc.{arc_str_bytes};
     ghost use Rattle.tag.specs.Names.{is_key};
 
     ghost Value = { List ℕ };
 
-    ghost view = { λ k. string_bytes k.name };
+    ghost view = { λ k. arc_str_bytes k.name };
 
-    ghost invariant = { λ k. is_key (string_bytes k.name) ≡ true };
+    ghost invariant = { λ k. is_key (arc_str_bytes k.name) ≡ true };
 }
 
 fn is_key_byte(byte: u8) -> bool
@@ -85,7 +88,7 @@ impl Key {
         if !is_key(text) {
             return Err(NameError::BadKey);
         }
-        match String::from_str(alloc, text) {
+        match ArcStr::from_str(alloc, text) {
             Ok(name) => Ok(Key { name }),
             Err(_) => Err(NameError::Memory),
         }

@@ -1,7 +1,6 @@
-use Rattle.std.proofs.Common.{arith, ◌≡◌, ◌<◌, ◌≤◌, None, Some, sym, ap, ◌∙◌, length, ltb-true}
+use Rattle.std.proofs.Common.{arith, ◌≡◌, ◌≤◌, Some, sym, ap, ◌∙◌, length, ltb-true}
 use Rattle.std.specs.List.{slice_get}
 use Rattle.std.proofs.lemmas.Option.{slice_get-get_or}
-use Rattle.recorder.specs.Histories.{call_count}
 use Rattle.recorder.proofs.Callers.{caller_of_state, caller_missing}
 use Rattle.recorder.proofs.history.History.caller.Goals as goal
 
