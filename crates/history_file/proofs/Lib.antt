@@ -16,7 +16,6 @@ pub mod Taking
 pub mod Feeding
 pub mod Advancing
 pub mod Consuming
-pub mod Filling
 pub mod Listed
 pub mod Joining
 pub mod Saying

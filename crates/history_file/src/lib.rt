@@ -6,7 +6,6 @@
 #![tactic(auto)]
 
 mod ahead;
-mod batches;
 mod counting;
 mod document;
 mod fault;
@@ -17,7 +16,6 @@ mod header;
 mod history_feed;
 mod history_format;
 mod judged;
-mod judgements;
 mod judging;
 pub mod laws;
 mod lines;

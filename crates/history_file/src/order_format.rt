@@ -9,7 +9,6 @@ use crate::document::Document;
 use crate::fault::Stop;
 use crate::follow::MOST_CALLS;
 use crate::format::{Contents, LineItem};
-use crate::judgements::Judgements;
 use crate::judging::{Judgement, judge};
 use crate::order_lines::piece_in;
 use crate::orders::join;
@@ -61,8 +60,8 @@ impl Contents for Orders {
         rt: &R,
         alloc: Global,
         lines: &[&[u8]],
-    ) -> Result<Judgements<KeyOrder>, Memory> {
-        let judged: Result<Judgements<KeyOrder>, Memory> = lines
+    ) -> Result<Vec<Judgement<KeyOrder>>, Memory> {
+        let judged: Result<Vec<Judgement<KeyOrder>>, Memory> = lines
             .par_iter()
             .map_init(
                 || Box::new(alloc, Scratch::new(alloc)).ok(),
