@@ -5,12 +5,15 @@ use Rattle.recorder.specs.declared.part.Call.{Call}
 use Rattle.recorder.specs.declared.order.KeyOrder.{KeyOrder}
 use Rattle.recorder.specs.Records.{IsPart}
 use Rattle.recorder.specs.Orders.{IsOrder}
+use Rattle.history_file.specs.declared.fault.FileFault.{FileFault}
 use Rattle.history_file.specs.declared.fault.LineFault.{LineFault}
 use Rattle.history_file.specs.declared.fault.FaultKind.TheVariants as kind
 use Rattle.history_file.specs.Deliveries.{Delivers, ReadsAll, StopsWith}
 use Rattle.history_file.specs.Formats.{Format}
 use Rattle.history_file.specs.HistoryFormat.{history_format, MakesHistory}
 use Rattle.history_file.specs.OrderFormat.{order_format, order_on}
+use Rattle.cli.specs.declared.status.Failure.{Failure}
+use Rattle.cli.specs.declared.status.Failure.TheVariants as failure
 use Rattle.cli.specs.declared.status.Status.{Status}
 use Rattle.cli.specs.declared.status.Status.TheVariants as status
 
@@ -51,6 +54,11 @@ abbrev pub Stops : {Item : Type 0} → Format Item → Option (List ℕ) → Opt
 Stops format old new status.Format = IsFaulty format old new
 Stops format old new status.Failed = Unit {0}
 Stops format old new s = ⊥
+
+-- what is told is a fault of the file of that name, and of the fault that holds
+abbrev pub TellsFault : List ℕ → (FileFault → Type 0) → Failure → Type 0
+TellsFault name P (failure.File told fault) = (told.now ≡ name) × P fault
+TellsFault name P f = ⊥
 
 -- both files were read, and the status judges them
 abbrev pub JudgesRead : Left → Left → Status → Type 0

@@ -1,10 +1,10 @@
 //! `abd check`: the verdict on each key's order.
 ghost use Rattle.std.specs.Prelude.{◌≡◌, ◌⊎◌, IfOk, IfErr};
 ghost use Rattle.history_file.specs.Counts.{HasGrown};
-ghost use Rattle.history_file.specs.Deliveries.{Delivers, ReadsAll};
+ghost use Rattle.history_file.specs.Deliveries.{Delivers, HasFailed, ReadsAll};
 ghost use Rattle.history_file.specs.HistoryFormat.{history_format, MakesHistory};
 ghost use Rattle.history_file.specs.OrderFormat.{order_format, AreJoined};
-ghost use Rattle.cli.specs.Checks.{Ends, Stops};
+ghost use Rattle.cli.specs.Checks.{Ends, Stops, TellsFault};
 ghost use Rattle.cli.specs.Statuses.{status_of};
 
 use crate::judging::{Halt, judge};
@@ -44,6 +44,7 @@ fn history_in<'a, R: Read>(
 ) -> Result<History, Failure<'a>>
     ensures read { IfOk result (λ history. Delivers (R.remaining source.old.reader.inner) (R.remaining source.new.reader.inner) (ReadsAll history_format MakesHistory (R.remaining source.new.reader.inner) history)) }
     ensures fault { IfErr result (λ failure. Stops history_format (R.remaining source.old.reader.inner) (R.remaining source.new.reader.inner) (status_of failure)) }
+    ensures told { IfErr result (λ failure. TellsFault source.old.name.now (λ fault. HasFailed fault.kind source.old.reader.failures source.new.reader.failures) failure) }
 {
     match read_history(rt, alloc, &mut source.reader) {
         Ok(history) => Ok(history),
@@ -62,6 +63,7 @@ fn orders_in<'a, R: Read>(
 ) -> Result<Vec<KeyOrder>, Failure<'a>>
     ensures read { IfOk result (λ orders. Delivers (R.remaining source.old.reader.inner) (R.remaining source.new.reader.inner) (ReadsAll order_format AreJoined (R.remaining source.new.reader.inner) orders.items)) }
     ensures fault { IfErr result (λ failure. Stops order_format (R.remaining source.old.reader.inner) (R.remaining source.new.reader.inner) (status_of failure)) }
+    ensures told { IfErr result (λ failure. TellsFault source.old.name.now (λ fault. HasFailed fault.kind source.old.reader.failures source.new.reader.failures) failure) }
 {
     match read_orders(rt, alloc, &mut source.reader) {
         Ok(orders) => Ok(orders),

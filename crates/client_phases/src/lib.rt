@@ -12,8 +12,6 @@ pub mod laws;
 mod outcomes;
 mod rules;
 mod states;
-#[cfg(test)]
-mod tests;
 
 pub use clients::Client;
 pub use outcomes::{Phase, Taken};

@@ -23,8 +23,6 @@ mod script_run;
 mod settings;
 mod simulating;
 mod steps;
-#[cfg(test)]
-mod tests;
 mod words;
 
 pub use command::{Command, Numbered, Script};

@@ -1,5 +1,5 @@
 -- Lines that are judged ahead of where they are taken.
-use Rattle.std.proofs.Common.{ℕ, ◌≡◌, ◌≢◌, ◌<◌, ◌≤◌, ◌+◌, ◌⊎◌, inl, inr, List, [], ◌∷◌, ◌++◌, length, nat_lt, Ok, Err, None, refl, sym, ap, ◌∙◌, append-nil, length-append, arith, subst}
+use Rattle.std.proofs.Common.{ℕ, ◌≡◌, ◌≢◌, ◌<◌, ◌≤◌, ◌+◌, List, [], ◌∷◌, ◌++◌, length, nat_lt, Ok, Err, None, refl, sym, ap, ◌∙◌, append-nil, length-append, arith, subst}
 use Rattle.std.specs.List.{AllZip}
 use Rattle.std.proofs.lemmas.List.Elements.{All-nil}
 use Rattle.std.proofs.lemmas.Bool.{lt-ltb}
@@ -37,22 +37,15 @@ module _ {Item Contents : Type 0} (format : Format Item) (Makes : List Item → 
   none_shown [] h = refl
   none_shown (line ∷ lines) h = absurd h
 
-  -- where something waits, a line was taken
-  some_taken : (taken waiting : List (List ℕ)) (js : List (Judgement Item)) → AllZip (ShowsItem format.meaning) waiting js → (waiting ≡ []) ⊎ (0 < length taken) → 0 < length js → 0 < length taken
-  some_taken taken waiting js shown (inr h) some = h
-  some_taken taken [] [] shown (inl e) some = absurd (omega arith)
-  some_taken taken [] (j ∷ js) shown (inl e) some = absurd shown
-  some_taken taken (line ∷ waiting) js shown (inl e) some = absurd (omega (arith, ap length e))
-
   -- nothing waits: all lines were taken
-  all_taken : (bytes : List ℕ) (ahead : Ahead Contents Item) (a : IsAhead format Makes bytes ahead) → ahead.judged.judgements.items ≡ [] → Splits bytes a.taken ahead.judged.rest.items
+  all_taken : (bytes : List ℕ) (ahead : Ahead Contents Item) (a : IsAhead format Makes bytes ahead) → ahead.judged.judgements ≡ [] → Splits bytes a.taken ahead.judged.rest.items
   all_taken bytes ahead a none =
       let A : List (Judgement Item) → Type 0 = λ js. AllZip (ShowsItem format.meaning) a.waiting js in
       let nothing : a.waiting ≡ [] = none_shown a.waiting (subst A none a.shown) in
       let P : List (List ℕ) → Type 0 = λ ls. Splits bytes ls ahead.judged.rest.items in
       subst P (ap (λ (ls : List (List ℕ)). a.taken ++ ls) nothing ∙ append-nil a.taken) a.splits
 
-  pub settled : (bytes : List ℕ) (ahead : Ahead Contents Item) (feed : Feed Contents) → IsAhead format Makes bytes ahead → length ahead.judged.rest.items ≤ 65536 → ahead.judged.judgements.items ≡ [] → feed.progress ≡ ahead.progress → feed.rest.items ≡ ahead.judged.rest.items → feed.fed ≡ ahead.fed → feed.fault ≡ None → Stands format Makes bytes feed
+  pub settled : (bytes : List ℕ) (ahead : Ahead Contents Item) (feed : Feed Contents) → IsAhead format Makes bytes ahead → length ahead.judged.rest.items ≤ 65536 → ahead.judged.judgements ≡ [] → feed.progress ≡ ahead.progress → feed.rest.items ≡ ahead.judged.rest.items → feed.fed ≡ ahead.fed → feed.fault ≡ None → Stands format Makes bytes feed
   settled bytes ahead feed a short none p r f sound =
       let Q : List ℕ → Type 0 = λ xs. Splits bytes a.taken xs in
       let R : Progress Contents → Type 0 = λ x. IsAt format Makes a.taken x in
@@ -66,7 +59,7 @@ module _ {Item Contents : Type 0} (format : Format Item) (Makes : List Item → 
       }
 
   -- no byte yet
-  pub opening_stands : (ahead : Ahead Contents Item) → format.Fits [] → Makes [] ahead.progress.contents → ahead.progress.lines ≡ 0 → ahead.judged.judgements.items ≡ [] → ahead.judged.rest.items ≡ [] → ahead.fed ≡ 0 → StandsAhead format Makes [] ahead
+  pub opening_stands : (ahead : Ahead Contents Item) → format.Fits [] → Makes [] ahead.progress.contents → ahead.progress.lines ≡ 0 → ahead.judged.judgements ≡ [] → ahead.judged.rest.items ≡ [] → ahead.fed ≡ 0 → StandsAhead format Makes [] ahead
   opening_stands ahead fits made lines none r f =
       let Q : List ℕ → Type 0 = λ xs. Splits [] [] xs in
       let A : List (Judgement Item) → Type 0 = λ js. AllZip (ShowsItem format.meaning) [] js in (
@@ -76,14 +69,13 @@ module _ {Item Contents : Type 0} (format : Format Item) (Makes : List Item → 
           splits = subst Q (sym r) (Splits-none [] (All-nil (λ (b : ℕ). b ≢ 10)));
           at = record { items = []; sound = record { spelled = refl; fits = fits }; made = made; counted = lines };
           shown = subst A (sym none) tt;
-          begun = inl refl;
           fed = f;
         },
         omega (arith, ap length r),
       )
 
   -- what stands for the bytes, with nothing that waits
-  pub nothing_waits : (bytes : List ℕ) (feed : Feed Contents) (ahead : Ahead Contents Item) → Stands format Makes bytes feed → ahead.progress ≡ feed.progress → ahead.judged.judgements.items ≡ [] → ahead.judged.rest.items ≡ feed.rest.items → ahead.fed ≡ feed.fed → StandsAhead format Makes bytes ahead
+  pub nothing_waits : (bytes : List ℕ) (feed : Feed Contents) (ahead : Ahead Contents Item) → Stands format Makes bytes feed → ahead.progress ≡ feed.progress → ahead.judged.judgements ≡ [] → ahead.judged.rest.items ≡ feed.rest.items → ahead.fed ≡ feed.fed → StandsAhead format Makes bytes ahead
   nothing_waits bytes feed ahead s p none r f =
       let P : List (List ℕ) → Type 0 = λ ls. Splits bytes ls feed.rest.items in
       let Q : List ℕ → Type 0 = λ xs. Splits bytes (s.lines ++ []) xs in
@@ -95,28 +87,30 @@ module _ {Item Contents : Type 0} (format : Format Item) (Makes : List Item → 
           splits = subst Q (sym r) (subst P (sym (append-nil s.lines)) s.splits);
           at = subst R (sym p) s.at;
           shown = subst A (sym none) tt;
-          begun = inl refl;
           fed = f ∙ s.fed;
         },
         omega (arith, ap length r, s.short),
       )
 
+  lines_taken : (bytes : List ℕ) (old : Ahead Contents Item) (a : IsAhead format Makes bytes old) → 0 < old.progress.lines → 0 < length a.taken
+  lines_taken bytes old a some = omega (arith, a.at.counted, some)
+
   -- a fault among the lines that waited, whatever follows
-  fault_behind : (bytes more : List ℕ) (old : Ahead Contents Item) (fault : FileFault) (a : IsAhead format Makes bytes old) → 0 < length a.taken → Records format Makes old.progress old.judged.judgements.items (Err fault) → FaultSoFar format (bytes ++ more) fault.line fault.kind
+  fault_behind : (bytes more : List ℕ) (old : Ahead Contents Item) (fault : FileFault) (a : IsAhead format Makes bytes old) → 0 < length a.taken → Records format Makes old.progress old.judged.judgements (Err fault) → FaultSoFar format (bytes ++ more) fault.line fault.kind
   fault_behind bytes more old fault a some records =
       let lines = a.taken ++ a.waiting in
       let rest = old.judged.rest.items in
       let cut = cut_of (rest ++ more) in
       so_far (bytes ++ more) (lines ++ cut.lines) cut.rest fault.line fault.kind (Splits-join bytes more lines cut.lines rest cut.rest a.splits cut.splits) (IsFirstFault-more format Makes lines cut.lines fault.line fault.kind (records a.waiting a.shown a.taken a.at some))
 
-  pub caught_fault : (bytes : List ℕ) (old : Ahead Contents Item) (fault : FileFault) → IsAhead format Makes bytes old → 0 < length old.judged.judgements.items → Records format Makes old.progress old.judged.judgements.items (Err fault) → FaultStays format bytes fault
-  caught_fault bytes old fault a some records = λ more. fault_behind bytes more old fault a (some_taken a.taken a.waiting old.judged.judgements.items a.shown a.begun some) records
+  pub caught_fault : (bytes : List ℕ) (old : Ahead Contents Item) (fault : FileFault) → IsAhead format Makes bytes old → 0 < old.progress.lines → Records format Makes old.progress old.judged.judgements (Err fault) → FaultStays format bytes fault
+  caught_fault bytes old fault a some records = λ more. fault_behind bytes more old fault a (lines_taken bytes old a some) records
 
   -- a fault that stays is one already
   pub stays_now : (bytes : List ℕ) (fault : FileFault) → FaultStays format bytes fault → FaultSoFar format bytes fault.line fault.kind
   stays_now bytes fault stays = let P : List ℕ → Type 0 = λ xs. FaultSoFar format xs fault.line fault.kind in subst P (append-nil bytes) (stays [])
 
-  pub caught_up : (bytes : List ℕ) (old new : Ahead Contents Item) → IsAhead format Makes bytes old → 0 < length old.judged.judgements.items → Records format Makes old.progress old.judged.judgements.items (Ok new.progress) → new.judged.judgements.items ≡ [] → new.judged.rest.items ≡ old.judged.rest.items → new.fed ≡ old.fed → IsAhead format Makes bytes new
+  pub caught_up : (bytes : List ℕ) (old new : Ahead Contents Item) → IsAhead format Makes bytes old → 0 < old.progress.lines → Records format Makes old.progress old.judged.judgements (Ok new.progress) → new.judged.judgements ≡ [] → new.judged.rest.items ≡ old.judged.rest.items → new.fed ≡ old.fed → IsAhead format Makes bytes new
   caught_up bytes old new a some records none r f =
       let lines = a.taken ++ a.waiting in
       let P : List (List ℕ) → Type 0 = λ ls. Splits bytes ls old.judged.rest.items in
@@ -126,19 +120,15 @@ module _ {Item Contents : Type 0} (format : Format Item) (Makes : List Item → 
         taken = lines;
         waiting = [];
         splits = subst Q (sym r) (subst P (sym (append-nil lines)) a.splits);
-        at = records a.waiting a.shown a.taken a.at (some_taken a.taken a.waiting old.judged.judgements.items a.shown a.begun some);
+        at = records a.waiting a.shown a.taken a.at (lines_taken bytes old a some);
         shown = subst A (sym none) tt;
-        begun = inl refl;
         fed = f ∙ a.fed;
       }
 
-  lines_taken : (bytes : List ℕ) (old : Ahead Contents Item) (a : IsAhead format Makes bytes old) → 0 < old.progress.lines → 0 < length a.taken
-  lines_taken bytes old a some = omega (arith, a.at.counted, some)
-
-  pub advance_fault : (bytes piece : List ℕ) (old : Ahead Contents Item) (fault : FileFault) → IsAhead format Makes bytes old → 0 < old.progress.lines → Records format Makes old.progress old.judged.judgements.items (Err fault) → FaultSoFar format (bytes ++ piece) fault.line fault.kind
+  pub advance_fault : (bytes piece : List ℕ) (old : Ahead Contents Item) (fault : FileFault) → IsAhead format Makes bytes old → 0 < old.progress.lines → Records format Makes old.progress old.judged.judgements (Err fault) → FaultSoFar format (bytes ++ piece) fault.line fault.kind
   advance_fault bytes piece old fault a some records = fault_behind bytes piece old fault a (lines_taken bytes old a some) records
 
-  pub advanced : (bytes piece : List ℕ) (old new : Ahead Contents Item) (a : IsAhead format Makes bytes old) → 0 < old.progress.lines → Records format Makes old.progress old.judged.judgements.items (Ok new.progress) → IsJudged format (old.judged.rest.items ++ piece) new.judged → new.fed ≡ old.fed + length piece → IsAhead format Makes (bytes ++ piece) new
+  pub advanced : (bytes piece : List ℕ) (old new : Ahead Contents Item) (a : IsAhead format Makes bytes old) → 0 < old.progress.lines → Records format Makes old.progress old.judged.judgements (Ok new.progress) → IsJudged format (old.judged.rest.items ++ piece) new.judged → new.fed ≡ old.fed + length piece → IsAhead format Makes (bytes ++ piece) new
   advanced bytes piece old new a some records j f =
       let lines = a.taken ++ a.waiting in
       record {
@@ -147,12 +137,11 @@ module _ {Item Contents : Type 0} (format : Format Item) (Makes : List Item → 
         splits = Splits-join bytes piece lines j.lines old.judged.rest.items new.judged.rest.items a.splits j.splits;
         at = records a.waiting a.shown a.taken a.at (lines_taken bytes old a some);
         shown = j.shown;
-        begun = inr (omega (arith, lines_taken bytes old a some, length-append a.taken a.waiting));
         fed = omega (arith, f, a.fed, length-append bytes piece);
       }
 
   -- a line under way that is too long already
-  pub too_long : (bytes : List ℕ) (ahead : Ahead Contents Item) (number : ℕ) → IsAhead format Makes bytes ahead → ahead.judged.judgements.items ≡ [] → 65536 < length ahead.judged.rest.items → number ≡ ahead.progress.lines + 1 → FirstFaultSoFar format bytes number TooLong
+  pub too_long : (bytes : List ℕ) (ahead : Ahead Contents Item) (number : ℕ) → IsAhead format Makes bytes ahead → ahead.judged.judgements ≡ [] → 65536 < length ahead.judged.rest.items → number ≡ ahead.progress.lines + 1 → FirstFaultSoFar format bytes number TooLong
   too_long bytes ahead number a none long counted =
       let rest = ahead.judged.rest.items in
       record {
@@ -163,12 +152,12 @@ module _ {Item Contents : Type 0} (format : Format Item) (Makes : List Item → 
       }
 
   -- bytes without an end have no whole line
-  pub judged_none : (bytes : List ℕ) (judged : Judged Item) → HasNoEnd bytes → judged.judgements.items ≡ [] → judged.rest.items ≡ bytes → IsJudged format bytes judged
+  pub judged_none : (bytes : List ℕ) (judged : Judged Item) → HasNoEnd bytes → judged.judgements ≡ [] → judged.rest.items ≡ bytes → IsJudged format bytes judged
   judged_none bytes judged h none r =
       let Q : List ℕ → Type 0 = λ xs. Splits bytes [] xs in
       let A : List (Judgement Item) → Type 0 = λ js. AllZip (ShowsItem format.meaning) [] js in
       record { lines = []; splits = subst Q (sym r) (Splits-none bytes h); shown = subst A (sym none) tt }
 
   -- the first line is behind the rest, the others are those of the tail
-  pub judged_lines : (rest front tail : List ℕ) (lines : List (List ℕ)) (judged : Judged Item) → HasNoEnd rest → HasNoEnd front → Splits tail lines judged.rest.items → AllZip (ShowsItem format.meaning) ((rest ++ front) ∷ lines) judged.judgements.items → IsJudged format (rest ++ (front ++ 10 ∷ tail)) judged
+  pub judged_lines : (rest front tail : List ℕ) (lines : List (List ℕ)) (judged : Judged Item) → HasNoEnd rest → HasNoEnd front → Splits tail lines judged.rest.items → AllZip (ShowsItem format.meaning) ((rest ++ front) ∷ lines) judged.judgements → IsJudged format (rest ++ (front ++ 10 ∷ tail)) judged
   judged_lines rest front tail lines judged r f s shown = record { lines = (rest ++ front) ∷ lines; splits = Splits-line rest front tail lines judged.rest.items r f s; shown = shown }

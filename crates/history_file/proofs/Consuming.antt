@@ -36,10 +36,6 @@ module _ {Item Contents : Type 0} (format : Format Item) (Makes : List Item → 
   pub Delivers-more : (P Q : List ℕ → Type 0) (a b c : Option (List ℕ)) (piece : List ℕ) → Delivers a b P → Consumes b c piece → ((bytes : List ℕ) → P bytes → Q (bytes ++ piece)) → Delivers a c Q
   Delivers-more P Q a b c piece h k goes = record { bytes = h.bytes ++ piece; given = Consumes-join a b c h.bytes piece h.given k; fact = goes h.bytes h.fact }
 
-  -- the same, where nothing more was given
-  pub Delivers-then : (P Q : List ℕ → Type 0) (a b c : Option (List ℕ)) → Delivers a b P → Keeps b c → ((bytes : List ℕ) → P bytes → Q bytes) → Delivers a c Q
-  Delivers-then P Q a b c h k goes = record { bytes = h.bytes; given = Consumes-keeps a b c h.bytes h.given k; fact = goes h.bytes h.fact }
-
   so_far : (left : Option (List ℕ)) (bytes : List ℕ) (number : ℕ) (k : FaultKind) → FaultSoFar format bytes number k → StopsWith format left number k bytes
   so_far left bytes number (kind.Line fault) h = inl h
   so_far left bytes number kind.Device h = absurd h
@@ -58,17 +54,17 @@ module _ {Item Contents : Type 0} (format : Format Item) (Makes : List Item → 
   stop_no_device P a b piece fault m n h stops = never_failed (h.bytes ++ piece) fault.line fault.kind m n (stops h.bytes h.fact)
 
   -- a fault of a line that had waited
-  pub Delivers-late : (P : List ℕ → Type 0) (a b c : Option (List ℕ)) (fault : FileFault) → Delivers a b P → Keeps b c → ((bytes : List ℕ) → P bytes → FaultSoFar format bytes fault.line fault.kind) → Delivers a c (StopsAt format c fault)
-  Delivers-late P a b c fault h k stops = Delivers-then P (StopsAt format c fault) a b c h k (λ bytes p. so_far c bytes fault.line fault.kind (stops bytes p))
+  pub Delivers-late : (P : List ℕ → Type 0) (a c : Option (List ℕ)) (fault : FileFault) → Delivers a c P → ((bytes : List ℕ) → P bytes → FaultSoFar format bytes fault.line fault.kind) → Delivers a c (StopsAt format c fault)
+  Delivers-late P a c fault h stops = record { bytes = h.bytes; given = h.given; fact = so_far c h.bytes fault.line fault.kind (stops h.bytes h.fact) }
 
   pub late_no_device : (P : List ℕ → Type 0) (a b : Option (List ℕ)) (fault : FileFault) (m n : ℕ) → Delivers a b P → ((bytes : List ℕ) → P bytes → FaultSoFar format bytes fault.line fault.kind) → HasFailed fault.kind m n
   late_no_device P a b fault m n h stops = never_failed h.bytes fault.line fault.kind m n (stops h.bytes h.fact)
 
   -- the reader failed at the line under way
-  pub Holds-device : (a b c : Option (List ℕ)) (feed : Feed Contents) (number : ℕ) → Holds format Makes a b feed → Keeps b c → (feed.fault ≡ None → number ≡ feed.progress.lines + 1) → Delivers a c (λ bytes. IsUnderWay bytes number)
-  Holds-device a b c feed number h k line = record {
+  pub Holds-device : (a c : Option (List ℕ)) (feed : Feed Contents) (number : ℕ) → Holds format Makes a c feed → (feed.fault ≡ None → number ≡ feed.progress.lines + 1) → Delivers a c (λ bytes. IsUnderWay bytes number)
+  Holds-device a c feed number h line = record {
     bytes = h.bytes;
-    given = Consumes-keeps a b c h.bytes h.given k;
+    given = h.given;
     fact = (h.fact.lines, feed.rest.items, h.fact.splits, omega (arith, line h.fact.sound, h.fact.at.counted));
   }
 

@@ -16,6 +16,7 @@ pub mod Taking
 pub mod Feeding
 pub mod Advancing
 pub mod Consuming
+pub mod Filling
 pub mod Listed
 pub mod Joining
 pub mod Saying

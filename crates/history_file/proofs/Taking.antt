@@ -10,7 +10,7 @@ use Rattle.history_file.specs.declared.progress.Progress.{Progress}
 use Rattle.history_file.specs.Lines.{Shows, ShowsItem}
 use Rattle.history_file.specs.Formats.{Format}
 use Rattle.history_file.specs.Files.{IsLineOf, AreSpelled, HasFault, IsFirstFault, IsFirstOfKind, IsAt, Takes, TakesJudged}
-use Rattle.history_file.proofs.Zips.{AllZip-push_both}
+use Rattle.history_file.proofs.Zips.{AllZip-push_both, parted}
 
 module _ {Item Contents : Type 0} (format : Format Item) (Makes : List Item → Contents → Type 0) where
   AreSpelled-push : (before : List (List ℕ)) (items : List Item) (line : List ℕ) (item : Item) → 0 < length before → AreSpelled format before items → IsLineOf format line item → AreSpelled format (before ++ line ∷ []) (items ++ item ∷ [])
@@ -122,16 +122,52 @@ module _ {Item Contents : Type 0} (format : Format Item) (Makes : List Item → 
   Goes-stop lines old mid new j js fault goes takes before at some =
       let h = goes.each before at some in half_stop before lines h.done h.rest mid new j js fault some h.whole h.at h.shown takes
 
+  pub Takes-same : (a b c d : List (List ℕ)) (r : Result (Unit {0}) FileFault) (new : Progress Contents) → a ++ b ≡ c ++ d → Takes format Makes a b r new → Takes format Makes c d r new
+  Takes-same a b c d (Ok done) new e h = let P : List (List ℕ) → Type 0 = λ ls. IsAt format Makes ls new in subst P e h
+  Takes-same a b c d (Err fault) new e h = let P : List (List ℕ) → Type 0 = λ ls. IsFirstOfKind format ls fault.line fault.kind in subst P e h
+
+  -- what becomes of the lines that show that, behind others
+  abbrev pub TakesRun : List (Judgement Item) → Progress Contents → Result (Unit {0}) FileFault → Progress Contents → Type 0
+  TakesRun js old result new = (lines : List (List ℕ)) → AllZip (ShowsItem format.meaning) lines js → (before : List (List ℕ)) → IsAt format Makes before old → 0 < length before → Takes format Makes before lines result new
+
+  -- a run of lines more
+  pub Goes-run : (lines : List (List ℕ)) (old mid new : Progress Contents) (js more : List (Judgement Item)) → Goes lines old mid (js ++ more) → TakesRun js mid (Ok tt) new → Goes lines old new more
+  Goes-run lines old mid new js more goes takes = record {
+    each = λ before at some.
+        let h = goes.each before at some in
+        let p = parted (ShowsItem format.meaning) h.rest js more h.shown in
+        let P : List (List ℕ) → Type 0 = λ ls. IsAt format Makes ls new in
+        record {
+          done = h.done ++ p.front;
+          rest = p.back;
+          whole = h.whole ∙ ap (λ (ls : List (List ℕ)). h.done ++ ls) p.whole ∙ sym (append_assoc h.done p.front p.back);
+          at = subst P (append_assoc before h.done p.front) (takes p.front p.first (before ++ h.done) h.at (some_more before h.done some));
+          shown = p.second;
+        };
+  }
+
+  pub Goes-run_stop : (lines : List (List ℕ)) (old mid new : Progress Contents) (js more : List (Judgement Item)) (fault : FileFault) → Goes lines old mid (js ++ more) → TakesRun js mid (Err fault) new → (before : List (List ℕ)) → IsAt format Makes before old → 0 < length before → IsFirstOfKind format (before ++ lines) fault.line fault.kind
+  Goes-run_stop lines old mid new js more fault goes takes before at some =
+      let h = goes.each before at some in
+      let p = parted (ShowsItem format.meaning) h.rest js more h.shown in
+      let one = takes p.front p.first (before ++ h.done) h.at (some_more before h.done some) in
+      let P : List (List ℕ) → Type 0 = λ ls. IsFirstOfKind format ls fault.line fault.kind in
+      let same : ((before ++ h.done) ++ p.front) ++ p.back ≡ before ++ lines =
+      append_assoc (before ++ h.done) p.front p.back ∙ append_assoc before h.done (p.front ++ p.back) ∙ ap (λ (ls : List (List ℕ)). before ++ (h.done ++ ls)) (sym p.whole) ∙ ap (λ (ls : List (List ℕ)). before ++ ls) (sym h.whole) in
+      subst P same (IsFirstFault-more ((before ++ h.done) ++ p.front) p.back fault.line fault.kind one)
+
+  -- the last run
+  pub Goes-run_end : (lines : List (List ℕ)) (old mid new : Progress Contents) (js : List (Judgement Item)) (r : Result (Unit {0}) FileFault) → Goes lines old mid js → TakesRun js mid r new → (before : List (List ℕ)) → IsAt format Makes before old → 0 < length before → Takes format Makes before lines r new
+  Goes-run_end lines old mid new js r goes takes before at some =
+      let h = goes.each before at some in
+      Takes-same (before ++ h.done) h.rest before lines r new (append_assoc before h.done h.rest ∙ ap (λ (ls : List (List ℕ)). before ++ ls) (sym h.whole)) (takes h.rest h.shown (before ++ h.done) h.at (some_more before h.done some))
+
   half_end : (before lines done rest : List (List ℕ)) (new : Progress Contents) → lines ≡ done ++ rest → IsAt format Makes (before ++ done) new → AllZip (ShowsItem format.meaning) rest [] → IsAt format Makes (before ++ lines) new
   half_end before lines done [] new whole at shown = let P : List (List ℕ) → Type 0 = λ ls. IsAt format Makes (before ++ ls) new in subst P (sym (append-nil done) ∙ sym whole) at
   half_end before lines done (line ∷ rest) new whole at shown = absurd shown
 
   pub Goes-end : (lines : List (List ℕ)) (old new : Progress Contents) → Goes lines old new [] → (before : List (List ℕ)) → IsAt format Makes before old → 0 < length before → IsAt format Makes (before ++ lines) new
   Goes-end lines old new goes before at some = let h = goes.each before at some in half_end before lines h.done h.rest new h.whole h.at h.shown
-
-  pub Takes-same : (a b c d : List (List ℕ)) (r : Result (Unit {0}) FileFault) (new : Progress Contents) → a ++ b ≡ c ++ d → Takes format Makes a b r new → Takes format Makes c d r new
-  Takes-same a b c d (Ok done) new e h = let P : List (List ℕ) → Type 0 = λ ls. IsAt format Makes ls new in subst P e h
-  Takes-same a b c d (Err fault) new e h = let P : List (List ℕ) → Type 0 = λ ls. IsFirstOfKind format ls fault.line fault.kind in subst P e h
 
   none_before : (before : List (List ℕ)) → length before ≡ 0 → before ≡ []
   none_before [] e = refl

@@ -1,5 +1,5 @@
 -- Two lists, item for item.
-use Rattle.std.proofs.Common.{ℕ, ◌<◌, ◌+◌, List, [], ◌∷◌, ◌++◌, length, get_or, take, map, sym, subst}
+use Rattle.std.proofs.Common.{ℕ, ◌≡◌, ◌<◌, ◌+◌, List, [], ◌∷◌, ◌++◌, length, get_or, take, map, refl, ap, sym, subst}
 use Rattle.std.specs.List.{AllZip}
 use Rattle.std.proofs.lemmas.List.{take_more}
 
@@ -21,3 +21,24 @@ AllZip-seen R v [] [] h = tt
 AllZip-seen R v [] (b ∷ ys) h = absurd h
 AllZip-seen R v (a ∷ xs) [] h = absurd h
 AllZip-seen R v (a ∷ xs) (b ∷ ys) h = (h.0, AllZip-seen R v xs ys h.1)
+
+-- the first list, in two parts that go with those of the second
+pub record Parted {A B : Type 0} (R : A → B → Type 0) (xs : List A) (ys zs : List B) : Type 0 where
+  pub front : List A
+  pub back : List A
+  pub whole : xs ≡ front ++ back
+  pub first : AllZip R front ys
+  pub second : AllZip R back zs
+
+pub parted : {A B : Type 0} (R : A → B → Type 0) (xs : List A) (ys zs : List B) → AllZip R xs (ys ++ zs) → Parted R xs ys zs
+parted R xs [] zs h = record { front = []; back = xs; whole = refl; first = tt; second = h }
+parted R [] (y ∷ ys) zs h = absurd h
+parted {A} R (x ∷ xs) (y ∷ ys) zs h =
+    let p = parted R xs ys zs h.1 in
+    record {
+      front = x ∷ p.front;
+      back = p.back;
+      whole = ap (λ (l : List A). x ∷ l) p.whole;
+      first = (h.0, p.first);
+      second = p.second;
+    }

@@ -1,5 +1,5 @@
 -- Lines that are judged ahead of where they are taken.
-use Rattle.std.specs.Prelude.{ℕ, ◌≡◌, ◌≤◌, ◌<◌, ◌⊎◌, List, [], ◌++◌, length, Result, MatchResult}
+use Rattle.std.specs.Prelude.{ℕ, ◌≡◌, ◌≤◌, ◌<◌, List, ◌++◌, length, Result, MatchResult}
 use Rattle.std.specs.List.{AllZip}
 use Rattle.history_file.specs.declared.fault.FileFault.{FileFault}
 use Rattle.history_file.specs.declared.judged.Judged.{Judged}
@@ -16,7 +16,7 @@ use Rattle.history_file.specs.Feeds.{FaultSoFar}
 pub record IsJudged {Item : Type 0} (format : Format Item) (bytes : List ℕ) (judged : Judged Item) : Type 0 where
   pub lines : List (List ℕ)
   pub splits : Splits bytes lines judged.rest.items
-  pub shown : AllZip (ShowsItem format.meaning) lines judged.judgements.items
+  pub shown : AllZip (ShowsItem format.meaning) lines judged.judgements
 
 -- behind the lines before, those that show that were taken, or the first fault is that
 abbrev pub Records : {Item Contents : Type 0} → Format Item → (List Item → Contents → Type 0) → Progress Contents → List (Judgement Item) → Result (Progress Contents) FileFault → Type 0
@@ -31,8 +31,7 @@ pub record IsAhead {Item Contents : Type 0} (format : Format Item) (Makes : List
   pub waiting : List (List ℕ)
   pub splits : Splits bytes (taken ++ waiting) ahead.judged.rest.items
   pub at : IsAt format Makes taken ahead.progress
-  pub shown : AllZip (ShowsItem format.meaning) waiting ahead.judged.judgements.items
-  pub begun : (waiting ≡ []) ⊎ (0 < length taken)
+  pub shown : AllZip (ShowsItem format.meaning) waiting ahead.judged.judgements
   pub fed : ahead.fed ≡ length bytes
 
 -- and the line under way isn't too long

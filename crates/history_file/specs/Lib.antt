@@ -14,6 +14,7 @@ pub mod Feeds
 pub mod HistoryFormat
 pub mod Ahead
 pub mod Counts
+pub mod Batches
 pub mod Deliveries
 pub mod OrderFormat
 pub mod Joins

@@ -6,6 +6,7 @@ ghost use Rattle.history_file.specs.Cuts.{HasNoEnd};
 use crate::feed::Feed;
 use crate::format::Contents;
 use crate::judged::{Judged, judge_piece};
+use crate::judgements::Judgements;
 use crate::judging::LONGEST;
 use crate::progress::Progress;
 use crate::{FaultKind, FileFault, LineFault};
@@ -24,7 +25,8 @@ pub struct Ahead<C, T> {
     pub judged: Judged<T>,
     pub fed: u64,
     ghost few: { fed ≤ 2 ^ 62 },
-    ghost room: { progress.lines + length judged.judgements.items + length judged.rest.items ≤ fed },
+    ghost room: { progress.lines + length judged.judgements + length judged.rest.items ≤ fed },
+    ghost begun: { progress.lines ≡ 0 → judged.judgements ≡ [] },
 }
 
 impl<C: Contents> Ahead<C, C::Item> {
@@ -42,7 +44,7 @@ impl<C: Contents> Ahead<C, C::Item> {
                 lines: 0,
             },
             judged: Judged {
-                judgements: Vec::new(alloc),
+                judgements: Judgements::new(alloc),
                 rest: Vec::new(alloc),
             },
             fed: 0,
@@ -53,9 +55,9 @@ impl<C: Contents> Ahead<C, C::Item> {
     fn catch_up(self) -> Result<Ahead<C, C::Item>, FileFault>
         ensures goes { (bytes : List ℕ) → IsAhead C.format C.Makes bytes self → CatchesUp C.format C.Makes bytes result }
         ensures same { IfOk result (λ new. (new.fed ≡ self.fed) × (new.judged.rest ≡ self.judged.rest)) }
-        ensures none { IfOk result (λ new. new.judged.judgements.items ≡ []) }
+        ensures none { IfOk result (λ new. new.judged.judgements ≡ []) }
     {
-        if self.judged.judgements.is_empty() {
+        if self.progress.lines == 0 {
             return Ok(self);
         }
         let Ahead {
@@ -65,7 +67,7 @@ impl<C: Contents> Ahead<C, C::Item> {
         } = self;
         let Judged { judgements, rest } = judged;
         let progress = progress.recorded(judgements)?;
-        let judgements = Vec::new(*rest.allocator());
+        let judgements = Judgements::new(*rest.allocator());
         Ok(Ahead {
             progress,
             judged: Judged { judgements, rest },
@@ -109,7 +111,7 @@ impl<C: Contents> Ahead<C, C::Item> {
             fed,
             ..
         } = feed;
-        let judgements = Vec::new(*rest.allocator());
+        let judgements = Judgements::new(*rest.allocator());
         Ok(Ahead {
             progress,
             judged: Judged { judgements, rest },
@@ -156,14 +158,14 @@ impl<C: Contents> Ahead<C, C::Item> {
         let (taken, next) = join(
             rt,
             || -> Result<Progress<C>, FileFault>
-                requires { progress.lines + length judgements.items < 2 ^ 63 }
-                ensures taken { Records C.format C.Makes progress judgements.items result }
-                ensures lines { IfOk result (λ new. new.lines ≡ progress.lines + length judgements.items) }
+                requires { progress.lines + length judgements < 2 ^ 63 }
+                ensures taken { Records C.format C.Makes progress judgements result }
+                ensures lines { IfOk result (λ new. new.lines ≡ progress.lines + length judgements) }
             { progress.recorded(judgements) },
             || -> Result<Judged<C::Item>, Memory>
                 requires { IsSync R.row }
                 ensures judged { IfOk result (λ judged. HasNoEnd rest.items → IsJudged C.format (rest.items ++ piece.entry.now) judged) }
-                ensures room { IfOk result (λ judged. length judged.judgements.items + length judged.rest.items ≤ length rest.items + length piece.entry.now) }
+                ensures room { IfOk result (λ judged. length judged.judgements + length judged.rest.items ≤ length rest.items + length piece.entry.now) }
             { judge_piece::<C, R>(rt, alloc, rest.as_slice(), piece) },
         );
         let progress = taken?;

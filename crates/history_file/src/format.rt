@@ -11,7 +11,7 @@ ghost use Rattle.history_file.specs.Formats.{Format, Follows, IsFine};
 
 use crate::document::Document;
 use crate::fault::Stop;
-use crate::judging::Judgement;
+use crate::judgements::Judgements;
 use std::alloc::Global;
 use std::thread::Threads;
 use tag::Memory;
@@ -50,9 +50,9 @@ pub trait Contents: Drop + Send {
         rt: &R,
         alloc: Global,
         lines: &[&[u8]],
-    ) -> Result<Vec<Judgement<Self::Item>>, Memory>
+    ) -> Result<Judgements<Self::Item>, Memory>
         requires { IsSync R.row }
-        ensures { IfOk result (λ judgements. AllZip (λ line judgement. ShowsItem format.meaning line.now judgement) lines.now judgements.items) };
+        ensures { IfOk result (λ judgements. AllZip (λ line judgement. ShowsItem format.meaning line.now judgement) lines.now judgements) };
 
     /// Takes the next item, or says which fault it has behind the others.
     fn follow(&mut self, item: Self::Item) -> Result<(), Stop>

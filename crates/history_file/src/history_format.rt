@@ -8,6 +8,7 @@ use crate::document::Document;
 use crate::fault::Stop;
 use crate::follow::{MOST_CALLS, follow};
 use crate::format::{Contents, LineItem};
+use crate::judgements::Judgements;
 use crate::judging::{Judgement, judge};
 use crate::rows::row_in;
 use json::Scratch;
@@ -44,8 +45,8 @@ impl Contents for History {
         rt: &R,
         alloc: Global,
         lines: &[&[u8]],
-    ) -> Result<Vec<Judgement<Row>>, Memory> {
-        let judged: Result<Vec<Judgement<Row>>, Memory> = lines
+    ) -> Result<Judgements<Row>, Memory> {
+        let judged: Result<Judgements<Row>, Memory> = lines
             .par_iter()
             .map_init(
                 || Box::new(alloc, Scratch::new(alloc)).ok(),

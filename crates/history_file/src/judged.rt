@@ -4,7 +4,7 @@ ghost use Rattle.history_file.specs.Ahead.{IsJudged};
 ghost use Rattle.history_file.specs.Cuts.{HasNoEnd};
 
 use crate::format::Contents;
-use crate::judging::Judgement;
+use crate::judgements::Judgements;
 use crate::lines::{cut_lines, first_end};
 use std::alloc::Global;
 use std::thread::Threads;
@@ -13,7 +13,7 @@ use tag::Memory;
 /// What whole lines show by themselves, and the rest behind them, a line under way.
 #[derive(Drop)]
 pub struct Judged<T> {
-    pub judgements: Vec<Judgement<T>>,
+    pub judgements: Judgements<T>,
     pub rest: Vec<u8>,
 }
 
@@ -27,13 +27,13 @@ pub fn judge_piece<C: Contents, R: Threads + Sync>(
     piece: &[u8],
 ) -> Result<Judged<C::Item>, Memory>
     ensures judged { IfOk result (λ judged. HasNoEnd rest.now → IsJudged C.format (rest.now ++ piece.now) judged) }
-    ensures room { IfOk result (λ judged. length judged.judgements.items + length judged.rest.items ≤ length rest.now + length piece.now) }
+    ensures room { IfOk result (λ judged. length judged.judgements + length judged.rest.items ≤ length rest.now + length piece.now) }
 {
     let mut first = Vec::from_slice(alloc, rest)?;
     let Some(end) = first_end(piece) else {
         first.extend_from_slice(piece)?;
         return Ok(Judged {
-            judgements: Vec::new(alloc),
+            judgements: Judgements::new(alloc),
             rest: first,
         });
     };

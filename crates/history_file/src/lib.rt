@@ -6,6 +6,7 @@
 #![tactic(auto)]
 
 mod ahead;
+mod batches;
 mod counting;
 mod document;
 mod fault;
@@ -16,6 +17,7 @@ mod header;
 mod history_feed;
 mod history_format;
 mod judged;
+mod judgements;
 mod judging;
 pub mod laws;
 mod lines;
@@ -30,8 +32,6 @@ mod ranges;
 mod reading;
 mod rows;
 mod sending;
-#[cfg(test)]
-mod tests;
 mod texts;
 mod tree;
 mod writing;

@@ -9,6 +9,7 @@ use crate::document::Document;
 use crate::fault::Stop;
 use crate::follow::MOST_CALLS;
 use crate::format::{Contents, LineItem};
+use crate::judgements::Judgements;
 use crate::judging::{Judgement, judge};
 use crate::order_lines::piece_in;
 use crate::orders::join;
@@ -60,8 +61,8 @@ impl Contents for Orders {
         rt: &R,
         alloc: Global,
         lines: &[&[u8]],
-    ) -> Result<Vec<Judgement<KeyOrder>>, Memory> {
-        let judged: Result<Vec<Judgement<KeyOrder>>, Memory> = lines
+    ) -> Result<Judgements<KeyOrder>, Memory> {
+        let judged: Result<Judgements<KeyOrder>, Memory> = lines
             .par_iter()
             .map_init(
                 || Box::new(alloc, Scratch::new(alloc)).ok(),

@@ -7,6 +7,7 @@ ghost use Rattle.history_file.specs.Files.{IsAt, Takes, TakesJudged, kind_of};
 
 use crate::fault::Stop;
 use crate::format::Contents;
+use crate::judgements::Judgements;
 use crate::judging::{Judgement, judge_header};
 use crate::{FaultKind, FileFault};
 use std::alloc::Global;
@@ -66,23 +67,36 @@ impl<C: Contents> Progress<C> {
         }
     }
 
-    /// Takes what later lines show.
-    pub fn record(&mut self, judgements: Vec<Judgement<C::Item>>) -> Result<(), FileFault>
-        requires { self.old.lines + length judgements.items < 2 ^ 63 }
-        ensures taken { (lines : List (List ℕ)) → AllZip (ShowsItem C.format.meaning) lines judgements.items → (before : List (List ℕ)) → IsAt C.format C.Makes before self.old → 0 < length before → Takes C.format C.Makes before lines result self.new }
-        ensures lines { OnOk result (self.new.lines ≡ self.old.lines + length judgements.items) }
+    /// Takes what a run of later lines shows.
+    fn record_run(&mut self, run: Vec<Judgement<C::Item>>) -> Result<(), FileFault>
+        requires { self.old.lines + length run.items < 2 ^ 63 }
+        ensures taken { (lines : List (List ℕ)) → AllZip (ShowsItem C.format.meaning) lines run.items → (before : List (List ℕ)) → IsAt C.format C.Makes before self.old → 0 < length before → Takes C.format C.Makes before lines result self.new }
+        ensures lines { OnOk result (self.new.lines ≡ self.old.lines + length run.items) }
     {
-        for judgement in judgements {
+        for judgement in run {
             self.take_judgement(judgement)?;
         }
         Ok(())
     }
 
+    /// Takes what later lines show.
+    pub fn record(&mut self, judgements: Judgements<C::Item>) -> Result<(), FileFault>
+        requires { self.old.lines + length judgements < 2 ^ 63 }
+        ensures taken { (lines : List (List ℕ)) → AllZip (ShowsItem C.format.meaning) lines judgements → (before : List (List ℕ)) → IsAt C.format C.Makes before self.old → 0 < length before → Takes C.format C.Makes before lines result self.new }
+        ensures lines { OnOk result (self.new.lines ≡ self.old.lines + length judgements) }
+    {
+        let (runs, last) = judgements.into_runs();
+        for run in runs {
+            self.record_run(run)?;
+        }
+        self.record_run(last)
+    }
+
     /// The same of a progress that is handed over.
-    pub fn recorded(mut self, judgements: Vec<Judgement<C::Item>>) -> Result<Progress<C>, FileFault>
-        requires { self.lines + length judgements.items < 2 ^ 63 }
-        ensures taken { Records C.format C.Makes self judgements.items result }
-        ensures lines { IfOk result (λ new. new.lines ≡ self.lines + length judgements.items) }
+    pub fn recorded(mut self, judgements: Judgements<C::Item>) -> Result<Progress<C>, FileFault>
+        requires { self.lines + length judgements < 2 ^ 63 }
+        ensures taken { Records C.format C.Makes self judgements result }
+        ensures lines { IfOk result (λ new. new.lines ≡ self.lines + length judgements) }
     {
         self.record(judgements)?;
         Ok(self)

@@ -6,6 +6,7 @@ ghost use Rattle.history_file.specs.HistoryFormat.{history_format, MakesHistory}
 ghost use Rattle.history_file.specs.OrderFormat.{order_format, AreJoined};
 
 use crate::ahead::Ahead;
+use crate::batches::{Behind, PIECE, read_batch};
 use crate::feed::Feed;
 use crate::format::Contents;
 use crate::order_feed::finish_orders;
@@ -16,10 +17,10 @@ use std::alloc::{AllocError, Global};
 use std::io::Read;
 use std::thread::Threads;
 
-/// The most bytes of a piece.
-const PIECE: usize = 1_048_576;
+/// The most pieces of a batch.
+const PIECES: usize = 4;
 
-/// Room for pieces of that size.
+/// Room for batches of that size.
 fn room_for(alloc: Global, size: usize) -> Result<Vec<u8>, AllocError>
     ensures { IfOk result (λ room. length room.items ≡ size) }
 {
@@ -41,13 +42,13 @@ fn read_next<C: Contents, R: Read, T: Threads + Sync>(
     ensures more { IfOk result (λ next. next.1 ≡ true → reader.old.given < reader.new.given) }
     ensures counted { IfOk result (λ _. reader.new.failures ≡ reader.old.failures) }
 {
-    match reader.read(room) {
-        Ok(count) => {
-            let next = ahead.advance(rt, &room[..count])?;
-            Ok((next, count > 0))
-        }
-        Err(_) => {
-            let feed = ahead.settle()?;
+    let batch = read_batch(reader, room);
+    let next = ahead.advance(rt, &room[..batch.count])?;
+    match batch.behind {
+        Behind::More => Ok((next, true)),
+        Behind::End => Ok((next, false)),
+        Behind::Failure => {
+            let feed = next.settle()?;
             Err(FileFault {
                 line: feed.line(),
                 kind: FaultKind::Device,
@@ -56,7 +57,7 @@ fn read_next<C: Contents, R: Read, T: Threads + Sync>(
     }
 }
 
-/// Feeds the bytes of the reader, to its end, in pieces of that room.
+/// Feeds the bytes of the reader, to its end, in batches of that room.
 fn feed_in_pieces<C: Contents, R: Read, T: Threads + Sync>(
     rt: &T,
     alloc: Global,
@@ -87,7 +88,8 @@ fn feed_all<C: Contents, R: Read>(
     ensures fault { IfErr result (λ fault. Delivers (R.remaining reader.old.inner) (R.remaining reader.new.inner) (StopsAt C.format (R.remaining reader.new.inner) fault)) }
     ensures device { IfErr result (λ fault. HasFailed fault.kind reader.old.failures reader.new.failures) }
 {
-    let Ok(mut room) = room_for(alloc, PIECE) else {
+    let pieces = rayon::current_num_threads(rt).clamp(1, PIECES);
+    let Ok(mut room) = room_for(alloc, pieces * PIECE) else {
         return Err(FileFault {
             line: 1,
             kind: FaultKind::Memory,

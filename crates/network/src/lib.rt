@@ -11,8 +11,6 @@ pub mod laws;
 mod messages;
 mod pools;
 mod refusals;
-#[cfg(test)]
-mod tests;
 
 pub use flights::Flight;
 pub use messages::Message;

@@ -34,6 +34,8 @@ pub struct History {
     rows: Vec<Row>,
     states: Vec<CallState>,
     busy: HashSet<u32>,
+    /// The keys of the calls, whose texts the rows share.
+    keys: HashSet<Key>,
     limit: u32,
 }
 
@@ -59,6 +61,7 @@ impl History {
             rows: Vec::new(alloc),
             states: Vec::new(alloc),
             busy: HashSet::new(alloc),
+            keys: HashSet::new(alloc),
             limit,
         }
     }
@@ -97,6 +100,7 @@ impl History {
             rows: copied_rows(alloc, &self.rows)?,
             states: Vec::from_slice(alloc, &self.states)?,
             busy: self.busy.clone()?,
+            keys: HashSet::new(alloc),
             limit: self.limit,
         })
     }
@@ -138,6 +142,7 @@ impl History {
         // Whatever can be refused comes first.
         self.rows.reserve(1)?;
         self.states.reserve(1)?;
+        let key = shared_key(&mut self.keys, key)?;
         self.busy.insert(client.get())?;
         self.states.push(CallState {
             client,
@@ -189,6 +194,17 @@ impl History {
         self.busy.remove(&state.client.get());
         Ok(())
     }
+}
+
+/// The key, its text shared with the one that is known, if any.
+fn shared_key(keys: &mut HashSet<Key>, key: Key) -> Result<Key, Memory>
+    ensures { IfOk result (λ shared. shared ≡ key) }
+{
+    if let Some(known) = keys.get(&key) {
+        return known.copy();
+    }
+    keys.insert(key.copy()?)?;
+    Ok(key)
 }
 
 /// Copies of the rows.

@@ -91,3 +91,14 @@ impl<T: Drop> From<AllocFailed<T>> for RowRefusal {
         RowRefusal::Memory
     }
 }
+
+impl From<Memory> for RowRefusal {
+    ghost use Rattle.std.specs.Prelude.{◌≡◌};
+    ghost use Rattle.recorder.specs.declared.row.RowRefusal.TheVariants.{Memory};
+
+    ghost from_gives = { λ _ e. e ≡ Memory };
+
+    fn from(_: Memory) -> RowRefusal {
+        RowRefusal::Memory
+    }
+}

@@ -10,8 +10,6 @@ mod errors;
 pub mod laws;
 mod refusing;
 mod settling;
-#[cfg(test)]
-mod tests;
 
 pub use errors::SettleError;
 pub use settling::settle;

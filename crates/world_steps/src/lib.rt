@@ -16,8 +16,6 @@ mod refusing;
 mod running;
 mod step;
 mod system;
-#[cfg(test)]
-mod tests;
 mod world;
 
 pub use config::Config;

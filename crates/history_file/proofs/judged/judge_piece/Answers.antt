@@ -18,7 +18,7 @@ returns-in_default-clause-judged g c = λ partial.
     let all = c.args.rest.now ++ c.args.piece.now in
     let none : HasNoEnd all = All-append (λ (b : ℕ). b ≢ 10) c.args.rest.now c.args.piece.now partial c.in_default.ensures in
     let whole = c.in_ok-extend_from_slice.ensures.items ∙ ap (λ (xs : List ℕ). xs ++ c.args.piece.now) c.in_ok-first.ensures.items in
-    judged_none g.C.Contents.format g.C.Contents.Makes all _ none c.new.ensures.items whole
+    judged_none g.C.Contents.format g.C.Contents.Makes all _ none c.new.ensures whole
 
 pub returns-clause-judged : goal.returns-clause-judged
 returns-clause-judged g c = λ partial.
@@ -32,9 +32,9 @@ returns-clause-judged g c = λ partial.
     let lines = map (λ (line : Bor (List ℕ)). line.now) found.lines.items in
     let S : List ℕ → Type 0 = λ xs. Splits (behind piece end) lines xs in
     let splits : S judged.rest.items = subst S (sym c.in_ok-from_slice.ensures.items) c.in_ok-found.ensures in
-    let A : List (Bor (List ℕ)) → Type 0 = λ ls. AllZip (ShowsItem g.C.Contents.format.meaning) (map (λ (line : Bor (List ℕ)). line.now) ls) judged.judgements.items in
-    let all : A (c.as_slice.result ∷ found.lines.items) = subst A (c.as_slice-2.ensures.value ∙ c.in_ok-insert.ensures.items) (AllZip-seen (ShowsItem g.C.Contents.format.meaning) (λ (line : Bor (List ℕ)). line.now) c.as_slice-2.result.now judged.judgements.items c.in_ok-judgements.ensures) in
-    let F : List ℕ → Type 0 = λ xs. AllZip (ShowsItem g.C.Contents.format.meaning) (xs ∷ lines) judged.judgements.items in
+    let A : List (Bor (List ℕ)) → Type 0 = λ ls. AllZip (ShowsItem g.C.Contents.format.meaning) (map (λ (line : Bor (List ℕ)). line.now) ls) judged.judgements in
+    let all : A (c.as_slice.result ∷ found.lines.items) = subst A (c.as_slice-2.ensures.value ∙ c.in_ok-insert.ensures.items) (AllZip-seen (ShowsItem g.C.Contents.format.meaning) (λ (line : Bor (List ℕ)). line.now) c.as_slice-2.result.now judged.judgements c.in_ok-judgements.ensures) in
+    let F : List ℕ → Type 0 = λ xs. AllZip (ShowsItem g.C.Contents.format.meaning) (xs ∷ lines) judged.judgements in
     let shown : F (rest ++ front) = subst F first all in
     let Q : List ℕ → Type 0 = λ xs. IsJudged g.C.Contents.format (rest ++ xs) judged in
     subst Q (sym (cut_at piece end c.in-Some.ensures.0 c.in-Some.ensures.2)) (judged_lines g.C.Contents.format g.C.Contents.Makes rest front (behind piece end) (map (λ (line : Bor (List ℕ)). line.now) found.lines.items) judged partial c.in-Some.ensures.1 splits shown)
@@ -45,7 +45,7 @@ returns-clause-room g c =
     let piece = c.args.piece.now in
     let found = c.in_ok-found.found in
     let lines = map (λ (line : Bor (List ℕ)). line.now) found.lines.items in
-    let judged = AllZip-long (λ (line : Bor (List ℕ)) (judgement : Judgement g.row.C-Item.Denot). ShowsItem g.C.Contents.format.meaning line.now judgement) c.as_slice-2.result.now c.in_ok-judgements.judgements.items c.in_ok-judgements.ensures in
+    let judged = AllZip-long (λ (line : Bor (List ℕ)) (judgement : Judgement g.row.C-Item.Denot). ShowsItem g.C.Contents.format.meaning line.now judgement) c.as_slice-2.result.now c.in_ok-judgements.judgements c.in_ok-judgements.ensures in
     let count = ap (λ (ls : List (Bor (List ℕ))). length ls) (c.as_slice-2.ensures.value ∙ c.in_ok-insert.ensures.items) in
     let left = ap (λ (xs : List ℕ). length xs) c.in_ok-from_slice.ensures.items in
     let whole = ap (λ (xs : List ℕ). length xs) (cut_at piece end c.in-Some.ensures.0 c.in-Some.ensures.2) in

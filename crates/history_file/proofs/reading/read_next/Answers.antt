@@ -1,43 +1,56 @@
-use Rattle.std.proofs.Common.{ℕ, List, take}
+use Rattle.std.proofs.Common.{ℕ, List, take, subst}
 use Rattle.std.proofs.lemmas.Result.{err_from_is_err_and}
 use Rattle.history_file.specs.Ahead.{StandsAhead}
+use Rattle.history_file.specs.Batches.{IsBehind}
 use Rattle.history_file.proofs.Advancing.{stays_now}
 use Rattle.history_file.proofs.Consuming.{Delivers-more, Delivers-stop, stop_no_device, Delivers-late, late_no_device, Holds-device}
 use Rattle.history_file.proofs.reading.read_next.Goals as goal
 
-pub returns-in_err-next-in-Ok-clause-goes : goal.returns-in_err-next-in-Ok-clause-goes
-returns-in_err-next-in-Ok-clause-goes g c = λ start holds.
+pub returns-in_err-next-clause-goes : goal.returns-in_err-next-clause-goes
+returns-in_err-next-clause-goes g c = λ start holds.
     let p = err_from_is_err_and c.from_residual.result c.from_residual.ensures.1 in
     let a = g.R.Read.remaining c.args.reader.now.inner in
-    let piece = take c.in-Ok.count c.read.new.piece in
-    let fault = c.in_err-next-in-Ok.field-0.0 in
+    let piece = take c.read_batch-batch.result.count c.read_batch-batch.new.room in
+    let fault = c.in_err-next.field-0.0 in
     let P : List ℕ → Type 0 = λ bytes. StandsAhead g.C.Contents.format g.C.Contents.Makes bytes c.args.ahead in
     rw (p.1, p.2) (
-      Delivers-stop g.C.Contents.format g.C.Contents.Makes P start a (g.R.Read.remaining c.read.new.self.inner) piece fault holds c.in-Ok.ensures.bytes.0 c.in_err-next-in-Ok.ensures.goes,
-      stop_no_device g.C.Contents.format g.C.Contents.Makes P start a piece fault c.args.reader.now.failures c.read.new.self.failures holds c.in_err-next-in-Ok.ensures.goes,
+      Delivers-stop g.C.Contents.format g.C.Contents.Makes P start a (g.R.Read.remaining c.read_batch-batch.new.reader.inner) piece fault holds c.read_batch-batch.ensures.bytes c.in_err-next.ensures.goes,
+      stop_no_device g.C.Contents.format g.C.Contents.Makes P start a piece fault c.args.reader.now.failures c.read_batch-batch.new.reader.failures holds c.in_err-next.ensures.goes,
     )
 
-pub returns-in_err-feed-in-Err-clause-goes : goal.returns-in_err-feed-in-Err-clause-goes
-returns-in_err-feed-in-Err-clause-goes g c = λ start holds.
-    let p = err_from_is_err_and c.from_residual-in_err-feed-in-Err.result c.from_residual-in_err-feed-in-Err.ensures.1 in
-    let a = g.R.Read.remaining c.args.reader.now.inner in
-    let fault = c.in_err-feed-in-Err.field-0.0 in
+pub returns-in-More-clause-goes : goal.returns-in-More-clause-goes
+returns-in-More-clause-goes g c = λ start holds.
     let P : List ℕ → Type 0 = λ bytes. StandsAhead g.C.Contents.format g.C.Contents.Makes bytes c.args.ahead in
-    let stops = λ (bytes : List ℕ) (s : P bytes). stays_now g.C.Contents.format g.C.Contents.Makes bytes fault (c.in_err-feed-in-Err.ensures.settles bytes s) in
+    let Q : List ℕ → Type 0 = λ bytes. StandsAhead g.C.Contents.format g.C.Contents.Makes bytes c.in_ok-next.next in
+    Delivers-more g.C.Contents.format g.C.Contents.Makes P Q start (g.R.Read.remaining c.args.reader.now.inner) (g.R.Read.remaining c.read_batch-batch.new.reader.inner) (take c.read_batch-batch.result.count c.read_batch-batch.new.room) holds c.read_batch-batch.ensures.bytes c.in_ok-next.ensures.goes
+
+pub returns-in-End-clause-goes : goal.returns-in-End-clause-goes
+returns-in-End-clause-goes g c = λ start holds.
+    let P : List ℕ → Type 0 = λ bytes. StandsAhead g.C.Contents.format g.C.Contents.Makes bytes c.args.ahead in
+    let Q : List ℕ → Type 0 = λ bytes. StandsAhead g.C.Contents.format g.C.Contents.Makes bytes c.in_ok-next.next in
+    Delivers-more g.C.Contents.format g.C.Contents.Makes P Q start (g.R.Read.remaining c.args.reader.now.inner) (g.R.Read.remaining c.read_batch-batch.new.reader.inner) (take c.read_batch-batch.result.count c.read_batch-batch.new.room) holds c.read_batch-batch.ensures.bytes c.in_ok-next.ensures.goes
+
+pub returns-in_err-feed-in-Failure-clause-goes : goal.returns-in_err-feed-in-Failure-clause-goes
+returns-in_err-feed-in-Failure-clause-goes g c = λ start holds.
+    let p = err_from_is_err_and c.from_residual-in_err-feed-in-Failure.result c.from_residual-in_err-feed-in-Failure.ensures.1 in
+    let left = g.R.Read.remaining c.read_batch-batch.new.reader.inner in
+    let fault = c.in_err-feed-in-Failure.field-0.0 in
+    let P : List ℕ → Type 0 = λ bytes. StandsAhead g.C.Contents.format g.C.Contents.Makes bytes c.args.ahead in
+    let Q : List ℕ → Type 0 = λ bytes. StandsAhead g.C.Contents.format g.C.Contents.Makes bytes c.in_ok-next.next in
+    let after = Delivers-more g.C.Contents.format g.C.Contents.Makes P Q start (g.R.Read.remaining c.args.reader.now.inner) left (take c.read_batch-batch.result.count c.read_batch-batch.new.room) holds c.read_batch-batch.ensures.bytes c.in_ok-next.ensures.goes in
+    let stops = λ (bytes : List ℕ) (s : Q bytes). stays_now g.C.Contents.format g.C.Contents.Makes bytes fault (c.in_err-feed-in-Failure.ensures.settles bytes s) in
     rw (p.1, p.2) (
-      Delivers-late g.C.Contents.format g.C.Contents.Makes P start a (g.R.Read.remaining c.read.new.self.inner) fault holds c.in-Err.ensures.bytes stops,
-      late_no_device g.C.Contents.format g.C.Contents.Makes P start a fault c.args.reader.now.failures c.read.new.self.failures holds stops,
+      Delivers-late g.C.Contents.format g.C.Contents.Makes Q start left fault after stops,
+      late_no_device g.C.Contents.format g.C.Contents.Makes Q start left fault c.args.reader.now.failures c.read_batch-batch.new.reader.failures after stops,
     )
 
-pub returns-in_ok-next-in-Ok-clause-goes : goal.returns-in_ok-next-in-Ok-clause-goes
-returns-in_ok-next-in-Ok-clause-goes g c = λ start holds.
+pub returns-in_ok-feed-in-Failure-clause-goes : goal.returns-in_ok-feed-in-Failure-clause-goes
+returns-in_ok-feed-in-Failure-clause-goes g c = λ start holds.
+    let left = g.R.Read.remaining c.read_batch-batch.new.reader.inner in
+    let feed = c.in_ok-feed-in-Failure.feed in
     let P : List ℕ → Type 0 = λ bytes. StandsAhead g.C.Contents.format g.C.Contents.Makes bytes c.args.ahead in
-    let Q : List ℕ → Type 0 = λ bytes. StandsAhead g.C.Contents.format g.C.Contents.Makes bytes c.in_ok-next-in-Ok.next in
-    Delivers-more g.C.Contents.format g.C.Contents.Makes P Q start (g.R.Read.remaining c.args.reader.now.inner) (g.R.Read.remaining c.read.new.self.inner) (take c.in-Ok.count c.read.new.piece) holds c.in-Ok.ensures.bytes.0 c.in_ok-next-in-Ok.ensures.goes
-
-pub returns-in_ok-feed-in-Err-clause-goes : goal.returns-in_ok-feed-in-Err-clause-goes
-returns-in_ok-feed-in-Err-clause-goes g c = λ start holds.
-    let feed = c.in_ok-feed-in-Err.feed in (
-      Holds-device g.C.Contents.format g.C.Contents.Makes start (g.R.Read.remaining c.args.reader.now.inner) (g.R.Read.remaining c.read.new.self.inner) feed c.line.result (record { bytes = holds.bytes; given = holds.given; fact = c.in_ok-feed-in-Err.ensures.settles holds.bytes holds.fact }) c.in-Err.ensures.bytes c.line.ensures,
-      c.in-Err.ensures.counted,
+    let Q : List ℕ → Type 0 = λ bytes. StandsAhead g.C.Contents.format g.C.Contents.Makes bytes c.in_ok-next.next in
+    let after = Delivers-more g.C.Contents.format g.C.Contents.Makes P Q start (g.R.Read.remaining c.args.reader.now.inner) left (take c.read_batch-batch.result.count c.read_batch-batch.new.room) holds c.read_batch-batch.ensures.bytes c.in_ok-next.ensures.goes in (
+      Holds-device g.C.Contents.format g.C.Contents.Makes start left feed c.line.result (record { bytes = after.bytes; given = after.given; fact = c.in_ok-feed-in-Failure.ensures.settles after.bytes after.fact }) c.line.ensures,
+      subst (λ b. IsBehind c.read_batch-batch.result.count b left c.args.reader.now.failures c.read_batch-batch.new.reader.failures) c.in-Failure.is c.read_batch-batch.ensures.behind,
     )

@@ -15,13 +15,13 @@ returns-in_err-progress-clause-goes g c =
     let p = err_from_is_err_and c.from_residual.result c.from_residual.ensures.1 in
     let old = c.args.self in
     let some : 0 < old.progress.lines = omega (arith, c.if-self-eq0.false) in
-    let P : Result (Progress g.row.C.Denot) FileFault → Type 0 = λ r. Records g.C.Contents.format g.C.Contents.Makes old.progress old.judged.judgements.items r in
+    let P : Result (Progress g.row.C.Denot) FileFault → Type 0 = λ r. Records g.C.Contents.format g.C.Contents.Makes old.progress old.judged.judgements r in
     rw (p.1, p.2) (λ bytes s. advance_fault g.C.Contents.format g.C.Contents.Makes bytes c.args.piece.now old c.in_err-progress.field-0.0 s.0 some (subst P c.in_err-progress.was c.join-taken.ensures.first.0))
 
 pub returns-clause-goes : goal.returns-clause-goes
 returns-clause-goes g c =
     let old = c.args.self in
     let some : 0 < old.progress.lines = omega (arith, c.if-self-eq0.false) in
-    let P : Result (Progress g.row.C.Denot) FileFault → Type 0 = λ r. Records g.C.Contents.format g.C.Contents.Makes old.progress old.judged.judgements.items r in
+    let P : Result (Progress g.row.C.Denot) FileFault → Type 0 = λ r. Records g.C.Contents.format g.C.Contents.Makes old.progress old.judged.judgements r in
     let Q : Result (Judged g.row.C-Item.Denot) Memory → Type 0 = λ r. IfOk r (λ judged. HasNoEnd old.judged.rest.items → IsJudged g.C.Contents.format (old.judged.rest.items ++ c.args.piece.now) judged) in
     λ bytes s. c.check_length.ensures.goes _ (advanced g.C.Contents.format g.C.Contents.Makes bytes c.args.piece.now old _ s.0 some (subst P c.in_ok-progress.was c.join-taken.ensures.first.0) (subst Q c.in-Ok.is c.join-taken.ensures.second.0 s.0.splits.partial) refl)

@@ -16,12 +16,13 @@ returns-in_err-feed-2-clause-goes g c =
 pub invariant_of-result : goal.invariant_of-result
 invariant_of-result g c =
     let new = c.feed.new.self in
-    let none = ap length c.new-judgements.ensures.items in
+    let none = ap length c.new-judgements.ensures in
     record {
       few = new.few;
       room = omega (arith, none, new.room c.in_ok-feed-2.ensures.sound);
+      begun = λ e. c.new-judgements.ensures;
     }
 
 pub returns-clause-goes : goal.returns-clause-goes
 returns-clause-goes g c = λ bytes s.
-    nothing_waits g.C.Contents.format g.C.Contents.Makes _ c.feed.new.self _ (c.in_ok-feed-2.ensures.fed bytes (c.in_ok-feed.ensures.settles bytes s)) refl c.new-judgements.ensures.items refl refl
+    nothing_waits g.C.Contents.format g.C.Contents.Makes _ c.feed.new.self _ (c.in_ok-feed-2.ensures.fed bytes (c.in_ok-feed.ensures.settles bytes s)) refl c.new-judgements.ensures refl refl

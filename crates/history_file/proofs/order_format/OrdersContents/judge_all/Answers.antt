@@ -16,4 +16,4 @@ returns g c =
     let h = c.in_ok-judged.ensures in
     let chain = h.1 in
     let shown = slice-AllZip chain.0 c.args.lines.now (chain.1 ∙ slice) (λ (line : Bor (List ℕ)) (judgement : Result (Judgement KeyOrder) Memory). IfOk judgement (ShowsItem piece_in line.now)) h.0 (AllZip-weaken _ _ (λ x y p. p.2) _ _ chain.2) in
-    collected (λ (line : Bor (List ℕ)) (judgement : Judgement KeyOrder). ShowsItem piece_in line.now judgement) (λ v. v.items) c.args.lines.now h.0 c.in_ok-judged.judged _ shown h.2
+    collected (λ (line : Bor (List ℕ)) (judgement : Judgement KeyOrder). ShowsItem piece_in line.now judgement) (λ (js : List (Judgement KeyOrder)). js) c.args.lines.now h.0 c.in_ok-judged.judged _ shown h.2

@@ -1,6 +1,6 @@
 //! Scripts worked by hand, with the notes and the history that come of them.
 use super::Pieces;
-use crate::{ErrorKind, LineFault, ScriptError, SimulateError, simulate};
+use fault_script::{ErrorKind, LineFault, ScriptError, SimulateError, simulate};
 use history_file::{Counting, read_history};
 use std::alloc::Global;
 use std::io;

@@ -1,7 +1,7 @@
 //! Files, as they are written.
 use super::histories::write_then_read;
 use super::*;
-use crate::{WriteFault, history_text, write_history, write_orders, write_text};
+use history_file::{WriteFault, history_text, write_history, write_orders, write_text};
 use recorder::Order;
 use tag::{Action, ClientId, Key, OpId, Returned, Value};
 

@@ -1,5 +1,4 @@
 //! Runs worked by hand: what `settle` answers, and which flights it used.
-use crate::{SettleError, settle};
 use client_phases::{Phase, ReadMode};
 use quorum::Quorums;
 use recorder::Row;
@@ -7,6 +6,7 @@ use std::alloc::Global;
 use std::process::Abort;
 use std::test::Fail;
 use tag::{Action, ClientId, Key, ReplicaId, Value};
+use world_settle::{SettleError, settle};
 use world_steps::{Config, Step, World};
 
 /// What is done before a call is completed, or that: a client joins (`j`), begins a write of `a` on `x`

@@ -1,7 +1,7 @@
 //! What no clause says: that calls succeed with ample memory, that the clauses mean the format, and
 //! what a reader that fails leaves.
-use crate::{Command, ErrorKind, LineFault, Script, ScriptError, parse};
 use client_phases::ReadMode;
+use fault_script::{Command, ErrorKind, LineFault, Script, ScriptError, parse};
 use history_file::Counting;
 use std::alloc::{AllocError, Global};
 use std::io;

@@ -1,5 +1,4 @@
 //! Runs worked by hand, step by step, each with what it answers.
-use crate::{Config, Effect, Refusal, Step, World};
 use client_phases::{ReadMode, Taken};
 use quorum::Quorums;
 use recorder::Row;
@@ -7,6 +6,7 @@ use std::alloc::Global;
 use std::process::Abort;
 use std::test::Fail;
 use tag::{Action, ClientId, Key, ReplicaId, Returned, Value};
+use world_steps::{Config, Effect, Refusal, Step, World};
 
 mod rows;
 mod spent;

@@ -1,5 +1,5 @@
 //! Runs worked by hand, with the orders that their tags make.
-use crate::justified_run;
+use fault_script::justified_run;
 use std::alloc::Global;
 use std::process::Abort;
 use std::test::Fail;

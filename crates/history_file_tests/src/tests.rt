@@ -7,7 +7,7 @@ mod limits;
 mod orders;
 mod writing;
 
-use crate::{Counting, FaultKind, FileFault, LineFault, read_history, read_orders};
+use history_file::{Counting, FaultKind, FileFault, LineFault, read_history, read_orders};
 use recorder::{History, KeyOrder};
 use std::alloc::Global;
 use std::io;

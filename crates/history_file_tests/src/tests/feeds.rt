@@ -1,6 +1,6 @@
 //! Feeds, however a file is cut.
 use super::*;
-use crate::{HistoryFeed, OrderFeed};
+use history_file::{HistoryFeed, OrderFeed};
 
 /// Feeds the bytes in pieces of that size.
 fn feed_all(

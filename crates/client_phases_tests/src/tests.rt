@@ -1,6 +1,6 @@
 //! What no clause says: that the clauses mean the protocol, and that a growth that was refused
 //! leaves the client as it was.
-use crate::{Client, Phase, ReadMode, Taken};
+use client_phases::{Client, Phase, ReadMode, Taken};
 use quorum::Quorums;
 use replica::{Reply, Request};
 use std::alloc::Global;

@@ -1,6 +1,6 @@
 //! What no clause says: that calls succeed with ample memory, rows worked by hand, and that a
 //! growth that was refused leaves the pool as it was.
-use crate::{Message, NetRefusal, Pool};
+use network::{Message, NetRefusal, Pool};
 use replica::{Reply, Request};
 use std::alloc::Global;
 use std::test::Fail;

@@ -1,0 +1,64 @@
+//! Pieces of a reader that are judged together.
+ghost use Rattle.std.specs.Prelude.{◌≡◌, ◌≤◌, ◌<◌, ◌+◌, length, take};
+ghost use Rattle.std.specs.Io.KnownBytes.{Consumes};
+ghost use Rattle.history_file.specs.Batches.{IsBehind};
+
+use crate::Counting;
+use std::io::Read;
+
+/// The most bytes that a reader is asked for at once.
+pub const PIECE: usize = 1_048_576;
+
+/// What was behind the bytes of a batch.
+#[derive(Clone, Copy, Debug)]
+pub enum Behind {
+    More,
+    End,
+    Failure,
+}
+
+/// How many bytes were read into a room, and what was behind them.
+#[derive(Clone, Copy, Debug)]
+pub struct Batch {
+    pub count: usize,
+    pub behind: Behind,
+}
+
+/// Reads pieces into the room, one behind the other, until it is full or a piece came short. A
+/// reader that gives its bytes slowly isn't waited for.
+pub fn read_batch<R: Read>(reader: &mut Counting<R>, room: &mut [u8]) -> Batch
+    requires { 0 < length room.old }
+    ensures bound { result.count ≤ length room.new }
+    ensures bytes { Consumes (R.remaining reader.old.inner) (R.remaining reader.new.inner) (take result.count room.new) }
+    ensures given { reader.new.given ≡ reader.old.given + result.count }
+    ensures behind { IsBehind result.count result.behind (R.remaining reader.new.inner) reader.old.failures reader.new.failures }
+{
+    let mut count = 0;
+    'pieces: while count < room.len() {
+        let end = room.len().min(count.saturating_add(PIECE));
+        match reader.read(&mut room[count..end]) {
+            Ok(0) => {
+                return Batch {
+                    count,
+                    behind: Behind::End,
+                };
+            }
+            Ok(more) => {
+                count += more;
+                if count < end {
+                    break;
+                }
+            }
+            Err(_) => {
+                return Batch {
+                    count,
+                    behind: Behind::Failure,
+                };
+            }
+        }
+    }
+    Batch {
+        count,
+        behind: Behind::More,
+    }
+}
