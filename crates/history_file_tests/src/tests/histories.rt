@@ -5,7 +5,7 @@ use tag::{Action, ClientId, Key, OpId, Returned, Tag, Value};
 const HEADER: &str = "{\"abd\":\"history\",\"version\":1}\n";
 
 /// The history that the first file of these tests records.
-pub fn write_then_read(alloc: Global) -> Result<History, Fail> {
+pub(crate) fn write_then_read(alloc: Global) -> Result<History, Fail> {
     let mut history = History::new(alloc, 1_000_000);
     let tag = Tag::new(1, 1).ok_or("a tag")?;
     let key = Key::new(alloc, "x")?;
