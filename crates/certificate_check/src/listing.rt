@@ -36,7 +36,7 @@ impl<'a> Listing<'a> {
     ghost use Rattle.recorder.specs.Orders.{StandsAt, IsComplete, IsLegal};
 
     /// The order with its calls, or the first place whose call isn't there.
-    pub fn new(
+    pub(crate) fn new(
         alloc: Global,
         calls: &'a [Call],
         order: &'a [OpId],
@@ -59,7 +59,7 @@ impl<'a> Listing<'a> {
     }
 
     /// The verdict on the order.
-    pub fn verdict(&self, alloc: Global) -> Result<Verdict, Memory>
+    pub(crate) fn verdict(&self, alloc: Global) -> Result<Verdict, Memory>
         ensures { IfOk result (λ verdict. IsVerdict self.now.calls.now self.now.order.now verdict) }
     {
         let marks = match self.marks(alloc)? {

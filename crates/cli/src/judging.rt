@@ -142,7 +142,7 @@ fn judge_keys(
 
 /// Judges a history by the orders of an order file, and says a line for each key once all are
 /// judged: `Good` where every line says yes, `Refused` where one says no.
-pub fn judge<W: Write>(
+pub(crate) fn judge<W: Write>(
     alloc: Global,
     history: &History,
     orders: Vec<KeyOrder>,

@@ -13,7 +13,7 @@ use std::marker::Model;
 use tag::{Memory, ReplicaId, Tag, Value};
 
 /// The set with a further replica.
-pub fn with_replica(mut counted: ReplicaSet, replica: ReplicaId) -> ReplicaSet
+pub(crate) fn with_replica(mut counted: ReplicaSet, replica: ReplicaId) -> ReplicaSet
     ensures { result ≡ finite.insert counted replica }
 {
     counted.add(replica);
@@ -30,7 +30,7 @@ pub struct Tally {
 
 impl Tally {
     /// The tally with a further replica that told this tag.
-    pub fn with(self, replica: ReplicaId, tag: Tag) -> Tally
+    pub(crate) fn with(self, replica: ReplicaId, tag: Tag) -> Tally
         ensures { (call : Call) (found value : Option (List ℕ))
             → asking_with (asking_from call self found) replica (record { tag = tag; value = value })
             ≡ asking_from call result (if is_lt (tag_cmp self.best tag) then value else found) }
@@ -68,7 +68,7 @@ impl Model for Asking {
 
 impl Asking {
     /// The asking of a call that has counted nobody.
-    pub fn new(call: Call) -> Asking
+    pub(crate) fn new(call: Call) -> Asking
         ensures { result ≡ opening_of call }
     {
         Asking {
@@ -83,7 +83,7 @@ impl Asking {
     }
 
     /// The asking with a further replica that told this pair.
-    pub fn with(self, replica: ReplicaId, pair: Pair) -> Asking
+    pub(crate) fn with(self, replica: ReplicaId, pair: Pair) -> Asking
         requires { LeavesRoom self.call.action pair.tag }
         ensures { result ≡ asking_with self replica pair }
     {
@@ -98,7 +98,7 @@ impl Asking {
     }
 
     /// What it asks of replicas.
-    pub fn request(&self) -> Result<Request, Memory>
+    pub(crate) fn request(&self) -> Result<Request, Memory>
         ensures { IfOk result (λ request. request ≡ query_of self.now) }
     {
         Ok(Request::Query {

@@ -32,7 +32,7 @@ impl Model for Chosen {
 
 impl Chosen {
     /// What it asks of replicas.
-    pub fn request(&self) -> Result<Request, Memory>
+    pub(crate) fn request(&self) -> Result<Request, Memory>
         ensures { IfOk result (λ request. request ≡ put_of self.now) }
     {
         let value = match &self.call.action {
@@ -48,7 +48,7 @@ impl Chosen {
     }
 
     /// A copy of its answer.
-    pub fn answer(&self) -> Result<Returned, Memory>
+    pub(crate) fn answer(&self) -> Result<Returned, Memory>
         ensures { IfOk result (λ answer. answer ≡ answer_from self.now) }
     {
         match &self.call.action {
@@ -58,7 +58,7 @@ impl Chosen {
     }
 
     /// Its answer.
-    pub fn into_answer(self) -> Returned
+    pub(crate) fn into_answer(self) -> Returned
         ensures { result ≡ answer_from self }
     {
         match self.call.action {

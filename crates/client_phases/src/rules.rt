@@ -28,7 +28,13 @@ pub struct Rules {
 
 impl Rules {
     /// Whether a reply to a call counts, beside those of the replicas that are counted.
-    pub fn counts(&self, call: &Call, counted: &ReplicaSet, op: OpId, replica: ReplicaId) -> bool
+    pub(crate) fn counts(
+        &self,
+        call: &Call,
+        counted: &ReplicaSet,
+        op: OpId,
+        replica: ReplicaId,
+    ) -> bool
         ensures { result ≡ counts self.now call.now counted.now op replica }
     {
         op == call.op && !counted.contains(replica) && replica.get() < self.quorums.replicas()
@@ -46,7 +52,7 @@ impl Rules {
     }
 
     /// What an asking comes to.
-    pub fn outcome(&self, call: &Call, tally: &Tally) -> Taken
+    pub(crate) fn outcome(&self, call: &Call, tally: &Tally) -> Taken
         requires { LeavesRoom call.now.action tally.now.best }
         ensures { (found : Option (List ℕ)) → result ≡ (asked self.now (asking_from call.now tally.now found)).1 }
     {

@@ -22,7 +22,7 @@ pub enum State {
 
 impl Rules {
     /// What an asking comes to.
-    pub fn asked(&self, asking: Asking) -> (State, Taken)
+    pub(crate) fn asked(&self, asking: Asking) -> (State, Taken)
         ensures { result ≡ asked self.now asking }
     {
         let taken = self.outcome(&asking.call, &asking.tally);
@@ -46,7 +46,7 @@ impl Rules {
     }
 
     /// What a putting comes to.
-    pub fn kept(&self, chosen: Chosen, counted: ReplicaSet) -> (State, Taken)
+    pub(crate) fn kept(&self, chosen: Chosen, counted: ReplicaSet) -> (State, Taken)
         ensures { result ≡ kept self.now chosen counted }
     {
         if self.quorums.is_put(&counted) {
@@ -57,7 +57,7 @@ impl Rules {
     }
 
     /// The state after a reply, and what came of it.
-    pub fn heard(&self, state: State, reply: Reply) -> (State, Taken)
+    pub(crate) fn heard(&self, state: State, reply: Reply) -> (State, Taken)
         requires { MayHear self.now state reply }
         ensures { result ≡ heard self.now state reply }
     {
@@ -89,7 +89,7 @@ impl Rules {
     }
 
     /// What would come of a reply.
-    pub fn foreseen(&self, state: &State, reply: &Reply) -> Taken
+    pub(crate) fn foreseen(&self, state: &State, reply: &Reply) -> Taken
         requires { MayHear self.now state.now reply.now }
         ensures { result ≡ (heard self.now state.now reply.now).1 }
     {

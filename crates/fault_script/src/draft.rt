@@ -36,7 +36,7 @@ impl Draft {
     ghost use Rattle.fault_script.specs.Feeds.{IsDraft, Draws};
 
     /// Of no line.
-    pub fn new(alloc: Global) -> Draft
+    pub(crate) fn new(alloc: Global) -> Draft
         ensures { IsDraft [] result }
     {
         Draft {
@@ -67,7 +67,7 @@ impl Draft {
     }
 
     /// Takes the line of that number.
-    pub fn take(&mut self, number: u64, line: &[u8]) -> Result<(), Stop>
+    pub(crate) fn take(&mut self, number: u64, line: &[u8]) -> Result<(), Stop>
         ensures { Draws self.old line.now number result self.new }
     {
         let alloc = *self.commands.allocator();

@@ -22,7 +22,7 @@ impl Feed {
     ghost use Rattle.fault_script.specs.Feeds.{Stands, Fed, Ended, Ends};
 
     /// No byte yet.
-    pub fn new(alloc: Global) -> Feed
+    pub(crate) fn new(alloc: Global) -> Feed
         ensures stands { Stands [] result }
         ensures lines { result.progress.lines ≡ 0 }
         ensures rest { length result.rest.items ≡ 0 }
@@ -37,7 +37,7 @@ impl Feed {
     }
 
     /// The number of the line that is under way.
-    pub fn line(&self) -> u64
+    pub(crate) fn line(&self) -> u64
         requires { self.now.progress.lines < 2 ^ 63 }
         ensures { result ≡ self.now.progress.lines + 1 }
     {
@@ -77,7 +77,7 @@ impl Feed {
     }
 
     /// Takes the next piece.
-    pub fn feed(&mut self, piece: &[u8]) -> Result<(), ScriptError>
+    pub(crate) fn feed(&mut self, piece: &[u8]) -> Result<(), ScriptError>
         requires { self.old.progress.lines + length self.old.rest.items + length piece.now < 2 ^ 63 }
         ensures fed { (bytes : List ℕ) → Stands bytes self.old → Fed (bytes ++ piece.now) result self.new }
         ensures room { OnOk result (self.new.progress.lines + length self.new.rest.items ≤ self.old.progress.lines + length self.old.rest.items + length piece.now) }
@@ -91,7 +91,7 @@ impl Feed {
     }
 
     /// The script, at the end of the bytes.
-    pub fn finish(self) -> Result<Script, ScriptError>
+    pub(crate) fn finish(self) -> Result<Script, ScriptError>
         requires { self.progress.lines < 2 ^ 63 }
         ensures { (bytes : List ℕ) → Stands bytes self → Ends bytes result }
     {

@@ -13,7 +13,7 @@ pub const LONGEST: usize = 65_536;
 
 /// What the line, without its end, shows behind the lines before, of which so many were commands:
 /// nothing where it is blank or a comment.
-pub fn shown_by(
+pub(crate) fn shown_by(
     alloc: Global,
     before: Option<Opened>,
     count: usize,

@@ -79,7 +79,7 @@ fn append_number(notes: &mut Vec<u8>, before: &str, number: u64) -> Result<(), M
 }
 
 /// Says that the step of that line was refused. A refusal for memory isn't said but passed on.
-pub fn note_refused(notes: &mut Vec<u8>, line: u64, why: Refusal) -> Result<(), Memory>
+pub(crate) fn note_refused(notes: &mut Vec<u8>, line: u64, why: Refusal) -> Result<(), Memory>
     ensures said { OnOk result (notes.new.items ≡ notes.old.items ++ refused_note line why) }
     ensures memory { OnOk result (why ≢ Refusal.Memory) }
 {
@@ -95,7 +95,11 @@ pub fn note_refused(notes: &mut Vec<u8>, line: u64, why: Refusal) -> Result<(), 
 
 /// Says that the call that was to be finished at that line wasn't. Want of memory isn't said but
 /// passed on.
-pub fn note_unfinished(notes: &mut Vec<u8>, line: u64, why: SettleError) -> Result<(), Memory>
+pub(crate) fn note_unfinished(
+    notes: &mut Vec<u8>,
+    line: u64,
+    why: SettleError,
+) -> Result<(), Memory>
     ensures said { OnOk result (notes.new.items ≡ notes.old.items ++ unfinished_note line why) }
     ensures memory { OnOk result ((steps : ℕ) → why ≢ SettleError.Memory steps) }
 {
@@ -110,7 +114,12 @@ pub fn note_unfinished(notes: &mut Vec<u8>, line: u64, why: SettleError) -> Resu
 }
 
 /// Says how many of the random steps of that line were taken.
-pub fn note_random(notes: &mut Vec<u8>, line: u64, taken: u32, count: u32) -> Result<(), Memory>
+pub(crate) fn note_random(
+    notes: &mut Vec<u8>,
+    line: u64,
+    taken: u32,
+    count: u32,
+) -> Result<(), Memory>
     ensures { OnOk result (notes.new.items ≡ notes.old.items ++ random_note line taken count) }
 {
     append_number(notes, "line ", line)?;

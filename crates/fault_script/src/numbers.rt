@@ -43,7 +43,7 @@ fn decimal(digits: &[u8]) -> Option<u64>
 
 /// The number that a word is, or `None` for one of 2^64 or more, which is in no range.
 #[tactic(auto, unfolding(crate::specs::Words::number_of))]
-pub fn number_of(word: &[u8]) -> Result<Option<u64>, Stop>
+pub(crate) fn number_of(word: &[u8]) -> Result<Option<u64>, Stop>
     ensures { Gives (λ number. number) result (number_of word.now) }
 {
     if is_numeral(word) {
@@ -55,7 +55,7 @@ pub fn number_of(word: &[u8]) -> Result<Option<u64>, Stop>
 
 /// The next word, which must be a number.
 #[tactic(auto, unfolding(crate::specs::Says::needed_number))]
-pub fn needed_number(text: &[u8]) -> Result<(Option<u64>, &[u8]), Stop>
+pub(crate) fn needed_number(text: &[u8]) -> Result<(Option<u64>, &[u8]), Stop>
     ensures number { Gives (λ found. (found.0, words found.1.now)) result (needed_number (words text.now)) }
     ensures behind { IfOk result (λ found. found.1.now ≡ behind_word text.now) }
     ensures text { IsUtf8 text.now → IfOk result (λ found. IsUtf8 found.1.now) }
@@ -67,7 +67,7 @@ pub fn needed_number(text: &[u8]) -> Result<(Option<u64>, &[u8]), Stop>
 
 /// The next word, which must be a number; where there is none, that number.
 #[tactic(auto, unfolding(crate::specs::Says::number_or))]
-pub fn number_or(default: u64, text: &[u8]) -> Result<(Option<u64>, &[u8]), Stop>
+pub(crate) fn number_or(default: u64, text: &[u8]) -> Result<(Option<u64>, &[u8]), Stop>
     ensures { Gives (λ found. (found.0, words found.1.now)) result (number_or default (words text.now)) }
 {
     if next_word(text).is_none() {
@@ -78,7 +78,7 @@ pub fn number_or(default: u64, text: &[u8]) -> Result<(Option<u64>, &[u8]), Stop
 
 /// The one word of the text, which must be a number.
 #[tactic(auto, unfolding(crate::specs::Says::one_number))]
-pub fn one_number(text: &[u8]) -> Result<Option<u64>, Stop>
+pub(crate) fn one_number(text: &[u8]) -> Result<Option<u64>, Stop>
     ensures { Gives (λ number. number) result (one_number (words text.now)) }
 {
     let (number, behind) = needed_number(text)?;
@@ -88,7 +88,7 @@ pub fn one_number(text: &[u8]) -> Result<Option<u64>, Stop>
 
 /// The number, which must be in that range.
 #[tactic(auto, unfolding(crate::specs::Says::within))]
-pub fn within(least: u64, most: u64, number: Option<u64>) -> Result<u64, Stop>
+pub(crate) fn within(least: u64, most: u64, number: Option<u64>) -> Result<u64, Stop>
     ensures said { Gives (λ number. number) result (within least most number) }
     ensures least { IfOk result (λ number. least ≤ number) }
     ensures most { IfOk result (λ number. number ≤ most) }
@@ -99,7 +99,7 @@ pub fn within(least: u64, most: u64, number: Option<u64>) -> Result<u64, Stop>
     }
 }
 
-pub fn client_of(number: Option<u64>) -> Result<ClientId, Stop>
+pub(crate) fn client_of(number: Option<u64>) -> Result<ClientId, Stop>
     ensures { Gives (λ client. client) result (client_of number) }
 {
     let number = within(1, 65535, number)?;
@@ -109,7 +109,7 @@ pub fn client_of(number: Option<u64>) -> Result<ClientId, Stop>
     }
 }
 
-pub fn replica_of(number: Option<u64>) -> Result<ReplicaId, Stop>
+pub(crate) fn replica_of(number: Option<u64>) -> Result<ReplicaId, Stop>
     ensures { Gives (λ replica. replica) result (replica_of number) }
 {
     let number = within(0, 14, number)?;
@@ -119,14 +119,14 @@ pub fn replica_of(number: Option<u64>) -> Result<ReplicaId, Stop>
     }
 }
 
-pub fn flight_of(number: Option<u64>) -> Result<u32, Stop>
+pub(crate) fn flight_of(number: Option<u64>) -> Result<u32, Stop>
     ensures { Gives (λ flight. flight) result (flight_of number) }
 {
     let number = within(0, 4_294_967_295, number)?;
     Ok(number as u32)
 }
 
-pub fn key_of(alloc: Global, word: &[u8]) -> Result<Key, Stop>
+pub(crate) fn key_of(alloc: Global, word: &[u8]) -> Result<Key, Stop>
     ensures { Gives (λ key. key) result (key_of word.now) }
 {
     let Ok(text) = str::from_utf8(word) else {
@@ -139,7 +139,7 @@ pub fn key_of(alloc: Global, word: &[u8]) -> Result<Key, Stop>
     }
 }
 
-pub fn value_of(alloc: Global, bytes: &[u8]) -> Result<Value, Stop>
+pub(crate) fn value_of(alloc: Global, bytes: &[u8]) -> Result<Value, Stop>
     requires { IsUtf8 bytes.now }
     ensures { Gives (λ value. value) result (value_of bytes.now) }
 {

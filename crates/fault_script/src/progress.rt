@@ -15,7 +15,7 @@ pub struct Progress {
 }
 
 /// The error of that line.
-pub fn error_at(line: u64, stop: Stop) -> ScriptError
+pub(crate) fn error_at(line: u64, stop: Stop) -> ScriptError
     ensures line { result.line ≡ line }
     ensures kind { result.kind ≡ kind_of stop }
 {
@@ -30,7 +30,7 @@ impl Progress {
     ghost use Rattle.fault_script.specs.Feeds.{IsAt, Takes, EndsBy};
 
     /// Takes the next line.
-    pub fn take(&mut self, line: &[u8]) -> Result<(), ScriptError>
+    pub(crate) fn take(&mut self, line: &[u8]) -> Result<(), ScriptError>
         requires { self.old.lines < 2 ^ 63 }
         ensures taken { (before : List (List ℕ)) → IsAt before self.old → Takes before line.now result self.new }
         ensures lines { OnOk result (self.new.lines ≡ self.old.lines + 1) }
@@ -46,7 +46,7 @@ impl Progress {
     }
 
     /// The script that the lines make.
-    pub fn finish(self) -> Result<Script, ScriptError>
+    pub(crate) fn finish(self) -> Result<Script, ScriptError>
         ensures { (lines : List (List ℕ)) → IsAt lines self → EndsBy lines result }
     {
         let Draft {

@@ -153,7 +153,7 @@ fn command_says(
 
 /// What the text of a line says behind the lines before, of which so many were commands: nothing
 /// where it is blank or a comment.
-pub fn text_says(
+pub(crate) fn text_says(
     alloc: Global,
     before: Option<Opened>,
     count: usize,

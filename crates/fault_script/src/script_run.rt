@@ -104,7 +104,7 @@ impl ScriptRun {
     }
 
     /// Runs all commands of the script, from the opening world of its configuration.
-    pub fn of(alloc: Global, script: Script) -> Result<ScriptRun, Memory>
+    pub(crate) fn of(alloc: Global, script: Script) -> Result<ScriptRun, Memory>
         ensures { IfOk result (λ run. IsRunSoFar (opening script.config) script.commands.items run) }
     {
         let Script { config, commands } = script;

@@ -37,7 +37,7 @@ fn config_in(
 
 /// The configuration that stands behind `replicas`.
 #[tactic(auto, unfolding(crate::specs::Settings::replicas_in))]
-pub fn replicas_in(args: &[u8]) -> Result<Config, Stop>
+pub(crate) fn replicas_in(args: &[u8]) -> Result<Config, Stop>
     ensures { Gives (λ config. config) result (replicas_in (words args.now)) }
 {
     let (replicas, behind) = needed_number(args)?;
@@ -62,7 +62,7 @@ fn mode_of(word: &[u8]) -> Result<ReadMode, Stop>
 
 /// The way of reading that stands behind `reads`.
 #[tactic(auto, unfolding(crate::specs::Settings::reads_in))]
-pub fn reads_in(args: &[u8]) -> Result<ReadMode, Stop>
+pub(crate) fn reads_in(args: &[u8]) -> Result<ReadMode, Stop>
     ensures { Gives (λ mode. mode) result (reads_in (words args.now)) }
 {
     let (mode, behind) = needed_word(args)?;
@@ -107,7 +107,7 @@ fn quorums_of(votes: &[u8], ask: u8, put: u8) -> Result<Quorums, Stop>
 
 /// The quorums that stand behind `votes`, for so many replicas.
 #[tactic(auto, unfolding(crate::specs::Settings::votes_in))]
-pub fn votes_in(replicas: u8, args: &[u8]) -> Result<Quorums, Stop>
+pub(crate) fn votes_in(replicas: u8, args: &[u8]) -> Result<Quorums, Stop>
     requires { replicas ≤ 15 }
     ensures said { Gives (λ quorums. quorums) result (votes_in replicas (words args.now)) }
     ensures count { IfOk result (λ quorums. length quorums.votes ≡ replicas) }

@@ -174,7 +174,7 @@ fn step_in(verb: &[u8], args: &[u8]) -> Result<Step, Stop>
 
 /// The command of that first word, and of what stands behind it.
 #[tactic(auto, unfolding(crate::specs::Commands::command_in))]
-pub fn command_in(alloc: Global, verb: &[u8], args: &[u8]) -> Result<Command, Stop>
+pub(crate) fn command_in(alloc: Global, verb: &[u8], args: &[u8]) -> Result<Command, Stop>
     requires { IsUtf8 args.now }
     ensures { Gives (λ command. command) result (command_in verb.now args.now) }
 {

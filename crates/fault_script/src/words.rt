@@ -14,7 +14,7 @@ fn is_space(byte: u8) -> bool
 }
 
 /// The line without a final byte 13.
-pub fn without_return(line: &[u8]) -> &[u8]
+pub(crate) fn without_return(line: &[u8]) -> &[u8]
     ensures { result.now ≡ without_return line.now }
 {
     match line.split_last() {
@@ -24,7 +24,7 @@ pub fn without_return(line: &[u8]) -> &[u8]
 }
 
 /// Whether the word is that text.
-pub fn is(word: &[u8], text: &str) -> bool
+pub(crate) fn is(word: &[u8], text: &str) -> bool
     ensures { result ≡ bytes_eq word.now text.now }
 {
     word == text.as_bytes()
@@ -61,7 +61,7 @@ fn cut_at_space(text: &[u8]) -> (&[u8], &[u8])
 }
 
 /// The first word, and what stands behind the one space or tab that ends it.
-pub fn next_word(text: &[u8]) -> Option<(&[u8], &[u8])>
+pub(crate) fn next_word(text: &[u8]) -> Option<(&[u8], &[u8])>
     ensures words { MatchOption result (words text.now ≡ []) (λ found. words text.now ≡ found.0.now ∷ words found.1.now) }
     ensures behind { IfSome result (λ found. found.1.now ≡ behind_word text.now) }
     ensures text { IsUtf8 text.now → IfSome result (λ found. IsUtf8 found.1.now) }
@@ -74,7 +74,7 @@ pub fn next_word(text: &[u8]) -> Option<(&[u8], &[u8])>
 }
 
 /// The next word, which must be there.
-pub fn needed_word(text: &[u8]) -> Result<(&[u8], &[u8]), Stop>
+pub(crate) fn needed_word(text: &[u8]) -> Result<(&[u8], &[u8]), Stop>
     ensures word { Gives (λ found. (found.0.now, words found.1.now)) result (needed_word (words text.now)) }
     ensures behind { IfOk result (λ found. found.1.now ≡ behind_word text.now) }
     ensures text { IsUtf8 text.now → IfOk result (λ found. IsUtf8 found.1.now) }
@@ -86,7 +86,7 @@ pub fn needed_word(text: &[u8]) -> Result<(&[u8], &[u8]), Stop>
 }
 
 /// No word is left.
-pub fn nothing_more(text: &[u8]) -> Result<(), Stop>
+pub(crate) fn nothing_more(text: &[u8]) -> Result<(), Stop>
     ensures { Gives (λ nothing. tt) result (nothing_more (words text.now)) }
 {
     match next_word(text) {
@@ -97,7 +97,7 @@ pub fn nothing_more(text: &[u8]) -> Result<(), Stop>
 
 /// The next word, which must be that text; what stands behind it is given.
 #[tactic(auto, unfolding(crate::specs::Says::needed_text))]
-pub fn needed_text<'a>(text: &str, line: &'a [u8]) -> Result<&'a [u8], Stop>
+pub(crate) fn needed_text<'a>(text: &str, line: &'a [u8]) -> Result<&'a [u8], Stop>
     ensures { Gives (λ behind. words behind.now) result (needed_text text.now (words line.now)) }
 {
     let (word, behind) = needed_word(line)?;

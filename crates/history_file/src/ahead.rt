@@ -34,7 +34,7 @@ impl<C: Contents> Ahead<C, C::Item> {
     ghost use Rattle.history_file.specs.Ahead.{IsJudged, Records, IsAhead, StandsAhead, GoesAhead, CatchesUp, FaultStays};
 
     /// No byte yet.
-    pub fn new(alloc: Global) -> Ahead<C, C::Item>
+    pub(crate) fn new(alloc: Global) -> Ahead<C, C::Item>
         ensures opening { StandsAhead C.format C.Makes [] result }
         ensures fed { result.fed ≡ 0 }
     {
@@ -76,7 +76,7 @@ impl<C: Contents> Ahead<C, C::Item> {
     }
 
     /// The feed that stands for all bytes so far.
-    pub fn settle(self) -> Result<Feed<C>, FileFault>
+    pub(crate) fn settle(self) -> Result<Feed<C>, FileFault>
         ensures settles { (bytes : List ℕ) → StandsAhead C.format C.Makes bytes self → MatchResult result (λ feed. Stands C.format C.Makes bytes feed) (λ fault. FaultStays C.format bytes fault) }
         ensures fed { IfOk result (λ feed. (feed.fed ≡ self.fed) × (feed.fault ≡ None)) }
     {
@@ -136,7 +136,7 @@ impl<C: Contents> Ahead<C, C::Item> {
 
     /// Judges the next piece while the lines before it are taken. A piece that isn't worth a thread,
     /// or before which no line came, is taken at once.
-    pub fn advance<R: Threads + Sync>(
+    pub(crate) fn advance<R: Threads + Sync>(
         self,
         rt: &R,
         piece: &[u8],

@@ -26,7 +26,7 @@ pub struct Batch {
 
 /// Reads pieces into the room, one behind the other, until it is full or a piece came short. A
 /// reader that gives its bytes slowly isn't waited for.
-pub fn read_batch<R: Read>(reader: &mut Counting<R>, room: &mut [u8]) -> Batch
+pub(crate) fn read_batch<R: Read>(reader: &mut Counting<R>, room: &mut [u8]) -> Batch
     requires { 0 < length room.old }
     ensures bound { result.count ≤ length room.new }
     ensures bytes { Consumes (R.remaining reader.old.inner) (R.remaining reader.new.inner) (take result.count room.new) }

@@ -34,7 +34,7 @@ impl<'a> Document<'a> {
     ghost use Rattle.history_file.specs.Documents.{data_in, Describes, IsRead};
 
     /// The value that the line is; `NotJson` exactly where it is none.
-    pub fn read(
+    pub(crate) fn read(
         alloc: Global,
         line: &'a [u8],
         scratch: &'a mut Scratch,
@@ -52,21 +52,21 @@ impl<'a> Document<'a> {
     }
 
     /// The text that is the member of that name.
-    pub fn text(&self, name: &str) -> Option<&str>
+    pub(crate) fn text(&self, name: &str) -> Option<&str>
         ensures { option_map (λ text. text.now) result ≡ text_at name.now (data_in self.now) }
     {
         self.value.get(name)?.as_str()
     }
 
     /// The number that is the member of that name.
-    pub fn number(&self, name: &str) -> Option<u64>
+    pub(crate) fn number(&self, name: &str) -> Option<u64>
         ensures { result ≡ number_at name.now (data_in self.now) }
     {
         number_in(self.value.get(name)?)
     }
 
     /// The member of that name.
-    pub fn member(&self, name: &str) -> Member<'_>
+    pub(crate) fn member(&self, name: &str) -> Member<'_>
         ensures { Describes (get name.now (data_in self.now)) result }
     {
         let Some(value) = self.value.get(name) else {
@@ -82,14 +82,14 @@ impl<'a> Document<'a> {
     }
 
     /// The text that is the member of that name; without one the line has the fault `Member`.
-    pub fn needed_text(&self, name: &str) -> Result<&str, Stop>
+    pub(crate) fn needed_text(&self, name: &str) -> Result<&str, Stop>
         ensures { Gives (λ text. text.now) result (needed (text_at name.now (data_in self.now))) }
     {
         self.text(name).ok_or(Stop::Fault(LineFault::Member))
     }
 
     /// The number that is the member of that name; without one the line has the fault `Member`.
-    pub fn needed_number(&self, name: &str) -> Result<u64, Stop>
+    pub(crate) fn needed_number(&self, name: &str) -> Result<u64, Stop>
         ensures { Gives (λ number. number) result (needed (number_at name.now (data_in self.now))) }
     {
         self.number(name).ok_or(Stop::Fault(LineFault::Member))
@@ -97,7 +97,7 @@ impl<'a> Document<'a> {
 
     /// The numbers that are the items of the member of that name; without an array of numbers the
     /// line has the fault `Member`.
-    pub fn needed_numbers(&self, alloc: Global, name: &str) -> Result<Vec<u64>, Stop>
+    pub(crate) fn needed_numbers(&self, alloc: Global, name: &str) -> Result<Vec<u64>, Stop>
         ensures { Gives (λ numbers. numbers.items) result (needed (numbers_at name.now (data_in self.now))) }
     {
         let Some(value) = self.value.get(name) else {

@@ -23,7 +23,7 @@ impl<C: Contents> Feed<C> {
     ghost use Rattle.history_file.specs.Feeds.{Stands, Fed, Ends};
 
     /// No byte yet.
-    pub fn new(alloc: Global) -> Feed<C>
+    pub(crate) fn new(alloc: Global) -> Feed<C>
         ensures { Stands C.format C.Makes [] result }
     {
         Feed {
@@ -38,14 +38,14 @@ impl<C: Contents> Feed<C> {
     }
 
     /// The number of the line that is under way.
-    pub fn line(&self) -> u64
+    pub(crate) fn line(&self) -> u64
         ensures { self.now.fault ≡ None → result ≡ self.now.progress.lines + 1 }
     {
         self.progress.lines.saturating_add(1)
     }
 
     /// Takes the next piece.
-    pub fn feed(&mut self, rt: &(impl Threads + Sync), piece: &[u8]) -> Result<(), FileFault>
+    pub(crate) fn feed(&mut self, rt: &(impl Threads + Sync), piece: &[u8]) -> Result<(), FileFault>
         requires { self.old.fed + length piece.now ≤ 2 ^ 62 }
         ensures fed { (bytes : List ℕ) → Stands C.format C.Makes bytes self.old → Fed C.format C.Makes (bytes ++ piece.now) result self.new }
         ensures count { IfOk result (λ _. self.new.fed ≡ self.old.fed + length piece.now) }
@@ -69,7 +69,7 @@ impl<C: Contents> Feed<C> {
     }
 
     /// Ends the file.
-    pub fn finish(self, rt: &(impl Threads + Sync)) -> Result<C, FileFault>
+    pub(crate) fn finish(self, rt: &(impl Threads + Sync)) -> Result<C, FileFault>
         ensures ends { (bytes : List ℕ) → Stands C.format C.Makes bytes self → Ends C.format C.Makes bytes result }
         ensures kept { (fault : _) → self.fault ≡ Some fault → result ≡ Err fault }
     {

@@ -73,7 +73,7 @@ fn follow_row(history: &mut History, row: Row) -> Result<(), Stop>
 }
 
 /// Adds the row at the end, or says which fault it has there.
-pub fn follow(history: &mut History, row: Row) -> Result<(), Stop>
+pub(crate) fn follow(history: &mut History, row: Row) -> Result<(), Stop>
     ensures follows { history.old.limit ≡ 1000000 → FollowsRow history.old row result history.new }
     ensures formed { IsWellFormed history.new.rows }
     ensures few { call_count history.new.rows ≤ history.new.limit }

@@ -10,7 +10,7 @@ use crate::fault::Stop;
 
 /// Whether the value is the header of a file of that name, and of version 1.
 #[tactic(auto, unfolding(crate::specs::Headers::header_in, crate::specs::Headers::header_of))]
-pub fn header_in(name: &str, document: &Document<'_>) -> Result<(), Stop>
+pub(crate) fn header_in(name: &str, document: &Document<'_>) -> Result<(), Stop>
     ensures { Gives (λ nothing. tt) result (header_in name.now (data_in document.now)) }
 {
     let Some(abd) = document.text("abd") else {

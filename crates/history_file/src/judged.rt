@@ -20,7 +20,7 @@ pub struct Judged<T> {
 /// Judges the whole lines of the rest and the piece behind it.
 ///
 /// The piece's first line is put behind the rest; the others are judged where they lie.
-pub fn judge_piece<C: Contents, R: Threads + Sync>(
+pub(crate) fn judge_piece<C: Contents, R: Threads + Sync>(
     rt: &R,
     alloc: Global,
     rest: &[u8],

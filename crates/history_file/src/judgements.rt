@@ -30,7 +30,7 @@ impl<T: Drop> Judgements<T> {
     ghost use Rattle.std.specs.List.{flat_map};
 
     /// Nothing is shown yet.
-    pub fn new(alloc: Global) -> Judgements<T>
+    pub(crate) fn new(alloc: Global) -> Judgements<T>
         ensures { result ≡ [] }
     {
         Judgements {
@@ -40,7 +40,7 @@ impl<T: Drop> Judgements<T> {
     }
 
     /// The runs, and the last of them.
-    pub fn into_runs(self) -> (Vec<Vec<Judgement<T>>>, Vec<Judgement<T>>)
+    pub(crate) fn into_runs(self) -> (Vec<Vec<Judgement<T>>>, Vec<Judgement<T>>)
         ensures { self ≡ flat_map (λ run. run.items) result.0.items ++ result.1.items }
     {
         let Judgements { runs, last } = self;

@@ -34,7 +34,7 @@ fn item_on<T: LineItem>(alloc: Global, scratch: &mut Scratch, line: &[u8]) -> Re
 }
 
 /// What the line, without its end, shows behind the header.
-pub fn judge<T: LineItem>(
+pub(crate) fn judge<T: LineItem>(
     alloc: Global,
     scratch: &mut Scratch,
     line: &[u8],
@@ -49,7 +49,7 @@ pub fn judge<T: LineItem>(
 }
 
 /// Whether the line, without its end, is the header of a file of that name.
-pub fn judge_header(alloc: Global, name: &str, line: &[u8]) -> Result<(), Stop>
+pub(crate) fn judge_header(alloc: Global, name: &str, line: &[u8]) -> Result<(), Stop>
     ensures { ShowsBy (header_in name.now) line.now result }
 {
     if line.len() > LONGEST {

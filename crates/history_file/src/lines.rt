@@ -24,7 +24,7 @@ pub fn first_end(bytes: &[u8]) -> Option<usize>
 }
 
 /// Cuts the bytes into lines.
-pub fn cut_lines(alloc: Global, bytes: &[u8]) -> Result<Cut<'_>, Memory>
+pub(crate) fn cut_lines(alloc: Global, bytes: &[u8]) -> Result<Cut<'_>, Memory>
     ensures { IfOk result (λ found. Splits bytes.now (map (λ line. line.now) found.lines.items) found.rest.now) }
 {
     let mut lines = Vec::new(alloc);

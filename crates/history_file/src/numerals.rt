@@ -37,7 +37,7 @@ fn is_negative(numeral: &Numeral<'_>) -> bool
 
 /// Whether the number that a token writes is in the range of numbers that are read.
 #[tactic(auto, unfolding(serde_json::specs::Read::number_of))]
-pub fn is_number(text: &str) -> bool
+pub(crate) fn is_number(text: &str) -> bool
     ensures { result ≡ is_some (number_of text.now) }
 {
     let bytes = text.as_bytes();
@@ -56,7 +56,7 @@ fn unsigned_of(numeral: &Numeral<'_>) -> Option<u64>
 
 /// The number that a token writes, where it is one of 64 bits and without a sign.
 #[tactic(auto, unfolding(serde_json::specs::Read::number_of))]
-pub fn unsigned_in(text: &str) -> Option<u64>
+pub(crate) fn unsigned_in(text: &str) -> Option<u64>
     ensures { result ≡ option_and_then as_u64 (number_of text.now) }
 {
     let bytes = text.as_bytes();

@@ -67,7 +67,7 @@ impl OrderFeed {
 }
 
 /// The orders of a feed, at the end of the file.
-pub fn finish_orders(
+pub(crate) fn finish_orders(
     rt: &(impl Threads + Sync),
     feed: Feed<Orders>,
 ) -> Result<Vec<KeyOrder>, FileFault>

@@ -35,7 +35,7 @@ fn calls_of(alloc: Global, numbers: &[u64]) -> Result<Order, Stop>
 
 /// The key and the piece of its order that the value says.
 #[tactic(auto, unfolding(crate::specs::OrderLines::piece_in))]
-pub fn piece_in(alloc: Global, document: &Document<'_>) -> Result<KeyOrder, Stop>
+pub(crate) fn piece_in(alloc: Global, document: &Document<'_>) -> Result<KeyOrder, Stop>
     ensures { Gives (λ piece. piece) result (piece_in (data_in document.now)) }
 {
     let text = document.needed_text("key")?;

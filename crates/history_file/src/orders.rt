@@ -18,7 +18,7 @@ fn append(order: &mut Order, calls: &[OpId]) -> Result<(), Memory>
 }
 
 /// Joins the piece to the order of its key, which it begins where the key has none.
-pub fn join(orders: &mut IndexMap<Key, Order>, piece: KeyOrder) -> Result<(), Memory>
+pub(crate) fn join(orders: &mut IndexMap<Key, Order>, piece: KeyOrder) -> Result<(), Memory>
     ensures { OnOk result (Joins orders.old.entries piece orders.new.entries) }
 {
     let KeyOrder { key, order } = piece;
@@ -35,7 +35,7 @@ pub fn join(orders: &mut IndexMap<Key, Order>, piece: KeyOrder) -> Result<(), Me
 }
 
 /// The orders as a list.
-pub fn listed(alloc: Global, orders: IndexMap<Key, Order>) -> Result<Vec<KeyOrder>, Memory>
+pub(crate) fn listed(alloc: Global, orders: IndexMap<Key, Order>) -> Result<Vec<KeyOrder>, Memory>
     ensures { IfOk result (λ listed. listed.items ≡ map order_of orders.entries) }
 {
     let mut listed = Vec::with_capacity(alloc, orders.len())?;

@@ -71,7 +71,7 @@ fn lengthen(lines: u64, rest: &mut Vec<u8>, bytes: &[u8]) -> Result<(), FileFaul
 /// Takes the whole lines of the rest and the piece behind it; the rest is then what is left.
 ///
 /// The piece's first line is put behind the rest; the others are taken where they lie.
-pub fn take_piece<C: Contents>(
+pub(crate) fn take_piece<C: Contents>(
     rt: &(impl Threads + Sync),
     progress: &mut Progress<C>,
     rest: &mut Vec<u8>,

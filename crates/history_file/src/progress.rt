@@ -80,7 +80,7 @@ impl<C: Contents> Progress<C> {
     }
 
     /// Takes what later lines show.
-    pub fn record(&mut self, judgements: Judgements<C::Item>) -> Result<(), FileFault>
+    pub(crate) fn record(&mut self, judgements: Judgements<C::Item>) -> Result<(), FileFault>
         requires { self.old.lines + length judgements < 2 ^ 63 }
         ensures taken { (lines : List (List ℕ)) → AllZip (ShowsItem C.format.meaning) lines judgements → (before : List (List ℕ)) → IsAt C.format C.Makes before self.old → 0 < length before → Takes C.format C.Makes before lines result self.new }
         ensures lines { OnOk result (self.new.lines ≡ self.old.lines + length judgements) }
@@ -93,7 +93,10 @@ impl<C: Contents> Progress<C> {
     }
 
     /// The same of a progress that is handed over.
-    pub fn recorded(mut self, judgements: Judgements<C::Item>) -> Result<Progress<C>, FileFault>
+    pub(crate) fn recorded(
+        mut self,
+        judgements: Judgements<C::Item>,
+    ) -> Result<Progress<C>, FileFault>
         requires { self.lines + length judgements < 2 ^ 63 }
         ensures taken { Records C.format C.Makes self judgements result }
         ensures lines { IfOk result (λ new. new.lines ≡ self.lines + length judgements) }
@@ -120,7 +123,7 @@ impl<C: Contents> Progress<C> {
     }
 
     /// Takes lines.
-    pub fn take(
+    pub(crate) fn take(
         &mut self,
         rt: &(impl Threads + Sync),
         alloc: Global,

@@ -7,7 +7,7 @@ use crate::fault::Stop;
 use std::alloc::Global;
 use tag::{ClientId, Key, NameError, OpId, Tag, Value};
 
-pub fn op_of(call: u64) -> Result<OpId, Stop>
+pub(crate) fn op_of(call: u64) -> Result<OpId, Stop>
     ensures { Gives (λ op. op) result (op_of call) }
 {
     if call < 4_294_967_296 {
@@ -17,7 +17,7 @@ pub fn op_of(call: u64) -> Result<OpId, Stop>
     }
 }
 
-pub fn client_of(client: u64) -> Result<ClientId, Stop>
+pub(crate) fn client_of(client: u64) -> Result<ClientId, Stop>
     ensures { Gives (λ client. client) result (client_of client) }
 {
     if client > 65535 {
@@ -29,7 +29,7 @@ pub fn client_of(client: u64) -> Result<ClientId, Stop>
     }
 }
 
-pub fn key_of(alloc: Global, text: &str) -> Result<Key, Stop>
+pub(crate) fn key_of(alloc: Global, text: &str) -> Result<Key, Stop>
     ensures { Gives (λ key. key) result (key_of text.now) }
 {
     match Key::new(alloc, text) {
@@ -39,7 +39,7 @@ pub fn key_of(alloc: Global, text: &str) -> Result<Key, Stop>
     }
 }
 
-pub fn value_of(alloc: Global, text: &str) -> Result<Value, Stop>
+pub(crate) fn value_of(alloc: Global, text: &str) -> Result<Value, Stop>
     ensures { Gives (λ value. value) result (value_of text.now) }
 {
     match Value::new(alloc, text) {
@@ -49,7 +49,7 @@ pub fn value_of(alloc: Global, text: &str) -> Result<Value, Stop>
     }
 }
 
-pub fn tag_of(number: u64, writer: u64) -> Result<Tag, Stop>
+pub(crate) fn tag_of(number: u64, writer: u64) -> Result<Tag, Stop>
     ensures { Gives (λ tag. tag) result (tag_of number writer) }
 {
     if number > 1_000_000 || writer > 65535 {

@@ -121,7 +121,7 @@ fn row_of(alloc: Global, kind: &str, document: &Document<'_>) -> Result<Row, Sto
 
 /// The row that the value says.
 #[tactic(auto, unfolding(crate::specs::Rows::row_in))]
-pub fn row_in(alloc: Global, document: &Document<'_>) -> Result<Row, Stop>
+pub(crate) fn row_in(alloc: Global, document: &Document<'_>) -> Result<Row, Stop>
     ensures { Gives (λ row. row) result (row_in (data_in document.now)) }
 {
     let kind = document.needed_text("row")?;

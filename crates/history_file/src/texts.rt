@@ -78,7 +78,7 @@ fn append_quoted(out: &mut Vec<u8>, before: &[u8], text: &str) -> Result<(), Mem
 }
 
 /// Adds the header of a file of that name.
-pub fn append_header(out: &mut Vec<u8>, name: &str) -> Result<(), Memory>
+pub(crate) fn append_header(out: &mut Vec<u8>, name: &str) -> Result<(), Memory>
     ensures { OnOk result (out.new.items ≡ out.old.items ++ line_text (header_data name.now)) }
 {
     append_quoted(out, b"{\"abd\":", name)?;
@@ -146,7 +146,7 @@ fn append_respond(out: &mut Vec<u8>, op: OpId, returned: &Returned) -> Result<()
 }
 
 /// Adds the row's line.
-pub fn append_row(out: &mut Vec<u8>, row: &Row) -> Result<(), Memory>
+pub(crate) fn append_row(out: &mut Vec<u8>, row: &Row) -> Result<(), Memory>
     ensures text { OnOk result (out.new.items ≡ out.old.items ++ row_text row.now) }
     ensures range { OnOk result (IsInRange row.now) }
 {
@@ -178,7 +178,7 @@ fn append_calls(out: &mut Vec<u8>, calls: &[OpId]) -> Result<(), Memory>
 }
 
 /// Adds the line of a piece of the key's order.
-pub fn append_piece(out: &mut Vec<u8>, key: &Key, calls: &[OpId]) -> Result<(), Memory>
+pub(crate) fn append_piece(out: &mut Vec<u8>, key: &Key, calls: &[OpId]) -> Result<(), Memory>
     ensures text { OnOk result (out.new.items ≡ out.old.items ++ piece_text (record { key = key.now; order = calls.now })) }
     ensures range { OnOk result (IsOrderInRange (record { key = key.now; order = calls.now })) }
 {

@@ -13,7 +13,11 @@ use std::alloc::Global;
 const DEEPEST: usize = 127;
 
 /// The tree that the text is; `NotJson` exactly where it is none.
-pub fn tree_in<'a>(alloc: Global, text: &'a str, scratch: &'a mut Scratch) -> Result<Json<'a>, Stop>
+pub(crate) fn tree_in<'a>(
+    alloc: Global,
+    text: &'a str,
+    scratch: &'a mut Scratch,
+) -> Result<Json<'a>, Stop>
     ensures { IsTree text.now result }
 {
     let Ok(mut reader) = Reader::new(text, scratch) else {
@@ -33,7 +37,7 @@ pub fn tree_in<'a>(alloc: Global, text: &'a str, scratch: &'a mut Scratch) -> Re
 
 /// Whether each number in it is in the range of numbers that are read.
 #[cycle(numbers)]
-pub fn has_numbers(value: &Json<'_>) -> bool
+pub(crate) fn has_numbers(value: &Json<'_>) -> bool
     ensures { result ≡ has_numbers (value_view value.now) }
 {
     match value {

@@ -15,7 +15,7 @@ pub struct SortKey {
 }
 
 /// What a call is sorted by. `None` comes where it isn't settled or has no note.
-pub fn sort_key(call: &Call) -> Option<SortKey>
+pub(crate) fn sort_key(call: &Call) -> Option<SortKey>
     ensures { result ≡ key_of call.now }
 {
     let is_read = matches!(call.action, Action::Read);
