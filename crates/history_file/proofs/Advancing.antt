@@ -1,6 +1,7 @@
 -- Lines that are judged ahead of where they are taken.
-use Rattle.std.proofs.Common.{ℕ, ◌≡◌, ◌≢◌, ◌<◌, ◌≤◌, ◌+◌, List, [], ◌∷◌, ◌++◌, length, nat_lt, Ok, Err, None, refl, sym, ap, ◌∙◌, append-nil, length-append, arith, subst}
-use Rattle.std.specs.List.{AllZip}
+use Rattle.std.proofs.Common.{ℕ, ◌≡◌, ◌≢◌, ◌<◌, ◌≤◌, ◌+◌, List, [], ◌∷◌, ◌++◌, length, nat_lt, Ok, Err, None, refl, sym, ap, ◌∙◌, append_assoc, append-nil, length-append, arith, subst}
+use Rattle.std.specs.List.{AllZip, flat_map}
+use Rattle.std.proofs.lemmas.Slice.Zip.{AllZip-long}
 use Rattle.std.proofs.lemmas.List.Elements.{All-nil}
 use Rattle.std.proofs.lemmas.Bool.{lt-ltb}
 use Rattle.history_file.specs.declared.fault.LineFault.TheVariants.{TooLong}
@@ -12,14 +13,15 @@ use Rattle.history_file.specs.declared.judging.Judgement.{Judgement}
 use Rattle.history_file.specs.declared.feed.Feed.{Feed}
 use Rattle.history_file.specs.declared.ahead.Ahead.{Ahead}
 use Rattle.history_file.specs.declared.judged.Judged.{Judged}
-use Rattle.history_file.specs.Cuts.{Splits, HasNoEnd}
-use Rattle.history_file.specs.Lines.{ShowsItem}
+use Rattle.history_file.specs.Cuts.{ended, Splits, Divides, HasNoEnd}
+use Rattle.history_file.specs.Lines.{ShowsItem, ShowParts}
 use Rattle.history_file.specs.Formats.{Format}
 use Rattle.history_file.specs.Files.{IsFirstOfKind, IsAt}
 use Rattle.history_file.specs.Feeds.{Stands, FaultSoFar, FirstFaultSoFar}
 use Rattle.history_file.specs.Ahead.{IsJudged, Records, IsAhead, StandsAhead, FaultStays}
 use Rattle.history_file.proofs.Taking.{IsFirstFault-more}
-use Rattle.history_file.proofs.Feeding.{Splits-join, Splits-none, Splits-line, cut_of, with_more, long_first}
+use Rattle.history_file.proofs.Parting.{Splits-rest}
+use Rattle.history_file.proofs.Feeding.{Splits-join, Splits-none, Splits-room, cut_of, with_more, long_first}
 
 module _ {Item Contents : Type 0} (format : Format Item) (Makes : List Item → Contents → Type 0) where
   -- a fault among the whole lines
@@ -158,6 +160,16 @@ module _ {Item Contents : Type 0} (format : Format Item) (Makes : List Item → 
       let A : List (Judgement Item) → Type 0 = λ js. AllZip (ShowsItem format.meaning) [] js in
       record { lines = []; splits = subst Q (sym r) (Splits-none bytes h); shown = subst A (sym none) tt }
 
-  -- the first line is behind the rest, the others are those of the tail
-  pub judged_lines : (rest front tail : List ℕ) (lines : List (List ℕ)) (judged : Judged Item) → HasNoEnd rest → HasNoEnd front → Splits tail lines judged.rest.items → AllZip (ShowsItem format.meaning) ((rest ++ front) ∷ lines) judged.judgements → IsJudged format (rest ++ (front ++ 10 ∷ tail)) judged
-  judged_lines rest front tail lines judged r f s shown = record { lines = (rest ++ front) ∷ lines; splits = Splits-line rest front tail lines judged.rest.items r f s; shown = shown }
+  -- the first line is behind the rest, the others are those of the tail's parts
+  pub judged_parts : (rest front tail : List ℕ) (parts : List (List ℕ)) (judged : Judged Item) → Divides tail parts judged.rest.items → ShowParts format.meaning ((rest ++ front) ∷ parts) judged.judgements → IsJudged format (rest ++ (front ++ 10 ∷ tail)) judged
+  judged_parts rest front tail parts judged d h =
+      let left = judged.rest.items in
+      let line = rest ++ front in
+      let whole : flat_map ended (line ∷ parts) ++ left ≡ rest ++ (front ++ 10 ∷ tail) =
+      append_assoc (ended line) (flat_map ended parts) left ∙ ap (λ (xs : List ℕ). ended line ++ xs) (sym d.whole) ∙ append_assoc line (10 ∷ []) tail ∙ append_assoc rest front (10 ∷ tail) in
+      let P : List ℕ → Type 0 = λ xs. Splits xs h.lines left in
+      record { lines = h.lines; splits = subst P whole (Splits-rest (flat_map ended (line ∷ parts)) left h.lines h.cut d.partial); shown = h.shown }
+
+  -- each line and its end is a byte at least
+  pub judged_room : (bytes : List ℕ) (judged : Judged Item) → IsJudged format bytes judged → length judged.judgements + length judged.rest.items ≤ length bytes
+  judged_room bytes judged j = omega (arith, AllZip-long (ShowsItem format.meaning) j.lines judged.judgements j.shown, Splits-room bytes j.lines judged.rest.items j.splits)

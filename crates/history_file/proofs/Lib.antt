@@ -14,6 +14,7 @@ pub mod OrderPieces
 pub mod Showing
 pub mod Taking
 pub mod Feeding
+pub mod Parting
 pub mod Advancing
 pub mod Consuming
 pub mod Filling

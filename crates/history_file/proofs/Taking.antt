@@ -122,10 +122,6 @@ module _ {Item Contents : Type 0} (format : Format Item) (Makes : List Item → 
   Goes-stop lines old mid new j js fault goes takes before at some =
       let h = goes.each before at some in half_stop before lines h.done h.rest mid new j js fault some h.whole h.at h.shown takes
 
-  pub Takes-same : (a b c d : List (List ℕ)) (r : Result (Unit {0}) FileFault) (new : Progress Contents) → a ++ b ≡ c ++ d → Takes format Makes a b r new → Takes format Makes c d r new
-  Takes-same a b c d (Ok done) new e h = let P : List (List ℕ) → Type 0 = λ ls. IsAt format Makes ls new in subst P e h
-  Takes-same a b c d (Err fault) new e h = let P : List (List ℕ) → Type 0 = λ ls. IsFirstOfKind format ls fault.line fault.kind in subst P e h
-
   -- what becomes of the lines that show that, behind others
   abbrev pub TakesRun : List (Judgement Item) → Progress Contents → Result (Unit {0}) FileFault → Progress Contents → Type 0
   TakesRun js old result new = (lines : List (List ℕ)) → AllZip (ShowsItem format.meaning) lines js → (before : List (List ℕ)) → IsAt format Makes before old → 0 < length before → Takes format Makes before lines result new
@@ -156,40 +152,9 @@ module _ {Item Contents : Type 0} (format : Format Item) (Makes : List Item → 
       append_assoc (before ++ h.done) p.front p.back ∙ append_assoc before h.done (p.front ++ p.back) ∙ ap (λ (ls : List (List ℕ)). before ++ (h.done ++ ls)) (sym p.whole) ∙ ap (λ (ls : List (List ℕ)). before ++ ls) (sym h.whole) in
       subst P same (IsFirstFault-more ((before ++ h.done) ++ p.front) p.back fault.line fault.kind one)
 
-  -- the last run
-  pub Goes-run_end : (lines : List (List ℕ)) (old mid new : Progress Contents) (js : List (Judgement Item)) (r : Result (Unit {0}) FileFault) → Goes lines old mid js → TakesRun js mid r new → (before : List (List ℕ)) → IsAt format Makes before old → 0 < length before → Takes format Makes before lines r new
-  Goes-run_end lines old mid new js r goes takes before at some =
-      let h = goes.each before at some in
-      Takes-same (before ++ h.done) h.rest before lines r new (append_assoc before h.done h.rest ∙ ap (λ (ls : List (List ℕ)). before ++ ls) (sym h.whole)) (takes h.rest h.shown (before ++ h.done) h.at (some_more before h.done some))
-
   half_end : (before lines done rest : List (List ℕ)) (new : Progress Contents) → lines ≡ done ++ rest → IsAt format Makes (before ++ done) new → AllZip (ShowsItem format.meaning) rest [] → IsAt format Makes (before ++ lines) new
   half_end before lines done [] new whole at shown = let P : List (List ℕ) → Type 0 = λ ls. IsAt format Makes (before ++ ls) new in subst P (sym (append-nil done) ∙ sym whole) at
   half_end before lines done (line ∷ rest) new whole at shown = absurd shown
 
   pub Goes-end : (lines : List (List ℕ)) (old new : Progress Contents) → Goes lines old new [] → (before : List (List ℕ)) → IsAt format Makes before old → 0 < length before → IsAt format Makes (before ++ lines) new
   Goes-end lines old new goes before at some = let h = goes.each before at some in half_end before lines h.done h.rest new h.whole h.at h.shown
-
-  none_before : (before : List (List ℕ)) → length before ≡ 0 → before ≡ []
-  none_before [] e = refl
-  none_before (line ∷ before) e = absurd (omega arith)
-
-  -- nothing is before, where no line was counted
-  pub nothing_before : (before : List (List ℕ)) (progress : Progress Contents) → IsAt format Makes before progress → progress.lines ≡ 0 → before ≡ []
-  nothing_before before progress at none = none_before before (sym at.counted ∙ none)
-
-  -- the first line's fault is the first of all
-  pub Takes-header_fault : (before lines rest : List (List ℕ)) (header : List ℕ) (fault : FileFault) (progress new : Progress Contents) → IsAt format Makes before progress → progress.lines ≡ 0 → lines ≡ header ∷ rest → (IsAt format Makes [] progress → Takes format Makes [] (header ∷ []) (Err fault) new) → Takes format Makes before lines (Err fault) new
-  Takes-header_fault before lines rest header fault progress new at none whole takes =
-      let nothing = nothing_before before progress at none in
-      let A : List (List ℕ) → Type 0 = λ ls. IsAt format Makes ls progress in
-      let P : List (List ℕ) → Type 0 = λ ls. IsFirstOfKind format ls fault.line fault.kind in
-      let same : header ∷ rest ≡ before ++ lines = sym whole ∙ ap (λ (ls : List (List ℕ)). ls ++ lines) (sym nothing) in
-      subst P same (IsFirstFault-more (header ∷ []) rest fault.line fault.kind (takes (subst A nothing at)))
-
-  -- the first line, and then the others
-  pub Takes-header_then : (before lines rest : List (List ℕ)) (header : List ℕ) (r : Result (Unit {0}) FileFault) (progress mid new : Progress Contents) → IsAt format Makes before progress → progress.lines ≡ 0 → lines ≡ header ∷ rest → (IsAt format Makes [] progress → IsAt format Makes (header ∷ []) mid) → ((front : List (List ℕ)) → IsAt format Makes front mid → 0 < length front → Takes format Makes front rest r new) → Takes format Makes before lines r new
-  Takes-header_then before lines rest header r progress mid new at none whole first later =
-      let nothing = nothing_before before progress at none in
-      let A : List (List ℕ) → Type 0 = λ ls. IsAt format Makes ls progress in
-      let same : (header ∷ []) ++ rest ≡ before ++ lines = sym whole ∙ ap (λ (ls : List (List ℕ)). ls ++ lines) (sym nothing) in
-      Takes-same (header ∷ []) rest before lines r new same (later (header ∷ []) (first (subst A nothing at)) (omega arith))

@@ -1,5 +1,5 @@
 -- Two lists, item for item.
-use Rattle.std.proofs.Common.{ℕ, ◌≡◌, ◌<◌, ◌+◌, List, [], ◌∷◌, ◌++◌, length, get_or, take, map, refl, ap, sym, subst}
+use Rattle.std.proofs.Common.{ℕ, ◌≡◌, ◌<◌, ◌+◌, List, [], ◌∷◌, ◌++◌, length, get_or, take, refl, ap, sym, subst}
 use Rattle.std.specs.List.{AllZip}
 use Rattle.std.proofs.lemmas.List.{take_more}
 
@@ -14,13 +14,6 @@ pub AllZip-take_more : {A B : Type 0} (R : A → B → Type 0) (xs : List A) (ys
 AllZip-take_more {A = A} {B = B} R xs ys i d y lt h r =
     let P : List A → Type 0 = λ front. AllZip R front (ys ++ y ∷ []) in
     subst P (sym (take_more xs i d lt)) (AllZip-push_both R (take i xs) ys (get_or xs i d) y h r)
-
--- over a view of the first list's items
-pub AllZip-seen : {A B C : Type 0} (R : C → B → Type 0) (v : A → C) (xs : List A) (ys : List B) → AllZip (λ x y. R (v x) y) xs ys → AllZip R (map v xs) ys
-AllZip-seen R v [] [] h = tt
-AllZip-seen R v [] (b ∷ ys) h = absurd h
-AllZip-seen R v (a ∷ xs) [] h = absurd h
-AllZip-seen R v (a ∷ xs) (b ∷ ys) h = (h.0, AllZip-seen R v xs ys h.1)
 
 -- the first list, in two parts that go with those of the second
 pub record Parted {A B : Type 0} (R : A → B → Type 0) (xs : List A) (ys zs : List B) : Type 0 where
@@ -42,3 +35,10 @@ parted {A} R (x ∷ xs) (y ∷ ys) zs h =
       first = (h.0, p.first);
       second = p.second;
     }
+
+-- lists behind lists
+pub AllZip-append : {A B : Type 0} (R : A → B → Type 0) (xs : List A) (ys : List B) (us : List A) (vs : List B) → AllZip R xs ys → AllZip R us vs → AllZip R (xs ++ us) (ys ++ vs)
+AllZip-append R [] [] us vs h k = k
+AllZip-append R [] (y ∷ ys) us vs h k = absurd h
+AllZip-append R (x ∷ xs) [] us vs h k = absurd h
+AllZip-append R (x ∷ xs) (y ∷ ys) us vs h k = (h.0, AllZip-append R xs ys us vs h.1 k)

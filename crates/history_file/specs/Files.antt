@@ -9,6 +9,7 @@ use Rattle.history_file.specs.declared.fault.FaultKind.{FaultKind}
 use Rattle.history_file.specs.declared.fault.FaultKind.TheVariants as kind
 use Rattle.history_file.specs.declared.judging.Judgement.{Judgement}
 use Rattle.history_file.specs.declared.progress.Progress.{Progress}
+use Rattle.history_file.specs.Cuts.{AreLinesIn}
 use Rattle.history_file.specs.Headers.{header_in}
 use Rattle.history_file.specs.Lines.{Shows, ShowsItem}
 use Rattle.history_file.specs.Formats.{Format}
@@ -72,3 +73,7 @@ Takes format Makes before lines (Err fault) new = IsFirstOfKind format (before +
 -- the same of one line behind the header, by what it shows
 abbrev pub TakesJudged : {Item Contents : Type 0} → Format Item → (List Item → Contents → Type 0) → Progress Contents → Judgement Item → Result (Unit {0}) FileFault → Progress Contents → Type 0
 TakesJudged format Makes old judgement result new = (before : List (List ℕ)) (line : List ℕ) → IsAt format Makes before old → 0 < length before → ShowsItem format.meaning line judgement → Takes format Makes before (line ∷ []) result new
+
+-- the same of the lines of parts behind the header
+abbrev pub TakesParts : {Item Contents : Type 0} → Format Item → (List Item → Contents → Type 0) → Progress Contents → List (List ℕ) → Result (Unit {0}) FileFault → Progress Contents → Type 0
+TakesParts format Makes old parts result new = (lines : List (List ℕ)) → AreLinesIn parts lines → (before : List (List ℕ)) → IsAt format Makes before old → 0 < length before → Takes format Makes before lines result new

@@ -1,5 +1,6 @@
 -- What a line shows by itself.
 use Rattle.std.specs.Prelude.{ℕ, ◌≡◌, ◌≤◌, ◌<◌, List, length, Result, Ok, Err}
+use Rattle.std.specs.List.{AllZip}
 use Rattle.serde_json.specs.Data.{Data}
 use Rattle.history_file.specs.declared.fault.LineFault.{LineFault}
 use Rattle.history_file.specs.declared.fault.LineFault.TheVariants.{NotJson, TooLong}
@@ -7,6 +8,7 @@ use Rattle.history_file.specs.declared.fault.Stop.{Stop}
 use Rattle.history_file.specs.declared.fault.Stop.TheVariants as stop
 use Rattle.history_file.specs.declared.judging.Judgement.{Judgement}
 use Rattle.history_file.specs.declared.judging.Judgement.TheVariants as judgement
+use Rattle.history_file.specs.Cuts.{AreLinesIn}
 use Rattle.history_file.specs.Documents.{IsJson}
 
 -- a line of allowed length whose JSON value says that
@@ -32,3 +34,9 @@ ShowsBy meaning line (Err stop.Memory) = Unit {0}
 abbrev pub ShowsItem : {Item : Type 0} → (Data → Result Item LineFault) → List ℕ → Judgement Item → Type 0
 ShowsItem meaning line (judgement.Item item) = Shows meaning line (Ok item)
 ShowsItem meaning line (judgement.Fault fault) = Shows meaning line (Err fault)
+
+-- what the lines of the parts show, in their order
+pub record ShowParts {Item : Type 0} (meaning : Data → Result Item LineFault) (parts : List (List ℕ)) (judgements : List (Judgement Item)) : Type 0 where
+  pub lines : List (List ℕ)
+  pub cut : AreLinesIn parts lines
+  pub shown : AllZip (ShowsItem meaning) lines judgements

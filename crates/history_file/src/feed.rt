@@ -83,7 +83,7 @@ impl<C: Contents> Feed<C> {
             return Err(fault);
         }
         if !rest.is_empty() {
-            progress.take(rt, *rest.allocator(), &[rest.as_slice()])?;
+            progress.take_line(rt, *rest.allocator(), rest.as_slice())?;
         }
         if progress.lines == 0 {
             return Err(FileFault {

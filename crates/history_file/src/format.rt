@@ -1,12 +1,11 @@
 //! Formats of files.
-ghost use Rattle.std.specs.Prelude.{◌≡◌, List, [], ℕ, IfOk, Result};
-ghost use Rattle.std.specs.List.{AllZip};
+ghost use Rattle.std.specs.Prelude.{◌≡◌, List, [], ℕ, IfOk, Result, map};
 ghost use Rattle.std.specs.Thread.{IsSync};
 ghost use Rattle.serde_json.specs.Data.{Data};
 ghost use Rattle.history_file.specs.declared.fault.LineFault.{LineFault};
 ghost use Rattle.history_file.specs.Documents.{data_in};
 ghost use Rattle.history_file.specs.Members.{Gives};
-ghost use Rattle.history_file.specs.Lines.{ShowsItem};
+ghost use Rattle.history_file.specs.Lines.{ShowParts};
 ghost use Rattle.history_file.specs.Formats.{Format, Follows, IsFine};
 
 use crate::document::Document;
@@ -45,14 +44,14 @@ pub trait Contents: Drop + Send {
         ensures made { Makes [] result }
         ensures fits { format.Fits [] };
 
-    /// What each line shows behind the header, in order. Lines are judged side by side.
+    /// What the lines of the parts show behind the header, in order. Parts are judged side by side.
     fn judge_all<R: Threads + Sync>(
         rt: &R,
         alloc: Global,
-        lines: &[&[u8]],
+        parts: &[&[u8]],
     ) -> Result<Judgements<Self::Item>, Memory>
         requires { IsSync R.row }
-        ensures { IfOk result (λ judgements. AllZip (λ line judgement. ShowsItem format.meaning line.now judgement) lines.now judgements) };
+        ensures { IfOk result (λ judgements. ShowParts format.meaning (map (λ part. part.now) parts.now) judgements) };
 
     /// Takes the next item, or says which fault it has behind the others.
     fn follow(&mut self, item: Self::Item) -> Result<(), Stop>

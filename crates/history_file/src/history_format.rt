@@ -1,6 +1,6 @@
 //! The format of history files.
-ghost use Rattle.std.specs.Prelude.{IfOk};
-ghost use Rattle.history_file.specs.Lines.{ShowsItem};
+ghost use Rattle.std.specs.Prelude.{◌∷◌, [], IfOk};
+ghost use Rattle.history_file.specs.Lines.{ShowParts};
 ghost use Rattle.history_file.specs.Rows.{row_in};
 ghost use Rattle.history_file.specs.HistoryFormat.{history_format, MakesHistory};
 
@@ -9,7 +9,7 @@ use crate::fault::Stop;
 use crate::follow::{MOST_CALLS, follow};
 use crate::format::{Contents, LineItem};
 use crate::judgements::Judgements;
-use crate::judging::{Judgement, judge};
+use crate::judging::{Judgement, judge_part};
 use crate::rows::row_in;
 use json::Scratch;
 use rayon::prelude::*;
@@ -44,23 +44,27 @@ impl Contents for History {
     fn judge_all<R: Threads + Sync>(
         rt: &R,
         alloc: Global,
-        lines: &[&[u8]],
+        parts: &[&[u8]],
     ) -> Result<Judgements<Row>, Memory> {
-        let judged: Result<Judgements<Row>, Memory> = lines
+        let runs: Result<Vec<Vec<Judgement<Row>>>, Memory> = parts
             .par_iter()
+            .with_min_len(1)
             .map_init(
                 || Box::new(alloc, Scratch::new(alloc)).ok(),
-                |scratch: &mut Option<Box<Scratch>>, line: &&[u8]| -> Result<Judgement<Row>, Memory>
-                    ensures { IfOk result (ShowsItem row_in line.now.now) }
+                |scratch: &mut Option<Box<Scratch>>, part: &&[u8]| -> Result<
+                    Vec<Judgement<Row>>,
+                    Memory,
+                >
+                    ensures { IfOk result (λ run. ShowParts row_in (part.now.now ∷ []) run.items) }
                 {
                     match scratch {
-                        Some(scratch) => judge::<Row>(alloc, scratch, line),
+                        Some(scratch) => judge_part::<Row>(alloc, scratch, part),
                         None => Err(Memory),
                     }
                 },
             )
             .collect(rt, alloc)?;
-        judged
+        Ok(Judgements::of(runs?))
     }
 
     fn follow(&mut self, row: Row) -> Result<(), Stop> {

@@ -5,7 +5,7 @@ ghost use Rattle.history_file.specs.Cuts.{HasNoEnd};
 
 use crate::format::Contents;
 use crate::judgements::Judgements;
-use crate::lines::{cut_lines, first_end};
+use crate::lines::{cut_parts, first_end};
 use std::alloc::Global;
 use std::thread::Threads;
 use tag::Memory;
@@ -38,9 +38,9 @@ pub(crate) fn judge_piece<C: Contents, R: Threads + Sync>(
         });
     };
     first.extend_from_slice(&piece[..end])?;
-    let mut found = cut_lines(alloc, &piece[end + 1..])?;
-    found.lines.insert(0, first.as_slice())?;
-    let judgements = C::judge_all(rt, alloc, found.lines.as_slice())?;
+    let mut found = cut_parts(alloc, &piece[end + 1..])?;
+    found.parts.insert(0, first.as_slice())?;
+    let judgements = C::judge_all(rt, alloc, found.parts.as_slice())?;
     Ok(Judged {
         judgements,
         rest: Vec::from_slice(alloc, found.rest)?,

@@ -1,19 +1,23 @@
 //! The judgement of a line by itself.
-ghost use Rattle.std.specs.Prelude.{◌≡◌, IfOk};
+ghost use Rattle.std.specs.Prelude.{◌≡◌, ◌∷◌, [], IfOk};
 ghost use Rattle.history_file.specs.Headers.{header_in};
-ghost use Rattle.history_file.specs.Lines.{ShowsBy, ShowsItem};
+ghost use Rattle.history_file.specs.Lines.{ShowsBy, ShowsItem, ShowParts};
 
 use crate::LineFault;
 use crate::document::Document;
 use crate::fault::Stop;
 use crate::format::LineItem;
 use crate::header::header_in;
+use crate::lines::first_end;
 use json::Scratch;
 use std::alloc::Global;
 use tag::Memory;
 
 /// The most bytes of a line, its end not counted.
 pub const LONGEST: usize = 65_536;
+
+/// About how many bytes a line has.
+const USUAL: usize = 48;
 
 /// What a line behind the header shows by itself: its item, or its fault.
 #[derive(Debug, Drop)]
@@ -34,7 +38,7 @@ fn item_on<T: LineItem>(alloc: Global, scratch: &mut Scratch, line: &[u8]) -> Re
 }
 
 /// What the line, without its end, shows behind the header.
-pub(crate) fn judge<T: LineItem>(
+fn judge<T: LineItem>(
     alloc: Global,
     scratch: &mut Scratch,
     line: &[u8],
@@ -46,6 +50,24 @@ pub(crate) fn judge<T: LineItem>(
         Err(Stop::Fault(fault)) => Ok(Judgement::Fault(fault)),
         Err(Stop::Memory) => Err(Memory),
     }
+}
+
+/// What the lines of a part, the last of them without its end, show behind the header.
+pub(crate) fn judge_part<T: LineItem>(
+    alloc: Global,
+    scratch: &mut Scratch,
+    part: &[u8],
+) -> Result<Vec<Judgement<T>>, Memory>
+    ensures { IfOk result (λ run. ShowParts T.meaning (part.now ∷ []) run.items) }
+{
+    let mut run = Vec::with_capacity(alloc, part.len() / USUAL)?;
+    let mut rest = part;
+    while let Some(end) = first_end(rest) {
+        run.push(judge::<T>(alloc, scratch, &rest[..end])?)?;
+        rest = &rest[end + 1..];
+    }
+    run.push(judge::<T>(alloc, scratch, rest)?)?;
+    Ok(run)
 }
 
 /// Whether the line, without its end, is the header of a file of that name.

@@ -1,18 +1,22 @@
-//! Cutting bytes into lines.
-ghost use Rattle.std.specs.Prelude.{◌≡◌, ◌<◌, length, take, map, slice_index, MatchOption, IfOk};
-ghost use Rattle.history_file.specs.Cuts.{HasNoEnd, Splits};
+//! Cutting bytes at ends of lines.
+ghost use Rattle.std.specs.Prelude.{◌≡◌, ◌<◌, ◌≤◌, length, take, map, slice_index, MatchOption, IfOk};
+ghost use Rattle.std.specs.Option.{IfSome};
+ghost use Rattle.history_file.specs.Cuts.{HasNoEnd, Divides};
 
-use memchr::memchr;
+use memchr::{memchr, memrchr};
 use std::alloc::Global;
 use tag::Memory;
 
 /// The byte that ends a line.
 const END: u8 = 10;
 
-/// Bytes as lines, each of which had its end, and a rest without one.
+/// How many bytes of lines are worth a part of their own.
+const PART: usize = 262_144;
+
+/// Bytes as parts of whole lines, each of which had its end, and a rest without one.
 #[derive(Debug, Drop)]
 pub struct Cut<'a> {
-    pub lines: Vec<&'a [u8]>,
+    pub parts: Vec<&'a [u8]>,
     pub rest: &'a [u8],
 }
 
@@ -23,15 +27,43 @@ pub fn first_end(bytes: &[u8]) -> Option<usize>
     memchr(END, bytes)
 }
 
-/// Cuts the bytes into lines.
-pub(crate) fn cut_lines(alloc: Global, bytes: &[u8]) -> Result<Cut<'_>, Memory>
-    ensures { IfOk result (λ found. Splits bytes.now (map (λ line. line.now) found.lines.items) found.rest.now) }
+/// The place of the first end of a line from there on.
+fn end_from(bytes: &[u8], from: usize) -> Option<usize>
+    requires { from ≤ length bytes.now }
+    ensures { IfSome result (λ i. (i < length bytes.now) × (slice_index bytes.now i ≡ 10)) }
 {
-    let mut lines = Vec::new(alloc);
+    let end = first_end(&bytes[from..])?;
+    Some(from + end)
+}
+
+/// The place of the last end of a line.
+fn last_end(bytes: &[u8]) -> Option<usize>
+    ensures { MatchOption result (HasNoEnd bytes.now) (λ i. (i < length bytes.now) × (slice_index bytes.now i ≡ 10)) }
+{
+    memrchr(END, bytes)
+}
+
+/// The place of the first end of a line behind a part's bytes, or else of the last end.
+fn part_end(bytes: &[u8]) -> Option<usize>
+    ensures { MatchOption result (HasNoEnd bytes.now) (λ i. (i < length bytes.now) × (slice_index bytes.now i ≡ 10)) }
+{
+    if bytes.len() > PART {
+        if let Some(end) = end_from(bytes, PART) {
+            return Some(end);
+        }
+    }
+    last_end(bytes)
+}
+
+/// Cuts the bytes into parts of whole lines.
+pub(crate) fn cut_parts(alloc: Global, bytes: &[u8]) -> Result<Cut<'_>, Memory>
+    ensures { IfOk result (λ found. Divides bytes.now (map (λ part. part.now) found.parts.items) found.rest.now) }
+{
+    let mut parts = Vec::new(alloc);
     let mut rest = bytes;
-    while let Some(end) = first_end(rest) {
-        lines.push(&rest[..end])?;
+    while let Some(end) = part_end(rest) {
+        parts.push(&rest[..end])?;
         rest = &rest[end + 1..];
     }
-    Ok(Cut { lines, rest })
+    Ok(Cut { parts, rest })
 }

@@ -1,6 +1,6 @@
 //! The format of order files.
-ghost use Rattle.std.specs.Prelude.{◌≡◌, ◌≤◌, ◌++◌, OnOk, IfOk};
-ghost use Rattle.history_file.specs.Lines.{ShowsItem};
+ghost use Rattle.std.specs.Prelude.{◌≡◌, ◌≤◌, ◌∷◌, ◌++◌, [], OnOk, IfOk};
+ghost use Rattle.history_file.specs.Lines.{ShowParts};
 ghost use Rattle.history_file.specs.OrderLines.{piece_in};
 ghost use Rattle.history_file.specs.OrderFormat.{order_format};
 
@@ -10,7 +10,7 @@ use crate::fault::Stop;
 use crate::follow::MOST_CALLS;
 use crate::format::{Contents, LineItem};
 use crate::judgements::Judgements;
-use crate::judging::{Judgement, judge};
+use crate::judging::{Judgement, judge_part};
 use crate::order_lines::piece_in;
 use crate::orders::join;
 use indexmap::IndexMap;
@@ -60,26 +60,27 @@ impl Contents for Orders {
     fn judge_all<R: Threads + Sync>(
         rt: &R,
         alloc: Global,
-        lines: &[&[u8]],
+        parts: &[&[u8]],
     ) -> Result<Judgements<KeyOrder>, Memory> {
-        let judged: Result<Judgements<KeyOrder>, Memory> = lines
+        let runs: Result<Vec<Vec<Judgement<KeyOrder>>>, Memory> = parts
             .par_iter()
+            .with_min_len(1)
             .map_init(
                 || Box::new(alloc, Scratch::new(alloc)).ok(),
-                |scratch: &mut Option<Box<Scratch>>, line: &&[u8]| -> Result<
-                    Judgement<KeyOrder>,
+                |scratch: &mut Option<Box<Scratch>>, part: &&[u8]| -> Result<
+                    Vec<Judgement<KeyOrder>>,
                     Memory,
                 >
-                    ensures { IfOk result (ShowsItem piece_in line.now.now) }
+                    ensures { IfOk result (λ run. ShowParts piece_in (part.now.now ∷ []) run.items) }
                 {
                     match scratch {
-                        Some(scratch) => judge::<KeyOrder>(alloc, scratch, line),
+                        Some(scratch) => judge_part::<KeyOrder>(alloc, scratch, part),
                         None => Err(Memory),
                     }
                 },
             )
             .collect(rt, alloc)?;
-        judged
+        Ok(Judgements::of(runs?))
     }
 
     fn follow(&mut self, piece: KeyOrder) -> Result<(), Stop> {

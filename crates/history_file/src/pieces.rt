@@ -5,7 +5,7 @@ ghost use Rattle.history_file.specs.Feeds.{Passed, PassStops};
 
 use crate::format::Contents;
 use crate::judging::LONGEST;
-use crate::lines::{cut_lines, first_end};
+use crate::lines::{cut_parts, first_end};
 use crate::progress::Progress;
 use crate::{FaultKind, FileFault, LineFault};
 use std::alloc::Global;
@@ -35,21 +35,22 @@ fn check_length(lines: u64, rest: &[u8]) -> Result<(), FileFault>
     Ok(())
 }
 
-/// Takes the whole lines of the bytes, and gives the rest.
+/// Takes the whole lines of the bytes behind the header, and gives the rest.
 fn pass<C: Contents>(
     rt: &(impl Threads + Sync),
     alloc: Global,
     progress: &mut Progress<C>,
     bytes: &[u8],
 ) -> Result<Vec<u8>, FileFault>
-    requires { progress.old.lines + length bytes.now < 2 ^ 63 }
+    requires some { 0 < progress.old.lines }
+    requires room { progress.old.lines + length bytes.now < 2 ^ 63 }
     ensures passes { MatchResult result (λ rest. Passed C.format C.Makes progress.old bytes.now rest.items progress.new) (λ fault. PassStops C.format C.Makes progress.old bytes.now fault.line fault.kind) }
     ensures lines { IfOk result (λ rest. progress.new.lines + length rest.items ≤ progress.old.lines + length bytes.now) }
 {
-    let Ok(found) = cut_lines(alloc, bytes) else {
+    let Ok(found) = cut_parts(alloc, bytes) else {
         return Err(memory_at(progress.lines + 1));
     };
-    progress.take(rt, alloc, found.lines.as_slice())?;
+    progress.take_parts(rt, alloc, found.parts.as_slice())?;
     check_length(progress.lines, found.rest)?;
     match Vec::from_slice(alloc, found.rest) {
         Ok(rest) => Ok(rest),
@@ -87,7 +88,7 @@ pub(crate) fn take_piece<C: Contents>(
     };
     lengthen(progress.lines, rest, &piece[..end])?;
     let alloc = *rest.allocator();
-    progress.take(rt, alloc, &[rest.as_slice()])?;
+    progress.take_line(rt, alloc, rest.as_slice())?;
     *rest = pass(rt, alloc, progress, &piece[end + 1..])?;
     Ok(())
 }

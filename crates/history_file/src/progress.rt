@@ -1,9 +1,10 @@
 //! How far the lines of a file were taken.
-ghost use Rattle.std.specs.Prelude.{ℕ, ◌≡◌, ◌<◌, ◌+◌, ◌^◌, List, [], ◌∷◌, length, map, IfOk, OnOk};
-ghost use Rattle.std.specs.List.{AllZip};
+ghost use Rattle.std.specs.Prelude.{ℕ, ◌≡◌, ◌<◌, ◌≤◌, ◌+◌, ◌^◌, List, [], ◌∷◌, length, map, IfOk, OnOk};
+ghost use Rattle.std.specs.List.{AllZip, flat_map};
 ghost use Rattle.history_file.specs.Ahead.{Records};
+ghost use Rattle.history_file.specs.Cuts.{HasNoEnd, ended};
 ghost use Rattle.history_file.specs.Lines.{ShowsItem};
-ghost use Rattle.history_file.specs.Files.{IsAt, Takes, TakesJudged, kind_of};
+ghost use Rattle.history_file.specs.Files.{IsAt, Takes, TakesJudged, TakesParts, kind_of};
 
 use crate::fault::Stop;
 use crate::format::Contents;
@@ -85,11 +86,10 @@ impl<C: Contents> Progress<C> {
         ensures taken { (lines : List (List ℕ)) → AllZip (ShowsItem C.format.meaning) lines judgements → (before : List (List ℕ)) → IsAt C.format C.Makes before self.old → 0 < length before → Takes C.format C.Makes before lines result self.new }
         ensures lines { OnOk result (self.new.lines ≡ self.old.lines + length judgements) }
     {
-        let (runs, last) = judgements.into_runs();
-        for run in runs {
+        for run in judgements.into_runs() {
             self.record_run(run)?;
         }
-        self.record_run(last)
+        Ok(())
     }
 
     /// The same of a progress that is handed over.
@@ -105,41 +105,39 @@ impl<C: Contents> Progress<C> {
         Ok(self)
     }
 
-    /// Takes later lines.
-    fn take_rest(
+    /// Takes the lines of parts that stand behind the header.
+    pub(crate) fn take_parts(
         &mut self,
         rt: &(impl Threads + Sync),
         alloc: Global,
-        lines: &[&[u8]],
+        parts: &[&[u8]],
     ) -> Result<(), FileFault>
-        requires { self.old.lines + length lines.now < 2 ^ 63 }
-        ensures taken { (before : List (List ℕ)) → IsAt C.format C.Makes before self.old → 0 < length before → Takes C.format C.Makes before (map (λ line. line.now) lines.now) result self.new }
-        ensures lines { OnOk result (self.new.lines ≡ self.old.lines + length lines.now) }
+        requires { self.old.lines + length (flat_map ended (map (λ part. part.now) parts.now)) < 2 ^ 63 }
+        ensures taken { TakesParts C.format C.Makes self.old (map (λ part. part.now) parts.now) result self.new }
+        ensures more { OnOk result (self.old.lines ≤ self.new.lines) }
+        ensures lines { OnOk result (self.new.lines ≤ self.old.lines + length (flat_map ended (map (λ part. part.now) parts.now))) }
     {
-        match C::judge_all(rt, alloc, lines) {
+        match C::judge_all(rt, alloc, parts) {
             Ok(judgements) => self.record(judgements),
             Err(_) => Err(fault_at(self.lines + 1, Stop::Memory)),
         }
     }
 
-    /// Takes lines.
-    pub(crate) fn take(
+    /// Takes a line.
+    pub(crate) fn take_line(
         &mut self,
         rt: &(impl Threads + Sync),
         alloc: Global,
-        lines: &[&[u8]],
+        line: &[u8],
     ) -> Result<(), FileFault>
-        requires { self.old.lines + length lines.now < 2 ^ 63 }
-        ensures taken { (before : List (List ℕ)) → IsAt C.format C.Makes before self.old → Takes C.format C.Makes before (map (λ line. line.now) lines.now) result self.new }
-        ensures lines { OnOk result (self.new.lines ≡ self.old.lines + length lines.now) }
+        requires { self.old.lines + length line.now + 1 < 2 ^ 63 }
+        ensures taken { HasNoEnd line.now → (before : List (List ℕ)) → IsAt C.format C.Makes before self.old → Takes C.format C.Makes before (line.now ∷ []) result self.new }
+        ensures some { OnOk result (0 < self.new.lines) }
+        ensures lines { OnOk result (self.new.lines ≤ self.old.lines + length line.now + 1) }
     {
-        if lines.is_empty() {
-            return Ok(());
+        if self.lines == 0 {
+            return self.take_header(alloc, line);
         }
-        if self.lines > 0 {
-            return self.take_rest(rt, alloc, lines);
-        }
-        self.take_header(alloc, lines[0])?;
-        self.take_rest(rt, alloc, &lines[1..])
+        self.take_parts(rt, alloc, &[line])
     }
 }

@@ -1,29 +1,36 @@
-use Rattle.std.proofs.Common.{ℕ, ◌++◌, List, length, map, arith, ap, Bor, subst}
+use Rattle.std.proofs.Common.{ℕ, List, Bor, map, Ok, Err, sym, subst}
 use Rattle.std.proofs.lemmas.Result.{err_from_is_err_and}
-use Rattle.std.proofs.lemmas.List.{length-map}
-use Rattle.history_file.specs.Files.{IsAt, IsFirstOfKind}
-use Rattle.history_file.proofs.Feeding.{Splits-room, pass_stops}
+use Rattle.history_file.specs.Files.{TakesParts}
+use Rattle.history_file.specs.Feeds.{Passed}
+use Rattle.history_file.proofs.Parting.{parts_stop, parts_long, parts_passed}
 use Rattle.history_file.proofs.pieces.pass.Goals as goal
 
-pub take-requires-after_bounds : goal.take-requires-after_bounds
-take-requires-after_bounds g c =
-    let lines = map (λ (line : Bor (List ℕ)). line.now) c.in-Ok.found.lines.items in
-    omega (arith, Splits-room c.args.bytes.now lines c.in-Ok.found.rest.now c.in-Ok.ensures, length-map c.in-Ok.found.lines.items (λ (line : Bor (List ℕ)). line.now), ap length c.as_slice.ensures.value, c.requires)
-
-pub returns-in_err-take-clause-passes : goal.returns-in_err-take-clause-passes
-returns-in_err-take-clause-passes g c =
+pub returns-in_err-take_parts-clause-passes : goal.returns-in_err-take_parts-clause-passes
+returns-in_err-take_parts-clause-passes g c =
     let p = err_from_is_err_and c.from_residual.result c.from_residual.ensures.1 in
-    let lines = map (λ (line : Bor (List ℕ)). line.now) c.in-Ok.found.lines.items in
-    let fault = c.in_err-take.field-0.0 in
-    let P : List (Bor (List ℕ)) → Type 0 = λ xs. (before : List (List ℕ)) → IsAt g.C.Contents.format g.C.Contents.Makes before c.args.progress.now → IsFirstOfKind g.C.Contents.format (before ++ map (λ (line : Bor (List ℕ)). line.now) xs) fault.line fault.kind in
-    rw (p.1, p.2) (pass_stops g.C.Contents.format g.C.Contents.Makes c.args.progress.now c.args.bytes.now lines c.in-Ok.found.rest.now fault.line fault.kind c.in-Ok.ensures (subst P c.as_slice.ensures.value c.in_err-take.ensures.taken))
+    let old = c.args.progress.now in
+    let new = c.take_parts.new.self in
+    let found = c.in-Ok.found in
+    let fault = c.in_err-take_parts.field-0.0 in
+    let T : List (Bor (List ℕ)) → Type 0 = λ ps. TakesParts g.C.Contents.format g.C.Contents.Makes old (map (λ (part : Bor (List ℕ)). part.now) ps) (Err fault) new in
+    rw (p.1, p.2) (parts_stop g.C.Contents.format g.C.Contents.Makes old new c.args.bytes.now (map (λ (part : Bor (List ℕ)). part.now) found.parts.items) found.rest.now fault c.requires.some c.in-Ok.ensures (subst T c.as_slice.ensures.value c.in_err-take_parts.ensures.taken))
 
-pub check_length-requires : goal.check_length-requires
-check_length-requires g c =
-    let lines = map (λ (line : Bor (List ℕ)). line.now) c.in-Ok.found.lines.items in
-    omega (arith, Splits-room c.args.bytes.now lines c.in-Ok.found.rest.now c.in-Ok.ensures, length-map c.in-Ok.found.lines.items (λ (line : Bor (List ℕ)). line.now), ap length c.as_slice.ensures.value, c.in_ok-take.ensures.lines, c.requires)
+pub returns-in_err-check_length-clause-passes : goal.returns-in_err-check_length-clause-passes
+returns-in_err-check_length-clause-passes g c =
+    let p = err_from_is_err_and c.from_residual-in_err-check_length.result c.from_residual-in_err-check_length.ensures.1 in
+    let old = c.args.progress.now in
+    let new = c.take_parts.new.self in
+    let found = c.in-Ok.found in
+    let fault = c.in_err-check_length.field-0.0 in
+    let T : List (Bor (List ℕ)) → Type 0 = λ ps. TakesParts g.C.Contents.format g.C.Contents.Makes old (map (λ (part : Bor (List ℕ)). part.now) ps) (Ok tt) new in
+    let h = c.in_err-check_length.ensures in
+    rw (p.1, p.2) (parts_long g.C.Contents.format g.C.Contents.Makes old new c.args.bytes.now (map (λ (part : Bor (List ℕ)). part.now) found.parts.items) found.rest.now fault.line fault.kind c.requires.some c.in-Ok.ensures (subst T c.as_slice.ensures.value c.in_ok-take_parts.ensures.taken) h.0 h.1 h.2)
 
-pub returns-in-Ok-from_slice-clause-lines : goal.returns-in-Ok-from_slice-clause-lines
-returns-in-Ok-from_slice-clause-lines g c =
-    let lines = map (λ (line : Bor (List ℕ)). line.now) c.in-Ok.found.lines.items in
-    omega (arith, Splits-room c.args.bytes.now lines c.in-Ok.found.rest.now c.in-Ok.ensures, length-map c.in-Ok.found.lines.items (λ (line : Bor (List ℕ)). line.now), ap length c.as_slice.ensures.value, c.in_ok-take.ensures.lines, ap length c.in-Ok-from_slice.ensures.items)
+pub returns-in-Ok-from_slice-clause-passes : goal.returns-in-Ok-from_slice-clause-passes
+returns-in-Ok-from_slice-clause-passes g c =
+    let old = c.args.progress.now in
+    let new = c.take_parts.new.self in
+    let found = c.in-Ok.found in
+    let T : List (Bor (List ℕ)) → Type 0 = λ ps. TakesParts g.C.Contents.format g.C.Contents.Makes old (map (λ (part : Bor (List ℕ)). part.now) ps) (Ok tt) new in
+    let P : List ℕ → Type 0 = λ xs. Passed g.C.Contents.format g.C.Contents.Makes old c.args.bytes.now xs new in
+    subst P (sym c.in-Ok-from_slice.ensures.items) (parts_passed g.C.Contents.format g.C.Contents.Makes old new c.args.bytes.now (map (λ (part : Bor (List ℕ)). part.now) found.parts.items) found.rest.now c.requires.some c.in-Ok.ensures (subst T c.as_slice.ensures.value c.in_ok-take_parts.ensures.taken) c.in_ok-check_length.ensures)

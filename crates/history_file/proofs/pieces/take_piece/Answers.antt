@@ -21,26 +21,28 @@ returns-in_default-clause-passes g c = λ partial.
     let long : Long all = subst Long (c.as_slice.ensures.value ∙ whole) c.check_length.ensures in
     rw whole (passes_alone g.C.Contents.format g.C.Contents.Makes old all r none long)
 
-pub returns-in_err-take-clause-passes : goal.returns-in_err-take-clause-passes
-returns-in_err-take-clause-passes g c = λ partial.
-    let p = err_from_is_err_and c.from_residual-in_err-take.result c.from_residual-in_err-take.ensures.1 in
+pub returns-in_err-take_line-clause-passes : goal.returns-in_err-take_line-clause-passes
+returns-in_err-take_line-clause-passes g c = λ partial.
+    let p = err_from_is_err_and c.from_residual-in_err-take_line.result c.from_residual-in_err-take_line.ensures.1 in
     let old = c.args.progress.now in
     let end = c.in-Some.end in
     let rest = c.args.rest.now.items in
     let piece = c.args.piece.now in
     let front = take end piece in
     let tail = behind piece end in
-    let fault = c.in_err-take.field-0.0 in
+    let fault = c.in_err-take_line.field-0.0 in
     let same : c.as_slice-2.result.now ≡ rest ++ front = c.as_slice-2.ensures.value ∙ c.in_ok-lengthen-2.ensures in
+    let N : List ℕ → Type 0 = λ xs. HasNoEnd xs in
+    let none : HasNoEnd c.as_slice-2.result.now = subst N (sym same) (All-append (λ (b : ℕ). b ≢ 10) rest front partial c.in-Some.ensures.1) in
     let P : List ℕ → Type 0 = λ xs. (before : List (List ℕ)) → IsAt g.C.Contents.format g.C.Contents.Makes before old → IsFirstOfKind g.C.Contents.format (before ++ xs ∷ []) fault.line fault.kind in
     let Q : List ℕ → Type 0 = λ xs. PassStops g.C.Contents.format g.C.Contents.Makes old (rest ++ xs) fault.line fault.kind in
-    rw (p.1, p.2) (subst Q (sym (cut_at piece end c.in-Some.ensures.0 c.in-Some.ensures.2)) (line_stops g.C.Contents.format g.C.Contents.Makes old rest front tail fault.line fault.kind partial c.in-Some.ensures.1 (subst P same c.in_err-take.ensures.taken)))
+    rw (p.1, p.2) (subst Q (sym (cut_at piece end c.in-Some.ensures.0 c.in-Some.ensures.2)) (line_stops g.C.Contents.format g.C.Contents.Makes old rest front tail fault.line fault.kind partial c.in-Some.ensures.1 (subst P same (c.in_err-take_line.ensures.taken none))))
 
 pub returns-in_err-rest-clause-passes : goal.returns-in_err-rest-clause-passes
 returns-in_err-rest-clause-passes g c = λ partial.
     let p = err_from_is_err_and c.from_residual-in_err-rest.result c.from_residual-in_err-rest.ensures.1 in
     let old = c.args.progress.now in
-    let mid = c.take.new.self in
+    let mid = c.take_line.new.self in
     let end = c.in-Some.end in
     let rest = c.args.rest.now.items in
     let piece = c.args.piece.now in
@@ -48,14 +50,16 @@ returns-in_err-rest-clause-passes g c = λ partial.
     let tail = behind piece end in
     let fault = c.in_err-rest.field-0.0 in
     let same : c.as_slice-2.result.now ≡ rest ++ front = c.as_slice-2.ensures.value ∙ c.in_ok-lengthen-2.ensures in
+    let N : List ℕ → Type 0 = λ xs. HasNoEnd xs in
+    let none : HasNoEnd c.as_slice-2.result.now = subst N (sym same) (All-append (λ (b : ℕ). b ≢ 10) rest front partial c.in-Some.ensures.1) in
     let P : List ℕ → Type 0 = λ xs. (before : List (List ℕ)) → IsAt g.C.Contents.format g.C.Contents.Makes before old → IsAt g.C.Contents.format g.C.Contents.Makes (before ++ xs ∷ []) mid in
     let Q : List ℕ → Type 0 = λ xs. PassStops g.C.Contents.format g.C.Contents.Makes old (rest ++ xs) fault.line fault.kind in
-    rw (p.1, p.2) (subst Q (sym (cut_at piece end c.in-Some.ensures.0 c.in-Some.ensures.2)) (PassStops-line g.C.Contents.format g.C.Contents.Makes old mid rest front tail fault.line fault.kind partial c.in-Some.ensures.1 (subst P same c.in_ok-take.ensures.taken) c.in_err-rest.ensures.passes))
+    rw (p.1, p.2) (subst Q (sym (cut_at piece end c.in-Some.ensures.0 c.in-Some.ensures.2)) (PassStops-line g.C.Contents.format g.C.Contents.Makes old mid rest front tail fault.line fault.kind partial c.in-Some.ensures.1 (subst P same (c.in_ok-take_line.ensures.taken none)) c.in_err-rest.ensures.passes))
 
 pub returns-clause-passes : goal.returns-clause-passes
 returns-clause-passes g c = λ partial.
     let old = c.args.progress.now in
-    let mid = c.take.new.self in
+    let mid = c.take_line.new.self in
     let new = c.pass.new.progress in
     let left = c.in_ok-rest.field-0.items in
     let end = c.in-Some.end in
@@ -64,6 +68,8 @@ returns-clause-passes g c = λ partial.
     let front = take end piece in
     let tail = behind piece end in
     let same : c.as_slice-2.result.now ≡ rest ++ front = c.as_slice-2.ensures.value ∙ c.in_ok-lengthen-2.ensures in
+    let N : List ℕ → Type 0 = λ xs. HasNoEnd xs in
+    let none : HasNoEnd c.as_slice-2.result.now = subst N (sym same) (All-append (λ (b : ℕ). b ≢ 10) rest front partial c.in-Some.ensures.1) in
     let P : List ℕ → Type 0 = λ xs. (before : List (List ℕ)) → IsAt g.C.Contents.format g.C.Contents.Makes before old → IsAt g.C.Contents.format g.C.Contents.Makes (before ++ xs ∷ []) mid in
     let Q : List ℕ → Type 0 = λ xs. Passed g.C.Contents.format g.C.Contents.Makes old (rest ++ xs) left new in
-    subst Q (sym (cut_at piece end c.in-Some.ensures.0 c.in-Some.ensures.2)) (Passed-line g.C.Contents.format g.C.Contents.Makes old mid new rest front tail left partial c.in-Some.ensures.1 (subst P same c.in_ok-take.ensures.taken) c.in_ok-rest.ensures.passes)
+    subst Q (sym (cut_at piece end c.in-Some.ensures.0 c.in-Some.ensures.2)) (Passed-line g.C.Contents.format g.C.Contents.Makes old mid new rest front tail left partial c.in-Some.ensures.1 (subst P same (c.in_ok-take_line.ensures.taken none)) c.in_ok-rest.ensures.passes)

@@ -1,19 +1,27 @@
-use Rattle.std.proofs.Common.{ap, ◌∙◌, List, ℕ, Bor, Result}
-use Rattle.std.specs.Prelude.{IfOk}
+use Rattle.std.proofs.Common.{ap, ◌∙◌, map, List, [], ◌∷◌, ℕ, Bor, Result, subst, sym}
+use Rattle.std.specs.Prelude.{IfOk, Vec}
+use Rattle.std.specs.List.{AllZip}
+use Rattle.std.specs.declared.alloc.Global.{Global}
 use Rattle.tag.specs.declared.memory.Memory.{Memory}
 use Rattle.recorder.specs.declared.order.KeyOrder.{KeyOrder}
 use Rattle.history_file.specs.declared.judging.Judgement.{Judgement}
-use Rattle.history_file.specs.Lines.{ShowsItem}
+use Rattle.history_file.specs.Lines.{ShowParts}
 use Rattle.history_file.specs.OrderLines.{piece_in}
 use Rattle.rayon.proofs.ListFacts.{AllZip-weaken}
 use Rattle.rayon.proofs.ToStd.{slice-AllZip}
+use Rattle.history_file.proofs.Parting.{show_all}
 use Rattle.history_file.proofs.SideBySide.{collected}
 use Rattle.history_file.proofs.order_format.OrdersContents.judge_all.Goals as goal
 
 pub returns : goal.returns
 returns g c =
-    let slice = ap (λ it. it.slice.now) c.map_init.ensures.base ∙ c.par_iter.ensures in
-    let h = c.in_ok-judged.ensures in
+    let slice = ap (λ it. it.base.slice.now) c.map_init.ensures.base ∙ (ap (λ it. it.slice.now) c.with_min_len.ensures.base ∙ c.par_iter.ensures) in
+    let Shows : Bor (List ℕ) → Vec (Judgement KeyOrder) Global → Type 0 = λ part run. ShowParts piece_in (part.now ∷ []) run.items in
+    let h = c.in_ok-runs.ensures in
     let chain = h.1 in
-    let shown = slice-AllZip chain.0 c.args.lines.now (chain.1 ∙ slice) (λ (line : Bor (List ℕ)) (judgement : Result (Judgement KeyOrder) Memory). IfOk judgement (ShowsItem piece_in line.now)) h.0 (AllZip-weaken _ _ (λ x y p. p.2) _ _ chain.2) in
-    collected (λ (line : Bor (List ℕ)) (judgement : Judgement KeyOrder). ShowsItem piece_in line.now judgement) (λ (js : List (Judgement KeyOrder)). js) c.args.lines.now h.0 c.in_ok-judged.judged _ shown h.2
+    let shown = slice-AllZip chain.0 c.args.parts.now (chain.1 ∙ slice) (λ (part : Bor (List ℕ)) (run : Result (Vec (Judgement KeyOrder) Global) Memory). IfOk run (Shows part)) h.0 (AllZip-weaken _ _ (λ x y p. p.2) _ _ chain.2) in
+    let runs = c.in_ok-runs-2.field-0.items in
+    let I : Result (Vec (Vec (Judgement KeyOrder) Global) Global) Memory → Type 0 = λ r. IfOk r (λ found. AllZip Shows c.args.parts.now found.items) in
+    let all : AllZip Shows c.args.parts.now runs = subst I c.in_ok-runs-2.was (collected Shows (λ (found : Vec (Vec (Judgement KeyOrder) Global) Global). found.items) c.args.parts.now h.0 c.in_ok-runs.runs _ shown h.2) in
+    let P : List (Judgement KeyOrder) → Type 0 = λ js. ShowParts piece_in (map (λ (part : Bor (List ℕ)). part.now) c.args.parts.now) js in
+    subst P (sym c.of.ensures) (show_all piece_in (λ (part : Bor (List ℕ)). part.now) (λ (run : Vec (Judgement KeyOrder) Global). run.items) c.args.parts.now runs all)
