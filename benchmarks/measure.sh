@@ -41,7 +41,7 @@ for load in random pairs; do
   cmp "$work/abd.out" "$work/plain_simulate.out"
 done
 # Reading alone, without what it takes to free the history, with all processors and with one.
-reads=$here/../crates/read_speed/out/read_speed
+reads=$work/programs/crates/read_speed/out/read_speed
 if [ -x "$reads" ]; then
   echo "== reading, 100 keys"
   for times in 1 2 3 4 5; do
@@ -50,5 +50,5 @@ if [ -x "$reads" ]; then
   done 2>&1 >/dev/null | paste -d, - - | sed 's/^/all processors, one: /'
 fi
 # Steps of the world: 10,000,000 random ones.
-steps=$here/../crates/step_speed/out/step_speed
+steps=$work/programs/crates/step_speed/out/step_speed
 [ -x "$steps" ] && /usr/bin/time -f "${steps##*/}: %e s, %M KiB" "$steps"

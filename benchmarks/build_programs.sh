@@ -1,0 +1,23 @@
+#!/usr/bin/env bash
+# Builds the programs that only measure, benchmarks/NAME/main.rt.txt, into $TMPDIR/abd_benchmark/programs/crates/NAME/out/NAME.
+# They are kept out of crates.txt, so that the gate needn't prove them: here they are crates of a copy of the repository, over what
+# earlier checks of its crates kept (`cd crates/abd && rt run` first spares the proof of all below it).
+set -eu
+here=$(cd "$(dirname "$0")" && pwd)
+room=${TMPDIR:-/tmp}/abd_benchmark/programs
+rm -rf "$room"
+mkdir -p "$room"
+cp -r "$here/../HANDLES" "$here/../crates.txt" "$here/../crates" "$room"
+
+# A crate NAME over these libraries; its words are what `rt run` gives it.
+build() {
+  name=$1 libraries=$2
+  shift 2
+  mkdir -p "$room/crates/$name/src"
+  cp "$here/$name/main.rt.txt" "$room/crates/$name/src/main.rt"
+  echo "$name: $libraries" >> "$room/crates.txt"
+  (cd "$room/crates/$name" && rt run -- "$@")
+}
+
+build read_speed "history_file" "$here/../examples/two_calls.history"
+build step_speed "tag world_steps random_steps"

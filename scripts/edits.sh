@@ -1,0 +1,9 @@
+#!/usr/bin/env bash
+# Tries wrong bodies that the prover has to refuse, over what earlier checks of their crates kept (`rt check` in a crate first):
+#   scripts/edits.sh                      every edit of every crate
+#   scripts/edits.sh NAME.. NAME/EDIT..   those of these crates, or these edits
+#   scripts/edits.sh --since COMMIT       those whose function, or whose own file, changed since a commit
+#   --gate, --inner                       of these only those in must-fail (the gate tries them too), or only those in inner-edits
+set -eu
+cd "$(dirname "$0")/.."
+exec python3 scripts/edits.py "$@"
