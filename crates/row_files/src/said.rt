@@ -10,11 +10,11 @@ use std::alloc::{AllocError, Global};
 pub fn report(alloc: Global, row: &Row<'_>, found: &str) -> Result<String, AllocError>
     ensures { IfOk result (λ text. string_bytes text ≡ told row.now.name.now row.now.expected.now found.now) }
 {
-    let mut text = String::from_str(alloc, row.name)?;
-    text.push('\n')?;
-    text.push_str(found)?;
-    if found != row.expected {
-        text.push_str("NOT AS EXPECTED\n")?;
-    }
-    Ok(text)
+    let name = row.name;
+    let note = if found == row.expected {
+        ""
+    } else {
+        "NOT AS EXPECTED\n"
+    };
+    format!(in alloc; "{name}\n{found}{note}")
 }
