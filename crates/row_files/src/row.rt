@@ -3,6 +3,7 @@ ghost use Rattle.std.specs.Prelude.{MatchOption, List, ℕ};
 ghost use Rattle.row_files.specs.Rows.{IsDivided, IsWritten};
 
 /// A row: what it shows, its input, and what is expected to come out.
+#[derive(Clone, Copy)]
 pub struct Row<'a> {
     pub name: &'a str,
     pub input: &'a str,
