@@ -83,7 +83,7 @@ fn tell(rt: &HostRuntime, text: &str) -> io::Result<bool> {
 /// Tells the rows of each file that the arguments name, and whether all are as expected.
 fn run(rt: &HostRuntime) -> io::Result<bool> {
     let mut all_good = true;
-    for name in env::args(rt)? {
+    for name in env::args(rt)?.skip(1) {
         let text = fs::read_to_string(rt, name.as_str())?;
         let good = tell(rt, text.as_str())?;
         all_good = all_good && good;
