@@ -1,0 +1,112 @@
+//! A client.
+use client_phases::{Client, Phase, ReadMode, Taken};
+use quorum::Quorums;
+use replica::{Reply, Request};
+use std::alloc::Global;
+use tag::{Action, ClientId, Key, Memory, OpId, ReplicaId, Returned, Tag, Value};
+
+fn key(alloc: Global) -> Result<Key, Memory> {
+    Key::new(alloc, "x").map_err(|_| Memory)
+}
+
+fn value(alloc: Global) -> Result<Value, Memory> {
+    Value::new(alloc, "a").map_err(|_| Memory)
+}
+
+/// Whether the client sends the request, at the second time where a growth was refused at the first,
+/// which left the client as it was.
+fn sends(alloc: Global, client: &Client, wanted: Request) -> Result<bool, Memory> {
+    let before = format!(in alloc; "{client:?}")?;
+    if client.request().is_err() {
+        let after = format!(in alloc; "{client:?}")?;
+        if after != before {
+            return Ok(false);
+        }
+    }
+    Ok(client.request()? == Some(wanted))
+}
+
+/// Whether it has the answer, in the same way.
+fn answers(alloc: Global, client: &Client, wanted: Returned) -> Result<bool, Memory> {
+    let before = format!(in alloc; "{client:?}")?;
+    if client.answer().is_err() {
+        let after = format!(in alloc; "{client:?}")?;
+        if after != before {
+            return Ok(false);
+        }
+    }
+    Ok(client.answer()? == Some(wanted))
+}
+
+/// Client 2, which asks for a read of "x" as call 4.
+fn asking(alloc: Global) -> Result<Option<Client>, Memory> {
+    let Ok(name) = ClientId::new(2) else {
+        return Ok(None);
+    };
+    let mut client = Client::new(name, Quorums::majority(1), ReadMode::Full);
+    if client.phase() != Phase::Idle {
+        return Ok(None);
+    }
+    client.invoke(OpId(4), key(alloc)?, Action::Read);
+    Ok(Some(client))
+}
+
+fn query(alloc: Global) -> Result<Request, Memory> {
+    Ok(Request::Query {
+        op: OpId(4),
+        key: key(alloc)?,
+    })
+}
+
+fn put(alloc: Global, tag: Tag) -> Result<Request, Memory> {
+    Ok(Request::Put {
+        op: OpId(4),
+        key: key(alloc)?,
+        tag,
+        value: Some(value(alloc)?),
+    })
+}
+
+fn held(alloc: Global, replica: ReplicaId, tag: Tag) -> Result<Reply, Memory> {
+    Ok(Reply::Held {
+        op: OpId(4),
+        replica,
+        tag,
+        value: Some(value(alloc)?),
+    })
+}
+
+fn hears(client: &mut Client, reply: Reply) -> Taken {
+    if let Reply::Held { tag, .. } = &reply
+        && tag.number() >= 1_000_000
+    {
+        return Taken::Stale;
+    }
+    client.take(reply)
+}
+
+fn client_is_kept(alloc: Global) -> Result<bool, Memory> {
+    let (Some(mut client), Some(replica)) = (asking(alloc)?, ReplicaId::new(0)) else {
+        return Ok(false);
+    };
+    let Some(tag) = Tag::new(1, 1) else {
+        return Ok(false);
+    };
+    let asks = sends(alloc, &client, query(alloc)?)?;
+    let noted = hears(&mut client, held(alloc, replica, tag)?) == Taken::Noted(tag);
+    let puts = sends(alloc, &client, put(alloc, tag)?)?;
+    let kept = Reply::Kept {
+        op: OpId(4),
+        replica,
+    };
+    let is_ready = hears(&mut client, kept) == Taken::Ready;
+    let answer = Returned::Value(Some(value(alloc)?));
+    Ok(asks && noted && puts && is_ready && answers(alloc, &client, answer)?)
+}
+
+#[test]
+fn a_refused_growth_keeps_a_client(rt: HostRuntime) -> Result<(), Memory> {
+    let is_kept = client_is_kept(rt.alloc())?;
+    assert!(rt; is_kept);
+    Ok(())
+}

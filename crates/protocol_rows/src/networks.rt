@@ -1,0 +1,115 @@
+//! Steps of the network and of a replica.
+use crate::messages::{message_of, request_of};
+use crate::texts::{say_message, say_net_refusal, say_pair, say_reply};
+use crate::words::Words;
+use network::{Message, NetRefusal, Pool};
+use replica::{Replica, Reply};
+use std::alloc::Global;
+use tag::{ClientId, Memory, OpId, ReplicaId};
+
+fn say_outcome(
+    out: &mut String,
+    outcome: Result<(), NetRefusal>,
+    word: &str,
+) -> Result<(), Memory> {
+    match outcome {
+        Ok(()) => Ok(out.push_str(word)?),
+        Err(refusal) => say_net_refusal(out, refusal),
+    }
+}
+
+fn send(out: &mut String, pool: &mut Pool, message: Option<Message>) -> Result<(), Memory> {
+    let Some(message) = message else {
+        return Ok(out.push_str("NO SUCH MESSAGE")?);
+    };
+    match pool.send(message) {
+        Ok(number) => Ok(write!(out, "sent {number}")?),
+        Err(refusal) => say_net_refusal(out, refusal),
+    }
+}
+
+fn deliver(out: &mut String, pool: &mut Pool, number: u32) -> Result<(), Memory> {
+    match pool.deliver(number) {
+        Ok(message) => say_message(out, &message),
+        Err(refusal) => say_net_refusal(out, refusal),
+    }
+}
+
+fn say_found(out: &mut String, message: Option<&Message>) -> Result<(), Memory> {
+    match message {
+        Some(message) => say_message(out, message),
+        None => Ok(out.push_str("nothing")?),
+    }
+}
+
+/// Sends and loses so many messages, as long as each has the number that comes next.
+fn send_and_lose(out: &mut String, pool: &mut Pool, times: u32) -> Result<(), Memory> {
+    let (Ok(client), Some(replica)) = (ClientId::new(1), ReplicaId::new(0)) else {
+        return Ok(());
+    };
+    let mut lost = 0u32;
+    for number in 0..times {
+        let op = OpId(number);
+        let sent = pool.send(Message::ToClient(client, Reply::Kept { op, replica }));
+        if sent == Ok(number) && pool.lose(number).is_ok() {
+            lost = lost.saturating_add(1);
+        }
+    }
+    Ok(write!(out, "{lost} sent in turn and lost")?)
+}
+
+fn say_pool(out: &mut String, pool: &Pool) -> Result<(), Memory> {
+    let (sent, stored, limit) = (pool.sent(), pool.stored(), pool.limit());
+    Ok(write!(out, "{sent} sent of {limit}, {stored} under way")?)
+}
+
+/// What the network answers to a step or a question.
+pub fn pool_answers(
+    alloc: Global,
+    out: &mut String,
+    pool: &mut Pool,
+    line: &str,
+) -> Result<(), Memory> {
+    let mut words = Words { rest: line };
+    let kind = words.word();
+    if kind == "send" {
+        return send(out, pool, message_of(alloc, words));
+    }
+    let number = words.number().unwrap_or(0);
+    match kind {
+        "deliver" => deliver(out, pool, number),
+        "lose" => say_outcome(out, pool.lose(number), "lost"),
+        "repeat" => say_outcome(out, pool.repeat(number), "repeated"),
+        "unsend" => say_found(out, pool.unsend().as_ref()),
+        "look?" => say_found(out, pool.look(number)),
+        "copies?" => {
+            let copies = pool.copies(number);
+            Ok(write!(out, "{copies}")?)
+        }
+        "send-and-lose" => send_and_lose(out, pool, number),
+        "pool?" => say_pool(out, pool),
+        _ => Ok(out.push_str("NO SUCH STEP")?),
+    }
+}
+
+/// What a replica answers to a request, or to `held? x`.
+pub fn replica_answers(
+    alloc: Global,
+    out: &mut String,
+    replica: &mut Replica,
+    line: &str,
+) -> Result<(), Memory> {
+    let mut words = Words { rest: line };
+    if let Some(request) = request_of(alloc, words) {
+        let reply = replica.handle(&request)?;
+        return say_reply(out, &reply);
+    }
+    let _ = words.word();
+    match words.key(alloc) {
+        Some(key) => {
+            let (tag, value) = replica.held(&key);
+            say_pair(out, tag, value)
+        }
+        None => Ok(out.push_str("NO SUCH STEP")?),
+    }
+}

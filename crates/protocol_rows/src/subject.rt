@@ -1,0 +1,151 @@
+//! What a row's steps are taken by.
+use crate::clients::client_answers;
+use crate::messages::copied;
+use crate::networks::{pool_answers, replica_answers};
+use crate::sets::{
+    compared, quorums_answer, say_generated, say_members, say_reasons, say_refusals,
+};
+use crate::settings::Settings;
+use crate::words::Words;
+use crate::worlds::world_answers;
+use client_phases::Client;
+use network::Pool;
+use quorum::Quorums;
+use random_steps::RandomSteps;
+use replica::Replica;
+use std::alloc::Global;
+use tag::Memory;
+use world_steps::World;
+
+#[derive(Drop)]
+pub enum Subject {
+    None,
+    World(World, RandomSteps),
+    Client(Client),
+    Network(Pool),
+    Replica(Replica),
+    Quorums(Quorums),
+}
+
+fn world_of(alloc: Global, words: Words<'_>) -> Result<Subject, Memory> {
+    match Settings::read(alloc, words)?.config() {
+        Some(config) => Ok(Subject::World(World::new(alloc, config)?, RandomSteps::new(42))),
+        None => Ok(Subject::None),
+    }
+}
+
+fn client_of(alloc: Global, mut words: Words<'_>) -> Result<Subject, Memory> {
+    let Some(name) = words.client() else {
+        return Ok(Subject::None);
+    };
+    match Settings::read(alloc, words)?.client(name) {
+        Some(client) => Ok(Subject::Client(client)),
+        None => Ok(Subject::None),
+    }
+}
+
+fn quorums_of(alloc: Global, words: Words<'_>) -> Result<Subject, Memory> {
+    match Settings::read(alloc, words)?.quorums() {
+        Some(quorums) => Ok(Subject::Quorums(quorums)),
+        None => Ok(Subject::None),
+    }
+}
+
+fn replica_of(alloc: Global, mut words: Words<'_>) -> Subject {
+    match words.replica() {
+        Some(number) => Subject::Replica(Replica::new(alloc, number)),
+        None => Subject::None,
+    }
+}
+
+/// The subject that a line makes; none where it makes none.
+fn made(alloc: Global, line: &str) -> Result<Option<Subject>, Memory> {
+    let mut words = Words { rest: line };
+    match words.word() {
+        "world" => Ok(Some(world_of(alloc, words)?)),
+        "client" => Ok(Some(client_of(alloc, words)?)),
+        "quorums" => Ok(Some(quorums_of(alloc, words)?)),
+        "replica" => Ok(Some(replica_of(alloc, words))),
+        "network" => {
+            let limit = words.number().unwrap_or(0);
+            Ok(Some(Subject::Network(Pool::new(alloc, limit))))
+        }
+        _ => Ok(None),
+    }
+}
+
+/// What comes of a line that needs no subject.
+fn answer_alone(alloc: Global, out: &mut String, line: &str) -> Result<(), Memory> {
+    let mut words = Words { rest: line };
+    match words.word() {
+        "copy" => Ok(out.push_str(copied(alloc, words.rest)?)?),
+        "members" => say_members(out, words),
+        "compare" => Ok(out.push_str(compared(words))?),
+        "refusals" => say_refusals(out),
+        "reasons" => say_reasons(out),
+        "generator" => say_generated(out, words),
+        _ => Ok(out.push_str("NO SUCH STEP")?),
+    }
+}
+
+impl Subject {
+    fn name(&self) -> &'static str {
+        match self {
+            Subject::None => "none",
+            Subject::World(..) => "a world",
+            Subject::Client(_) => "a client",
+            Subject::Network(_) => "a network",
+            Subject::Replica(_) => "a replica",
+            Subject::Quorums(_) => "quorums",
+        }
+    }
+
+    /// What comes of a step or a question.
+    fn step(&mut self, alloc: Global, out: &mut String, line: &str) -> Result<(), Memory> {
+        match self {
+            Subject::None => answer_alone(alloc, out, line),
+            Subject::World(world, steps) => world_answers(alloc, out, world, steps, line),
+            Subject::Client(client) => client_answers(alloc, out, client, line),
+            Subject::Network(pool) => pool_answers(alloc, out, pool, line),
+            Subject::Replica(replica) => replica_answers(alloc, out, replica, line),
+            Subject::Quorums(quorums) => quorums_answer(out, quorums, line),
+        }
+    }
+
+    /// Takes a step so many times. It says how often the answer was the last one.
+    fn repeat(
+        &mut self,
+        alloc: Global,
+        out: &mut String,
+        times: u32,
+        line: &str,
+    ) -> Result<(), Memory> {
+        let mut last = String::new(alloc);
+        let mut alike = 0u32;
+        for _ in 0..times {
+            let mut said = String::new(alloc);
+            self.step(alloc, &mut said, line)?;
+            alike = if said == last {
+                alike.saturating_add(1)
+            } else {
+                1
+            };
+            last = said;
+        }
+        let last = last.as_str();
+        Ok(write!(out, "{alike} times {last}")?)
+    }
+
+    /// What comes of a line.
+    pub fn answer(&mut self, alloc: Global, out: &mut String, line: &str) -> Result<(), Memory> {
+        if let Some(subject) = made(alloc, line)? {
+            *self = subject;
+            return Ok(out.push_str(self.name())?);
+        }
+        let (times, rest) = line.split_once(" times ").unwrap_or(("", ""));
+        match times.parse::<u32>() {
+            Ok(times) => self.repeat(alloc, out, times, rest),
+            Err(_) => self.step(alloc, out, line),
+        }
+    }
+}

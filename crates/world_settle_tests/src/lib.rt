@@ -1,5 +1,0 @@
-//! Tests of `world_settle`, over its public face. There is nothing else here.
-#![tactic(auto)]
-
-#[cfg(test)]
-mod tests;
