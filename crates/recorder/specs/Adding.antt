@@ -1,5 +1,9 @@
 -- How the parts of a history grow by a call.
 use Rattle.std.specs.Prelude.{ℕ, ◌≡◌, ◌⊎◌, List, [], ◌∷◌, ◌++◌, Some, slice_get, slice_set, Contains}
+use Rattle.tag.specs.declared.actions.Action.{Action}
+use Rattle.tag.specs.declared.numbers.OpId.{OpId}
+use Rattle.recorder.specs.declared.row.Row.{Row}
+use Rattle.recorder.specs.declared.row.Row.TheVariants.{Invoke}
 use Rattle.recorder.specs.declared.part.Call.{Call}
 
 -- the call comes to the end of its key's part
@@ -17,3 +21,7 @@ pub record Begins (old : List (List ℕ × List Call)) (key : List ℕ) (call : 
 -- the call is added to the parts
 abbrev pub AddsCall : List (List ℕ × List Call) → List ℕ → Call → List (List ℕ × List Call) → Type 0
 AddsCall old key call new = Extends old key call new ⊎ Begins old key call new
+
+-- the row at that place begins the call, on some key
+abbrev pub IsBegunAt : List Row → ℕ → OpId → ℕ → Action → Type 0
+IsBegunAt rows place op client action = (key : List ℕ) × (slice_get rows place ≡ Some (Invoke op client key action))

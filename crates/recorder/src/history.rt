@@ -1,8 +1,8 @@
 //! Histories: rows of calls as they come.
-ghost use Rattle.std.specs.Prelude.{◌≡◌, ◌≤◌, [], IfOk, IfSome, IfNone, IsSome, Some, None, slice_get, true, false, IsTrue, ◌↔◌};
+ghost use Rattle.std.specs.Prelude.{ℕ, ◌≡◌, ◌≤◌, ◌<◌, List, [], IfOk, OnOk, OnErr, IfSome, IfNone, IsSome, Some, None, slice_get, true, false, IsTrue, ◌↔◌, vec_len, vec_capacity};
 ghost use Rattle.recorder.specs.declared.history.CallState.{CallState};
 ghost use Rattle.recorder.specs.Histories.{IsBusy, IsWellFormed, call_count, caller_of};
-ghost use Rattle.recorder.specs.Answers.{Adds};
+ghost use Rattle.recorder.specs.Answers.{Adds, IsRefused, MayBegin, with_row};
 ghost use Rattle.recorder.specs.States.{is_write};
 
 mod parts;
@@ -130,33 +130,53 @@ impl History {
         ensures row { Adds self.old (Row.Invoke (record { 0 = call_count self.old.rows }) client key action) result self.new }
         ensures number { IfOk result (λ op. op.0 ≡ call_count self.old.rows) }
     {
-        let count = self.states.len();
-        if count >= self.limit as usize {
-            return Err(RowRefusal::OpsFull);
+        if let Some(refusal) = self.invoke_refusal(client) {
+            return Err(refusal);
         }
-        if self.busy.contains(&client.get()) {
-            return Err(RowRefusal::ClientBusy);
-        }
-        let op = OpId(count as u32);
-        let is_write = is_write(&action);
-        // Whatever can be refused comes first.
-        self.rows.reserve(1)?;
-        self.states.reserve(1)?;
+        let op = OpId(self.calls() as u32);
         let key = shared_key(&mut self.keys, key)?;
-        self.busy.insert(client.get())?;
-        self.states.push(CallState {
+        self.begin(op, client, key, action)?;
+        Ok(op)
+    }
+
+    /// Why the client can't begin a call, if it can't.
+    fn invoke_refusal(&self, client: ClientId) -> Option<RowRefusal>
+        ensures some { IfSome result (λ refusal. (op : OpId) (key : List ℕ) (action : Action) → IsRefused self.now (Row.Invoke op client key action) refusal) }
+        ensures none { IfNone result (MayBegin self.now client) }
+    {
+        if self.calls() >= self.limit as usize {
+            return Some(RowRefusal::OpsFull);
+        }
+        if self.is_busy(client) {
+            return Some(RowRefusal::ClientBusy);
+        }
+        None
+    }
+
+    /// Begins a call that nothing refuses. On `Memory` nothing changed.
+    fn begin(&mut self, op: OpId, client: ClientId, key: Key, action: Action) -> Result<(), Memory>
+        requires next { op.0 ≡ call_count self.old.rows }
+        requires may { MayBegin self.old client }
+        ensures ok { OnOk result (self.new ≡ with_row self.old (Row.Invoke op client key action)) }
+        ensures err { OnErr result (self.new ≡ self.old) }
+    {
+        let state = CallState {
             client,
-            is_write,
+            is_write: is_write(&action),
             note: None,
             response: None,
-        })?;
+        };
+        // Whatever can be refused comes first.
+        make_room(&mut self.rows, &mut self.states)?;
+        self.busy.insert(client.get())?;
+        self.states.push(state)?;
         self.rows.push(Row::Invoke {
             op,
             client,
             key,
             action,
         })?;
-        Ok(op)
+        Ok(())
     }
 
     /// Fixes a pending call's tag. `NotPending` comes where the call isn't pending, else
@@ -194,6 +214,18 @@ impl History {
         self.busy.remove(&state.client.get());
         Ok(())
     }
+}
+
+/// Makes room for a row more and a state more.
+fn make_room(rows: &mut Vec<Row>, states: &mut Vec<CallState>) -> Result<(), Memory>
+    ensures rows { rows.new.items ≡ rows.old.items }
+    ensures states { states.new.items ≡ states.old.items }
+    ensures row { OnOk result (vec_len rows.new < vec_capacity rows.new) }
+    ensures state { OnOk result (vec_len states.new < vec_capacity states.new) }
+{
+    rows.reserve(1)?;
+    states.reserve(1)?;
+    Ok(())
 }
 
 /// The key, its text shared with the one that is known, if any.

@@ -1,20 +1,21 @@
 //! The parts of a history.
-ghost use Rattle.std.specs.Prelude.{◌≡◌, List, [], ◌∷◌, ◌++◌, IfOk, OnOk, Contains};
+ghost use Rattle.std.specs.Prelude.{ℕ, ◌≡◌, List, [], ◌∷◌, ◌++◌, IfOk, OnOk, Some, slice_get, Contains};
 ghost use Rattle.std.specs.Option.{ForSome};
 ghost use Rattle.recorder.specs.declared.part.Call.{Call};
 ghost use Rattle.tag.specs.declared.numbers.OpId.{OpId};
 ghost use Rattle.recorder.specs.Parts.{IsSequence};
 ghost use Rattle.recorder.specs.States.{RespondsAt, IsResponseAt};
-ghost use Rattle.recorder.specs.Adding.{AddsCall};
+ghost use Rattle.recorder.specs.Adding.{AddsCall, IsBegunAt};
+ghost use Rattle.recorder.specs.declared.row.Row.{Row};
 
 use super::History;
 use crate::part::{Call, Part, Response};
 use crate::row::Row;
 use indexmap::IndexMap;
-use tag::{Key, Memory, OpId};
+use tag::{Action, ClientId, Key, Memory, OpId};
 
 impl History {
-    ghost use Rattle.recorder.specs.Records.{AreParts};
+    ghost use Rattle.recorder.specs.Records.{AreParts, IsRecorded};
 
     /// The calls of each key as the rows record them, in one pass; the keys in the order in which
     /// they are first seen. `Memory` comes only where a growth was refused.
@@ -30,19 +31,34 @@ impl History {
                 action,
             } = row
             {
-                let state = self.states[op.0 as usize];
-                let call = Call {
-                    op: *op,
-                    client: *client,
-                    action: action.copy()?,
-                    note: state.note,
-                    invoked: place,
-                    response: response_at(&self.rows, state.response)?,
-                };
+                let call = self.call_at(place, *op, *client, action)?;
                 add_call(&mut parts, key, call)?;
             }
         }
         Ok(parts)
+    }
+
+    /// The call that the row at that place begins, as the rows record it.
+    fn call_at(
+        &self,
+        place: usize,
+        op: OpId,
+        client: ClientId,
+        action: &Action,
+    ) -> Result<Call, Memory>
+        requires { IsBegunAt self.now.rows place op client action.now }
+        ensures invoked { IfOk result (λ call. call.invoked ≡ place) }
+        ensures call { IfOk result (λ call. (key : List ℕ) → slice_get self.now.rows place ≡ Some (Row.Invoke op client key action.now) → IsRecorded self.now.rows key call) }
+    {
+        let state = self.states[op.0 as usize];
+        Ok(Call {
+            op,
+            client,
+            action: action.copy()?,
+            note: state.note,
+            invoked: place,
+            response: response_at(&self.rows, state.response)?,
+        })
     }
 }
 

@@ -2,4 +2,4 @@ use Rattle.recorder.proofs.PartsBelow.{ArePartsBelow}
 use Rattle.recorder.proofs.history.History.parts.Given as goal
 
 abbrev pub invariant-loop-place : goal.invariant-loop-place
-invariant-loop-place l = ArePartsBelow l.self-inside.rows.items l.place l.parts.entries
+invariant-loop-place l = ArePartsBelow l.self.rows l.place l.parts.entries
