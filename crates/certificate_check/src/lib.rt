@@ -7,8 +7,6 @@
 mod check;
 pub mod laws;
 mod listing;
-#[cfg(test)]
-mod tests;
 mod verdict;
 
 pub use check::check_part;

@@ -7,8 +7,6 @@
 pub mod laws;
 mod quorums;
 mod sets;
-#[cfg(test)]
-mod tests;
 
 pub use quorums::Quorums;
 pub use sets::ReplicaSet;

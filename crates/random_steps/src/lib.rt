@@ -4,7 +4,5 @@
 #![tactic(auto)]
 
 mod random_steps;
-#[cfg(test)]
-mod tests;
 
 pub use random_steps::RandomSteps;

@@ -10,8 +10,6 @@ pub mod laws;
 mod order;
 mod part;
 mod row;
-#[cfg(test)]
-mod tests;
 
 pub use history::History;
 pub use order::{KeyOrder, Order};

@@ -10,8 +10,6 @@ mod pairs;
 mod replicas;
 mod replies;
 mod requests;
-#[cfg(test)]
-mod tests;
 
 pub use pairs::Pair;
 pub use replicas::Replica;

@@ -10,8 +10,6 @@ mod memory;
 mod names;
 mod numbers;
 mod tags;
-#[cfg(test)]
-mod tests;
 
 pub use actions::{Action, Returned};
 pub use memory::Memory;

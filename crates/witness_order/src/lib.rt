@@ -8,8 +8,6 @@ mod error;
 pub mod laws;
 mod sort_key;
 mod tag_order;
-#[cfg(test)]
-mod tests;
 
 pub use error::WitnessError;
 pub use tag_order::order_of;
