@@ -1,6 +1,8 @@
 //! Runs the worked rows of names, histories, orders and verdicts, and says what came out of each: see the heads of the files in data/.
 #![tactic(auto)]
 
+ghost use Rattle.std.specs.Prelude.{◌≤◌};
+
 mod calls;
 mod names;
 mod plain_check;
@@ -31,7 +33,9 @@ fn said(alloc: Global, history: &mut History, line: &str) -> Result<String, Memo
 }
 
 /// How many calls the history of a row may have: what its line `limit` says, else a million.
-fn limit_of(input: &str) -> u32 {
+fn limit_of(input: &str) -> u32
+    ensures { result ≤ 1000000 }
+{
     match first_word(input.lines().next().unwrap_or("")) {
         ("limit", rest) => number(rest).unwrap_or(0).min(1_000_000),
         _ => 1_000_000,
