@@ -21,19 +21,36 @@ use std::{env, fs, io};
 use subject::Subject;
 use tag::Memory;
 
-/// What comes of the steps: a line for each line of them, divided as they are.
-fn found(alloc: Global, input: &str) -> Result<String, Memory> {
-    let mut out = String::new(alloc);
+/// Says what comes of a line of steps, divided as they are.
+fn say_steps(
+    alloc: Global,
+    out: &mut String,
+    subject: &mut Subject,
+    line: &str,
+) -> Result<(), Memory> {
+    for (place, step) in line.split(" / ").enumerate() {
+        if place > 0 {
+            out.push_str(" / ")?;
+        }
+        subject.answer(alloc, out, step)?;
+    }
+    out.push_str("\n")?;
+    Ok(())
+}
+
+/// Says what comes of the lines of steps, a line for each.
+fn say_lines(alloc: Global, out: &mut String, input: &str) -> Result<(), Memory> {
     let mut subject = Subject::None;
     for line in input.lines() {
-        let mut divider = "";
-        for step in line.split(" / ") {
-            out.push_str(divider)?;
-            subject.answer(alloc, &mut out, step)?;
-            divider = " / ";
-        }
-        out.push_str("\n")?;
+        say_steps(alloc, out, &mut subject, line)?;
     }
+    Ok(())
+}
+
+/// What comes of the steps.
+fn found(alloc: Global, input: &str) -> Result<String, Memory> {
+    let mut out = String::new(alloc);
+    say_lines(alloc, &mut out, input)?;
     Ok(out)
 }
 
