@@ -2,7 +2,8 @@
 //! a program to measure with. See benchmarks/README.md.
 #![tactic(auto)]
 
-use history_file::{Counting, read_history};
+use counted_devices::Counting;
+use history_file::read_history;
 use std::process::ExitCode;
 use std::thread::Threads;
 use std::time::Instant;
