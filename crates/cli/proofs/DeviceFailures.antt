@@ -1,8 +1,8 @@
 -- After a device failed, what went out as history is nothing, or a beginning of its text.
 use Rattle.std.proofs.Common.{◌≡◌, ◌⊎◌, inl, inr, ℕ, List, Option}
 use Rattle.std.specs.Io.KnownBytes.{Appends}
-use Rattle.history_file.specs.Sendings.{Begins}
-use Rattle.history_file.specs.Texts.{history_text}
+use Rattle.counted_devices.specs.Sendings.{Begins}
+use Rattle.file_format.specs.Texts.{history_text}
 use Rattle.fault_script.specs.Simulations.{Simulates}
 
 module _ (old new out out_after notes notes_after : Option (List ℕ)) (Same Said Grown : Type 0) (same : Same → out_after ≡ out) where

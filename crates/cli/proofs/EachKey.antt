@@ -13,7 +13,7 @@ use Rattle.recorder.specs.declared.order.KeyOrder.{KeyOrder}
 use Rattle.recorder.specs.Records.{AreParts, IsPart}
 use Rattle.recorder.specs.Orders.{IsOrder}
 use Rattle.recorder.proofs.Lists.{place_of, Contains-slice_get}
-use Rattle.history_file.specs.OrderFormat.{AreJoined, key_in, order_in, order_on}
+use Rattle.file_format.specs.OrderFormat.{AreJoined, key_in, order_in, order_on}
 use Rattle.cli.specs.Checks.{IsYes, IsNo}
 use Rattle.cli.specs.Judging.{Entries, JudgesAll, list_at}
 use Rattle.cli.proofs.Entries.{contains_nothing, contains_head, contains_tail, found_entry, found_key}

@@ -2,9 +2,10 @@
 use Rattle.std.proofs.Common.{◌≡◌, ℕ, List, Option, refl, subst}
 use Rattle.recorder.specs.declared.order.KeyOrder.{KeyOrder}
 use Rattle.recorder.specs.Histories.{Recorded}
-use Rattle.history_file.specs.Deliveries.{Delivers, ReadsAll}
-use Rattle.history_file.specs.HistoryFormat.{history_format, MakesHistory}
-use Rattle.history_file.specs.OrderFormat.{order_format, AreJoined}
+use Rattle.counted_devices.specs.Deliveries.{Delivers}
+use Rattle.history_file.specs.Deliveries.{ReadsAll}
+use Rattle.file_format.specs.HistoryFormat.{history_format, MakesHistory}
+use Rattle.file_format.specs.OrderFormat.{order_format, AreJoined}
 use Rattle.cli.specs.Checks.{Left, Judges, JudgesRead, Ends}
 use Rattle.cli.specs.declared.status.Status.{Status}
 use Rattle.cli.specs.declared.status.Status.TheVariants.{Good, Refused, Usage, Format, Failed}

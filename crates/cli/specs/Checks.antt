@@ -5,13 +5,14 @@ use Rattle.recorder.specs.declared.part.Call.{Call}
 use Rattle.recorder.specs.declared.order.KeyOrder.{KeyOrder}
 use Rattle.recorder.specs.Records.{IsPart}
 use Rattle.recorder.specs.Orders.{IsOrder}
-use Rattle.history_file.specs.declared.fault.FileFault.{FileFault}
-use Rattle.history_file.specs.declared.fault.LineFault.{LineFault}
-use Rattle.history_file.specs.declared.fault.FaultKind.TheVariants as kind
-use Rattle.history_file.specs.Deliveries.{Delivers, ReadsAll, StopsWith}
-use Rattle.history_file.specs.Formats.{Format}
-use Rattle.history_file.specs.HistoryFormat.{history_format, MakesHistory}
-use Rattle.history_file.specs.OrderFormat.{order_format, order_on}
+use Rattle.file_format.specs.declared.fault.FileFault.{FileFault}
+use Rattle.file_format.specs.declared.fault.LineFault.{LineFault}
+use Rattle.file_format.specs.declared.fault.FaultKind.TheVariants as kind
+use Rattle.counted_devices.specs.Deliveries.{Delivers}
+use Rattle.history_file.specs.Deliveries.{ReadsAll, StopsWith}
+use Rattle.file_format.specs.Formats.{Format}
+use Rattle.file_format.specs.HistoryFormat.{history_format, MakesHistory}
+use Rattle.file_format.specs.OrderFormat.{order_format, order_on}
 use Rattle.cli.specs.declared.status.Failure.{Failure}
 use Rattle.cli.specs.declared.status.Failure.TheVariants as failure
 use Rattle.cli.specs.declared.status.Status.{Status}

@@ -1,7 +1,7 @@
 -- Why the judging of a history's keys ends before its time.
 use Rattle.std.specs.Prelude.{◌≡◌}
-use Rattle.history_file.specs.declared.counting.Counting.{Counting}
-use Rattle.history_file.specs.Counts.{HasGrown}
+use Rattle.counted_devices.specs.declared.counting.Counting.{Counting}
+use Rattle.counted_devices.specs.Counts.{HasGrown}
 use Rattle.cli.specs.declared.judging.Halt.{Halt}
 use Rattle.cli.specs.declared.judging.Halt.TheVariants as halt
 

@@ -10,10 +10,11 @@ use Rattle.recorder.specs.Orders.{IsOrder}
 use Rattle.recorder.specs.Sound.{IsByTag}
 use Rattle.witness_order.specs.Notes.{AllNoted, IsLeastUnnoted}
 use Rattle.certificate_check.specs.Verdicts.{IsFault}
-use Rattle.history_file.specs.Deliveries.{Delivers, ReadsAll}
-use Rattle.history_file.specs.HistoryFormat.{history_format, MakesHistory}
-use Rattle.history_file.specs.Sendings.{Begins}
-use Rattle.history_file.specs.Texts.{orders_text}
+use Rattle.counted_devices.specs.Deliveries.{Delivers}
+use Rattle.history_file.specs.Deliveries.{ReadsAll}
+use Rattle.file_format.specs.HistoryFormat.{history_format, MakesHistory}
+use Rattle.counted_devices.specs.Sendings.{Begins}
+use Rattle.file_format.specs.Texts.{orders_text}
 use Rattle.cli.specs.declared.justifying.Unjustified.{Unjustified}
 use Rattle.cli.specs.declared.justifying.Unjustified.TheVariants as unjustified
 use Rattle.cli.specs.declared.status.Status.{Status}

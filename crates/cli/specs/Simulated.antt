@@ -1,9 +1,9 @@
 -- What the run of a script comes to.
 use Rattle.std.specs.Prelude.{ℕ, ◌≡◌, ◌⊎◌, List, Option}
 use Rattle.std.specs.Io.KnownBytes.{Appends}
-use Rattle.history_file.specs.Counts.{HasGrown}
-use Rattle.history_file.specs.Deliveries.{Delivers}
-use Rattle.history_file.specs.Sendings.{Begins}
+use Rattle.counted_devices.specs.Counts.{HasGrown}
+use Rattle.counted_devices.specs.Deliveries.{Delivers}
+use Rattle.counted_devices.specs.Sendings.{Begins}
 use Rattle.fault_script.specs.Deliveries.{StopsWith}
 use Rattle.fault_script.specs.Simulations.{Simulates}
 use Rattle.fault_script.specs.declared.fault.LineFault.{LineFault}

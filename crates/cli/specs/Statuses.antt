@@ -1,7 +1,7 @@
 -- The exit statuses.
 use Rattle.std.specs.Prelude.{ℕ}
-use Rattle.history_file.specs.declared.fault.FaultKind.{FaultKind}
-use Rattle.history_file.specs.declared.fault.FaultKind.TheVariants as kind
+use Rattle.file_format.specs.declared.fault.FaultKind.{FaultKind}
+use Rattle.file_format.specs.declared.fault.FaultKind.TheVariants as kind
 use Rattle.fault_script.specs.declared.fault.ErrorKind.{ErrorKind}
 use Rattle.fault_script.specs.declared.fault.ErrorKind.TheVariants as error
 use Rattle.cli.specs.declared.status.Status.{Status}

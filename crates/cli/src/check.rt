@@ -1,15 +1,17 @@
 //! `abd check`: the verdict on each key's order.
 ghost use Rattle.std.specs.Prelude.{◌≡◌, ◌⊎◌, IfOk, IfErr};
-ghost use Rattle.history_file.specs.Counts.{HasGrown};
-ghost use Rattle.history_file.specs.Deliveries.{Delivers, HasFailed, ReadsAll};
-ghost use Rattle.history_file.specs.HistoryFormat.{history_format, MakesHistory};
-ghost use Rattle.history_file.specs.OrderFormat.{order_format, AreJoined};
+ghost use Rattle.counted_devices.specs.Counts.{HasGrown};
+ghost use Rattle.counted_devices.specs.Deliveries.{Delivers};
+ghost use Rattle.history_file.specs.Deliveries.{HasFailed, ReadsAll};
+ghost use Rattle.file_format.specs.HistoryFormat.{history_format, MakesHistory};
+ghost use Rattle.file_format.specs.OrderFormat.{order_format, AreJoined};
 ghost use Rattle.cli.specs.Checks.{Ends, Stops, TellsFault};
 ghost use Rattle.cli.specs.Statuses.{status_of};
 
 use crate::judging::{Halt, judge};
 use crate::status::{Failure, Status};
-use history_file::{Counting, read_history, read_orders};
+use counted_devices::Counting;
+use history_file::{read_history, read_orders};
 use recorder::{History, KeyOrder};
 use std::alloc::Global;
 use std::io::{Read, Write};

@@ -5,14 +5,14 @@ ghost use Rattle.std.specs.Map.{lookup};
 ghost use Rattle.tag.specs.declared.numbers.OpId.{OpId};
 ghost use Rattle.recorder.specs.declared.order.KeyOrder.{KeyOrder};
 ghost use Rattle.recorder.specs.Orders.{IsOrder};
-ghost use Rattle.history_file.specs.OrderFormat.{AreJoined};
+ghost use Rattle.file_format.specs.OrderFormat.{AreJoined};
 ghost use Rattle.cli.specs.Checks.{Judges};
 ghost use Rattle.cli.specs.Halts.{Halts};
 ghost use Rattle.cli.specs.Judging.{JudgesAll, JudgesOthers, JudgesParts, list_at};
 
 use crate::status::Status;
 use certificate_check::{Verdict, check_part};
-use history_file::{Counting, write_text};
+use counted_devices::{Counting, write_text};
 use indexmap::IndexMap;
 use recorder::{History, KeyOrder, Order, Part};
 use std::alloc::Global;

@@ -15,7 +15,7 @@ mod words;
 
 pub use asked::{Command, Usage};
 pub use check::{Source, check_command};
-pub use history_file::Counting;
+pub use counted_devices::Counting;
 pub use justify::justify_command;
 pub use justifying::{Unjustified, justified_orders};
 pub use simulate::simulate_command;

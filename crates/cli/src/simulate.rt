@@ -4,8 +4,8 @@ ghost use Rattle.cli.specs.Simulated.{EndsSimulation};
 
 use crate::check::Source;
 use crate::status::{Failure, Status};
+use counted_devices::Counting;
 use fault_script::{SimulateError, simulate};
-use history_file::Counting;
 use std::alloc::Global;
 use std::io::{Read, Write};
 

@@ -3,7 +3,7 @@ ghost use Rattle.std.specs.Prelude.{◌≡◌};
 ghost use Rattle.cli.specs.Statuses.{code_of, status_of};
 
 use fault_script::{ErrorKind, ScriptError};
-use history_file::{FaultKind, FileFault};
+use file_format::{FaultKind, FileFault};
 use std::io::Write;
 use thiserror::Error;
 

@@ -2,8 +2,8 @@
 use Rattle.std.proofs.Common.{ℕ, List, ◌++◌, Option, Result, Ok, Err, inl, inr}
 use Rattle.std.specs.Prelude.{IfOk, IfErr}
 use Rattle.std.specs.Io.KnownBytes.{Consumes, IsAtEnd}
-use Rattle.history_file.specs.Deliveries.{Delivers}
-use Rattle.history_file.proofs.Consuming.{Consumes-join}
+use Rattle.counted_devices.specs.Deliveries.{Delivers}
+use Rattle.counted_devices.proofs.Consuming.{Consumes-join}
 use Rattle.fault_script.specs.declared.command.Script.{Script}
 use Rattle.fault_script.specs.declared.feed.Feed.{Feed}
 use Rattle.fault_script.specs.declared.fault.ScriptError.{ScriptError}

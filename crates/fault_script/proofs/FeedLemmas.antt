@@ -4,9 +4,9 @@ use Rattle.std.specs.Prelude.{All}
 use Rattle.std.specs.List.{flat_map}
 use Rattle.std.proofs.lemmas.Grind.{flat_map-append}
 use Rattle.std.proofs.lemmas.List.Elements.{All-append, All-nil}
-use Rattle.history_file.specs.Cuts.{ended, HasNoEnd, Splits}
-use Rattle.history_file.specs.Feeds.{last_lines}
-use Rattle.history_file.proofs.Feeding.{last_some, last_none}
+use Rattle.counted_devices.specs.Cuts.{ended, HasNoEnd, Splits}
+use Rattle.counted_devices.specs.Cuts.{last_lines}
+use Rattle.counted_devices.proofs.Cutting.{last_some, last_none}
 use Rattle.fault_script.specs.declared.command.Script.{Script}
 use Rattle.fault_script.specs.declared.progress.Progress.{Progress}
 use Rattle.fault_script.specs.declared.feed.Feed.{Feed}

@@ -1,8 +1,8 @@
 -- Bytes are read as one script.
 use Rattle.std.proofs.Common.{ℕ, ◌≡◌, ◌+◌, List, [], ◌∷◌, ◌++◌, length, Option, Some, None, Result, Ok, refl, sym, ap, ◌∙◌, subst, arith, length-append}
 use Rattle.std.specs.Prelude.{option_map}
-use Rattle.history_file.specs.Feeds.{last_lines}
-use Rattle.history_file.proofs.Once.{splits_once}
+use Rattle.counted_devices.specs.Cuts.{last_lines}
+use Rattle.counted_devices.proofs.CutOnce.{splits_once}
 use Rattle.fault_script.specs.declared.command.Script.{Script}
 use Rattle.fault_script.specs.declared.saying.Opened.{Opened}
 use Rattle.fault_script.specs.declared.saying.Said.{Said}

@@ -6,9 +6,9 @@ use Rattle.recorder.specs.Records.{IsPart}
 use Rattle.recorder.specs.Sound.{TagSound}
 use Rattle.recorder.specs.declared.part.Call.{Call}
 use Rattle.recorder.specs.declared.row.Row.{Row}
-use Rattle.history_file.specs.Deliveries.{Delivers}
-use Rattle.history_file.specs.ReadAgain.{IsTextOf}
-use Rattle.history_file.specs.Texts.{history_text}
+use Rattle.counted_devices.specs.Deliveries.{Delivers}
+use Rattle.file_format.specs.ReadAgain.{IsTextOf}
+use Rattle.file_format.specs.Texts.{history_text}
 use Rattle.fault_script.specs.Deliveries.{ReadsAll}
 use Rattle.fault_script.specs.Running.{IsRunSoFar}
 use Rattle.fault_script.specs.Simulations.{IsSoundRun, Simulates}

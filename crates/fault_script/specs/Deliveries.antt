@@ -1,9 +1,9 @@
 -- What was made of what a reader delivered.
 use Rattle.std.specs.Prelude.{ℕ, ◌≡◌, ◌≤◌, ◌+◌, ◌⊎◌, List, length, Option}
 use Rattle.std.specs.Io.KnownBytes.{IsAtEnd}
-use Rattle.history_file.specs.Counts.{HasGrown}
-use Rattle.history_file.specs.Cuts.{Splits}
-use Rattle.history_file.specs.Deliveries.{Delivers}
+use Rattle.counted_devices.specs.Counts.{HasGrown}
+use Rattle.counted_devices.specs.Cuts.{Splits}
+use Rattle.counted_devices.specs.Deliveries.{Delivers}
 use Rattle.fault_script.specs.declared.command.Script.{Script}
 use Rattle.fault_script.specs.declared.feed.Feed.{Feed}
 use Rattle.fault_script.specs.declared.fault.ScriptError.{ScriptError}

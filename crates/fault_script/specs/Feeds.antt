@@ -1,7 +1,7 @@
 -- What bytes that come in pieces were read as.
 use Rattle.std.specs.Prelude.{ℕ, ◌≡◌, ◌≤◌, ◌<◌, ◌+◌, ◌⊎◌, List, [], ◌∷◌, ◌++◌, length, Result, Ok, Err, All, MatchResult}
 use Rattle.std.specs.List.{flat_map}
-use Rattle.history_file.specs.Cuts.{ended, HasNoEnd, Splits}
+use Rattle.counted_devices.specs.Cuts.{ended, HasNoEnd, Splits}
 use Rattle.fault_script.specs.declared.draft.Draft.{Draft}
 use Rattle.fault_script.specs.declared.progress.Progress.{Progress}
 use Rattle.fault_script.specs.declared.feed.Feed.{Feed}

@@ -1,7 +1,7 @@
 -- Scripts: the commands that lines say, and the first fault among lines.
 use Rattle.std.specs.Prelude.{ℕ, ◌≡◌, ◌+◌, List, [], ◌∷◌, ◌++◌, length, Option, Some, None, Ok, Err, option_map, fold, filter_map}
-use Rattle.history_file.specs.Cuts.{Splits}
-use Rattle.history_file.specs.Feeds.{last_lines}
+use Rattle.counted_devices.specs.Cuts.{Splits}
+use Rattle.counted_devices.specs.Cuts.{last_lines}
 use Rattle.fault_script.specs.declared.command.Numbered.{Numbered}
 use Rattle.fault_script.specs.declared.command.Script.{Script}
 use Rattle.fault_script.specs.declared.saying.Last.TheVariants.{Other}

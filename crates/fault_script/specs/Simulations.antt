@@ -1,8 +1,8 @@
 -- What a simulation reads and writes.
 use Rattle.std.specs.Prelude.{ℕ, List, Option}
-use Rattle.history_file.specs.Deliveries.{Delivers}
-use Rattle.history_file.specs.ReadAgain.{IsTextOf}
-use Rattle.history_file.specs.Texts.{history_text}
+use Rattle.counted_devices.specs.Deliveries.{Delivers}
+use Rattle.file_format.specs.ReadAgain.{IsTextOf}
+use Rattle.file_format.specs.Texts.{history_text}
 use Rattle.recorder.specs.Records.{IsPart}
 use Rattle.recorder.specs.Sound.{TagSound}
 use Rattle.recorder.specs.declared.part.Call.{Call}

@@ -1,6 +1,6 @@
 //! A script that comes in pieces.
 ghost use Rattle.std.specs.Prelude.{ℕ, ◌≡◌, ◌<◌, ◌≤◌, ◌+◌, ◌^◌, ◌++◌, List, [], length, OnOk};
-ghost use Rattle.history_file.specs.Cuts.{HasNoEnd, ended};
+ghost use Rattle.counted_devices.specs.Cuts.{HasNoEnd, ended};
 
 use crate::command::Script;
 use crate::draft::Draft;
@@ -8,7 +8,7 @@ use crate::fault::Stop;
 use crate::lines::LONGEST;
 use crate::progress::{Progress, error_at};
 use crate::{LineFault, ScriptError};
-use history_file::first_end;
+use counted_devices::first_end;
 use std::alloc::Global;
 
 /// What the whole lines so far made, and what came of the next line.

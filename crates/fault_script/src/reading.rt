@@ -1,13 +1,13 @@
 //! Scripts from readers.
 ghost use Rattle.std.specs.Prelude.{ℕ, ◌≡◌, ◌<◌, ◌≤◌, ◌+◌, ◌^◌, List, Option, length, true, false, IfOk, IfErr, MatchResult};
 ghost use Rattle.std.specs.Io.KnownBytes.{IsAtEnd};
-ghost use Rattle.history_file.specs.Deliveries.{Delivers};
+ghost use Rattle.counted_devices.specs.Deliveries.{Delivers};
 ghost use Rattle.fault_script.specs.Deliveries.{Holds, ReadsAll, StopsAt, HasFailed};
 
 use crate::command::Script;
 use crate::feed::Feed;
 use crate::{ErrorKind, ScriptError};
-use history_file::Counting;
+use counted_devices::Counting;
 use std::alloc::{AllocError, Global};
 use std::io::Read;
 

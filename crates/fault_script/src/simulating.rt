@@ -1,10 +1,10 @@
 //! Scripts from readers, and the records of their runs to writers.
 ghost use Rattle.std.specs.Prelude.{◌≡◌, ◌⊎◌, IfErr, IfOk, IsErrOf, List, ℕ, OnOk};
 ghost use Rattle.std.specs.Io.KnownBytes.{Appends};
-ghost use Rattle.history_file.specs.Counts.{HasGrown};
-ghost use Rattle.history_file.specs.Deliveries.{Delivers};
-ghost use Rattle.history_file.specs.Sendings.{Begins};
-ghost use Rattle.history_file.specs.Texts.{history_text};
+ghost use Rattle.counted_devices.specs.Counts.{HasGrown};
+ghost use Rattle.counted_devices.specs.Deliveries.{Delivers};
+ghost use Rattle.counted_devices.specs.Sendings.{Begins};
+ghost use Rattle.file_format.specs.Texts.{history_text};
 ghost use Rattle.recorder.specs.declared.row.Row.{Row};
 ghost use Rattle.fault_script.specs.Deliveries.{HasFailed, StopsAt};
 ghost use Rattle.fault_script.specs.Simulations.{IfScript, IsSoundRun, Simulates};
@@ -12,7 +12,8 @@ ghost use Rattle.fault_script.specs.Simulations.{IfScript, IsSoundRun, Simulates
 use crate::command::Script;
 use crate::script_run::ScriptRun;
 use crate::{ScriptError, parse};
-use history_file::{Counting, history_text, write_text};
+use counted_devices::{Counting, write_text};
+use file_format::history_text;
 use std::alloc::Global;
 use std::io::{Read, Write};
 use tag::Memory;

@@ -1,8 +1,8 @@
 //! What no clause says: that calls succeed with ample memory, that the clauses mean the format, and
 //! what a reader that fails leaves.
 use client_phases::ReadMode;
+use counted_devices::Counting;
 use fault_script::{Command, ErrorKind, LineFault, Script, ScriptError, parse};
-use history_file::Counting;
 use std::alloc::{AllocError, Global};
 use std::io;
 use std::io::Read;

@@ -4,24 +4,24 @@ use Rattle.std.specs.List.{AllZip, flat_map}
 use Rattle.std.proofs.lemmas.Slice.Zip.{AllZip-long}
 use Rattle.std.proofs.lemmas.List.Elements.{All-nil}
 use Rattle.std.proofs.lemmas.Bool.{lt-ltb}
-use Rattle.history_file.specs.declared.fault.LineFault.TheVariants.{TooLong}
-use Rattle.history_file.specs.declared.fault.FileFault.{FileFault}
-use Rattle.history_file.specs.declared.fault.FaultKind.{FaultKind}
-use Rattle.history_file.specs.declared.fault.FaultKind.TheVariants as kind
+use Rattle.file_format.specs.declared.fault.LineFault.TheVariants.{TooLong}
+use Rattle.file_format.specs.declared.fault.FileFault.{FileFault}
+use Rattle.file_format.specs.declared.fault.FaultKind.{FaultKind}
+use Rattle.file_format.specs.declared.fault.FaultKind.TheVariants as kind
 use Rattle.history_file.specs.declared.progress.Progress.{Progress}
-use Rattle.history_file.specs.declared.judging.Judgement.{Judgement}
+use Rattle.file_format.specs.declared.judging.Judgement.{Judgement}
 use Rattle.history_file.specs.declared.feed.Feed.{Feed}
 use Rattle.history_file.specs.declared.ahead.Ahead.{Ahead}
 use Rattle.history_file.specs.declared.judged.Judged.{Judged}
-use Rattle.history_file.specs.Cuts.{ended, Splits, Divides, HasNoEnd}
-use Rattle.history_file.specs.Lines.{ShowsItem, ShowParts}
-use Rattle.history_file.specs.Formats.{Format}
-use Rattle.history_file.specs.Files.{IsFirstOfKind, IsAt}
+use Rattle.counted_devices.specs.Cuts.{ended, Splits, Divides, HasNoEnd}
+use Rattle.file_format.specs.Lines.{ShowsItem, ShowParts}
+use Rattle.file_format.specs.Formats.{Format}
+use Rattle.history_file.specs.Takings.{IsFirstOfKind, IsAt}
 use Rattle.history_file.specs.Feeds.{Stands, FaultSoFar, FirstFaultSoFar}
 use Rattle.history_file.specs.Ahead.{IsJudged, Records, IsAhead, StandsAhead, FaultStays}
 use Rattle.history_file.proofs.Taking.{IsFirstFault-more}
-use Rattle.history_file.proofs.Parting.{Splits-rest}
-use Rattle.history_file.proofs.Feeding.{Splits-join, Splits-none, Splits-room, cut_of, with_more, long_first}
+use Rattle.history_file.proofs.Feeding.{with_more, long_first}
+use Rattle.counted_devices.proofs.Cutting.{Splits-join, Splits-room, Splits-none, Splits-rest, cut_of}
 
 module _ {Item Contents : Type 0} (format : Format Item) (Makes : List Item → Contents → Type 0) where
   -- a fault among the whole lines

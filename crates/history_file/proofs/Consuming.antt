@@ -2,31 +2,17 @@
 use Rattle.std.proofs.Common.{ℕ, ◌≡◌, ◌+◌, List, [], ◌++◌, Option, Some, None, Result, Ok, Err, refl, sym, ap, ◌∙◌, append_assoc, inl, inr, arith}
 use Rattle.std.specs.Prelude.{IfOk, IfErr, MatchResult}
 use Rattle.std.specs.Io.KnownBytes.{Consumes, Keeps, IsAtEnd}
-use Rattle.history_file.specs.declared.fault.FileFault.{FileFault}
-use Rattle.history_file.specs.declared.fault.FaultKind.{FaultKind}
-use Rattle.history_file.specs.declared.fault.FaultKind.TheVariants as kind
+use Rattle.file_format.specs.declared.fault.FileFault.{FileFault}
+use Rattle.file_format.specs.declared.fault.FaultKind.{FaultKind}
+use Rattle.file_format.specs.declared.fault.FaultKind.TheVariants as kind
 use Rattle.history_file.specs.declared.feed.Feed.{Feed}
-use Rattle.history_file.specs.Formats.{Format}
+use Rattle.file_format.specs.Formats.{Format}
 use Rattle.history_file.specs.Feeds.{Stands, FaultSoFar, FaultInAll}
 use Rattle.history_file.specs.Ahead.{FaultStays}
 use Rattle.history_file.proofs.Advancing.{stays_now}
-use Rattle.history_file.specs.Deliveries.{Delivers, Holds, StopsAt, StopsWith, IsUnderWay, HasFailed}
-
-pub Consumes-none : (a : Option (List ℕ)) → Consumes a a []
-Consumes-none None = tt
-Consumes-none (Some xs) = refl
-
-pub Consumes-join : (a b c : Option (List ℕ)) (xs ys : List ℕ) → Consumes a b xs → Consumes b c ys → Consumes a c (xs ++ ys)
-Consumes-join None b c xs ys h k = tt
-Consumes-join (Some x) None c xs ys h k = absurd h
-Consumes-join (Some x) (Some y) None xs ys h k = absurd k
-Consumes-join (Some x) (Some y) (Some z) xs ys h k = h ∙ ap (λ (l : List ℕ). xs ++ l) k ∙ sym (append_assoc xs ys z)
-
-pub Consumes-keeps : (a b c : Option (List ℕ)) (bytes : List ℕ) → Consumes a b bytes → Keeps b c → Consumes a c bytes
-Consumes-keeps None b c bytes h k = tt
-Consumes-keeps (Some x) None c bytes h k = absurd h
-Consumes-keeps (Some x) (Some y) None bytes h k = absurd k
-Consumes-keeps (Some x) (Some y) (Some z) bytes h k = h ∙ ap (λ (l : List ℕ). bytes ++ l) (sym k)
+use Rattle.counted_devices.specs.Deliveries.{Delivers}
+use Rattle.history_file.specs.Deliveries.{Holds, StopsAt, StopsWith, IsUnderWay, HasFailed}
+use Rattle.counted_devices.proofs.Consuming.{Consumes-none, Consumes-join}
 
 module _ {Item Contents : Type 0} (format : Format Item) (Makes : List Item → Contents → Type 0) where
   pub Holds-start : (a : Option (List ℕ)) (feed : Feed Contents) → Stands format Makes [] feed → Holds format Makes a a feed

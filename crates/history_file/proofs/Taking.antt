@@ -1,16 +1,17 @@
 -- Lines that are taken one after another.
 use Rattle.std.proofs.Common.{ℕ, ◌≡◌, ◌<◌, ◌+◌, List, [], ◌∷◌, ◌++◌, length, Result, Ok, Err, refl, sym, ap, ◌∙◌, append_assoc, append-nil, length-append, arith, subst, inl, inr}
 use Rattle.std.specs.List.{AllZip}
-use Rattle.history_file.specs.declared.judging.Judgement.{Judgement}
-use Rattle.history_file.specs.declared.fault.LineFault.{LineFault}
-use Rattle.history_file.specs.declared.fault.FileFault.{FileFault}
-use Rattle.history_file.specs.declared.fault.FaultKind.{FaultKind}
-use Rattle.history_file.specs.declared.fault.FaultKind.TheVariants as kind
+use Rattle.file_format.specs.declared.judging.Judgement.{Judgement}
+use Rattle.file_format.specs.declared.fault.LineFault.{LineFault}
+use Rattle.file_format.specs.declared.fault.FileFault.{FileFault}
+use Rattle.file_format.specs.declared.fault.FaultKind.{FaultKind}
+use Rattle.file_format.specs.declared.fault.FaultKind.TheVariants as kind
 use Rattle.history_file.specs.declared.progress.Progress.{Progress}
-use Rattle.history_file.specs.Lines.{Shows, ShowsItem}
-use Rattle.history_file.specs.Formats.{Format}
-use Rattle.history_file.specs.Files.{IsLineOf, AreSpelled, HasFault, IsFirstFault, IsFirstOfKind, IsAt, Takes, TakesJudged}
-use Rattle.history_file.proofs.Zips.{AllZip-push_both, parted}
+use Rattle.file_format.specs.Lines.{Shows, ShowsItem}
+use Rattle.file_format.specs.Formats.{Format}
+use Rattle.file_format.specs.Files.{IsLineOf, AreSpelled, HasFault, IsFirstFault}
+use Rattle.history_file.specs.Takings.{IsFirstOfKind, IsAt, Takes, TakesJudged}
+use Rattle.file_format.proofs.Zips.{AllZip-push_both, parted}
 
 module _ {Item Contents : Type 0} (format : Format Item) (Makes : List Item → Contents → Type 0) where
   AreSpelled-push : (before : List (List ℕ)) (items : List Item) (line : List ℕ) (item : Item) → 0 < length before → AreSpelled format before items → IsLineOf format line item → AreSpelled format (before ++ line ∷ []) (items ++ item ∷ [])

@@ -1,15 +1,15 @@
 -- Lines that are judged ahead of where they are taken.
 use Rattle.std.specs.Prelude.{ℕ, ◌≡◌, ◌≤◌, ◌<◌, List, ◌++◌, length, Result, MatchResult}
 use Rattle.std.specs.List.{AllZip}
-use Rattle.history_file.specs.declared.fault.FileFault.{FileFault}
+use Rattle.file_format.specs.declared.fault.FileFault.{FileFault}
 use Rattle.history_file.specs.declared.judged.Judged.{Judged}
 use Rattle.history_file.specs.declared.ahead.Ahead.{Ahead}
 use Rattle.history_file.specs.declared.progress.Progress.{Progress}
-use Rattle.history_file.specs.declared.judging.Judgement.{Judgement}
-use Rattle.history_file.specs.Cuts.{Splits}
-use Rattle.history_file.specs.Lines.{ShowsItem}
-use Rattle.history_file.specs.Formats.{Format}
-use Rattle.history_file.specs.Files.{IsAt, IsFirstOfKind}
+use Rattle.file_format.specs.declared.judging.Judgement.{Judgement}
+use Rattle.counted_devices.specs.Cuts.{Splits}
+use Rattle.file_format.specs.Lines.{ShowsItem}
+use Rattle.file_format.specs.Formats.{Format}
+use Rattle.history_file.specs.Takings.{IsAt, IsFirstOfKind}
 use Rattle.history_file.specs.Feeds.{FaultSoFar}
 
 -- the bytes' lines show that, and that rest is left

@@ -3,7 +3,7 @@ use Rattle.std.specs.Prelude.{ℕ, ◌≡◌, ◌<◌, List, Option}
 use Rattle.std.specs.Io.KnownBytes.{IsAtEnd}
 use Rattle.history_file.specs.declared.batches.Behind.{Behind}
 use Rattle.history_file.specs.declared.batches.Behind.TheVariants as behind
-use Rattle.history_file.specs.Counts.{HasGrown}
+use Rattle.counted_devices.specs.Counts.{HasGrown}
 
 -- behind a batch of so many bytes the reader has that left: more may come, or it is at its end, or
 -- it failed, as its count of failures before and after tells

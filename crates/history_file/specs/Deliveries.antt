@@ -1,22 +1,18 @@
--- What a reader delivered, and what was made of it.
+-- What was made of what a reader delivered.
 use Rattle.std.specs.Prelude.{ℕ, ◌≡◌, ◌+◌, ◌⊎◌, List, length, Option}
-use Rattle.std.specs.Io.KnownBytes.{Consumes, IsAtEnd}
-use Rattle.history_file.specs.declared.fault.FileFault.{FileFault}
-use Rattle.history_file.specs.declared.fault.FaultKind.{FaultKind}
-use Rattle.history_file.specs.declared.fault.FaultKind.TheVariants as kind
+use Rattle.std.specs.Io.KnownBytes.{IsAtEnd}
+use Rattle.counted_devices.specs.Deliveries.{Delivers}
+use Rattle.file_format.specs.declared.fault.FileFault.{FileFault}
+use Rattle.file_format.specs.declared.fault.FaultKind.{FaultKind}
+use Rattle.file_format.specs.declared.fault.FaultKind.TheVariants as kind
 use Rattle.history_file.specs.declared.feed.Feed.{Feed}
 use Rattle.history_file.specs.declared.ahead.Ahead.{Ahead}
-use Rattle.history_file.specs.Counts.{HasGrown}
-use Rattle.history_file.specs.Cuts.{Splits}
-use Rattle.history_file.specs.Formats.{Format}
+use Rattle.counted_devices.specs.Counts.{HasGrown}
+use Rattle.counted_devices.specs.Cuts.{Splits}
+use Rattle.file_format.specs.Formats.{Format}
 use Rattle.history_file.specs.Ahead.{StandsAhead}
-use Rattle.history_file.specs.Feeds.{Stands, Reads, FirstFaultSoFar, FirstFaultInAll}
-
--- the bytes that a reader gave between two of its states, and a fact of them
-pub record Delivers (old new : Option (List ℕ)) (P : List ℕ → Type 0) : Type 0 where
-  pub bytes : List ℕ
-  pub given : Consumes old new bytes
-  pub fact : P bytes
+use Rattle.file_format.specs.Readings.{Reads, FirstFaultInAll}
+use Rattle.history_file.specs.Feeds.{Stands, FirstFaultSoFar}
 
 -- the feed stands for the bytes that a reader gave
 abbrev pub Holds : {Item Contents : Type 0} → Format Item → (List Item → Contents → Type 0) → Option (List ℕ) → Option (List ℕ) → Feed Contents → Type 0

@@ -1,13 +1,13 @@
 -- What contracts see of the public feeds.
 use Rattle.std.specs.Prelude.{List, ℕ, Result}
 use Rattle.recorder.specs.Histories.{Recorded}
-use Rattle.history_file.specs.declared.fault.FileFault.{FileFault}
+use Rattle.file_format.specs.declared.fault.FileFault.{FileFault}
 use Rattle.history_file.specs.declared.history_feed.HistoryFeed.{HistoryFeed}
 use Rattle.history_file.specs.declared.order_feed.OrderFeed.{OrderFeed}
 use Rattle.history_file.specs.Feeds.{Stands, Fed, Ends}
-use Rattle.history_file.specs.HistoryFormat.{history_format, MakesHistory}
-use Rattle.history_file.specs.OrderFormat.{order_format}
-use Rattle.history_file.specs.Joins.{MakesOrders}
+use Rattle.file_format.specs.HistoryFormat.{history_format, MakesHistory}
+use Rattle.file_format.specs.OrderFormat.{order_format}
+use Rattle.history_file.specs.Making.{MakesOrders}
 
 -- the feed stands for the history of all lines of the bytes that are whole so far
 abbrev pub StandsForRows : List ℕ → HistoryFeed → Type 0

@@ -1,15 +1,16 @@
--- What a feed stands for, and what is read of whole files.
-use Rattle.std.specs.Prelude.{ℕ, ◌≡◌, ◌≤◌, ◌<◌, ◌⊎◌, List, [], ◌∷◌, ◌++◌, length, Result, Ok, Err, None, nat_lt, if◌then◌else◌, MatchResult}
-use Rattle.history_file.specs.declared.fault.LineFault.{LineFault}
-use Rattle.history_file.specs.declared.fault.LineFault.TheVariants.{NoHeader}
-use Rattle.history_file.specs.declared.fault.FileFault.{FileFault}
-use Rattle.history_file.specs.declared.fault.FaultKind.{FaultKind}
-use Rattle.history_file.specs.declared.fault.FaultKind.TheVariants as kind
+-- What a feed stands for, and what it answers.
+use Rattle.std.specs.Prelude.{ℕ, ◌≡◌, ◌≤◌, ◌<◌, List, [], ◌∷◌, ◌++◌, length, Result, Ok, Err, None, nat_lt, if◌then◌else◌, MatchResult}
+use Rattle.file_format.specs.declared.fault.LineFault.{LineFault}
+use Rattle.file_format.specs.declared.fault.FileFault.{FileFault}
+use Rattle.file_format.specs.declared.fault.FaultKind.{FaultKind}
+use Rattle.file_format.specs.declared.fault.FaultKind.TheVariants as kind
 use Rattle.history_file.specs.declared.progress.Progress.{Progress}
 use Rattle.history_file.specs.declared.feed.Feed.{Feed}
-use Rattle.history_file.specs.Cuts.{Splits}
-use Rattle.history_file.specs.Formats.{Format}
-use Rattle.history_file.specs.Files.{AreLinesOf, IsAt, IsFirstFault}
+use Rattle.counted_devices.specs.Cuts.{Splits}
+use Rattle.file_format.specs.Formats.{Format}
+use Rattle.file_format.specs.Readings.{Reads, FirstFaultInAll}
+use Rattle.file_format.specs.Files.{AreLinesOf, IsFirstFault}
+use Rattle.history_file.specs.Takings.{IsAt}
 
 -- the feed stands for what all lines of the bytes make that are whole so far
 pub record Stands {Item Contents : Type 0} (format : Format Item) (Makes : List Item → Contents → Type 0) (bytes : List ℕ) (feed : Feed Contents) : Type 0 where
@@ -23,11 +24,6 @@ pub record Stands {Item Contents : Type 0} (format : Format Item) (Makes : List 
 -- the whole lines so far: each that has its end, and a rest that is too long already
 abbrev pub whole_lines : List (List ℕ) → List ℕ → List (List ℕ)
 whole_lines lines rest = if nat_lt 65536 (length rest) then lines ++ rest ∷ [] else lines
-
--- the lines at the end: each that has its end, and a rest that isn't empty
-abbrev pub last_lines : List (List ℕ) → List ℕ → List (List ℕ)
-last_lines lines [] = lines
-last_lines lines (b ∷ rest) = lines ++ (b ∷ rest) ∷ []
 
 -- among the lines that are whole so far, the first with a fault has that number and that fault
 pub record FirstFaultSoFar {Item : Type 0} (format : Format Item) (bytes : List ℕ) (number : ℕ) (fault : LineFault) : Type 0 where
@@ -47,23 +43,7 @@ abbrev pub Fed : {Item Contents : Type 0} → Format Item → (List Item → Con
 Fed format Makes bytes (Ok done) new = Stands format Makes bytes new
 Fed format Makes bytes (Err fault) new = FaultSoFar format bytes fault.line fault.kind
 
--- the bytes of a whole file are a header and the lines of items, of which that is made
-pub record Reads {Item Contents : Type 0} (format : Format Item) (Makes : List Item → Contents → Type 0) (bytes : List ℕ) (contents : Contents) : Type 0 where
-  pub lines : List (List ℕ)
-  pub rest : List ℕ
-  pub splits : Splits bytes lines rest
-  pub some : 0 < length (last_lines lines rest)
-  pub items : List Item
-  pub read : AreLinesOf format (last_lines lines rest) items
-  pub made : Makes items contents
-
--- the first fault of a whole file; one without a line has no header
-pub record FirstFaultInAll {Item : Type 0} (format : Format Item) (bytes : List ℕ) (number : ℕ) (fault : LineFault) : Type 0 where
-  pub lines : List (List ℕ)
-  pub rest : List ℕ
-  pub splits : Splits bytes lines rest
-  pub first : IsFirstFault format (last_lines lines rest) number fault ⊎ ((last_lines lines rest ≡ []) × (number ≡ 1) × (fault ≡ NoHeader))
-
+-- the first fault of a whole file, of any kind
 abbrev pub FaultInAll : {Item : Type 0} → Format Item → List ℕ → ℕ → FaultKind → Type 0
 FaultInAll format bytes number (kind.Line fault) = FirstFaultInAll format bytes number fault
 FaultInAll format bytes number kind.Device = ⊥

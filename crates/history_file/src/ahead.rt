@@ -1,15 +1,14 @@
 //! A file whose lines are judged ahead of where they are taken.
 ghost use Rattle.std.specs.Prelude.{ℕ, ◌≡◌, ◌≤◌, ◌<◌, ◌+◌, ◌^◌, ◌++◌, List, [], None, length, IfOk, MatchResult};
 ghost use Rattle.std.specs.Thread.{IsSync};
-ghost use Rattle.history_file.specs.Cuts.{HasNoEnd};
+ghost use Rattle.counted_devices.specs.Cuts.{HasNoEnd};
 
 use crate::feed::Feed;
 use crate::format::Contents;
 use crate::judged::{Judged, judge_piece};
 use crate::judgements::Judgements;
-use crate::judging::LONGEST;
 use crate::progress::Progress;
-use crate::{FaultKind, FileFault, LineFault};
+use file_format::{FaultKind, FileFault, LONGEST, LineFault};
 use std::alloc::Global;
 use std::thread::{Threads, join};
 use tag::Memory;

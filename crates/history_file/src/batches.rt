@@ -3,7 +3,7 @@ ghost use Rattle.std.specs.Prelude.{◌≡◌, ◌≤◌, ◌<◌, ◌+◌, leng
 ghost use Rattle.std.specs.Io.KnownBytes.{Consumes};
 ghost use Rattle.history_file.specs.Batches.{IsBehind};
 
-use crate::Counting;
+use counted_devices::Counting;
 use std::io::Read;
 
 /// The most bytes that a reader is asked for at once.

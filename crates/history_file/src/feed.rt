@@ -4,7 +4,7 @@ ghost use Rattle.std.specs.Prelude.{ℕ, ◌≡◌, ◌≤◌, ◌+◌, ◌^◌,
 use crate::format::Contents;
 use crate::pieces::take_piece;
 use crate::progress::Progress;
-use crate::{FaultKind, FileFault, LineFault};
+use file_format::{FaultKind, FileFault, LineFault};
 use std::alloc::Global;
 use std::thread::Threads;
 

@@ -1,29 +1,14 @@
 //! Formats of files.
-ghost use Rattle.std.specs.Prelude.{◌≡◌, List, [], ℕ, IfOk, Result, map};
+ghost use Rattle.std.specs.Prelude.{◌≡◌, List, [], ℕ, IfOk, map};
 ghost use Rattle.std.specs.Thread.{IsSync};
-ghost use Rattle.serde_json.specs.Data.{Data};
-ghost use Rattle.history_file.specs.declared.fault.LineFault.{LineFault};
-ghost use Rattle.history_file.specs.Documents.{data_in};
-ghost use Rattle.history_file.specs.Members.{Gives};
-ghost use Rattle.history_file.specs.Lines.{ShowParts};
-ghost use Rattle.history_file.specs.Formats.{Format, Follows, IsFine};
+ghost use Rattle.file_format.specs.Lines.{ShowParts};
+ghost use Rattle.file_format.specs.Formats.{Format, Follows};
 
-use crate::document::Document;
-use crate::fault::Stop;
 use crate::judgements::Judgements;
+use file_format::Stop;
 use std::alloc::Global;
 use std::thread::Threads;
 use tag::Memory;
-
-/// What a line behind the header says.
-pub trait LineItem: Drop + Sized {
-    ghost meaning: { Data → Result Self LineFault };
-
-    /// The item that the value says.
-    fn item_in(alloc: Global, document: &Document<'_>) -> Result<Self, Stop>
-        ensures said { Gives (λ item. item) result (meaning (data_in document.now)) }
-        ensures fine { IsFine (meaning (data_in document.now)) };
-}
 
 /// What the lines of a file make, one after another.
 pub trait Contents: Drop + Send {

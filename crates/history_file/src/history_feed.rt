@@ -2,8 +2,8 @@
 ghost use Rattle.std.specs.Prelude.{ℕ, ◌≡◌, ◌≤◌, ◌+◌, ◌^◌, ◌++◌, List, [], None, Some, length, IfOk, IfErr};
 ghost use Rattle.history_file.specs.Fed.{StandsForRows, FedRows, EndsRows};
 
-use crate::FileFault;
 use crate::feed::Feed;
+use file_format::FileFault;
 use recorder::History;
 use std::alloc::Global;
 use std::thread::Threads;

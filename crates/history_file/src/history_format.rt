@@ -1,30 +1,18 @@
 //! The format of history files.
 ghost use Rattle.std.specs.Prelude.{◌∷◌, [], IfOk};
-ghost use Rattle.history_file.specs.Lines.{ShowParts};
-ghost use Rattle.history_file.specs.Rows.{row_in};
-ghost use Rattle.history_file.specs.HistoryFormat.{history_format, MakesHistory};
+ghost use Rattle.file_format.specs.Lines.{ShowParts};
+ghost use Rattle.file_format.specs.Rows.{row_in};
+ghost use Rattle.file_format.specs.HistoryFormat.{history_format, MakesHistory};
 
-use crate::document::Document;
-use crate::fault::Stop;
-use crate::follow::{MOST_CALLS, follow};
-use crate::format::{Contents, LineItem};
+use crate::format::Contents;
 use crate::judgements::Judgements;
-use crate::judging::{Judgement, judge_part};
-use crate::rows::row_in;
+use file_format::{Judgement, MOST_CALLS, Stop, follow, judge_part};
 use json::Scratch;
 use rayon::prelude::*;
 use recorder::{History, Row};
 use std::alloc::Global;
 use std::thread::Threads;
 use tag::Memory;
-
-impl LineItem for Row {
-    ghost meaning = { row_in };
-
-    fn item_in(alloc: Global, document: &Document<'_>) -> Result<Row, Stop> {
-        row_in(alloc, document)
-    }
-}
 
 impl Contents for History {
     type Item = Row;

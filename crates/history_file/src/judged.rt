@@ -1,11 +1,11 @@
 //! Pieces of a file, cut into lines that are judged.
 ghost use Rattle.std.specs.Prelude.{◌≤◌, ◌+◌, ◌++◌, length, IfOk};
 ghost use Rattle.history_file.specs.Ahead.{IsJudged};
-ghost use Rattle.history_file.specs.Cuts.{HasNoEnd};
+ghost use Rattle.counted_devices.specs.Cuts.{HasNoEnd};
 
 use crate::format::Contents;
 use crate::judgements::Judgements;
-use crate::lines::{cut_parts, first_end};
+use counted_devices::{cut_parts, first_end};
 use std::alloc::Global;
 use std::thread::Threads;
 use tag::Memory;

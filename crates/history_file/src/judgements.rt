@@ -1,7 +1,7 @@
 //! Judgements of lines, as threads made them side by side.
 ghost use Rattle.std.specs.Prelude.{◌≡◌, []};
 
-use crate::judging::Judgement;
+use file_format::Judgement;
 use std::alloc::Global;
 use std::marker::Model;
 
@@ -16,7 +16,7 @@ pub struct Judgements<T> {
 impl<T> Model for Judgements<T> {
     ghost use Rattle.std.specs.Prelude.{List};
     ghost use Rattle.std.specs.List.{flat_map};
-    ghost use Rattle.history_file.specs.declared.judging.Judgement.{Judgement};
+    ghost use Rattle.file_format.specs.declared.judging.Judgement.{Judgement};
 
     ghost Value = { List (Judgement T) };
 

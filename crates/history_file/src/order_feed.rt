@@ -1,14 +1,14 @@
 //! An order file that comes in pieces.
 ghost use Rattle.std.specs.Prelude.{ℕ, ◌≡◌, ◌≤◌, ◌+◌, ◌^◌, ◌++◌, List, [], None, Some, length, IfOk, IfErr, MatchResult};
-ghost use Rattle.history_file.specs.Feeds.{Stands, Reads, FaultInAll};
-ghost use Rattle.history_file.specs.OrderFormat.{order_format, AreJoined};
-ghost use Rattle.history_file.specs.Joins.{MakesOrders};
+ghost use Rattle.file_format.specs.Readings.{Reads};
+ghost use Rattle.history_file.specs.Feeds.{Stands, FaultInAll};
+ghost use Rattle.file_format.specs.OrderFormat.{order_format, AreJoined};
+ghost use Rattle.history_file.specs.Making.{MakesOrders};
 ghost use Rattle.history_file.specs.Fed.{StandsForOrders, FedOrders};
 
 use crate::feed::Feed;
 use crate::order_format::Orders;
-use crate::orders::listed;
-use crate::{FaultKind, FileFault};
+use file_format::{FaultKind, FileFault, listed};
 use recorder::KeyOrder;
 use std::alloc::Global;
 use std::thread::Threads;

@@ -1,18 +1,12 @@
 //! The format of order files.
 ghost use Rattle.std.specs.Prelude.{◌≡◌, ◌≤◌, ◌∷◌, ◌++◌, [], OnOk, IfOk};
-ghost use Rattle.history_file.specs.Lines.{ShowParts};
-ghost use Rattle.history_file.specs.OrderLines.{piece_in};
-ghost use Rattle.history_file.specs.OrderFormat.{order_format};
+ghost use Rattle.file_format.specs.Lines.{ShowParts};
+ghost use Rattle.file_format.specs.OrderLines.{piece_in};
+ghost use Rattle.file_format.specs.OrderFormat.{order_format};
 
-use crate::LineFault;
-use crate::document::Document;
-use crate::fault::Stop;
-use crate::follow::MOST_CALLS;
-use crate::format::{Contents, LineItem};
+use crate::format::Contents;
 use crate::judgements::Judgements;
-use crate::judging::{Judgement, judge_part};
-use crate::order_lines::piece_in;
-use crate::orders::join;
+use file_format::{Judgement, LineFault, MOST_CALLS, Stop, join, judge_part};
 use indexmap::IndexMap;
 use json::Scratch;
 use rayon::prelude::*;
@@ -29,16 +23,8 @@ pub struct Orders {
     ghost few: { calls ≤ 1000000 },
 }
 
-impl LineItem for KeyOrder {
-    ghost meaning = { piece_in };
-
-    fn item_in(alloc: Global, document: &Document<'_>) -> Result<KeyOrder, Stop> {
-        piece_in(alloc, document)
-    }
-}
-
 impl Contents for Orders {
-    ghost use Rattle.history_file.specs.Joins.{MakesOrders};
+    ghost use Rattle.history_file.specs.Making.{MakesOrders};
 
     type Item = KeyOrder;
 

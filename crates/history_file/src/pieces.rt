@@ -1,13 +1,12 @@
 //! Pieces of a file, cut into lines that are taken.
 ghost use Rattle.std.specs.Prelude.{◌≡◌, ◌<◌, ◌≤◌, ◌+◌, ◌^◌, ◌++◌, length, IfOk, MatchResult};
-ghost use Rattle.history_file.specs.Cuts.{HasNoEnd};
+ghost use Rattle.counted_devices.specs.Cuts.{HasNoEnd};
 ghost use Rattle.history_file.specs.Feeds.{Passed, PassStops};
 
 use crate::format::Contents;
-use crate::judging::LONGEST;
-use crate::lines::{cut_parts, first_end};
 use crate::progress::Progress;
-use crate::{FaultKind, FileFault, LineFault};
+use counted_devices::{cut_parts, first_end};
+use file_format::{FaultKind, FileFault, LONGEST, LineFault};
 use std::alloc::Global;
 use std::thread::Threads;
 

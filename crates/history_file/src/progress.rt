@@ -2,15 +2,13 @@
 ghost use Rattle.std.specs.Prelude.{ℕ, ◌≡◌, ◌<◌, ◌≤◌, ◌+◌, ◌^◌, List, [], ◌∷◌, length, map, IfOk, OnOk};
 ghost use Rattle.std.specs.List.{AllZip, flat_map};
 ghost use Rattle.history_file.specs.Ahead.{Records};
-ghost use Rattle.history_file.specs.Cuts.{HasNoEnd, ended};
-ghost use Rattle.history_file.specs.Lines.{ShowsItem};
-ghost use Rattle.history_file.specs.Files.{IsAt, Takes, TakesJudged, TakesParts, kind_of};
+ghost use Rattle.counted_devices.specs.Cuts.{HasNoEnd, ended};
+ghost use Rattle.file_format.specs.Lines.{ShowsItem};
+ghost use Rattle.history_file.specs.Takings.{IsAt, Takes, TakesJudged, TakesParts, kind_of};
 
-use crate::fault::Stop;
 use crate::format::Contents;
 use crate::judgements::Judgements;
-use crate::judging::{Judgement, judge_header};
-use crate::{FaultKind, FileFault};
+use file_format::{FaultKind, FileFault, Judgement, Stop, judge_header};
 use std::alloc::Global;
 use std::thread::Threads;
 

@@ -1,9 +1,10 @@
 //! Files from readers.
 ghost use Rattle.std.specs.Prelude.{ℕ, ◌≡◌, ◌<◌, ◌≤◌, List, Option, length, true, false, IfOk, IfErr, MatchResult};
 ghost use Rattle.std.specs.Io.KnownBytes.{IsAtEnd};
-ghost use Rattle.history_file.specs.Deliveries.{Delivers, Holds, HoldsAhead, ReadsAll, StopsAt, HasFailed};
-ghost use Rattle.history_file.specs.HistoryFormat.{history_format, MakesHistory};
-ghost use Rattle.history_file.specs.OrderFormat.{order_format, AreJoined};
+ghost use Rattle.counted_devices.specs.Deliveries.{Delivers};
+ghost use Rattle.history_file.specs.Deliveries.{Holds, HoldsAhead, ReadsAll, StopsAt, HasFailed};
+ghost use Rattle.file_format.specs.HistoryFormat.{history_format, MakesHistory};
+ghost use Rattle.file_format.specs.OrderFormat.{order_format, AreJoined};
 
 use crate::ahead::Ahead;
 use crate::batches::{Behind, PIECE, read_batch};
@@ -11,7 +12,8 @@ use crate::feed::Feed;
 use crate::format::Contents;
 use crate::order_feed::finish_orders;
 use crate::order_format::Orders;
-use crate::{Counting, FaultKind, FileFault};
+use counted_devices::Counting;
+use file_format::{FaultKind, FileFault};
 use recorder::{History, KeyOrder};
 use std::alloc::{AllocError, Global};
 use std::io::Read;

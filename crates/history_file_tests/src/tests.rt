@@ -7,7 +7,9 @@ mod limits;
 mod orders;
 mod writing;
 
-use history_file::{Counting, FaultKind, FileFault, LineFault, read_history, read_orders};
+use counted_devices::Counting;
+use file_format::{FaultKind, FileFault, LineFault};
+use history_file::{read_history, read_orders};
 use recorder::{History, KeyOrder};
 use std::alloc::Global;
 use std::io;

@@ -1,7 +1,8 @@
 //! Scripts worked by hand, with the notes and the history that come of them.
 use super::Pieces;
+use counted_devices::Counting;
 use fault_script::{ErrorKind, LineFault, ScriptError, SimulateError, simulate};
-use history_file::{Counting, read_history};
+use history_file::read_history;
 use std::alloc::Global;
 use std::io;
 use std::io::Write;

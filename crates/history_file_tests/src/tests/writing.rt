@@ -1,7 +1,8 @@
 //! Files, as they are written.
 use super::histories::write_then_read;
 use super::*;
-use history_file::{WriteFault, history_text, write_history, write_orders, write_text};
+use counted_devices::{WriteFault, write_text};
+use file_format::{history_text, write_history, write_orders};
 use recorder::Order;
 use tag::{Action, ClientId, Key, OpId, Returned, Value};
 

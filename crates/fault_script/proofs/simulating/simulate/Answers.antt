@@ -1,5 +1,5 @@
 use Rattle.std.proofs.lemmas.Result.{on_ok_weaker}
-use Rattle.history_file.specs.Deliveries.{Delivers}
+use Rattle.counted_devices.specs.Deliveries.{Delivers}
 use Rattle.fault_script.specs.Deliveries.{ReadsAll}
 use Rattle.fault_script.specs.declared.command.Script.{Script}
 use Rattle.fault_script.proofs.RunTexts.{begun_at, parsed, simulated}

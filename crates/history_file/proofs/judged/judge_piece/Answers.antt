@@ -1,10 +1,10 @@
 use Rattle.std.proofs.Common.{ℕ, ◌≡◌, ◌≢◌, ◌++◌, List, ◌∷◌, Bor, length, map, take, length-append, sym, ap, ◌∙◌, subst, arith}
 use Rattle.std.proofs.lemmas.List.Elements.{All-append}
 use Rattle.history_file.specs.declared.judged.Judged.{Judged}
-use Rattle.history_file.specs.Cuts.{HasNoEnd, Divides}
+use Rattle.counted_devices.specs.Cuts.{HasNoEnd, Divides}
 use Rattle.history_file.specs.Ahead.{IsJudged}
-use Rattle.history_file.specs.Lines.{ShowParts}
-use Rattle.history_file.proofs.Feeding.{behind, cut_at}
+use Rattle.file_format.specs.Lines.{ShowParts}
+use Rattle.counted_devices.proofs.Cutting.{behind, cut_at}
 use Rattle.history_file.proofs.Advancing.{judged_none, judged_parts, judged_room}
 use Rattle.history_file.proofs.judged.judge_piece.Goals as goal
 

@@ -1,8 +1,8 @@
 use Rattle.std.proofs.Common.{◌≡◌, List, map, sym, subst}
 use Rattle.std.proofs.lemmas.Result.{err_from_is_err_and}
 use Rattle.recorder.specs.declared.order.KeyOrder.{KeyOrder}
-use Rattle.history_file.specs.OrderFormat.{AreJoined}
-use Rattle.history_file.specs.Joins.{order_of}
+use Rattle.file_format.specs.OrderFormat.{AreJoined}
+use Rattle.file_format.specs.Joins.{order_of}
 use Rattle.history_file.proofs.order_feed.finish_orders.Goals as goal
 
 pub returns-in_err-orders-clause-ends : goal.returns-in_err-orders-clause-ends

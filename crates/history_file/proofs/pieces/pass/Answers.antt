@@ -1,8 +1,8 @@
 use Rattle.std.proofs.Common.{ℕ, List, Bor, map, Ok, Err, sym, subst}
 use Rattle.std.proofs.lemmas.Result.{err_from_is_err_and}
-use Rattle.history_file.specs.Files.{TakesParts}
+use Rattle.history_file.specs.Takings.{TakesParts}
 use Rattle.history_file.specs.Feeds.{Passed}
-use Rattle.history_file.proofs.Parting.{parts_stop, parts_long, parts_passed}
+use Rattle.history_file.proofs.Passing.{parts_stop, parts_long, parts_passed}
 use Rattle.history_file.proofs.pieces.pass.Goals as goal
 
 pub returns-in_err-take_parts-clause-passes : goal.returns-in_err-take_parts-clause-passes

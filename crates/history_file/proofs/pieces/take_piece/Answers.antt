@@ -2,12 +2,13 @@ use Rattle.std.proofs.Common.{ℕ, ◌≡◌, ◌≢◌, ◌≤◌, ◌<◌, ◌
 use Rattle.std.specs.Prelude.{MatchResult}
 use Rattle.std.proofs.lemmas.List.Elements.{All-append}
 use Rattle.std.proofs.lemmas.Result.{err_from_is_err_and}
-use Rattle.history_file.specs.declared.fault.LineFault.TheVariants.{TooLong}
-use Rattle.history_file.specs.declared.fault.FaultKind.TheVariants as kind
-use Rattle.history_file.specs.Cuts.{HasNoEnd}
+use Rattle.file_format.specs.declared.fault.LineFault.TheVariants.{TooLong}
+use Rattle.file_format.specs.declared.fault.FaultKind.TheVariants as kind
+use Rattle.counted_devices.specs.Cuts.{HasNoEnd}
 use Rattle.history_file.specs.Feeds.{Passed, PassStops}
-use Rattle.history_file.specs.Files.{IsAt, IsFirstOfKind}
-use Rattle.history_file.proofs.Feeding.{behind, cut_at, Passed-line, PassStops-line, line_stops, passes_alone}
+use Rattle.history_file.specs.Takings.{IsAt, IsFirstOfKind}
+use Rattle.counted_devices.proofs.Cutting.{behind, cut_at}
+use Rattle.history_file.proofs.Feeding.{Passed-line, PassStops-line, line_stops, passes_alone}
 use Rattle.history_file.proofs.pieces.take_piece.Goals as goal
 
 pub returns-in_default-clause-passes : goal.returns-in_default-clause-passes

@@ -1,5 +1,5 @@
-use Rattle.history_file.specs.HistoryFormat.{history_format, MakesHistory}
-use Rattle.history_file.specs.Feeds.{Reads}
+use Rattle.file_format.specs.HistoryFormat.{history_format, MakesHistory}
+use Rattle.file_format.specs.Readings.{Reads}
 use Rattle.history_file.proofs.Consuming.{finish_read, finish_fault, finish_device}
 use Rattle.history_file.proofs.reading.read_history.Goals as goal
 

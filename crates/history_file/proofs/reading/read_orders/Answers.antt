@@ -1,6 +1,6 @@
-use Rattle.history_file.specs.OrderFormat.{order_format, AreJoined}
-use Rattle.history_file.specs.Joins.{MakesOrders}
-use Rattle.history_file.specs.Feeds.{Reads}
+use Rattle.file_format.specs.OrderFormat.{order_format, AreJoined}
+use Rattle.history_file.specs.Making.{MakesOrders}
+use Rattle.file_format.specs.Readings.{Reads}
 use Rattle.history_file.proofs.Consuming.{finish_read, finish_fault, finish_device}
 use Rattle.std.proofs.Common.{List, ℕ}
 use Rattle.std.specs.Prelude.{Vec}

@@ -1,11 +1,11 @@
 use Rattle.std.proofs.Common.{◌<◌, ◌++◌, Result, refl, arith, subst}
 use Rattle.std.specs.Prelude.{IfOk}
 use Rattle.std.proofs.lemmas.Result.{err_from_is_err_and}
-use Rattle.history_file.specs.declared.fault.FileFault.{FileFault}
+use Rattle.file_format.specs.declared.fault.FileFault.{FileFault}
 use Rattle.history_file.specs.declared.progress.Progress.{Progress}
 use Rattle.history_file.specs.declared.judged.Judged.{Judged}
 use Rattle.tag.specs.declared.memory.Memory.{Memory}
-use Rattle.history_file.specs.Cuts.{HasNoEnd}
+use Rattle.counted_devices.specs.Cuts.{HasNoEnd}
 use Rattle.history_file.specs.Ahead.{IsJudged, Records}
 use Rattle.history_file.proofs.Advancing.{advance_fault, advanced}
 use Rattle.history_file.proofs.ahead.Ahead+C+C+Item.advance.Goals as goal

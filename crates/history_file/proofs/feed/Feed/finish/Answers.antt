@@ -1,8 +1,8 @@
 use Rattle.std.proofs.Common.{ℕ, zero, suc, ◌≡◌, ◌<◌, ◌==◌, ◌++◌, ◌∷◌, [], List, length, false, ap, sym, ◌∙◌, subst, arith, eqb-true}
 use Rattle.std.specs.Vec.{vec_len}
 use Rattle.std.proofs.lemmas.Result.{err_from_is_err_and}
-use Rattle.history_file.specs.Cuts.{HasNoEnd}
-use Rattle.history_file.specs.Files.{IsAt, IsFirstOfKind}
+use Rattle.counted_devices.specs.Cuts.{HasNoEnd}
+use Rattle.history_file.specs.Takings.{IsAt, IsFirstOfKind}
 use Rattle.history_file.specs.declared.progress.Progress.{Progress}
 use Rattle.history_file.proofs.Feeding.{stops_in_all, Reads-rest, Reads-whole}
 use Rattle.history_file.proofs.feed.Feed.finish.Goals as goal

@@ -4,12 +4,12 @@ use Rattle.std.specs.List.{AllZip}
 use Rattle.std.specs.declared.alloc.Global.{Global}
 use Rattle.tag.specs.declared.memory.Memory.{Memory}
 use Rattle.recorder.specs.declared.order.KeyOrder.{KeyOrder}
-use Rattle.history_file.specs.declared.judging.Judgement.{Judgement}
-use Rattle.history_file.specs.Lines.{ShowParts}
-use Rattle.history_file.specs.OrderLines.{piece_in}
+use Rattle.file_format.specs.declared.judging.Judgement.{Judgement}
+use Rattle.file_format.specs.Lines.{ShowParts}
+use Rattle.file_format.specs.OrderLines.{piece_in}
 use Rattle.rayon.proofs.ListFacts.{AllZip-weaken}
 use Rattle.rayon.proofs.ToStd.{slice-AllZip}
-use Rattle.history_file.proofs.Parting.{show_all}
+use Rattle.file_format.proofs.Parting.{show_all}
 use Rattle.history_file.proofs.SideBySide.{collected}
 use Rattle.history_file.proofs.order_format.OrdersContents.judge_all.Goals as goal
 

@@ -1,0 +1,135 @@
+-- Bytes cut into lines and a rest.
+use Rattle.std.proofs.Common.{ℕ, ◌≡◌, ◌≢◌, ◌<◌, ◌≤◌, ◌+◌, ◌-◌, take, drop, slice_index, eqb, eqb-true, List, [], ◌∷◌, ◌++◌, length, Bool, true, false, refl, sym, ap, ◌∙◌, append_assoc, append-nil, length-append, arith, subst}
+use Rattle.std.specs.List.{flat_map}
+use Rattle.std.proofs.lemmas.Grind.{flat_map-append}
+use Rattle.std.proofs.lemmas.List.{drop_more, take_rest, take-append-drop}
+use Rattle.std.proofs.lemmas.List.Elements.{All-append, All-nil, All-cons, All-head, All-tail}
+use Rattle.std.proofs.lemmas.Bool.{eqb-false}
+use Rattle.counted_devices.specs.Cuts.{ended, HasNoEnd, Splits, AreLinesIn, last_lines}
+
+pub Splits-join : (bytes piece : List ℕ) (lines more : List (List ℕ)) (rest last : List ℕ) → Splits bytes lines rest → Splits (rest ++ piece) more last → Splits (bytes ++ piece) (lines ++ more) last
+Splits-join bytes piece lines more rest last a b = record {
+  whole = ap (λ (xs : List ℕ). xs ++ piece) a.whole ∙ append_assoc (flat_map ended lines) rest piece ∙ ap (λ (xs : List ℕ). flat_map ended lines ++ xs) b.whole ∙ sym (append_assoc (flat_map ended lines) (flat_map ended more) last) ∙ ap (λ (xs : List ℕ). xs ++ last) (sym (flat_map-append ended lines more));
+  each = All-append HasNoEnd lines more a.each b.each;
+  partial = b.partial;
+}
+
+ends_long : (lines : List (List ℕ)) → length lines ≤ length (flat_map ended lines)
+ends_long [] = omega arith
+ends_long (line ∷ lines) = omega (arith, ends_long lines, length-append (line ++ 10 ∷ []) (flat_map ended lines), length-append line (10 ∷ []))
+
+-- each line and its end is a byte at least
+pub Splits-room : (bytes : List ℕ) (lines : List (List ℕ)) (rest : List ℕ) → Splits bytes lines rest → length lines + length rest ≤ length bytes
+Splits-room bytes lines rest s = omega (arith, ends_long lines, ap length s.whole, length-append (flat_map ended lines) rest)
+
+-- bytes without an end are no line
+pub Splits-none : (bytes : List ℕ) → HasNoEnd bytes → Splits bytes [] bytes
+Splits-none bytes h = record { whole = refl; each = All-nil HasNoEnd; partial = h }
+
+-- a line begun by the rest and ended behind the front, before the lines of the tail
+pub Splits-line : (rest front tail : List ℕ) (lines : List (List ℕ)) (last : List ℕ) → HasNoEnd rest → HasNoEnd front → Splits tail lines last → Splits (rest ++ (front ++ 10 ∷ tail)) ((rest ++ front) ∷ lines) last
+Splits-line rest front tail lines last r f s = record {
+  whole = sym (append_assoc rest front (10 ∷ tail)) ∙ ap (λ (xs : List ℕ). (rest ++ front) ++ 10 ∷ xs) s.whole ∙ sym (append_assoc (rest ++ front) (10 ∷ []) (flat_map ended lines ++ last)) ∙ sym (append_assoc (ended (rest ++ front)) (flat_map ended lines) last);
+  each = All-cons HasNoEnd (rest ++ front) lines (All-append (λ (b : ℕ). b ≢ 10) rest front r f) s.each;
+  partial = s.partial;
+}
+
+-- what stands behind that place
+abbrev pub behind : List ℕ → ℕ → List ℕ
+behind piece i = take (length piece - (i + 1)) (drop (i + 1) piece)
+
+-- the piece, cut at its first end
+pub cut_at : (piece : List ℕ) (i : ℕ) → i < length piece → slice_index piece i ≡ 10 → piece ≡ take i piece ++ 10 ∷ behind piece i
+cut_at piece i inside ten = sym (take-append-drop i piece) ∙ ap (λ (xs : List ℕ). take i piece ++ xs) (drop_more piece i 0 inside ∙ ap (λ (b : ℕ). b ∷ drop (i + 1) piece) ten ∙ ap (λ (xs : List ℕ). 10 ∷ xs) (sym (take_rest piece (i + 1))))
+
+-- the bytes' lines and their rest
+pub record Cut (bytes : List ℕ) : Type 0 where
+  pub lines : List (List ℕ)
+  pub rest : List ℕ
+  pub splits : Splits bytes lines rest
+
+cut_longer : (b : ℕ) (bytes : List ℕ) (lines : List (List ℕ)) (rest : List ℕ) → b ≢ 10 → Splits bytes lines rest → Cut (b ∷ bytes)
+cut_longer b bytes [] rest other s = record {
+  lines = [];
+  rest = b ∷ rest;
+  splits = record {
+    whole = ap (λ (xs : List ℕ). b ∷ xs) s.whole;
+    each = All-nil HasNoEnd;
+    partial = All-cons (λ (x : ℕ). x ≢ 10) b rest other s.partial;
+  };
+}
+cut_longer b bytes (line ∷ lines) rest other s = record {
+  lines = (b ∷ line) ∷ lines;
+  rest = rest;
+  splits = record {
+    whole = ap (λ (xs : List ℕ). b ∷ xs) s.whole;
+    each = All-cons HasNoEnd (b ∷ line) lines (All-cons (λ (x : ℕ). x ≢ 10) b line other (All-head HasNoEnd line lines s.each)) (All-tail HasNoEnd line lines s.each);
+    partial = s.partial;
+  };
+}
+
+cut_more : (b : ℕ) (bytes : List ℕ) (ends : Bool) → eqb b 10 ≡ ends → Cut bytes → Cut (b ∷ bytes)
+cut_more b bytes true e c = record {
+  lines = [] ∷ c.lines;
+  rest = c.rest;
+  splits = let P : ℕ → Type 0 = λ x. Splits (x ∷ bytes) ([] ∷ c.lines) c.rest in subst P (sym (eqb-true b 10 e)) (Splits-line [] [] bytes c.lines c.rest (All-nil (λ (x : ℕ). x ≢ 10)) (All-nil (λ (x : ℕ). x ≢ 10)) c.splits);
+}
+cut_more b bytes false e c = cut_longer b bytes c.lines c.rest (eqb-false b 10 e) c.splits
+
+-- all bytes are lines and a rest
+pub cut_of : (bytes : List ℕ) → Cut bytes
+cut_of [] = record { lines = []; rest = []; splits = Splits-none [] (All-nil (λ (x : ℕ). x ≢ 10)) }
+cut_of (b ∷ bytes) = cut_more b bytes (eqb b 10) refl (cut_of bytes)
+
+pub last_some : (lines : List (List ℕ)) (rest : List ℕ) → 0 < length rest → last_lines lines rest ≡ lines ++ rest ∷ []
+last_some lines [] some = absurd (omega arith)
+last_some lines (b ∷ rest) some = refl
+
+pub last_none : (lines : List (List ℕ)) (rest : List ℕ) → length rest ≡ 0 → last_lines lines rest ≡ lines
+last_none lines [] none = refl
+last_none lines (b ∷ rest) none = absurd (omega arith)
+
+-- a rest behind whole lines
+pub Splits-rest : (bytes rest : List ℕ) (lines : List (List ℕ)) → Splits bytes lines [] → HasNoEnd rest → Splits (bytes ++ rest) lines rest
+Splits-rest bytes rest lines s none =
+    let P : List (List ℕ) → Type 0 = λ ls. Splits (bytes ++ rest) ls rest in
+    subst P (append-nil lines) (Splits-join bytes rest lines [] [] rest s (Splits-none rest none))
+
+-- the rest is a line, when its end comes
+ended_rest : (rest : List ℕ) → HasNoEnd rest → Splits (ended rest) (rest ∷ []) []
+ended_rest rest none = record {
+  whole = sym (append-nil (ended rest ++ []) ∙ append-nil (ended rest));
+  each = All-cons HasNoEnd rest [] none (All-nil HasNoEnd);
+  partial = All-nil (λ (b : ℕ). b ≢ 10);
+}
+
+-- a part whose end comes behind it
+pub ended_part : (part : List ℕ) (lines : List (List ℕ)) (rest : List ℕ) → Splits part lines rest → AreLinesIn (part ∷ []) (lines ++ rest ∷ [])
+ended_part part lines rest s =
+    let P : List ℕ → Type 0 = λ xs. Splits xs (lines ++ rest ∷ []) [] in
+    subst P (sym (append-nil (ended part))) (Splits-join part (10 ∷ []) lines (rest ∷ []) rest [] s (ended_rest rest s.partial))
+
+-- a line is a part of one line
+pub one_line : (line : List ℕ) → HasNoEnd line → AreLinesIn (line ∷ []) (line ∷ [])
+one_line line none = ended_part line [] line (Splits-none line none)
+
+pub no_parts : AreLinesIn [] []
+no_parts = Splits-none [] (All-nil (λ (b : ℕ). b ≢ 10))
+
+pub more_lines : (part : List ℕ) (parts lines more : List (List ℕ)) → AreLinesIn (part ∷ []) lines → AreLinesIn parts more → AreLinesIn (part ∷ parts) (lines ++ more)
+more_lines part parts lines more a b =
+    let P : List ℕ → Type 0 = λ xs. Splits xs lines [] in
+    Splits-join (ended part) (flat_map ended parts) lines more [] [] (subst P (append-nil (ended part)) a) b
+
+-- the lines of parts
+pub record PartLines (parts : List (List ℕ)) : Type 0 where
+  pub lines : List (List ℕ)
+  pub cut : AreLinesIn parts lines
+
+pub lines_of : (parts : List (List ℕ)) → PartLines parts
+lines_of [] = record { lines = []; cut = no_parts }
+lines_of (part ∷ parts) =
+    let one = cut_of part in
+    let more = lines_of parts in
+    let lines = one.lines ++ one.rest ∷ [] in
+    record { lines = lines ++ more.lines; cut = more_lines part parts lines more.lines (ended_part part one.lines one.rest one.splits) more.cut }

@@ -1,0 +1,4 @@
+pub mod Cutting
+pub mod CutOnce
+pub mod Consuming
+pub mod Leaving

@@ -1,0 +1,31 @@
+-- Lines of a file: the bytes up to each byte 10, and what stands after the last one.
+use Rattle.std.specs.Prelude.{ℕ, ◌≡◌, ◌≢◌, List, [], ◌∷◌, ◌++◌, All}
+use Rattle.std.specs.List.{flat_map}
+
+-- a line with its end
+abbrev pub ended : List ℕ → List ℕ
+ended line = line ++ 10 ∷ []
+
+-- no end of a line stands there
+abbrev pub HasNoEnd : List ℕ → Type 0
+HasNoEnd bytes = All (λ b. b ≢ 10) bytes
+
+-- the bytes are these lines, each with its end, and then a rest without one
+pub record Splits (bytes : List ℕ) (lines : List (List ℕ)) (rest : List ℕ) : Type 0 where
+  pub whole : bytes ≡ flat_map ended lines ++ rest
+  pub each : All HasNoEnd lines
+  pub partial : HasNoEnd rest
+
+-- the bytes are these parts, each of one line or more and with an end behind it, and then a rest without an end
+pub record Divides (bytes : List ℕ) (parts : List (List ℕ)) (rest : List ℕ) : Type 0 where
+  pub whole : bytes ≡ flat_map ended parts ++ rest
+  pub partial : HasNoEnd rest
+
+-- the parts, each with an end behind it, are these lines
+abbrev pub AreLinesIn : List (List ℕ) → List (List ℕ) → Type 0
+AreLinesIn parts lines = Splits (flat_map ended parts) lines []
+
+-- the lines at the end: each that has its end, and a rest that isn't empty
+abbrev pub last_lines : List (List ℕ) → List ℕ → List (List ℕ)
+last_lines lines [] = lines
+last_lines lines (b ∷ rest) = lines ++ (b ∷ rest) ∷ []

@@ -1,0 +1,5 @@
+pub mod Numbers
+pub mod Cuts
+pub mod Counts
+pub mod Deliveries
+pub mod Sendings

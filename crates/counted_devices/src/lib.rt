@@ -1,0 +1,15 @@
+//! Readers and writers that count their failures, and bytes cut into lines.
+//!
+//! Each error of a device is counted, so that a contract can say that a device failed. A text goes
+//! out whole, or after a failure a beginning of it.
+#![tactic(auto)]
+
+mod counting;
+mod lines;
+mod sending;
+mod write_fault;
+
+pub use counting::Counting;
+pub use lines::{Cut, cut_parts, first_end};
+pub use sending::{relieve, write_text};
+pub use write_fault::WriteFault;

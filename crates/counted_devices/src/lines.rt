@@ -1,0 +1,69 @@
+//! Cutting bytes at ends of lines.
+ghost use Rattle.std.specs.Prelude.{◌≡◌, ◌<◌, ◌≤◌, length, take, map, slice_index, MatchOption, IfOk};
+ghost use Rattle.std.specs.Option.{IfSome};
+ghost use Rattle.counted_devices.specs.Cuts.{HasNoEnd, Divides};
+
+use memchr::{memchr, memrchr};
+use std::alloc::Global;
+use tag::Memory;
+
+/// The byte that ends a line.
+const END: u8 = 10;
+
+/// How many bytes of lines are worth a part of their own.
+const PART: usize = 262_144;
+
+/// Bytes as parts of whole lines, each of which had its end, and a rest without one.
+#[derive(Debug, Drop)]
+pub struct Cut<'a> {
+    pub parts: Vec<&'a [u8]>,
+    pub rest: &'a [u8],
+}
+
+/// The place of the first end of a line.
+pub fn first_end(bytes: &[u8]) -> Option<usize>
+    ensures { MatchOption result (HasNoEnd bytes.now) (λ i. (i < length bytes.now) × HasNoEnd (take i bytes.now) × (slice_index bytes.now i ≡ 10)) }
+{
+    memchr(END, bytes)
+}
+
+/// The place of the first end of a line from there on.
+fn end_from(bytes: &[u8], from: usize) -> Option<usize>
+    requires { from ≤ length bytes.now }
+    ensures { IfSome result (λ i. (i < length bytes.now) × (slice_index bytes.now i ≡ 10)) }
+{
+    let end = first_end(&bytes[from..])?;
+    Some(from + end)
+}
+
+/// The place of the last end of a line.
+fn last_end(bytes: &[u8]) -> Option<usize>
+    ensures { MatchOption result (HasNoEnd bytes.now) (λ i. (i < length bytes.now) × (slice_index bytes.now i ≡ 10)) }
+{
+    memrchr(END, bytes)
+}
+
+/// The place of the first end of a line behind a part's bytes, or else of the last end.
+fn part_end(bytes: &[u8]) -> Option<usize>
+    ensures { MatchOption result (HasNoEnd bytes.now) (λ i. (i < length bytes.now) × (slice_index bytes.now i ≡ 10)) }
+{
+    if bytes.len() > PART {
+        if let Some(end) = end_from(bytes, PART) {
+            return Some(end);
+        }
+    }
+    last_end(bytes)
+}
+
+/// Cuts the bytes into parts of whole lines.
+pub fn cut_parts(alloc: Global, bytes: &[u8]) -> Result<Cut<'_>, Memory>
+    ensures { IfOk result (λ found. Divides bytes.now (map (λ part. part.now) found.parts.items) found.rest.now) }
+{
+    let mut parts = Vec::new(alloc);
+    let mut rest = bytes;
+    while let Some(end) = part_end(rest) {
+        parts.push(&rest[..end])?;
+        rest = &rest[end + 1..];
+    }
+    Ok(Cut { parts, rest })
+}

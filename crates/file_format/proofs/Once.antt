@@ -1,0 +1,77 @@
+-- A line shows one thing, and a file is read as one: bytes are cut in one way, and each line says one item.
+use Rattle.std.proofs.Common.{ℕ, suc, ◌≡◌, ◌≢◌, ◌≤◌, ◌<◌, ◌⊎◌, inl, inr, List, [], ◌∷◌, ◌++◌, length, Some, Result, Ok, Err, refl, sym, ap, ◌∙◌, subst, arith, append_assoc}
+use Rattle.std.specs.List.{AllZip}
+use Rattle.serde_json.specs.Data.{Data}
+use Rattle.counted_devices.specs.Cuts.{last_lines}
+use Rattle.counted_devices.proofs.CutOnce.{splits_once}
+use Rattle.file_format.specs.declared.fault.LineFault.{LineFault}
+use Rattle.file_format.specs.declared.fault.LineFault.TheVariants.{NotJson, TooLong}
+use Rattle.file_format.specs.Documents.{IsJson}
+use Rattle.file_format.specs.Formats.{Format}
+use Rattle.file_format.specs.Lines.{Says, Shows}
+use Rattle.file_format.specs.Files.{IsLineOf, AreSpelled}
+use Rattle.file_format.specs.Readings.{Reads}
+
+-- what a line shows is of one of three kinds
+record IsLong {X : Type 0} (line : List ℕ) (said : Result X LineFault) : Type 0 where
+  pub is : said ≡ Err TooLong
+  pub long : 65536 < length line
+
+record IsNone {X : Type 0} (line : List ℕ) (said : Result X LineFault) : Type 0 where
+  pub is : said ≡ Err NotJson
+  pub short : length line ≤ 65536
+  pub none : (d : Data) → IsJson line d → ⊥
+
+kind_of : {X : Type 0} (meaning : Data → Result X LineFault) (line : List ℕ) (said : Result X LineFault) → Shows meaning line said → IsLong line said ⊎ (IsNone line said ⊎ Says meaning line said)
+kind_of meaning line (Ok x) h = inr (inr h)
+kind_of meaning line (Err TooLong) h = inl (record { is = refl; long = h })
+kind_of meaning line (Err NotJson) h = inr (inl (record { is = refl; short = h.0; none = h.1 }))
+kind_of meaning line (Err _) h = inr (inr h)
+
+same_value : (line : List ℕ) (c d : Data) → IsJson line c → IsJson line d → c ≡ d
+same_value line c d h k = let e : Some c ≡ Some d = sym h.1 ∙ k.1 in cc
+
+-- a line shows one thing
+pub shows_once : {X : Type 0} (meaning : Data → Result X LineFault) (line : List ℕ) (a b : Result X LineFault) → Shows meaning line a → Shows meaning line b → a ≡ b
+shows_once {X} meaning line a b h k =
+    elim (kind_of meaning line a h) [
+      | inl u ↦ elim (kind_of meaning line b k) [
+        | inl v ↦ u.is ∙ sym v.is
+        | inr w ↦ elim w [ inl v ↦ absurd (omega (arith, u.long, v.short)) | inr v ↦ absurd (omega (arith, u.long, v.short)) ]
+      ]
+      | inr t ↦ elim t [
+        | inl u ↦ elim (kind_of meaning line b k) [
+          | inl v ↦ absurd (omega (arith, u.short, v.long))
+          | inr w ↦ elim w [ inl v ↦ u.is ∙ sym v.is | inr v ↦ absurd (u.none v.value v.json) ]
+        ]
+        | inr u ↦ elim (kind_of meaning line b k) [
+          | inl v ↦ absurd (omega (arith, u.short, v.long))
+          | inr w ↦ elim w [ inl v ↦ absurd (v.none u.value u.json) | inr v ↦ sym u.meant ∙ ap meaning (same_value line u.value v.value u.json v.json) ∙ v.meant ]
+        ]
+      ]
+    ]
+
+module _ {Item : Type 0} (format : Format Item) where
+  items_once : (lines : List (List ℕ)) (is js : List Item) → AllZip (IsLineOf format) lines is → AllZip (IsLineOf format) lines js → is ≡ js
+  items_once [] [] [] h k = refl
+  items_once [] [] (j ∷ js) h k = absurd k
+  items_once [] (i ∷ is) js h k = absurd h
+  items_once (line ∷ lines) [] js h k = absurd h
+  items_once (line ∷ lines) (i ∷ is) [] h k = absurd k
+  items_once (line ∷ lines) (i ∷ is) (j ∷ js) h k =
+      let e = shows_once format.meaning line (Ok i) (Ok j) h.0 k.0 in
+      let one : i ≡ j = cc in
+      let others = items_once lines is js h.1 k.1 in
+      cc
+
+  pub spelled_once : (lines : List (List ℕ)) (is js : List Item) → AreSpelled format lines is → AreSpelled format lines js → is ≡ js
+  spelled_once [] is js h k = h ∙ sym k
+  spelled_once (header ∷ lines) is js h k = items_once lines is js h.1 k.1
+
+  -- a file has one list of items
+  pub reads_once : {Contents : Type 0} (Makes : List Item → Contents → Type 0) (bytes : List ℕ) (a b : Contents) (h : Reads format Makes bytes a) (k : Reads format Makes bytes b) → h.items ≡ k.items
+  reads_once Makes bytes a b h k =
+      let w = splits_once bytes h.lines k.lines h.rest k.rest h.splits k.splits in
+      let Lines : List (List ℕ) → Type 0 = λ ls. AreSpelled format (last_lines ls k.rest) h.items in
+      let Rest : List ℕ → Type 0 = λ r. AreSpelled format (last_lines h.lines r) h.items in
+      spelled_once (last_lines k.lines k.rest) h.items k.items (subst Lines w.0 (subst Rest w.1 h.read.spelled)) k.read.spelled

@@ -1,0 +1,59 @@
+-- Parts of lines, and what their lines show.
+use Rattle.std.proofs.Common.{ℕ, ◌≡◌, ◌≢◌, ◌<◌, ◌≤◌, ◌+◌, length, arith, Ok, Err, List, [], ◌∷◌, ◌++◌, map, refl, sym, ap, ◌∙◌, append_assoc, append-nil, Result, subst}
+use Rattle.std.specs.Prelude.{All}
+use Rattle.std.specs.List.{AllZip, flat_map}
+use Rattle.std.proofs.lemmas.List.Elements.{All-append, All-nil, All-cons}
+use Rattle.serde_json.specs.Data.{Data}
+use Rattle.file_format.specs.declared.fault.LineFault.{LineFault}
+use Rattle.file_format.specs.declared.judging.Judgement.{Judgement}
+use Rattle.counted_devices.specs.Cuts.{ended, HasNoEnd, Splits, Divides, AreLinesIn}
+use Rattle.file_format.specs.Lines.{ShowsItem, ShowParts}
+use Rattle.file_format.proofs.Zips.{AllZip-push_both, AllZip-append}
+use Rattle.counted_devices.proofs.Cutting.{ended_part, no_parts, more_lines}
+
+module _ {Item : Type 0} (meaning : Data → Result Item LineFault) where
+  -- of a part's lines the first show that, and that rest is left
+  pub record Shown (part : List ℕ) (judgements : List (Judgement Item)) (rest : List ℕ) : Type 0 where
+    pub lines : List (List ℕ)
+    pub whole : part ≡ flat_map ended lines ++ rest
+    pub each : All HasNoEnd lines
+    pub shown : AllZip (ShowsItem meaning) lines judgements
+
+  pub Shown-none : (part : List ℕ) → Shown part [] part
+  Shown-none part = record { lines = []; whole = refl; each = All-nil HasNoEnd; shown = tt }
+
+  ended_more : (lines : List (List ℕ)) (line tail : List ℕ) → flat_map ended lines ++ (line ++ 10 ∷ tail) ≡ flat_map ended (lines ++ line ∷ []) ++ tail
+  ended_more [] line tail = sym (append_assoc line (10 ∷ []) tail) ∙ ap (λ (xs : List ℕ). xs ++ tail) (sym (append-nil (ended line)))
+  ended_more (first ∷ lines) line tail =
+      append_assoc (ended first) (flat_map ended lines) (line ++ 10 ∷ tail) ∙ ap (λ (xs : List ℕ). ended first ++ xs) (ended_more lines line tail) ∙ sym (append_assoc (ended first) (flat_map ended (lines ++ line ∷ [])) tail)
+
+  -- a line more
+  pub Shown-line : (part rest line tail : List ℕ) (judgements : List (Judgement Item)) (judgement : Judgement Item) → Shown part judgements rest → rest ≡ line ++ 10 ∷ tail → HasNoEnd line → ShowsItem meaning line judgement → Shown part (judgements ++ judgement ∷ []) tail
+  Shown-line part rest line tail judgements judgement s cut none shows = record {
+    lines = s.lines ++ line ∷ [];
+    whole = s.whole ∙ ap (λ (xs : List ℕ). flat_map ended s.lines ++ xs) cut ∙ ended_more s.lines line tail;
+    each = All-append HasNoEnd s.lines (line ∷ []) s.each (All-cons HasNoEnd line [] none (All-nil HasNoEnd));
+    shown = AllZip-push_both (ShowsItem meaning) s.lines judgements line judgement s.shown shows;
+  }
+
+  -- the last line
+  pub Shown-last : (part rest : List ℕ) (judgements : List (Judgement Item)) (judgement : Judgement Item) → Shown part judgements rest → HasNoEnd rest → ShowsItem meaning rest judgement → ShowParts meaning (part ∷ []) (judgements ++ judgement ∷ [])
+  Shown-last part rest judgements judgement s none shows = record {
+    lines = s.lines ++ rest ∷ [];
+    cut = ended_part part s.lines rest (record { whole = s.whole; each = s.each; partial = none });
+    shown = AllZip-push_both (ShowsItem meaning) s.lines judgements rest judgement s.shown shows;
+  }
+
+  -- runs, each of a part's lines
+  pub show_all : {A B : Type 0} (text : A → List ℕ) (items : B → List (Judgement Item)) (parts : List A) (runs : List B) → AllZip (λ part run. ShowParts meaning (text part ∷ []) (items run)) parts runs → ShowParts meaning (map text parts) (flat_map items runs)
+  show_all text items [] [] h = record { lines = []; cut = no_parts; shown = tt }
+  show_all text items [] (run ∷ runs) h = absurd h
+  show_all text items (part ∷ parts) [] h = absurd h
+  show_all text items (part ∷ parts) (run ∷ runs) h =
+      let one = h.0 in
+      let more = show_all text items parts runs h.1 in
+      record {
+        lines = one.lines ++ more.lines;
+        cut = more_lines (text part) (map text parts) one.lines more.lines one.cut more.cut;
+        shown = AllZip-append (ShowsItem meaning) one.lines (items run) more.lines (flat_map items runs) one.shown more.shown;
+      }

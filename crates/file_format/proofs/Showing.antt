@@ -1,0 +1,116 @@
+-- A value's meaning fails by its members alone: never as a line that is too long or no JSON.
+use Rattle.std.proofs.Common.{ℕ, ◌≡◌, ◌≤◌, List, length, Bool, true, false, cond, Option, Some, None, Result, Ok, Err, subst}
+use Rattle.serde_json.specs.Data.{Data}
+use Rattle.tag.specs.declared.actions.Action.{Action}
+use Rattle.file_format.specs.declared.fault.LineFault.{LineFault}
+use Rattle.file_format.specs.declared.fault.LineFault.TheVariants.{NotJson, NoHeader, Version, Range, TooLong}
+use Rattle.file_format.specs.declared.fault.Stop.{Stop}
+use Rattle.file_format.specs.declared.fault.Stop.TheVariants as stop
+use Rattle.file_format.specs.Members.{◌>>=◌, Gives, needed, ranged}
+use Rattle.file_format.specs.Rows.{begun, written_in, action_of, invoke_in, note_in, answer_of, returned_of, respond_in, row_of, row_in}
+use Rattle.file_format.specs.OrderLines.{piece_in}
+use Rattle.file_format.specs.Headers.{header_of, header_in}
+use Rattle.file_format.specs.Formats.{IsFine, IsOfMembers}
+use Rattle.file_format.specs.Lines.{Shows, ShowsBy}
+use Rattle.file_format.specs.Documents.{IsJson}
+
+pub record Well {X : Type 0} (r : Result X LineFault) : Type 0 where
+  pub fine : IsFine r
+
+ok : {X : Type 0} (x : X) → Well {X = X} (Ok x)
+ok x = record { fine = tt }
+
+bind : {A B : Type 0} (r : Result A LineFault) (f : A → Result B LineFault) → Well r → ((x : A) → Well (f x)) → Well (r >>= f)
+bind (Ok x) f h k = k x
+bind (Err e) f h k = record { fine = h.fine }
+
+need : {X : Type 0} (o : Option X) → Well (needed o)
+need None = record { fine = tt }
+need (Some x) = record { fine = tt }
+
+range : {X : Type 0} (b : Bool) (x : X) → Well (ranged b x)
+range true x = record { fine = tt }
+range false x = record { fine = tt }
+
+choice : {X : Type 0} (b : Bool) (x y : Result X LineFault) → Well x → Well y → Well (cond b x y)
+choice true x y h k = h
+choice false x y h k = k
+
+out : {X : Type 0} → Well {X = X} (Err Range)
+out = record { fine = tt }
+
+begun-well : (call client : ℕ) (key : List ℕ) (action : Action) → Well (begun call client key action)
+unfolding begun
+begun-well call client key action = search (bind, range, ok) depth 20
+
+written-well : (d : Data) → Well (written_in d)
+unfolding written_in
+written-well d = search (bind, need, range, ok) depth 20
+
+action-well : (action : List ℕ) (d : Data) → Well (action_of action d)
+unfolding action_of
+action-well action d = search (choice, written-well, ok, out) depth 20
+
+invoke-well : (d : Data) → Well (invoke_in d)
+unfolding invoke_in
+invoke-well d = search (bind, need, action-well, begun-well) depth 20
+
+note-well : (d : Data) → Well (note_in d)
+unfolding note_in
+note-well d = search (bind, need, range, ok) depth 20
+
+answer-well : (o : Option (List ℕ)) → Well (answer_of o)
+unfolding answer_of
+answer-well None = record { fine = tt }
+answer-well (Some text) = search (bind, range, ok) depth 20
+
+returned-well : (o : Option Data) → Well (returned_of o)
+unfolding returned_of
+returned-well None = record { fine = tt }
+returned-well (Some d) = search (choice, answer-well, ok) depth 20
+
+respond-well : (d : Data) → Well (respond_in d)
+unfolding respond_in
+respond-well d = search (bind, need, returned-well, range, ok) depth 20
+
+row-well : (kind : List ℕ) (d : Data) → Well (row_of kind d)
+unfolding row_of
+row-well kind d = search (choice, invoke-well, note-well, respond-well, out) depth 20
+
+pub row_in-well : (d : Data) → Well (row_in d)
+unfolding row_in
+row_in-well d = search (bind, need, row-well) depth 20
+
+no_header : {X : Type 0} → Well {X = X} (Err NoHeader)
+no_header = record { fine = tt }
+
+no_version : {X : Type 0} → Well {X = X} (Err Version)
+no_version = record { fine = tt }
+
+header-well : (name : List ℕ) (abd : Option (List ℕ)) (version : Option ℕ) → Well (header_of name abd version)
+unfolding header_of
+header-well name None version = record { fine = tt }
+header-well name (Some abd) None = search (choice, no_header, no_version) depth 20
+header-well name (Some abd) (Some version) = search (choice, no_header, no_version, ok) depth 20
+
+pub header_in-well : (name : List ℕ) (d : Data) → Well (header_in name d)
+unfolding header_in
+header_in-well name d = header-well name _ _
+
+pub piece_in-well : (d : Data) → Well (piece_in d)
+unfolding piece_in
+piece_in-well d = search (bind, need, range, ok) depth 20
+
+fault_shown : {X : Type 0} (meaning : Data → Result X LineFault) (line : List ℕ) (d : Data) (fault : LineFault) → length line ≤ 65536 → IsJson line d → meaning d ≡ Err fault → IsOfMembers fault → Shows meaning line (Err fault)
+fault_shown meaning line d NotJson short json meant well = absurd well
+fault_shown meaning line d TooLong short json meant well = absurd well
+fault_shown meaning line d _ short json meant well = record { short = short; value = d; json = json; meant = meant }
+
+fine_at : {X : Type 0} (r : Result X LineFault) (fault : LineFault) → r ≡ Err fault → Well r → IsOfMembers fault
+fine_at {X = X} r fault e w = let P : Result X LineFault → Type 0 = λ x. IsFine x in subst P e w.fine
+
+-- what was made of a line's value is what the line shows
+pub shown : {X : Type 0} (meaning : Data → Result X LineFault) (line : List ℕ) (d : Data) (r : Result X Stop) → length line ≤ 65536 → IsJson line d → Well (meaning d) → Gives (λ x. x) r (meaning d) → ShowsBy meaning line r
+shown meaning line d (Ok x) short json well given = record { short = short; value = d; json = json; meant = given }
+shown meaning line d (Err stop.Memory) short json well given = tt
+shown meaning line d (Err (stop.Fault fault)) short json well given = fault_shown meaning line d fault short json given (fine_at (meaning d) fault given well)

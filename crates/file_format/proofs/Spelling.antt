@@ -1,0 +1,143 @@
+-- The bytes of each kind of line.
+use Rattle.std.proofs.Common.{◌≡◌, ℕ, Bool, true, false, not, ◌&&◌, ◌==◌, nat_le, List, [], ◌∷◌, ◌++◌, Option, Some, None, decimal, refl, sym, ap, ap₂, ◌∙◌, subst, append_assoc, arith, eq-eqb}
+use Rattle.std.specs.Prelude.{codes}
+use Rattle.std.specs.List.{list_all}
+use Rattle.std.proofs.lemmas.Bool.{and_parts, leb-true}
+use Rattle.std.proofs.lemmas.Fmt.{decimal_digit}
+use Rattle.json.specs.Print.{quoted, escape, escape_byte}
+use Rattle.json.proofs.Printed.Strings.{escape_byte_plain}
+use Rattle.serde_json.specs.Data.{string, Members, member}
+use Rattle.serde_json.specs.Written.{items_text, members_text}
+use Rattle.tag.specs.Tags.{Tag}
+use Rattle.tag.specs.declared.numbers.OpId.{OpId}
+use Rattle.tag.specs.declared.actions.Action.TheVariants.{Read, Write}
+use Rattle.tag.specs.declared.actions.Returned.TheVariants.{Value, Written}
+use Rattle.recorder.specs.declared.row.Row.TheVariants.{Invoke, Note, Respond}
+use Rattle.counted_devices.specs.Cuts.{ended}
+use Rattle.file_format.specs.PlainTexts.{is_plain}
+use Rattle.file_format.specs.Texts.{header_data, row_data, answered_value, piece_data, calls_data, line_text, row_text, piece_text}
+
+abbrev end : List ℕ
+end = 10 ∷ []
+
+pub header_bytes : (name : List ℕ) → line_text (header_data name) ≡ codes "{\"abd\":" ++ (quoted name ++ codes ",\"version\":1}\n")
+unfolding line_text header_data escape_byte
+header_bytes name = rw (decimal_digit 1 (omega arith)) (ap (λ (s : List ℕ). codes "{\"abd\":" ++ s) (append_assoc (quoted name) (codes ",\"version\":1}") end))
+
+-- numbers and texts of a line, each with what stands before it, and then the last bytes
+abbrev member_bytes : List ℕ → List ℕ → List ℕ → List ℕ
+member_bytes before middle rest = before ++ (middle ++ rest)
+
+member_end : (before middle rest : List ℕ) → member_bytes before middle rest ++ end ≡ member_bytes before middle (rest ++ end)
+member_end before middle rest = append_assoc before (middle ++ rest) end ∙ ap (λ (s : List ℕ). before ++ s) (append_assoc middle rest end)
+
+abbrev asks_read : List ℕ → List ℕ
+asks_read key = member_bytes (codes ",\"do\":\"read\",\"key\":") (quoted key) (codes ",\"row\":\"invoke\"}")
+
+abbrev writes_value : List ℕ → List ℕ
+writes_value value = member_bytes (codes ",\"row\":\"invoke\",\"value\":") (quoted value) (codes "}")
+
+abbrev asks_write : List ℕ → List ℕ → List ℕ
+asks_write key value = member_bytes (codes ",\"do\":\"write\",\"key\":") (quoted key) (writes_value value)
+
+abbrev begins_invoke : ℕ → ℕ → List ℕ → List ℕ
+begins_invoke call client rest = member_bytes (codes "{\"call\":") (decimal call) (member_bytes (codes ",\"client\":") (decimal client) rest)
+
+invoke_end : (call client : ℕ) (rest : List ℕ) → begins_invoke call client rest ++ end ≡ begins_invoke call client (rest ++ end)
+invoke_end call client rest =
+    member_end (codes "{\"call\":") (decimal call) (member_bytes (codes ",\"client\":") (decimal client) rest)
+    ∙ ap (λ (s : List ℕ). member_bytes (codes "{\"call\":") (decimal call) s) (member_end (codes ",\"client\":") (decimal client) rest)
+
+pub read_bytes : (op : OpId) (client : ℕ) (key : List ℕ)
+    → row_text (Invoke op client key Read) ≡ codes "{\"call\":" ++ (decimal op.0 ++ (codes ",\"client\":" ++ (decimal client ++ (codes ",\"do\":\"read\",\"key\":" ++ (quoted key ++ codes ",\"row\":\"invoke\"}\n")))))
+unfolding line_text row_data escape_byte
+read_bytes op client key =
+    invoke_end op.0 client (asks_read key) ∙ ap (λ (s : List ℕ). begins_invoke op.0 client s) (member_end (codes ",\"do\":\"read\",\"key\":") (quoted key) (codes ",\"row\":\"invoke\"}"))
+
+pub write_bytes : (op : OpId) (client : ℕ) (key value : List ℕ)
+    → row_text (Invoke op client key (Write value)) ≡ codes "{\"call\":" ++ (decimal op.0 ++ (codes ",\"client\":" ++ (decimal client ++ (codes ",\"do\":\"write\",\"key\":" ++ (quoted key ++ (codes ",\"row\":\"invoke\",\"value\":" ++ (quoted value ++ codes "}\n")))))))
+unfolding line_text row_data escape_byte
+write_bytes op client key value =
+    invoke_end op.0 client (asks_write key value)
+    ∙ ap (λ (s : List ℕ). begins_invoke op.0 client s) (member_end (codes ",\"do\":\"write\",\"key\":") (quoted key) (writes_value value)
+    ∙ ap (λ (s : List ℕ). member_bytes (codes ",\"do\":\"write\",\"key\":") (quoted key) s) (member_end (codes ",\"row\":\"invoke\",\"value\":") (quoted value) (codes "}")))
+
+pub note_bytes : (op : OpId) (tag : Tag) → row_text (Note op tag) ≡ codes "{\"call\":" ++ (decimal op.0 ++ (codes ",\"number\":" ++ (decimal tag.number ++ (codes ",\"row\":\"note\",\"writer\":" ++ (decimal tag.writer ++ codes "}\n")))))
+unfolding line_text row_data escape_byte
+note_bytes op tag =
+    let writer = member_bytes (codes ",\"row\":\"note\",\"writer\":") (decimal tag.writer) (codes "}") in
+    member_end (codes "{\"call\":") (decimal op.0) (member_bytes (codes ",\"number\":") (decimal tag.number) writer)
+    ∙ ap (λ (s : List ℕ). member_bytes (codes "{\"call\":") (decimal op.0) s) (member_end (codes ",\"number\":") (decimal tag.number) writer
+    ∙ ap (λ (s : List ℕ). member_bytes (codes ",\"number\":") (decimal tag.number) s) (member_end (codes ",\"row\":\"note\",\"writer\":") (decimal tag.writer) (codes "}")))
+
+pub written_bytes : (op : OpId) → row_text (Respond op Written) ≡ codes "{\"call\":" ++ (decimal op.0 ++ codes ",\"row\":\"respond\"}\n")
+unfolding line_text row_data escape_byte
+written_bytes op = member_end (codes "{\"call\":") (decimal op.0) (codes ",\"row\":\"respond\"}")
+
+-- what a read's response has behind its call
+abbrev pub answer_members : Option (List ℕ) → Members
+answer_members answer = member (codes "row") (string (codes "respond")) (answered_value (Value answer))
+
+pub absent_bytes : ended (members_text true (answer_members None)) ≡ codes ",\"row\":\"respond\",\"value\":null}\n"
+unfolding escape_byte
+absent_bytes = refl
+
+pub answered_bytes : (value : List ℕ) → ended (members_text true (answer_members (Some value))) ≡ codes ",\"row\":\"respond\",\"value\":" ++ (quoted value ++ codes "}\n")
+unfolding escape_byte
+answered_bytes value = member_end (codes ",\"row\":\"respond\",\"value\":") (quoted value) (codes "}")
+
+pub respond_bytes : (op : OpId) (answer : Option (List ℕ)) → row_text (Respond op (Value answer)) ≡ codes "{\"call\":" ++ (decimal op.0 ++ ended (members_text true (answer_members answer)))
+unfolding line_text row_data escape_byte
+respond_bytes op answer = member_end (codes "{\"call\":") (decimal op.0) (members_text true (answer_members answer))
+
+pub piece_bytes : (key : List ℕ) (order : List OpId) → piece_text (record { key = key; order = order }) ≡ codes "{\"key\":" ++ (quoted key ++ (codes ",\"order\":[" ++ (items_text false (calls_data order) ++ codes "}\n")))
+unfolding line_text piece_data escape_byte
+piece_bytes key order =
+    member_end (codes "{\"key\":") (quoted key) (member_bytes (codes ",\"order\":[") (items_text false (calls_data order)) (codes "}"))
+    ∙ ap (λ (s : List ℕ). member_bytes (codes "{\"key\":") (quoted key) s) (member_end (codes ",\"order\":[") (items_text false (calls_data order)) (codes "}"))
+
+-- ---- bytes that come one after another
+
+pub then : (out mid new before middle rest : List ℕ) → mid ≡ out ++ (before ++ middle) → new ≡ mid ++ rest → new ≡ out ++ (before ++ (middle ++ rest))
+then out mid new before middle rest first more =
+    more ∙ ap (λ (s : List ℕ). s ++ rest) first ∙ append_assoc out (before ++ middle) rest ∙ ap (λ (s : List ℕ). out ++ s) (append_assoc before middle rest)
+
+pub spelled : (out new line bytes : List ℕ) → line ≡ bytes → new ≡ out ++ bytes → new ≡ out ++ line
+spelled out new line bytes same grown = grown ∙ ap (λ (s : List ℕ). out ++ s) (sym same)
+
+pub with_number : (out new before : List ℕ) (m n : ℕ) → m ≡ n → new ≡ out ++ (before ++ decimal m) → new ≡ out ++ (before ++ decimal n)
+with_number out new before m n same grown = grown ∙ ap (λ (k : ℕ). out ++ (before ++ decimal k)) same
+
+pub with_text : (out new before s t : List ℕ) → s ≡ t → new ≡ out ++ (before ++ quoted s) → new ≡ out ++ (before ++ quoted t)
+with_text out new before s t same grown = grown ∙ ap (λ (u : List ℕ). out ++ (before ++ quoted u)) same
+
+pub both : (out mid new a b : List ℕ) → mid ≡ out ++ a → new ≡ mid ++ b → new ≡ out ++ (a ++ b)
+both out mid new a b first more = more ∙ ap (λ (s : List ℕ). s ++ b) first ∙ append_assoc out a b
+
+-- ---- texts without an escape
+
+own : (n : ℕ) → not (n == n) ≡ true → ⊥
+own n h =
+    let is : (n == n) ≡ true = eq-eqb n n refl in
+    let no : not true ≡ true = subst (λ (b : Bool). not b ≡ true) is h in
+    cc
+
+unlike : (y n : ℕ) → not (y == n) ≡ true → y ≡ n → ⊥
+unlike y n test e = own n (subst (λ (z : ℕ). not (z == n) ≡ true) e test)
+
+escape_plain : (s : List ℕ) → list_all is_plain s ≡ true → escape s ≡ s
+escape_plain [] h = refl
+escape_plain (x ∷ s) h =
+    let p = and_parts (is_plain x) (list_all is_plain s) h in
+    let q = and_parts (nat_le 32 x && not (x == 34)) (not (x == 92)) p.0 in
+    let r = and_parts (nat_le 32 x) (not (x == 34)) q.0 in
+    ap₂ (λ (a b : List ℕ). a ++ b) (escape_byte_plain x (unlike x 34 r.1) (unlike x 92 q.1) (leb-true 32 x r.0)) (escape_plain s p.1)
+
+pub quoted_plain : (s : List ℕ) → list_all is_plain s ≡ true → 34 ∷ (s ++ 34 ∷ []) ≡ quoted s
+quoted_plain s h = ap (λ (t : List ℕ). 34 ∷ (t ++ 34 ∷ [])) (sym (escape_plain s h))
+
+pub quoted_whole : (out before first mark text last all : List ℕ) → list_all is_plain text ≡ true → first ≡ out ++ before → mark ≡ first ++ 34 ∷ [] → last ≡ mark ++ text → all ≡ last ++ 34 ∷ [] → all ≡ out ++ (before ++ quoted text)
+quoted_whole out before first mark text last all plain p q r s =
+    s ∙ ap (λ (l : List ℕ). l ++ 34 ∷ []) (r ∙ ap (λ (l : List ℕ). l ++ text) (q ∙ ap (λ (l : List ℕ). l ++ 34 ∷ []) p))
+    ∙ append_assoc ((out ++ before) ++ 34 ∷ []) text (34 ∷ []) ∙ append_assoc (out ++ before) (34 ∷ []) (text ++ 34 ∷ []) ∙ append_assoc out before (34 ∷ (text ++ 34 ∷ []))
+    ∙ ap (λ (l : List ℕ). out ++ (before ++ l)) (quoted_plain text plain)

@@ -1,0 +1,35 @@
+-- The text of a history is read as the history, and as no other one.
+use Rattle.std.proofs.Common.{List, codes, refl, sym, ap, ◌∙◌, arith}
+use Rattle.json.proofs.Printed.Utf8.{IsUtf8-are_ascii}
+use Rattle.recorder.specs.declared.row.Row.{Row}
+use Rattle.recorder.specs.Histories.{Recorded}
+use Rattle.file_format.specs.Readings.{Reads}
+use Rattle.file_format.specs.HistoryFormat.{history_format, MakesHistory, IsHistory}
+use Rattle.file_format.specs.Ranges.{IsInRange, AreInRange}
+use Rattle.file_format.specs.ReadAgain.{IsTextOf}
+use Rattle.file_format.specs.Texts.{row_data, history_text}
+use Rattle.file_format.proofs.Once.{reads_once}
+use Rattle.file_format.proofs.Compact.{read-compact_text}
+use Rattle.file_format.proofs.Saying.{row_there}
+use Rattle.file_format.proofs.WrittenLines.{row_simple, row_depth, row_back, row_length, says_row, line_length}
+use Rattle.file_format.proofs.WrittenFiles.{IsGoodLine, written_reads}
+
+good_row : (row : Row) → IsInRange row → IsGoodLine history_format (row_data row) row
+good_row row h = record {
+  simple = row_simple row h;
+  short = line_length (row_data row) (row_length row h);
+  back = read-compact_text (row_data row) (row_simple row h) (row_depth row h) (row_back row h);
+  meant = row_there (row_data row) row (says_row row h);
+}
+
+pub history_reads : (rows : List Row) → IsHistory rows → AreInRange rows → Reads history_format MakesHistory (history_text rows) (record { rows = rows; limit = 1000000 })
+history_reads rows formed ranges =
+    written_reads history_format row_data MakesHistory rows (record { rows = rows; limit = 1000000 }) (record { text = IsUtf8-are_ascii (codes "history") refl; short = omega arith }) (λ k row e. good_row row (ranges k row e)) formed refl
+
+pub history_text_of : (rows : List Row) → IsHistory rows → AreInRange rows → IsTextOf (history_text rows) rows
+history_text_of rows formed ranges =
+    let own = history_reads rows formed ranges in
+    record {
+      read = own;
+      alone = λ history read. ap (λ (h : Recorded). h.rows) read.made ∙ reads_once history_format MakesHistory (history_text rows) history (record { rows = rows; limit = 1000000 }) read own ∙ sym (ap (λ (h : Recorded). h.rows) own.made);
+    }

@@ -1,0 +1,11 @@
+use Rattle.std.proofs.Common.{length}
+use Rattle.file_format.proofs.Parting.{Shown}
+use Rattle.file_format.proofs.judging.judge_part.Given as goal
+
+abbrev pub invariant-loop-end : goal.invariant-loop-end
+invariant-loop-end g l = record {
+  shown : Shown g.T.LineItem.meaning l.part l.run.items l.rest;
+}
+
+abbrev pub decreases-loop-end : goal.decreases-loop-end
+decreases-loop-end g l = length l.rest

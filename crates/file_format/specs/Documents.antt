@@ -1,0 +1,34 @@
+-- The JSON value that a line is.
+use Rattle.std.specs.Prelude.{◌≡◌, List, ℕ, Option, Some, None, Result, Ok, Err, IsUtf8, is_some, unwrap_or, false}
+use Rattle.serde_json.specs.Data.{Data, null, string}
+use Rattle.serde_json.specs.Read.{read, of_json}
+use Rattle.serde_json.specs.Find.{as_null, as_str}
+use Rattle.json.specs.Value.{value_view}
+use Rattle.file_format.specs.declared.fault.LineFault.TheVariants.{NotJson}
+use Rattle.file_format.specs.declared.fault.Stop.{Stop}
+use Rattle.file_format.specs.declared.fault.Stop.TheVariants as stop
+use Rattle.file_format.specs.declared.document.Document.{Document}
+use Rattle.file_format.specs.declared.document.Member.{Member}
+use Rattle.file_format.specs.declared.document.Member.TheVariants as member
+
+-- the value of a document
+abbrev pub data_in : Document → Data
+data_in document = unwrap_or (of_json (value_view document.value)) null
+
+-- the line is one JSON text of that value
+abbrev pub IsJson : List ℕ → Data → Type 0
+IsJson line d = IsUtf8 line × (read line ≡ Some d)
+
+-- the line's value was read, or it has none, or memory ran out
+abbrev pub IsRead : List ℕ → Result Document Stop → Type 0
+IsRead line (Ok document) = IsJson line (data_in document)
+IsRead line (Err (stop.Fault NotJson)) = (d : Data) → IsJson line d → ⊥
+IsRead line (Err (stop.Fault fault)) = ⊥
+IsRead line (Err stop.Memory) = Unit {0}
+
+-- what a member is that may be missing
+abbrev pub Describes : Option Data → Member → Type 0
+Describes found member.Missing = found ≡ None
+Describes found member.Null = found ≡ Some null
+Describes found (member.Text text) = found ≡ Some (string text.now)
+Describes found member.Other = (d : Data) × (found ≡ Some d) × (is_some (as_null d) ≡ false) × (as_str d ≡ None)

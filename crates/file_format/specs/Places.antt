@@ -1,0 +1,62 @@
+-- Whether a row may stand where it stands, and which fault it has otherwise.
+use Rattle.std.specs.Prelude.{ℕ, ◌≡◌, ◌≢◌, ◌≤◌, List, Result, Ok, Err}
+use Rattle.tag.specs.declared.actions.Action.{Action}
+use Rattle.recorder.specs.declared.row.Row.{Row}
+use Rattle.recorder.specs.declared.row.Row.TheVariants.{Invoke, Note, Respond}
+use Rattle.recorder.specs.Histories.{Recorded, MayFollow, IsBusy, IsPendingOp, IsPendingCall, HasNote, Fits, call_count}
+use Rattle.recorder.specs.Answers.{with_row}
+use Rattle.file_format.specs.declared.fault.LineFault.{LineFault}
+use Rattle.file_format.specs.declared.fault.LineFault.TheVariants.{CallOutOfTurn, ClientBusy, CallNotPending, WrongKind, NoteTwice, TooManyCalls}
+use Rattle.file_format.specs.declared.fault.Stop.{Stop}
+use Rattle.file_format.specs.declared.fault.Stop.TheVariants as stop
+
+-- an invocation's call isn't the next number
+abbrev pub IsOutOfTurn : List Row → Row → Type 0
+IsOutOfTurn rows (Invoke op client key action) = op.0 ≢ call_count rows
+IsOutOfTurn rows row = ⊥
+
+-- an invocation by a client with a pending call
+abbrev pub IsByBusy : List Row → Row → Type 0
+IsByBusy rows (Invoke op client key action) = IsBusy rows client
+IsByBusy rows row = ⊥
+
+-- a note or a response for a call that isn't pending
+abbrev pub IsUnasked : List Row → Row → Type 0
+IsUnasked rows (Note op tag) = IsPendingOp rows op → ⊥
+IsUnasked rows (Respond op returned) = IsPendingOp rows op → ⊥
+IsUnasked rows row = ⊥
+
+-- a response with a value for a write, or without one for a read
+abbrev pub IsUnfit : List Row → Row → Type 0
+IsUnfit rows (Respond op returned) = (client : ℕ) × (action : Action) × IsPendingCall rows op client action × (Fits action returned → ⊥)
+IsUnfit rows row = ⊥
+
+-- a second note for a pending call
+abbrev pub IsSecondNote : List Row → Row → Type 0
+IsSecondNote rows (Note op tag) = IsPendingOp rows op × HasNote rows op
+IsSecondNote rows row = ⊥
+
+-- the 1,000,001st call
+abbrev pub IsOneTooMany : List Row → Row → Type 0
+IsOneTooMany rows (Invoke op client key action) = 1000000 ≤ call_count rows
+IsOneTooMany rows row = ⊥
+
+-- the first fault, in order of number, that the row has after those rows
+abbrev pub IsMisplaced : List Row → Row → LineFault → Type 0
+IsMisplaced rows row CallOutOfTurn = IsOutOfTurn rows row
+IsMisplaced rows row ClientBusy = (IsOutOfTurn rows row → ⊥) × IsByBusy rows row
+IsMisplaced rows row CallNotPending = IsUnasked rows row
+IsMisplaced rows row WrongKind = IsUnfit rows row
+IsMisplaced rows row NoteTwice = IsSecondNote rows row
+IsMisplaced rows row TooManyCalls = (IsOutOfTurn rows row → ⊥) × (IsByBusy rows row → ⊥) × IsOneTooMany rows row
+IsMisplaced rows row fault = ⊥
+
+-- the row has no fault where it stands
+abbrev pub IsPlaced : List Row → Row → Type 0
+IsPlaced rows row = MayFollow rows row × (IsOneTooMany rows row → ⊥)
+
+-- the row is added at the end, or it has that fault; memory is wanted only for a row without one
+abbrev pub FollowsRow : Recorded → Row → Result (Unit {0}) Stop → Recorded → Type 0
+FollowsRow old row (Ok done) new = new ≡ with_row old row
+FollowsRow old row (Err (stop.Fault fault)) new = IsMisplaced old.rows row fault × (new ≡ old)
+FollowsRow old row (Err stop.Memory) new = IsPlaced old.rows row × (new ≡ old)

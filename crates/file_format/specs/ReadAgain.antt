@@ -1,0 +1,18 @@
+-- Texts that are read as what they were made of, and as nothing else.
+use Rattle.std.specs.Prelude.{ℕ, ◌≡◌, List}
+use Rattle.recorder.specs.Histories.{Recorded}
+use Rattle.recorder.specs.declared.row.Row.{Row}
+use Rattle.recorder.specs.declared.order.KeyOrder.{KeyOrder}
+use Rattle.file_format.specs.Readings.{Reads}
+use Rattle.file_format.specs.HistoryFormat.{history_format, MakesHistory}
+use Rattle.file_format.specs.OrderFormat.{order_format, AreJoined}
+
+-- the text is read as the history of the rows, and as no other one
+pub record IsTextOf (text : List ℕ) (rows : List Row) : Type 0 where
+  pub read : Reads history_format MakesHistory text (record { rows = rows; limit = 1000000 })
+  pub alone : (history : Recorded) → Reads history_format MakesHistory text history → history.rows ≡ rows
+
+-- the text is read as the orders, and as no others
+pub record IsTextOfOrders (text : List ℕ) (orders : List KeyOrder) : Type 0 where
+  pub read : Reads order_format AreJoined text orders
+  pub alone : (others : List KeyOrder) → Reads order_format AreJoined text others → others ≡ orders

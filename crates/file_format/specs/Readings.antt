@@ -1,0 +1,24 @@
+-- What is read of whole files.
+use Rattle.std.specs.Prelude.{ℕ, ◌≡◌, ◌<◌, ◌⊎◌, List, [], length}
+use Rattle.counted_devices.specs.Cuts.{Splits, last_lines}
+use Rattle.file_format.specs.declared.fault.LineFault.{LineFault}
+use Rattle.file_format.specs.declared.fault.LineFault.TheVariants.{NoHeader}
+use Rattle.file_format.specs.Formats.{Format}
+use Rattle.file_format.specs.Files.{AreLinesOf, IsFirstFault}
+
+-- the bytes of a whole file are a header and the lines of items, of which that is made
+pub record Reads {Item Contents : Type 0} (format : Format Item) (Makes : List Item → Contents → Type 0) (bytes : List ℕ) (contents : Contents) : Type 0 where
+  pub lines : List (List ℕ)
+  pub rest : List ℕ
+  pub splits : Splits bytes lines rest
+  pub some : 0 < length (last_lines lines rest)
+  pub items : List Item
+  pub read : AreLinesOf format (last_lines lines rest) items
+  pub made : Makes items contents
+
+-- the first fault of a whole file; one without a line has no header
+pub record FirstFaultInAll {Item : Type 0} (format : Format Item) (bytes : List ℕ) (number : ℕ) (fault : LineFault) : Type 0 where
+  pub lines : List (List ℕ)
+  pub rest : List ℕ
+  pub splits : Splits bytes lines rest
+  pub first : IsFirstFault format (last_lines lines rest) number fault ⊎ ((last_lines lines rest ≡ []) × (number ≡ 1) × (fault ≡ NoHeader))

@@ -1,0 +1,88 @@
+-- The members of a line, as a reader of the format sees them: which row, or which piece of an order, a JSON value says.
+use Rattle.std.specs.Prelude.{ℕ, ◌≡◌, ◌≤◌, ◌<◌, ◌^◌, List, Some, None, codes, map, slice_get, true}
+use Rattle.serde_json.specs.Data.{Data, null}
+use Rattle.serde_json.specs.Find.{get}
+use Rattle.tag.specs.declared.actions.Action.{Action}
+use Rattle.tag.specs.declared.actions.Action.TheVariants.{Read, Write}
+use Rattle.tag.specs.declared.actions.Returned.{Returned}
+use Rattle.tag.specs.declared.actions.Returned.TheVariants.{Value, Written}
+use Rattle.tag.specs.declared.numbers.OpId.{OpId}
+use Rattle.tag.specs.Names.{is_key, is_value}
+use Rattle.tag.specs.Tags.{Tag}
+use Rattle.recorder.specs.declared.row.Row.{Row}
+use Rattle.recorder.specs.declared.row.Row.TheVariants.{Invoke, Note, Respond}
+use Rattle.recorder.specs.declared.order.KeyOrder.{KeyOrder}
+use Rattle.file_format.specs.Members.{text_at, number_at, numbers_at}
+
+-- the member of that name is that text
+abbrev pub HasText : Data → List ℕ → List ℕ → Type 0
+HasText d name text = text_at name d ≡ Some text
+
+-- the member of that name is that number
+abbrev pub HasNumber : Data → List ℕ → ℕ → Type 0
+HasNumber d name number = number_at name d ≡ Some number
+
+-- the member `value` is that value, a text of at most 256 bytes
+pub record HasValue (d : Data) (value : List ℕ) : Type 0 where
+  pub text : HasText d (codes "value") value
+  pub short : is_value value ≡ true
+
+-- `call` is the number of the call, 0 to 4,294,967,295
+pub record HasCall (d : Data) (op : OpId) : Type 0 where
+  pub call : HasNumber d (codes "call") op.0
+  pub range : op.0 < 2 ^ 32
+
+-- `do` is the action: `read`, or `write` with its value
+pub data HasAction (d : Data) : Action → Type 0 where
+  reads : HasText d (codes "do") (codes "read") → HasAction d Read
+  writes : (value : List ℕ) → HasText d (codes "do") (codes "write") → HasValue d value → HasAction d (Write value)
+
+-- `value` is the answer: a read's text or null, and for a write it is missing
+pub data HasAnswer (d : Data) : Returned → Type 0 where
+  written : get (codes "value") d ≡ None → HasAnswer d Written
+  absent : get (codes "value") d ≡ Some null → HasAnswer d (Value None)
+  answered : (value : List ℕ) → HasValue d value → HasAnswer d (Value (Some value))
+
+-- a row that begins a call: its client is 1 to 65,535
+pub record SaysInvoke (d : Data) (op : OpId) (client : ℕ) (key : List ℕ) (action : Action) : Type 0 where
+  pub kind : HasText d (codes "row") (codes "invoke")
+  pub call : HasCall d op
+  pub caller : HasNumber d (codes "client") client
+  pub least : 1 ≤ client
+  pub most : client ≤ 65535
+  pub subject : HasText d (codes "key") key
+  pub named : is_key key ≡ true
+  pub asks : HasAction d action
+
+-- a row that notes a call's tag: its number is 0 to 1,000,000, its writer 0 to 65,535
+pub record SaysNote (d : Data) (op : OpId) (tag : Tag) : Type 0 where
+  pub kind : HasText d (codes "row") (codes "note")
+  pub call : HasCall d op
+  pub number : HasNumber d (codes "number") tag.number
+  pub few : tag.number ≤ 1000000
+  pub writer : HasNumber d (codes "writer") tag.writer
+  pub named : tag.writer ≤ 65535
+
+-- a row that answers a call
+pub record SaysRespond (d : Data) (op : OpId) (returned : Returned) : Type 0 where
+  pub kind : HasText d (codes "row") (codes "respond")
+  pub call : HasCall d op
+  pub answers : HasAnswer d returned
+
+-- the JSON value says the row, by its members of the row's kind; others are ignored
+abbrev pub SaysRow : Data → Row → Type 0
+SaysRow d (Invoke op client key action) = SaysInvoke d op client key action
+SaysRow d (Note op tag) = SaysNote d op tag
+SaysRow d (Respond op returned) = SaysRespond d op returned
+
+-- the value is the header of a file of that name, of version 1
+pub record SaysHeader (name : List ℕ) (d : Data) : Type 0 where
+  pub abd : HasText d (codes "abd") name
+  pub version : HasNumber d (codes "version") 1
+
+-- the value is a key and a piece of its order: `order` holds the numbers of the calls, each 0 to 4,294,967,295
+pub record SaysPiece (d : Data) (piece : KeyOrder) : Type 0 where
+  pub subject : HasText d (codes "key") piece.key
+  pub named : is_key piece.key ≡ true
+  pub order : numbers_at (codes "order") d ≡ Some (map (λ (op : OpId). op.0) piece.order)
+  pub range : (k : ℕ) (op : OpId) → slice_get piece.order k ≡ Some op → op.0 < 2 ^ 32

@@ -1,0 +1,124 @@
+//! Faults of files.
+ghost use Rattle.std.specs.Prelude.{◌≡◌};
+ghost use Rattle.file_format.specs.Numbers.{line_fault_number, fault_number};
+
+use tag::Memory;
+use thiserror::Error;
+
+/// What is wrong with a line. Of several the first that is tested is named: `TooLong`, then
+/// `NotJson`, then the others in this order, `TooManyCalls` last.
+#[derive(Clone, Copy, Debug, PartialEq, Eq, Error)]
+pub enum LineFault {
+    /// The line is no JSON text, or isn't UTF-8.
+    #[error("not JSON")]
+    NotJson,
+    /// The first line isn't the header of such a file, or there is no line.
+    #[error("no header")]
+    NoHeader,
+    /// The header's version is missing or isn't 1.
+    #[error("version")]
+    Version,
+    /// The line isn't an object, or a member is missing or of the wrong kind.
+    #[error("member")]
+    Member,
+    /// A number, key, value or fixed text is outside its range.
+    #[error("range")]
+    Range,
+    /// An invocation's call isn't the next number.
+    #[error("call out of turn")]
+    CallOutOfTurn,
+    /// An invocation by a client with a pending call.
+    #[error("client busy")]
+    ClientBusy,
+    /// A note or a response for a call that isn't pending.
+    #[error("call not pending")]
+    CallNotPending,
+    /// A write's response with a value, or a read's without one.
+    #[error("response of the wrong kind")]
+    WrongKind,
+    /// A second note for a call.
+    #[error("note twice")]
+    NoteTwice,
+    /// More than 65,536 bytes, the line's end not counted.
+    #[error("line too long")]
+    TooLong,
+    /// The 1,000,001st call.
+    #[error("too many calls")]
+    TooManyCalls,
+}
+
+/// What is wrong with a file, or with its reading.
+#[derive(Clone, Copy, Debug, PartialEq, Eq, Error)]
+pub enum FaultKind {
+    /// A line has a fault.
+    #[error(transparent)]
+    Line(LineFault),
+    /// The reader failed.
+    #[error("device")]
+    Device,
+    /// A growth was refused.
+    #[error("memory")]
+    Memory,
+}
+
+/// What is wrong with a file, and the number of the line, from 1, that has the fault or was under
+/// way when it came.
+#[derive(Clone, Copy, Debug, PartialEq, Eq, Error)]
+#[error("line {line}: fault {} {kind}", .kind.number())]
+pub struct FileFault {
+    pub line: u64,
+    pub kind: FaultKind,
+}
+
+/// Why the judgement of a line stopped: the line has a fault, or a growth was refused.
+#[derive(Clone, Copy, Debug, PartialEq, Eq)]
+pub enum Stop {
+    Fault(LineFault),
+    Memory,
+}
+
+impl LineFault {
+    /// The fault's number, 1 to 12.
+    pub fn number(self) -> u8
+        ensures { result ≡ line_fault_number self }
+    {
+        match self {
+            LineFault::NotJson => 1,
+            LineFault::NoHeader => 2,
+            LineFault::Version => 3,
+            LineFault::Member => 4,
+            LineFault::Range => 5,
+            LineFault::CallOutOfTurn => 6,
+            LineFault::ClientBusy => 7,
+            LineFault::CallNotPending => 8,
+            LineFault::WrongKind => 9,
+            LineFault::NoteTwice => 10,
+            LineFault::TooLong => 11,
+            LineFault::TooManyCalls => 12,
+        }
+    }
+}
+
+impl FaultKind {
+    /// The fault's number, 1 to 14.
+    pub fn number(self) -> u8
+        ensures { result ≡ fault_number self }
+    {
+        match self {
+            FaultKind::Line(fault) => fault.number(),
+            FaultKind::Device => 13,
+            FaultKind::Memory => 14,
+        }
+    }
+}
+
+impl From<Memory> for Stop {
+    ghost use Rattle.std.specs.Prelude.{◌≡◌};
+    ghost use Rattle.file_format.specs.declared.fault.Stop.TheVariants.{Memory};
+
+    ghost from_gives = { λ _ e. e ≡ Memory };
+
+    fn from(_: Memory) -> Stop {
+        Stop::Memory
+    }
+}

@@ -1,0 +1,85 @@
+//! Rows that follow one another.
+ghost use Rattle.std.specs.Prelude.{◌≡◌, ◌≤◌};
+ghost use Rattle.recorder.specs.Histories.{IsWellFormed, call_count};
+ghost use Rattle.file_format.specs.Places.{FollowsRow};
+
+use crate::LineFault;
+use crate::fault::Stop;
+use recorder::{History, Row, RowRefusal};
+use tag::{Action, ClientId, Key, OpId, Returned, Tag};
+
+/// The most calls of a file.
+pub const MOST_CALLS: u32 = 1_000_000;
+
+fn follow_invoke(
+    history: &mut History,
+    op: OpId,
+    client: ClientId,
+    key: Key,
+    action: Action,
+) -> Result<(), Stop>
+    ensures { history.old.limit ≡ 1000000 → FollowsRow history.old (Row.Invoke op client key action) result history.new }
+{
+    if op.0 as usize != history.calls() {
+        return Err(Stop::Fault(LineFault::CallOutOfTurn));
+    }
+    if history.is_busy(client) {
+        return Err(Stop::Fault(LineFault::ClientBusy));
+    }
+    if history.calls() >= MOST_CALLS as usize {
+        return Err(Stop::Fault(LineFault::TooManyCalls));
+    }
+    match history.invoke(client, key, action) {
+        Ok(_) => Ok(()),
+        Err(_) => Err(Stop::Memory),
+    }
+}
+
+fn follow_note(history: &mut History, op: OpId, tag: Tag) -> Result<(), Stop>
+    ensures { FollowsRow history.old (Row.Note op tag) result history.new }
+{
+    match history.note(op, tag) {
+        Ok(()) => Ok(()),
+        Err(RowRefusal::NotPending) => Err(Stop::Fault(LineFault::CallNotPending)),
+        Err(RowRefusal::NoteTwice) => Err(Stop::Fault(LineFault::NoteTwice)),
+        Err(_) => Err(Stop::Memory),
+    }
+}
+
+fn follow_respond(history: &mut History, op: OpId, returned: Returned) -> Result<(), Stop>
+    ensures { FollowsRow history.old (Row.Respond op returned) result history.new }
+{
+    match history.respond(op, returned) {
+        Ok(()) => Ok(()),
+        Err(RowRefusal::NotPending) => Err(Stop::Fault(LineFault::CallNotPending)),
+        Err(RowRefusal::WrongKind) => Err(Stop::Fault(LineFault::WrongKind)),
+        Err(_) => Err(Stop::Memory),
+    }
+}
+
+fn follow_row(history: &mut History, row: Row) -> Result<(), Stop>
+    ensures { history.old.limit ≡ 1000000 → FollowsRow history.old row result history.new }
+{
+    match row {
+        Row::Invoke {
+            op,
+            client,
+            key,
+            action,
+        } => follow_invoke(history, op, client, key, action),
+        Row::Note { op, tag } => follow_note(history, op, tag),
+        Row::Respond { op, returned } => follow_respond(history, op, returned),
+    }
+}
+
+/// Adds the row at the end, or says which fault it has there.
+pub fn follow(history: &mut History, row: Row) -> Result<(), Stop>
+    ensures follows { history.old.limit ≡ 1000000 → FollowsRow history.old row result history.new }
+    ensures formed { IsWellFormed history.new.rows }
+    ensures few { call_count history.new.rows ≤ history.new.limit }
+{
+    let result = follow_row(history, row);
+    let _rows = history.rows();
+    let _calls = history.calls();
+    result
+}

@@ -1,0 +1,83 @@
+//! The judgement of a line by itself.
+ghost use Rattle.std.specs.Prelude.{◌≡◌, ◌∷◌, [], IfOk};
+ghost use Rattle.file_format.specs.Headers.{header_in};
+ghost use Rattle.file_format.specs.Lines.{ShowsBy, ShowsItem, ShowParts};
+
+use crate::LineFault;
+use crate::document::Document;
+use crate::fault::Stop;
+use crate::header::header_in;
+use crate::line_item::LineItem;
+use counted_devices::first_end;
+use json::Scratch;
+use std::alloc::Global;
+use tag::Memory;
+
+/// The most bytes of a line, its end not counted.
+pub const LONGEST: usize = 65_536;
+
+/// About how many bytes a line has.
+const USUAL: usize = 48;
+
+/// What a line behind the header shows by itself: its item, or its fault.
+#[derive(Debug, Drop)]
+pub enum Judgement<T> {
+    Item(T),
+    Fault(LineFault),
+}
+
+/// The line's item.
+fn item_on<T: LineItem>(alloc: Global, scratch: &mut Scratch, line: &[u8]) -> Result<T, Stop>
+    ensures { ShowsBy T.meaning line.now result }
+{
+    if line.len() > LONGEST {
+        return Err(Stop::Fault(LineFault::TooLong));
+    }
+    let document = Document::read(alloc, line, scratch)?;
+    T::item_in(alloc, &document)
+}
+
+/// What the line, without its end, shows behind the header.
+fn judge<T: LineItem>(
+    alloc: Global,
+    scratch: &mut Scratch,
+    line: &[u8],
+) -> Result<Judgement<T>, Memory>
+    ensures { IfOk result (ShowsItem T.meaning line.now) }
+{
+    match item_on::<T>(alloc, scratch, line) {
+        Ok(item) => Ok(Judgement::Item(item)),
+        Err(Stop::Fault(fault)) => Ok(Judgement::Fault(fault)),
+        Err(Stop::Memory) => Err(Memory),
+    }
+}
+
+/// What the lines of a part, the last of them without its end, show behind the header.
+pub fn judge_part<T: LineItem>(
+    alloc: Global,
+    scratch: &mut Scratch,
+    part: &[u8],
+) -> Result<Vec<Judgement<T>>, Memory>
+    ensures { IfOk result (λ run. ShowParts T.meaning (part.now ∷ []) run.items) }
+{
+    let mut run = Vec::with_capacity(alloc, part.len() / USUAL)?;
+    let mut rest = part;
+    while let Some(end) = first_end(rest) {
+        run.push(judge::<T>(alloc, scratch, &rest[..end])?)?;
+        rest = &rest[end + 1..];
+    }
+    run.push(judge::<T>(alloc, scratch, rest)?)?;
+    Ok(run)
+}
+
+/// Whether the line, without its end, is the header of a file of that name.
+pub fn judge_header(alloc: Global, name: &str, line: &[u8]) -> Result<(), Stop>
+    ensures { ShowsBy (header_in name.now) line.now result }
+{
+    if line.len() > LONGEST {
+        return Err(Stop::Fault(LineFault::TooLong));
+    }
+    let mut scratch = Scratch::new(alloc);
+    let document = Document::read(alloc, line, &mut scratch)?;
+    header_in(name, &document)
+}

@@ -1,0 +1,87 @@
+//! Laws of the definitions, each the contract of a function that does nothing.
+ghost use Rattle.std.specs.Prelude.{ℕ, ◌≡◌, ◌↔◌, List, Ok, Result};
+ghost use Rattle.serde_json.specs.Data.{Data};
+ghost use Rattle.recorder.specs.declared.row.Row.{Row};
+ghost use Rattle.recorder.specs.declared.order.KeyOrder.{KeyOrder};
+ghost use Rattle.recorder.specs.Histories.{Recorded};
+ghost use Rattle.file_format.specs.declared.fault.LineFault.{LineFault};
+ghost use Rattle.file_format.specs.Lines.{Shows};
+ghost use Rattle.file_format.specs.Readings.{Reads, FirstFaultInAll};
+ghost use Rattle.file_format.specs.HistoryFormat.{history_format, MakesHistory, IsHistory};
+ghost use Rattle.file_format.specs.Headers.{header_in};
+ghost use Rattle.file_format.specs.OrderFormat.{order_format, AreJoined, AreFew};
+ghost use Rattle.file_format.specs.OrderLines.{piece_in};
+ghost use Rattle.file_format.specs.Ranges.{AreInRange, AreOrdersInRange, HaveDistinctKeys};
+ghost use Rattle.file_format.specs.Rows.{row_in};
+ghost use Rattle.file_format.specs.Says.{SaysRow, SaysHeader, SaysPiece};
+ghost use Rattle.file_format.specs.Texts.{history_text, orders_text};
+
+/// A JSON value is read as a row exactly where its members say the row.
+pub fn a_row_is_read_where_its_members_say_it()
+    ensures { (d : Data) (row : Row) → (row_in d ≡ Ok row) ↔ SaysRow d row }
+{}
+
+/// A JSON value is read as a header exactly where its members say so.
+pub fn a_header_is_read_where_its_members_say_it()
+    ensures { (name : List ℕ) (d : Data) → (header_in name d ≡ Ok tt) ↔ SaysHeader name d }
+{}
+
+/// A JSON value is read as a piece of an order exactly where its members say the piece.
+pub fn a_piece_is_read_where_its_members_say_it()
+    ensures { (d : Data) (piece : KeyOrder) → (piece_in d ≡ Ok piece) ↔ SaysPiece d piece }
+{}
+
+/// A line of a history file shows one row, or one fault.
+pub fn a_line_shows_one_row_or_fault()
+    ensures { (line : List ℕ) (a b : Result Row LineFault) → Shows row_in line a → Shows row_in line b → a ≡ b }
+{}
+
+/// Bytes are read as one history.
+pub fn bytes_are_read_as_one_history()
+    ensures { (bytes : List ℕ) (a b : Recorded) → Reads history_format MakesHistory bytes a → Reads history_format MakesHistory bytes b → a ≡ b }
+{}
+
+/// What is written of a history is read as that history.
+pub fn a_history_is_read_from_its_text()
+    ensures { (rows : List Row) → IsHistory rows → AreInRange rows → Reads history_format MakesHistory (history_text rows) (record { rows = rows; limit = 1000000 }) }
+{}
+
+/// What is written of a history is read as no other one.
+pub fn a_text_is_read_as_its_history_alone()
+    ensures { (rows : List Row) (history : Recorded) → IsHistory rows → AreInRange rows → Reads history_format MakesHistory (history_text rows) history → history.rows ≡ rows }
+{}
+
+/// Bytes are read as one list of orders.
+pub fn bytes_are_read_as_one_list_of_orders()
+    ensures { (bytes : List ℕ) (a b : List KeyOrder) → Reads order_format AreJoined bytes a → Reads order_format AreJoined bytes b → a ≡ b }
+{}
+
+/// What is written of orders of distinct keys is read as those orders.
+pub fn orders_are_read_from_their_text()
+    ensures { (orders : List KeyOrder) → AreOrdersInRange orders → HaveDistinctKeys orders → AreFew orders → Reads order_format AreJoined (orders_text orders) orders }
+{}
+
+/// What is written of orders of distinct keys is read as no others.
+pub fn a_text_is_read_as_its_orders_alone()
+    ensures { (orders others : List KeyOrder) → AreOrdersInRange orders → HaveDistinctKeys orders → AreFew orders → Reads order_format AreJoined (orders_text orders) others → others ≡ orders }
+{}
+
+/// A history file has one first fault.
+pub fn a_history_file_has_one_first_fault()
+    ensures { (bytes : List ℕ) (m n : ℕ) (a b : LineFault) → FirstFaultInAll history_format bytes m a → FirstFaultInAll history_format bytes n b → (m ≡ n) × (a ≡ b) }
+{}
+
+/// An order file has one first fault.
+pub fn an_order_file_has_one_first_fault()
+    ensures { (bytes : List ℕ) (m n : ℕ) (a b : LineFault) → FirstFaultInAll order_format bytes m a → FirstFaultInAll order_format bytes n b → (m ≡ n) × (a ≡ b) }
+{}
+
+/// Bytes that are read as a history have no fault.
+pub fn a_history_has_no_fault()
+    ensures { (bytes : List ℕ) (history : Recorded) (n : ℕ) (fault : LineFault) → Reads history_format MakesHistory bytes history → FirstFaultInAll history_format bytes n fault → ⊥ }
+{}
+
+/// Bytes that are read as orders have no fault.
+pub fn orders_have_no_fault()
+    ensures { (bytes : List ℕ) (orders : List KeyOrder) (n : ℕ) (fault : LineFault) → Reads order_format AreJoined bytes orders → FirstFaultInAll order_format bytes n fault → ⊥ }
+{}

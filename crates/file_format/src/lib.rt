@@ -1,0 +1,30 @@
+//! The texts of histories and of orders: what a line says, what it shows by itself and behind others,
+//! and what is written.
+//!
+//! A JSON value is read as a row, or as a piece of an order, exactly where its members say it. What
+//! is written of a history, or of orders of distinct keys, is read as that and nothing else.
+#![tactic(auto)]
+
+mod document;
+mod fault;
+mod following;
+mod header;
+mod judging;
+pub mod laws;
+mod line_item;
+mod numerals;
+mod order_lines;
+mod orders;
+mod ranges;
+mod rows;
+mod texts;
+mod tree;
+mod writing;
+
+pub use document::Document;
+pub use fault::{FaultKind, FileFault, LineFault, Stop};
+pub use following::{MOST_CALLS, follow};
+pub use judging::{Judgement, LONGEST, judge_header, judge_part};
+pub use line_item::LineItem;
+pub use orders::{join, listed};
+pub use writing::{history_text, write_history, write_orders};

@@ -1,0 +1,62 @@
+//! Numbers and texts in their ranges.
+ghost use Rattle.std.specs.Prelude.{◌≡◌};
+ghost use Rattle.file_format.specs.Members.{Gives, op_of, client_of, key_of, value_of, tag_of};
+
+use crate::LineFault;
+use crate::fault::Stop;
+use std::alloc::Global;
+use tag::{ClientId, Key, NameError, OpId, Tag, Value};
+
+pub(crate) fn op_of(call: u64) -> Result<OpId, Stop>
+    ensures { Gives (λ op. op) result (op_of call) }
+{
+    if call < 4_294_967_296 {
+        Ok(OpId(call as u32))
+    } else {
+        Err(Stop::Fault(LineFault::Range))
+    }
+}
+
+pub(crate) fn client_of(client: u64) -> Result<ClientId, Stop>
+    ensures { Gives (λ client. client) result (client_of client) }
+{
+    if client > 65535 {
+        return Err(Stop::Fault(LineFault::Range));
+    }
+    match ClientId::new(client as u32) {
+        Ok(client) => Ok(client),
+        Err(_) => Err(Stop::Fault(LineFault::Range)),
+    }
+}
+
+pub(crate) fn key_of(alloc: Global, text: &str) -> Result<Key, Stop>
+    ensures { Gives (λ key. key) result (key_of text.now) }
+{
+    match Key::new(alloc, text) {
+        Ok(key) => Ok(key),
+        Err(NameError::BadKey) => Err(Stop::Fault(LineFault::Range)),
+        Err(_) => Err(Stop::Memory),
+    }
+}
+
+pub(crate) fn value_of(alloc: Global, text: &str) -> Result<Value, Stop>
+    ensures { Gives (λ value. value) result (value_of text.now) }
+{
+    match Value::new(alloc, text) {
+        Ok(value) => Ok(value),
+        Err(NameError::BadValue) => Err(Stop::Fault(LineFault::Range)),
+        Err(_) => Err(Stop::Memory),
+    }
+}
+
+pub(crate) fn tag_of(number: u64, writer: u64) -> Result<Tag, Stop>
+    ensures { Gives (λ tag. tag) result (tag_of number writer) }
+{
+    if number > 1_000_000 || writer > 65535 {
+        return Err(Stop::Fault(LineFault::Range));
+    }
+    match Tag::new(number as u32, writer as u32) {
+        Some(tag) => Ok(tag),
+        None => Err(Stop::Fault(LineFault::Range)),
+    }
+}

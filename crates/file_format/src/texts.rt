@@ -1,0 +1,189 @@
+//! Lines, as they are written.
+ghost use Rattle.std.specs.Prelude.{◌≡◌, ◌++◌, true, false, codes, decimal, OnOk};
+ghost use Rattle.std.specs.List.{list_all};
+ghost use Rattle.json.specs.Print.{quoted};
+ghost use Rattle.serde_json.specs.Data.{string, member};
+ghost use Rattle.serde_json.specs.Written.{items_text, members_text};
+ghost use Rattle.counted_devices.specs.Cuts.{ended};
+ghost use Rattle.file_format.specs.PlainTexts.{is_plain};
+ghost use Rattle.file_format.specs.Ranges.{IsOp, HasAnswerIn, AreOps, IsInvocation, IsNote, IsResponse, IsInRange, IsOrderInRange};
+ghost use Rattle.file_format.specs.Texts.{header_data, answered_value, calls_data, line_text, row_text, piece_text};
+
+use itoa::Buffer;
+use json::Writer;
+use recorder::Row;
+use std::mem;
+use tag::{Action, ClientId, Key, Memory, OpId, Returned, Tag, Value};
+
+/// The most calls of a piece of an order.
+pub const MOST_IN_PIECE: usize = 1_000;
+
+/// Adds the bytes at the end.
+fn append(out: &mut Vec<u8>, bytes: &[u8]) -> Result<(), Memory>
+    ensures { OnOk result (out.new.items ≡ out.old.items ++ bytes.now) }
+{
+    out.extend_from_slice(bytes)?;
+    Ok(())
+}
+
+/// Adds the bytes and then the number.
+fn append_number(out: &mut Vec<u8>, before: &[u8], number: u32) -> Result<(), Memory>
+    ensures text { OnOk result (out.new.items ≡ out.old.items ++ (before.now ++ decimal number)) }
+    ensures range { OnOk result (IsOp (record { 0 = number })) }
+{
+    let mut digits = Buffer::new();
+    out.extend_from_slice(before)?;
+    out.extend_from_slice(digits.format(number).as_bytes())?;
+    Ok(())
+}
+
+/// Whether the byte stands for itself in a JSON string.
+fn is_plain_byte(byte: u8) -> bool
+    ensures { result ≡ is_plain byte }
+{
+    byte >= b' ' && byte != b'"' && byte != b'\\'
+}
+
+/// Whether the text stands in a JSON string without an escape.
+fn is_plain(text: &str) -> bool
+    ensures { result ≡ list_all is_plain text.now }
+{
+    text.as_bytes().iter().all(|byte| is_plain_byte(*byte))
+}
+
+/// Adds the text as a JSON string, with its escapes. Without memory all bytes are lost.
+fn append_escaped(out: &mut Vec<u8>, text: &str) -> Result<(), Memory>
+    ensures { OnOk result (out.new.items ≡ out.old.items ++ quoted text.now) }
+{
+    let alloc = *out.allocator();
+    let mut writer = Writer::new(mem::replace(out, Vec::new(alloc)));
+    writer.string(text)?;
+    *out = writer.into_inner();
+    Ok(())
+}
+
+/// Adds the bytes and then the text as a JSON string. Without memory all bytes are lost.
+fn append_quoted(out: &mut Vec<u8>, before: &[u8], text: &str) -> Result<(), Memory>
+    ensures { OnOk result (out.new.items ≡ out.old.items ++ (before.now ++ quoted text.now)) }
+{
+    out.extend_from_slice(before)?;
+    // a writer of JSON readies room for a long text, which most texts don't need
+    if !is_plain(text) {
+        return append_escaped(out, text);
+    }
+    out.push(b'"')?;
+    out.extend_from_slice(text.as_bytes())?;
+    out.push(b'"')?;
+    Ok(())
+}
+
+/// Adds the header of a file of that name.
+pub(crate) fn append_header(out: &mut Vec<u8>, name: &str) -> Result<(), Memory>
+    ensures { OnOk result (out.new.items ≡ out.old.items ++ line_text (header_data name.now)) }
+{
+    append_quoted(out, b"{\"abd\":", name)?;
+    append(out, b",\"version\":1}\n")
+}
+
+fn append_invoke(
+    out: &mut Vec<u8>,
+    op: OpId,
+    client: ClientId,
+    key: &Key,
+    action: &Action,
+) -> Result<(), Memory>
+    ensures text { OnOk result (out.new.items ≡ out.old.items ++ row_text (Row.Invoke op client key.now action.now)) }
+    ensures range { OnOk result (IsInvocation op client key.now action.now) }
+{
+    append_number(out, b"{\"call\":", op.0)?;
+    append_number(out, b",\"client\":", client.get())?;
+    match action {
+        Action::Read => {
+            append_quoted(out, b",\"do\":\"read\",\"key\":", key.as_str())?;
+            append(out, b",\"row\":\"invoke\"}\n")
+        }
+        Action::Write(value) => {
+            append_quoted(out, b",\"do\":\"write\",\"key\":", key.as_str())?;
+            append_quoted(out, b",\"row\":\"invoke\",\"value\":", value.as_str())?;
+            append(out, b"}\n")
+        }
+    }
+}
+
+fn append_note(out: &mut Vec<u8>, op: OpId, tag: Tag) -> Result<(), Memory>
+    ensures text { OnOk result (out.new.items ≡ out.old.items ++ row_text (Row.Note op tag)) }
+    ensures range { OnOk result (IsNote op tag) }
+{
+    append_number(out, b"{\"call\":", op.0)?;
+    append_number(out, b",\"number\":", tag.number())?;
+    append_number(out, b",\"row\":\"note\",\"writer\":", tag.writer())?;
+    append(out, b"}\n")
+}
+
+/// Adds what a read's response has behind its call.
+fn append_answer(out: &mut Vec<u8>, answer: &Option<Value>) -> Result<(), Memory>
+    ensures text { OnOk result (out.new.items ≡ out.old.items ++ ended (members_text true (member (codes "row") (string (codes "respond")) (answered_value (Returned.Value answer.now))))) }
+    ensures range { OnOk result (HasAnswerIn (Returned.Value answer.now)) }
+{
+    match answer {
+        None => append(out, b",\"row\":\"respond\",\"value\":null}\n"),
+        Some(value) => {
+            append_quoted(out, b",\"row\":\"respond\",\"value\":", value.as_str())?;
+            append(out, b"}\n")
+        }
+    }
+}
+
+fn append_respond(out: &mut Vec<u8>, op: OpId, returned: &Returned) -> Result<(), Memory>
+    ensures text { OnOk result (out.new.items ≡ out.old.items ++ row_text (Row.Respond op returned.now)) }
+    ensures range { OnOk result (IsResponse op returned.now) }
+{
+    append_number(out, b"{\"call\":", op.0)?;
+    match returned {
+        Returned::Written => append(out, b",\"row\":\"respond\"}\n"),
+        Returned::Value(answer) => append_answer(out, answer),
+    }
+}
+
+/// Adds the row's line.
+pub(crate) fn append_row(out: &mut Vec<u8>, row: &Row) -> Result<(), Memory>
+    ensures text { OnOk result (out.new.items ≡ out.old.items ++ row_text row.now) }
+    ensures range { OnOk result (IsInRange row.now) }
+{
+    match row {
+        Row::Invoke {
+            op,
+            client,
+            key,
+            action,
+        } => append_invoke(out, *op, *client, key, action),
+        Row::Note { op, tag } => append_note(out, *op, *tag),
+        Row::Respond { op, returned } => append_respond(out, *op, returned),
+    }
+}
+
+/// Adds the calls' numbers, a comma between two, and the bracket behind them.
+fn append_calls(out: &mut Vec<u8>, calls: &[OpId]) -> Result<(), Memory>
+    ensures text { OnOk result (out.new.items ≡ out.old.items ++ items_text false (calls_data calls.now)) }
+    ensures range { OnOk result (AreOps calls.now) }
+{
+    for (place, call) in calls.iter().enumerate() {
+        if place > 0 {
+            append_number(out, b",", call.0)?;
+        } else {
+            append_number(out, b"", call.0)?;
+        }
+    }
+    append(out, b"]")
+}
+
+/// Adds the line of a piece of the key's order.
+pub(crate) fn append_piece(out: &mut Vec<u8>, key: &Key, calls: &[OpId]) -> Result<(), Memory>
+    ensures text { OnOk result (out.new.items ≡ out.old.items ++ piece_text (record { key = key.now; order = calls.now })) }
+    ensures range { OnOk result (IsOrderInRange (record { key = key.now; order = calls.now })) }
+{
+    append_quoted(out, b"{\"key\":", key.as_str())?;
+    append(out, b",\"order\":[")?;
+    append_calls(out, calls)?;
+    append(out, b"}\n")
+}

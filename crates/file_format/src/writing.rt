@@ -1,0 +1,142 @@
+//! Files to writers.
+ghost use Rattle.std.specs.Prelude.{◌≡◌, ◌++◌, OnOk, OnErr, IfOk, IfErr};
+ghost use Rattle.std.specs.Io.KnownBytes.{Appends};
+ghost use Rattle.counted_devices.specs.Sendings.{Leaves, Begins, HasFailedBy};
+ghost use Rattle.file_format.specs.HistoryFormat.{IsHistory};
+ghost use Rattle.file_format.specs.OrderFormat.{AreFew};
+ghost use Rattle.file_format.specs.Ranges.{IsInRange, IsOrderInRange, HaveDistinctKeys};
+ghost use Rattle.file_format.specs.ReadAgain.{IsTextOf, IsTextOfOrders};
+ghost use Rattle.file_format.specs.Texts.{row_text, piece_text, order_text, history_text, orders_text};
+
+use crate::texts::{MOST_IN_PIECE, append_header, append_piece, append_row};
+use counted_devices::{Counting, WriteFault, relieve, write_text};
+use recorder::{History, KeyOrder, Row};
+use std::alloc::Global;
+use std::io::Write;
+use tag::{Key, Memory, OpId};
+
+/// The rows, of at most 1,000,000 calls, as every history's are.
+fn lawful_rows(history: &History) -> &[Row]
+    ensures rows { result.now ≡ history.now.rows }
+    ensures lawful { IsHistory history.now.rows }
+{
+    let _calls = history.calls();
+    let _limit = history.limit();
+    history.rows()
+}
+
+/// The text of the history, made before any of it goes out: its header, then a line for each row.
+/// It is read as the history's rows, and as no others. `Memory` comes only where a growth was
+/// refused.
+pub fn history_text(alloc: Global, history: &History) -> Result<Vec<u8>, Memory>
+    ensures text { IfOk result (λ text. text.items ≡ history_text history.now.rows) }
+    ensures read { IfOk result (λ text. IsTextOf text.items history.now.rows) }
+{
+    let mut text = Vec::new(alloc);
+    append_header(&mut text, "history")?;
+    for row in lawful_rows(history) {
+        append_row(&mut text, row)?;
+    }
+    Ok(text)
+}
+
+/// The row's line comes behind what waits, which goes out once it is enough.
+fn write_row<W: Write>(
+    row: &Row,
+    batch: &mut Vec<u8>,
+    writer: &mut Counting<W>,
+) -> Result<(), WriteFault>
+    ensures sent { OnOk result (Leaves (W.contents writer.old.inner) (W.contents writer.new.inner) (batch.old.items ++ row_text row.now) batch.new.items) }
+    ensures begun { OnErr result (Begins (W.contents writer.old.inner) (W.contents writer.new.inner) (batch.old.items ++ row_text row.now)) }
+    ensures device { IfErr result (λ fault. HasFailedBy fault writer.old.failures writer.new.failures) }
+    ensures counted { OnOk result (writer.new.failures ≡ writer.old.failures) }
+    ensures range { OnOk result (IsInRange row.now) }
+{
+    append_row(batch, row)?;
+    relieve(batch, writer)
+}
+
+/// Writes the text of the history: its header, then a line for each row. It is read as the
+/// history's rows, and as no others.
+///
+/// Where it answers `Ok`, the text went out and nothing else; after a fault a beginning of it did.
+/// `Device` comes only where the writer failed, `Memory` only where a growth was refused.
+pub fn write_history<W: Write>(
+    alloc: Global,
+    history: &History,
+    writer: &mut Counting<W>,
+) -> Result<(), WriteFault>
+    ensures written { OnOk result (Appends (W.contents writer.old.inner) (W.contents writer.new.inner) (history_text history.now.rows)) }
+    ensures begun { OnErr result (Begins (W.contents writer.old.inner) (W.contents writer.new.inner) (history_text history.now.rows)) }
+    ensures device { IfErr result (λ fault. HasFailedBy fault writer.old.failures writer.new.failures) }
+    ensures counted { OnOk result (writer.new.failures ≡ writer.old.failures) }
+    ensures read { OnOk result (IsTextOf (history_text history.now.rows) history.now.rows) }
+{
+    let mut batch = Vec::new(alloc);
+    append_header(&mut batch, "history")?;
+    for row in lawful_rows(history) {
+        write_row(row, &mut batch, writer)?;
+    }
+    write_text(batch.as_slice(), writer)
+}
+
+/// The piece's line comes behind what waits, which goes out once it is enough.
+fn write_piece<W: Write>(
+    key: &Key,
+    calls: &[OpId],
+    batch: &mut Vec<u8>,
+    writer: &mut Counting<W>,
+) -> Result<(), WriteFault>
+    ensures sent { OnOk result (Leaves (W.contents writer.old.inner) (W.contents writer.new.inner) (batch.old.items ++ piece_text (record { key = key.now; order = calls.now })) batch.new.items) }
+    ensures begun { OnErr result (Begins (W.contents writer.old.inner) (W.contents writer.new.inner) (batch.old.items ++ piece_text (record { key = key.now; order = calls.now }))) }
+    ensures device { IfErr result (λ fault. HasFailedBy fault writer.old.failures writer.new.failures) }
+    ensures counted { OnOk result (writer.new.failures ≡ writer.old.failures) }
+    ensures range { OnOk result (IsOrderInRange (record { key = key.now; order = calls.now })) }
+{
+    append_piece(batch, key, calls)?;
+    relieve(batch, writer)
+}
+
+/// The lines of the order's pieces come behind what waits, which goes out once it is enough.
+fn write_order<W: Write>(
+    order: &KeyOrder,
+    batch: &mut Vec<u8>,
+    writer: &mut Counting<W>,
+) -> Result<(), WriteFault>
+    ensures sent { OnOk result (Leaves (W.contents writer.old.inner) (W.contents writer.new.inner) (batch.old.items ++ order_text order.now) batch.new.items) }
+    ensures begun { OnErr result (Begins (W.contents writer.old.inner) (W.contents writer.new.inner) (batch.old.items ++ order_text order.now)) }
+    ensures device { IfErr result (λ fault. HasFailedBy fault writer.old.failures writer.new.failures) }
+    ensures counted { OnOk result (writer.new.failures ≡ writer.old.failures) }
+    ensures range { OnOk result (IsOrderInRange order.now) }
+{
+    let mut rest = order.order.as_slice();
+    while rest.len() > MOST_IN_PIECE {
+        write_piece(&order.key, &rest[..MOST_IN_PIECE], batch, writer)?;
+        rest = &rest[MOST_IN_PIECE..];
+    }
+    write_piece(&order.key, rest, batch, writer)
+}
+
+/// Writes the text of the orders: its header, then for each order a line for each 1,000 calls and
+/// one for those that are left over; an order without a call has one line. Orders of distinct keys,
+/// with at most 1,000,000 calls, are read from it, and no others.
+///
+/// What went out is said as by `write_history`.
+pub fn write_orders<W: Write>(
+    alloc: Global,
+    orders: &[KeyOrder],
+    writer: &mut Counting<W>,
+) -> Result<(), WriteFault>
+    ensures written { OnOk result (Appends (W.contents writer.old.inner) (W.contents writer.new.inner) (orders_text orders.now)) }
+    ensures begun { OnErr result (Begins (W.contents writer.old.inner) (W.contents writer.new.inner) (orders_text orders.now)) }
+    ensures device { IfErr result (λ fault. HasFailedBy fault writer.old.failures writer.new.failures) }
+    ensures counted { OnOk result (writer.new.failures ≡ writer.old.failures) }
+    ensures read { OnOk result (HaveDistinctKeys orders.now → AreFew orders.now → IsTextOfOrders (orders_text orders.now) orders.now) }
+{
+    let mut batch = Vec::new(alloc);
+    append_header(&mut batch, "orders")?;
+    for order in orders {
+        write_order(order, &mut batch, writer)?;
+    }
+    write_text(batch.as_slice(), writer)
+}

@@ -1,8 +1,0 @@
-use Rattle.std.proofs.Common.{◌≡◌, ◌++◌, drop, List, ℕ}
-use Rattle.std.specs.Prelude.{option_map}
-use Rattle.json.specs.Value.{items_view}
-use Rattle.history_file.specs.Trees.{all_unsigned}
-use Rattle.history_file.proofs.document.numbers_in.Given as goal
-
-abbrev pub invariant-loop-item : goal.invariant-loop-item
-invariant-loop-item l = all_unsigned (items_view l.items) ≡ option_map (λ (rest : List ℕ). l.numbers.items ++ rest) (all_unsigned (items_view (drop l.item-index l.items)))

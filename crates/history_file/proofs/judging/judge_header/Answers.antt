@@ -1,7 +1,0 @@
-use Rattle.history_file.specs.Documents.{data_in}
-use Rattle.history_file.specs.Headers.{header_in}
-use Rattle.history_file.proofs.Showing.{shown, header_in-well}
-use Rattle.history_file.proofs.judging.judge_header.Goals as goal
-
-pub returns : goal.returns
-returns c = shown (header_in c.args.name.now) c.args.line.now (data_in c.in_ok-document.document) c.header_in.result c.if-line-gt-LONGEST.false c.in_ok-document.ensures (header_in-well c.args.name.now (data_in c.in_ok-document.document)) c.header_in.ensures

@@ -1,5 +1,0 @@
-use Rattle.history_file.proofs.SayingPieces.{header_back, header_there}
-use Rattle.history_file.proofs.laws.a_header_is_read_where_its_members_say_it.Goals as goal
-
-pub returns : goal.returns
-returns c = λ name d. (header_back name d, header_there name d)

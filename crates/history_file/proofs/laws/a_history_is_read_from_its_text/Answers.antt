@@ -1,5 +1,0 @@
-use Rattle.history_file.proofs.WrittenHistories.{history_reads}
-use Rattle.history_file.proofs.laws.a_history_is_read_from_its_text.Goals as goal
-
-pub returns : goal.returns
-returns c = λ rows formed ranges. history_reads rows formed ranges

@@ -1,5 +1,0 @@
-use Rattle.history_file.proofs.SayingPieces.{piece_back, piece_there}
-use Rattle.history_file.proofs.laws.a_piece_is_read_where_its_members_say_it.Goals as goal
-
-pub returns : goal.returns
-returns c = λ d piece. (piece_back d piece, piece_there d piece)

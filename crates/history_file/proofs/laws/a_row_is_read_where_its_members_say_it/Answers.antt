@@ -1,5 +1,0 @@
-use Rattle.history_file.proofs.Saying.{row_back, row_there}
-use Rattle.history_file.proofs.laws.a_row_is_read_where_its_members_say_it.Goals as goal
-
-pub returns : goal.returns
-returns c = λ d row. (row_back d row, row_there d row)

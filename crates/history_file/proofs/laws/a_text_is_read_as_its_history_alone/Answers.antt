@@ -1,5 +1,0 @@
-use Rattle.history_file.proofs.WrittenHistories.{history_text_of}
-use Rattle.history_file.proofs.laws.a_text_is_read_as_its_history_alone.Goals as goal
-
-pub returns : goal.returns
-returns c = λ rows history formed ranges read. (history_text_of rows formed ranges).alone history read

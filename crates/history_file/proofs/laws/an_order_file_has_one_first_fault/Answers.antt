@@ -1,7 +1,0 @@
-use Rattle.history_file.specs.OrderFormat.{order_format}
-use Rattle.history_file.proofs.OneFault.{fault_once}
-use Rattle.history_file.proofs.SharpFormats.{orders_sharp}
-use Rattle.history_file.proofs.laws.an_order_file_has_one_first_fault.Goals as goal
-
-pub returns : goal.returns
-returns c = λ bytes m n a b h k. fault_once order_format orders_sharp bytes m n a b h k

@@ -1,5 +1,0 @@
-use Rattle.history_file.proofs.WrittenOrders.{orders_read}
-use Rattle.history_file.proofs.laws.orders_are_read_from_their_text.Goals as goal
-
-pub returns : goal.returns
-returns c = λ orders ranges distinct few. orders_read orders ranges distinct few

@@ -1,6 +1,0 @@
-use Rattle.std.proofs.Common.{◌≡◌, map, take}
-use Rattle.history_file.specs.OrderLines.{op_at}
-use Rattle.history_file.proofs.order_lines.calls_of.Given as goal
-
-abbrev pub invariant-loop-number : goal.invariant-loop-number
-invariant-loop-number l = l.order ≡ map op_at (take l.number-index l.numbers)

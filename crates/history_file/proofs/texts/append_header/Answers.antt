@@ -1,7 +1,0 @@
-use Rattle.std.proofs.Common.{rules, append_assoc}
-use Rattle.std.proofs.lemmas.Result.{IfOk-equal}
-use Rattle.history_file.proofs.Spelling.{header_bytes}
-use Rattle.history_file.proofs.texts.append_header.Goals as goal
-
-pub returns : goal.returns
-returns c = rw header_bytes (search (rules, IfOk-equal, append_assoc))

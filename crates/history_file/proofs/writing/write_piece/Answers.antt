@@ -1,5 +1,0 @@
-use Rattle.history_file.proofs.Leaving.{Begins-nothing, on_err}
-use Rattle.history_file.proofs.writing.write_piece.Goals as goal
-
-pub returns-in_err-append_piece-clause-begun : goal.returns-in_err-append_piece-clause-begun
-returns-in_err-append_piece-clause-begun g c = on_err c.from_residual.result (Begins-nothing (g.W.Write.contents c.args.writer.now.inner) _)
