@@ -1,0 +1,55 @@
+//! The first line of a row's input.
+
+/// What a row asks for: the first line of its input, a kind and its options.
+#[derive(Clone, Copy)]
+pub struct Asked<'a> {
+    pub line: &'a str,
+}
+
+impl<'a> Asked<'a> {
+    /// The first word.
+    pub fn kind(self) -> &'a str {
+        match self.line.split_once(' ') {
+            Some((kind, _)) => kind,
+            None => self.line,
+        }
+    }
+
+    /// Whether the word is among the options.
+    pub fn has(self, option: &str) -> bool {
+        for word in self.line.split(' ') {
+            if word == option {
+                return true;
+            }
+        }
+        false
+    }
+
+    /// What stands after that name and an equals sign, or nothing.
+    pub fn value(self, name: &str) -> &'a str {
+        for word in self.line.split(' ') {
+            if let Some((found, value)) = word.split_once('=') {
+                if found == name {
+                    return value;
+                }
+            }
+        }
+        ""
+    }
+
+    /// The number that stands there, or else that one.
+    pub fn number(self, name: &str, otherwise: usize) -> usize {
+        self.value(name).parse::<usize>().unwrap_or(otherwise)
+    }
+
+    /// The sizes of pieces in which each file of the row is read: 1, 7 and 1,048,576 bytes unless
+    /// the row says others.
+    pub fn sizes(self) -> &'a str {
+        let sizes = self.value("pieces");
+        if sizes.is_empty() {
+            "1,7,1048576"
+        } else {
+            sizes
+        }
+    }
+}

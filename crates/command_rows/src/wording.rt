@@ -1,0 +1,52 @@
+//! Rows of command lines.
+use cli::{Command, Usage, command};
+use std::alloc::{AllocError, Global};
+
+/// The words of a line, divided by bars.
+fn words_of(alloc: Global, line: &str) -> Result<Vec<String>, AllocError> {
+    let mut list = Vec::new(alloc);
+    for word in line.split('|') {
+        list.push(String::from_str(alloc, word)?)?;
+    }
+    Ok(list)
+}
+
+fn text_said(alloc: Global, name: &str, text: &str, word: &str) -> Result<String, AllocError> {
+    let says = if text.contains(word) {
+        "says"
+    } else {
+        "doesn't say"
+    };
+    format!(in alloc; "{name} that {says} {word}\n")
+}
+
+fn asked_said(alloc: Global, asked: Command<'_>) -> Result<String, AllocError> {
+    match asked {
+        Command::Check { history, orders } => {
+            format!(in alloc; "check of [{history}] and [{orders}]\n")
+        }
+        Command::Justify { history } => format!(in alloc; "justify of [{history}]\n"),
+        Command::Simulate { script } => format!(in alloc; "simulate of [{script}]\n"),
+    }
+}
+
+/// What a line of words asks for.
+fn line_said(alloc: Global, line: &str) -> Result<String, AllocError> {
+    let (words, word) = line.split_once(" says ").unwrap_or((line, ""));
+    let words = words_of(alloc, words)?;
+    match command(alloc, words.as_slice()) {
+        Ok(asked) => asked_said(alloc, asked),
+        Err(Usage::Help(text)) => text_said(alloc, "help", text.as_str(), word),
+        Err(Usage::Fault(text)) => text_said(alloc, "fault", text.as_str(), word),
+        Err(Usage::Memory) => String::from_str(alloc, "no memory\n"),
+    }
+}
+
+/// What each line asks for; after ` says ` stands a word that the help or the fault has to have.
+pub fn words_row(alloc: Global, lines: &str) -> Result<String, AllocError> {
+    let mut text = String::new(alloc);
+    for line in lines.lines() {
+        text.push_str(line_said(alloc, line)?.as_str())?;
+    }
+    Ok(text)
+}
