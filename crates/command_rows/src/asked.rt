@@ -1,4 +1,5 @@
 //! The first line of a row's input.
+use std::io::ErrorKind;
 
 /// What a row asks for: the first line of its input, a kind and its options.
 #[derive(Clone, Copy)]
@@ -23,6 +24,18 @@ impl<'a> Asked<'a> {
             }
         }
         false
+    }
+
+    /// How a reader fails at its end: `fails` says that its time ran out, `interrupted` that it was
+    /// interrupted.
+    pub fn failure(self) -> Option<ErrorKind> {
+        if self.has("fails") {
+            Some(ErrorKind::TimedOut)
+        } else if self.has("interrupted") {
+            Some(ErrorKind::Interrupted)
+        } else {
+            None
+        }
     }
 
     /// What stands after that name and an equals sign, or nothing.

@@ -6,6 +6,7 @@ use crate::formats::Counting;
 use crate::notation::bytes_of;
 use cli::{Source, Status, check_command, justify_command, simulate_command};
 use std::alloc::{AllocError, Global};
+use std::io::ErrorKind;
 use std::thread::Threads;
 
 /// What a command reads: a script or a history, and orders where it is to check.
@@ -15,12 +16,12 @@ struct Input<'a> {
     orders: &'a [u8],
 }
 
-/// How the devices are: the size of pieces, whether the first file's reader fails at its end, and
-/// the room of the standard output and of standard error.
+/// How the devices are: the size of pieces, how the first file's reader fails at its end, if it
+/// does, and the room of the standard output and of standard error.
 #[derive(Clone, Copy)]
 struct Way {
     size: usize,
-    fails: bool,
+    failure: Option<ErrorKind>,
     out: usize,
     errors: usize,
 }
@@ -28,7 +29,7 @@ struct Way {
 /// Devices that do all that is asked of them.
 const WELL: Way = Way {
     size: AMPLE,
-    fails: false,
+    failure: None,
     out: AMPLE,
     errors: AMPLE,
 };
@@ -46,7 +47,7 @@ fn simulated(alloc: Global, input: Input<'_>, way: Way) -> Said {
     let script = Pieces {
         left: input.file,
         size: way.size,
-        fails: way.fails,
+        failure: way.failure,
     };
     let mut script = Source::new("s", script);
     let mut out = Counting::new(Bounded::new(alloc, way.out));
@@ -64,7 +65,7 @@ fn justified(rt: &(impl Threads + Sync), alloc: Global, input: Input<'_>, way: W
     let history = Pieces {
         left: input.file,
         size: way.size,
-        fails: way.fails,
+        failure: way.failure,
     };
     let mut history = Source::new("h", history);
     let mut out = Counting::new(Bounded::new(alloc, way.out));
@@ -82,12 +83,12 @@ fn checked(rt: &(impl Threads + Sync), alloc: Global, input: Input<'_>, way: Way
     let history = Pieces {
         left: input.file,
         size: way.size,
-        fails: way.fails,
+        failure: way.failure,
     };
     let orders = Pieces {
         left: input.orders,
         size: way.size,
-        fails: false,
+        failure: None,
     };
     let mut history = Source::new("h", history);
     let mut orders = Source::new("o", orders);
@@ -267,7 +268,7 @@ fn one(
     for size in asked.sizes().split(',') {
         let way = Way {
             size: size.parse::<usize>().unwrap_or(1),
-            fails: asked.has("fails"),
+            failure: asked.failure(),
             ..WELL
         };
         answers.take(chain(rt, alloc, asked.kind(), input, way)?)?;

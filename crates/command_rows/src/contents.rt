@@ -23,7 +23,7 @@ fn whole(left: &[u8]) -> Counting<Pieces<'_>> {
     Counting::new(Pieces {
         left,
         size: AMPLE,
-        fails: false,
+        failure: None,
     })
 }
 

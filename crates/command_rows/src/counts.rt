@@ -16,7 +16,7 @@ pub fn counted_reads_row(
     let mut reader = Counting::new(Pieces {
         left: lines.trim_end().as_bytes(),
         size: asked.number("pieces", 1),
-        fails: asked.has("fails"),
+        failure: asked.failure(),
     });
     let mut room = [0u8; 8];
     for _ in 0..4 {

@@ -8,18 +8,20 @@ use std::io::{ErrorKind, Read, Write};
 /// A size of pieces, and a room, that is more than any row needs.
 pub const AMPLE: usize = 1_000_000_000;
 
-/// A reader that gives a text in pieces of one size, and then ends or fails.
+/// A reader that gives a text in pieces of one size, and then ends, or fails in that way.
 #[derive(Drop)]
 pub struct Pieces<'a> {
     pub left: &'a [u8],
     pub size: usize,
-    pub fails: bool,
+    pub failure: Option<ErrorKind>,
 }
 
 impl Read for Pieces<'_> {
     fn read(&mut self, buffer: &mut [u8]) -> io::Result<usize> {
-        if self.left.is_empty() && self.fails {
-            return Err(io::Error::from(ErrorKind::TimedOut));
+        if let Some(failure) = self.failure
+            && self.left.is_empty()
+        {
+            return Err(io::Error::from(failure));
         }
         let count = self.size.min(buffer.len()).min(self.left.len());
         buffer[..count].copy_from_slice(&self.left[..count]);

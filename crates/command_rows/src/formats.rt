@@ -1,5 +1,6 @@
 //! What the rows need of the files' formats.
-pub use history_file::{
-    Counting, FaultKind, FileFault, HistoryFeed, LineFault, OrderFeed, WriteFault, history_text,
-    read_history, read_orders, write_history, write_orders, write_text,
+pub use counted_devices::{Counting, WriteFault, write_text};
+pub use file_format::{
+    FaultKind, FileFault, LineFault, history_text, write_history, write_orders,
 };
+pub use history_file::{HistoryFeed, OrderFeed, read_history, read_orders};

@@ -147,8 +147,8 @@ fn fed_answer(
         Format::History => history_said(alloc, &fed_history(rt, alloc, left, size)),
         Format::Orders => orders_said(alloc, &fed_orders(rt, alloc, left, size)),
         Format::Script => {
-            let fails = false;
-            script_answer(alloc, Pieces { left, size, fails })
+            let failure = None;
+            script_answer(alloc, Pieces { left, size, failure })
         }
     }
 }
@@ -161,12 +161,12 @@ fn answer(
     format: Format,
     left: &[u8],
 ) -> Result<String, AllocError> {
-    let fails = asked.has("fails");
+    let failure = asked.failure();
     let mut answers = Agreed::new(alloc);
     for size in asked.sizes().split(',') {
         let size = size.parse::<usize>().unwrap_or(1);
-        answers.take(read_answer(rt, alloc, format, Pieces { left, size, fails })?)?;
-        if !fails {
+        answers.take(read_answer(rt, alloc, format, Pieces { left, size, failure })?)?;
+        if failure.is_none() {
             answers.take(fed_answer(rt, alloc, format, left, size)?)?;
         }
     }

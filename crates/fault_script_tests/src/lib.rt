@@ -1,5 +1,0 @@
-//! Tests of `fault_script`, over its public face. There is nothing else here.
-#![tactic(auto)]
-
-#[cfg(test)]
-mod tests;

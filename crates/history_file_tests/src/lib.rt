@@ -1,5 +1,0 @@
-//! Tests of `history_file`, over its public face. There is nothing else here.
-#![tactic(auto)]
-
-#[cfg(test)]
-mod tests;
