@@ -14,8 +14,8 @@ use Rattle.recorder.specs.Records.{AreParts, IsPart}
 use Rattle.recorder.specs.Orders.{IsOrder}
 use Rattle.recorder.proofs.Lists.{place_of, Contains-slice_get}
 use Rattle.file_format.specs.OrderFormat.{AreJoined, key_in, order_in, order_on}
-use Rattle.cli.specs.Checks.{IsYes, IsNo}
-use Rattle.cli.specs.Judging.{Entries, JudgesAll, list_at}
+use Rattle.cli.specs.Checks.{IsYes, IsNo, Judges}
+use Rattle.cli.specs.Judging.{Entries, JudgesAll, list_at, verdict_status}
 use Rattle.cli.proofs.Entries.{contains_nothing, contains_head, contains_tail, found_entry, found_key}
 use Rattle.cli.proofs.Keyed.{AreKeyed}
 
@@ -95,7 +95,7 @@ module _ (rows : List Row) (parts : Entries Call) (are : AreParts rows parts) wh
     back : (part : List Call) (key : List ℕ) → IsOrder part (order_on key pieces) → IsOrder part (list_at entries key)
     back part key = subst (λ (order : List OpId). IsOrder part order) (sym (list_on pieces orders entries joined keyed key))
 
-    pub all_yes : JudgesAll parts entries true → (key : List ℕ) → IsYes rows pieces key
+    all_yes : JudgesAll parts entries true → (key : List ℕ) → IsYes rows pieces key
     all_yes all key = by (lookup (bytes_eq key) parts) refl
       where
         of_none : (o : Option (List OpId)) → lookup (bytes_eq key) entries ≡ o → lookup (bytes_eq key) parts ≡ None → IsOrder [] (unwrap_or o [])
@@ -108,6 +108,11 @@ module _ (rows : List Row) (parts : Entries Call) (are : AreParts rows parts) wh
             let h = found_entry parts key part is in
             record { part = part; recorded = are.each key part h; ordered = along part key (all.0 (key, part) h) }
 
-    pub some_no : JudgesAll parts entries false → (key : List ℕ) × IsNo rows pieces key
+    some_no : JudgesAll parts entries false → (key : List ℕ) × IsNo rows pieces key
     some_no (inl (e, h, fails)) = (e.0, record { part = e.1; recorded = are.each e.0 e.1 h; unordered = λ order. fails (back e.1 e.0 order) })
     some_no (inr (e, h, fails)) = (e.0, record { part = []; recorded = unbegun e.0 fails.0; unordered = λ order. fails.1 (subst (λ (o : List OpId). IsOrder [] o) (sym (entry_on pieces orders entries joined keyed e.0 e.1 h)) order) })
+
+    -- the status says it
+    pub judged_keys : (yes : Bool) → JudgesAll parts entries yes → Judges rows pieces (verdict_status yes)
+    judged_keys true all = all_yes all
+    judged_keys false some = some_no some

@@ -11,7 +11,7 @@ use Rattle.cli.specs.declared.status.Status.{Status}
 use Rattle.cli.specs.declared.status.Status.TheVariants.{Good, Refused, Usage, Format, Failed}
 
 -- a history that was read has no other limit
-read_rows : (old new : Option (List ℕ)) (history : Recorded) → Delivers old new (ReadsAll history_format MakesHistory new history) → Delivers old new (ReadsAll history_format MakesHistory new (record { rows = history.rows; limit = 1000000 }))
+pub read_rows : (old new : Option (List ℕ)) (history : Recorded) → Delivers old new (ReadsAll history_format MakesHistory new history) → Delivers old new (ReadsAll history_format MakesHistory new (record { rows = history.rows; limit = 1000000 }))
 read_rows old new history read =
     let made = read.fact.1.made in
     let whole : history ≡ record { rows = history.rows; limit = 1000000 } = λ i. record { rows = history.rows; limit = (made i).limit } in

@@ -5,6 +5,8 @@ use Rattle.std.specs.Map.{lookup}
 use Rattle.tag.specs.declared.numbers.OpId.{OpId}
 use Rattle.recorder.specs.declared.part.Call.{Call}
 use Rattle.recorder.specs.Orders.{IsOrder}
+use Rattle.cli.specs.declared.status.Status.{Status}
+use Rattle.cli.specs.declared.status.Status.TheVariants as status
 
 -- the entries of a map from keys to lists
 abbrev pub Entries : Type 0 → Type 0
@@ -40,3 +42,8 @@ JudgesOthers parts orders = Tells (λ entry. IsUnrecorded parts entry → Orders
 -- whether both are so
 abbrev pub JudgesAll : Entries Call → Entries OpId → Bool → Type 0
 JudgesAll parts orders each = MatchBool each (JudgesParts parts orders true × JudgesOthers parts orders true) (JudgesParts parts orders false ⊎ JudgesOthers parts orders false)
+
+-- the status where each key is judged yes, and where one is judged no
+abbrev pub verdict_status : Bool → Status
+verdict_status true = status.Good
+verdict_status false = status.Refused

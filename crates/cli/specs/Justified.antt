@@ -64,6 +64,24 @@ pub record Passage : Type 0 where
   pub old : Option (List ℕ)
   pub new : Option (List ℕ)
 
+-- the text of the orders went out, or all that went out is a beginning of it
+abbrev pub SendsOrders : List KeyOrder → Passage → Status → Type 0
+SendsOrders orders writer status.Good = Appends writer.old writer.new (orders_text orders)
+SendsOrders orders writer status.Failed = Begins writer.old writer.new (orders_text orders)
+SendsOrders orders writer s = ⊥
+
+-- what the status says of keys with their parts: the text of their orders went out, or one has none,
+-- or all that went out is a beginning of that text
+abbrev pub JustifiesParts : List KeyPart → Passage → Status → Type 0
+JustifiesParts parts writer status.Good = (orders : List KeyOrder) × AreJustified parts orders × Appends writer.old writer.new (orders_text orders)
+JustifiesParts parts writer status.Refused = (refusal : Unjustified) × IsFirstUnjustified parts refusal × (status_of_refusal refusal ≡ status.Refused)
+JustifiesParts parts writer status.Failed = (writer.new ≡ writer.old) ⊎ ((orders : List KeyOrder) × AreJustified parts orders × Begins writer.old writer.new (orders_text orders))
+JustifiesParts parts writer s = ⊥
+
+-- what it says of the rows of a history: the same of the parts of their keys, or, where they could not be made, that nothing went out
+abbrev pub JustifiesRows : List Row → Passage → Status → Type 0
+JustifiesRows rows writer s = ((parts : List KeyPart) × AreParts rows parts × JustifiesParts parts writer s) ⊎ ((s ≡ status.Failed) × (writer.new ≡ writer.old))
+
 -- the reader came to its end, and gave a history whose keys have these parts
 pub record HasParts (reader : Passage) (parts : List KeyPart) : Type 0 where
   pub rows : List Row

@@ -39,7 +39,7 @@ impl<'a, R> Source<'a, R> {
 }
 
 /// The history that the file is.
-fn history_in<'a, R: Read>(
+pub(crate) fn history_in<'a, R: Read>(
     rt: &(impl Threads + Sync),
     alloc: Global,
     source: &mut Source<'a, R>,

@@ -8,7 +8,7 @@ ghost use Rattle.recorder.specs.Orders.{IsOrder};
 ghost use Rattle.file_format.specs.OrderFormat.{AreJoined};
 ghost use Rattle.cli.specs.Checks.{Judges};
 ghost use Rattle.cli.specs.Halts.{Halts};
-ghost use Rattle.cli.specs.Judging.{JudgesAll, JudgesOthers, JudgesParts, list_at};
+ghost use Rattle.cli.specs.Judging.{JudgesAll, JudgesOthers, JudgesParts, list_at, verdict_status};
 
 use crate::status::Status;
 use certificate_check::{Verdict, check_part};
@@ -140,6 +140,27 @@ fn judge_keys(
     Ok((recorded && others, lines.text))
 }
 
+/// Judges a history by the orders of an order file. Whether each key is judged yes, and a line for
+/// each.
+fn judge_history(
+    alloc: Global,
+    history: &History,
+    orders: Vec<KeyOrder>,
+) -> Result<(bool, String), Memory>
+    ensures { IfOk result (λ judged. (pieces : List KeyOrder) → AreJoined pieces orders.items → Judges history.now.rows pieces (verdict_status judged.0)) }
+{
+    let orders = orders_by_key(alloc, orders)?;
+    let parts = history.parts()?;
+    judge_keys(alloc, &parts, &orders)
+}
+
+/// How a judging ends: `Good` where each key is judged yes.
+fn status_of(yes: bool) -> Status
+    ensures { result ≡ verdict_status yes }
+{
+    if yes { Status::Good } else { Status::Refused }
+}
+
 /// Judges a history by the orders of an order file, and says a line for each key once all are
 /// judged: `Good` where every line says yes, `Refused` where one says no.
 pub(crate) fn judge<W: Write>(
@@ -151,15 +172,9 @@ pub(crate) fn judge<W: Write>(
     ensures judged { IfOk result (λ status. (pieces : List KeyOrder) → AreJoined pieces orders.items → Judges history.now.rows pieces status) }
     ensures output { IfErr result (λ halt. Halts halt out.old out.new) }
 {
-    let parts = history.parts()?;
-    let orders = orders_by_key(alloc, orders)?;
-    let (yes, text) = judge_keys(alloc, &parts, &orders)?;
-    if write_text(text.as_bytes(), out).is_err() {
-        return Err(Halt::Output);
-    }
-    if yes {
-        Ok(Status::Good)
-    } else {
-        Ok(Status::Refused)
+    let (yes, text) = judge_history(alloc, history, orders)?;
+    match write_text(text.as_bytes(), out) {
+        Ok(()) => Ok(status_of(yes)),
+        Err(_) => Err(Halt::Output),
     }
 }

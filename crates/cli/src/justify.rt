@@ -1,16 +1,66 @@
 //! `abd justify`: an order of each key's calls, made from the history's notes.
 ghost use Rattle.std.specs.Prelude.{◌≡◌};
-ghost use Rattle.cli.specs.Justified.{Justifies};
+ghost use Rattle.cli.specs.Justified.{Justifies, JustifiesParts, JustifiesRows, SendsOrders};
 
-use crate::check::Source;
+use crate::check::{Source, history_in};
 use crate::justifying::justified_orders;
 use crate::status::{Failure, Status};
 use counted_devices::{Counting, WriteFault};
 use file_format::write_orders;
-use history_file::read_history;
+use indexmap::IndexMap;
+use recorder::{History, KeyOrder, Part};
 use std::alloc::Global;
 use std::io::{Read, Write};
 use std::thread::Threads;
+use tag::Key;
+
+/// Writes the order file of the orders.
+fn send_orders<W: Write, E: Write>(
+    alloc: Global,
+    orders: &[KeyOrder],
+    out: &mut Counting<W>,
+    errors: &mut E,
+) -> Status
+    ensures { SendsOrders orders.now (record { old = W.contents out.old.inner; new = W.contents out.new.inner }) result }
+{
+    match write_orders(alloc, orders, out) {
+        Ok(()) => Status::Good,
+        Err(WriteFault::Device) => Failure::Output.report(errors),
+        Err(WriteFault::Memory) => Failure::Memory.report(errors),
+    }
+}
+
+/// Makes each key's order from the notes of its part, checks it, and writes the order file.
+fn justify_parts<W: Write, E: Write>(
+    alloc: Global,
+    parts: &IndexMap<Key, Part>,
+    out: &mut Counting<W>,
+    errors: &mut E,
+) -> Status
+    ensures ends { JustifiesParts parts.now.entries (record { old = W.contents out.old.inner; new = W.contents out.new.inner }) result }
+    ensures refused { result ≡ Status.Refused → out.new ≡ out.old }
+{
+    match justified_orders(alloc, parts) {
+        Ok(orders) => send_orders(alloc, orders.as_slice(), out, errors),
+        Err(refusal) => refusal.report(errors),
+    }
+}
+
+/// Makes the order file of a history.
+fn justify_history<W: Write, E: Write>(
+    alloc: Global,
+    history: &History,
+    out: &mut Counting<W>,
+    errors: &mut E,
+) -> Status
+    ensures ends { JustifiesRows history.now.rows (record { old = W.contents out.old.inner; new = W.contents out.new.inner }) result }
+    ensures refused { result ≡ Status.Refused → out.new ≡ out.old }
+{
+    match history.parts() {
+        Ok(parts) => justify_parts(alloc, &parts, out, errors),
+        Err(_) => Failure::Memory.report(errors),
+    }
+}
 
 /// Reads the history, makes each key's order from the notes and checks it, the keys in the order
 /// in which the history first sees them, and then writes the order file.
@@ -31,23 +81,8 @@ pub fn justify_command<'a, H: Read, W: Write, E: Write>(
     ensures refused { result ≡ Status.Refused → out.new ≡ out.old }
     ensures faulty { result ≡ Status.Format → out.new ≡ out.old }
 {
-    let recorded = match read_history(rt, alloc, &mut history.reader) {
-        Ok(recorded) => recorded,
-        Err(fault) => {
-            let name = history.name;
-            return Failure::File { name, fault }.report(errors);
-        }
-    };
-    let Ok(parts) = recorded.parts() else {
-        return Failure::Memory.report(errors);
-    };
-    let orders = match justified_orders(alloc, &parts) {
-        Ok(orders) => orders,
-        Err(refusal) => return refusal.report(errors),
-    };
-    match write_orders(alloc, orders.as_slice(), out) {
-        Ok(()) => Status::Good,
-        Err(WriteFault::Device) => Failure::Output.report(errors),
-        Err(WriteFault::Memory) => Failure::Memory.report(errors),
+    match history_in(rt, alloc, history) {
+        Ok(history) => justify_history(alloc, &history, out, errors),
+        Err(failure) => failure.report(errors),
     }
 }
