@@ -5,6 +5,8 @@
 #[cfg(test)]
 mod clients;
 #[cfg(test)]
+mod files;
+#[cfg(test)]
 mod networks;
 #[cfg(test)]
 mod worlds;
