@@ -148,7 +148,14 @@ fn fed_answer(
         Format::Orders => orders_said(alloc, &fed_orders(rt, alloc, left, size)),
         Format::Script => {
             let failure = None;
-            script_answer(alloc, Pieces { left, size, failure })
+            script_answer(
+                alloc,
+                Pieces {
+                    left,
+                    size,
+                    failure,
+                },
+            )
         }
     }
 }
@@ -165,7 +172,16 @@ fn answer(
     let mut answers = Agreed::new(alloc);
     for size in asked.sizes().split(',') {
         let size = size.parse::<usize>().unwrap_or(1);
-        answers.take(read_answer(rt, alloc, format, Pieces { left, size, failure })?)?;
+        answers.take(read_answer(
+            rt,
+            alloc,
+            format,
+            Pieces {
+                left,
+                size,
+                failure,
+            },
+        )?)?;
         if failure.is_none() {
             answers.take(fed_answer(rt, alloc, format, left, size)?)?;
         }

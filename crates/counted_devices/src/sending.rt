@@ -29,10 +29,7 @@ fn write_all<W: Write>(writer: &mut Counting<W>, bytes: &[u8]) -> Result<(), Wri
 }
 
 /// Writes what waits, once it is enough.
-pub fn relieve<W: Write>(
-    batch: &mut Vec<u8>,
-    writer: &mut Counting<W>,
-) -> Result<(), WriteFault>
+pub fn relieve<W: Write>(batch: &mut Vec<u8>, writer: &mut Counting<W>) -> Result<(), WriteFault>
     ensures sent { OnOk result (Leaves (W.contents writer.old.inner) (W.contents writer.new.inner) batch.old.items batch.new.items) }
     ensures begun { OnErr result (Begins (W.contents writer.old.inner) (W.contents writer.new.inner) batch.old.items) }
     ensures device { IfErr result (λ fault. HasFailedBy fault writer.old.failures writer.new.failures) }
