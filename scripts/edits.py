@@ -70,9 +70,17 @@ def changed_lines(path, commit):
     return lines
 
 
+def is_new(folder, edit, commit):
+    """Returns whether neither suite had an edit of this name and text at the commit."""
+    with open(edit, encoding="utf-8") as file:
+        text = file.read()
+    places = [f"{commit}:{folder}/{suite}/{os.path.basename(edit)}" for suite in SUITES]
+    return all(subprocess.run(["git", "show", it], capture_output=True, text=True).stdout != text for it in places)
+
+
 def has_changed(folder, edit, commit):
     """Returns whether the edit, or a function that it changes, has changed since the commit."""
-    if changed_lines(edit, commit):
+    if is_new(folder, edit, commit):
         return True
     for file, old, _ in read_edit(edit):
         with open(f"{folder}/{file}", encoding="utf-8") as source:
