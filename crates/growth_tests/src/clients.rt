@@ -85,23 +85,50 @@ fn hears(client: &mut Client, reply: Reply) -> Taken {
     client.take(reply)
 }
 
-fn client_is_kept(alloc: Global) -> Result<bool, Memory> {
-    let (Some(mut client), Some(replica)) = (asking(alloc)?, ReplicaId::new(0)) else {
-        return Ok(false);
-    };
-    let Some(tag) = Tag::new(1, 1) else {
-        return Ok(false);
-    };
-    let asks = sends(alloc, &client, query(alloc)?)?;
-    let noted = hears(&mut client, held(alloc, replica, tag)?) == Taken::Noted(tag);
-    let puts = sends(alloc, &client, put(alloc, tag)?)?;
-    let kept = Reply::Kept {
+/// Whether it asks, and notes the tag that the replica holds.
+fn asks(alloc: Global, client: &mut Client, replica: ReplicaId, tag: Tag) -> Result<bool, Memory> {
+    let asks = sends(alloc, client, query(alloc)?)?;
+    let reply = held(alloc, replica, tag)?;
+    Ok(asks && hears(client, reply) == Taken::Noted(tag))
+}
+
+/// Whether it puts the pair, and is ready once the replica keeps it.
+fn puts(alloc: Global, client: &mut Client, replica: ReplicaId, tag: Tag) -> Result<bool, Memory> {
+    let puts = sends(alloc, client, put(alloc, tag)?)?;
+    let reply = Reply::Kept {
         op: OpId(4),
         replica,
     };
-    let is_ready = hears(&mut client, kept) == Taken::Ready;
+    Ok(puts && hears(client, reply) == Taken::Ready)
+}
+
+/// Whether it has the value for an answer.
+fn answers_value(alloc: Global, client: &Client) -> Result<bool, Memory> {
     let answer = Returned::Value(Some(value(alloc)?));
-    Ok(asks && noted && puts && is_ready && answers(alloc, &client, answer)?)
+    answers(alloc, client, answer)
+}
+
+/// Whether the client goes from its query to its answer.
+fn is_kept(
+    alloc: Global,
+    client: &mut Client,
+    replica: ReplicaId,
+    tag: Tag,
+) -> Result<bool, Memory> {
+    let asks = asks(alloc, client, replica, tag)?;
+    let puts = puts(alloc, client, replica, tag)?;
+    let answers = answers_value(alloc, client)?;
+    Ok(asks && puts && answers)
+}
+
+fn client_is_kept(alloc: Global) -> Result<bool, Memory> {
+    let (Some(replica), Some(tag)) = (ReplicaId::new(0), Tag::new(1, 1)) else {
+        return Ok(false);
+    };
+    match asking(alloc)? {
+        Some(mut client) => is_kept(alloc, &mut client, replica, tag),
+        None => Ok(false),
+    }
 }
 
 #[test]
