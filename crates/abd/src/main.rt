@@ -39,8 +39,8 @@ fn check(rt: &HostRuntime, threads: &(impl Threads + Sync), history: &str, order
     let Ok(orders_file) = fs::open(rt, orders) else {
         return Failure::Closed { name: orders }.report(&mut errors);
     };
-    let mut history = Source::new(history, history_file);
-    let mut orders = Source::new(orders, orders_file);
+    let mut history = Source::new(history, Counting::new(history_file));
+    let mut orders = Source::new(orders, Counting::new(orders_file));
     let mut out = Counting::new(rt.stdout());
     check_command(
         threads,
@@ -58,7 +58,7 @@ fn justify(rt: &HostRuntime, threads: &(impl Threads + Sync), history: &str) -> 
     let Ok(history_file) = fs::open(rt, history) else {
         return Failure::Closed { name: history }.report(&mut errors);
     };
-    let mut history = Source::new(history, history_file);
+    let mut history = Source::new(history, Counting::new(history_file));
     let mut out = Counting::new(rt.stdout());
     justify_command(threads, rt.alloc(), &mut history, &mut out, &mut errors)
 }
@@ -69,7 +69,7 @@ fn simulate(rt: &HostRuntime, script: &str) -> Status {
     let Ok(script_file) = fs::open(rt, script) else {
         return Failure::Closed { name: script }.report(&mut errors);
     };
-    let mut script = Source::new(script, script_file);
+    let mut script = Source::new(script, Counting::new(script_file));
     let mut out = Counting::new(rt.stdout());
     simulate_command(rt.alloc(), &mut script, &mut out, &mut errors)
 }

@@ -1,7 +1,7 @@
 -- What the run of a script comes to.
 use Rattle.std.specs.Prelude.{ℕ, ◌≡◌, ◌⊎◌, List, Option}
 use Rattle.std.specs.Io.KnownBytes.{Appends}
-use Rattle.counted_devices.specs.Counts.{HasGrown}
+use Rattle.counted_devices.specs.Counts.{IsOneMore}
 use Rattle.counted_devices.specs.Deliveries.{Delivers}
 use Rattle.counted_devices.specs.Sendings.{Begins}
 use Rattle.fault_script.specs.Deliveries.{StopsWith}
@@ -32,4 +32,4 @@ EndsSimulation script out notes status.Good = Simulates script.old script.new (�
 EndsSimulation script out notes status.Refused = ⊥
 EndsSimulation script out notes status.Usage = ⊥
 EndsSimulation script out notes status.Format = IsFaultyScript script
-EndsSimulation script out notes status.Failed = (out.new ≡ out.old) ⊎ (Simulates script.old script.new (λ said text. Begins out.old out.new text) × HasGrown out.failures out.failures_now)
+EndsSimulation script out notes status.Failed = (out.new ≡ out.old) ⊎ (Simulates script.old script.new (λ said text. Begins out.old out.new text) × IsOneMore out.failures out.failures_now)

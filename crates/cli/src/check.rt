@@ -1,6 +1,6 @@
 //! `abd check`: the verdict on each key's order.
 ghost use Rattle.std.specs.Prelude.{◌≡◌, ◌⊎◌, IfOk, IfErr};
-ghost use Rattle.counted_devices.specs.Counts.{HasGrown};
+ghost use Rattle.counted_devices.specs.Counts.{IsOneMore};
 ghost use Rattle.counted_devices.specs.Deliveries.{Delivers};
 ghost use Rattle.history_file.specs.Deliveries.{HasFailed, ReadsAll};
 ghost use Rattle.file_format.specs.HistoryFormat.{history_format, MakesHistory};
@@ -10,43 +10,39 @@ ghost use Rattle.cli.specs.Statuses.{status_of};
 
 use crate::judging::{Halt, judge};
 use crate::status::{Failure, Status};
-use counted_devices::Counting;
+use counted_devices::{CountedRead, CountedWrite};
 use history_file::{read_history, read_orders};
 use recorder::{History, KeyOrder};
 use std::alloc::Global;
-use std::io::{Read, Write};
+use std::io::Write;
 use std::thread::Threads;
 
 /// A file that was opened: its name as it was given, and its bytes.
 #[derive(Drop)]
 pub struct Source<'a, R> {
     pub name: &'a str,
-    pub reader: Counting<R>,
+    pub reader: R,
 }
 
 impl<'a, R> Source<'a, R> {
     /// The file of that name.
     pub fn new(name: &'a str, reader: R) -> Source<'a, R>
         ensures name { result.name ≡ name.entry }
-        ensures reader { result.reader.inner ≡ reader }
-        ensures fresh { (result.reader.failures ≡ 0) × (result.reader.given ≡ 0) }
+        ensures reader { result.reader ≡ reader }
     {
-        Source {
-            name,
-            reader: Counting::new(reader),
-        }
+        Source { name, reader }
     }
 }
 
 /// The history that the file is.
-pub(crate) fn history_in<'a, R: Read>(
+pub(crate) fn history_in<'a, R: CountedRead>(
     rt: &(impl Threads + Sync),
     alloc: Global,
     source: &mut Source<'a, R>,
 ) -> Result<History, Failure<'a>>
-    ensures read { IfOk result (λ history. Delivers (R.remaining source.old.reader.inner) (R.remaining source.new.reader.inner) (ReadsAll history_format MakesHistory (R.remaining source.new.reader.inner) history)) }
-    ensures fault { IfErr result (λ failure. Stops history_format (R.remaining source.old.reader.inner) (R.remaining source.new.reader.inner) (status_of failure)) }
-    ensures told { IfErr result (λ failure. TellsFault source.old.name.now (λ fault. HasFailed fault.kind source.old.reader.failures source.new.reader.failures) failure) }
+    ensures read { IfOk result (λ history. Delivers (R.remaining source.old.reader) (R.remaining source.new.reader) (ReadsAll history_format MakesHistory (R.remaining source.new.reader) history)) }
+    ensures fault { IfErr result (λ failure. Stops history_format (R.remaining source.old.reader) (R.remaining source.new.reader) (status_of failure)) }
+    ensures told { IfErr result (λ failure. TellsFault source.old.name.now (λ fault. HasFailed fault.kind (R.failures source.old.reader) (R.failures source.new.reader)) failure) }
 {
     match read_history(rt, alloc, &mut source.reader) {
         Ok(history) => Ok(history),
@@ -58,14 +54,14 @@ pub(crate) fn history_in<'a, R: Read>(
 }
 
 /// The orders that the file is.
-fn orders_in<'a, R: Read>(
+fn orders_in<'a, R: CountedRead>(
     rt: &(impl Threads + Sync),
     alloc: Global,
     source: &mut Source<'a, R>,
 ) -> Result<Vec<KeyOrder>, Failure<'a>>
-    ensures read { IfOk result (λ orders. Delivers (R.remaining source.old.reader.inner) (R.remaining source.new.reader.inner) (ReadsAll order_format AreJoined (R.remaining source.new.reader.inner) orders.items)) }
-    ensures fault { IfErr result (λ failure. Stops order_format (R.remaining source.old.reader.inner) (R.remaining source.new.reader.inner) (status_of failure)) }
-    ensures told { IfErr result (λ failure. TellsFault source.old.name.now (λ fault. HasFailed fault.kind source.old.reader.failures source.new.reader.failures) failure) }
+    ensures read { IfOk result (λ orders. Delivers (R.remaining source.old.reader) (R.remaining source.new.reader) (ReadsAll order_format AreJoined (R.remaining source.new.reader) orders.items)) }
+    ensures fault { IfErr result (λ failure. Stops order_format (R.remaining source.old.reader) (R.remaining source.new.reader) (status_of failure)) }
+    ensures told { IfErr result (λ failure. TellsFault source.old.name.now (λ fault. HasFailed fault.kind (R.failures source.old.reader) (R.failures source.new.reader)) failure) }
 {
     match read_orders(rt, alloc, &mut source.reader) {
         Ok(orders) => Ok(orders),
@@ -81,20 +77,20 @@ fn orders_in<'a, R: Read>(
 ///
 /// Nothing goes to `out` before all keys are judged, or where either file has a fault; a failure is
 /// said on `errors`. `Good` where every line says yes, `Refused` where one says no.
-pub fn check_command<'a, H: Read, O: Read, W: Write, E: Write>(
+pub fn check_command<'a, H: CountedRead, O: CountedRead, W: CountedWrite, E: Write>(
     rt: &(impl Threads + Sync),
     alloc: Global,
     history: &mut Source<'a, H>,
     orders: &mut Source<'a, O>,
-    out: &mut Counting<W>,
+    out: &mut W,
     errors: &mut E,
 ) -> Status
     ensures ends { Ends
-        (record { history = H.remaining history.old.reader.inner; orders = O.remaining orders.old.reader.inner })
-        (record { history = H.remaining history.new.reader.inner; orders = O.remaining orders.new.reader.inner })
+        (record { history = H.remaining history.old.reader; orders = O.remaining orders.old.reader })
+        (record { history = H.remaining history.new.reader; orders = O.remaining orders.new.reader })
         result }
     ensures quiet { result ≡ Status.Format → out.new ≡ out.old }
-    ensures failed { result ≡ Status.Failed → (out.new ≡ out.old) ⊎ HasGrown out.old.failures out.new.failures }
+    ensures failed { result ≡ Status.Failed → (out.new ≡ out.old) ⊎ IsOneMore (W.failures out.old) (W.failures out.new) }
 {
     let history = match history_in(rt, alloc, history) {
         Ok(history) => history,

@@ -12,12 +12,11 @@ ghost use Rattle.cli.specs.Judging.{JudgesAll, JudgesOthers, JudgesParts, list_a
 
 use crate::status::Status;
 use certificate_check::{Verdict, check_part};
-use counted_devices::{Counting, write_text};
+use counted_devices::{CountedWrite, write_text};
 use indexmap::IndexMap;
 use recorder::{History, KeyOrder, Order, Part};
 use std::alloc::Global;
 use std::fmt::Write as _;
-use std::io::Write;
 use tag::{Key, Memory, OpId};
 
 /// Why judging ended before its time.
@@ -163,14 +162,14 @@ fn status_of(yes: bool) -> Status
 
 /// Judges a history by the orders of an order file, and says a line for each key once all are
 /// judged: `Good` where every line says yes, `Refused` where one says no.
-pub(crate) fn judge<W: Write>(
+pub(crate) fn judge<W: CountedWrite>(
     alloc: Global,
     history: &History,
     orders: Vec<KeyOrder>,
-    out: &mut Counting<W>,
+    out: &mut W,
 ) -> Result<Status, Halt>
     ensures judged { IfOk result (λ status. (pieces : List KeyOrder) → AreJoined pieces orders.items → Judges history.now.rows pieces status) }
-    ensures output { IfErr result (λ halt. Halts halt out.old out.new) }
+    ensures output { IfErr result (λ halt. Halts W.failures halt out.old out.new) }
 {
     let (yes, text) = judge_history(alloc, history, orders)?;
     match write_text(text.as_bytes(), out) {

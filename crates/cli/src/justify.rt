@@ -5,23 +5,23 @@ ghost use Rattle.cli.specs.Justified.{Justifies, JustifiesParts, JustifiesRows, 
 use crate::check::{Source, history_in};
 use crate::justifying::justified_orders;
 use crate::status::{Failure, Status};
-use counted_devices::{Counting, WriteFault};
+use counted_devices::{CountedRead, CountedWrite, WriteFault};
 use file_format::write_orders;
 use indexmap::IndexMap;
 use recorder::{History, KeyOrder, Part};
 use std::alloc::Global;
-use std::io::{Read, Write};
+use std::io::Write;
 use std::thread::Threads;
 use tag::Key;
 
 /// Writes the order file of the orders.
-fn send_orders<W: Write, E: Write>(
+fn send_orders<W: CountedWrite, E: Write>(
     alloc: Global,
     orders: &[KeyOrder],
-    out: &mut Counting<W>,
+    out: &mut W,
     errors: &mut E,
 ) -> Status
-    ensures { SendsOrders orders.now (record { old = W.contents out.old.inner; new = W.contents out.new.inner }) result }
+    ensures { SendsOrders orders.now (record { old = W.contents out.old; new = W.contents out.new }) result }
 {
     match write_orders(alloc, orders, out) {
         Ok(()) => Status::Good,
@@ -31,13 +31,13 @@ fn send_orders<W: Write, E: Write>(
 }
 
 /// Makes each key's order from the notes of its part, checks it, and writes the order file.
-fn justify_parts<W: Write, E: Write>(
+fn justify_parts<W: CountedWrite, E: Write>(
     alloc: Global,
     parts: &IndexMap<Key, Part>,
-    out: &mut Counting<W>,
+    out: &mut W,
     errors: &mut E,
 ) -> Status
-    ensures ends { JustifiesParts parts.now.entries (record { old = W.contents out.old.inner; new = W.contents out.new.inner }) result }
+    ensures ends { JustifiesParts parts.now.entries (record { old = W.contents out.old; new = W.contents out.new }) result }
     ensures refused { result ≡ Status.Refused → out.new ≡ out.old }
 {
     match justified_orders(alloc, parts) {
@@ -47,13 +47,13 @@ fn justify_parts<W: Write, E: Write>(
 }
 
 /// Makes the order file of a history.
-fn justify_history<W: Write, E: Write>(
+fn justify_history<W: CountedWrite, E: Write>(
     alloc: Global,
     history: &History,
-    out: &mut Counting<W>,
+    out: &mut W,
     errors: &mut E,
 ) -> Status
-    ensures ends { JustifiesRows history.now.rows (record { old = W.contents out.old.inner; new = W.contents out.new.inner }) result }
+    ensures ends { JustifiesRows history.now.rows (record { old = W.contents out.old; new = W.contents out.new }) result }
     ensures refused { result ≡ Status.Refused → out.new ≡ out.old }
 {
     match history.parts() {
@@ -67,16 +67,16 @@ fn justify_history<W: Write, E: Write>(
 ///
 /// Nothing goes to `out` before every key has its order. `Refused` where a key has none: the first
 /// such key is said on `errors`, as is any other failure.
-pub fn justify_command<'a, H: Read, W: Write, E: Write>(
+pub fn justify_command<'a, H: CountedRead, W: CountedWrite, E: Write>(
     rt: &(impl Threads + Sync),
     alloc: Global,
     history: &mut Source<'a, H>,
-    out: &mut Counting<W>,
+    out: &mut W,
     errors: &mut E,
 ) -> Status
     ensures ends { Justifies
-        (record { old = H.remaining history.old.reader.inner; new = H.remaining history.new.reader.inner })
-        (record { old = W.contents out.old.inner; new = W.contents out.new.inner })
+        (record { old = H.remaining history.old.reader; new = H.remaining history.new.reader })
+        (record { old = W.contents out.old; new = W.contents out.new })
         result }
     ensures refused { result ≡ Status.Refused → out.new ≡ out.old }
     ensures faulty { result ≡ Status.Format → out.new ≡ out.old }

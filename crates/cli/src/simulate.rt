@@ -4,10 +4,9 @@ ghost use Rattle.cli.specs.Simulated.{EndsSimulation};
 
 use crate::check::Source;
 use crate::status::{Failure, Status};
-use counted_devices::Counting;
+use counted_devices::{CountedRead, CountedWrite};
 use fault_script::{SimulateError, simulate};
 use std::alloc::Global;
-use std::io::{Read, Write};
 
 /// Reads the script, runs it, and writes what is said of its lines to `errors` and then the history
 /// of the run to `out`.
@@ -15,16 +14,16 @@ use std::io::{Read, Write};
 /// Nothing goes to `out` before the whole run was made. A line that is refused is no failure: it has
 /// its note, and the status is `Good`. A failure is said on `errors`, behind the notes that went
 /// there.
-pub fn simulate_command<'a, S: Read, W: Write, E: Write>(
+pub fn simulate_command<'a, S: CountedRead, W: CountedWrite, E: CountedWrite>(
     alloc: Global,
     script: &mut Source<'a, S>,
-    out: &mut Counting<W>,
-    errors: &mut Counting<E>,
+    out: &mut W,
+    errors: &mut E,
 ) -> Status
     ensures ends { EndsSimulation
-        (record { old = S.remaining script.old.reader.inner; new = S.remaining script.new.reader.inner })
-        (record { old = W.contents out.old.inner; new = W.contents out.new.inner; failures = out.old.failures; failures_now = out.new.failures })
-        (record { old = E.contents errors.old.inner; new = E.contents errors.new.inner })
+        (record { old = S.remaining script.old.reader; new = S.remaining script.new.reader })
+        (record { old = W.contents out.old; new = W.contents out.new; failures = W.failures out.old; failures_now = W.failures out.new })
+        (record { old = E.contents errors.old; new = E.contents errors.new })
         result }
     ensures faulty { result ≡ Status.Format → out.new ≡ out.old }
 {

@@ -49,7 +49,7 @@ fn simulated(alloc: Global, input: Input<'_>, way: Way) -> Said {
         size: way.size,
         failure: way.failure,
     };
-    let mut script = Source::new("s", script);
+    let mut script = Source::new("s", Counting::new(script));
     let mut out = Counting::new(Bounded::new(alloc, way.out));
     let mut errors = Counting::new(Bounded::new(alloc, way.errors));
     let status = simulate_command(alloc, &mut script, &mut out, &mut errors);
@@ -67,7 +67,7 @@ fn justified(rt: &(impl Threads + Sync), alloc: Global, input: Input<'_>, way: W
         size: way.size,
         failure: way.failure,
     };
-    let mut history = Source::new("h", history);
+    let mut history = Source::new("h", Counting::new(history));
     let mut out = Counting::new(Bounded::new(alloc, way.out));
     let mut errors = Bounded::new(alloc, way.errors);
     let status = justify_command(rt, alloc, &mut history, &mut out, &mut errors);
@@ -90,8 +90,8 @@ fn checked(rt: &(impl Threads + Sync), alloc: Global, input: Input<'_>, way: Way
         size: way.size,
         failure: None,
     };
-    let mut history = Source::new("h", history);
-    let mut orders = Source::new("o", orders);
+    let mut history = Source::new("h", Counting::new(history));
+    let mut orders = Source::new("o", Counting::new(orders));
     let mut out = Counting::new(Bounded::new(alloc, way.out));
     let mut errors = Bounded::new(alloc, way.errors);
     let status = check_command(rt, alloc, &mut history, &mut orders, &mut out, &mut errors);

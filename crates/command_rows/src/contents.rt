@@ -4,7 +4,7 @@ use crate::asked::Asked;
 use crate::commands::{extent, push_bytes};
 use crate::devices::{AMPLE, Bounded, Narrow, Pieces};
 use crate::formats::{
-    Counting, WriteFault, history_text, read_history, read_orders, write_history, write_orders,
+    Counted, Counting, WriteFault, history_text, read_history, read_orders, write_history, write_orders,
     write_text,
 };
 use crate::notation::bytes_of;

@@ -1,7 +1,7 @@
 //! Rows of counted failures, and of the faults' numbers and texts.
 use crate::asked::Asked;
 use crate::devices::{Narrow, Pieces};
-use crate::formats::{Counting, FaultKind, FileFault, LineFault, WriteFault};
+use crate::formats::{Counted, Counting, FaultKind, FileFault, LineFault, WriteFault};
 use fault_script::{ErrorKind, ScriptError, SimulateError};
 use std::alloc::{AllocError, Global};
 use std::io::{Read, Write};

@@ -3,7 +3,7 @@ use crate::answers::{Agreed, Spans};
 use crate::asked::Asked;
 use crate::devices::Pieces;
 use crate::formats::{
-    Counting, FaultKind, FileFault, HistoryFeed, OrderFeed, read_history, read_orders,
+    Counted, Counting, FaultKind, FileFault, HistoryFeed, OrderFeed, read_history, read_orders,
 };
 use crate::notation::bytes_of;
 use crate::saying::{history_said, orders_said, script_said};

@@ -1,5 +1,5 @@
 -- Bytes that a reader gives, one piece after another.
-use Rattle.std.proofs.Common.{ℕ, ◌≡◌, List, [], ◌++◌, Option, Some, None, refl, sym, ap, ◌∙◌, append_assoc}
+use Rattle.std.proofs.Common.{ℕ, List, [], ◌++◌, Option, Some, None, refl, sym, ap, ◌∙◌, append_assoc}
 use Rattle.std.specs.Io.KnownBytes.{Consumes, Keeps}
 
 pub Consumes-none : (a : Option (List ℕ)) → Consumes a a []

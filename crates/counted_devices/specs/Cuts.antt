@@ -1,5 +1,5 @@
 -- Lines of a file: the bytes up to each byte 10, and what stands after the last one.
-use Rattle.std.specs.Prelude.{ℕ, ◌≡◌, ◌≢◌, List, [], ◌∷◌, ◌++◌, All}
+use Rattle.std.specs.Prelude.{ℕ, ◌≡◌, ◌≢◌, ◌<◌, ◌≤◌, ◌-◌, List, [], ◌∷◌, ◌++◌, All, length, take, drop, slice_index}
 use Rattle.std.specs.List.{flat_map}
 
 -- a line with its end
@@ -9,6 +9,13 @@ ended line = line ++ 10 ∷ []
 -- no end of a line stands there
 abbrev pub HasNoEnd : List ℕ → Type 0
 HasNoEnd bytes = All (λ b. b ≢ 10) bytes
+
+-- the first end of a line from a place on
+pub record IsFirstEnd (bytes : List ℕ) (from place : ℕ) : Type 0 where
+  pub behind : from ≤ place
+  pub inside : place < length bytes
+  pub none : HasNoEnd (take (place - from) (drop from bytes))
+  pub stands : slice_index bytes place ≡ 10
 
 -- the bytes are these lines, each with its end, and then a rest without one
 pub record Splits (bytes : List ℕ) (lines : List (List ℕ)) (rest : List ℕ) : Type 0 where

@@ -1,5 +1,6 @@
 pub mod Numbers
 pub mod Cuts
 pub mod Counts
+pub mod Devices
 pub mod Deliveries
 pub mod Sendings

@@ -1,9 +1,8 @@
 //! Readers and writers that count their failures.
-ghost use Rattle.std.specs.Prelude.{◌≡◌, ◌<◌, ◌≤◌, ◌+◌, ◌^◌, length, MatchResult};
-ghost use Rattle.std.specs.Io.{ReadsAtMost, WritesAtMost};
-ghost use Rattle.std.specs.Io.KnownBytes.{ReadConsumes, WriteAppends, Keeps};
-ghost use Rattle.counted_devices.specs.Counts.{HasGrown};
+ghost use Rattle.std.specs.Prelude.{◌≡◌, ◌≤◌, ◌+◌, ◌^◌};
+ghost use Rattle.counted_devices.specs.Counts.{IsOneMore};
 
+use crate::{Counted, CountedRead, CountedWrite};
 use std::io::{Error, ErrorKind, Read, Result, Write};
 
 /// The most bytes that a reader gives: 2^62.
@@ -20,11 +19,13 @@ pub struct Counting<T> {
 }
 
 impl<T> Counting<T> {
+    ghost use Rattle.counted_devices.specs.Devices.{device};
+
     /// Nothing counted yet.
     pub fn new(inner: T) -> Counting<T>
-        ensures inner { result.inner ≡ inner }
-        ensures failures { result.failures ≡ 0 }
-        ensures given { result.given ≡ 0 }
+        ensures device { device result ≡ inner }
+        ensures failures { ⟦<Counting<T> as Counted>⟧.failures result ≡ 0 }
+        ensures given { ⟦<Counting<T> as Counted>⟧.given result ≡ 0 }
     {
         Counting {
             inner,
@@ -33,24 +34,9 @@ impl<T> Counting<T> {
         }
     }
 
-    /// How many errors were answered.
-    pub fn failures(&self) -> u64
-        ensures { result ≡ self.now.failures }
-    {
-        self.failures
-    }
-
-    /// How many bytes were read.
-    pub fn given(&self) -> u64
-        ensures given { result ≡ self.now.given }
-        ensures most { result ≤ 2 ^ 62 }
-    {
-        self.given
-    }
-
     /// The reader or the writer.
     pub fn into_inner(self) -> T
-        ensures { result ≡ self.inner }
+        ensures { result ≡ device self }
     {
         let Counting { inner, .. } = self;
         inner
@@ -60,23 +46,38 @@ impl<T> Counting<T> {
     fn fail(&mut self)
         ensures inner { self.new.inner ≡ self.old.inner }
         ensures given { self.new.given ≡ self.old.given }
-        ensures grown { HasGrown self.old.failures self.new.failures }
+        ensures counted { IsOneMore self.old.failures self.new.failures }
     {
         self.failures = self.failures.saturating_add(1);
+    }
+}
+
+impl<T> Counted for Counting<T> {
+    ghost failures = { λ device. device.failures };
+
+    ghost given = { λ device. device.given };
+
+    ghost most_given = { λ device. device.most };
+
+    fn failures(&self) -> u64 {
+        self.failures
+    }
+
+    fn given(&self) -> u64 {
+        self.given
     }
 }
 
 impl<R: Read> Read for Counting<R> {
     ghost remaining = { λ reader. R.remaining reader.inner };
 
-    /// Reads at most as many bytes as the piece has room for. Each error is counted, also that of
-    /// a reader that gave all the bytes that it may.
-    fn read(&mut self, piece: &mut [u8]) -> Result<usize>
-        ensures bound { ReadsAtMost result piece.new }
-        ensures bytes { ReadConsumes (R.remaining self.old.inner) (R.remaining self.new.inner) result piece.new }
-        ensures given { MatchResult result (λ n. self.new.given ≡ self.old.given + n) (λ _. self.new.given ≡ self.old.given) }
-        ensures counted { MatchResult result (λ _. self.new.failures ≡ self.old.failures) (λ _. HasGrown self.old.failures self.new.failures) }
-    {
+    fn read(&mut self, piece: &mut [u8]) -> Result<usize> {
+        self.read_counted(piece)
+    }
+}
+
+impl<R: Read> CountedRead for Counting<R> {
+    fn read_counted(&mut self, piece: &mut [u8]) -> Result<usize> {
         if self.given >= MOST {
             self.fail();
             return Err(Error::from(ErrorKind::FileTooLarge));
@@ -98,13 +99,17 @@ impl<R: Read> Read for Counting<R> {
 impl<W: Write> Write for Counting<W> {
     ghost contents = { λ writer. W.contents writer.inner };
 
-    /// Writes some of the text. Each error is counted, and so is a write that takes nothing of a
-    /// text that isn't empty.
-    fn write(&mut self, text: &[u8]) -> Result<usize>
-        ensures bound { WritesAtMost result text.now }
-        ensures bytes { WriteAppends (W.contents self.old.inner) (W.contents self.new.inner) result text.now }
-        ensures counted { MatchResult result (λ n. (n ≡ 0 → 0 < length text.now → HasGrown self.old.failures self.new.failures) × (0 < n → self.new.failures ≡ self.old.failures)) (λ _. HasGrown self.old.failures self.new.failures) }
-    {
+    fn write(&mut self, text: &[u8]) -> Result<usize> {
+        self.write_counted(text)
+    }
+
+    fn flush(&mut self) -> Result<()> {
+        self.flush_counted()
+    }
+}
+
+impl<W: Write> CountedWrite for Counting<W> {
+    fn write_counted(&mut self, text: &[u8]) -> Result<usize> {
         match self.inner.write(text) {
             Ok(count) => {
                 if count == 0 && !text.is_empty() {
@@ -119,11 +124,7 @@ impl<W: Write> Write for Counting<W> {
         }
     }
 
-    /// Passes on what was written. An error is counted.
-    fn flush(&mut self) -> Result<()>
-        ensures bytes { Keeps (W.contents self.old.inner) (W.contents self.new.inner) }
-        ensures counted { MatchResult result (λ _. self.new.failures ≡ self.old.failures) (λ _. HasGrown self.old.failures self.new.failures) }
-    {
+    fn flush_counted(&mut self) -> Result<()> {
         match self.inner.flush() {
             Ok(()) => Ok(()),
             Err(error) => {

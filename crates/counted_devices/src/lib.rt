@@ -4,11 +4,13 @@
 //! out whole, or after a failure a beginning of it.
 #![tactic(auto)]
 
+mod counted;
 mod counting;
 mod lines;
 mod sending;
 mod write_fault;
 
+pub use counted::{Counted, CountedRead, CountedWrite};
 pub use counting::Counting;
 pub use lines::{Cut, cut_parts, first_end};
 pub use sending::{relieve, write_text};

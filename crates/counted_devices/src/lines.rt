@@ -1,7 +1,6 @@
 //! Cutting bytes at ends of lines.
-ghost use Rattle.std.specs.Prelude.{◌≡◌, ◌<◌, ◌≤◌, length, take, map, slice_index, MatchOption, IfOk};
-ghost use Rattle.std.specs.Option.{IfSome};
-ghost use Rattle.counted_devices.specs.Cuts.{HasNoEnd, Divides};
+ghost use Rattle.std.specs.Prelude.{◌≡◌, ◌<◌, ◌≤◌, length, take, drop, map, slice_index, MatchOption, IfOk};
+ghost use Rattle.counted_devices.specs.Cuts.{HasNoEnd, IsFirstEnd, Divides};
 
 use memchr::{memchr, memrchr};
 use std::alloc::Global;
@@ -30,7 +29,7 @@ pub fn first_end(bytes: &[u8]) -> Option<usize>
 /// The place of the first end of a line from there on.
 fn end_from(bytes: &[u8], from: usize) -> Option<usize>
     requires { from ≤ length bytes.now }
-    ensures { IfSome result (λ i. (i < length bytes.now) × (slice_index bytes.now i ≡ 10)) }
+    ensures { MatchOption result (HasNoEnd (drop from bytes.now)) (IsFirstEnd bytes.now from) }
 {
     let end = first_end(&bytes[from..])?;
     Some(from + end)

@@ -1,7 +1,7 @@
 -- What was made of what a reader delivered.
 use Rattle.std.specs.Prelude.{ℕ, ◌≡◌, ◌≤◌, ◌+◌, ◌⊎◌, List, length, Option}
 use Rattle.std.specs.Io.KnownBytes.{IsAtEnd}
-use Rattle.counted_devices.specs.Counts.{HasGrown}
+use Rattle.counted_devices.specs.Counts.{IsOneMore}
 use Rattle.counted_devices.specs.Cuts.{Splits}
 use Rattle.counted_devices.specs.Deliveries.{Delivers}
 use Rattle.fault_script.specs.declared.command.Script.{Script}
@@ -42,5 +42,5 @@ StopsAt left error bytes = StopsWith left error.line error.kind bytes
 
 -- a device's error comes only where the count of failures grew
 abbrev pub HasFailed : ErrorKind → ℕ → ℕ → Type 0
-HasFailed kind.Device old new = HasGrown old new
+HasFailed kind.Device old new = IsOneMore old new
 HasFailed k old new = Unit {0}

@@ -7,9 +7,8 @@ ghost use Rattle.fault_script.specs.Deliveries.{Holds, ReadsAll, StopsAt, HasFai
 use crate::command::Script;
 use crate::feed::Feed;
 use crate::{ErrorKind, ScriptError};
-use counted_devices::Counting;
+use counted_devices::CountedRead;
 use std::alloc::{AllocError, Global};
-use std::io::Read;
 
 /// The most bytes of a piece.
 const PIECE: usize = 1_048_576;
@@ -22,21 +21,21 @@ fn room_for(alloc: Global, size: usize) -> Result<Vec<u8>, AllocError>
 }
 
 /// Feeds the next bytes of the reader, and says whether there were some.
-fn feed_next<R: Read>(
+fn feed_next<R: CountedRead>(
     feed: &mut Feed,
-    reader: &mut Counting<R>,
+    reader: &mut R,
     room: &mut [u8],
 ) -> Result<bool, ScriptError>
     requires some { 0 < length room.old }
-    requires fed { feed.old.progress.lines + length feed.old.rest.items ≤ reader.old.given }
-    ensures goes { (start : Option (List ℕ)) → Holds start (R.remaining reader.old.inner) feed.old → MatchResult result (λ _. Holds start (R.remaining reader.new.inner) feed.new) (λ error. Delivers start (R.remaining reader.new.inner) (StopsAt (R.remaining reader.new.inner) error) × HasFailed error.kind reader.old.failures reader.new.failures) }
-    ensures fed { IfOk result (λ _. feed.new.progress.lines + length feed.new.rest.items ≤ reader.new.given) }
-    ensures end { IfOk result (λ more. more ≡ false → IsAtEnd (R.remaining reader.new.inner)) }
-    ensures more { IfOk result (λ more. more ≡ true → reader.old.given < reader.new.given) }
-    ensures counted { IfOk result (λ _. reader.new.failures ≡ reader.old.failures) }
+    requires fed { feed.old.progress.lines + length feed.old.rest.items ≤ R.given reader.old }
+    ensures goes { (start : Option (List ℕ)) → Holds start (R.remaining reader.old) feed.old → MatchResult result (λ _. Holds start (R.remaining reader.new) feed.new) (λ error. Delivers start (R.remaining reader.new) (StopsAt (R.remaining reader.new) error) × HasFailed error.kind (R.failures reader.old) (R.failures reader.new)) }
+    ensures fed { IfOk result (λ _. feed.new.progress.lines + length feed.new.rest.items ≤ R.given reader.new) }
+    ensures end { IfOk result (λ more. more ≡ false → IsAtEnd (R.remaining reader.new)) }
+    ensures more { IfOk result (λ more. more ≡ true → R.given reader.old < R.given reader.new) }
+    ensures counted { IfOk result (λ _. R.failures reader.new ≡ R.failures reader.old) }
 {
     let _given = reader.given();
-    match reader.read(room) {
+    match reader.read_counted(room) {
         Ok(count) => {
             let _now = reader.given();
             feed.feed(&room[..count])?;
@@ -50,14 +49,14 @@ fn feed_next<R: Read>(
 }
 
 /// Feeds the bytes of the reader, to its end, in pieces of that room.
-fn feed_in_pieces<R: Read>(
+fn feed_in_pieces<R: CountedRead>(
     alloc: Global,
-    reader: &mut Counting<R>,
+    reader: &mut R,
     room: &mut [u8],
 ) -> Result<Feed, ScriptError>
     requires { 0 < length room.old }
-    ensures holds { IfOk result (λ feed. Holds (R.remaining reader.old.inner) (R.remaining reader.new.inner) feed × IsAtEnd (R.remaining reader.new.inner)) }
-    ensures error { IfErr result (λ error. Delivers (R.remaining reader.old.inner) (R.remaining reader.new.inner) (StopsAt (R.remaining reader.new.inner) error) × HasFailed error.kind reader.old.failures reader.new.failures) }
+    ensures holds { IfOk result (λ feed. Holds (R.remaining reader.old) (R.remaining reader.new) feed × IsAtEnd (R.remaining reader.new)) }
+    ensures error { IfErr result (λ error. Delivers (R.remaining reader.old) (R.remaining reader.new) (StopsAt (R.remaining reader.new) error) × HasFailed error.kind (R.failures reader.old) (R.failures reader.new)) }
     ensures room { IfOk result (λ feed. feed.progress.lines < 2 ^ 63) }
 {
     let mut feed = Feed::new(alloc);
@@ -71,10 +70,10 @@ fn feed_in_pieces<R: Read>(
 /// Bytes with a fault are refused with their first one: of lines that came whole the first that has
 /// a fault, then `Device` at the line under way where the reader failed. `Memory` comes only where
 /// a growth was refused. The reader keeps what follows the bytes that were read.
-pub fn parse<R: Read>(alloc: Global, reader: &mut Counting<R>) -> Result<Script, ScriptError>
-    ensures read { IfOk result (λ script. Delivers (R.remaining reader.old.inner) (R.remaining reader.new.inner) (ReadsAll (R.remaining reader.new.inner) script)) }
-    ensures fault { IfErr result (λ error. Delivers (R.remaining reader.old.inner) (R.remaining reader.new.inner) (StopsAt (R.remaining reader.new.inner) error)) }
-    ensures device { IfErr result (λ error. HasFailed error.kind reader.old.failures reader.new.failures) }
+pub fn parse<R: CountedRead>(alloc: Global, reader: &mut R) -> Result<Script, ScriptError>
+    ensures read { IfOk result (λ script. Delivers (R.remaining reader.old) (R.remaining reader.new) (ReadsAll (R.remaining reader.new) script)) }
+    ensures fault { IfErr result (λ error. Delivers (R.remaining reader.old) (R.remaining reader.new) (StopsAt (R.remaining reader.new) error)) }
+    ensures device { IfErr result (λ error. HasFailed error.kind (R.failures reader.old) (R.failures reader.new)) }
 {
     let Ok(mut room) = room_for(alloc, PIECE) else {
         return Err(ScriptError {

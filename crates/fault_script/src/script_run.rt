@@ -23,9 +23,9 @@ pub struct ScriptRun {
 
 /// Takes the next random step, and answers whether it was taken.
 fn stride(alloc: Global, world: &mut World, steps: &mut RandomSteps) -> Result<bool, Memory>
-    ensures system { OnOk result (world.new ≡ next world.old (step_of world.old (draw steps.old.generator))) }
-    ensures generator { OnOk result (steps.new.generator ≡ (draw steps.old.generator).rest) }
-    ensures taken { IfOk result (λ taken. taken ≡ is_none (refusal_of world.old (step_of world.old (draw steps.old.generator)))) }
+    ensures system { OnOk result (world.new ≡ next world.old (step_of world.old (draw steps.old))) }
+    ensures generator { OnOk result (steps.new ≡ (draw steps.old).rest) }
+    ensures taken { IfOk result (λ taken. taken ≡ is_none (refusal_of world.old (step_of world.old (draw steps.old)))) }
 {
     let step = steps.next(alloc, world)?;
     match world.step(step) {

@@ -1,7 +1,7 @@
 //! Scripts from readers, and the records of their runs to writers.
 ghost use Rattle.std.specs.Prelude.{◌≡◌, ◌⊎◌, IfErr, IfOk, IsErrOf, List, ℕ, OnOk};
 ghost use Rattle.std.specs.Io.KnownBytes.{Appends};
-ghost use Rattle.counted_devices.specs.Counts.{HasGrown};
+ghost use Rattle.counted_devices.specs.Counts.{IsOneMore};
 ghost use Rattle.counted_devices.specs.Deliveries.{Delivers};
 ghost use Rattle.counted_devices.specs.Sendings.{Begins};
 ghost use Rattle.file_format.specs.Texts.{history_text};
@@ -12,10 +12,9 @@ ghost use Rattle.fault_script.specs.Simulations.{IfScript, IsSoundRun, Simulates
 use crate::command::Script;
 use crate::script_run::ScriptRun;
 use crate::{ScriptError, parse};
-use counted_devices::{Counting, write_text};
+use counted_devices::{CountedRead, CountedWrite, write_text};
 use file_format::history_text;
 use std::alloc::Global;
-use std::io::{Read, Write};
 use tag::Memory;
 use thiserror::Error;
 
@@ -61,13 +60,13 @@ fn texts_of(alloc: Global, script: Script) -> Result<Texts, Memory>
 }
 
 /// Writes the notes, and then the history.
-fn write_texts<W: Write, N: Write>(
+fn write_texts<W: CountedWrite, N: CountedWrite>(
     texts: &Texts,
-    out: &mut Counting<W>,
-    notes: &mut Counting<N>,
+    out: &mut W,
+    notes: &mut N,
 ) -> Result<(), SimulateError>
-    ensures written { OnOk result (Appends (N.contents notes.old.inner) (N.contents notes.new.inner) texts.now.notes.items × Appends (W.contents out.old.inner) (W.contents out.new.inner) texts.now.history.items) }
-    ensures begun { IfErr result (λ error. (Begins (N.contents notes.old.inner) (N.contents notes.new.inner) texts.now.notes.items × HasGrown notes.old.failures notes.new.failures × (out.new ≡ out.old)) ⊎ (Appends (N.contents notes.old.inner) (N.contents notes.new.inner) texts.now.notes.items × Begins (W.contents out.old.inner) (W.contents out.new.inner) texts.now.history.items × HasGrown out.old.failures out.new.failures)) }
+    ensures written { OnOk result (Appends (N.contents notes.old) (N.contents notes.new) texts.now.notes.items × Appends (W.contents out.old) (W.contents out.new) texts.now.history.items) }
+    ensures begun { IfErr result (λ error. (Begins (N.contents notes.old) (N.contents notes.new) texts.now.notes.items × IsOneMore (N.failures notes.old) (N.failures notes.new) × (out.new ≡ out.old)) ⊎ (Appends (N.contents notes.old) (N.contents notes.new) texts.now.notes.items × Begins (W.contents out.old) (W.contents out.new) texts.now.history.items × IsOneMore (W.failures out.old) (W.failures out.new))) }
     ensures device { IfErr result (λ error. error ≡ SimulateError.Device) }
 {
     if write_text(texts.notes.as_slice(), notes).is_err() {
@@ -89,15 +88,15 @@ fn write_texts<W: Write, N: Write>(
 /// can't be read, or a growth that is refused, leaves both writers as they were. `Device` comes only
 /// where a writer failed; a beginning of the notes may then have gone out, or the notes and a
 /// beginning of the history.
-pub fn simulate<R: Read, W: Write, N: Write>(
+pub fn simulate<R: CountedRead, W: CountedWrite, N: CountedWrite>(
     alloc: Global,
-    reader: &mut Counting<R>,
-    out: &mut Counting<W>,
-    notes: &mut Counting<N>,
+    reader: &mut R,
+    out: &mut W,
+    notes: &mut N,
 ) -> Result<(), SimulateError>
-    ensures written { OnOk result (Simulates (R.remaining reader.old.inner) (R.remaining reader.new.inner) (λ said text. Appends (N.contents notes.old.inner) (N.contents notes.new.inner) said × Appends (W.contents out.old.inner) (W.contents out.new.inner) text)) }
-    ensures begun { IsErrOf result SimulateError.Device → Simulates (R.remaining reader.old.inner) (R.remaining reader.new.inner) (λ said text. (Begins (N.contents notes.old.inner) (N.contents notes.new.inner) said × HasGrown notes.old.failures notes.new.failures × (out.new ≡ out.old)) ⊎ (Appends (N.contents notes.old.inner) (N.contents notes.new.inner) said × Begins (W.contents out.old.inner) (W.contents out.new.inner) text × HasGrown out.old.failures out.new.failures)) }
-    ensures fault { IfErr result (λ error. IfScript error (λ why. Delivers (R.remaining reader.old.inner) (R.remaining reader.new.inner) (StopsAt (R.remaining reader.new.inner) why) × HasFailed why.kind reader.old.failures reader.new.failures × (out.new ≡ out.old) × (notes.new ≡ notes.old))) }
+    ensures written { OnOk result (Simulates (R.remaining reader.old) (R.remaining reader.new) (λ said text. Appends (N.contents notes.old) (N.contents notes.new) said × Appends (W.contents out.old) (W.contents out.new) text)) }
+    ensures begun { IsErrOf result SimulateError.Device → Simulates (R.remaining reader.old) (R.remaining reader.new) (λ said text. (Begins (N.contents notes.old) (N.contents notes.new) said × IsOneMore (N.failures notes.old) (N.failures notes.new) × (out.new ≡ out.old)) ⊎ (Appends (N.contents notes.old) (N.contents notes.new) said × Begins (W.contents out.old) (W.contents out.new) text × IsOneMore (W.failures out.old) (W.failures out.new))) }
+    ensures fault { IfErr result (λ error. IfScript error (λ why. Delivers (R.remaining reader.old) (R.remaining reader.new) (StopsAt (R.remaining reader.new) why) × HasFailed why.kind (R.failures reader.old) (R.failures reader.new) × (out.new ≡ out.old) × (notes.new ≡ notes.old))) }
     ensures memory { IsErrOf result SimulateError.Memory → (out.new ≡ out.old) × (notes.new ≡ notes.old) }
 {
     let script = parse(alloc, reader).map_err(SimulateError::Script)?;

@@ -1,12 +1,12 @@
 -- Parts of lines, and what their lines show.
-use Rattle.std.proofs.Common.{ℕ, ◌≡◌, ◌≢◌, ◌<◌, ◌≤◌, ◌+◌, length, arith, Ok, Err, List, [], ◌∷◌, ◌++◌, map, refl, sym, ap, ◌∙◌, append_assoc, append-nil, Result, subst}
+use Rattle.std.proofs.Common.{ℕ, ◌≡◌, List, [], ◌∷◌, ◌++◌, map, refl, sym, ap, ◌∙◌, append_assoc, append-nil, Result}
 use Rattle.std.specs.Prelude.{All}
 use Rattle.std.specs.List.{AllZip, flat_map}
 use Rattle.std.proofs.lemmas.List.Elements.{All-append, All-nil, All-cons}
 use Rattle.serde_json.specs.Data.{Data}
 use Rattle.file_format.specs.declared.fault.LineFault.{LineFault}
 use Rattle.file_format.specs.declared.judging.Judgement.{Judgement}
-use Rattle.counted_devices.specs.Cuts.{ended, HasNoEnd, Splits, Divides, AreLinesIn}
+use Rattle.counted_devices.specs.Cuts.{ended, HasNoEnd}
 use Rattle.file_format.specs.Lines.{ShowsItem, ShowParts}
 use Rattle.file_format.proofs.Zips.{AllZip-push_both, AllZip-append}
 use Rattle.counted_devices.proofs.Cutting.{ended_part, no_parts, more_lines}

@@ -9,10 +9,9 @@ ghost use Rattle.file_format.specs.ReadAgain.{IsTextOf, IsTextOfOrders};
 ghost use Rattle.file_format.specs.Texts.{row_text, piece_text, order_text, history_text, orders_text};
 
 use crate::texts::{MOST_IN_PIECE, append_header, append_piece, append_row};
-use counted_devices::{Counting, WriteFault, relieve, write_text};
+use counted_devices::{CountedWrite, WriteFault, relieve, write_text};
 use recorder::{History, KeyOrder, Row};
 use std::alloc::Global;
-use std::io::Write;
 use tag::{Key, Memory, OpId};
 
 /// The rows, of at most 1,000,000 calls, as every history's are.
@@ -41,15 +40,15 @@ pub fn history_text(alloc: Global, history: &History) -> Result<Vec<u8>, Memory>
 }
 
 /// The row's line comes behind what waits, which goes out once it is enough.
-fn write_row<W: Write>(
+fn write_row<W: CountedWrite>(
     row: &Row,
     batch: &mut Vec<u8>,
-    writer: &mut Counting<W>,
+    writer: &mut W,
 ) -> Result<(), WriteFault>
-    ensures sent { OnOk result (Leaves (W.contents writer.old.inner) (W.contents writer.new.inner) (batch.old.items ++ row_text row.now) batch.new.items) }
-    ensures begun { OnErr result (Begins (W.contents writer.old.inner) (W.contents writer.new.inner) (batch.old.items ++ row_text row.now)) }
-    ensures device { IfErr result (λ fault. HasFailedBy fault writer.old.failures writer.new.failures) }
-    ensures counted { OnOk result (writer.new.failures ≡ writer.old.failures) }
+    ensures sent { OnOk result (Leaves (W.contents writer.old) (W.contents writer.new) (batch.old.items ++ row_text row.now) batch.new.items) }
+    ensures begun { OnErr result (Begins (W.contents writer.old) (W.contents writer.new) (batch.old.items ++ row_text row.now)) }
+    ensures device { IfErr result (λ fault. HasFailedBy fault (W.failures writer.old) (W.failures writer.new)) }
+    ensures counted { OnOk result (W.failures writer.new ≡ W.failures writer.old) }
     ensures range { OnOk result (IsInRange row.now) }
 {
     append_row(batch, row)?;
@@ -61,15 +60,15 @@ fn write_row<W: Write>(
 ///
 /// Where it answers `Ok`, the text went out and nothing else; after a fault a beginning of it did.
 /// `Device` comes only where the writer failed, `Memory` only where a growth was refused.
-pub fn write_history<W: Write>(
+pub fn write_history<W: CountedWrite>(
     alloc: Global,
     history: &History,
-    writer: &mut Counting<W>,
+    writer: &mut W,
 ) -> Result<(), WriteFault>
-    ensures written { OnOk result (Appends (W.contents writer.old.inner) (W.contents writer.new.inner) (history_text history.now.rows)) }
-    ensures begun { OnErr result (Begins (W.contents writer.old.inner) (W.contents writer.new.inner) (history_text history.now.rows)) }
-    ensures device { IfErr result (λ fault. HasFailedBy fault writer.old.failures writer.new.failures) }
-    ensures counted { OnOk result (writer.new.failures ≡ writer.old.failures) }
+    ensures written { OnOk result (Appends (W.contents writer.old) (W.contents writer.new) (history_text history.now.rows)) }
+    ensures begun { OnErr result (Begins (W.contents writer.old) (W.contents writer.new) (history_text history.now.rows)) }
+    ensures device { IfErr result (λ fault. HasFailedBy fault (W.failures writer.old) (W.failures writer.new)) }
+    ensures counted { OnOk result (W.failures writer.new ≡ W.failures writer.old) }
     ensures read { OnOk result (IsTextOf (history_text history.now.rows) history.now.rows) }
 {
     let mut batch = Vec::new(alloc);
@@ -81,16 +80,16 @@ pub fn write_history<W: Write>(
 }
 
 /// The piece's line comes behind what waits, which goes out once it is enough.
-fn write_piece<W: Write>(
+fn write_piece<W: CountedWrite>(
     key: &Key,
     calls: &[OpId],
     batch: &mut Vec<u8>,
-    writer: &mut Counting<W>,
+    writer: &mut W,
 ) -> Result<(), WriteFault>
-    ensures sent { OnOk result (Leaves (W.contents writer.old.inner) (W.contents writer.new.inner) (batch.old.items ++ piece_text (record { key = key.now; order = calls.now })) batch.new.items) }
-    ensures begun { OnErr result (Begins (W.contents writer.old.inner) (W.contents writer.new.inner) (batch.old.items ++ piece_text (record { key = key.now; order = calls.now }))) }
-    ensures device { IfErr result (λ fault. HasFailedBy fault writer.old.failures writer.new.failures) }
-    ensures counted { OnOk result (writer.new.failures ≡ writer.old.failures) }
+    ensures sent { OnOk result (Leaves (W.contents writer.old) (W.contents writer.new) (batch.old.items ++ piece_text (record { key = key.now; order = calls.now })) batch.new.items) }
+    ensures begun { OnErr result (Begins (W.contents writer.old) (W.contents writer.new) (batch.old.items ++ piece_text (record { key = key.now; order = calls.now }))) }
+    ensures device { IfErr result (λ fault. HasFailedBy fault (W.failures writer.old) (W.failures writer.new)) }
+    ensures counted { OnOk result (W.failures writer.new ≡ W.failures writer.old) }
     ensures range { OnOk result (IsOrderInRange (record { key = key.now; order = calls.now })) }
 {
     append_piece(batch, key, calls)?;
@@ -98,15 +97,15 @@ fn write_piece<W: Write>(
 }
 
 /// The lines of the order's pieces come behind what waits, which goes out once it is enough.
-fn write_order<W: Write>(
+fn write_order<W: CountedWrite>(
     order: &KeyOrder,
     batch: &mut Vec<u8>,
-    writer: &mut Counting<W>,
+    writer: &mut W,
 ) -> Result<(), WriteFault>
-    ensures sent { OnOk result (Leaves (W.contents writer.old.inner) (W.contents writer.new.inner) (batch.old.items ++ order_text order.now) batch.new.items) }
-    ensures begun { OnErr result (Begins (W.contents writer.old.inner) (W.contents writer.new.inner) (batch.old.items ++ order_text order.now)) }
-    ensures device { IfErr result (λ fault. HasFailedBy fault writer.old.failures writer.new.failures) }
-    ensures counted { OnOk result (writer.new.failures ≡ writer.old.failures) }
+    ensures sent { OnOk result (Leaves (W.contents writer.old) (W.contents writer.new) (batch.old.items ++ order_text order.now) batch.new.items) }
+    ensures begun { OnErr result (Begins (W.contents writer.old) (W.contents writer.new) (batch.old.items ++ order_text order.now)) }
+    ensures device { IfErr result (λ fault. HasFailedBy fault (W.failures writer.old) (W.failures writer.new)) }
+    ensures counted { OnOk result (W.failures writer.new ≡ W.failures writer.old) }
     ensures range { OnOk result (IsOrderInRange order.now) }
 {
     let mut rest = order.order.as_slice();
@@ -122,15 +121,15 @@ fn write_order<W: Write>(
 /// with at most 1,000,000 calls, are read from it, and no others.
 ///
 /// What went out is said as by `write_history`.
-pub fn write_orders<W: Write>(
+pub fn write_orders<W: CountedWrite>(
     alloc: Global,
     orders: &[KeyOrder],
-    writer: &mut Counting<W>,
+    writer: &mut W,
 ) -> Result<(), WriteFault>
-    ensures written { OnOk result (Appends (W.contents writer.old.inner) (W.contents writer.new.inner) (orders_text orders.now)) }
-    ensures begun { OnErr result (Begins (W.contents writer.old.inner) (W.contents writer.new.inner) (orders_text orders.now)) }
-    ensures device { IfErr result (λ fault. HasFailedBy fault writer.old.failures writer.new.failures) }
-    ensures counted { OnOk result (writer.new.failures ≡ writer.old.failures) }
+    ensures written { OnOk result (Appends (W.contents writer.old) (W.contents writer.new) (orders_text orders.now)) }
+    ensures begun { OnErr result (Begins (W.contents writer.old) (W.contents writer.new) (orders_text orders.now)) }
+    ensures device { IfErr result (λ fault. HasFailedBy fault (W.failures writer.old) (W.failures writer.new)) }
+    ensures counted { OnOk result (W.failures writer.new ≡ W.failures writer.old) }
     ensures read { OnOk result (HaveDistinctKeys orders.now → AreFew orders.now → IsTextOfOrders (orders_text orders.now) orders.now) }
 {
     let mut batch = Vec::new(alloc);

@@ -1,7 +1,7 @@
 -- Bytes that a reader gives, one piece after another.
-use Rattle.std.proofs.Common.{ℕ, ◌≡◌, ◌+◌, List, [], ◌++◌, Option, Some, None, Result, Ok, Err, refl, sym, ap, ◌∙◌, append_assoc, inl, inr, arith}
+use Rattle.std.proofs.Common.{ℕ, ◌≡◌, ◌+◌, List, [], ◌++◌, Option, None, Result, Ok, Err, inl, inr, arith}
 use Rattle.std.specs.Prelude.{IfOk, IfErr, MatchResult}
-use Rattle.std.specs.Io.KnownBytes.{Consumes, Keeps, IsAtEnd}
+use Rattle.std.specs.Io.KnownBytes.{Consumes, IsAtEnd}
 use Rattle.file_format.specs.declared.fault.FileFault.{FileFault}
 use Rattle.file_format.specs.declared.fault.FaultKind.{FaultKind}
 use Rattle.file_format.specs.declared.fault.FaultKind.TheVariants as kind
@@ -47,11 +47,11 @@ module _ {Item Contents : Type 0} (format : Format Item) (Makes : List Item → 
   late_no_device P a b fault m n h stops = never_failed h.bytes fault.line fault.kind m n (stops h.bytes h.fact)
 
   -- the reader failed at the line under way
-  pub Holds-device : (a c : Option (List ℕ)) (feed : Feed Contents) (number : ℕ) → Holds format Makes a c feed → (feed.fault ≡ None → number ≡ feed.progress.lines + 1) → Delivers a c (λ bytes. IsUnderWay bytes number)
+  pub Holds-device : (a c : Option (List ℕ)) (feed : Feed Contents) (number : ℕ) → Holds format Makes a c feed → (feed.fault ≡ None → number ≡ feed.progress.lines + 1) → Delivers a c (λ bytes. IsUnderWay format bytes number)
   Holds-device a c feed number h line = record {
     bytes = h.bytes;
     given = h.given;
-    fact = (h.fact.lines, feed.rest.items, h.fact.splits, omega (arith, line h.fact.sound, h.fact.at.counted));
+    fact = record { lines = h.fact.lines; rest = feed.rest.items; splits = h.fact.splits; short = h.fact.short; items = h.fact.at.items; sound = h.fact.at.sound; counted = omega (arith, line h.fact.sound, h.fact.at.counted) };
   }
 
   -- the feed, when the lines that waited are taken

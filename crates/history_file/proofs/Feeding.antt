@@ -1,11 +1,7 @@
 -- Bytes that come in pieces.
-use Rattle.std.proofs.Common.{ℕ, ◌≡◌, ◌≢◌, ◌<◌, ◌≤◌, ◌+◌, ◌-◌, take, drop, slice_index, eqb, eqb-true, inl, inr, List, [], ◌∷◌, ◌++◌, length, Bool, true, false, cond, nat_lt, Result, Ok, Err, None, refl, sym, ap, ◌∙◌, append_assoc, append-nil, length-append, arith, subst}
+use Rattle.std.proofs.Common.{ℕ, ◌≡◌, ◌<◌, ◌≤◌, ◌+◌, inl, inr, List, [], ◌∷◌, ◌++◌, length, Bool, true, false, cond, nat_lt, Result, Ok, Err, None, refl, sym, ap, ◌∙◌, append_assoc, append-nil, length-append, arith, subst}
 use Rattle.std.specs.Prelude.{MatchResult}
-use Rattle.std.specs.List.{flat_map}
-use Rattle.std.proofs.lemmas.Grind.{flat_map-append}
-use Rattle.std.proofs.lemmas.List.{drop_more, take_rest, take-append-drop}
-use Rattle.std.proofs.lemmas.List.Elements.{All-append, All-nil, All-cons, All-head, All-tail}
-use Rattle.std.proofs.lemmas.Bool.{lt-ltb, eqb-false}
+use Rattle.std.proofs.lemmas.Bool.{lt-ltb}
 use Rattle.file_format.specs.declared.fault.LineFault.{LineFault}
 use Rattle.file_format.specs.declared.fault.LineFault.TheVariants.{NoHeader, TooLong}
 use Rattle.file_format.specs.declared.fault.FileFault.{FileFault}
@@ -13,11 +9,10 @@ use Rattle.file_format.specs.declared.fault.FaultKind.{FaultKind}
 use Rattle.file_format.specs.declared.fault.FaultKind.TheVariants as kind
 use Rattle.history_file.specs.declared.progress.Progress.{Progress}
 use Rattle.history_file.specs.declared.feed.Feed.{Feed}
-use Rattle.counted_devices.specs.Cuts.{ended, HasNoEnd, Splits}
+use Rattle.counted_devices.specs.Cuts.{HasNoEnd, Splits}
 use Rattle.file_format.specs.Formats.{Format}
 use Rattle.file_format.specs.Files.{AreLinesOf, HasFault, IsFirstFault}
 use Rattle.history_file.specs.Takings.{IsFirstOfKind, IsAt}
-use Rattle.counted_devices.specs.Cuts.{last_lines}
 use Rattle.file_format.specs.Readings.{Reads, FirstFaultInAll}
 use Rattle.history_file.specs.Feeds.{Stands, whole_lines, FaultSoFar, FaultInAll, Passed, FaultPassed, PassStops}
 use Rattle.history_file.proofs.Taking.{IsFirstFault-more}

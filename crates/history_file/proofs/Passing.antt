@@ -1,7 +1,6 @@
 -- Parts of lines that are taken behind the header.
-use Rattle.std.proofs.Common.{ℕ, ◌≡◌, ◌≢◌, ◌<◌, ◌≤◌, ◌+◌, length, arith, Ok, Err, List, [], ◌∷◌, ◌++◌, map, refl, sym, ap, ◌∙◌, append_assoc, append-nil, Result, subst}
+use Rattle.std.proofs.Common.{ℕ, ◌≡◌, ◌<◌, ◌≤◌, ◌+◌, length, arith, Ok, Err, List, sym, subst}
 use Rattle.std.specs.List.{flat_map}
-use Rattle.file_format.specs.declared.fault.LineFault.{LineFault}
 use Rattle.file_format.specs.declared.fault.LineFault.TheVariants.{TooLong}
 use Rattle.file_format.specs.declared.fault.FileFault.{FileFault}
 use Rattle.file_format.specs.declared.fault.FaultKind.{FaultKind}

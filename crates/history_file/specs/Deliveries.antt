@@ -1,5 +1,5 @@
 -- What was made of what a reader delivered.
-use Rattle.std.specs.Prelude.{ℕ, ◌≡◌, ◌+◌, ◌⊎◌, List, length, Option}
+use Rattle.std.specs.Prelude.{ℕ, ◌≡◌, ◌≤◌, ◌+◌, ◌⊎◌, List, length, Option}
 use Rattle.std.specs.Io.KnownBytes.{IsAtEnd}
 use Rattle.counted_devices.specs.Deliveries.{Delivers}
 use Rattle.file_format.specs.declared.fault.FileFault.{FileFault}
@@ -7,9 +7,10 @@ use Rattle.file_format.specs.declared.fault.FaultKind.{FaultKind}
 use Rattle.file_format.specs.declared.fault.FaultKind.TheVariants as kind
 use Rattle.history_file.specs.declared.feed.Feed.{Feed}
 use Rattle.history_file.specs.declared.ahead.Ahead.{Ahead}
-use Rattle.counted_devices.specs.Counts.{HasGrown}
+use Rattle.counted_devices.specs.Counts.{IsOneMore}
 use Rattle.counted_devices.specs.Cuts.{Splits}
 use Rattle.file_format.specs.Formats.{Format}
+use Rattle.file_format.specs.Files.{AreLinesOf}
 use Rattle.history_file.specs.Ahead.{StandsAhead}
 use Rattle.file_format.specs.Readings.{Reads, FirstFaultInAll}
 use Rattle.history_file.specs.Feeds.{Stands, FirstFaultSoFar}
@@ -26,15 +27,21 @@ HoldsAhead format Makes old new ahead = Delivers old new (λ bytes. StandsAhead 
 abbrev pub ReadsAll : {Item Contents : Type 0} → Format Item → (List Item → Contents → Type 0) → Option (List ℕ) → Contents → List ℕ → Type 0
 ReadsAll format Makes left contents bytes = IsAtEnd left × Reads format Makes bytes contents
 
--- the line under way, behind the whole ones
-abbrev pub IsUnderWay : List ℕ → ℕ → Type 0
-IsUnderWay bytes number = (lines : List (List ℕ)) × (rest : List ℕ) × Splits bytes lines rest × (number ≡ length lines + 1)
+-- no line of the bytes that is whole has a fault, and that is the number of the line under way behind them
+pub record IsUnderWay {Item : Type 0} (format : Format Item) (bytes : List ℕ) (number : ℕ) : Type 0 where
+  pub lines : List (List ℕ)
+  pub rest : List ℕ
+  pub splits : Splits bytes lines rest
+  pub short : length rest ≤ 65536
+  pub items : List Item
+  pub sound : AreLinesOf format lines items
+  pub counted : number ≡ length lines + 1
 
 -- of what was delivered the first fault of a line is that, at the reader's end or before it; a
--- device's fault names the line under way
+-- device's fault comes behind whole lines without a fault, and names the line under way
 abbrev pub StopsWith : {Item : Type 0} → Format Item → Option (List ℕ) → ℕ → FaultKind → List ℕ → Type 0
 StopsWith format left number (kind.Line fault) bytes = FirstFaultSoFar format bytes number fault ⊎ (IsAtEnd left × FirstFaultInAll format bytes number fault)
-StopsWith format left number kind.Device bytes = IsUnderWay bytes number
+StopsWith format left number kind.Device bytes = IsUnderWay format bytes number
 StopsWith format left number kind.Memory bytes = Unit {0}
 
 abbrev pub StopsAt : {Item : Type 0} → Format Item → Option (List ℕ) → FileFault → List ℕ → Type 0
@@ -42,5 +49,5 @@ StopsAt format left fault bytes = StopsWith format left fault.line fault.kind by
 
 -- a device's fault comes only where the count of failures grew
 abbrev pub HasFailed : FaultKind → ℕ → ℕ → Type 0
-HasFailed kind.Device old new = HasGrown old new
+HasFailed kind.Device old new = IsOneMore old new
 HasFailed k old new = Unit {0}

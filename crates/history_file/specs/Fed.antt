@@ -2,28 +2,28 @@
 use Rattle.std.specs.Prelude.{List, ℕ, Result}
 use Rattle.recorder.specs.Histories.{Recorded}
 use Rattle.file_format.specs.declared.fault.FileFault.{FileFault}
-use Rattle.history_file.specs.declared.history_feed.HistoryFeed.{HistoryFeed}
-use Rattle.history_file.specs.declared.order_feed.OrderFeed.{OrderFeed}
+use Rattle.history_file.specs.declared.feed.Feed.{Feed}
+use Rattle.history_file.specs.KeyedOrders.{KeyedOrders}
 use Rattle.history_file.specs.Feeds.{Stands, Fed, Ends}
 use Rattle.file_format.specs.HistoryFormat.{history_format, MakesHistory}
 use Rattle.file_format.specs.OrderFormat.{order_format}
 use Rattle.history_file.specs.Making.{MakesOrders}
 
 -- the feed stands for the history of all lines of the bytes that are whole so far
-abbrev pub StandsForRows : List ℕ → HistoryFeed → Type 0
-StandsForRows bytes feed = Stands history_format MakesHistory bytes feed.feed
+abbrev pub StandsForRows : List ℕ → Feed Recorded → Type 0
+StandsForRows bytes feed = Stands history_format MakesHistory bytes feed
 
 -- what it answers, when it was fed these bytes in all
-abbrev pub FedRows : List ℕ → Result (Unit {0}) FileFault → HistoryFeed → Type 0
-FedRows bytes result feed = Fed history_format MakesHistory bytes result feed.feed
+abbrev pub FedRows : List ℕ → Result (Unit {0}) FileFault → Feed Recorded → Type 0
+FedRows bytes result feed = Fed history_format MakesHistory bytes result feed
 
 -- what it answers at the end of these bytes
 abbrev pub EndsRows : List ℕ → Result Recorded FileFault → Type 0
 EndsRows = Ends history_format MakesHistory
 
 -- the same of orders
-abbrev pub StandsForOrders : List ℕ → OrderFeed → Type 0
-StandsForOrders bytes feed = Stands order_format MakesOrders bytes feed.feed
+abbrev pub StandsForOrders : List ℕ → Feed KeyedOrders → Type 0
+StandsForOrders bytes feed = Stands order_format MakesOrders bytes feed
 
-abbrev pub FedOrders : List ℕ → Result (Unit {0}) FileFault → OrderFeed → Type 0
-FedOrders bytes result feed = Fed order_format MakesOrders bytes result feed.feed
+abbrev pub FedOrders : List ℕ → Result (Unit {0}) FileFault → Feed KeyedOrders → Type 0
+FedOrders bytes result feed = Fed order_format MakesOrders bytes result feed

@@ -1,5 +1,5 @@
 -- What a feed stands for, and what it answers.
-use Rattle.std.specs.Prelude.{ℕ, ◌≡◌, ◌≤◌, ◌<◌, List, [], ◌∷◌, ◌++◌, length, Result, Ok, Err, None, nat_lt, if◌then◌else◌, MatchResult}
+use Rattle.std.specs.Prelude.{ℕ, ◌≡◌, ◌≤◌, List, [], ◌∷◌, ◌++◌, length, Result, Ok, Err, None, nat_lt, if◌then◌else◌, MatchResult}
 use Rattle.file_format.specs.declared.fault.LineFault.{LineFault}
 use Rattle.file_format.specs.declared.fault.FileFault.{FileFault}
 use Rattle.file_format.specs.declared.fault.FaultKind.{FaultKind}
@@ -9,7 +9,7 @@ use Rattle.history_file.specs.declared.feed.Feed.{Feed}
 use Rattle.counted_devices.specs.Cuts.{Splits}
 use Rattle.file_format.specs.Formats.{Format}
 use Rattle.file_format.specs.Readings.{Reads, FirstFaultInAll}
-use Rattle.file_format.specs.Files.{AreLinesOf, IsFirstFault}
+use Rattle.file_format.specs.Files.{IsFirstFault}
 use Rattle.history_file.specs.Takings.{IsAt}
 
 -- the feed stands for what all lines of the bytes make that are whole so far

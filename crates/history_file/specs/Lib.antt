@@ -1,3 +1,4 @@
+pub mod KeyedOrders
 pub mod Takings
 pub mod Making
 pub mod Feeds

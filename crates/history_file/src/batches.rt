@@ -3,8 +3,7 @@ ghost use Rattle.std.specs.Prelude.{◌≡◌, ◌≤◌, ◌<◌, ◌+◌, leng
 ghost use Rattle.std.specs.Io.KnownBytes.{Consumes};
 ghost use Rattle.history_file.specs.Batches.{IsBehind};
 
-use counted_devices::Counting;
-use std::io::Read;
+use counted_devices::CountedRead;
 
 /// The most bytes that a reader is asked for at once.
 pub const PIECE: usize = 1_048_576;
@@ -26,17 +25,17 @@ pub struct Batch {
 
 /// Reads pieces into the room, one behind the other, until it is full or a piece came short. A
 /// reader that gives its bytes slowly isn't waited for.
-pub(crate) fn read_batch<R: Read>(reader: &mut Counting<R>, room: &mut [u8]) -> Batch
+pub(crate) fn read_batch<R: CountedRead>(reader: &mut R, room: &mut [u8]) -> Batch
     requires { 0 < length room.old }
     ensures bound { result.count ≤ length room.new }
-    ensures bytes { Consumes (R.remaining reader.old.inner) (R.remaining reader.new.inner) (take result.count room.new) }
-    ensures given { reader.new.given ≡ reader.old.given + result.count }
-    ensures behind { IsBehind result.count result.behind (R.remaining reader.new.inner) reader.old.failures reader.new.failures }
+    ensures bytes { Consumes (R.remaining reader.old) (R.remaining reader.new) (take result.count room.new) }
+    ensures given { R.given reader.new ≡ R.given reader.old + result.count }
+    ensures behind { IsBehind result.count result.behind (R.remaining reader.new) (R.failures reader.old) (R.failures reader.new) }
 {
     let mut count = 0;
     'pieces: while count < room.len() {
         let end = room.len().min(count.saturating_add(PIECE));
-        match reader.read(&mut room[count..end]) {
+        match reader.read_counted(&mut room[count..end]) {
             Ok(0) => {
                 return Batch {
                     count,

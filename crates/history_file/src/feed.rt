@@ -1,5 +1,5 @@
 //! A file that comes in pieces.
-ghost use Rattle.std.specs.Prelude.{ℕ, ◌≡◌, ◌≤◌, ◌+◌, ◌^◌, ◌++◌, List, [], Some, None, length, IfOk, IfErr};
+ghost use Rattle.std.specs.Prelude.{ℕ, ◌≡◌, ◌≤◌, ◌+◌, ◌^◌, ◌++◌, List, [], Some, None, length, IfOk, IfErr, MatchResult};
 
 use crate::format::Contents;
 use crate::pieces::take_piece;
@@ -48,7 +48,7 @@ impl<C: Contents> Feed<C> {
     pub(crate) fn feed(&mut self, rt: &(impl Threads + Sync), piece: &[u8]) -> Result<(), FileFault>
         requires { self.old.fed + length piece.now ≤ 2 ^ 62 }
         ensures fed { (bytes : List ℕ) → Stands C.format C.Makes bytes self.old → Fed C.format C.Makes (bytes ++ piece.now) result self.new }
-        ensures count { IfOk result (λ _. self.new.fed ≡ self.old.fed + length piece.now) }
+        ensures count { MatchResult result (λ _. self.new.fed ≡ self.old.fed + length piece.now) (λ _. self.new.fed ≡ self.old.fed) }
         ensures sound { IfOk result (λ _. self.new.fault ≡ None) }
         ensures kept { IfErr result (λ fault. self.new.fault ≡ Some fault) }
         ensures stays { (fault : _) → self.old.fault ≡ Some fault → (result ≡ Err fault) × (self.new ≡ self.old) }

@@ -1,17 +1,27 @@
 //! A history file that comes in pieces.
-ghost use Rattle.std.specs.Prelude.{ℕ, ◌≡◌, ◌≤◌, ◌+◌, ◌^◌, ◌++◌, List, [], None, Some, length, IfOk, IfErr};
+ghost use Rattle.std.specs.Prelude.{ℕ, ◌≡◌, ◌≤◌, ◌+◌, ◌^◌, ◌++◌, List, [], None, Some, length, IfOk, IfErr, MatchResult};
 ghost use Rattle.history_file.specs.Fed.{StandsForRows, FedRows, EndsRows};
 
 use crate::feed::Feed;
 use file_format::FileFault;
 use recorder::History;
 use std::alloc::Global;
+use std::marker::Model;
 use std::thread::Threads;
 
 /// A history file that comes in pieces of any size: the history of its lines so far.
 #[derive(Drop)]
 pub struct HistoryFeed {
     feed: Feed<History>,
+}
+
+impl Model for HistoryFeed {
+    ghost use Rattle.history_file.specs.declared.feed.Feed.{Feed};
+    ghost use Rattle.recorder.specs.Histories.{Recorded};
+
+    ghost Value = { Feed Recorded };
+
+    ghost view = { λ whole. whole.feed };
 }
 
 impl HistoryFeed {
@@ -26,7 +36,7 @@ impl HistoryFeed {
 
     /// How many bytes the pieces had that were taken.
     pub fn fed(&self) -> u64
-        ensures fed { result ≡ self.now.feed.fed }
+        ensures fed { result ≡ self.now.fed }
         ensures most { result ≤ 2 ^ 62 }
     {
         self.feed.fed
@@ -34,7 +44,7 @@ impl HistoryFeed {
 
     /// The number of the line that is under way.
     pub fn line(&self) -> u64
-        ensures { self.now.feed.fault ≡ None → result ≡ self.now.feed.progress.lines + 1 }
+        ensures { self.now.fault ≡ None → result ≡ self.now.progress.lines + 1 }
     {
         self.feed.line()
     }
@@ -42,11 +52,11 @@ impl HistoryFeed {
     /// Takes the next piece, however the file was cut. The first fault of the bytes so far is
     /// answered, and then by each later call; `Memory` comes only where a growth was refused.
     pub fn feed(&mut self, rt: &(impl Threads + Sync), piece: &[u8]) -> Result<(), FileFault>
-        requires { self.old.feed.fed + length piece.now ≤ 2 ^ 62 }
+        requires { self.old.fed + length piece.now ≤ 2 ^ 62 }
         ensures fed { (bytes : List ℕ) → StandsForRows bytes self.old → FedRows (bytes ++ piece.now) result self.new }
-        ensures count { IfOk result (λ _. self.new.feed.fed ≡ self.old.feed.fed + length piece.now) }
-        ensures kept { IfErr result (λ fault. self.new.feed.fault ≡ Some fault) }
-        ensures stays { (fault : _) → self.old.feed.fault ≡ Some fault → (result ≡ Err fault) × (self.new ≡ self.old) }
+        ensures count { MatchResult result (λ _. self.new.fed ≡ self.old.fed + length piece.now) (λ _. self.new.fed ≡ self.old.fed) }
+        ensures kept { IfErr result (λ fault. self.new.fault ≡ Some fault) }
+        ensures stays { (fault : _) → self.old.fault ≡ Some fault → (result ≡ Err fault) × (self.new ≡ self.old) }
     {
         self.feed.feed(rt, piece)
     }
@@ -55,7 +65,7 @@ impl HistoryFeed {
     /// earlier call answered.
     pub fn finish(self, rt: &(impl Threads + Sync)) -> Result<History, FileFault>
         ensures ends { (bytes : List ℕ) → StandsForRows bytes self → EndsRows bytes result }
-        ensures kept { (fault : _) → self.feed.fault ≡ Some fault → result ≡ Err fault }
+        ensures kept { (fault : _) → self.fault ≡ Some fault → result ≡ Err fault }
     {
         self.feed.finish(rt)
     }

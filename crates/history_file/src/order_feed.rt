@@ -11,12 +11,22 @@ use crate::order_format::Orders;
 use file_format::{FaultKind, FileFault, listed};
 use recorder::KeyOrder;
 use std::alloc::Global;
+use std::marker::Model;
 use std::thread::Threads;
 
 /// An order file that comes in pieces of any size: the orders of its lines so far.
 #[derive(Drop)]
 pub struct OrderFeed {
     feed: Feed<Orders>,
+}
+
+impl Model for OrderFeed {
+    ghost use Rattle.history_file.specs.declared.feed.Feed.{Feed};
+    ghost use Rattle.history_file.specs.KeyedOrders.{KeyedOrders};
+
+    ghost Value = { Feed KeyedOrders };
+
+    ghost view = { λ whole. whole.feed };
 }
 
 impl OrderFeed {
@@ -31,7 +41,7 @@ impl OrderFeed {
 
     /// How many bytes the pieces had that were taken.
     pub fn fed(&self) -> u64
-        ensures fed { result ≡ self.now.feed.fed }
+        ensures fed { result ≡ self.now.fed }
         ensures most { result ≤ 2 ^ 62 }
     {
         self.feed.fed
@@ -39,7 +49,7 @@ impl OrderFeed {
 
     /// The number of the line that is under way.
     pub fn line(&self) -> u64
-        ensures { self.now.feed.fault ≡ None → result ≡ self.now.feed.progress.lines + 1 }
+        ensures { self.now.fault ≡ None → result ≡ self.now.progress.lines + 1 }
     {
         self.feed.line()
     }
@@ -47,11 +57,11 @@ impl OrderFeed {
     /// Takes the next piece, however the file was cut. The first fault of the bytes so far is
     /// answered, and then by each later call; `Memory` comes only where a growth was refused.
     pub fn feed(&mut self, rt: &(impl Threads + Sync), piece: &[u8]) -> Result<(), FileFault>
-        requires { self.old.feed.fed + length piece.now ≤ 2 ^ 62 }
+        requires { self.old.fed + length piece.now ≤ 2 ^ 62 }
         ensures fed { (bytes : List ℕ) → StandsForOrders bytes self.old → FedOrders (bytes ++ piece.now) result self.new }
-        ensures count { IfOk result (λ _. self.new.feed.fed ≡ self.old.feed.fed + length piece.now) }
-        ensures kept { IfErr result (λ fault. self.new.feed.fault ≡ Some fault) }
-        ensures stays { (fault : _) → self.old.feed.fault ≡ Some fault → (result ≡ Err fault) × (self.new ≡ self.old) }
+        ensures count { MatchResult result (λ _. self.new.fed ≡ self.old.fed + length piece.now) (λ _. self.new.fed ≡ self.old.fed) }
+        ensures kept { IfErr result (λ fault. self.new.fault ≡ Some fault) }
+        ensures stays { (fault : _) → self.old.fault ≡ Some fault → (result ≡ Err fault) × (self.new ≡ self.old) }
     {
         self.feed.feed(rt, piece)
     }
@@ -60,7 +70,7 @@ impl OrderFeed {
     /// earlier call answered.
     pub fn finish(self, rt: &(impl Threads + Sync)) -> Result<Vec<KeyOrder>, FileFault>
         ensures ends { (bytes : List ℕ) → StandsForOrders bytes self → MatchResult result (λ orders. Reads order_format AreJoined bytes orders.items) (λ fault. FaultInAll order_format bytes fault.line fault.kind) }
-        ensures kept { (fault : _) → self.feed.fault ≡ Some fault → result ≡ Err fault }
+        ensures kept { (fault : _) → self.fault ≡ Some fault → result ≡ Err fault }
     {
         finish_orders(rt, self.feed)
     }
@@ -76,8 +86,8 @@ pub(crate) fn finish_orders(
 {
     let alloc = *feed.rest.allocator();
     let line = feed.line();
-    let Orders { orders, .. } = feed.finish(rt)?;
-    match listed(alloc, orders) {
+    let orders = feed.finish(rt)?;
+    match listed(alloc, orders.into_map()) {
         Ok(orders) => Ok(orders),
         Err(_) => Err(FileFault {
             line,

@@ -12,6 +12,7 @@ use json::Scratch;
 use rayon::prelude::*;
 use recorder::{KeyOrder, Order};
 use std::alloc::Global;
+use std::marker::Model;
 use std::thread::Threads;
 use tag::{Key, Memory};
 
@@ -20,7 +21,26 @@ use tag::{Key, Memory};
 pub struct Orders {
     pub orders: IndexMap<Key, Order>,
     pub calls: usize,
-    ghost few: { calls ≤ 1000000 },
+}
+
+impl Model for Orders {
+    ghost use Rattle.std.specs.Prelude.{◌≤◌};
+    ghost use Rattle.history_file.specs.KeyedOrders.{KeyedOrders};
+
+    ghost Value = { KeyedOrders };
+
+    ghost view = { λ all. record { entries = all.orders.entries; calls = all.calls } };
+
+    ghost invariant = { λ all. all.calls ≤ 1000000 };
+}
+
+impl Orders {
+    /// The orders by key.
+    pub(crate) fn into_map(self) -> IndexMap<Key, Order>
+        ensures { result.entries ≡ self.entries }
+    {
+        self.orders
+    }
 }
 
 impl Contents for Orders {

@@ -12,11 +12,10 @@ use crate::feed::Feed;
 use crate::format::Contents;
 use crate::order_feed::finish_orders;
 use crate::order_format::Orders;
-use counted_devices::Counting;
+use counted_devices::CountedRead;
 use file_format::{FaultKind, FileFault};
 use recorder::{History, KeyOrder};
 use std::alloc::{AllocError, Global};
-use std::io::Read;
 use std::thread::Threads;
 
 /// The most pieces of a batch.
@@ -30,19 +29,19 @@ fn room_for(alloc: Global, size: usize) -> Result<Vec<u8>, AllocError>
 }
 
 /// Judges the next bytes of the reader, and says whether there were some.
-fn read_next<C: Contents, R: Read, T: Threads + Sync>(
+fn read_next<C: Contents, R: CountedRead, T: Threads + Sync>(
     rt: &T,
     ahead: Ahead<C, C::Item>,
-    reader: &mut Counting<R>,
+    reader: &mut R,
     room: &mut [u8],
 ) -> Result<(Ahead<C, C::Item>, bool), FileFault>
     requires some { 0 < length room.old }
-    requires fed { ahead.fed ≤ reader.old.given }
-    ensures goes { (start : Option (List ℕ)) → HoldsAhead C.format C.Makes start (R.remaining reader.old.inner) ahead → MatchResult result (λ next. HoldsAhead C.format C.Makes start (R.remaining reader.new.inner) next.0) (λ fault. Delivers start (R.remaining reader.new.inner) (StopsAt C.format (R.remaining reader.new.inner) fault) × HasFailed fault.kind reader.old.failures reader.new.failures) }
-    ensures fed { IfOk result (λ next. next.0.fed ≤ reader.new.given) }
-    ensures end { IfOk result (λ next. next.1 ≡ false → IsAtEnd (R.remaining reader.new.inner)) }
-    ensures more { IfOk result (λ next. next.1 ≡ true → reader.old.given < reader.new.given) }
-    ensures counted { IfOk result (λ _. reader.new.failures ≡ reader.old.failures) }
+    requires fed { ahead.fed ≤ R.given reader.old }
+    ensures goes { (start : Option (List ℕ)) → HoldsAhead C.format C.Makes start (R.remaining reader.old) ahead → MatchResult result (λ next. HoldsAhead C.format C.Makes start (R.remaining reader.new) next.0) (λ fault. Delivers start (R.remaining reader.new) (StopsAt C.format (R.remaining reader.new) fault) × HasFailed fault.kind (R.failures reader.old) (R.failures reader.new)) }
+    ensures fed { IfOk result (λ next. next.0.fed ≤ R.given reader.new) }
+    ensures end { IfOk result (λ next. next.1 ≡ false → IsAtEnd (R.remaining reader.new)) }
+    ensures more { IfOk result (λ next. next.1 ≡ true → R.given reader.old < R.given reader.new) }
+    ensures counted { IfOk result (λ _. R.failures reader.new ≡ R.failures reader.old) }
 {
     let batch = read_batch(reader, room);
     let next = ahead.advance(rt, &room[..batch.count])?;
@@ -60,15 +59,15 @@ fn read_next<C: Contents, R: Read, T: Threads + Sync>(
 }
 
 /// Feeds the bytes of the reader, to its end, in batches of that room.
-fn feed_in_pieces<C: Contents, R: Read, T: Threads + Sync>(
+fn feed_in_pieces<C: Contents, R: CountedRead, T: Threads + Sync>(
     rt: &T,
     alloc: Global,
-    reader: &mut Counting<R>,
+    reader: &mut R,
     room: &mut [u8],
 ) -> Result<Feed<C>, FileFault>
     requires { 0 < length room.old }
-    ensures holds { IfOk result (λ feed. Holds C.format C.Makes (R.remaining reader.old.inner) (R.remaining reader.new.inner) feed × IsAtEnd (R.remaining reader.new.inner)) }
-    ensures fault { IfErr result (λ fault. Delivers (R.remaining reader.old.inner) (R.remaining reader.new.inner) (StopsAt C.format (R.remaining reader.new.inner) fault) × HasFailed fault.kind reader.old.failures reader.new.failures) }
+    ensures holds { IfOk result (λ feed. Holds C.format C.Makes (R.remaining reader.old) (R.remaining reader.new) feed × IsAtEnd (R.remaining reader.new)) }
+    ensures fault { IfErr result (λ fault. Delivers (R.remaining reader.old) (R.remaining reader.new) (StopsAt C.format (R.remaining reader.new) fault) × HasFailed fault.kind (R.failures reader.old) (R.failures reader.new)) }
 {
     let mut ahead = Ahead::<C, C::Item>::new(alloc);
     'pieces: loop {
@@ -81,14 +80,14 @@ fn feed_in_pieces<C: Contents, R: Read, T: Threads + Sync>(
 }
 
 /// Feeds the bytes of the reader, to its end.
-fn feed_all<C: Contents, R: Read>(
+fn feed_all<C: Contents, R: CountedRead>(
     rt: &(impl Threads + Sync),
     alloc: Global,
-    reader: &mut Counting<R>,
+    reader: &mut R,
 ) -> Result<Feed<C>, FileFault>
-    ensures holds { IfOk result (λ feed. Holds C.format C.Makes (R.remaining reader.old.inner) (R.remaining reader.new.inner) feed × IsAtEnd (R.remaining reader.new.inner)) }
-    ensures fault { IfErr result (λ fault. Delivers (R.remaining reader.old.inner) (R.remaining reader.new.inner) (StopsAt C.format (R.remaining reader.new.inner) fault)) }
-    ensures device { IfErr result (λ fault. HasFailed fault.kind reader.old.failures reader.new.failures) }
+    ensures holds { IfOk result (λ feed. Holds C.format C.Makes (R.remaining reader.old) (R.remaining reader.new) feed × IsAtEnd (R.remaining reader.new)) }
+    ensures fault { IfErr result (λ fault. Delivers (R.remaining reader.old) (R.remaining reader.new) (StopsAt C.format (R.remaining reader.new) fault)) }
+    ensures device { IfErr result (λ fault. HasFailed fault.kind (R.failures reader.old) (R.failures reader.new)) }
 {
     let pieces = rayon::current_num_threads(rt).clamp(1, PIECES);
     let Ok(mut room) = room_for(alloc, pieces * PIECE) else {
@@ -105,14 +104,14 @@ fn feed_all<C: Contents, R: Read>(
 /// A file with a fault is refused with its first one: of lines that came whole the first that has
 /// a fault, then `Device` at the line under way where the reader failed. `Memory` comes only where
 /// a growth was refused. The reader keeps what follows the bytes that were read.
-pub fn read_history<R: Read>(
+pub fn read_history<R: CountedRead>(
     rt: &(impl Threads + Sync),
     alloc: Global,
-    reader: &mut Counting<R>,
+    reader: &mut R,
 ) -> Result<History, FileFault>
-    ensures read { IfOk result (λ history. Delivers (R.remaining reader.old.inner) (R.remaining reader.new.inner) (ReadsAll history_format MakesHistory (R.remaining reader.new.inner) history)) }
-    ensures fault { IfErr result (λ fault. Delivers (R.remaining reader.old.inner) (R.remaining reader.new.inner) (StopsAt history_format (R.remaining reader.new.inner) fault)) }
-    ensures device { IfErr result (λ fault. HasFailed fault.kind reader.old.failures reader.new.failures) }
+    ensures read { IfOk result (λ history. Delivers (R.remaining reader.old) (R.remaining reader.new) (ReadsAll history_format MakesHistory (R.remaining reader.new) history)) }
+    ensures fault { IfErr result (λ fault. Delivers (R.remaining reader.old) (R.remaining reader.new) (StopsAt history_format (R.remaining reader.new) fault)) }
+    ensures device { IfErr result (λ fault. HasFailed fault.kind (R.failures reader.old) (R.failures reader.new)) }
 {
     let feed = feed_all::<History, R>(rt, alloc, reader)?;
     feed.finish(rt)
@@ -122,14 +121,14 @@ pub fn read_history<R: Read>(
 /// their first lines, each with its pieces joined.
 ///
 /// A file with a fault is refused as by `read_history`.
-pub fn read_orders<R: Read>(
+pub fn read_orders<R: CountedRead>(
     rt: &(impl Threads + Sync),
     alloc: Global,
-    reader: &mut Counting<R>,
+    reader: &mut R,
 ) -> Result<Vec<KeyOrder>, FileFault>
-    ensures read { IfOk result (λ orders. Delivers (R.remaining reader.old.inner) (R.remaining reader.new.inner) (ReadsAll order_format AreJoined (R.remaining reader.new.inner) orders.items)) }
-    ensures fault { IfErr result (λ fault. Delivers (R.remaining reader.old.inner) (R.remaining reader.new.inner) (StopsAt order_format (R.remaining reader.new.inner) fault)) }
-    ensures device { IfErr result (λ fault. HasFailed fault.kind reader.old.failures reader.new.failures) }
+    ensures read { IfOk result (λ orders. Delivers (R.remaining reader.old) (R.remaining reader.new) (ReadsAll order_format AreJoined (R.remaining reader.new) orders.items)) }
+    ensures fault { IfErr result (λ fault. Delivers (R.remaining reader.old) (R.remaining reader.new) (StopsAt order_format (R.remaining reader.new) fault)) }
+    ensures device { IfErr result (λ fault. HasFailed fault.kind (R.failures reader.old) (R.failures reader.new)) }
 {
     let feed = feed_all::<Orders, R>(rt, alloc, reader)?;
     finish_orders(rt, feed)

@@ -6,6 +6,7 @@ use itoa::Buffer;
 use rand_core::utils::NextWord;
 use rand_pcg::Lcg64Xsh32;
 use std::alloc::Global;
+use std::marker::Model;
 use tag::{Action, ClientId, Key, Memory, NameError, ReplicaId, Value};
 use world_steps::{Step, World};
 
@@ -13,6 +14,14 @@ use world_steps::{Step, World};
 #[derive(Drop)]
 pub struct RandomSteps {
     generator: Lcg64Xsh32,
+}
+
+impl Model for RandomSteps {
+    ghost use Rattle.rand_pcg.specs.Lcg.{Lcg};
+
+    ghost Value = { Lcg };
+
+    ghost view = { λ steps. steps.generator };
 }
 
 /// What kind of step comes.
@@ -122,7 +131,7 @@ fn action_of(alloc: Global, word: u32) -> Result<Action, Memory>
 impl RandomSteps {
     /// The steps of a seed.
     pub fn new(seed: u64) -> RandomSteps
-        ensures { result.generator ≡ generator_of seed }
+        ensures { result ≡ generator_of seed }
     {
         RandomSteps {
             generator: Lcg64Xsh32::new(seed, 54),
@@ -132,8 +141,8 @@ impl RandomSteps {
     /// The next step for the world as it stands. The three words are drawn whatever comes of it;
     /// `Memory` comes only where room for a text was refused.
     pub fn next(&mut self, alloc: Global, world: &World) -> Result<Step, Memory>
-        ensures step { IfOk result (λ step. step ≡ step_of world.now (draw self.old.generator)) }
-        ensures drawn { self.new.generator ≡ (draw self.old.generator).rest }
+        ensures step { IfOk result (λ step. step ≡ step_of world.now (draw self.old)) }
+        ensures drawn { self.new ≡ (draw self.old).rest }
     {
         let first: u32 = self.generator.next_word();
         let second: u32 = self.generator.next_word();

@@ -1,6 +1,11 @@
-use Rattle.std.proofs.Common.{ℕ, ◌≡◌, ◌<◌, List, length, drop, get_or, arith, sym, ◌∙◌, subst}
+use Rattle.std.proofs.Common.{ℕ, ◌≡◌, ◌<◌, ◌+◌, ◌-◌, List, length, take, drop, get_or, arith, sym, ◌∙◌, subst}
 use Rattle.std.proofs.lemmas.List.{take_rest, get_or-drop, length-drop}
+use Rattle.counted_devices.specs.Cuts.{HasNoEnd}
 use Rattle.counted_devices.proofs.lines.end_from.Goals as goal
+
+-- what is added to a number is left when the number is taken away
+plus_minus : (from end : ℕ) → end ≡ from + end - from
+plus_minus from end = omega (arith)
 
 pub returns : goal.returns
 returns c =
@@ -13,4 +18,9 @@ returns c =
     let found = c.in_ok-end.ensures in
     let inside : end < length (drop from bytes) = subst L same found.0 in
     let ten : get_or (drop from bytes) end 0 ≡ 10 = subst T same found.2 in
-    (omega (arith, inside, length-drop from bytes), sym (get_or-drop from bytes end 0) ∙ ten)
+    record {
+      behind = omega (arith);
+      inside = omega (arith, inside, length-drop from bytes);
+      none = subst (λ n. HasNoEnd (take n (drop from bytes))) (plus_minus from end) (subst (λ xs. HasNoEnd (take end xs)) same found.1);
+      stands = sym (get_or-drop from bytes end 0) ∙ ten;
+    }

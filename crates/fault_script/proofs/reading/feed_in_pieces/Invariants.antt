@@ -4,10 +4,10 @@ use Rattle.fault_script.proofs.reading.feed_in_pieces.Given as goal
 
 abbrev pub invariant-pieces : goal.invariant-pieces
 invariant-pieces g l = record {
-  holds : Holds (g.R.Read.remaining l.fn.reader.inner) (g.R.Read.remaining l.reader.inner) l.feed;
-  same : l.reader.failures ≡ l.fn.reader.failures;
-  fed : l.feed.progress.lines + length l.feed.rest.items ≤ l.reader.given;
+  holds : Holds (g.R.Read.remaining l.fn.reader) (g.R.Read.remaining l.reader) l.feed;
+  same : (g.R.Counted.failures l.reader) ≡ (g.R.Counted.failures l.fn.reader);
+  fed : l.feed.progress.lines + length l.feed.rest.items ≤ (g.R.Counted.given l.reader);
 }
 
 abbrev pub decreases-pieces : goal.decreases-pieces
-decreases-pieces g l = 2 ^ 62 - l.reader.given
+decreases-pieces g l = 2 ^ 62 - (g.R.Counted.given l.reader)

@@ -7,6 +7,6 @@ use Rattle.fault_script.proofs.script_run.walk.Given as goal
 -- so many steps of the walk were made
 abbrev pub invariant-loop-turn : goal.invariant-loop-turn
 invariant-loop-turn l = record {
-  at : IsAt (walked (record { system = l.fn.world; generator = generator_of l.seed; taken = 0 }) l._turn) l.world l.steps.generator l.taken;
+  at : IsAt (walked (record { system = l.fn.world; generator = generator_of l.seed; taken = 0 }) l._turn) l.world l.steps l.taken;
   few : l.taken ≤ l._turn;
 }

@@ -7,8 +7,8 @@ use Rattle.fault_script.proofs.simulating.simulate.Goals as goal
 
 pub returns-clause-written : goal.returns-clause-written
 returns-clause-written g c =
-    let old = g.R.Read.remaining c.args.reader.now.inner in
-    let new = g.R.Read.remaining c.parse.new.reader.inner in
+    let old = g.R.Read.remaining c.args.reader.now in
+    let new = g.R.Read.remaining c.parse.new.reader in
     let script = c.in_ok-script.script in
     let texts = c.in_ok-texts.texts in
     let read : Delivers old new (ReadsAll new script) = parsed c.parse.result c.map_err.result script (λ (s : Script). Delivers old new (ReadsAll new s)) _ c.map_err.ensures.cases c.map_err.ensures.variant c.in_ok-script.was c.parse.ensures.read in
@@ -16,8 +16,8 @@ returns-clause-written g c =
 
 pub returns-clause-begun : goal.returns-clause-begun
 returns-clause-begun g c = λ is_device.
-    let old = g.R.Read.remaining c.args.reader.now.inner in
-    let new = g.R.Read.remaining c.parse.new.reader.inner in
+    let old = g.R.Read.remaining c.args.reader.now in
+    let new = g.R.Read.remaining c.parse.new.reader in
     let script = c.in_ok-script.script in
     let texts = c.in_ok-texts.texts in
     let read : Delivers old new (ReadsAll new script) = parsed c.parse.result c.map_err.result script (λ (s : Script). Delivers old new (ReadsAll new s)) _ c.map_err.ensures.cases c.map_err.ensures.variant c.in_ok-script.was c.parse.ensures.read in

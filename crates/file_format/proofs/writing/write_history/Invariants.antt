@@ -8,7 +8,7 @@ use Rattle.file_format.proofs.writing.write_history.Given as goal
 
 abbrev pub invariant-loop-row : goal.invariant-loop-row
 invariant-loop-row g l = record {
-  left : Leaves (g.W.Write.contents l.fn.writer.inner) (g.W.Write.contents l.writer.inner) (history_text l.history.rows) (l.batch.items ++ flat_map row_text (drop l.row-index l.row-items));
+  left : Leaves (g.W.Write.contents l.fn.writer) (g.W.Write.contents l.writer) (history_text l.history.rows) (l.batch.items ++ flat_map row_text (drop l.row-index l.row-items));
   range : AllBefore IsInRange l.row-items l.row-index;
-  same : l.writer.failures ≡ l.fn.writer.failures;
+  same : (g.W.Counted.failures l.writer) ≡ (g.W.Counted.failures l.fn.writer);
 }

@@ -15,14 +15,14 @@ returns-in_err-write_piece-clause-begun g c =
     let at = c.loop-rest in
     let contents = g.W.Write.contents in
     on_err c.from_residual.result
-    (Begins-piece (contents c.args.writer.now.inner) (contents at.writer.inner) (contents c.write_piece.new.writer.inner) (c.args.batch.now.items ++ order_text c.args.order.now) at.batch.items c.args.order.now.key at.rest.now c.loop-rest-test.true at.invariant.left c.in_err-write_piece.ensures.begun)
+    (Begins-piece (contents c.args.writer.now) (contents at.writer) (contents c.write_piece.new.writer) (c.args.batch.now.items ++ order_text c.args.order.now) at.batch.items c.args.order.now.key at.rest.now c.loop-rest-test.true at.invariant.left c.in_err-write_piece.ensures.begun)
 
 pub loop-rest-preserved : goal.loop-rest-preserved
 loop-rest-preserved g c =
     let at = c.loop-rest in
     let contents = g.W.Write.contents in
     record {
-      left = rw (take_rest at.rest.now 1000) (Leaves-piece (contents c.args.writer.now.inner) (contents at.writer.inner) (contents c.write_piece.new.writer.inner) (c.args.batch.now.items ++ order_text c.args.order.now) at.batch.items c.args.order.now.key at.rest.now c.write_piece.new.batch.items c.loop-rest-test.true at.invariant.left c.in_ok-write_piece.ensures.sent);
+      left = rw (take_rest at.rest.now 1000) (Leaves-piece (contents c.args.writer.now) (contents at.writer) (contents c.write_piece.new.writer) (c.args.batch.now.items ++ order_text c.args.order.now) at.batch.items c.args.order.now.key at.rest.now c.write_piece.new.batch.items c.loop-rest-test.true at.invariant.left c.in_ok-write_piece.ensures.sent);
       range = rw (take_rest at.rest.now 1000) (λ behind. at.invariant.range (ops_both 1000 at.rest.now c.in_ok-write_piece.ensures.range.calls behind));
       same = c.in_ok-write_piece.ensures.counted ∙ at.invariant.same;
     }
@@ -32,11 +32,11 @@ returns-clause-sent g c =
     let at = c.loop-rest in
     let contents = g.W.Write.contents in
     on_ok_weaker c.write_piece-2.result
-    (Leaves-last (contents c.args.writer.now.inner) (contents at.writer.inner) (contents c.write_piece-2.new.writer.inner) (c.args.batch.now.items ++ order_text c.args.order.now) at.batch.items c.args.order.now.key at.rest.now c.write_piece-2.new.batch.items (omega arith) at.invariant.left) c.write_piece-2.ensures.sent
+    (Leaves-last (contents c.args.writer.now) (contents at.writer) (contents c.write_piece-2.new.writer) (c.args.batch.now.items ++ order_text c.args.order.now) at.batch.items c.args.order.now.key at.rest.now c.write_piece-2.new.batch.items (omega arith) at.invariant.left) c.write_piece-2.ensures.sent
 
 pub returns-clause-begun : goal.returns-clause-begun
 returns-clause-begun g c =
     let at = c.loop-rest in
     let contents = g.W.Write.contents in
     on_err_weaker c.write_piece-2.result
-    (Begins-last (contents c.args.writer.now.inner) (contents at.writer.inner) (contents c.write_piece-2.new.writer.inner) (c.args.batch.now.items ++ order_text c.args.order.now) at.batch.items c.args.order.now.key at.rest.now (omega arith) at.invariant.left) c.write_piece-2.ensures.begun
+    (Begins-last (contents c.args.writer.now) (contents at.writer) (contents c.write_piece-2.new.writer) (c.args.batch.now.items ++ order_text c.args.order.now) at.batch.items c.args.order.now.key at.rest.now (omega arith) at.invariant.left) c.write_piece-2.ensures.begun

@@ -1,13 +1,13 @@
 use Rattle.std.proofs.Common.{take, ◌-◌, ◌∙◌, refl, arith, subst}
 use Rattle.std.specs.Io.KnownBytes.{Consumes}
-use Rattle.counted_devices.specs.Counts.{HasGrown}
+use Rattle.counted_devices.specs.Counts.{IsOneMore}
 use Rattle.counted_devices.proofs.Consuming.{Consumes-none}
 use Rattle.history_file.proofs.Filling.{fills, fills_nothing, keeps_of_none}
 use Rattle.history_file.proofs.batches.read_batch.Goals as goal
 
 pub pieces-init : goal.pieces-init
 pieces-init g c = record {
-  bytes = Consumes-none (g.R.Read.remaining c.args.reader.now.inner);
+  bytes = Consumes-none (g.R.Read.remaining c.args.reader.now);
   given = omega arith;
   same = refl;
   within = omega arith;
@@ -15,31 +15,31 @@ pieces-init g c = record {
 
 pub returns-in-Ok-eq0-clause-bytes : goal.returns-in-Ok-eq0-clause-bytes
 returns-in-Ok-eq0-clause-bytes g c =
-    let left = g.R.Read.remaining c.read.new.self.inner in
-    fills_nothing (g.R.Read.remaining c.args.reader.now.inner) (g.R.Read.remaining c.pieces.reader.inner) left c.pieces.count (c.min-end.result - c.pieces.count) c.pieces.room c.read.new.piece c.pieces.invariant.within c.pieces.invariant.bytes (keeps_of_none (g.R.Read.remaining c.pieces.reader.inner) left (subst (λ n. Consumes (g.R.Read.remaining c.pieces.reader.inner) left (take n c.read.new.piece)) c.in-Ok-eq0.field-0-test c.in-Ok-eq0.ensures.bytes.0))
+    let left = g.R.Read.remaining c.read_counted.new.self in
+    fills_nothing (g.R.Read.remaining c.args.reader.now) (g.R.Read.remaining c.pieces.reader) left c.pieces.count (c.min-end.result - c.pieces.count) c.pieces.room c.read_counted.new.piece c.pieces.invariant.within c.pieces.invariant.bytes (keeps_of_none (g.R.Read.remaining c.pieces.reader) left (subst (λ n. Consumes (g.R.Read.remaining c.pieces.reader) left (take n c.read_counted.new.piece)) c.in-Ok-eq0.field-0-test c.in-Ok-eq0.ensures.bytes.0))
 
 pub returns-in-Ok-eq0-clause-given : goal.returns-in-Ok-eq0-clause-given
 returns-in-Ok-eq0-clause-given g c = omega (arith, c.in-Ok-eq0.ensures.given, c.in-Ok-eq0.field-0-test, c.pieces.invariant.given)
 
 pub returns-in-Ok-eq0-clause-behind : goal.returns-in-Ok-eq0-clause-behind
-returns-in-Ok-eq0-clause-behind g c = (c.in-Ok-eq0.ensures.bytes.1 c.in-Ok-eq0.field-0-test (omega (arith, c.read.auto.piece, c.pieces-test.true, c.min-end.ensures, c.saturating_add.ensures)), c.in-Ok-eq0.ensures.counted ∙ c.pieces.invariant.same)
+returns-in-Ok-eq0-clause-behind g c = (c.in-Ok-eq0.ensures.bytes.1 c.in-Ok-eq0.field-0-test (omega (arith, c.read_counted.auto.piece, c.pieces-test.true, c.min-end.ensures, c.saturating_add.ensures)), c.in-Ok-eq0.ensures.counted ∙ c.pieces.invariant.same)
 
 pub pieces-preserved : goal.pieces-preserved
 pieces-preserved g c = record {
-  bytes = fills (g.R.Read.remaining c.args.reader.now.inner) (g.R.Read.remaining c.pieces.reader.inner) (g.R.Read.remaining c.read.new.self.inner) c.pieces.count (c.min-end.result - c.pieces.count) c.in-Ok.more c.pieces.room c.read.new.piece c.pieces.invariant.within c.in-Ok.ensures.bound.0 c.pieces.invariant.bytes c.in-Ok.ensures.bytes.0;
+  bytes = fills (g.R.Read.remaining c.args.reader.now) (g.R.Read.remaining c.pieces.reader) (g.R.Read.remaining c.read_counted.new.self) c.pieces.count (c.min-end.result - c.pieces.count) c.in-Ok.more c.pieces.room c.read_counted.new.piece c.pieces.invariant.within c.in-Ok.ensures.bound.0 c.pieces.invariant.bytes c.in-Ok.ensures.bytes.0;
   given = omega (arith, c.in-Ok.ensures.given, c.pieces.invariant.given);
   same = c.in-Ok.ensures.counted ∙ c.pieces.invariant.same;
-  within = omega (arith, c.read.auto.piece, c.pieces-test.true, c.in-Ok.ensures.bound.0, c.pieces.invariant.within, c.min-end.ensures, c.saturating_add.ensures);
+  within = omega (arith, c.read_counted.auto.piece, c.pieces-test.true, c.in-Ok.ensures.bound.0, c.pieces.invariant.within, c.min-end.ensures, c.saturating_add.ensures);
 }
 
 pub returns-in-Err-clause-bytes : goal.returns-in-Err-clause-bytes
-returns-in-Err-clause-bytes g c = fills_nothing (g.R.Read.remaining c.args.reader.now.inner) (g.R.Read.remaining c.pieces.reader.inner) (g.R.Read.remaining c.read.new.self.inner) c.pieces.count (c.min-end.result - c.pieces.count) c.pieces.room c.read.new.piece c.pieces.invariant.within c.pieces.invariant.bytes c.in-Err.ensures.bytes
+returns-in-Err-clause-bytes g c = fills_nothing (g.R.Read.remaining c.args.reader.now) (g.R.Read.remaining c.pieces.reader) (g.R.Read.remaining c.read_counted.new.self) c.pieces.count (c.min-end.result - c.pieces.count) c.pieces.room c.read_counted.new.piece c.pieces.invariant.within c.pieces.invariant.bytes c.in-Err.ensures.bytes
 
 pub returns-in-Err-clause-given : goal.returns-in-Err-clause-given
 returns-in-Err-clause-given g c = c.in-Err.ensures.given ∙ c.pieces.invariant.given
 
 pub returns-in-Err-clause-behind : goal.returns-in-Err-clause-behind
-returns-in-Err-clause-behind g c = subst (λ m. HasGrown m c.read.new.self.failures) c.pieces.invariant.same c.in-Err.ensures.counted
+returns-in-Err-clause-behind g c = subst (λ m. IsOneMore m (g.R.Counted.failures c.read_counted.new.self)) c.pieces.invariant.same c.in-Err.ensures.counted
 
 pub returns-after-pieces-clause-bound : goal.returns-after-pieces-clause-bound
 returns-after-pieces-clause-bound g c = c.pieces.invariant.within
@@ -54,7 +54,7 @@ pub returns-after-pieces-clause-behind : goal.returns-after-pieces-clause-behind
 returns-after-pieces-clause-behind g c = (omega (arith, c.pieces-test.false, c.requires), c.pieces.invariant.same)
 
 pub returns-then-count-end-clause-bytes : goal.returns-then-count-end-clause-bytes
-returns-then-count-end-clause-bytes g c = fills (g.R.Read.remaining c.args.reader.now.inner) (g.R.Read.remaining c.pieces.reader.inner) (g.R.Read.remaining c.read.new.self.inner) c.pieces.count (c.min-end.result - c.pieces.count) c.in-Ok.more c.pieces.room c.read.new.piece c.pieces.invariant.within c.in-Ok.ensures.bound.0 c.pieces.invariant.bytes c.in-Ok.ensures.bytes.0
+returns-then-count-end-clause-bytes g c = fills (g.R.Read.remaining c.args.reader.now) (g.R.Read.remaining c.pieces.reader) (g.R.Read.remaining c.read_counted.new.self) c.pieces.count (c.min-end.result - c.pieces.count) c.in-Ok.more c.pieces.room c.read_counted.new.piece c.pieces.invariant.within c.in-Ok.ensures.bound.0 c.pieces.invariant.bytes c.in-Ok.ensures.bytes.0
 
 pub returns-then-count-end-clause-given : goal.returns-then-count-end-clause-given
 returns-then-count-end-clause-given g c = omega (arith, c.in-Ok.ensures.given, c.pieces.invariant.given)

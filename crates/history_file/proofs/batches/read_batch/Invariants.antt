@@ -4,9 +4,9 @@ use Rattle.history_file.proofs.batches.read_batch.Given as goal
 
 abbrev pub invariant-pieces : goal.invariant-pieces
 invariant-pieces g l = record {
-  bytes : Consumes (g.R.Read.remaining l.fn.reader.inner) (g.R.Read.remaining l.reader.inner) (take l.count l.room);
-  given : l.reader.given ≡ l.fn.reader.given + l.count;
-  same : l.reader.failures ≡ l.fn.reader.failures;
+  bytes : Consumes (g.R.Read.remaining l.fn.reader) (g.R.Read.remaining l.reader) (take l.count l.room);
+  given : (g.R.Counted.given l.reader) ≡ (g.R.Counted.given l.fn.reader) + l.count;
+  same : (g.R.Counted.failures l.reader) ≡ (g.R.Counted.failures l.fn.reader);
   within : l.count ≤ length l.room;
 }
 

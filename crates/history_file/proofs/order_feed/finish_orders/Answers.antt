@@ -1,4 +1,4 @@
-use Rattle.std.proofs.Common.{◌≡◌, List, map, sym, subst}
+use Rattle.std.proofs.Common.{◌≡◌, ◌∙◌, List, map, ap, sym, subst}
 use Rattle.std.proofs.lemmas.Result.{err_from_is_err_and}
 use Rattle.recorder.specs.declared.order.KeyOrder.{KeyOrder}
 use Rattle.file_format.specs.OrderFormat.{AreJoined}
@@ -14,7 +14,7 @@ pub returns-in-Ok-clause-ends : goal.returns-in-Ok-clause-ends
 returns-in-Ok-clause-ends g c = λ bytes s.
     let r = c.in_ok-orders.ensures.ends bytes s in
     let Made : List KeyOrder → Type 0 = λ orders. AreJoined r.items orders in
-    let same : map order_of c.in_ok-orders.field-0.orders.entries ≡ c.in-Ok.orders.items = sym c.in-Ok.ensures in
+    let same : map order_of c.in_ok-orders.orders.entries ≡ c.in-Ok.orders.items = ap (map order_of) (sym c.into_map.ensures) ∙ sym c.in-Ok.ensures in
     record {
       lines = r.lines;
       rest = r.rest;

@@ -5,19 +5,19 @@ use Rattle.history_file.proofs.reading.feed_in_pieces.Goals as goal
 
 pub returns-then-not-more-clause-holds : goal.returns-then-not-more-clause-holds
 returns-then-not-more-clause-holds g c =
-    let start = g.R.Read.remaining c.args.reader.now.inner in
+    let start = g.R.Read.remaining c.args.reader.now in
     let P : List ℕ → Type 0 = λ bytes. StandsAhead g.C.Contents.format g.C.Contents.Makes bytes c.in_ok-next.next in
-    settled_holds g.C.Contents.format g.C.Contents.Makes P start (g.R.Read.remaining c.read_next.new.reader.inner) c.settle.result (c.in_ok-next.ensures.goes start c.pieces.invariant.holds) (c.in_ok-next.ensures.end c.if-not-more.true) c.settle.ensures.settles
+    settled_holds g.C.Contents.format g.C.Contents.Makes P start (g.R.Read.remaining c.read_next.new.reader) c.settle.result (c.in_ok-next.ensures.goes start c.pieces.invariant.holds) (c.in_ok-next.ensures.end c.if-not-more.true) c.settle.ensures.settles
 
 pub returns-then-not-more-clause-fault : goal.returns-then-not-more-clause-fault
 returns-then-not-more-clause-fault g c =
-    let start = g.R.Read.remaining c.args.reader.now.inner in
+    let start = g.R.Read.remaining c.args.reader.now in
     let P : List ℕ → Type 0 = λ bytes. StandsAhead g.C.Contents.format g.C.Contents.Makes bytes c.in_ok-next.next in
-    settled_fault g.C.Contents.format g.C.Contents.Makes P start (g.R.Read.remaining c.read_next.new.reader.inner) c.settle.result c.args.reader.now.failures c.read_next.new.reader.failures (c.in_ok-next.ensures.goes start c.pieces.invariant.holds) c.settle.ensures.settles
+    settled_fault g.C.Contents.format g.C.Contents.Makes P start (g.R.Read.remaining c.read_next.new.reader) c.settle.result (g.R.Counted.failures c.args.reader.now) (g.R.Counted.failures c.read_next.new.reader) (c.in_ok-next.ensures.goes start c.pieces.invariant.holds) c.settle.ensures.settles
 
 pub pieces-preserved : goal.pieces-preserved
 pieces-preserved g c = record {
-  holds = c.in_ok-next.ensures.goes (g.R.Read.remaining c.args.reader.now.inner) c.pieces.invariant.holds;
+  holds = c.in_ok-next.ensures.goes (g.R.Read.remaining c.args.reader.now) c.pieces.invariant.holds;
   same = c.in_ok-next.ensures.counted ∙ c.pieces.invariant.same;
   fed = c.in_ok-next.ensures.fed;
 }

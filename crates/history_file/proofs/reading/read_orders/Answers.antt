@@ -13,12 +13,12 @@ Good bytes orders = Reads order_format AreJoined bytes orders.items
 
 pub returns-clause-read : goal.returns-clause-read
 returns-clause-read g c =
-    finish_read order_format MakesOrders Good (g.R.Read.remaining c.args.reader.now.inner) (g.R.Read.remaining c.feed_all.new.reader.inner) c.in_ok-feed.feed c.finish_orders.result c.in_ok-feed.ensures.holds.0 c.in_ok-feed.ensures.holds.1 c.finish_orders.ensures.ends
+    finish_read order_format MakesOrders Good (g.R.Read.remaining c.args.reader.now) (g.R.Read.remaining c.feed_all.new.reader) c.in_ok-feed.feed c.finish_orders.result c.in_ok-feed.ensures.holds.0 c.in_ok-feed.ensures.holds.1 c.finish_orders.ensures.ends
 
 pub returns-clause-fault : goal.returns-clause-fault
 returns-clause-fault g c =
-    finish_fault order_format MakesOrders Good (g.R.Read.remaining c.args.reader.now.inner) (g.R.Read.remaining c.feed_all.new.reader.inner) c.in_ok-feed.feed c.finish_orders.result c.in_ok-feed.ensures.holds.0 c.in_ok-feed.ensures.holds.1 c.finish_orders.ensures.ends
+    finish_fault order_format MakesOrders Good (g.R.Read.remaining c.args.reader.now) (g.R.Read.remaining c.feed_all.new.reader) c.in_ok-feed.feed c.finish_orders.result c.in_ok-feed.ensures.holds.0 c.in_ok-feed.ensures.holds.1 c.finish_orders.ensures.ends
 
 pub returns-clause-device : goal.returns-clause-device
 returns-clause-device g c =
-    finish_device order_format MakesOrders Good (g.R.Read.remaining c.args.reader.now.inner) (g.R.Read.remaining c.feed_all.new.reader.inner) c.in_ok-feed.feed c.finish_orders.result _ _ c.in_ok-feed.ensures.holds.0 c.finish_orders.ensures.ends
+    finish_device order_format MakesOrders Good (g.R.Read.remaining c.args.reader.now) (g.R.Read.remaining c.feed_all.new.reader) c.in_ok-feed.feed c.finish_orders.result _ _ c.in_ok-feed.ensures.holds.0 c.finish_orders.ensures.ends

@@ -2,16 +2,18 @@ use Rattle.std.proofs.Common.{◌∷◌, [], length, arith, ap}
 use Rattle.std.proofs.lemmas.List.Sums.{sum_by-append}
 use Rattle.recorder.specs.declared.order.KeyOrder.{KeyOrder}
 use Rattle.file_format.proofs.Joining.{joined_more}
+use Rattle.history_file.specs.Making.{MakesOrders}
 use Rattle.history_file.proofs.order_format.OrdersContents.follow.Goals as goal
 
 pub returns : goal.returns
 returns c = λ pieces made fits.
     let piece = c.args.piece in
+    let before : MakesOrders pieces (record { entries = c.self.inside.orders.entries; calls = c.self.inside.calls }) = rw (← c.self.view_is) at made in
     let grown = sum_by-append (λ (p : KeyOrder). length p.order) pieces (piece ∷ []) in
     let count = ap length c.as_slice-count.ensures in (
-      record { few = omega (arith, grown, count, made.counted, c.if-count-self.false) },
+      omega (arith, grown, count, before.counted, c.if-count-self.false),
       record {
-        joined = joined_more pieces piece c.args.self.now.orders.entries c.join.new.orders.entries made.joined c.in_ok-join.ensures;
-        counted = omega (arith, grown, count, made.counted);
+        joined = joined_more pieces piece c.self.inside.orders.entries c.join.new.orders.entries before.joined c.in_ok-join.ensures;
+        counted = omega (arith, grown, count, before.counted);
       },
     )

@@ -1,0 +1,6 @@
+-- What stands behind a count.
+use Rattle.counted_devices.specs.declared.counting.Counting.{Counting}
+
+-- the reader or the writer whose failures are counted
+abbrev pub device : {T : Type 0} → Counting T → T
+device counting = counting.inner

@@ -1,0 +1,53 @@
+//! Devices with the count of their failures.
+ghost use Rattle.std.specs.Prelude.{ℕ, ◌≡◌, ◌≤◌, ◌+◌, ◌^◌, MatchResult};
+ghost use Rattle.std.specs.Io.{ReadsAtMost, WritesAtMost};
+ghost use Rattle.std.specs.Io.KnownBytes.{ReadConsumes, WriteAppends, Keeps};
+ghost use Rattle.counted_devices.specs.Counts.{IsOneMore, CountsTaken};
+
+use std::io::{Read, Result, Write};
+
+/// A device that counts: the errors that it answered, up to 2^64 - 1, and the bytes that it gave.
+pub trait Counted {
+    ghost failures: { Self → ℕ };
+
+    ghost given: { Self → ℕ };
+
+    /// How many errors were answered.
+    fn failures(&self) -> u64
+        ensures { result ≡ failures self.now };
+
+    /// How many bytes were read.
+    fn given(&self) -> u64
+        ensures given { result ≡ given self.now }
+        ensures most { result ≤ 2 ^ 62 };
+
+    ghost most_given: { (device : Self) → given device ≤ 2 ^ 62 };
+}
+
+/// A reader that counts. It gives at most 2^62 bytes, and then only errors.
+pub trait CountedRead: Read + Counted {
+    /// Reads at most as many bytes as the piece has room for. Each error is counted, also that of
+    /// a reader that gave all the bytes that it may.
+    fn read_counted(&mut self, piece: &mut [u8]) -> Result<usize>
+        ensures bound { ReadsAtMost result piece.new }
+        ensures bytes { ReadConsumes (Self.remaining self.old) (Self.remaining self.new) result piece.new }
+        ensures given { MatchResult result (λ n. Self.given self.new ≡ Self.given self.old + n) (λ _. Self.given self.new ≡ Self.given self.old) }
+        ensures counted { MatchResult result (λ _. Self.failures self.new ≡ Self.failures self.old) (λ _. IsOneMore (Self.failures self.old) (Self.failures self.new)) };
+}
+
+/// A writer that counts.
+pub trait CountedWrite: Write + Counted {
+    /// Writes some of the text. Each error is counted, and so is a write that takes nothing of a
+    /// text that isn't empty.
+    fn write_counted(&mut self, text: &[u8]) -> Result<usize>
+        ensures bound { WritesAtMost result text.now }
+        ensures bytes { WriteAppends (Self.contents self.old) (Self.contents self.new) result text.now }
+        ensures given { Self.given self.new ≡ Self.given self.old }
+        ensures counted { MatchResult result (λ n. CountsTaken n text.now (Self.failures self.old) (Self.failures self.new)) (λ _. IsOneMore (Self.failures self.old) (Self.failures self.new)) };
+
+    /// Passes on what was written. An error is counted.
+    fn flush_counted(&mut self) -> Result<()>
+        ensures bytes { Keeps (Self.contents self.old) (Self.contents self.new) }
+        ensures given { Self.given self.new ≡ Self.given self.old }
+        ensures counted { MatchResult result (λ _. Self.failures self.new ≡ Self.failures self.old) (λ _. IsOneMore (Self.failures self.old) (Self.failures self.new)) };
+}
