@@ -1,10 +1,12 @@
--- An ask quorum and a put quorum share a replica.
-use Rattle.std.proofs.Common.{◌≡◌, ℕ, zero, suc, ◌+◌, ◌<◌, ◌≤◌, ◌⊎◌, ◌∙◌, Bool, true, false, cond, List, length, take, refl, sym, ap, inl, inr, arith, sum, slice_index}
+-- An ask quorum and a put quorum share a replica, and so do two majorities.
+use Rattle.std.proofs.Common.{◌≡◌, ℕ, zero, suc, ◌+◌, ◌*◌, ◌<◌, ◌≤◌, ◌⊎◌, ◌∙◌, Bool, true, false, cond, List, length, take, refl, sym, ap, inl, inr, arith, sum, slice_index, replicate}
 use Rattle.std.proofs.Math.Seq.{take-length}
 use Rattle.std.proofs.lemmas.List.Sums.{fold_more}
+use Rattle.std.proofs.lemmas.List.Folds.{sum_by-replicate}
 use Rattle.std.specs.FinSet as finite
-use Rattle.quorum.specs.Sets.{Replicas}
-use Rattle.quorum.specs.Quorums.{Quorums, IsLawful, IsAskQuorum, IsPutQuorum, Share, votes_below}
+use Rattle.quorum.specs.Sets.{Replicas, IsAmong, IsMajority}
+use Rattle.quorum.specs.Quorums.{Quorums, IsLawful, IsAskQuorum, IsPutQuorum, Share, majority_of, votes_below, votes_of}
+use Rattle.quorum.proofs.Votes.{votes_of-ones}
 
 -- the two share a replica below a number
 record ShareBelow (n : ℕ) (some other : Replicas) : Type 0 where
@@ -39,9 +41,22 @@ share_below votes (suc n) s t fits h =
       | inr less ↦ further n s t (share_below votes n s t (omega arith) less)
     ]
 
+-- where votes are more than half of all in each of two sets, the two share a replica
+votes_share : (votes : List ℕ) (some other : Replicas) → sum votes < votes_of votes some + votes_of votes other → ShareBelow (length votes) some other
+votes_share votes some other h =
+    let whole : sum (take (length votes) votes) ≡ sum votes = ap sum (take-length votes) in
+    share_below votes (length votes) some other (omega arith) (omega arith)
+
 pub quorums_share : (quorums : Quorums) (asked put : Replicas) → IsLawful quorums → IsAskQuorum quorums asked → IsPutQuorum quorums put → Share quorums asked put
 quorums_share quorums asked put lawful is_ask is_put =
     let overlap : sum quorums.votes < quorums.ask + quorums.put = lawful.overlap in
-    let whole : sum (take (length quorums.votes) quorums.votes) ≡ sum quorums.votes = ap sum (take-length quorums.votes) in
-    let found = share_below quorums.votes (length quorums.votes) asked put (omega arith) (omega arith) in
+    let found = votes_share quorums.votes asked put (omega (arith, overlap, is_ask, is_put)) in
+    record { replica = found.replica; is_replica = found.below; in_some = found.in_some; in_other = found.in_other }
+
+pub majorities_share : (n : ℕ) (some other : Replicas) → IsAmong n some → IsMajority n some → IsAmong n other → IsMajority n other → Share (majority_of n) some other
+majorities_share n some other among half among_other half_other =
+    let total : sum (replicate n 1) ≡ n * 1 = sum_by-replicate (λ x. x) n 1 in
+    let members : votes_of (replicate n 1) some ≡ finite.len some = votes_of-ones n some among in
+    let others : votes_of (replicate n 1) other ≡ finite.len other = votes_of-ones n other among_other in
+    let found = votes_share (replicate n 1) some other (omega (arith, total, members, others, half, half_other)) in
     record { replica = found.replica; is_replica = found.below; in_some = found.in_some; in_other = found.in_other }

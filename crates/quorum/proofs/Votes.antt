@@ -118,7 +118,7 @@ members_below count zero set fits among = sym (none-in set among)
 members_below count (suc n) set fits among =
     members_step count n set (finite.contains set n) fits among refl (λ rest h. members_below count n rest (omega arith) h)
 
-votes_of-ones : (n : ℕ) (set : Replicas) → IsAmong n set → votes_of (replicate n 1) set ≡ finite.len set
+pub votes_of-ones : (n : ℕ) (set : Replicas) → IsAmong n set → votes_of (replicate n 1) set ≡ finite.len set
 votes_of-ones n set among =
     ap (λ k. votes_below (replicate n 1) k set) (length-replicate n 1) ∙ members_below n n set (omega arith) among
 

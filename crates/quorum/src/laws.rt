@@ -10,6 +10,13 @@ pub fn quorums_share_a_replica()
         → IsLawful quorums → IsAskQuorum quorums asked → IsPutQuorum quorums put → Share quorums asked put }
 {}
 
+/// Two majorities of the same replicas share one of them.
+pub fn majorities_share_a_replica()
+    ensures { (n : ℕ) (some other : Replicas)
+        → IsAmong n some → IsMajority n some → IsAmong n other → IsMajority n other
+        → Share (majority_of n) some other }
+{}
+
 /// Where each of n replicas has one vote, and more than half of them make a quorum, the quorums are
 /// the majorities.
 pub fn majorities_are_quorums()
