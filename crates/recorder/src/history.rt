@@ -129,6 +129,8 @@ impl History {
     pub fn invoke(&mut self, client: ClientId, key: Key, action: Action) -> Result<OpId, RowRefusal>
         ensures row { Adds self.old (Row.Invoke (record { 0 = call_count self.old.rows }) client key action) result self.new }
         ensures number { IfOk result (λ op. op.0 ≡ call_count self.old.rows) }
+        ensures may { OnOk result (MayBegin self.old client) }
+        ensures err { OnErr result (self.new ≡ self.old) }
     {
         if let Some(refusal) = self.invoke_refusal(client) {
             return Err(refusal);
