@@ -7,3 +7,4 @@ pub mod Runs
 pub mod Sound
 pub mod SoundSystems
 pub mod Moves
+pub mod Numbers

@@ -1,4 +1,7 @@
 //! Why a step is refused.
+ghost use Rattle.std.specs.Prelude.{◌≡◌};
+ghost use Rattle.world_steps.specs.Numbers.{refusal_name, refusal_number};
+
 use tag::Memory;
 use thiserror::Error;
 
@@ -34,6 +37,37 @@ pub enum Refusal {
     FlightsFull = 13,
     #[error("no memory")]
     Memory = 15,
+}
+
+impl Refusal {
+    /// Its number, 1 to 15.
+    pub fn number(self) -> u8
+        ensures { result ≡ refusal_number self }
+    {
+        self as u8
+    }
+
+    /// Its name, as it stands here.
+    pub fn name(self) -> &'static str
+        ensures { result.now ≡ refusal_name self }
+    {
+        match self {
+            Refusal::NoSuchReplica => "NoSuchReplica",
+            Refusal::NoSuchClient => "NoSuchClient",
+            Refusal::ClientTaken => "ClientTaken",
+            Refusal::ClientStopped => "ClientStopped",
+            Refusal::ClientBusy => "ClientBusy",
+            Refusal::NothingToSend => "NothingToSend",
+            Refusal::NotInFlight => "NotInFlight",
+            Refusal::NotReady => "NotReady",
+            Refusal::ReplicaDown => "ReplicaDown",
+            Refusal::ReplicaUp => "ReplicaUp",
+            Refusal::CopiesFull => "CopiesFull",
+            Refusal::OpsFull => "OpsFull",
+            Refusal::FlightsFull => "FlightsFull",
+            Refusal::Memory => "Memory",
+        }
+    }
 }
 
 impl From<Memory> for Refusal {
