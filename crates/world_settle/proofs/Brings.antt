@@ -1,10 +1,10 @@
 -- Each candidate brings at least one vote, so that a quorum needs no more of them than it has votes.
-use Rattle.std.proofs.Common.{◌≡◌, ℕ, zero, suc, ◌+◌, ◌≤◌, List, [], ◌∷◌, take, length, refl, arith}
+use Rattle.std.proofs.Common.{◌≡◌, ℕ, zero, suc, ◌+◌, ◌*◌, ◌/◌, ◌≤◌, List, [], ◌∷◌, take, length, refl, ap, arith}
 use Rattle.std.proofs.lemmas.List.Elements.{All-get_or}
 use Rattle.std.specs.FinSet as finite
 use Rattle.quorum.proofs.Votes.{votes_of-insert}
 use Rattle.quorum.specs.Sets.{Replicas}
-use Rattle.quorum.specs.Quorums.{IsLawful, votes_of}
+use Rattle.quorum.specs.Quorums.{Quorums, IsLawful, majority_of, votes_of}
 use Rattle.client_phases.specs.declared.states.State.{State}
 use Rattle.client_phases.specs.declared.states.State.TheVariants.{Idle, Ask, Put, Ready, Stopped}
 use Rattle.world_steps.specs.declared.system.System.{System}
@@ -49,3 +49,11 @@ module _ (s : System) (lawful : IsLawful s.config.quorums) where
   -- a call needs no more replicas than the quorums have votes
   pub needs_most : (name a b : ℕ) → NeedsAt s name a b → (a ≤ s.config.quorums.ask) × (b ≤ s.config.quorums.put)
   needs_most name a b needs = needs_by needs.client.state a b needs.needs
+
+  -- with majorities of n replicas that is twice n / 2 + 1
+  pub majorities_most : (n name a b : ℕ) → s.config.quorums ≡ majority_of n → NeedsAt s name a b → 3 * (a + b) + 1 ≤ 6 * (n / 2 + 1) + 1
+  majorities_most n name a b is needs =
+      let (first, second) = needs_most name a b needs in
+      let ask : s.config.quorums.ask ≡ n / 2 + 1 = ap (λ (q : Quorums). q.ask) is in
+      let put : s.config.quorums.put ≡ n / 2 + 1 = ap (λ (q : Quorums). q.put) is in
+      omega (arith, first, second, ask, put)

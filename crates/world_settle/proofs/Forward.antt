@@ -115,12 +115,12 @@ some_first [] ys some e = absurd (some refl)
 some_first (x ∷ xs) ys some e = absurd cc
 
 -- behind a round to the first candidate these steps are left
-record Ahead (s : System) (name : ℕ) (rest : List Step) (replica : ℕ) : Type 0 where
+pub record Ahead (s : System) (name : ℕ) (rest : List Step) (replica : ℕ) : Type 0 where
   pub steps : List Step
   pub splits : rest ≡ round s name replica ++ steps
   pub onward : Settles name (after_from s (round s name replica)) steps
 
-ahead : (name : ℕ) (s : System) (rest : List Step) (replica : ℕ) (others : List ℕ) → Settles name s rest → has_request (phase_at s name) ≡ true → candidates s (counted_at s name) ≡ replica ∷ others → Ahead s name rest replica
+pub ahead : (name : ℕ) (s : System) (rest : List Step) (replica : ℕ) (others : List ℕ) → Settles name s rest → has_request (phase_at s name) ≡ true → candidates s (counted_at s name) ≡ replica ∷ others → Ahead s name rest replica
 ahead name s rest replica others (answers t r) h e = absurd (ready_or_asking (phase_at s name) r h)
 ahead name s rest replica others (asks t first others' steps requests found more) h e =
     let same : first ≡ replica = cc in

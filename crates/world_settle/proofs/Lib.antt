@@ -8,3 +8,4 @@ pub mod Replies
 pub mod Earlier
 pub mod Plans
 pub mod Forward
+pub mod Bounds

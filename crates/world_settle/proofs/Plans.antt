@@ -114,17 +114,17 @@ joined s t name a b c d replica others is first requests found same fewer plan =
     }
 
 -- ---- who made the pending call
-asking_row : (quorums : Quorums) (R : List Row) (tags : Tags) (name : ℕ) (asking : Asking) → StateSound quorums R tags name (Ask asking) → Pending R name asking.call
+pub asking_row : (quorums : Quorums) (R : List Row) (tags : Tags) (name : ℕ) (asking : Asking) → StateSound quorums R tags name (Ask asking) → Pending R name asking.call
 asking_row quorums R tags name asking (SoundAsking w n g h) = w
 
 putting_row : (quorums : Quorums) (R : List Row) (tags : Tags) (name : ℕ) (chosen : Chosen) (counted : Replicas) → StateSound quorums R tags name (Put chosen counted) → Pending R name chosen.call
 putting_row quorums R tags name chosen counted (SoundPutting w n g h) = w
 
-made_by : (s : System) → IsSound s → (name : ℕ) (call : Call) → Pending s.history.rows name call → caller_of s.history.rows call.op ≡ Some name
+pub made_by : (s : System) → IsSound s → (name : ℕ) (call : Call) → Pending s.history.rows name call → caller_of s.history.rows call.op ≡ Some name
 made_by s sound name call w = caller_found s.history.rows sound.sound.recorded call.op call.key (record { place = w.place; client = name; action = call.action; is = w.is })
 
 -- ---- a replica that handles a request stays up
-up_after : (s : System) (replica : ℕ) (request : Request) (node : Node) → slice_get s.nodes replica ≡ Some node
+pub up_after : (s : System) (replica : ℕ) (request : Request) (node : Node) → slice_get s.nodes replica ≡ Some node
     → (m : ℕ) → option_map_or (λ (n : Node). n.is_up) (slice_get (handled_nodes s replica request node) m) false ≡ is_up s m
 up_after s replica request node is m =
     elim (slice_cases s.nodes replica node (record node { replica = replica_after node.replica request }) m is) [

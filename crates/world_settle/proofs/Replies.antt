@@ -35,7 +35,7 @@ counts_now rules call counted replica lacked below =
     ∙ ap (λ b. not b && nat_lt replica (length rules.quorums.votes)) lacked
     ∙ lt-ltb replica (length rules.quorums.votes) below
 
-held_counts : (rules : Rules) (asking : Asking) (replica : ℕ) (tag : Tag) (value : Option (List ℕ)) → finite.contains asking.counted replica ≡ false → replica < length rules.quorums.votes
+pub held_counts : (rules : Rules) (asking : Asking) (replica : ℕ) (tag : Tag) (value : Option (List ℕ)) → finite.contains asking.counted replica ≡ false → replica < length rules.quorums.votes
     → heard rules (Ask asking) (Held asking.call.op replica tag value) ≡ asked rules (asking_with asking replica (record { tag = tag; value = value }))
 held_counts rules asking replica tag value lacked below =
     ap (λ b. cond {A = State × Taken} b (asked rules (asking_with asking replica (record { tag = tag; value = value }))) (Ask asking, Stale)) (counts_now rules asking.call asking.counted replica lacked below)

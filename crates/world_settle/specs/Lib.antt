@@ -1,3 +1,4 @@
+pub mod Agreeing
 pub mod Settling
 pub mod Refusing
 pub mod Settled

@@ -1,7 +1,8 @@
 -- What `settle` answers, and what it leaves.
-use Rattle.std.specs.Prelude.{ℕ, ◌≡◌, ◌≢◌, ◌+◌, ◌*◌, ◌<◌, ◌≤◌, List, [], ◌∷◌, ◌++◌, Some, Result, Ok, Err, length}
+use Rattle.std.specs.Prelude.{ℕ, ◌≡◌, ◌≢◌, ◌+◌, ◌*◌, ◌/◌, ◌<◌, ◌≤◌, List, [], ◌∷◌, ◌++◌, Some, Result, Ok, Err, length}
 use Rattle.tag.specs.declared.actions.Returned.{Returned}
 use Rattle.tag.specs.declared.numbers.OpId.{OpId}
+use Rattle.quorum.specs.Quorums.{majority_of}
 use Rattle.client_phases.specs.declared.outcomes.Phase.TheVariants as phase
 use Rattle.network.specs.Flights.{copies_of}
 use Rattle.recorder.specs.declared.row.Row.{Row}
@@ -10,6 +11,7 @@ use Rattle.world_steps.specs.Refusals.{phase_at}
 use Rattle.world_steps.specs.Runs.{after_from}
 use Rattle.world_steps.specs.declared.step.Step.{Step}
 use Rattle.world_steps.specs.declared.system.System.{System}
+use Rattle.world_settle.specs.Agreeing.{RepliesAgree}
 use Rattle.world_settle.specs.Settling.{Settles}
 use Rattle.world_settle.specs.Refusing.{MaySettle, IsUnsettled, NeedsAt, pending_at}
 use Rattle.world_settle.specs.declared.errors.SettleError.{SettleError}
@@ -76,3 +78,11 @@ pub record Completes (old : System) (name : ℕ) (new : System) : Type 0 where
 -- at most three steps for each replica that is needed, and one
 abbrev pub IsWithin : System → ℕ → ℕ → Type 0
 IsWithin s name count = (a b : ℕ) → NeedsAt s name a b → count ≤ 3 * (a + b) + 1
+
+-- with majorities of n replicas at most 6 (n / 2 + 1) + 1 steps
+abbrev pub IsWithinForMajorities : System → ℕ → Type 0
+IsWithinForMajorities s count = (n : ℕ) → s.config.quorums ≡ majority_of n → count ≤ 6 * (n / 2 + 1) + 1
+
+-- for a short read whose replies agree at most three steps for each replica that it still asks, and one
+abbrev pub IsWithinIfAgreed : System → ℕ → ℕ → Type 0
+IsWithinIfAgreed s name count = (a : ℕ) → RepliesAgree s name a → count ≤ 3 * a + 1

@@ -4,6 +4,7 @@ ghost use Rattle.quorum.specs.Quorums.{majority_of};
 ghost use Rattle.world_steps.specs.SoundSystems.{IsSound};
 ghost use Rattle.world_steps.specs.declared.step.Step.{Step};
 ghost use Rattle.world_steps.specs.declared.system.System.{System};
+ghost use Rattle.world_settle.specs.Agreeing.{RepliesAgree};
 ghost use Rattle.world_settle.specs.Refusing.{MaySettle, NeedsAt};
 ghost use Rattle.world_settle.specs.Settled.{IsWithin};
 ghost use Rattle.world_settle.specs.Settling.{AreTaken, Settles};
@@ -24,4 +25,12 @@ pub fn the_steps_are_one_list()
 pub fn a_call_needs_few_replicas()
     ensures quorums { (s : System) (name a b : ℕ) → IsSound s → NeedsAt s name a b → (a ≤ s.config.quorums.ask) × (b ≤ s.config.quorums.put) }
     ensures majorities { (s : System) (n name a b : ℕ) → IsSound s → s.config.quorums ≡ majority_of n → NeedsAt s name a b → 3 * (a + b) + 1 ≤ 6 * (n / 2 + 1) + 1 }
+{}
+
+/// A short read whose replies agree skips its write-back: it takes at most three steps for each replica
+/// that it still asks, and one.
+pub fn a_short_read_that_agrees_takes_few_steps()
+    ensures { (s : System) (name a : ℕ) (steps : List Step)
+        → IsSound s → MaySettle s name → RepliesAgree s name a → Settles name s steps
+        → length steps ≤ 3 * a + 1 }
 {}

@@ -4,7 +4,7 @@ ghost use Rattle.world_steps.specs.Refusals.{refusal_of};
 ghost use Rattle.world_steps.specs.Runs.{next};
 ghost use Rattle.world_steps.specs.SoundSystems.{IsSound};
 ghost use Rattle.world_settle.specs.Refusing.{MaySettle};
-ghost use Rattle.world_settle.specs.Settled.{Completes, IsWithin, KeepsEarlier, SettlesBy, Takes};
+ghost use Rattle.world_settle.specs.Settled.{Completes, IsWithin, IsWithinForMajorities, IsWithinIfAgreed, KeepsEarlier, SettlesBy, Takes};
 ghost use Rattle.world_settle.specs.Settling.{AreTaken, round};
 
 use crate::SettleError;
@@ -70,12 +70,17 @@ fn complete(world: &mut World, client: ClientId) -> Result<u32, SettleError>
 /// the lowest number is answered: `NoMajority`, `NotPending` and `Room` before any step, with the
 /// world equal to what it was; `Memory` with the steps that were taken before a growth was refused,
 /// with the world as those left it.
+///
+/// With majorities of n replicas it takes at most 6 (n / 2 + 1) + 1 steps, the division rounded down;
+/// for a short read whose replies agree 3 for each replica that it still asks, and one.
 pub fn settle(world: &mut World, client: ClientId) -> Result<u32, SettleError>
     ensures settles { SettlesBy world.old client result world.new }
     ensures sound { IsSound world.new }
     ensures earlier { KeepsEarlier world.old world.new }
     ensures completes { OnOk result (Completes world.old client world.new) }
     ensures within { IfOk result (λ count. IsWithin world.old client count) }
+    ensures majorities { IfOk result (λ count. IsWithinForMajorities world.old count) }
+    ensures agreed { IfOk result (λ count. IsWithinIfAgreed world.old client count) }
 {
     refuse(world, client)?;
     complete(world, client)

@@ -1,3 +1,4 @@
+use Rattle.world_settle.proofs.Bounds.{settled_agreed, settled_majorities}
 use Rattle.world_settle.proofs.Forward.{settled_earlier, settled_completes, settled_within}
 use Rattle.world_settle.proofs.settling.settle.Goals as goal
 
@@ -15,3 +16,9 @@ returns-clause-completes c = settled_completes c.args.world.now c.args.client c.
 
 pub returns-clause-within : goal.returns-clause-within
 returns-clause-within c = settled_within c.args.world.now c.args.client c.complete.result c.complete.new.world c.refuse.ensures.sound c.complete.ensures.settles
+
+pub returns-clause-majorities : goal.returns-clause-majorities
+returns-clause-majorities c = settled_majorities c.args.world.now c.args.client c.complete.result c.complete.new.world c.refuse.ensures.sound c.complete.ensures.settles
+
+pub returns-clause-agreed : goal.returns-clause-agreed
+returns-clause-agreed c = settled_agreed c.args.world.now c.args.client c.complete.result c.complete.new.world c.refuse.ensures.sound c.complete.ensures.settles
