@@ -1,65 +1,11 @@
 //! Notes of a script's run, as they are written.
 ghost use Rattle.std.specs.Prelude.{ℕ, ◌≡◌, ◌≢◌, ◌++◌, codes, decimal, OnOk};
-ghost use Rattle.fault_script.specs.NoteTexts.{name_of, number_of, random_note, refused_note, settle_name_of, unfinished_note};
+ghost use Rattle.fault_script.specs.NoteTexts.{random_note, refused_note, unfinished_note};
 
 use itoa::Buffer;
 use tag::Memory;
 use world_settle::SettleError;
 use world_steps::Refusal;
-
-/// The refusal's number, 1 to 15.
-fn number_of(why: Refusal) -> u8
-    ensures { result ≡ number_of why }
-{
-    match why {
-        Refusal::NoSuchReplica => 1,
-        Refusal::NoSuchClient => 2,
-        Refusal::ClientTaken => 3,
-        Refusal::ClientStopped => 4,
-        Refusal::ClientBusy => 5,
-        Refusal::NothingToSend => 6,
-        Refusal::NotInFlight => 7,
-        Refusal::NotReady => 8,
-        Refusal::ReplicaDown => 9,
-        Refusal::ReplicaUp => 10,
-        Refusal::CopiesFull => 11,
-        Refusal::OpsFull => 12,
-        Refusal::FlightsFull => 13,
-        Refusal::Memory => 15,
-    }
-}
-
-fn name_of(why: Refusal) -> &'static str
-    ensures { result.now ≡ name_of why }
-{
-    match why {
-        Refusal::NoSuchReplica => "NoSuchReplica",
-        Refusal::NoSuchClient => "NoSuchClient",
-        Refusal::ClientTaken => "ClientTaken",
-        Refusal::ClientStopped => "ClientStopped",
-        Refusal::ClientBusy => "ClientBusy",
-        Refusal::NothingToSend => "NothingToSend",
-        Refusal::NotInFlight => "NotInFlight",
-        Refusal::NotReady => "NotReady",
-        Refusal::ReplicaDown => "ReplicaDown",
-        Refusal::ReplicaUp => "ReplicaUp",
-        Refusal::CopiesFull => "CopiesFull",
-        Refusal::OpsFull => "OpsFull",
-        Refusal::FlightsFull => "FlightsFull",
-        Refusal::Memory => "Memory",
-    }
-}
-
-fn settle_name_of(why: SettleError) -> &'static str
-    ensures { result.now ≡ settle_name_of why }
-{
-    match why {
-        SettleError::NoMajority => "NoMajority",
-        SettleError::NotPending => "NotPending",
-        SettleError::Room => "Room",
-        SettleError::Memory(_) => "Memory",
-    }
-}
 
 /// Adds the text.
 fn append(notes: &mut Vec<u8>, text: &str) -> Result<(), Memory>
@@ -87,9 +33,9 @@ pub(crate) fn note_refused(notes: &mut Vec<u8>, line: u64, why: Refusal) -> Resu
         return Err(Memory);
     }
     append_number(notes, "line ", line)?;
-    append_number(notes, ": refused ", u64::from(number_of(why)))?;
+    append_number(notes, ": refused ", u64::from(why.number()))?;
     append(notes, " ")?;
-    append(notes, name_of(why))?;
+    append(notes, why.name())?;
     append(notes, "\n")
 }
 
@@ -109,7 +55,7 @@ pub(crate) fn note_unfinished(
     append_number(notes, "line ", line)?;
     append_number(notes, ": finish refused ", u64::from(why.number()))?;
     append(notes, " ")?;
-    append(notes, settle_name_of(why))?;
+    append(notes, why.name())?;
     append(notes, "\n")
 }
 

@@ -2,3 +2,4 @@ pub mod Agreeing
 pub mod Settling
 pub mod Refusing
 pub mod Settled
+pub mod Numbers

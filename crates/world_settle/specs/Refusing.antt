@@ -88,10 +88,3 @@ IsUnsettled s name error.NoMajority = HasNoMajority s
 IsUnsettled s name error.NotPending = HasMajority s × IsNotPending s name
 IsUnsettled s name error.Room = HasMajority s × IsPending s name × HasNoRoom s name
 IsUnsettled s name (error.Memory steps) = ⊥
-
--- the numbers of the refusals
-abbrev pub number_of_error : SettleError → ℕ
-number_of_error error.NoMajority = 1
-number_of_error error.NotPending = 2
-number_of_error error.Room = 3
-number_of_error (error.Memory steps) = 4

@@ -1,6 +1,6 @@
 //! Why a call isn't completed.
 ghost use Rattle.std.specs.Prelude.{◌≡◌};
-ghost use Rattle.world_settle.specs.Refusing.{number_of_error};
+ghost use Rattle.world_settle.specs.Numbers.{settle_error_name, settle_error_number};
 
 use thiserror::Error;
 
@@ -25,13 +25,25 @@ pub enum SettleError {
 impl SettleError {
     /// Its number in the order of the reasons, 1 to 4.
     pub fn number(self) -> u8
-        ensures { result ≡ number_of_error self }
+        ensures { result ≡ settle_error_number self }
     {
         match self {
             SettleError::NoMajority => 1,
             SettleError::NotPending => 2,
             SettleError::Room => 3,
             SettleError::Memory(_) => 4,
+        }
+    }
+
+    /// Its name, as it stands here.
+    pub fn name(self) -> &'static str
+        ensures { result.now ≡ settle_error_name self }
+    {
+        match self {
+            SettleError::NoMajority => "NoMajority",
+            SettleError::NotPending => "NotPending",
+            SettleError::Room => "Room",
+            SettleError::Memory(_) => "Memory",
         }
     }
 }

@@ -7,5 +7,5 @@ pub returns-clause-said : goal.returns-clause-said
 returns-clause-said c =
     on_ok_weaker c.append-3.result
     (unfinished_said c.args.notes.now.items c.append_number.new.notes.items c.append_number-2.new.notes.items c.append.new.notes.items c.append-2.new.notes.items c.append-3.new.notes.items c.args.line
-    c.in_ok-append_number.ensures c.args.why c.from.result c.settle_name_of.result.now (c.from.ensures ∙ c.number.ensures) c.settle_name_of.ensures
+    c.in_ok-append_number.ensures c.args.why c.from.result c.name.result.now (c.from.ensures ∙ c.number.ensures) c.name.ensures
     c.in_ok-append_number-2.ensures c.in_ok-append.ensures c.in_ok-append-2.ensures) c.append-3.ensures
