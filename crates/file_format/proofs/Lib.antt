@@ -15,6 +15,7 @@ pub mod ListedOrders
 pub mod Joining
 pub mod Saying
 pub mod SayingPieces
+pub mod LineFaults
 pub mod Once
 pub mod OneOrder
 pub mod OneFault

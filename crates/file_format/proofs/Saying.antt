@@ -78,7 +78,7 @@ written_back d action e =
     let v = after (value_of t.0) _ action t.2 in
     (v.0, value_back d t.0 v.0 (found (text_at (codes "value") d) t.0 t.1) v.1, sym (inside (Write v.0) action v.2))
 
-action_back : (d : Data) (name : List ℕ) (action : Action) → text_at (codes "do") d ≡ Some name → action_of name d ≡ Ok action → HasAction d action
+pub action_back : (d : Data) (name : List ℕ) (action : Action) → text_at (codes "do") d ≡ Some name → action_of name d ≡ Ok action → HasAction d action
 unfolding action_of
 action_back d name action here e =
     elim (either (bytes_eq name (codes "read")) (bytes_eq name (codes "write")) (Ok Read) (written_in d) action e) [
@@ -174,7 +174,7 @@ returned_case d member true returned here test e =
     subst P (inside (Value None) returned e) (absent (here ∙ ap Some (null_of member test)))
 returned_case d member false returned here test e = answer_back d (as_str member) returned (ap (option_and_then as_str) here) e
 
-returned_back : (d : Data) (o : Option Data) (returned : Returned) → get (codes "value") d ≡ o → returned_of o ≡ Ok returned → HasAnswer d returned
+pub returned_back : (d : Data) (o : Option Data) (returned : Returned) → get (codes "value") d ≡ o → returned_of o ≡ Ok returned → HasAnswer d returned
 unfolding returned_of
 returned_back d None returned here e =
     let P : Returned → Type 0 = λ r. HasAnswer d r in

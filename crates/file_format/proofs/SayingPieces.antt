@@ -8,7 +8,6 @@ use Rattle.tag.specs.declared.numbers.OpId.{OpId}
 use Rattle.tag.specs.Names.{is_key}
 use Rattle.recorder.specs.declared.order.KeyOrder.{KeyOrder}
 use Rattle.file_format.specs.declared.fault.LineFault.{LineFault}
-use Rattle.file_format.specs.declared.fault.LineFault.TheVariants.{NoHeader, Version}
 use Rattle.file_format.specs.Members.{needed, text_at, number_at, numbers_at, key_of}
 use Rattle.file_format.specs.Headers.{header_of, header_in}
 use Rattle.file_format.specs.OrderLines.{op_at, calls_of, piece_in}
@@ -63,31 +62,31 @@ piece_there d piece s = rw s.subject (rw s.order (rw (fits (is_key piece.key) pi
 abbrev nothing : Result (Unit {0}) LineFault
 nothing = Ok (tt {0})
 
-version_back : (b c : Bool) → cond b (cond c nothing (Err Version)) (Err NoHeader) ≡ nothing → (b ≡ true) × (c ≡ true)
-version_back true true e = (refl, refl)
-version_back true false e = absurd (cc)
-version_back false c e = absurd (cc)
+version_back : (b c : Bool) (f g : LineFault) → cond b (cond c nothing (Err f)) (Err g) ≡ nothing → (b ≡ true) × (c ≡ true)
+version_back true true f g e = (refl, refl)
+version_back true false f g e = absurd (cc)
+version_back false c f g e = absurd (cc)
 
-never : (b : Bool) → cond b (Err Version) (Err NoHeader) ≡ nothing → ⊥
-never true e = cc
-never false e = cc
+never : (b : Bool) (f g : LineFault) → cond b (Err f) (Err g) ≡ nothing → ⊥
+never true f g e = cc
+never false f g e = cc
 
 header_back_of : (name : List ℕ) (d : Data) (abd : Option (List ℕ)) (version : Option ℕ) → text_at (codes "abd") d ≡ abd → number_at (codes "version") d ≡ version → header_of name abd version ≡ nothing → SaysHeader name d
 unfolding header_of
 header_back_of name d None version here there e = absurd (cc)
-header_back_of name d (Some abd) None here there e = absurd (never (bytes_eq abd name) e)
+header_back_of name d (Some abd) None here there e = absurd (never (bytes_eq abd name) _ _ e)
 header_back_of name d (Some abd) (Some version) here there e =
-    let w = version_back (bytes_eq abd name) (version == 1) e in
+    let w = version_back (bytes_eq abd name) (version == 1) _ _ e in
     record { abd = here ∙ ap Some ((bytes_decides abd name).0 w.0); version = there ∙ ap Some (eqb-true version 1 w.1) }
 
 pub header_back : (name : List ℕ) (d : Data) → header_in name d ≡ nothing → SaysHeader name d
 unfolding header_in
 header_back name d e = header_back_of name d (text_at (codes "abd") d) (number_at (codes "version") d) refl refl e
 
-same_name : (b : Bool) → b ≡ true → cond b nothing (Err NoHeader) ≡ nothing
-same_name true e = refl
-same_name false e = absurd (cc)
+same_name : (b : Bool) (f : LineFault) → b ≡ true → cond b nothing (Err f) ≡ nothing
+same_name true f e = refl
+same_name false f e = absurd (cc)
 
 pub header_there : (name : List ℕ) (d : Data) → SaysHeader name d → header_in name d ≡ nothing
 unfolding header_in header_of
-header_there name d s = rw s.abd (rw s.version (same_name (bytes_eq name name) ((bytes_decides name name).1 refl)))
+header_there name d s = rw s.abd (rw s.version (same_name (bytes_eq name name) _ ((bytes_decides name name).1 refl)))

@@ -14,6 +14,7 @@ pub mod HistoryFormat
 pub mod OrderFormat
 pub mod Joins
 pub mod Says
+pub mod LineFaults
 pub mod Texts
 pub mod PlainTexts
 pub mod Ranges

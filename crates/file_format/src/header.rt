@@ -13,11 +13,9 @@ use crate::fault::Stop;
 pub(crate) fn header_in(name: &str, document: &Document<'_>) -> Result<(), Stop>
     ensures { Gives (λ nothing. tt) result (header_in name.now (data_in document.now)) }
 {
-    let Some(abd) = document.text("abd") else {
-        return Err(Stop::Fault(LineFault::NoHeader));
-    };
-    if abd != name {
-        return Err(Stop::Fault(LineFault::NoHeader));
+    match document.text("abd") {
+        Some(abd) if abd == name => {}
+        _ => return Err(Stop::Fault(LineFault::NoHeader)),
     }
     match document.number("version") {
         Some(1) => Ok(()),
