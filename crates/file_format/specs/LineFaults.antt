@@ -100,9 +100,9 @@ pub data IsPieceOutOfRange (d : Data) : Type 0 where
 
 -- ---- the fault
 
--- the fault that an answer tells is the one that there is
-abbrev pub TellsFault : {X Fault : Type 0} → Result X Fault → (Fault → Type 0) → Type 0
-TellsFault {Fault = Fault} said HasFault = (fault : Fault) → (said ≡ Err fault) ↔ HasFault fault
+-- the faults that an answer can be are those
+abbrev pub FaultsAre : {X Fault : Type 0} → Result X Fault → (Fault → Type 0) → Type 0
+FaultsAre {Fault = Fault} said HasFault = (fault : Fault) → (said ≡ Err fault) ↔ HasFault fault
 
 -- `Member` where one is missing or of the wrong kind; `Range` where none is, and one is outside its range
 abbrev pub IsMemberFault : Type 0 → Type 0 → LineFault → Type 0

@@ -6,7 +6,7 @@ ghost use Rattle.recorder.specs.declared.order.KeyOrder.{KeyOrder};
 ghost use Rattle.recorder.specs.Histories.{Recorded};
 ghost use Rattle.file_format.specs.declared.fault.LineFault.{LineFault};
 ghost use Rattle.file_format.specs.Lines.{Shows};
-ghost use Rattle.file_format.specs.LineFaults.{TellsFault, HasRowFault, HasPieceFault, HasHeaderFault};
+ghost use Rattle.file_format.specs.LineFaults.{FaultsAre, HasRowFault, HasPieceFault, HasHeaderFault};
 ghost use Rattle.file_format.specs.Readings.{Reads, FirstFaultInAll};
 ghost use Rattle.file_format.specs.HistoryFormat.{history_format, MakesHistory, IsHistory};
 ghost use Rattle.file_format.specs.Headers.{header_in};
@@ -35,18 +35,18 @@ pub fn a_piece_is_read_where_its_members_say_it()
 /// The fault of a value that is no row is the one that its members have: `Member` where one is missing
 /// or of the wrong kind, `Range` where none is and one is outside its range, and no other.
 pub fn a_row_has_the_fault_of_its_members()
-    ensures { (d : Data) → TellsFault (row_in d) (HasRowFault d) }
+    ensures { (d : Data) → FaultsAre (row_in d) (HasRowFault d) }
 {}
 
 /// The same of a value that is no piece of an order.
 pub fn a_piece_has_the_fault_of_its_members()
-    ensures { (d : Data) → TellsFault (piece_in d) (HasPieceFault d) }
+    ensures { (d : Data) → FaultsAre (piece_in d) (HasPieceFault d) }
 {}
 
 /// The fault of a value that is no header: `NoHeader` where it isn't of such a file, `Version` where it
 /// is and the version isn't 1, and no other.
 pub fn a_header_has_the_fault_of_its_members()
-    ensures { (name : List ℕ) (d : Data) → TellsFault (header_in name d) (HasHeaderFault name d) }
+    ensures { (name : List ℕ) (d : Data) → FaultsAre (header_in name d) (HasHeaderFault name d) }
 {}
 
 /// A line of a history file shows one row, or one fault.
