@@ -18,7 +18,7 @@ use Rattle.fault_script.proofs.ReadingBack.{word_is, text_back, nothing_back, wo
 use Rattle.fault_script.proofs.FormsBack.{third, two_read, invoked, behind_three, read_asked, Asks, action_back, command_back}
 
 -- which of two steps failed
-err_after : {A B : Type 0} (r : Result A LineFault) (f : A → Result B LineFault) (e : LineFault) → (r >>= f) ≡ Err e → (r ≡ Err e) ⊎ ((x : A) × (r ≡ Ok x) × (f x ≡ Err e))
+pub err_after : {A B : Type 0} (r : Result A LineFault) (f : A → Result B LineFault) (e : LineFault) → (r >>= f) ≡ Err e → (r ≡ Err e) ⊎ ((x : A) × (r ≡ Ok x) × (f x ≡ Err e))
 err_after (Ok x) f e h = inr (x, refl, h)
 err_after (Err g) f e h = inl (let same : g ≡ e = cc in ap (λ (k : LineFault). Err k) same)
 
@@ -35,7 +35,7 @@ unfolding needed_word
 word_err [] e h = cc
 word_err (w ∷ ws) e h = absurd (cc)
 
-nothing_err : (ws : List (List ℕ)) (e : LineFault) → nothing_more ws ≡ Err e → e ≡ UnknownCommand
+pub nothing_err : (ws : List (List ℕ)) (e : LineFault) → nothing_more ws ≡ Err e → e ≡ UnknownCommand
 unfolding nothing_more
 nothing_err [] e h = absurd (cc)
 nothing_err (w ∷ ws) e h = cc
@@ -44,7 +44,7 @@ numeral_err : (b : Bool) (o : Option ℕ) (e : LineFault) → cond {A = Result (
 numeral_err true o e h = absurd (cc)
 numeral_err false o e h = cc
 
-number_err : (ws : List (List ℕ)) (e : LineFault) → needed_number ws ≡ Err e → e ≡ UnknownCommand
+pub number_err : (ws : List (List ℕ)) (e : LineFault) → needed_number ws ≡ Err e → e ≡ UnknownCommand
 unfolding needed_number number_of
 number_err ws e h = elim (err_after (needed_word ws) _ e h) [
   | inl k ↦ word_err ws e k
@@ -54,7 +54,7 @@ number_err ws e h = elim (err_after (needed_word ws) _ e h) [
   ]
 ]
 
-text_err : (text : List ℕ) (ws : List (List ℕ)) (e : LineFault) → needed_text text ws ≡ Err e → e ≡ UnknownCommand
+pub text_err : (text : List ℕ) (ws : List (List ℕ)) (e : LineFault) → needed_text text ws ≡ Err e → e ≡ UnknownCommand
 unfolding needed_text
 text_err text ws e h = elim (err_after (needed_word ws) _ e h) [
   | inl k ↦ word_err ws e k
@@ -64,11 +64,11 @@ text_err text ws e h = elim (err_after (needed_word ws) _ e h) [
   ]
 ]
 
-ranged_err : {X : Type 0} (b : Bool) (x : X) (e : LineFault) → ranged b x ≡ Err e → e ≡ Range
+pub ranged_err : {X : Type 0} (b : Bool) (x : X) (e : LineFault) → ranged b x ≡ Err e → e ≡ Range
 ranged_err true x e h = absurd (cc)
 ranged_err false x e h = cc
 
-within_err : (least most : ℕ) (o : Option ℕ) (e : LineFault) → within least most o ≡ Err e → e ≡ Range
+pub within_err : (least most : ℕ) (o : Option ℕ) (e : LineFault) → within least most o ≡ Err e → e ≡ Range
 unfolding within
 within_err least most None e h = cc
 within_err least most (Some n) e h = ranged_err (nat_le least n && nat_le n most) n e h
@@ -82,7 +82,7 @@ unfolding number_of
 number_at word n is = ap (λ (b : Bool). cond {A = Result (Option ℕ) LineFault} b (Ok (bounded (decimal_value word))) (Err UnknownCommand)) is.digits
 
 -- the fault is that of no form, or the fault of a range, and there is a form
-Either : LineFault → Type 0 → Type 0
+unfoldable pub Either : LineFault → Type 0 → Type 0
 Either e Form = (e ≡ UnknownCommand) ⊎ ((e ≡ Range) × Form)
 
 either_map : (e : LineFault) (F G : Type 0) → (F → G) → Either e F → Either e G
@@ -90,11 +90,11 @@ unfolding Either
 either_map e F G f (inl u) = inl u
 either_map e F G f (inr r) = inr (r.0, f r.1)
 
-unknown : (e : LineFault) (F : Type 0) → e ≡ UnknownCommand → Either e F
+pub unknown : (e : LineFault) (F : Type 0) → e ≡ UnknownCommand → Either e F
 unfolding Either
 unknown e F h = inl h
 
-out_of_range : (e : LineFault) (F : Type 0) → e ≡ Range → F → Either e F
+pub out_of_range : (e : LineFault) (F : Type 0) → e ≡ Range → F → Either e F
 unfolding Either
 out_of_range e F h f = inr (h, f)
 
@@ -351,7 +351,7 @@ step_err verb ws behind e h =
     ]
 
 -- a command's fault: it has no form, or it has one and the fault is that of a range
-command_err : (verb args : List ℕ) (e : LineFault) → command_in verb args ≡ Err e → Either e (HasForm verb (words args) (third args))
+pub command_err : (verb args : List ℕ) (e : LineFault) → command_in verb args ≡ Err e → Either e (HasForm verb (words args) (third args))
 unfolding command_in OneValue TwoValues Invokes Forms
 command_err verb args e h =
     elim (err_picked (bytes_eq verb (codes "invoke")) (invoke_in args >>= (λ s. done (command.Step s))) _ e h) [
@@ -459,7 +459,7 @@ step_known verb args (step.StopReplica n) h e =
 step_known verb args (step.StartReplica n) h e =
     start_known (words args) n h.1 (err_mapped (start_in (words args)) command.Step UnknownCommand (sym (ap (λ v. command_in v args) h.0) ∙ e))
 
-command_known : (verb args : List ℕ) (c : Command) → Spells of_any_size verb (words args) (third args) c → command_in verb args ≡ Err UnknownCommand → ⊥
+pub command_known : (verb args : List ℕ) (c : Command) → Spells of_any_size verb (words args) (third args) c → command_in verb args ≡ Err UnknownCommand → ⊥
 unfolding command_in
 command_known verb args (command.Step s) h e = step_known verb args s h e
 command_known verb args (command.Finish n) h e =
@@ -496,7 +496,7 @@ step_any verb ws behind (step.StopReplica n) h = (h.0, named_any (codes "replica
 step_any verb ws behind (step.StartReplica n) h = (h.0, named_any (codes "replica") 0 14 ws n h.1)
 
 -- what is said has a form
-form_of_said : (verb : List ℕ) (ws : List (List ℕ)) (behind : List ℕ) (c : Command) → Spells in_ranges verb ws behind c → HasForm verb ws behind
+pub form_of_said : (verb : List ℕ) (ws : List (List ℕ)) (behind : List ℕ) (c : Command) → Spells in_ranges verb ws behind c → HasForm verb ws behind
 form_of_said verb ws behind (command.Step s) h = record { command = command.Step s; spelled = step_any verb ws behind s h }
 form_of_said verb ws behind (command.Finish n) h = record { command = command.Finish n; spelled = (h.0, one_any 1 65535 ws n h.1) }
 form_of_said verb ws behind (command.Random m n) h = record { command = command.Random m n; spelled = (h.0, two_any 0 18446744073709551615 0 1000000 ws m n h.1) }

@@ -12,6 +12,7 @@ mod FormsBack
 mod SettingsBack
 mod SaidBack
 mod FormFaults
+mod LineFaults
 mod ReadOnce
 mod Zips
 mod NoteSpelling

@@ -1,5 +1,5 @@
 -- What a line's words say behind the lines before it: the tests that find it, turned round.
-use Rattle.std.proofs.Common.{ℕ, ◌≡◌, inl, inr, List, length, Bool, false, cond, Option, Some, None, Ok, Err, codes, bytes_eq, refl, sym, ap, ◌∙◌, subst}
+use Rattle.std.proofs.Common.{ℕ, ◌≡◌, inl, inr, List, length, Bool, false, cond, Option, Some, None, Ok, codes, bytes_eq, refl, sym, ap, ◌∙◌, subst}
 use Rattle.client_phases.specs.declared.rules.ReadMode.{ReadMode}
 use Rattle.quorum.specs.Quorums.{Quorums}
 use Rattle.world_steps.specs.Configs.{Config}
@@ -12,13 +12,12 @@ use Rattle.fault_script.specs.declared.saying.Last.TheVariants as last
 use Rattle.fault_script.specs.declared.saying.Opened.{Opened}
 use Rattle.fault_script.specs.declared.saying.Said.{Said}
 use Rattle.fault_script.specs.declared.saying.Said.TheVariants.{Opens, Runs}
-use Rattle.fault_script.specs.declared.fault.LineFault.TheVariants.{NoReplicas, UnknownCommand}
 use Rattle.fault_script.specs.Words.{words}
 use Rattle.fault_script.specs.Says.{◌>>=◌}
 use Rattle.fault_script.specs.Settings.{replicas_in, reads_in, votes_in}
 use Rattle.fault_script.specs.Commands.{command_in}
 use Rattle.fault_script.specs.Saying.{reads_behind, votes_set, votes_behind, first_said, said_in}
-use Rattle.fault_script.specs.Forms.{SaysStep, SaysCommand}
+use Rattle.fault_script.specs.Forms.{Demands, in_ranges, SpellsStep, Spells}
 use Rattle.fault_script.specs.SettingForms.{MayVote, SaysVotes, SaysBehind, replicas, reads, votes, runs}
 use Rattle.fault_script.proofs.Chains.{done, picked, mapped, mapped_there}
 use Rattle.fault_script.proofs.ReadingBack.{word_is}
@@ -40,7 +39,7 @@ Behind verb args before said = SaysBehind verb (words args) (third args) before 
 first_back : (verb args : List ℕ) (said : Said) → said_in None verb args ≡ Ok said → Behind verb args None said
 unfolding said_in first_said Behind
 first_back verb args said e =
-    elim (picked (bytes_eq verb (codes "replicas")) (replicas_in (words args) >>= (λ config. done (bare config))) (Err NoReplicas) said e) [
+    elim (picked (bytes_eq verb (codes "replicas")) (replicas_in (words args) >>= (λ config. done (bare config))) _ said e) [
       | inl w ↦
           let a = mapped (replicas_in (words args)) bare said w.1 in
           let P : Said → Type 0 = λ s. SaysBehind verb (words args) (third args) None s in
@@ -74,7 +73,7 @@ later_back : (verb args : List ℕ) (o : Opened) (said : Said) → said_in (Some
 unfolding said_in Behind
 later_back verb args o said e =
     let P : Said → Type 0 = λ s. SaysBehind verb (words args) (third args) (Some o) s in
-    elim (picked (bytes_eq verb (codes "replicas")) (Err UnknownCommand) _ said e) [
+    elim (picked (bytes_eq verb (codes "replicas")) _ _ said e) [
       | inl w ↦ absurd (let f = w.1 in cc)
       | inr e2 ↦ elim (picked (bytes_eq verb (codes "reads")) (reads_behind o.config o.last (words args) >>= (λ set. done (Opens set))) _ said e2) [
         | inl w ↦
@@ -98,7 +97,7 @@ said_back None verb args said e = first_back verb args said e
 said_back (Some o) verb args said e = later_back verb args o said e
 
 -- a first word that begins no line of the configuration
-record IsPlain (verb : List ℕ) : Type 0 where
+pub record IsPlain (verb : List ℕ) : Type 0 where
   pub no_replicas : bytes_eq verb (codes "replicas") ≡ false
   pub no_reads : bytes_eq verb (codes "reads") ≡ false
   pub no_votes : bytes_eq verb (codes "votes") ≡ false
@@ -106,22 +105,22 @@ record IsPlain (verb : List ℕ) : Type 0 where
 plain_at : (verb name : List ℕ) → verb ≡ name → IsPlain name → IsPlain verb
 plain_at verb name e h = let P : List ℕ → Type 0 = λ v. IsPlain v in subst P (sym e) h
 
-step_plain : (verb : List ℕ) (ws : List (List ℕ)) (behind : List ℕ) (s : Step) → SaysStep verb ws behind s → IsPlain verb
-step_plain verb ws behind (step.Join n) h = plain_at verb (codes "join") h.0 (record { no_replicas = refl; no_reads = refl; no_votes = refl })
-step_plain verb ws behind (step.Invoke client key action) h = plain_at verb (codes "invoke") h.0 (record { no_replicas = refl; no_reads = refl; no_votes = refl })
-step_plain verb ws behind (step.Send m n) h = plain_at verb (codes "send") h.0 (record { no_replicas = refl; no_reads = refl; no_votes = refl })
-step_plain verb ws behind (step.Deliver n) h = plain_at verb (codes "deliver") h.0 (record { no_replicas = refl; no_reads = refl; no_votes = refl })
-step_plain verb ws behind (step.Lose n) h = plain_at verb (codes "lose") h.0 (record { no_replicas = refl; no_reads = refl; no_votes = refl })
-step_plain verb ws behind (step.Repeat n) h = plain_at verb (codes "repeat") h.0 (record { no_replicas = refl; no_reads = refl; no_votes = refl })
-step_plain verb ws behind (step.Respond n) h = plain_at verb (codes "respond") h.0 (record { no_replicas = refl; no_reads = refl; no_votes = refl })
-step_plain verb ws behind (step.StopClient n) h = plain_at verb (codes "stop") h.0 (record { no_replicas = refl; no_reads = refl; no_votes = refl })
-step_plain verb ws behind (step.StopReplica n) h = plain_at verb (codes "stop") h.0 (record { no_replicas = refl; no_reads = refl; no_votes = refl })
-step_plain verb ws behind (step.StartReplica n) h = plain_at verb (codes "start") h.0 (record { no_replicas = refl; no_reads = refl; no_votes = refl })
+step_plain : (demands : Demands) (verb : List ℕ) (ws : List (List ℕ)) (behind : List ℕ) (s : Step) → SpellsStep demands verb ws behind s → IsPlain verb
+step_plain demands verb ws behind (step.Join n) h = plain_at verb (codes "join") h.0 (record { no_replicas = refl; no_reads = refl; no_votes = refl })
+step_plain demands verb ws behind (step.Invoke client key action) h = plain_at verb (codes "invoke") h.0 (record { no_replicas = refl; no_reads = refl; no_votes = refl })
+step_plain demands verb ws behind (step.Send m n) h = plain_at verb (codes "send") h.0 (record { no_replicas = refl; no_reads = refl; no_votes = refl })
+step_plain demands verb ws behind (step.Deliver n) h = plain_at verb (codes "deliver") h.0 (record { no_replicas = refl; no_reads = refl; no_votes = refl })
+step_plain demands verb ws behind (step.Lose n) h = plain_at verb (codes "lose") h.0 (record { no_replicas = refl; no_reads = refl; no_votes = refl })
+step_plain demands verb ws behind (step.Repeat n) h = plain_at verb (codes "repeat") h.0 (record { no_replicas = refl; no_reads = refl; no_votes = refl })
+step_plain demands verb ws behind (step.Respond n) h = plain_at verb (codes "respond") h.0 (record { no_replicas = refl; no_reads = refl; no_votes = refl })
+step_plain demands verb ws behind (step.StopClient n) h = plain_at verb (codes "stop") h.0 (record { no_replicas = refl; no_reads = refl; no_votes = refl })
+step_plain demands verb ws behind (step.StopReplica n) h = plain_at verb (codes "stop") h.0 (record { no_replicas = refl; no_reads = refl; no_votes = refl })
+step_plain demands verb ws behind (step.StartReplica n) h = plain_at verb (codes "start") h.0 (record { no_replicas = refl; no_reads = refl; no_votes = refl })
 
-command_plain : (verb : List ℕ) (ws : List (List ℕ)) (behind : List ℕ) (c : Command) → SaysCommand verb ws behind c → IsPlain verb
-command_plain verb ws behind (command.Step s) h = step_plain verb ws behind s h
-command_plain verb ws behind (command.Finish n) h = plain_at verb (codes "finish") h.0 (record { no_replicas = refl; no_reads = refl; no_votes = refl })
-command_plain verb ws behind (command.Random m n) h = plain_at verb (codes "random") h.0 (record { no_replicas = refl; no_reads = refl; no_votes = refl })
+pub command_plain : (demands : Demands) (verb : List ℕ) (ws : List (List ℕ)) (behind : List ℕ) (c : Command) → Spells demands verb ws behind c → IsPlain verb
+command_plain demands verb ws behind (command.Step s) h = step_plain demands verb ws behind s h
+command_plain demands verb ws behind (command.Finish n) h = plain_at verb (codes "finish") h.0 (record { no_replicas = refl; no_reads = refl; no_votes = refl })
+command_plain demands verb ws behind (command.Random m n) h = plain_at verb (codes "random") h.0 (record { no_replicas = refl; no_reads = refl; no_votes = refl })
 
 -- none of the three tests
 passed_by : {A : Type 0} (a b c : Bool) (x y z w : A) → a ≡ false → b ≡ false → c ≡ false → cond a x (cond b y (cond c z w)) ≡ w
@@ -153,6 +152,6 @@ said_there before verb args said (votes config earlier quorums is may h) =
     let o : Opened = record { config = config; last = earlier } in
     ap (λ v. said_in (Some o) v args) is ∙ mapped_there (votes_behind config earlier (words args)) Opens (voted config quorums) (may_vote args config earlier (voted config quorums) may (voted_there args config quorums h))
 said_there before verb args said (runs opened c h) =
-    let plain = command_plain verb (words args) (third args) c h in
+    let plain = command_plain in_ranges verb (words args) (third args) c h in
     passed_by (bytes_eq verb (codes "replicas")) (bytes_eq verb (codes "reads")) (bytes_eq verb (codes "votes")) _ _ _ (command_in verb args >>= (λ c. done (Runs c))) plain.no_replicas plain.no_reads plain.no_votes
     ∙ mapped_there (command_in verb args) Runs c (command_there verb args c h)

@@ -29,7 +29,7 @@ reads_back ws mode e =
     let P : ReadMode → Type 0 = λ m. SaysReads ws m in
     elim (picked (bytes_eq k.0.0 (codes "full")) (Ok Full) _ mode n.2) [
       | inl w ↦ let name = word_is k.0.0 (codes "full") w.0 in subst P (inside Full mode w.1) (all ∙ (λ i. name i ∷ none i))
-      | inr e2 ↦ elim (picked (bytes_eq k.0.0 (codes "short")) (Ok Short) (Err UnknownCommand) mode e2) [
+      | inr e2 ↦ elim (picked (bytes_eq k.0.0 (codes "short")) (Ok Short) _ mode e2) [
         | inl w ↦ let name = word_is k.0.0 (codes "short") w.0 in subst P (inside Short mode w.1) (all ∙ (λ i. name i ∷ none i))
         | inr e3 ↦ absurd (cc)
       ]
@@ -147,7 +147,7 @@ replicas_there ws config (with_flights n calls flights h) =
     ∙ config_there n calls flights (in_range 1 15 h.first n h.is) (in_range 1 1000000 h.second calls h.are) (in_range 1 16000000 h.third flights h.be)
 
 -- votes: the words, and what they count as
-pub Counts : List ℕ → ℕ → Type 0
+unfoldable pub Counts : List ℕ → ℕ → Type 0
 Counts word v = (o : Option ℕ) × (number_of word ≡ Ok o) × (capped o ≡ v)
 
 pub record Row (n : ℕ) (ws : List (List ℕ)) (votes : List ℕ) (rest : List (List ℕ)) : Type 0 where
@@ -156,10 +156,10 @@ pub record Row (n : ℕ) (ws : List (List ℕ)) (votes : List ℕ) (rest : List 
   pub each : AllZip Counts words votes
   pub count : length votes ≡ n
 
-abbrev Rows : Type 0
+abbrev pub Rows : Type 0
 Rows = List ℕ × List (List ℕ)
 
-row_back : (n : ℕ) (ws : List (List ℕ)) (x : Rows) → numbers_in n ws ≡ Ok x → Row n ws x.0 x.1
+pub row_back : (n : ℕ) (ws : List (List ℕ)) (x : Rows) → numbers_in n ws ≡ Ok x → Row n ws x.0 x.1
 unfolding numbers_in Counts
 row_back zero ws x e =
     let p = inside ([], ws) x e in
@@ -239,7 +239,7 @@ quorum_small : (q : Quorums) → IsLawful q → (q.ask < 255) × (q.put < 255)
 quorum_small q l = (omega (arith, sum_few q.votes l.each_votes, l.most_ask, l.most_replicas), omega (arith, sum_few q.votes l.each_votes, l.most_put, l.most_replicas))
 
 -- the words of such a line, part by part
-row_words : (ws votes behind_votes asking behind_ask putting behind_put : List (List ℕ)) (ask put : List ℕ) → ws ≡ votes ++ behind_votes → behind_votes ≡ codes "ask" ∷ asking → asking ≡ ask ∷ behind_ask → behind_ask ≡ codes "put" ∷ putting → putting ≡ put ∷ behind_put → behind_put ≡ [] → ws ≡ votes ++ codes "ask" ∷ ask ∷ codes "put" ∷ put ∷ []
+pub row_words : (ws votes behind_votes asking behind_ask putting behind_put : List (List ℕ)) (ask put : List ℕ) → ws ≡ votes ++ behind_votes → behind_votes ≡ codes "ask" ∷ asking → asking ≡ ask ∷ behind_ask → behind_ask ≡ codes "put" ∷ putting → putting ≡ put ∷ behind_put → behind_put ≡ [] → ws ≡ votes ++ codes "ask" ∷ ask ∷ codes "put" ∷ put ∷ []
 row_words ws votes behind_votes asking behind_ask putting behind_put ask put a b d e f g = cc
 
 pub votes_back : (n : ℕ) (ws : List (List ℕ)) (q : Quorums) → votes_in n ws ≡ Ok q → SaysVotes n ws q
@@ -275,13 +275,13 @@ votes_back n ws q e =
     })
 
 -- what stands behind the votes
-abbrev behind_put : List ℕ → ℕ → Found → Result Quorums LineFault
+abbrev pub behind_put : List ℕ → ℕ → Found → Result Quorums LineFault
 behind_put votes ask put = nothing_more put.1 >>= (λ nothing. quorums_of votes ask (capped put.0))
 
-abbrev behind_ask : List ℕ → Found → Result Quorums LineFault
+abbrev pub behind_ask : List ℕ → Found → Result Quorums LineFault
 behind_ask votes ask = needed_text (codes "put") ask.1 >>= (λ putting. needed_number putting >>= (λ put. behind_put votes (capped ask.0) put))
 
-abbrev behind_votes : Rows → Result Quorums LineFault
+abbrev pub behind_votes : Rows → Result Quorums LineFault
 behind_votes votes = needed_text (codes "ask") votes.1 >>= (λ asking. needed_number asking >>= (λ ask. behind_ask votes.0 ask))
 
 quorums_there : (q : Quorums) → IsLawful q → quorums_of q.votes q.ask q.put ≡ Ok q

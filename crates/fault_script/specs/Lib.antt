@@ -5,6 +5,7 @@ pub mod Settings
 pub mod Commands
 pub mod Forms
 pub mod SettingForms
+pub mod LineFaults
 pub mod Saying
 pub mod Lines
 pub mod Scripts

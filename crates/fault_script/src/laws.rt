@@ -21,6 +21,8 @@ ghost use Rattle.fault_script.specs.declared.saying.Opened.{Opened};
 ghost use Rattle.fault_script.specs.declared.saying.Said.{Said};
 ghost use Rattle.fault_script.specs.Saying.{said_in};
 ghost use Rattle.fault_script.specs.SettingForms.{SaysBehind};
+ghost use Rattle.fault_script.specs.LineFaults.{HasWordFault};
+ghost use Rattle.file_format.specs.LineFaults.{FaultsAre};
 
 /// A line is read as a command exactly where its words say the command.
 pub fn a_command_is_read_where_its_words_say_it()
@@ -36,6 +38,14 @@ pub fn a_line_is_read_where_its_words_say_it()
 pub fn a_command_without_a_form_is_unknown()
     ensures unknown { (verb args : List ℕ) → (command_in verb args ≡ Err UnknownCommand) ↔ (HasForm verb (words args) (behind_word (behind_word (behind_word args))) → ⊥) }
     ensures range { (verb args : List ℕ) → HasForm verb (words args) (behind_word (behind_word (behind_word args))) → ((command : Command) → SaysCommand verb (words args) (behind_word (behind_word (behind_word args))) command → ⊥) → command_in verb args ≡ Err Range }
+{}
+
+/// A line's words that are not read have, behind the lines before it, the fault that is there:
+/// `NoReplicas` where the first command isn't `replicas`, else `UnknownCommand` where they have no form
+/// of a line that may stand there, else `Range`, and no other.
+pub fn a_line_has_the_fault_of_its_words()
+    ensures { (before : Option Opened) (verb args : List ℕ) →
+        FaultsAre (said_in before verb args) (HasWordFault before verb args) }
 {}
 
 /// Bytes are read as one script.
