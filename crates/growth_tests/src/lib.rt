@@ -1,5 +1,5 @@
-//! Tests of what a refused growth leaves, with each allocation refused in turn
-//! (`rt try --test --fail-alloc N`). There is nothing else here.
+//! Tests of what a refused growth leaves: of a call that was refused one, and then of the same call again.
+//! `scripts/refuse_growths.sh` refuses each growth of a test in turn. There is nothing else here.
 #![tactic(auto)]
 
 #[cfg(test)]
@@ -8,5 +8,9 @@ mod clients;
 mod files;
 #[cfg(test)]
 mod networks;
+#[cfg(test)]
+mod randoms;
+#[cfg(test)]
+mod records;
 #[cfg(test)]
 mod worlds;

@@ -26,29 +26,38 @@ fn message_of(alloc: Global, op: u32) -> Result<Option<Message>, Memory> {
     }
 }
 
+/// The whole of a pool as a text.
+fn text(alloc: Global, pool: &Pool) -> Result<String, Memory> {
+    Ok(format!(in alloc; "{pool:?}")?)
+}
+
 /// Whether the message is sent, at the second time where a growth was refused at the first, which
 /// left the pool as it was.
-fn is_sent(pool: &mut Pool, number: u32, message: &Message) -> Result<bool, Memory> {
-    if pool.send(message.copy()?).is_ok() {
-        return Ok(true);
+fn is_sent(alloc: Global, pool: &mut Pool, number: u32, message: &Message) -> Result<bool, Memory> {
+    let before = text(alloc, pool)?;
+    let (copy, again) = (message.copy()?, message.copy()?);
+    let first = pool.send(copy);
+    if first == Err(NetRefusal::Memory) && text(alloc, pool)? == before {
+        return Ok(pool.send(again) == Ok(number));
     }
-    let is_kept = pool.sent() == number && pool.stored() == number;
-    let again = pool.send(message.copy()?);
-    Ok(is_kept && again == Ok(number))
+    Ok(first == Ok(number))
 }
 
 /// Whether a copy is delivered, in the same way, and leaves the other.
-fn is_delivered(pool: &mut Pool, number: u32, message: &Message) -> bool {
+fn is_delivered(
+    alloc: Global,
+    pool: &mut Pool,
+    number: u32,
+    message: &Message,
+) -> Result<bool, Memory> {
+    let before = text(alloc, pool)?;
     let mut delivered = pool.deliver(number);
-    if delivered == Err(NetRefusal::Memory) {
-        if pool.copies(number) != 2 {
-            return false;
-        }
+    if delivered == Err(NetRefusal::Memory) && text(alloc, pool)? == before {
         delivered = pool.deliver(number);
     }
     match delivered {
-        Ok(found) => found == *message && pool.copies(number) == 1,
-        Err(_) => false,
+        Ok(found) => Ok(found == *message && pool.copies(number) == 1),
+        Err(_) => Ok(false),
     }
 }
 
@@ -56,9 +65,10 @@ fn is_taken(alloc: Global, pool: &mut Pool, number: u32) -> Result<bool, Memory>
     let Some(message) = message_of(alloc, number)? else {
         return Ok(false);
     };
-    let is_sent = is_sent(pool, number, &message)?;
+    let is_sent = is_sent(alloc, pool, number, &message)?;
     let is_repeated = pool.repeat(number).is_ok();
-    Ok(is_sent && is_repeated && is_delivered(pool, number, &message))
+    let is_delivered = is_delivered(alloc, pool, number, &message)?;
+    Ok(is_sent && is_repeated && is_delivered)
 }
 
 fn network_is_kept(alloc: Global) -> Result<bool, Memory> {

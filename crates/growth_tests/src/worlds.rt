@@ -1,26 +1,28 @@
 //! Steps of a world, and the call that `settle` completes.
 use client_phases::Taken;
 use std::alloc::Global;
+use std::fmt::Write as _;
 use tag::{Action, ClientId, Key, Memory, OpId, ReplicaId, Tag, Value};
 use world_settle::{SettleError, settle};
 use world_steps::{Config, Effect, Refusal, Step, World};
 
-/// What is done, by a letter and a flight's number: client 1 joins (`j`), begins a write of `a` on `x`
-/// (`w`), sends to replica 0 (`s`), responds (`a`), stops (`k`); a flight is delivered (`d`), lost (`l`) or
-/// repeated (`c`); replica 0 stops (`-`) or starts (`+`).
-fn step(alloc: Global, kind: char, flight: u32) -> Result<Step, Memory> {
-    let (Ok(client), Some(replica)) = (ClientId::new(1), ReplicaId::new(0)) else {
+/// A step, by a letter and two numbers: client `who` joins (`j`), begins a write of `a` on `x` (`w`) or a
+/// read of it (`r`), sends to replica `at` (`s`), responds (`a`), stops (`k`); the flight `at` is delivered
+/// (`d`), lost (`l`) or repeated (`c`); the replica `at` stops (`-`) or starts (`+`).
+fn step(alloc: Global, kind: char, who: u32, at: u32) -> Result<Step, Memory> {
+    let (Ok(client), Some(replica)) = (ClientId::new(who), ReplicaId::new(at.min(14) as u8)) else {
         return Err(Memory);
     };
     match kind {
         'j' => Ok(Step::Join { client }),
         'w' => write(alloc, client),
+        'r' => read(alloc, client),
         's' => Ok(Step::Send { client, replica }),
         'a' => Ok(Step::Respond { client }),
         'k' => Ok(Step::StopClient { client }),
-        'd' => Ok(Step::Deliver { flight }),
-        'l' => Ok(Step::Lose { flight }),
-        'c' => Ok(Step::Repeat { flight }),
+        'd' => Ok(Step::Deliver { flight: at }),
+        'l' => Ok(Step::Lose { flight: at }),
+        'c' => Ok(Step::Repeat { flight: at }),
         '-' => Ok(Step::StopReplica { replica }),
         _ => Ok(Step::StartReplica { replica }),
     }
@@ -37,55 +39,169 @@ fn write(alloc: Global, client: ClientId) -> Result<Step, Memory> {
     })
 }
 
-/// What a caller sees of a world: what was sent, the flights under way, the rows, and who joined.
-fn seen(world: &World) -> (u32, u32, usize, usize) {
-    let pool = world.pool();
-    let rows = world.history().rows().len();
-    (pool.sent(), pool.stored(), rows, world.joined().len())
+fn read(alloc: Global, client: ClientId) -> Result<Step, Memory> {
+    let Ok(key) = Key::new(alloc, "x") else {
+        return Err(Memory);
+    };
+    Ok(Step::Invoke {
+        client,
+        key,
+        action: Action::Read,
+    })
 }
 
-/// Takes a step. Where it was refused for memory it is taken again, if the world looks as before.
-fn insist(
+/// The replicas of a world, as a text.
+fn add_replicas(text: &mut String, world: &World) -> Result<(), Memory> {
+    for number in 0..15 {
+        if let Some(name) = ReplicaId::new(number) {
+            let is_up = world.is_up(name);
+            let replica = world.replica(name);
+            write!(text, "{is_up} {replica:?}\n")?;
+        }
+    }
+    Ok(())
+}
+
+/// The clients of a world, as a text.
+fn add_clients(text: &mut String, world: &World) -> Result<(), Memory> {
+    for name in world.joined() {
+        let client = world.client(*name);
+        write!(text, "{client:?}\n")?;
+    }
+    Ok(())
+}
+
+/// The whole of a world as a text: its rows, its network, its replicas and its clients.
+pub fn seen(alloc: Global, world: &World) -> Result<String, Memory> {
+    let rows = world.history().rows();
+    let pool = world.pool();
+    let mut text = format!(in alloc; "{rows:?}\n{pool:?}\n")?;
+    add_replicas(&mut text, world)?;
+    add_clients(&mut text, world)?;
+    Ok(text)
+}
+
+/// Whether a step had the effect that is wanted or, where none is, wasn't refused for memory.
+fn is_wanted(taken: Result<Effect, Refusal>, wanted: Option<Effect>) -> bool {
+    match wanted {
+        Some(effect) => taken == Ok(effect),
+        None => taken != Err(Refusal::Memory),
+    }
+}
+
+/// Takes a step, and says whether it had the effect that is wanted, if any is. Where it was refused for
+/// memory it is taken again, if the whole world is as before.
+pub fn insist(
     alloc: Global,
     world: &mut World,
-    kind: char,
-    flight: u32,
-) -> Result<Result<Effect, Refusal>, Memory> {
-    let before = seen(world);
-    let first = world.step(step(alloc, kind, flight)?);
-    if first == Err(Refusal::Memory) && seen(world) == before {
-        return Ok(world.step(step(alloc, kind, flight)?));
+    step: &Step,
+    wanted: Option<Effect>,
+) -> Result<bool, Memory> {
+    let before = seen(alloc, world)?;
+    let again = step.copy()?;
+    let first = world.step(step.copy()?);
+    if first == Err(Refusal::Memory) && seen(alloc, world)? == before {
+        return Ok(is_wanted(world.step(again), wanted));
     }
-    Ok(first)
+    Ok(is_wanted(first, wanted))
 }
 
-fn world_is_kept(alloc: Global) -> Result<bool, Memory> {
-    let (Some(config), Some(tag)) = (Config::new(1, 1000, 1000), Tag::new(1, 1)) else {
-        return Ok(false);
-    };
-    let mut world = World::new(alloc, config)?;
+/// Whether each step has its effect.
+fn are_taken(
+    alloc: Global,
+    world: &mut World,
+    steps: &[(char, u32, u32, Effect)],
+) -> Result<bool, Memory> {
     let mut good = true;
-    for (kind, flight, effect) in [
-        ('j', 0, Effect::Joined),
-        ('w', 0, Effect::Invoked(OpId(0))),
-        ('s', 0, Effect::Sent(0)),
-        ('d', 0, Effect::Answered(1)),
-        ('d', 1, Effect::Taken(Taken::Noted(tag))),
-        ('s', 0, Effect::Sent(2)),
-        ('c', 2, Effect::Repeated),
-        ('d', 2, Effect::Answered(3)),
-        ('l', 2, Effect::Lost),
-        ('d', 3, Effect::Taken(Taken::Ready)),
-        ('a', 0, Effect::Responded(OpId(0))),
-        ('k', 0, Effect::Stopped),
-        ('-', 0, Effect::Stopped),
-        ('+', 0, Effect::Started),
-    ] {
-        if insist(alloc, &mut world, kind, flight)? != Ok(effect) {
+    for (kind, who, at, effect) in steps {
+        let step = step(alloc, *kind, *who, *at)?;
+        if !insist(alloc, world, &step, Some(*effect))? {
             good = false;
         }
     }
     Ok(good)
+}
+
+/// Whether thirteen clients join.
+fn all_join(alloc: Global, world: &mut World) -> Result<bool, Memory> {
+    let mut good = true;
+    for who in 1..14 {
+        let step = step(alloc, 'j', who, 0)?;
+        if !insist(alloc, world, &step, Some(Effect::Joined))? {
+            good = false;
+        }
+    }
+    Ok(good)
+}
+
+/// Whether client 1 writes: its put begins the replica's entry, and a second copy of it changes nothing.
+fn first_write(alloc: Global, world: &mut World, tag: Tag) -> Result<bool, Memory> {
+    let steps = [
+        ('w', 1, 0, Effect::Invoked(OpId(0))),
+        ('s', 1, 0, Effect::Sent(0)),
+        ('d', 1, 0, Effect::Answered(1)),
+        ('d', 1, 1, Effect::Taken(Taken::Noted(tag))),
+        ('s', 1, 0, Effect::Sent(2)),
+        ('c', 1, 2, Effect::Repeated),
+        ('d', 1, 2, Effect::Answered(3)),
+        ('d', 1, 2, Effect::Answered(4)),
+        ('l', 1, 4, Effect::Lost),
+        ('d', 1, 3, Effect::Taken(Taken::Ready)),
+        ('a', 1, 0, Effect::Responded(OpId(0))),
+    ];
+    are_taken(alloc, world, &steps)
+}
+
+/// Whether client 2 writes: its put comes over a known key.
+fn second_write(alloc: Global, world: &mut World, tag: Tag) -> Result<bool, Memory> {
+    let steps = [
+        ('w', 2, 0, Effect::Invoked(OpId(1))),
+        ('s', 2, 0, Effect::Sent(5)),
+        ('d', 2, 5, Effect::Answered(6)),
+        ('d', 2, 6, Effect::Taken(Taken::Noted(tag))),
+        ('s', 2, 0, Effect::Sent(7)),
+        ('d', 2, 7, Effect::Answered(8)),
+        ('d', 2, 8, Effect::Taken(Taken::Ready)),
+        ('a', 2, 0, Effect::Responded(OpId(1))),
+    ];
+    are_taken(alloc, world, &steps)
+}
+
+/// Whether client 3 reads what client 2 wrote, and the replica stops and starts.
+fn last_read(alloc: Global, world: &mut World, tag: Tag) -> Result<bool, Memory> {
+    let steps = [
+        ('r', 3, 0, Effect::Invoked(OpId(2))),
+        ('s', 3, 0, Effect::Sent(9)),
+        ('d', 3, 9, Effect::Answered(10)),
+        ('d', 3, 10, Effect::Taken(Taken::Noted(tag))),
+        ('s', 3, 0, Effect::Sent(11)),
+        ('d', 3, 11, Effect::Answered(12)),
+        ('d', 3, 12, Effect::Taken(Taken::Ready)),
+        ('a', 3, 0, Effect::Responded(OpId(2))),
+        ('k', 1, 0, Effect::Stopped),
+        ('-', 1, 0, Effect::Stopped),
+        ('+', 1, 0, Effect::Started),
+    ];
+    are_taken(alloc, world, &steps)
+}
+
+fn steps_are_kept(alloc: Global, world: &mut World) -> Result<bool, Memory> {
+    let (Some(first), Some(second)) = (Tag::new(1, 1), Tag::new(2, 2)) else {
+        return Ok(false);
+    };
+    let join = all_join(alloc, world)?;
+    let written = first_write(alloc, world, first)?;
+    let again = second_write(alloc, world, second)?;
+    let read = last_read(alloc, world, second)?;
+    Ok(join && written && again && read)
+}
+
+fn world_is_kept(alloc: Global) -> Result<bool, Memory> {
+    let Some(config) = Config::new(1, 1000, 1000) else {
+        return Ok(false);
+    };
+    let mut world = World::new(alloc, config)?;
+    steps_are_kept(alloc, &mut world)
 }
 
 #[test]
@@ -130,8 +246,9 @@ fn settling_is_kept(alloc: Global) -> Result<bool, Memory> {
         return Ok(false);
     };
     let mut world = World::new(alloc, config)?;
-    let joined = world.step(step(alloc, 'j', 0)?).is_ok();
-    let begun = world.step(step(alloc, 'w', 0)?).is_ok();
+    let (join, write) = (step(alloc, 'j', 1, 0)?, step(alloc, 'w', 1, 0)?);
+    let joined = insist(alloc, &mut world, &join, Some(Effect::Joined))?;
+    let begun = insist(alloc, &mut world, &write, Some(Effect::Invoked(OpId(0))))?;
     Ok(joined && begun && is_settled(&mut world, client))
 }
 
