@@ -1,0 +1,162 @@
+"""refuse_growths.py LIBRARY TOP [NAME ..]
+
+Runs built programs with the library before them that refuses one growth, the first, the second and so on until a run meets none.
+
+- abd: a check, a justify and a simulate of an example. With a refusal a run has the very answer of a run without one, or status 4,
+  nothing on standard output and one line on standard error, which names memory and a line that the file has.
+- the row programs: each row alone. What is said of it is what is expected, up to the first line that names memory or to the program's end.
+- growth_tests: each test. It passes (it calls again after a refused growth, and compares whole worlds, pools, replicas, clients and
+  histories as they were before the call and after it), or it ends early, since a growth of its own was refused.
+"""
+
+import os
+import re
+import subprocess
+import sys
+import tempfile
+
+# A row that goes over all small parts takes millions of growths: of a row no more than so many are refused.
+MOST = 3000
+ALL = 1_000_000
+ROWS = {"record_rows", "protocol_rows", "command_rows"}
+
+
+class Wrong(Exception):
+    """Something came out that mustn't."""
+
+
+class Runs:
+    """Runs of one program in one folder."""
+
+    def __init__(self, library, program, folder):
+        self.library, self.program, self.folder = library, program, folder
+
+    def run(self, words, at):
+        """Whether the growth of that number was met, the status, and what came out on the two outputs."""
+        with tempfile.TemporaryFile() as told:
+            def report():
+                os.dup2(told.fileno(), 9)
+            env = {**os.environ, "LD_PRELOAD": self.library, "REFUSE_AT": str(at)}
+            ran = subprocess.run([self.program, *words], cwd=self.folder, env=env, preexec_fn=report, pass_fds=[9], capture_output=True)
+            met = told.seek(0, os.SEEK_END) > 0
+        return met, ran.returncode, ran.stdout.decode(errors="replace"), ran.stderr.decode(errors="replace")
+
+    def go_over(self, words, judge, most):
+        """Refuses each growth in turn. How many there are, of how many the answer was the one without a refusal, and whether these are all."""
+        wanted = self.run(words, 0)[1:]
+        if wanted[0] != 0:
+            raise Wrong(f"{' '.join(words)} fails without a refusal: {wanted}")
+        same = 0
+        for at in range(1, most + 1):
+            met, *found = self.run(words, at)
+            if tuple(found) == wanted:
+                same += 1
+            elif met:
+                judge(at, *found)
+            else:
+                raise Wrong(f"growth {at} was not met, but the answer is another: {found}")
+            if not met:
+                if at == 1:
+                    raise Wrong(f"{' '.join(words)} meets no growth")
+                return at - 1, same - 1, True
+        return most, same, False
+
+
+def lines_of(path):
+    with open(path, "rb") as file:
+        return max(len(file.read().splitlines()), 1)
+
+
+def commands(library, top):
+    """The three commands."""
+    folder = f"{top}/examples"
+    runs = Runs(library, f"{top}/crates/abd/out/abd", folder)
+    for words in (["check", "two_calls.history", "two_calls.orders"], ["justify", "new_then_old.history"], ["simulate", "new_then_old.script"]):
+        named = set()
+
+        def judge(at, status, out, errors):
+            found = re.fullmatch(r"abd: (?:(\S+): line (\d+): (?:fault 14|script fault 8) memory|no memory)\n", errors)
+            if status != 4 or out or not found:
+                raise Wrong(f"abd {' '.join(words)}, growth {at}: status {status}, {out!r}, {errors!r}")
+            if found[1]:
+                if found[1] not in words or not 1 <= int(found[2]) <= lines_of(f"{folder}/{found[1]}"):
+                    raise Wrong(f"abd {' '.join(words)}, growth {at}: no such line: {errors!r}")
+                named.add((found[1], int(found[2])))
+
+        count, same, _ = runs.go_over(words, judge, ALL)
+        where = ", ".join(f"{file} {sorted(line for it, line in named if it == file)}" for file in sorted({it for it, _ in named}))
+        print(f"abd {' '.join(words)}: {count} growths, the right answer all the same at {same} of them, else status 4; lines named: {where}", flush=True)
+
+
+def rows(library, top, name):
+    """The rows of a row program, each alone."""
+    folder = f"{top}/crates/{name}"
+    total = equal = many = 0
+    with open(f"{folder}/args", encoding="utf-8") as file:
+        files = file.read().split()
+    for data in files:
+        with open(f"{folder}/data/{data}", encoding="utf-8") as file:
+            blocks = file.read().split("\n### ")[1:]
+        for block in blocks:
+            with tempfile.TemporaryDirectory() as place:
+                # a row that reads a file of data/ finds it
+                for it in os.listdir(f"{folder}/data"):
+                    os.symlink(os.path.abspath(f"{folder}/data/{it}"), f"{place}/{it}")
+                with open(f"{place}/one.row", "w", encoding="utf-8") as file:
+                    file.write(f"# one row\n\n### {block}")
+                runs = Runs(library, os.path.abspath(f"{folder}/out/{name}"), place)
+                wanted = runs.run(["one.row"], 0)[2].splitlines()
+
+                def judge(at, status, out, errors):
+                    lines = out.splitlines()
+                    names = [place for place, line in enumerate(lines) if "memory" in line.lower()]
+                    before = lines[: names[0]] if names else lines
+                    if status == 0 or before != wanted[: len(before)]:
+                        raise Wrong(f"{name}, {data}, {block.splitlines()[0]!r}, growth {at}: status {status}, {out!r}, {errors!r}")
+
+                count, same, is_whole = runs.go_over(["one.row"], judge, MOST)
+                total, equal, many = total + count, equal + same, many + (not is_whole)
+    print(f"{name}: {total} growths of its rows, each row alone; as expected all the same at {equal} of them, else memory is named; {many} rows with more than {MOST}", flush=True)
+
+
+def tests(library, top):
+    """The tests of growth_tests."""
+    runs = Runs(library, f"{top}/crates/growth_tests/out/growth_tests_tests", top)
+    listed = subprocess.run([runs.program, "--list"], capture_output=True, text=True).stdout
+    names = re.findall(r"^(\S+): test$", listed, re.M)
+    if not names:
+        raise Wrong("growth_tests: it has no test")
+    for name in names:
+
+        def judge(at, status, out, errors):
+            if "Error: Memory" not in out + errors:
+                raise Wrong(f"{name}, growth {at}: status {status}, {out!r}, {errors!r}")
+
+        count, same, _ = runs.go_over([name], judge, ALL)
+        print(f"{name}: {count} growths; at {same} of them all was as it was, and the rest are the test's own", flush=True)
+
+
+def main():
+    library, top, *names = sys.argv[1:]
+    bad = False
+    for name in names or ["abd", "record_rows", "protocol_rows", "command_rows", "growth_tests"]:
+        program = f"{top}/crates/{name}/out/{name}{'_tests' if name == 'growth_tests' else ''}"
+        if not os.path.isfile(program):
+            print(f"{name} is not built")
+            bad = True
+            continue
+        try:
+            if name == "abd":
+                commands(library, top)
+            elif name in ROWS:
+                rows(library, top, name)
+            else:
+                tests(library, top)
+        except Wrong as it:
+            print(it)
+            bad = True
+    sys.exit(bad)
+
+
+if __name__ == "__main__":
+    main()
