@@ -10,8 +10,8 @@ use std::process::ExitCode;
 use std::thread::Threads;
 use std::{env, fs};
 
-/// Shows the help that was asked for.
-fn help(rt: &HostRuntime, text: &str) -> Status {
+/// Shows the help or the version that was asked for.
+fn show(rt: &HostRuntime, text: &str) -> Status {
     match rt.print(text) {
         Ok(()) => Status::Good,
         Err(_) => Failure::Output.report(&mut rt.stderr()),
@@ -21,7 +21,7 @@ fn help(rt: &HostRuntime, text: &str) -> Status {
 /// Says why the words make no command.
 fn refuse(rt: &HostRuntime, usage: Usage) -> Status {
     match usage {
-        Usage::Help(text) => help(rt, text.as_str()),
+        Usage::Help(text) | Usage::Version(text) => show(rt, text.as_str()),
         Usage::Fault(text) => {
             let _ = rt.eprint(text.as_str());
             Status::Usage

@@ -1,6 +1,8 @@
 -- What the words of a command line ask for, by clap's reading of a simple command.
-use Rattle.std.specs.Prelude.{◌≡◌, List, Option, Some, true, codes}
-use Rattle.clap.specs.Words.{App, Row, Rule, Text, first_of, new_app, new_rule, subcommand_of, takes, with_rule, with_subcommand}
+use Rattle.std.specs.Prelude.{◌≡◌, ◌⊎◌, List, [], Option, Some, true, codes}
+use Rattle.clap.specs.Words.{App, IsAmong, Row, Rule, Text, fault_of, first_of, new_app, new_rule, subcommand_of, with_rule, with_subcommand}
+use Rattle.clap.specs.declared.error.kind.ErrorKind.{ErrorKind}
+use Rattle.clap.specs.declared.error.kind.ErrorKind.TheVariants.{DisplayHelp, DisplayVersion, OutOfMemory}
 use Rattle.cli.specs.declared.asked.Command.{Command}
 use Rattle.cli.specs.declared.asked.Command.TheVariants.{Check, Justify, Simulate}
 use Rattle.cli.specs.declared.asked.Usage.{Usage}
@@ -22,12 +24,15 @@ justify_app = with_rule (new_app (codes "justify")) (needed_word (codes "HISTORY
 abbrev pub simulate_app : App
 simulate_app = with_rule (new_app (codes "simulate")) (needed_word (codes "SCRIPT"))
 
--- abd with its commands
-abbrev pub needs_command : App → App
-needs_command app = record app { top = record app.top { subcommand_required = true } }
+-- abd by itself, which has a version and needs a command
+abbrev pub bare_app : App
+bare_app =
+    let app = new_app (codes "abd") in
+    record app { top = record app.top { has_version = true; subcommand_required = true } }
 
+-- abd with its commands
 abbrev pub abd_app : App
-abd_app = with_subcommand (with_subcommand (with_subcommand (needs_command (new_app (codes "abd"))) check_app.top) justify_app.top) simulate_app.top
+abd_app = with_subcommand (with_subcommand (with_subcommand bare_app check_app.top) justify_app.top) simulate_app.top
 
 -- the files that the words behind `check` name
 pub record NamesFiles (rows : List Row) (history orders : Text) : Type 0 where
@@ -54,11 +59,34 @@ MakesAs name rows command = (name_of command ≡ name) × Makes rows command
 abbrev pub MakesOf : Option (Text × List Row) → Command → Type 0
 MakesOf met command = (rows : List Row) × (met ≡ Some (name_of command, rows)) × Makes rows command
 
--- the words ask for the command
-abbrev pub Asks : List Text → Command → Type 0
-Asks words command = MakesOf (subcommand_of abd_app words) command
+-- clap takes the words: it finds no fault in them, and neither help nor the version is asked for
+abbrev pub AreTaken : List Text → Type 0
+AreTaken words = fault_of abd_app words ≡ []
 
--- there is no command only where the words aren't taken or ask for none, or memory ran out
+-- the words ask for the command: they are taken, and make it
+abbrev pub Asks : List Text → Command → Type 0
+Asks words command = AreTaken words × MakesOf (subcommand_of abd_app words) command
+
+-- the kind is of a fault of the words
+abbrev pub IsMistake : ErrorKind → Type 0
+IsMistake kind = (kind ≡ DisplayHelp → ⊥) × (kind ≡ DisplayVersion → ⊥) × (kind ≡ OutOfMemory → ⊥)
+
+-- the words have a fault, or are taken and make no command
+abbrev pub AreFaulty : List Text → Type 0
+AreFaulty words =
+    ((kind : ErrorKind) × IsAmong kind (fault_of abd_app words) × IsMistake kind)
+    ⊎ (AreTaken words × ((command : Command) → MakesOf (subcommand_of abd_app words) command → ⊥))
+
+-- why there is no command: help was asked for, or the version, or the words have a fault, or memory ran out
 abbrev pub AsksNothing : List Text → Usage → Type 0
+AsksNothing words (usage.Help text) = IsAmong DisplayHelp (fault_of abd_app words)
+AsksNothing words (usage.Version text) = IsAmong DisplayVersion (fault_of abd_app words)
+AsksNothing words (usage.Fault text) = AreFaulty words
 AsksNothing words usage.Memory = Unit {0}
-AsksNothing words answer = takes abd_app words ≡ true → (command : Command) → Asks words command → ⊥
+
+-- the answer says an error of clap's that has that kind
+abbrev pub Says : ErrorKind → Usage → Type 0
+Says kind (usage.Help text) = kind ≡ DisplayHelp
+Says kind (usage.Version text) = kind ≡ DisplayVersion
+Says kind (usage.Fault text) = IsMistake kind
+Says kind usage.Memory = Unit {0}

@@ -10,11 +10,13 @@ pub enum Command<'a> {
     Simulate { script: &'a str },
 }
 
-/// Why a command line asks for nothing.
+/// Why a command line asks for no command.
 #[derive(Debug, Drop)]
 pub enum Usage {
     /// It asks for help, which is this text.
     Help(String),
+    /// It asks for the program's version, which is this text.
+    Version(String),
     /// It has none of the forms; the text says why, and what they are.
     Fault(String),
     /// Want of memory.

@@ -6,6 +6,7 @@
 
 mod asked;
 mod check;
+mod help;
 mod judging;
 mod justify;
 mod justifying;

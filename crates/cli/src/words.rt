@@ -2,10 +2,11 @@
 ghost use Rattle.std.specs.Prelude.{◌≡◌, false, codes, IfOk, IfErr, MatchOption, map, string_bytes};
 ghost use Rattle.clap.specs.Words.{app_of, found_of, kind_of, rows_of, subcommand_rows_of};
 ghost use Rattle.clap.specs.declared.builder.command.Command.TheViews.{out-Command as fields_of};
-ghost use Rattle.cli.specs.Words.{abd_app, check_app, justify_app, simulate_app, Asks, AsksNothing, MakesAs, MakesOf};
+ghost use Rattle.cli.specs.Words.{abd_app, bare_app, check_app, justify_app, simulate_app, Asks, AsksNothing, MakesAs, MakesOf, Says};
 ghost use Rattle.cli.specs.declared.asked.Command.{Command};
 
 use crate::asked::{Command, Usage};
+use crate::help;
 use clap::error::ErrorKind;
 use clap::{Arg, ArgMatches, Error};
 use std::alloc::{AllocError, Global};
@@ -23,12 +24,7 @@ fn check_words<'a>(alloc: Global) -> Result<clap::Command<'a>, AllocError>
         .help("For each key an order of its calls: an order file");
     let check = clap::Command::new(alloc, "check")
         .about("Judge, key by key, whether the orders show that the history is atomic")
-        .after_help(
-            "Prints one line a key, `KEY: yes` or `KEY: no` and the fault, keys in the order in which \
-             the history first sees them.\nExit status: 0 all yes, 1 a key refused, 2 usage, 3 a file \
-             can't be opened or read as its format, 4 memory or a device.\n\nExample: abd check \
-             examples/two_calls.history examples/two_calls.orders",
-        );
+        .after_help(help::CHECK);
     check.arg(history)?.arg(orders)
 }
 
@@ -42,13 +38,7 @@ fn justify_words<'a>(alloc: Global) -> Result<clap::Command<'a>, AllocError>
         .help("The recorded calls, with their notes: a history file");
     let justify = clap::Command::new(alloc, "justify")
         .about("Make from the notes an order of each key's calls, check it, and write the orders")
-        .after_help(
-            "Writes an order file, for `abd check`, keys in the order in which the history first sees \
-             them. Where a key has no such order it writes nothing, and says the first such key on \
-             standard error.\nExit status: 0 written, 1 a key has no order, 2 usage, 3 the file can't be \
-             opened or read as its format, 4 memory or a device.\n\nExample: abd justify \
-             examples/new_then_old.history",
-        );
+        .after_help(help::JUSTIFY);
     justify.arg(history)
 }
 
@@ -62,13 +52,21 @@ fn simulate_words<'a>(alloc: Global) -> Result<clap::Command<'a>, AllocError>
     );
     let simulate = clap::Command::new(alloc, "simulate")
         .about("Run a script of calls and faults, and write the history of its run")
-        .after_help(
-            "Writes a history file, for `abd justify` and `abd check`. A note on standard error says \
-             which line was refused and why, and how many random steps were taken.\nExit status: 0 \
-             written, 2 usage, 3 the script can't be opened or has a fault, 4 memory or a \
-             device.\n\nExample: abd simulate examples/new_then_old.script",
-        );
+        .after_help(help::SIMULATE);
     simulate.arg(script)
+}
+
+/// `abd` by itself.
+fn bare_words<'a>(alloc: Global) -> clap::Command<'a>
+    ensures { app_of result ≡ bare_app }
+{
+    clap::Command::new(alloc, "abd")
+        .version(help::VERSION)
+        .about(
+            "Simulates a register store, and makes and checks certificates that its record is atomic",
+        )
+        .after_help(help::ABD)
+        .subcommand_required(true)
 }
 
 /// `abd` with its commands.
@@ -78,24 +76,24 @@ fn abd_words<'a>(alloc: Global) -> Result<clap::Command<'a>, AllocError>
     let check = check_words(alloc)?;
     let justify = justify_words(alloc)?;
     let simulate = simulate_words(alloc)?;
-    let abd = clap::Command::new(alloc, "abd")
-        .about(
-            "Simulates a register store, and makes and checks certificates that its record is atomic",
-        )
-        .subcommand_required(true);
-    abd.subcommand(check)?
+    bare_words(alloc)
+        .subcommand(check)?
         .subcommand(justify)?
         .subcommand(simulate)
 }
 
 /// What an error of clap's says.
 fn usage_of(alloc: Global, error: &Error) -> Usage
-    ensures { kind_of error.now ≡ ErrorKind.OutOfMemory → result ≡ Usage.Memory }
+    ensures { Says (kind_of error.now) result }
 {
+    let Ok(text) = error.to_string(alloc) else {
+        return Usage::Memory;
+    };
     match error.kind() {
         ErrorKind::OutOfMemory => Usage::Memory,
-        ErrorKind::DisplayHelp => error.to_string(alloc).map_or(Usage::Memory, Usage::Help),
-        _ => error.to_string(alloc).map_or(Usage::Memory, Usage::Fault),
+        ErrorKind::DisplayHelp => Usage::Help(text),
+        ErrorKind::DisplayVersion => Usage::Version(text),
+        _ => Usage::Fault(text),
     }
 }
 
@@ -148,14 +146,20 @@ fn command_in<'a>(matches: &ArgMatches<'a>) -> Option<Command<'a>>
     }
 }
 
-/// Where clap met no command of ours, which it refuses itself.
-fn no_command(alloc: Global) -> Usage {
-    String::from_str(alloc, "abd: no command; see abd --help\n").map_or(Usage::Memory, Usage::Fault)
+/// Where clap takes the words and they make no command of ours.
+fn no_command(alloc: Global) -> Usage
+    ensures { Says ErrorKind.MissingSubcommand result }
+{
+    match String::from_str(alloc, "abd: no command; see abd --help\n") {
+        Ok(text) => Usage::Fault(text),
+        Err(_) => Usage::Memory,
+    }
 }
 
 /// The command that the words, the program's own name first, ask for.
 ///
-/// Help and faults come with a text for people, which says how the words read.
+/// Help, the version and faults come with a text for people, which ends with a line's end. Help and
+/// the version are answered only where they were asked for, a fault only where the words have one.
 pub fn command<'a>(alloc: Global, words: &'a [String]) -> Result<Command<'a>, Usage>
     ensures asked { IfOk result (Asks (map string_bytes words.now)) }
     ensures not_asked { IfErr result (AsksNothing (map string_bytes words.now)) }

@@ -37,12 +37,14 @@ fn line_said(alloc: Global, line: &str) -> Result<String, AllocError> {
     match command(alloc, words.as_slice()) {
         Ok(asked) => asked_said(alloc, asked),
         Err(Usage::Help(text)) => text_said(alloc, "help", text.as_str(), word),
+        Err(Usage::Version(text)) => text_said(alloc, "version", text.as_str(), word),
         Err(Usage::Fault(text)) => text_said(alloc, "fault", text.as_str(), word),
         Err(Usage::Memory) => String::from_str(alloc, "no memory\n"),
     }
 }
 
-/// What each line asks for; after ` says ` stands a word that the help or the fault has to have.
+/// What each line asks for; after ` says ` stands a word that the help, the version or the fault has
+/// to have.
 pub fn words_row(alloc: Global, lines: &str) -> Result<String, AllocError> {
     let mut text = String::new(alloc);
     for line in lines.lines() {

@@ -1,33 +1,61 @@
--- Where clap refuses the words, or meets no command, the definition asks for nothing.
-use Rattle.std.proofs.Common.{◌≡◌, true, List, Option, ap, sym, subst, ◌∙◌, map, string_bytes}
-use Rattle.clap.specs.Words.{App, Row, Text, takes, app_of, is_simple, kind_of, subcommand_of, subcommand_rows_of}
+-- What clap answers to the words is what the definition says of them.
+use Rattle.std.proofs.Common.{◌≡◌, ◌⊎◌, inl, inr, true, List, [], Option, ap, refl, sym, subst, ◌∙◌, map, string_bytes}
+use Rattle.clap.specs.Words.{App, IsAmong, Row, Text, app_of, fault_of, is_simple, is_simple_and_free, kind_of, subcommand_of, subcommand_rows_of}
 use Rattle.clap.specs.declared.error.kind.ErrorKind.{ErrorKind}
-use Rattle.clap.specs.declared.error.kind.ErrorKind.TheVariants.{OutOfMemory}
-use Rattle.cli.specs.Words.{abd_app, Asks, AsksNothing, MakesOf}
+use Rattle.clap.specs.declared.error.kind.ErrorKind.TheVariants.{DisplayHelp, DisplayVersion, MissingSubcommand, OutOfMemory}
+use Rattle.clap.proofs.OnLiterals.{clap_on_literals}
+use Rattle.cli.specs.Words.{abd_app, AreTaken, Asks, AsksNothing, MakesOf, Says}
 use Rattle.cli.specs.declared.asked.Command.{Command}
 use Rattle.cli.specs.declared.asked.Usage.{Usage}
 use Rattle.cli.specs.declared.asked.Usage.TheVariants as usage
 use Rattle.cli.proofs.words.command.Goals as goal
 
-unasked : (words : List Text) (answer : Usage) → ((command : Command) → Asks words command → ⊥) → AsksNothing words answer
-unasked words (usage.Help text) none = λ taken. none
-unasked words (usage.Fault text) none = λ taken. none
-unasked words usage.Memory none = tt
+-- `abd` is a command of which clap gives the kinds of its errors
+is_free : is_simple_and_free abd_app ≡ true
+unfolding clap_on_literals
+is_free = refl
 
-refused : (words : List Text) (answer : Usage) (kind : ErrorKind) → (takes abd_app words ≡ true → kind ≡ OutOfMemory) → (kind ≡ OutOfMemory → answer ≡ usage.Memory) → AsksNothing words answer
-refused words (usage.Help text) kind passes memory = λ taken. let wrong : ◌≡◌ {A = Usage} (usage.Help text) usage.Memory = memory (passes taken) in absurd (cc)
-refused words (usage.Fault text) kind passes memory = λ taken. let wrong : ◌≡◌ {A = Usage} (usage.Fault text) usage.Memory = memory (passes taken) in absurd (cc)
-refused words usage.Memory kind passes memory = tt
+-- the words are taken, and make no command
+unmade : (words : List Text) (answer : Usage) → Says MissingSubcommand answer → AreTaken words
+    → ((command : Command) → MakesOf (subcommand_of abd_app words) command → ⊥) → AsksNothing words answer
+unmade words (usage.Help text) says taken none = absurd (cc)
+unmade words (usage.Version text) says taken none = absurd (cc)
+unmade words (usage.Fault text) says taken none = inr (taken, none)
+unmade words usage.Memory says taken none = tt
+
+-- the words aren't taken, for the kind of the error
+refused : (words : List Text) (answer : Usage) (kind : ErrorKind) → Says kind answer → (kind ≡ OutOfMemory) ⊎ IsAmong kind (fault_of abd_app words) → AsksNothing words answer
+refused words (usage.Help text) kind says (inl memory) = absurd (cc)
+refused words (usage.Help text) kind says (inr among) = subst (λ (k : ErrorKind). IsAmong k (fault_of abd_app words)) says among
+refused words (usage.Version text) kind says (inl memory) = absurd (cc)
+refused words (usage.Version text) kind says (inr among) = subst (λ (k : ErrorKind). IsAmong k (fault_of abd_app words)) says among
+refused words (usage.Fault text) kind says (inl memory) = absurd (says.2 memory)
+refused words (usage.Fault text) kind says (inr among) = inl (kind, among, says)
+refused words usage.Memory kind says h = tt
+
+pub returns-in-Some-clause-asked : goal.returns-in-Some-clause-asked
+returns-in-Some-clause-asked c =
+    let words = map string_bytes c.args.words.now in
+    let abd_is : app_of c.in-Ok.abd ≡ abd_app = c.in-Ok.ensures in
+    let taken : fault_of (app_of c.in-Ok.abd) words ≡ [] = c.in-Ok-try_get_matches_from.ensures.kinds (ap is_simple_and_free abd_is ∙ is_free) in
+    let met : subcommand_rows_of c.in-Ok-try_get_matches_from.matches ≡ subcommand_of abd_app words = (c.in-Ok-try_get_matches_from.ensures.matches (ap is_simple abd_is)).1 ∙ ap (λ (a : App). subcommand_of a words) abd_is in (
+      sym (ap (λ (a : App). fault_of a words) abd_is) ∙ taken,
+      subst (λ (found : Option (Text × List Row)). MakesOf found c.in-Some.command) met c.in-Some.ensures,
+    )
 
 pub returns-in-Ok-try_get_matches_from-clause-not_asked : goal.returns-in-Ok-try_get_matches_from-clause-not_asked
 returns-in-Ok-try_get_matches_from-clause-not_asked c =
     let words = map string_bytes c.args.words.now in
     let abd_is : app_of c.in-Ok.abd ≡ abd_app = c.in-Ok.ensures in
+    let taken : fault_of (app_of c.in-Ok.abd) words ≡ [] = c.in-Ok-try_get_matches_from.ensures.kinds (ap is_simple_and_free abd_is ∙ is_free) in
     let met : subcommand_rows_of c.in-Ok-try_get_matches_from.matches ≡ subcommand_of abd_app words = (c.in-Ok-try_get_matches_from.ensures.matches (ap is_simple abd_is)).1 ∙ ap (λ (a : App). subcommand_of a words) abd_is in
-    unasked words c.no_command.result (λ command asks. c.in-None.ensures command (subst (λ (found : Option (Text × List Row)). MakesOf found command) (sym met) asks))
+    unmade words c.no_command.result c.no_command.ensures (sym (ap (λ (a : App). fault_of a words) abd_is) ∙ taken)
+    (λ command makes. c.in-None.ensures command (subst (λ (found : Option (Text × List Row)). MakesOf found command) (sym met) makes))
 
 pub returns-clause-not_asked : goal.returns-clause-not_asked
 returns-clause-not_asked c =
     let words = map string_bytes c.args.words.now in
     let abd_is : app_of c.in-Ok.abd ≡ abd_app = c.in-Ok.ensures in
-    refused words c.usage_of.result (kind_of c.in-Err.error) (λ taken. c.in-Err.ensures.passes (ap (λ (a : App). takes a words) abd_is ∙ taken)) c.usage_of.ensures
+    let kind = kind_of c.in-Err.error in
+    let has : (kind ≡ OutOfMemory) ⊎ IsAmong kind (fault_of (app_of c.in-Ok.abd) words) = c.in-Err.ensures.kinds (ap is_simple_and_free abd_is ∙ is_free) in
+    refused words c.usage_of.result kind c.usage_of.ensures (subst (λ (a : App). (kind ≡ OutOfMemory) ⊎ IsAmong kind (fault_of a words)) abd_is has)

@@ -1,0 +1,47 @@
+//! What help says of the commands, behind what clap says of their words.
+
+/// The version that `abd --version` says.
+pub const VERSION: &str = "0.1.0";
+
+/// Of `abd`.
+pub const ABD: &str =
+    "A file name may be /dev/stdin, for what is piped in. Files, scripts, messages and \
+limits: docs/FORMATS.md.\n\nExample:\n  \
+abd simulate examples/new_then_old.script > made.history\n  \
+abd justify made.history > made.orders\n  \
+abd check made.history made.orders";
+
+/// Of `abd check`.
+pub const CHECK: &str =
+    "Prints one line a key, `KEY: yes` or `KEY: no` and the fault, keys in the order in which \
+the history first sees them, then those that only the orders have. One of the files may be /dev/stdin, for what is \
+piped in.\nExit status: 0 all yes, 1 a key refused, 2 usage, 3 a file can't be opened or read as its format, 4 memory \
+or a device.\n\nExample: abd check examples/two_calls.history examples/two_calls.orders";
+
+/// Of `abd justify`.
+pub const JUSTIFY: &str =
+    "Writes an order file, for `abd check`, keys in the order in which the history first sees \
+them. Where a key has no such order it writes nothing, and says the first such key on standard error. HISTORY may be \
+/dev/stdin, for what is piped in.\nExit status: 0 written, 1 a key has no order, 2 usage, 3 the file can't be opened \
+or read as its format, 4 memory or a device.\n\nExample: abd justify examples/new_then_old.history";
+
+/// Of `abd simulate`.
+pub const SIMULATE: &str =
+    "The commands of a script, one a line (a line that begins with # says nothing):\n  \
+replicas N [CALLS [MESSAGES]]  how many there are; the first command\n  \
+reads full, reads short        whether each read writes back\n  \
+votes V .. ask A put P         quorums by votes; majorities if missing\n  \
+join CLIENT                    a client joins\n  \
+invoke CLIENT read KEY         it begins a read\n  \
+invoke CLIENT write KEY VALUE  it begins a write\n  \
+send CLIENT REPLICA            it sends its request, as the next message\n  \
+deliver M, lose M, repeat M    what becomes of a copy of message M\n  \
+respond CLIENT                 it responds, where it has its answer\n  \
+stop client C                  for good\n  \
+stop replica R, start replica R\n  \
+finish CLIENT                  the steps that complete its call\n  \
+random SEED COUNT              up to COUNT random steps\n\
+SCRIPT may be /dev/stdin, for what is piped in.\n\n\
+Writes a history file, for `abd justify` and `abd check`. A note on standard error says which line was refused and \
+why, and how many random steps were taken.\nExit status: 0 written, 2 usage, 3 the script can't be opened or has a \
+fault, 4 memory or a device.\n\nExample: abd simulate examples/new_then_old.script";
