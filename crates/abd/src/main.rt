@@ -54,7 +54,7 @@ fn check(rt: &HostRuntime, threads: &(impl Threads + Sync), history: &str, order
 
 /// Opens the history, and justifies it.
 fn justify(rt: &HostRuntime, threads: &(impl Threads + Sync), history: &str) -> Status {
-    let mut errors = rt.stderr();
+    let mut errors = Counting::new(rt.stderr());
     let Ok(history_file) = fs::open(rt, history) else {
         return Failure::Closed { name: history }.report(&mut errors);
     };

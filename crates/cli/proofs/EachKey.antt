@@ -113,6 +113,6 @@ module _ (rows : List Row) (parts : Entries Call) (are : AreParts rows parts) wh
     some_no (inr (e, h, fails)) = (e.0, record { part = []; recorded = unbegun e.0 fails.0; unordered = λ order. fails.1 (subst (λ (o : List OpId). IsOrder [] o) (sym (entry_on pieces orders entries joined keyed e.0 e.1 h)) order) })
 
     -- the status says it
-    pub judged_keys : (yes : Bool) → JudgesAll parts entries yes → Judges rows pieces (verdict_status yes)
-    judged_keys true all = all_yes all
-    judged_keys false some = some_no some
+    pub judged_status : (yes : Bool) → JudgesAll parts entries yes → Judges rows pieces (verdict_status yes)
+    judged_status true all = all_yes all
+    judged_status false some = some_no some

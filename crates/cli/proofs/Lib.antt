@@ -2,9 +2,11 @@ mod CommandNames
 mod DeviceFailures
 pub mod EachKey
 pub mod Entries
-pub mod Judgements
 pub mod HistoryEndings
+pub mod Judgements
 pub mod Keyed
-pub mod Reading
-pub mod Prefixes
+mod LineSpelling
+pub mod Lines
 pub mod Noted
+pub mod Prefixes
+pub mod Reading

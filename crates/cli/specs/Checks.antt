@@ -13,6 +13,10 @@ use Rattle.history_file.specs.Deliveries.{ReadsAll, StopsWith}
 use Rattle.file_format.specs.Formats.{Format}
 use Rattle.file_format.specs.HistoryFormat.{history_format, MakesHistory}
 use Rattle.file_format.specs.OrderFormat.{order_format, order_on}
+use Rattle.std.specs.Io.KnownBytes.{Appends}
+use Rattle.counted_devices.specs.Sendings.{Begins}
+use Rattle.cli.specs.Passages.{Passage}
+use Rattle.cli.specs.VerdictLines.{HasLines}
 use Rattle.cli.specs.declared.status.Failure.{Failure}
 use Rattle.cli.specs.declared.status.Failure.TheVariants as failure
 use Rattle.cli.specs.declared.status.Status.{Status}
@@ -61,14 +65,31 @@ abbrev pub TellsFault : List ℕ → (FileFault → Type 0) → Failure → Type
 TellsFault name P (failure.File told fault) = (told.now ≡ name) × P fault
 TellsFault name P f = ⊥
 
--- both files were read, and the status judges them
-abbrev pub JudgesRead : Left → Left → Status → Type 0
-JudgesRead old new s = (rows : List Row) × (pieces : List KeyOrder) × AreRead old new rows pieces × Judges rows pieces s
+-- the history's reader came to its end, and gave a history
+pub record IsHistoryRead (old new : Left) : Type 0 where
+  pub rows : List Row
+  pub read : Delivers old.history new.history (ReadsAll history_format MakesHistory new.history (record { rows = rows; limit = 1000000 }))
 
--- what the status of a check says; of want of memory and of devices it says nothing more
-abbrev pub Ends : Left → Left → Status → Type 0
-Ends old new status.Good = JudgesRead old new status.Good
-Ends old new status.Refused = JudgesRead old new status.Refused
-Ends old new status.Usage = ⊥
-Ends old new status.Format = IsFaulty history_format old.history new.history ⊎ IsFaulty order_format old.orders new.orders
-Ends old new status.Failed = Unit {0}
+-- both files were read, and that holds of the lines that a check of them prints
+pub record PrintsRead (old new : Left) (P : List ℕ → Type 0) : Type 0 where
+  pub rows : List Row
+  pub pieces : List KeyOrder
+  pub read : AreRead old new rows pieces
+  pub lines : HasLines rows pieces P
+
+-- both files were read, the status judges them, and the lines of the verdicts went out
+pub record JudgesRead (old new : Left) (out : Passage) (s : Status) : Type 0 where
+  pub rows : List Row
+  pub pieces : List KeyOrder
+  pub read : AreRead old new rows pieces
+  pub judges : Judges rows pieces s
+  pub lines : HasLines rows pieces (Appends out.old out.new)
+
+-- what the status of a check says: the files were judged, and the lines went out; or the first of them that can't be read has
+-- a fault; or nothing went out, or a beginning of the lines
+abbrev pub Ends : Left → Left → Passage → Status → Type 0
+Ends old new out status.Good = JudgesRead old new out status.Good
+Ends old new out status.Refused = JudgesRead old new out status.Refused
+Ends old new out status.Usage = ⊥
+Ends old new out status.Format = IsFaulty history_format old.history new.history ⊎ (IsHistoryRead old new × IsFaulty order_format old.orders new.orders)
+Ends old new out status.Failed = (out.new ≡ out.old) ⊎ PrintsRead old new (Begins out.old out.new)

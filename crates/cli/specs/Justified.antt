@@ -1,5 +1,5 @@
 -- Orders that the notes of a history give its keys.
-use Rattle.std.specs.Prelude.{ℕ, ◌≡◌, ◌⊎◌, List, ◌∷◌, ◌++◌, Option, Some, length, slice_get}
+use Rattle.std.specs.Prelude.{ℕ, ◌≡◌, ◌⊎◌, List, ◌∷◌, ◌++◌, Some, length, codes, decimal, slice_get}
 use Rattle.std.specs.Io.KnownBytes.{Appends}
 use Rattle.tag.specs.declared.numbers.OpId.{OpId}
 use Rattle.recorder.specs.declared.row.Row.{Row}
@@ -20,6 +20,8 @@ use Rattle.cli.specs.declared.justifying.Unjustified.TheVariants as unjustified
 use Rattle.cli.specs.declared.status.Status.{Status}
 use Rattle.cli.specs.declared.status.Status.TheVariants as status
 use Rattle.cli.specs.Checks.{IsFaulty}
+use Rattle.cli.specs.Passages.{Passage, Tells, Writing}
+use Rattle.cli.specs.VerdictLines.{fault_text}
 
 -- a key with its part
 abbrev pub KeyPart : Type 0
@@ -59,28 +61,39 @@ status_of_refusal (unjustified.NoNote key op) = status.Refused
 status_of_refusal (unjustified.NoOrder key fault) = status.Refused
 status_of_refusal unjustified.Memory = status.Failed
 
--- two states of a reader, or of a writer
-pub record Passage : Type 0 where
-  pub old : Option (List ℕ)
-  pub new : Option (List ℕ)
+-- why a key has no order, on a line of its own
+unfoldable pub refusal_text : Unjustified → List ℕ
+refusal_text (unjustified.NoNote key op) = codes "abd: key " ++ key.now ++ codes ": no note for call " ++ decimal op.0 ++ codes "\n"
+refusal_text (unjustified.NoOrder key fault) = codes "abd: key " ++ key.now ++ codes ": no " ++ fault_text fault ++ codes "\n"
+refusal_text unjustified.Memory = codes "abd: no memory\n"
 
--- the text of the orders went out, or all that went out is a beginning of it
+-- a key is refused, and why is told; want of memory tells nothing
+abbrev pub Refuses : Unjustified → Writing → Status → Type 0
+Refuses refusal errors status.Refused = (status_of_refusal refusal ≡ status.Refused) × Tells errors (refusal_text refusal)
+Refuses refusal errors status.Failed = Unit {0}
+Refuses refusal errors s = ⊥
+
+-- the text of the orders went out, or nothing, or a beginning of it
 abbrev pub SendsOrders : List KeyOrder → Passage → Status → Type 0
 SendsOrders orders writer status.Good = Appends writer.old writer.new (orders_text orders)
-SendsOrders orders writer status.Failed = Begins writer.old writer.new (orders_text orders)
+SendsOrders orders writer status.Failed = (writer.new ≡ writer.old) ⊎ Begins writer.old writer.new (orders_text orders)
 SendsOrders orders writer s = ⊥
+
+-- the first key without an order is refused, and why is told
+abbrev pub RefusesFirst : List KeyPart → Writing → Type 0
+RefusesFirst parts errors = (refusal : Unjustified) × IsFirstUnjustified parts refusal × Refuses refusal errors status.Refused
 
 -- what the status says of keys with their parts: the text of their orders went out, or one has none,
 -- or all that went out is a beginning of that text
-abbrev pub JustifiesParts : List KeyPart → Passage → Status → Type 0
-JustifiesParts parts writer status.Good = (orders : List KeyOrder) × AreJustified parts orders × Appends writer.old writer.new (orders_text orders)
-JustifiesParts parts writer status.Refused = (refusal : Unjustified) × IsFirstUnjustified parts refusal × (status_of_refusal refusal ≡ status.Refused)
-JustifiesParts parts writer status.Failed = (writer.new ≡ writer.old) ⊎ ((orders : List KeyOrder) × AreJustified parts orders × Begins writer.old writer.new (orders_text orders))
-JustifiesParts parts writer s = ⊥
+abbrev pub JustifiesParts : List KeyPart → Passage → Writing → Status → Type 0
+JustifiesParts parts writer errors status.Good = (orders : List KeyOrder) × AreJustified parts orders × Appends writer.old writer.new (orders_text orders)
+JustifiesParts parts writer errors status.Refused = RefusesFirst parts errors
+JustifiesParts parts writer errors status.Failed = (writer.new ≡ writer.old) ⊎ ((orders : List KeyOrder) × AreJustified parts orders × Begins writer.old writer.new (orders_text orders))
+JustifiesParts parts writer errors s = ⊥
 
 -- what it says of the rows of a history: the same of the parts of their keys, or, where they could not be made, that nothing went out
-abbrev pub JustifiesRows : List Row → Passage → Status → Type 0
-JustifiesRows rows writer s = ((parts : List KeyPart) × AreParts rows parts × JustifiesParts parts writer s) ⊎ ((s ≡ status.Failed) × (writer.new ≡ writer.old))
+abbrev pub JustifiesRows : List Row → Passage → Writing → Status → Type 0
+JustifiesRows rows writer errors s = ((parts : List KeyPart) × AreParts rows parts × JustifiesParts parts writer errors s) ⊎ ((s ≡ status.Failed) × (writer.new ≡ writer.old))
 
 -- the reader came to its end, and gave a history whose keys have these parts
 pub record HasParts (reader : Passage) (parts : List KeyPart) : Type 0 where
@@ -92,15 +105,15 @@ pub record HasParts (reader : Passage) (parts : List KeyPart) : Type 0 where
 abbrev pub HasOrders : Passage → List KeyOrder → Type 0
 HasOrders reader orders = (parts : List KeyPart) × HasParts reader parts × AreJustified parts orders
 
--- the history has a key without one
-abbrev pub HasNoOrders : Passage → Type 0
-HasNoOrders reader = (parts : List KeyPart) × (refusal : Unjustified) × HasParts reader parts × IsFirstUnjustified parts refusal × (status_of_refusal refusal ≡ status.Refused)
+-- the history has a key without one: why the first such key has none is told
+abbrev pub HasNoOrders : Passage → Writing → Type 0
+HasNoOrders reader errors = (parts : List KeyPart) × HasParts reader parts × RefusesFirst parts errors
 
 -- what the status of a justification says: the text of the orders went out, or a key has none, or the file has a fault,
 -- or all that went out is a beginning of that text
-abbrev pub Justifies : Passage → Passage → Status → Type 0
-Justifies reader writer status.Good = (orders : List KeyOrder) × HasOrders reader orders × Appends writer.old writer.new (orders_text orders)
-Justifies reader writer status.Refused = HasNoOrders reader
-Justifies reader writer status.Usage = ⊥
-Justifies reader writer status.Format = IsFaulty history_format reader.old reader.new
-Justifies reader writer status.Failed = (writer.new ≡ writer.old) ⊎ ((orders : List KeyOrder) × HasOrders reader orders × Begins writer.old writer.new (orders_text orders))
+abbrev pub Justifies : Passage → Passage → Writing → Status → Type 0
+Justifies reader writer errors status.Good = (orders : List KeyOrder) × HasOrders reader orders × Appends writer.old writer.new (orders_text orders)
+Justifies reader writer errors status.Refused = HasNoOrders reader errors
+Justifies reader writer errors status.Usage = ⊥
+Justifies reader writer errors status.Format = IsFaulty history_format reader.old reader.new
+Justifies reader writer errors status.Failed = (writer.new ≡ writer.old) ⊎ ((orders : List KeyOrder) × HasOrders reader orders × Begins writer.old writer.new (orders_text orders))

@@ -2,6 +2,8 @@ pub mod Checks
 pub mod Halts
 pub mod Judging
 pub mod Justified
+pub mod Passages
 pub mod Simulated
-pub mod Words
 pub mod Statuses
+pub mod VerdictLines
+pub mod Words

@@ -1,5 +1,5 @@
 -- What the run of a script comes to.
-use Rattle.std.specs.Prelude.{ℕ, ◌≡◌, ◌⊎◌, List, Option}
+use Rattle.std.specs.Prelude.{ℕ, ◌≡◌, ◌⊎◌}
 use Rattle.std.specs.Io.KnownBytes.{Appends}
 use Rattle.counted_devices.specs.Counts.{IsOneMore}
 use Rattle.counted_devices.specs.Deliveries.{Delivers}
@@ -10,20 +10,13 @@ use Rattle.fault_script.specs.declared.fault.LineFault.{LineFault}
 use Rattle.fault_script.specs.declared.fault.ErrorKind.TheVariants as kind
 use Rattle.cli.specs.declared.status.Status.{Status}
 use Rattle.cli.specs.declared.status.Status.TheVariants as status
-use Rattle.cli.specs.Justified.{Passage}
+use Rattle.cli.specs.Passages.{Passage, Writing}
 
 -- of what the script's reader delivered a line is the first with a fault
 pub record IsFaultyScript (script : Passage) : Type 0 where
   pub line : ℕ
   pub fault : LineFault
   pub stops : Delivers script.old script.new (StopsWith script.new line (kind.Line fault))
-
--- two states of a writer, and how often it had failed in each
-pub record Writing : Type 0 where
-  pub old : Option (List ℕ)
-  pub new : Option (List ℕ)
-  pub failures : ℕ
-  pub failures_now : ℕ
 
 -- what the status says: the script was run, and its notes and the text of its history went out; or it has a fault;
 -- or nothing went out as history, or, where its writer failed, a beginning of that text

@@ -75,8 +75,10 @@ fn orders_in<'a, R: CountedRead>(
 /// Reads the history and then the orders, and prints a line for each key: the keys of the history
 /// in the order in which it first sees them, then those that only the orders have.
 ///
-/// Nothing goes to `out` before all keys are judged, or where either file has a fault; a failure is
-/// said on `errors`. `Good` where every line says yes, `Refused` where one says no.
+/// What goes to `out` is those lines, once all keys are judged, or after a failure of `out` a
+/// beginning of them; nothing where either file has a fault. A fault of the orders is answered only
+/// where the history was read whole. A failure is said on `errors`. `Good` where every line says yes,
+/// `Refused` where one says no.
 pub fn check_command<'a, H: CountedRead, O: CountedRead, W: CountedWrite, E: Write>(
     rt: &(impl Threads + Sync),
     alloc: Global,
@@ -88,6 +90,7 @@ pub fn check_command<'a, H: CountedRead, O: CountedRead, W: CountedWrite, E: Wri
     ensures ends { Ends
         (record { history = H.remaining history.old.reader; orders = O.remaining orders.old.reader })
         (record { history = H.remaining history.new.reader; orders = O.remaining orders.new.reader })
+        (record { old = W.contents out.old; new = W.contents out.new })
         result }
     ensures quiet { result ≡ Status.Format → out.new ≡ out.old }
     ensures failed { result ≡ Status.Failed → (out.new ≡ out.old) ⊎ IsOneMore (W.failures out.old) (W.failures out.new) }

@@ -1,60 +1,118 @@
 //! `abd justify`: an order of each key's calls, made from the history's notes.
-ghost use Rattle.std.specs.Prelude.{◌≡◌};
-ghost use Rattle.cli.specs.Justified.{Justifies, JustifiesParts, JustifiesRows, SendsOrders};
+ghost use Rattle.std.specs.Prelude.{◌≡◌, ◌⊎◌, IfOk};
+ghost use Rattle.counted_devices.specs.Counts.{IsOneMore};
+ghost use Rattle.file_format.specs.Texts.{orders_text};
+ghost use Rattle.cli.specs.Justified.{Justifies, JustifiesParts, JustifiesRows, Refuses, SendsOrders};
 
 use crate::check::{Source, history_in};
-use crate::justifying::justified_orders;
+use crate::justifying::{Unjustified, justified_orders};
 use crate::status::{Failure, Status};
-use counted_devices::{CountedRead, CountedWrite, WriteFault};
+use counted_devices::{CountedRead, CountedWrite, Counting, write_text};
 use file_format::write_orders;
 use indexmap::IndexMap;
 use recorder::{History, KeyOrder, Part};
 use std::alloc::Global;
-use std::io::Write;
 use std::thread::Threads;
-use tag::Key;
+use tag::{Key, Memory};
 
-/// Writes the order file of the orders.
-fn send_orders<W: CountedWrite, E: Write>(
+/// The text of the order file of the orders.
+fn order_file(alloc: Global, orders: &[KeyOrder]) -> Result<Vec<u8>, Memory>
+    ensures { IfOk result (λ text. text.items ≡ orders_text orders.now) }
+{
+    let mut writer = Counting::new(Vec::new(alloc));
+    match write_orders(alloc, orders, &mut writer) {
+        Ok(()) => Ok(writer.into_inner()),
+        // A text fails only where its growth is refused.
+        Err(_) => Err(Memory),
+    }
+}
+
+/// Writes the order file of the orders, once the whole of it is made.
+fn send_orders<W: CountedWrite, E: CountedWrite>(
     alloc: Global,
     orders: &[KeyOrder],
     out: &mut W,
     errors: &mut E,
 ) -> Status
-    ensures { SendsOrders orders.now (record { old = W.contents out.old; new = W.contents out.new }) result }
+    ensures ends { SendsOrders orders.now
+        (record { old = W.contents out.old; new = W.contents out.new })
+        result }
+    ensures failed { result ≡ Status.Failed
+        → (out.new ≡ out.old) ⊎ IsOneMore (W.failures out.old) (W.failures out.new) }
 {
-    match write_orders(alloc, orders, out) {
+    let Ok(text) = order_file(alloc, orders) else {
+        return Failure::Memory.report(errors);
+    };
+    match write_text(text.as_slice(), out) {
         Ok(()) => Status::Good,
-        Err(WriteFault::Device) => Failure::Output.report(errors),
-        Err(WriteFault::Memory) => Failure::Memory.report(errors),
+        Err(_) => Failure::Output.report(errors),
     }
 }
 
+/// Says why a key has no order. What `errors` refuses is lost.
+fn refuse<E: CountedWrite>(alloc: Global, refusal: Unjustified<'_>, errors: &mut E) -> Status
+    ensures { Refuses refusal.entry
+        (record {
+          old = E.contents errors.old;
+          new = E.contents errors.new;
+          failures = E.failures errors.old;
+          failures_now = E.failures errors.new;
+        })
+        result }
+{
+    let mut text = Vec::new(alloc);
+    if refusal.append_to(&mut text).is_err() {
+        return Failure::Memory.report(errors);
+    }
+    let _ = write_text(text.as_slice(), errors);
+    refusal.status()
+}
+
 /// Makes each key's order from the notes of its part, checks it, and writes the order file.
-fn justify_parts<W: CountedWrite, E: Write>(
+fn justify_parts<W: CountedWrite, E: CountedWrite>(
     alloc: Global,
     parts: &IndexMap<Key, Part>,
     out: &mut W,
     errors: &mut E,
 ) -> Status
-    ensures ends { JustifiesParts parts.now.entries (record { old = W.contents out.old; new = W.contents out.new }) result }
+    ensures ends { JustifiesParts parts.now.entries
+        (record { old = W.contents out.old; new = W.contents out.new })
+        (record {
+          old = E.contents errors.old;
+          new = E.contents errors.new;
+          failures = E.failures errors.old;
+          failures_now = E.failures errors.new;
+        })
+        result }
     ensures refused { result ≡ Status.Refused → out.new ≡ out.old }
+    ensures failed { result ≡ Status.Failed
+        → (out.new ≡ out.old) ⊎ IsOneMore (W.failures out.old) (W.failures out.new) }
 {
     match justified_orders(alloc, parts) {
         Ok(orders) => send_orders(alloc, orders.as_slice(), out, errors),
-        Err(refusal) => refusal.report(errors),
+        Err(refusal) => refuse(alloc, refusal, errors),
     }
 }
 
 /// Makes the order file of a history.
-fn justify_history<W: CountedWrite, E: Write>(
+fn justify_history<W: CountedWrite, E: CountedWrite>(
     alloc: Global,
     history: &History,
     out: &mut W,
     errors: &mut E,
 ) -> Status
-    ensures ends { JustifiesRows history.now.rows (record { old = W.contents out.old; new = W.contents out.new }) result }
+    ensures ends { JustifiesRows history.now.rows
+        (record { old = W.contents out.old; new = W.contents out.new })
+        (record {
+          old = E.contents errors.old;
+          new = E.contents errors.new;
+          failures = E.failures errors.old;
+          failures_now = E.failures errors.new;
+        })
+        result }
     ensures refused { result ≡ Status.Refused → out.new ≡ out.old }
+    ensures failed { result ≡ Status.Failed
+        → (out.new ≡ out.old) ⊎ IsOneMore (W.failures out.old) (W.failures out.new) }
 {
     match history.parts() {
         Ok(parts) => justify_parts(alloc, &parts, out, errors),
@@ -65,9 +123,10 @@ fn justify_history<W: CountedWrite, E: Write>(
 /// Reads the history, makes each key's order from the notes and checks it, the keys in the order
 /// in which the history first sees them, and then writes the order file.
 ///
-/// Nothing goes to `out` before every key has its order. `Refused` where a key has none: the first
-/// such key is said on `errors`, as is any other failure.
-pub fn justify_command<'a, H: CountedRead, W: CountedWrite, E: Write>(
+/// Nothing goes to `out` before every key has its order and the whole text is made; after a failure of
+/// `out` a beginning of it may have gone out. `Refused` where a key has none: why the first such key
+/// has none is said on `errors`, as is any other failure.
+pub fn justify_command<'a, H: CountedRead, W: CountedWrite, E: CountedWrite>(
     rt: &(impl Threads + Sync),
     alloc: Global,
     history: &mut Source<'a, H>,
@@ -77,9 +136,17 @@ pub fn justify_command<'a, H: CountedRead, W: CountedWrite, E: Write>(
     ensures ends { Justifies
         (record { old = H.remaining history.old.reader; new = H.remaining history.new.reader })
         (record { old = W.contents out.old; new = W.contents out.new })
+        (record {
+          old = E.contents errors.old;
+          new = E.contents errors.new;
+          failures = E.failures errors.old;
+          failures_now = E.failures errors.new;
+        })
         result }
     ensures refused { result ≡ Status.Refused → out.new ≡ out.old }
     ensures faulty { result ≡ Status.Format → out.new ≡ out.old }
+    ensures failed { result ≡ Status.Failed
+        → (out.new ≡ out.old) ⊎ IsOneMore (W.failures out.old) (W.failures out.new) }
 {
     match history_in(rt, alloc, history) {
         Ok(history) => justify_history(alloc, &history, out, errors),

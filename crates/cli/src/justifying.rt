@@ -1,38 +1,54 @@
 //! The orders that the notes of a history give its keys, each checked.
-ghost use Rattle.std.specs.Prelude.{◌≡◌, IfOk, IfErr};
-ghost use Rattle.cli.specs.Justified.{AreJustified, IsJustifiedOrder, IsUnjustified, IsFirstUnjustified, status_of_refusal};
+ghost use Rattle.std.specs.Prelude.{◌≡◌, ◌++◌, IfOk, IfErr, OnOk};
+ghost use Rattle.cli.specs.Justified.{AreJustified, IsJustifiedOrder, IsUnjustified, IsFirstUnjustified, refusal_text, status_of_refusal};
 
 use crate::status::Status;
+use crate::verdict_lines::{append, append_fault, append_number};
 use certificate_check::{Fault, Verdict, check_part};
 use indexmap::IndexMap;
 use recorder::{KeyOrder, Part};
 use std::alloc::{AllocFailed, Global};
-use std::io::Write;
 use tag::{Key, Memory, OpId};
-use thiserror::Error;
 use witness_order::{WitnessError, order_of};
 
 /// Why a history's keys have no orders.
-#[derive(Clone, Copy, Debug, Error)]
+#[derive(Clone, Copy, Debug)]
 pub enum Unjustified<'k> {
     /// That completed call on the key has no note; the least such call.
-    #[error("key {}: no note for call {}", .key.as_str(), .op.0)]
     NoNote { key: &'k Key, op: OpId },
     /// The key's tag order is no order of its calls, for that fault.
-    #[error("key {}: no {fault}", .key.as_str())]
     NoOrder { key: &'k Key, fault: Fault },
     /// A growth was refused.
-    #[error("no memory")]
     Memory,
 }
 
 impl Unjustified<'_> {
-    /// Says it on the writer, one line, and answers the status that the program ends with. What
-    /// the writer refuses is lost.
-    pub fn report<E: Write>(self, errors: &mut E) -> Status
+    /// Adds why to the text, a line.
+    pub(crate) fn append_to(self, text: &mut Vec<u8>) -> Result<(), Memory>
+        ensures { OnOk result (text.new.items ≡ text.old.items ++ refusal_text self.entry) }
+    {
+        match self {
+            Unjustified::NoNote { key, op } => {
+                append(text, "abd: key ")?;
+                append(text, key.as_str())?;
+                append_number(text, ": no note for call ", u64::from(op.0))?;
+                append(text, "\n")
+            }
+            Unjustified::NoOrder { key, fault } => {
+                append(text, "abd: key ")?;
+                append(text, key.as_str())?;
+                append(text, ": no ")?;
+                append_fault(text, fault)?;
+                append(text, "\n")
+            }
+            Unjustified::Memory => append(text, "abd: no memory\n"),
+        }
+    }
+
+    /// The status that the program ends with.
+    pub fn status(self) -> Status
         ensures { result ≡ status_of_refusal self.entry }
     {
-        let _ = writeln!(errors, "abd: {self}");
         match self {
             Unjustified::NoNote { .. } | Unjustified::NoOrder { .. } => Status::Refused,
             Unjustified::Memory => Status::Failed,

@@ -12,6 +12,7 @@ mod justify;
 mod justifying;
 mod simulate;
 mod status;
+mod verdict_lines;
 mod words;
 
 pub use asked::{Command, Usage};

@@ -69,12 +69,12 @@ fn justified(rt: &(impl Threads + Sync), alloc: Global, input: Input<'_>, way: W
     };
     let mut history = Source::new("h", Counting::new(history));
     let mut out = Counting::new(Bounded::new(alloc, way.out));
-    let mut errors = Bounded::new(alloc, way.errors);
+    let mut errors = Counting::new(Bounded::new(alloc, way.errors));
     let status = justify_command(rt, alloc, &mut history, &mut out, &mut errors);
     Said {
         status,
         out: out.into_inner().taken,
-        errors: errors.taken,
+        errors: errors.into_inner().taken,
     }
 }
 
