@@ -4,8 +4,8 @@ use crate::asked::Asked;
 use crate::commands::{extent, push_bytes};
 use crate::devices::{AMPLE, Bounded, Narrow, Pieces};
 use crate::formats::{
-    Counted, Counting, WriteFault, history_text, read_history, read_orders, write_history, write_orders,
-    write_text,
+    Counted, Counting, WriteFault, history_text, read_history, read_orders, write_history,
+    write_orders, write_text,
 };
 use crate::notation::bytes_of;
 use crate::saying::{commands_said, key_orders_said, rows_said};
