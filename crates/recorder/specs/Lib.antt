@@ -7,3 +7,4 @@ pub mod Answers
 pub mod Records
 pub mod Sound
 pub mod Adding
+pub mod Halls

@@ -78,6 +78,7 @@ impl History {
     pub fn calls(&self) -> usize
         ensures count { result ≡ call_count self.now.rows }
         ensures most { result ≤ self.now.limit }
+        ensures few { result ≤ 1000000 }
     {
         self.states.len()
     }

@@ -5,12 +5,16 @@
 //! the calls of each key as the rows record them, in one pass.
 #![tactic(auto)]
 
+mod halls;
+mod histories;
 mod history;
 pub mod laws;
 mod order;
 mod part;
 mod row;
 
+pub use halls::Halls;
+pub use histories::Histories;
 pub use history::History;
 pub use order::{KeyOrder, Order};
 pub use part::{Call, Part, Response};

@@ -1,0 +1,122 @@
+//! Histories by hall.
+ghost use Rattle.std.specs.Prelude.{◌≡◌, ◌<◌, ◌≤◌, ◌↔◌, length, IsSome, IfSome, IsTrue, Option, is_some};
+ghost use Rattle.quorum.specs.Quorums.{Quorums};
+ghost use Rattle.recorder.specs.Halls.{AreHalls, AreOfTheirHalls, IsCount, IsHallOf, FallsTo, hall_calls};
+
+use crate::halls::Halls;
+use crate::history::History;
+use crate::row::Row;
+use quorum::Quorums;
+use std::marker::Model;
+
+/// The histories of a row of halls, and the quorums of the store that they are of, if these are
+/// known.
+///
+/// There are 1 to 64, with at most 1,000,000 calls together. Each call's key is one of its hall's
+/// (`Halls::of`), so no key is in two halls. Without quorums there is one hall.
+#[derive(Drop)]
+pub struct Histories {
+    halls: Vec<History>,
+    quorums: Option<Quorums>,
+}
+
+impl Model for Histories {
+    ghost use Rattle.recorder.specs.Halls.{RecordedHalls};
+
+    ghost Value = { RecordedHalls };
+
+    ghost use Rattle.recorder.specs.Halls.{AreHalls};
+
+    ghost view = { λ h. record { halls = h.halls.items; quorums = h.quorums } };
+
+    ghost invariant = { λ h. AreHalls (record { halls = h.halls.items; quorums = h.quorums }) };
+}
+
+impl Histories {
+    /// The histories by hall, hall 0 first. `None` comes exactly where they aren't 1 to 64, have
+    /// more than 1,000,000 calls together, one has a call on another hall's key, or there are
+    /// several and no quorums; the list is dropped then.
+    pub fn new(halls: Vec<History>, quorums: Option<Quorums>) -> Option<Histories>
+        ensures some { IsSome result ↔ AreHalls (record { halls = halls.items; quorums = quorums }) }
+        ensures value { IfSome result (λ histories. histories ≡ record { halls = halls.items; quorums = quorums }) }
+    {
+        if are_halls(halls.as_slice(), quorums.is_some()) {
+            Some(Histories { halls, quorums })
+        } else {
+            None
+        }
+    }
+
+    /// The halls' histories, hall 0 first.
+    pub fn halls(&self) -> &[History]
+        ensures halls { result.now ≡ self.now.halls }
+        ensures lawful { AreHalls self.now }
+    {
+        self.halls.as_slice()
+    }
+
+    /// The quorums of the store, if they are known.
+    pub fn quorums(&self) -> Option<Quorums>
+        ensures { result ≡ self.now.quorums }
+    {
+        self.quorums
+    }
+}
+
+/// Whether the histories are those of a row of halls.
+fn are_halls(histories: &[History], is_known: bool) -> bool
+    ensures { (quorums : Option Quorums) → is_some quorums ≡ is_known → IsTrue result ↔ AreHalls (record { halls = histories.now; quorums = quorums }) }
+{
+    let count = histories.len();
+    if count < 1 || count > 64 || count > 1 && !is_known {
+        return false;
+    }
+    if hall_calls(histories) > 1_000_000 {
+        return false;
+    }
+    match Halls::new(count as u8) {
+        Some(halls) => are_of_their_halls(histories, halls),
+        None => false,
+    }
+}
+
+/// How many calls the histories have together.
+fn hall_calls(histories: &[History]) -> usize
+    requires { length histories.now ≤ 64 }
+    ensures { result ≡ hall_calls histories.now }
+{
+    let mut total = 0;
+    for (k, history) in histories.iter().enumerate() {
+        total += history.calls();
+    }
+    total
+}
+
+/// Whether each history's calls are on keys of its hall.
+fn are_of_their_halls(histories: &[History], halls: Halls) -> bool
+    ensures { IsTrue result ↔ AreOfTheirHalls halls histories.now }
+{
+    for (k, history) in histories.iter().enumerate() {
+        if !is_hall_of(history.rows(), halls, k) {
+            return false;
+        }
+    }
+    true
+}
+
+/// Whether the rows' calls are on keys of that hall.
+fn is_hall_of(rows: &[Row], halls: Halls, hall: usize) -> bool
+    ensures { IsTrue result ↔ IsHallOf halls hall rows.now }
+{
+    rows.iter().all(|row| falls_to(row, halls, hall))
+}
+
+/// Whether the row, where it begins a call, is on a key of that hall.
+fn falls_to(row: &Row, halls: Halls, hall: usize) -> bool
+    ensures { IsTrue result ↔ FallsTo halls hall row.now }
+{
+    match row {
+        Row::Invoke { key, .. } => usize::from(halls.of(key)) == hall,
+        Row::Note { .. } | Row::Respond { .. } => true,
+    }
+}
