@@ -1,5 +1,5 @@
 //! What a step makes of a system that doesn't refuse it.
-ghost use Rattle.std.specs.Prelude.{◌≡◌, ◌<◌, IfOk, OnOk, OnErr, Some, length, true, false};
+ghost use Rattle.std.specs.Prelude.{◌≡◌, ◌<◌, IfOk, OnOk, OnErr, Ok, Some, length, true, false};
 ghost use Rattle.network.specs.Pools.{IsBag, with_sent};
 ghost use Rattle.network.specs.declared.messages.Message.{Message};
 ghost use Rattle.recorder.specs.Histories.{MayFollow};
@@ -7,8 +7,8 @@ ghost use Rattle.recorder.specs.Answers.{with_row};
 ghost use Rattle.recorder.specs.declared.row.Row.{Row};
 ghost use Rattle.client_phases.specs.Clients.{taken};
 ghost use Rattle.client_phases.specs.declared.clients.Client.{Client};
-ghost use Rattle.world_steps.specs.Systems.{answered_op, arrive, lose, op_of};
-ghost use Rattle.world_steps.specs.Moves.{IsClient, MayAnswer, MayDeliver, MayHandle, MayHear, MayInvoke, MayMove, MayRespond, MaySend, Moves};
+ghost use Rattle.world_steps.specs.Systems.{answered_op, arrive, lose, op_of, with_note};
+ghost use Rattle.world_steps.specs.Moves.{IsClient, MayAnswer, MayDeliver, MayHandle, MayHear, MayInvoke, MayMove, MayNote, MayRepeat, MayRespond, MaySend, MayStop, Moves};
 
 use crate::system::System;
 use crate::{Effect, Step};
@@ -149,6 +149,18 @@ impl System {
         Ok(Effect::Answered(flight))
     }
 
+    /// Records the note of a call, where what its client takes settles the call's tag.
+    fn note_settled(&mut self, op: OpId, taken: &Taken) -> Result<(), Memory>
+        requires { MayNote self.old op taken.now }
+        ensures ok { OnOk result (self.new ≡ record self.old { history = with_note self.old.history op taken.now }) }
+        ensures err { OnErr result (self.new ≡ self.old) }
+    {
+        match taken {
+            Taken::Noted(tag) | Taken::Agreed(tag) => self.note(op, *tag),
+            _ => Ok(()),
+        }
+    }
+
     /// Has a client take a reply, and records the note that it may make.
     fn hear(&mut self, name: ClientId, reply: Reply) -> Result<Effect, Memory>
         requires { MayHear self.old name reply }
@@ -160,10 +172,7 @@ impl System {
             Some(client) => client.foresee(&reply),
             None => unreachable!(),
         };
-        match taken {
-            Taken::Noted(tag) | Taken::Agreed(tag) => self.note(answered_op(&reply), tag)?,
-            _ => {}
-        }
+        self.note_settled(answered_op(&reply), &taken)?;
         self.members.take(name, reply);
         Ok(Effect::Taken(taken))
     }
@@ -208,6 +217,38 @@ impl System {
         }
     }
 
+    fn repeat(&mut self, flight: u32) -> Effect
+        requires { MayRepeat self.old flight }
+        ensures { Moves self.old (Step.Repeat flight) (Ok result) self.new }
+    {
+        let _ = self.pool.repeat(flight);
+        Effect::Repeated
+    }
+
+    fn stop_client(&mut self, name: ClientId) -> Effect
+        requires { MayStop self.old name }
+        ensures { Moves self.old (Step.StopClient name) (Ok result) self.new }
+    {
+        self.members.stop(name);
+        Effect::Stopped
+    }
+
+    fn stop_replica(&mut self, number: ReplicaId) -> Effect
+        requires { number < length self.old.nodes }
+        ensures { Moves self.old (Step.StopReplica number) (Ok result) self.new }
+    {
+        self.nodes.set_up(number, false);
+        Effect::Stopped
+    }
+
+    fn start_replica(&mut self, number: ReplicaId) -> Effect
+        requires { number < length self.old.nodes }
+        ensures { Moves self.old (Step.StartReplica number) (Ok result) self.new }
+    {
+        self.nodes.set_up(number, true);
+        Effect::Started
+    }
+
     /// Takes a step that nothing refuses. On `Memory` nothing changed.
     pub(crate) fn moved(&mut self, step: Step) -> Result<Effect, Memory>
         requires { MayMove self.old step }
@@ -226,23 +267,11 @@ impl System {
                 self.lose(flight);
                 Ok(Effect::Lost)
             }
-            Step::Repeat { flight } => {
-                let _ = self.pool.repeat(flight);
-                Ok(Effect::Repeated)
-            }
+            Step::Repeat { flight } => Ok(self.repeat(flight)),
             Step::Respond { client } => self.respond(client),
-            Step::StopClient { client } => {
-                self.members.stop(client);
-                Ok(Effect::Stopped)
-            }
-            Step::StopReplica { replica } => {
-                self.nodes.set_up(replica, false);
-                Ok(Effect::Stopped)
-            }
-            Step::StartReplica { replica } => {
-                self.nodes.set_up(replica, true);
-                Ok(Effect::Started)
-            }
+            Step::StopClient { client } => Ok(self.stop_client(client)),
+            Step::StopReplica { replica } => Ok(self.stop_replica(replica)),
+            Step::StartReplica { replica } => Ok(self.start_replica(replica)),
         }
     }
 }
