@@ -8,8 +8,9 @@ ghost use Rattle.recorder.specs.States.{is_write};
 mod parts;
 
 use crate::row::{Row, RowRefusal};
+use key_numbers::KeyNumbers;
 use std::alloc::Global;
-use std::collections::HashSet;
+use std::collections::BTreeSet;
 use std::marker::Model;
 use tag::{Action, ClientId, Key, Memory, OpId, Returned, Tag};
 
@@ -33,9 +34,9 @@ struct CallState {
 pub struct History {
     rows: Vec<Row>,
     states: Vec<CallState>,
-    busy: HashSet<u32>,
+    busy: BTreeSet<u32>,
     /// The keys of the calls, whose texts the rows share.
-    keys: HashSet<Key>,
+    keys: KeyNumbers,
     limit: u32,
 }
 
@@ -60,8 +61,8 @@ impl History {
         History {
             rows: Vec::new(alloc),
             states: Vec::new(alloc),
-            busy: HashSet::new(alloc),
-            keys: HashSet::new(alloc),
+            busy: BTreeSet::new(alloc),
+            keys: KeyNumbers::new(alloc),
             limit,
         }
     }
@@ -101,7 +102,7 @@ impl History {
             rows: copied_rows(alloc, &self.rows)?,
             states: Vec::from_slice(alloc, &self.states)?,
             busy: self.busy.clone()?,
-            keys: HashSet::new(alloc),
+            keys: KeyNumbers::new(alloc),
             limit: self.limit,
         })
     }
@@ -137,7 +138,7 @@ impl History {
             return Err(refusal);
         }
         let op = OpId(self.calls() as u32);
-        let key = shared_key(&mut self.keys, key)?;
+        let key = shared_key(&mut self.keys, &key)?;
         self.begin(op, client, key, action)?;
         Ok(op)
     }
@@ -232,14 +233,11 @@ fn make_room(rows: &mut Vec<Row>, states: &mut Vec<CallState>) -> Result<(), Mem
 }
 
 /// The key, its text shared with the one that is known, if any.
-fn shared_key(keys: &mut HashSet<Key>, key: Key) -> Result<Key, Memory>
-    ensures { IfOk result (λ shared. shared ≡ key) }
+fn shared_key(keys: &mut KeyNumbers, key: &Key) -> Result<Key, Memory>
+    ensures { IfOk result (λ shared. shared ≡ key.now) }
 {
-    if let Some(known) = keys.get(&key) {
-        return known.copy();
-    }
-    keys.insert(key.copy()?)?;
-    Ok(key)
+    let number = keys.number(key)?;
+    keys.keys()[number].copy()
 }
 
 /// Copies of the rows.
