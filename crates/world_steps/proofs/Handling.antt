@@ -81,12 +81,12 @@ module _ (nodes : List Node) (number : ℕ) (node : Node) (key : List ℕ) (pair
 
 module _ (s : System) (sound : IsSound s) where
   -- the system with a node written
-  written_system : (number : ℕ) (node new : Node) (pool : Pool) → slice_get s.nodes number ≡ Some node → new.replica.number ≡ node.replica.number
+  written_system : (number : ℕ) (node new : Node) (pool : Pool) → pool.limit ≡ s.pool.limit → slice_get s.nodes number ≡ Some node → new.replica.number ≡ node.replica.number
       → ((n : ℕ) (request : Request) → Flies pool.flights (ToReplica n request) → n < length s.nodes)
       → ((name : ℕ) (reply : Reply) → Flies pool.flights (ToClient name reply) → (client : Client) × (finite.get s.members.clients name ≡ Some client))
       → Sound s.config.quorums s.history.rows (held_in (slice_set s.nodes number new)) (Flies pool.flights) (IsIn s.members.clients)
       → IsSound (record s { nodes = slice_set s.nodes number new; pool = pool })
-  written_system number node new pool is same to_replicas to_clients good = record {
+  written_system number node new pool limit is same to_replicas to_clients good = record {
     sound = good;
     ruled = sound.ruled;
     waiting = sound.waiting;
@@ -99,6 +99,12 @@ module _ (s : System) (sound : IsSound s) where
     to_clients = to_clients;
     calls = sound.calls;
     limit = sound.limit;
+    named = sound.named;
+    configured = record {
+      replicas = length-set s.nodes number new ∙ sound.configured.replicas;
+      flights = limit ∙ sound.configured.flights;
+      calls = sound.configured.calls;
+    };
   }
 
   -- ---- a replica handles a request, and its reply is sent to the client that made the call
@@ -111,7 +117,7 @@ module _ (s : System) (sound : IsSound s) where
       → IsSound (record s { nodes = slice_set s.nodes number new; pool = with_sent s.pool (ToClient to reply) })
   answered_system number node new to reply is same member good =
       let was : (message : Message) → Flies (with_sent s.pool (ToClient to reply)).flights message → Flies s.pool.flights message ⊎ (message ≡ ToClient to reply) = flies_sent s.pool (ToClient to reply) in
-      written_system number node new (with_sent s.pool (ToClient to reply)) is same
+      written_system number node new (with_sent s.pool (ToClient to reply)) refl is same
       (λ n request f. elim (was (ToReplica n request) f) [ inl old ↦ sound.to_replicas n request old | inr now ↦ absurd cc ])
       (λ name other f. elim (was (ToClient name other) f) [
         | inl old ↦ sound.to_clients name other old
@@ -165,7 +171,7 @@ module _ (s : System) (sound : IsSound s) where
   set_up_found number is_up None is = sound
   set_up_found number is_up (Some node) is =
       let new : Node = record node { is_up = is_up } in
-      written_system number node new s.pool is refl sound.to_replicas sound.to_clients
+      written_system number node new s.pool refl is refl sound.to_replicas sound.to_clients
       (same_pairs s.config.quorums s.history.rows (held_in s.nodes) (held_in (slice_set s.nodes number new)) (Flies s.pool.flights) (IsIn s.members.clients) (held_same s.nodes number node new is refl) sound.sound)
 
   pub set_up_sound : (number : ℕ) (is_up : Bool) → IsSound (set_up s number is_up (slice_get s.nodes number))

@@ -17,6 +17,7 @@ pub mod Following
 pub mod Finding
 pub mod Flying
 pub mod Waiting
+pub mod Named
 pub mod Turning
 pub mod Sending
 pub mod Handling
@@ -28,3 +29,4 @@ pub mod Written
 pub mod Handles
 pub mod Refused
 pub mod Onward
+pub mod RunningCounts

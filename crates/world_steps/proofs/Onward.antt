@@ -2,7 +2,7 @@
 use Rattle.std.proofs.Common.{◌≡◌, ℕ, zero, suc, ◌+◌, List, [], ◌∷◌, ◌++◌, Option, None, Some, is_some, Result, Ok, Err, inl, inr, cond, take, slice_get, sym, ap, ◌∙◌, refl, arith}
 use Rattle.world_steps.specs.Configs.{Config}
 use Rattle.world_steps.specs.Refusals.{refusal_of}
-use Rattle.world_steps.specs.Runs.{next, after, after_from, Steps}
+use Rattle.world_steps.specs.Runs.{AreAccepted, next, after, after_from, Steps}
 use Rattle.world_steps.specs.Systems.{moved, opening}
 use Rattle.world_steps.specs.declared.effect.Effect.{Effect}
 use Rattle.world_steps.specs.declared.refusal.Refusal.{Refusal}
@@ -27,6 +27,15 @@ after_push s (first ∷ steps) step = after_push (next s first) steps step
 
 pub after_step : (config : Config) (steps : List Step) (step : Step) → after config (steps ++ step ∷ []) ≡ next (after config steps) step
 after_step config steps step = after_push (opening config) steps step
+
+-- a step more that isn't refused
+accepted_push : (s : System) (steps : List Step) (step : Step) → AreAccepted s steps → refusal_of (after_from s steps) step ≡ None → AreAccepted s (steps ++ step ∷ [])
+accepted_push s [] step are none = (none, tt)
+accepted_push s (first ∷ steps) step are none = (are.0, accepted_push (next s first) steps step are.1 none)
+
+pub accepted_step : (config : Config) (steps : List Step) (step : Step) → AreAccepted (opening config) steps → refusal_of (after config steps) step ≡ None
+    → (after config (steps ++ step ∷ []) ≡ moved (after config steps) step) × AreAccepted (opening config) (steps ++ step ∷ [])
+accepted_step config steps step are none = (after_step config steps step ∙ next_by (after config steps) step None none, accepted_push (opening config) steps step are none)
 
 -- the first steps, with the one behind them
 pub take_push : {X : Type 0} (xs : List X) (i : ℕ) (x : X) → slice_get xs i ≡ Some x → take (suc i) xs ≡ take i xs ++ x ∷ []

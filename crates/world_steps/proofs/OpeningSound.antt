@@ -76,4 +76,10 @@ opening_sound config lawful calls = record {
   to_clients = λ name reply f. absurd (nothing_flies _ f);
   calls = omega arith;
   limit = calls;
+  named = record {
+    joined = λ place name is. absurd cc;
+    listed = λ name client is. absurd (nobody_there name client is);
+    once = λ p q name i j. absurd cc;
+  };
+  configured = record { replicas = nodes_length (length config.quorums.votes); flights = refl; calls = refl };
 }

@@ -1,5 +1,5 @@
 -- What the network does by itself, and what clients send, keeps the system sound.
-use Rattle.std.proofs.Common.{◌≡◌, ℕ, ◌<◌, ◌⊎◌, length, Option, None, Some, refl, sym, subst, inl, inr}
+use Rattle.std.proofs.Common.{◌≡◌, ℕ, ◌<◌, ◌⊎◌, length, Option, None, Some, refl, sym, subst, inl, inr, ◌∙◌}
 use Rattle.std.specs.FinMap as finite
 use Rattle.replica.specs.declared.requests.Request.{Request}
 use Rattle.client_phases.specs.Asking.{query_of}
@@ -22,8 +22,8 @@ use Rattle.world_steps.proofs.SameRows.{thinned, requested}
 
 module _ (s : System) (sound : IsSound s) where
   -- ---- copies go, or more copies of what flies
-  thinned_system : (pool : Pool) → ((message : Message) → Flies pool.flights message → Flies s.pool.flights message) → IsSound (record s { pool = pool })
-  thinned_system pool less = record {
+  thinned_system : (pool : Pool) → pool.limit ≡ s.pool.limit → ((message : Message) → Flies pool.flights message → Flies s.pool.flights message) → IsSound (record s { pool = pool })
+  thinned_system pool limit less = record {
     sound = thinned s.config.quorums s.history.rows (held_in s.nodes) (Flies s.pool.flights) (Flies pool.flights) (IsIn s.members.clients) sound.sound less;
     ruled = sound.ruled;
     waiting = sound.waiting;
@@ -32,13 +32,15 @@ module _ (s : System) (sound : IsSound s) where
     to_clients = λ name reply f. sound.to_clients name reply (less (ToClient name reply) f);
     calls = sound.calls;
     limit = sound.limit;
+    named = sound.named;
+    configured = record { replicas = sound.configured.replicas; flights = limit ∙ sound.configured.flights; calls = sound.configured.calls };
   }
 
   pub lose_sound : (flight : ℕ) → IsSound (lose s flight)
-  lose_sound flight = thinned_system (with_one_less s.pool flight) (flies_less s.pool flight)
+  lose_sound flight = thinned_system (with_one_less s.pool flight) refl (flies_less s.pool flight)
 
   pub repeat_sound : (flight : ℕ) → IsSound (repeat s flight)
-  repeat_sound flight = thinned_system (with_one_more s.pool flight) (flies_more s.pool flight)
+  repeat_sound flight = thinned_system (with_one_more s.pool flight) refl (flies_more s.pool flight)
 
   -- ---- a client's request is sent
   same_replica : (i j : ℕ) (a b : Request) → ToReplica i a ≡ ToReplica j b → i ≡ j
@@ -62,6 +64,8 @@ module _ (s : System) (sound : IsSound s) where
         to_clients = λ name reply f. elim (was (ToClient name reply) f) [ inl old ↦ sound.to_clients name reply old | inr new ↦ absurd cc ];
         calls = sound.calls;
         limit = sound.limit;
+        named = sound.named;
+        configured = record { replicas = sound.configured.replicas; flights = sound.configured.flights; calls = sound.configured.calls };
       }
 
   sent_by : (name replica : ℕ) (rules : Rules) (state : State) → StateSound s.config.quorums s.history.rows (tags_of (held_in s.nodes)) name state → replica < length s.nodes

@@ -21,6 +21,7 @@ use Rattle.world_steps.specs.SoundSystems.{Flies, IsIn, IsSound, IsWaiting, held
 use Rattle.world_steps.specs.Systems.{answered_op, take, with_note}
 use Rattle.world_steps.specs.declared.system.System.{System}
 use Rattle.world_steps.proofs.Heard.{op_in, rows_after, hearing}
+use Rattle.world_steps.proofs.Named.{named_insert}
 use Rattle.world_steps.proofs.RowLaws.{count_push}
 use Rattle.world_steps.proofs.Turning.{turned_system, turned_insert, there_insert}
 use Rattle.world_steps.proofs.Waiting.{heard_waits}
@@ -70,7 +71,7 @@ module _ (s : System) (sound : IsSound s) (name : ℕ) (reply : Reply) (flies : 
       let calls : call_count s.history.rows ≤ s.history.limit = sound.calls in
       let rows : rows_after s.history.rows (op_in reply) (taken client reply) ≡ history.rows =
       ap (λ o. rows_after s.history.rows o (taken client reply)) (same_ops reply) ∙ noted_rows s.history (answered_op reply) (taken client reply) in
-      turned_system s sound s.members.joined name new history ruled waits (omega (arith, counted, calls, limit)) limit
+      turned_system s sound s.members.joined name new history (named_insert s.members sound.named name client new is) ruled waits (omega (arith, counted, calls, limit)) limit
       (subst (λ r. Sound s.config.quorums r (held_in s.nodes) (Flies s.pool.flights) (IsIn clients)) rows
       (hearing s.config.quorums s.history.rows (held_in s.nodes) (Flies s.pool.flights) (IsIn s.members.clients) (IsIn clients) name name client.rules client.state reply
       (ap (λ (r : Rules). r.name) ruled) (ap (λ (r : Rules). r.quorums) ruled) sound.sound (record { rules = client.rules; is = is }) flies

@@ -15,10 +15,11 @@ use Rattle.world_steps.specs.Clients.{Clients}
 use Rattle.world_steps.specs.Moves.{IsClient}
 use Rattle.world_steps.specs.Sound.{Sound}
 use Rattle.world_steps.specs.Sound.StateSound.{SoundIdle, SoundStopped}
-use Rattle.world_steps.specs.SoundSystems.{Flies, IsIn, IsSound, IsWaiting, held_in, rules_of}
+use Rattle.world_steps.specs.SoundSystems.{AreNamed, Flies, IsIn, IsSound, IsWaiting, held_in, rules_of}
 use Rattle.world_steps.specs.Systems.{join, invoke, respond, stop, next_call}
 use Rattle.world_steps.specs.declared.system.System.{System}
 use Rattle.world_steps.proofs.Lookups.{get_cases}
+use Rattle.world_steps.proofs.Named.{named_insert, named_push}
 use Rattle.world_steps.proofs.RowLaws.{count_push}
 use Rattle.world_steps.proofs.RowSteps.{responding, invoking}
 use Rattle.world_steps.proofs.SameRows.{Turned, turning}
@@ -44,11 +45,12 @@ there_insert clients name new d x i =
     ]
 
 -- the system with a client that joined or became another, and those rows
-pub turned_system : (s : System) (sound : IsSound s) (joined : List ℕ) (name : ℕ) (new : Client) (history : Recorded) → new.rules ≡ rules_of s.config name → IsWaiting s.config.quorums new.state
+pub turned_system : (s : System) (sound : IsSound s) (joined : List ℕ) (name : ℕ) (new : Client) (history : Recorded) → AreNamed (record { joined = joined; clients = finite.insert s.members.clients name new })
+    → new.rules ≡ rules_of s.config name → IsWaiting s.config.quorums new.state
     → call_count history.rows ≤ history.limit → history.limit ≡ s.history.limit
     → Sound s.config.quorums history.rows (held_in s.nodes) (Flies s.pool.flights) (IsIn (finite.insert s.members.clients name new))
     → IsSound (record s { members = record { joined = joined; clients = finite.insert s.members.clients name new }; history = history })
-turned_system s sound joined name new history ruled waits calls limit is = record {
+turned_system s sound joined name new history named ruled waits calls limit is = record {
   sound = is;
   ruled = λ d client e.
       elim (get_cases s.members.clients name new d) [
@@ -69,6 +71,8 @@ turned_system s sound joined name new history ruled waits calls limit is = recor
       ];
   calls = calls;
   limit = subst (λ n. n ≤ 1000000) (sym limit) sound.limit;
+  named = named;
+  configured = record { replicas = sound.configured.replicas; flights = sound.configured.flights; calls = limit ∙ sound.configured.calls };
 }
 
 module _ (s : System) (sound : IsSound s) where
@@ -76,7 +80,7 @@ module _ (s : System) (sound : IsSound s) where
   pub join_sound : (name : ℕ) → finite.get s.members.clients name ≡ None → IsSound (join s name)
   join_sound name new =
       let client : Client = client_of name s.config.quorums s.config.reads in
-      turned_system s sound (s.members.joined ++ name ∷ []) name client s.history refl tt sound.calls refl
+      turned_system s sound (s.members.joined ++ name ∷ []) name client s.history (named_push s.members sound.named name client new) refl tt sound.calls refl
       (turning s.config.quorums s.history.rows (held_in s.nodes) (Flies s.pool.flights) (IsIn s.members.clients) (IsIn (finite.insert s.members.clients name client)) name Idle sound.sound
       (SoundIdle (λ p op key action is.
       let was : (state : State) × IsIn s.members.clients name state = sound.sound.joined p op name key action is in
@@ -91,7 +95,7 @@ module _ (s : System) (sound : IsSound s) where
       let call : Call = record { op = next_call s; key = key; action = action } in
       let new : Client = invoked client call.op key action in
       let counted = count_push s.history.rows (Invoke call.op name key action) in
-      turned_system s sound s.members.joined name new (with_row s.history (Invoke call.op name key action)) (sound.ruled name client is) (nobody_asked s.config.quorums sound.sound.lawful) (omega (arith, counted, room)) refl
+      turned_system s sound s.members.joined name new (with_row s.history (Invoke call.op name key action)) (named_insert s.members sound.named name client new is) (sound.ruled name client is) (nobody_asked s.config.quorums sound.sound.lawful) (omega (arith, counted, room)) refl
       (invoking s.config.quorums s.history.rows (held_in s.nodes) (Flies s.pool.flights) (IsIn s.members.clients) (IsIn (finite.insert s.members.clients name new)) name call sound.sound
       (record { rules = client.rules; is = is ∙ ap (λ x. Some (record { rules = client.rules; state = x })) idle })
       refl (turned_insert s.members.clients name new) (there_insert s.members.clients name new))
@@ -107,7 +111,7 @@ module _ (s : System) (sound : IsSound s) where
       let new : Client = record { rules = client.rules; state = Idle } in
       let counted = count_push s.history.rows (Respond chosen.call.op (answer_from chosen)) in
       let calls = sound.calls in
-      turned_system s sound s.members.joined name new (with_row s.history (Respond chosen.call.op (answer_from chosen))) (sound.ruled name _ is) tt (omega (arith, counted, calls)) refl
+      turned_system s sound s.members.joined name new (with_row s.history (Respond chosen.call.op (answer_from chosen))) (named_insert s.members sound.named name _ new is) (sound.ruled name _ is) tt (omega (arith, counted, calls)) refl
       (responding s.config.quorums s.history.rows (held_in s.nodes) (Flies s.pool.flights) (IsIn s.members.clients) (IsIn (finite.insert s.members.clients name new)) name chosen sound.sound
       (record { rules = client.rules; is = is })
       (turned_insert s.members.clients name new) (there_insert s.members.clients name new))
@@ -122,7 +126,7 @@ module _ (s : System) (sound : IsSound s) where
   stopped_sound name None is = sound
   stopped_sound name (Some client) is =
       let new : Client = stopped client in
-      turned_system s sound s.members.joined name new s.history (sound.ruled name client is) tt sound.calls refl
+      turned_system s sound s.members.joined name new s.history (named_insert s.members sound.named name client new is) (sound.ruled name client is) tt sound.calls refl
       (turning s.config.quorums s.history.rows (held_in s.nodes) (Flies s.pool.flights) (IsIn s.members.clients) (IsIn (finite.insert s.members.clients name new)) name Stopped sound.sound
       SoundStopped tt (turned_insert s.members.clients name new) (there_insert s.members.clients name new))
 

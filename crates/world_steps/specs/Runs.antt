@@ -1,5 +1,5 @@
 -- Steps and runs.
-use Rattle.std.specs.Prelude.{◌≡◌, ◌⊎◌, List, [], ◌∷◌, None, Some, Result, Ok, Err, is_some, if◌then◌else◌}
+use Rattle.std.specs.Prelude.{ℕ, ◌≡◌, ◌⊎◌, List, [], ◌∷◌, None, Some, Result, Ok, Err, is_some, if◌then◌else◌}
 use Rattle.world_steps.specs.Configs.{Config}
 use Rattle.world_steps.specs.Systems.{opening, moved, effect_of}
 use Rattle.world_steps.specs.declared.system.System.{System}
@@ -21,6 +21,25 @@ after_from s (step ∷ steps) = after_from (next s step) steps
 
 abbrev pub after : Config → List Step → System
 after config steps = after_from (opening config) steps
+
+-- none of the steps is refused, each at its place
+abbrev pub AreAccepted : System → List Step → Type 0
+AreAccepted s [] = Unit {0}
+AreAccepted s (step ∷ steps) = (refusal_of s step ≡ None) × AreAccepted (next s step) steps
+
+-- how many clients join, and how many stop, by a step
+abbrev pub join_count : Step → ℕ
+join_count (step.Join name) = 1
+join_count other = 0
+
+abbrev pub stop_count : Step → ℕ
+stop_count (step.StopClient name) = 1
+stop_count other = 0
+
+-- a step with texts
+abbrev pub HasText : Step → Type 0
+HasText (step.Invoke name key action) = Unit {0}
+HasText other = ⊥
 
 -- a step for which something may grow
 abbrev pub MayGrow : Step → Type 0

@@ -1,13 +1,17 @@
 //! Laws of the definitions, each the contract of a function that does nothing.
-ghost use Rattle.std.specs.Prelude.{◌≤◌, List, ℕ};
+ghost use Rattle.std.specs.Prelude.{◌≡◌, ◌≤◌, ◌+◌, ◌++◌, ◌∷◌, [], List, None, ℕ};
 ghost use Rattle.quorum.specs.Quorums.{IsLawful};
 ghost use Rattle.recorder.specs.Records.{IsPart};
 ghost use Rattle.recorder.specs.Sound.{TagSound};
 ghost use Rattle.recorder.specs.declared.part.Call.{Call};
+ghost use Rattle.world_steps.specs.Clients.{running_count};
 ghost use Rattle.world_steps.specs.Configs.{Config};
-ghost use Rattle.world_steps.specs.Runs.{after};
+ghost use Rattle.world_steps.specs.Refusals.{refusal_of};
+ghost use Rattle.world_steps.specs.Runs.{AreAccepted, after, join_count, next, stop_count};
 ghost use Rattle.world_steps.specs.SoundSystems.{IsSound};
+ghost use Rattle.world_steps.specs.Systems.{moved, opening};
 ghost use Rattle.world_steps.specs.declared.step.Step.{Step};
+ghost use Rattle.world_steps.specs.declared.system.System.{System};
 
 /// For every configuration and every list of steps the system that they leave is sound.
 pub fn every_run_is_sound()
@@ -18,4 +22,20 @@ pub fn every_run_is_sound()
 /// that its calls sorted by tag are an order of it.
 pub fn every_run_has_sound_tags()
     ensures { (config : Config) (steps : List Step) (key : List ℕ) (part : List Call) → IsLawful config.quorums → config.calls ≤ 1000000 → IsPart (after config steps).history.rows key part → TagSound part }
+{}
+
+/// What a list with one more step leaves is the next system after the list. Where each step of the list
+/// is accepted at its place and this one after them, each step of the longer list is.
+pub fn a_list_may_have_one_more_step()
+    ensures after { (config : Config) (steps : List Step) (step : Step) → after config (steps ++ step ∷ []) ≡ next (after config steps) step }
+    ensures accepted { (config : Config) (steps : List Step) (step : Step)
+        → AreAccepted (opening config) steps → refusal_of (after config steps) step ≡ None
+        → (after config (steps ++ step ∷ []) ≡ moved (after config steps) step) × AreAccepted (opening config) (steps ++ step ∷ []) }
+{}
+
+/// With a client that joins at most one more runs, with one that stops one less does, and no other step
+/// lets more run.
+pub fn a_stop_is_of_a_client_that_runs()
+    ensures { (s : System) (step : Step) → IsSound s → refusal_of s step ≡ None
+        → running_count (moved s step).members + stop_count step ≤ running_count s.members + join_count step }
 {}

@@ -5,6 +5,7 @@ ghost use Rattle.std.specs.FinMap as finite;
 ghost use Rattle.recorder.specs.Records.{IsPart};
 ghost use Rattle.recorder.specs.Sound.{TagSound};
 ghost use Rattle.recorder.specs.declared.part.Call.{Call};
+ghost use Rattle.world_steps.specs.Refusals.{refusal_of};
 ghost use Rattle.world_steps.specs.Runs.{Steps};
 ghost use Rattle.world_steps.specs.SoundSystems.{IsSound};
 ghost use Rattle.world_steps.specs.Systems.{opening};
@@ -67,6 +68,13 @@ impl World {
             return Err(refusal);
         }
         Ok(self.system.moved(step)?)
+    }
+
+    /// Why the step would be refused now, other than for memory.
+    pub fn refusal(&self, step: &Step) -> Option<Refusal>
+        ensures { result ≡ refusal_of self.now step.now }
+    {
+        self.system.refusal(step)
     }
 
     /// The configuration that it was made with.
