@@ -6,14 +6,14 @@ use Rattle.std.specs.FinSet as finite
 use Rattle.client_phases.specs.declared.states.State.{State}
 use Rattle.client_phases.specs.declared.states.State.TheVariants.{Idle, Ask, Put, Ready, Stopped}
 use Rattle.world_steps.specs.Refusals.{refusal_of, has_request, phase_at}
-use Rattle.world_steps.specs.Runs.{next, after_from}
+use Rattle.world_steps.specs.Runs.{AreAccepted, next, after_from}
 use Rattle.world_steps.specs.SoundSystems.{IsSound}
 use Rattle.world_steps.specs.Systems.{send}
 use Rattle.world_steps.specs.declared.step.Step.{Step}
 use Rattle.world_steps.specs.declared.step.Step.TheVariants as step
 use Rattle.world_steps.specs.declared.system.System.{System}
 use Rattle.world_steps.proofs.Passed.{passed, client_there, request_there}
-use Rattle.world_settle.specs.Settling.{Settles, AreTaken, candidates, counted_at, round}
+use Rattle.world_settle.specs.Settling.{Settles, candidates, counted_at, round}
 use Rattle.world_settle.specs.Settling.Settles.{answers, asks}
 use Rattle.world_settle.specs.Refusing.{MaySettle, Needs, NeedsAt}
 use Rattle.world_settle.specs.Settled.{Completes, IsWithin, KeepsEarlier, SettlesBy, Takes, TakesAll, TakesSome}
@@ -74,7 +74,7 @@ pub record Going (old : System) (name : ℕ) (current : System) (count : ℕ) : 
   pub there : current ≡ after_from old taken
   pub counted : count ≡ length taken
   pub onward : Settles name current rest
-  pub accepted : AreTaken current rest
+  pub accepted : AreAccepted current rest
   pub sound : IsSound current
   pub few : length taken + length rest ≤ 91
 
@@ -141,10 +141,10 @@ module _ (old : System) (name : ℕ) (current : System) (count : ℕ) (going : G
     next_round : Ahead current name going.rest replica
     next_round = ahead name current going.rest replica others going.onward requests found
 
-    round_first : AreTaken current (round current name replica ++ next_round.steps)
-    round_first = subst (AreTaken current) next_round.splits going.accepted
+    round_first : AreAccepted current (round current name replica ++ next_round.steps)
+    round_first = subst (AreAccepted current) next_round.splits going.accepted
 
-    pub going_taken : AreTaken current (round current name replica)
+    pub going_taken : AreAccepted current (round current name replica)
     going_taken = let h = round_first in (h.0, (h.1.0, (h.1.1.0, tt)))
 
     pub going_few : count < 900
@@ -176,7 +176,7 @@ module _ (old : System) (name : ℕ) (current : System) (count : ℕ) (going : G
           there = takes.after_all ∙ after_first (round current name replica);
           counted = omega (arith, counted, added, long);
           onward = subst (λ s. Settles name s steps) (sym takes.after_all) next_round.onward;
-          accepted = subst (λ s. AreTaken s steps) (sym takes.after_all) h.1.1.1;
+          accepted = subst (λ s. AreAccepted s steps) (sym takes.after_all) h.1.1.1;
           sound = sound;
           few = omega (arith, few, long, split);
         }
@@ -202,7 +202,7 @@ module _ (old : System) (name : ℕ) (current : System) (count : ℕ) (going : G
     last_is = last_one name current going.rest going.onward none
 
     pub last_taken : refusal_of current (step.Respond name) ≡ None
-    last_taken = (subst (AreTaken current) last_is going.accepted).0
+    last_taken = (subst (AreAccepted current) last_is going.accepted).0
 
     last_settles : Settles name old (going.taken ++ step.Respond name ∷ [])
     last_settles = subst (λ xs. Settles name old (going.taken ++ xs)) last_is going.settles

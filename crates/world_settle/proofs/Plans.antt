@@ -27,7 +27,7 @@ use Rattle.recorder.specs.declared.row.Row.{Row}
 use Rattle.recorder.specs.declared.row.Row.TheVariants.{Respond}
 use Rattle.world_steps.specs.Moves.{IsClient}
 use Rattle.world_steps.specs.Refusals.{refusal_of, phase_at, is_stopped, is_ready, has_request, no_such_client}
-use Rattle.world_steps.specs.Runs.{next, after_from}
+use Rattle.world_steps.specs.Runs.{AreAccepted, next, after_from}
 use Rattle.world_steps.specs.Sound.{Pending, StateSound}
 use Rattle.world_steps.specs.Sound.StateSound.{SoundAsking, SoundPutting}
 use Rattle.world_steps.specs.SoundSystems.{IsSound, held_in}
@@ -42,7 +42,7 @@ use Rattle.world_steps.proofs.Frames.{Tags, tags_of}
 use Rattle.world_steps.proofs.Lookups.{slice_cases}
 use Rattle.world_steps.proofs.Passed.{phase_is}
 use Rattle.world_steps.proofs.StepsSound.{after_from_sound}
-use Rattle.world_settle.specs.Settling.{Settles, AreTaken, candidates, counted_at, is_up, round}
+use Rattle.world_settle.specs.Settling.{Settles, candidates, counted_at, is_up, round}
 use Rattle.world_settle.specs.Settling.Settles.{answers, asks}
 use Rattle.world_settle.specs.Refusing.{MaySettle, Needs, NeedsAt, pending_at}
 use Rattle.world_settle.specs.Settled.{Completes, IsWithin}
@@ -55,7 +55,7 @@ use Rattle.world_settle.proofs.Rounds.{MayRound, get_same, handled_nodes, next_m
 pub record Plan (s : System) (name a b : ℕ) : Type 0 where
   pub steps : List Step
   pub settles : Settles name s steps
-  pub taken : AreTaken s steps
+  pub taken : AreAccepted s steps
   pub few : length steps ≤ 3 * (a + b) + 1
   pub completes : Completes s name (after_from s steps)
 
@@ -93,7 +93,7 @@ module _ (s : System) (name : ℕ) (rules : Rules) (chosen : Chosen) (is : IsCli
   }
 
 -- ---- a round, and the steps behind it
-joined : (s t : System) (name a b c d replica : ℕ) (others : List ℕ) → after_from s (round s name replica) ≡ t → AreTaken s (round s name replica)
+joined : (s t : System) (name a b c d replica : ℕ) (others : List ℕ) → after_from s (round s name replica) ≡ t → AreAccepted s (round s name replica)
     → has_request (phase_at s name) ≡ true → candidates s (counted_at s name) ≡ replica ∷ others → pending_at t name ≡ pending_at s name → suc (c + d) ≤ a + b → Plan t name c d → Plan s name a b
 joined s t name a b c d replica others is first requests found same fewer plan =
     let few = plan.few in
@@ -101,7 +101,7 @@ joined s t name a b c d replica others is first requests found same fewer plan =
     record {
       steps = round s name replica ++ plan.steps;
       settles = asks s replica others plan.steps requests found (subst (λ u. Settles name u plan.steps) (sym is) plan.settles);
-      taken = (first.0, (first.1.0, (first.1.1.0, subst (λ u. AreTaken u plan.steps) (sym is) plan.taken)));
+      taken = (first.0, (first.1.0, (first.1.1.0, subst (λ u. AreAccepted u plan.steps) (sym is) plan.taken)));
       few = omega (arith, few, fewer);
       completes = record {
         op = done.op;

@@ -22,7 +22,7 @@ use Rattle.recorder.specs.Histories.{caller_of}
 use Rattle.world_steps.specs.Clients.{with_client}
 use Rattle.world_steps.specs.Moves.{IsClient}
 use Rattle.world_steps.specs.Refusals.{refusal_of, arrival_refusals, first_of, phase_at, is_stopped, has_request, is_down, no_such_client, no_such_replica, flights_full}
-use Rattle.world_steps.specs.Runs.{next, after_from}
+use Rattle.world_steps.specs.Runs.{AreAccepted, next, after_from}
 use Rattle.world_steps.specs.Systems.{moved, send, deliver, handle, lose, take, op_of, answered_op, with_note}
 use Rattle.world_steps.specs.declared.nodes.Node.{Node}
 use Rattle.world_steps.specs.declared.refusal.Refusal.{Refusal}
@@ -32,7 +32,7 @@ use Rattle.world_steps.specs.declared.step.Step.TheVariants as step
 use Rattle.world_steps.specs.declared.system.System.{System}
 use Rattle.world_steps.proofs.Lookups.{get_cases}
 use Rattle.world_steps.proofs.Passed.{phase_is}
-use Rattle.world_settle.specs.Settling.{round, AreTaken}
+use Rattle.world_settle.specs.Settling.{round}
 
 -- ---- maps by number
 module _ {X : Type 0} where
@@ -189,5 +189,5 @@ module _ (s : System) (name replica : ℕ) (client : Client) (request : Request)
   pub round_is : after_from s (round s name replica) ≡ third_system s name replica client request node
   round_is = ap (λ t. next t (step.Deliver (s.pool.sent + 1))) second_after ∙ third_is
 
-  pub round_taken : AreTaken s (round s name replica)
+  pub round_taken : AreAccepted s (round s name replica)
   round_taken = (send_taken, (subst (λ t. refusal_of t (step.Deliver s.pool.sent) ≡ None) (sym first_is) request_taken, (subst (λ t. refusal_of t (step.Deliver (s.pool.sent + 1)) ≡ None) (sym second_after) reply_taken, tt)))

@@ -1,14 +1,14 @@
 -- The steps that complete a client's pending call: while it asks or puts, a request to the least replica that is up and not
 -- counted yet, and its reply; then the response.
-use Rattle.std.specs.Prelude.{ℕ, ◌≡◌, ◌+◌, Bool, true, false, not, ◌&&◌, List, [], ◌∷◌, ◌++◌, None, length, slice_get, filter}
+use Rattle.std.specs.Prelude.{ℕ, ◌≡◌, ◌+◌, Bool, true, false, not, ◌&&◌, List, [], ◌∷◌, ◌++◌, length, slice_get, filter}
 use Rattle.std.specs.List.{range_with_len}
 use Rattle.std.specs.Option.{option_map_or}
 use Rattle.std.specs.FinSet as finite
 use Rattle.std.specs.FinMap as map
 use Rattle.quorum.specs.Sets.{Replicas}
 use Rattle.client_phases.specs.Clients.{counted_by}
-use Rattle.world_steps.specs.Refusals.{phase_at, has_request, is_ready, refusal_of}
-use Rattle.world_steps.specs.Runs.{next, after_from}
+use Rattle.world_steps.specs.Refusals.{phase_at, has_request, is_ready}
+use Rattle.world_steps.specs.Runs.{after_from}
 use Rattle.world_steps.specs.declared.step.Step.{Step}
 use Rattle.world_steps.specs.declared.step.Step.TheVariants as step
 use Rattle.world_steps.specs.declared.system.System.{System}
@@ -44,8 +44,3 @@ pub data Settles (name : ℕ) : System → List Step → Type 0 where
   asks : (s : System) (replica : ℕ) (others : List ℕ) (steps : List Step)
       → has_request (phase_at s name) ≡ true → candidates s (counted_at s name) ≡ replica ∷ others
       → Settles name (after_from s (round s name replica)) steps → Settles name s (round s name replica ++ steps)
-
--- none of the steps is refused
-abbrev pub AreTaken : System → List Step → Type 0
-AreTaken s [] = Unit {0}
-AreTaken s (step ∷ steps) = (refusal_of s step ≡ None) × AreTaken (next s step) steps

@@ -1,18 +1,19 @@
 //! Laws of the definitions, each the contract of a function that does nothing.
 ghost use Rattle.std.specs.Prelude.{◌≡◌, ◌+◌, ◌*◌, ◌/◌, ◌≤◌, ℕ, List, length};
 ghost use Rattle.quorum.specs.Quorums.{majority_of};
+ghost use Rattle.world_steps.specs.Runs.{AreAccepted};
 ghost use Rattle.world_steps.specs.SoundSystems.{IsSound};
 ghost use Rattle.world_steps.specs.declared.step.Step.{Step};
 ghost use Rattle.world_steps.specs.declared.system.System.{System};
 ghost use Rattle.world_settle.specs.Agreeing.{RepliesAgree};
 ghost use Rattle.world_settle.specs.Refusing.{MaySettle, NeedsAt};
 ghost use Rattle.world_settle.specs.Settled.{IsWithin};
-ghost use Rattle.world_settle.specs.Settling.{AreTaken, Settles};
+ghost use Rattle.world_settle.specs.Settling.{Settles};
 
 /// Where a pending call can be completed, there are steps that complete it, none of them is refused,
 /// and they are at most three for each replica that is needed, and one.
 pub fn a_pending_call_has_steps()
-    ensures { (s : System) (name : ℕ) → IsSound s → MaySettle s name → (steps : List Step) × Settles name s steps × AreTaken s steps × IsWithin s name (length steps) }
+    ensures { (s : System) (name : ℕ) → IsSound s → MaySettle s name → (steps : List Step) × Settles name s steps × AreAccepted s steps × IsWithin s name (length steps) }
 {}
 
 /// The steps that complete a pending call are one list.

@@ -1,11 +1,11 @@
 //! Completing a pending call.
 ghost use Rattle.std.specs.Prelude.{◌≡◌, ◌<◌, ◌+◌, None, IfOk, IfErr, OnOk, OnErr};
 ghost use Rattle.world_steps.specs.Refusals.{refusal_of};
-ghost use Rattle.world_steps.specs.Runs.{next};
+ghost use Rattle.world_steps.specs.Runs.{AreAccepted, next};
 ghost use Rattle.world_steps.specs.SoundSystems.{IsSound};
 ghost use Rattle.world_settle.specs.Refusing.{MaySettle};
 ghost use Rattle.world_settle.specs.Settled.{Completes, IsWithin, IsWithinForMajorities, IsWithinIfAgreed, KeepsEarlier, SettlesBy, Takes};
-ghost use Rattle.world_settle.specs.Settling.{AreTaken, round};
+ghost use Rattle.world_settle.specs.Settling.{round};
 
 use crate::SettleError;
 use crate::candidates::next_replica;
@@ -37,7 +37,7 @@ fn round(
     replica: ReplicaId,
     count: u32,
 ) -> Result<u32, SettleError>
-    requires taken { AreTaken world.old (round world.old client replica) }
+    requires taken { AreAccepted world.old (round world.old client replica) }
     requires few { count < 900 }
     ensures takes { Takes world.old (round world.old client replica) count result world.new }
     ensures sound { IsSound world.new }
