@@ -1,0 +1,51 @@
+-- Halls: a world with the journal of the steps that it took.
+use Rattle.std.specs.Prelude.{ℕ, ◌≡◌, ◌≤◌, ◌+◌, ◌⊎◌, List, [], ◌∷◌, ◌++◌, None, Some, Result, Ok, Err}
+use Rattle.world_steps.specs.Clients.{Members, running_count}
+use Rattle.world_steps.specs.Configs.{Config}
+use Rattle.world_steps.specs.Refusals.{refusal_of}
+use Rattle.world_steps.specs.Runs.{AreAccepted, after}
+use Rattle.world_steps.specs.Systems.{effect_of, moved, opening}
+use Rattle.world_steps.specs.declared.effect.Effect.{Effect}
+use Rattle.world_steps.specs.declared.refusal.Refusal.{Refusal}
+use Rattle.world_steps.specs.declared.refusal.Refusal.TheVariants as refusal
+use Rattle.world_steps.specs.declared.step.Step.{Step}
+use Rattle.world_steps.specs.declared.step.Step.TheVariants as step
+use Rattle.world_steps.specs.declared.system.System.{System}
+
+-- the configuration, the world, and the steps that the world took, the first first
+pub record Hall : Type 0 where
+  pub config : Config
+  pub world : System
+  pub journal : List Step
+
+-- before the first step
+abbrev pub opening_hall : Config → Hall
+opening_hall config = record { config = config; world = opening config; journal = [] }
+
+-- the world is what the journal's steps make of the opening one, and each of them was accepted at its place
+pub record IsReplay (hall : Hall) : Type 0 where
+  pub is : hall.world ≡ after hall.config hall.journal
+  pub accepted : AreAccepted (opening hall.config) hall.journal
+
+-- the hall that took a step more
+abbrev pub with_step : Hall → Step → Hall
+with_step hall step = record hall { world = moved hall.world step; journal = hall.journal ++ step ∷ [] }
+
+-- a step that the hall may refuse for memory: the place of a client's stop is free since the client joined
+abbrev pub MayWantMemory : Step → Type 0
+MayWantMemory (step.StopClient name) = ⊥
+MayWantMemory other = Unit {0}
+
+-- the refusal is the one of the table; want of memory only where nothing refuses the step and it may want memory
+abbrev pub IsRefused : System → Step → Refusal → Type 0
+IsRefused s step why = (refusal_of s step ≡ Some why) ⊎ ((refusal_of s step ≡ None) × (why ≡ refusal.Memory) × MayWantMemory step)
+
+-- the step is taken and added to the journal, or neither
+abbrev pub Takes : Hall → Step → Result Effect Refusal → Hall → Type 0
+Takes old step (Ok effect) new = (refusal_of old.world step ≡ None) × (effect_of old.world step ≡ Some effect) × (new ≡ with_step old step)
+Takes old step (Err why) new = IsRefused old.world step why × (new ≡ old)
+
+-- at most so many clients run, and behind so many steps the journal has a place for the stop of each
+pub record HasPlaces (members : Members) (running steps capacity : ℕ) : Type 0 where
+  pub counted : running_count members ≤ running
+  pub free : steps + running ≤ capacity

@@ -1,0 +1,137 @@
+//! Halls.
+ghost use Rattle.std.specs.Prelude.{◌≡◌, ◌≤◌, ◌+◌, IfOk, OnOk, OnErr, vec_capacity, vec_len};
+ghost use Rattle.world_steps.specs.Runs.{join_count, stop_count};
+ghost use Rattle.world_steps.specs.SoundSystems.{IsSound};
+ghost use Rattle.hall_journal.specs.Halls.{IsReplay, MayWantMemory, Takes, opening_hall};
+
+use std::alloc::Global;
+use std::marker::Model;
+use tag::Memory;
+use world_steps::{Config, Effect, Refusal, Step, World, laws};
+
+/// A world, and the journal of the steps that it took.
+///
+/// Of every hall that exists the world is the one after the journal's steps, and each of them was
+/// accepted at its place.
+#[derive(Drop)]
+pub struct Hall {
+    config: Config,
+    world: World,
+    journal: Vec<Step>,
+    running: usize,
+}
+
+impl Model for Hall {
+    ghost use Rattle.std.specs.Prelude.{List, refl, vec_capacity, vec_len};
+    ghost use Rattle.std.specs.Coded.{code_by, coded×, coded_list};
+    ghost use Rattle.world_steps.specs.contracts.config.Config as settings;
+    ghost use Rattle.world_steps.specs.contracts.step.Step as event;
+    ghost use Rattle.world_steps.specs.contracts.world.World as whole;
+    ghost use Rattle.world_steps.specs.Configs.{Config};
+    ghost use Rattle.world_steps.specs.SoundSystems.{IsSound};
+    ghost use Rattle.world_steps.specs.declared.step.Step.{Step};
+    ghost use Rattle.world_steps.specs.declared.system.System.{System};
+    ghost use Rattle.hall_journal.specs.Halls.{Hall, HasPlaces, IsReplay};
+
+    ghost Value = { Hall };
+
+    ghost coded = { code_by (Config × (System × List Step)) (coded× settings.the_row.coded (coded× whole.the_row.coded (coded_list event.the_row.coded))) (λ h. (h.config, (h.world, h.journal))) (λ p. record { config = p.0; world = p.1.0; journal = p.1.1 }) (λ _. refl) };
+
+    ghost view = { λ h. record { config = h.config; world = h.world; journal = h.journal.items } };
+
+    ghost invariant = { λ h. IsReplay (record { config = h.config; world = h.world; journal = h.journal.items }) × IsSound h.world × HasPlaces h.world.members h.running (vec_len h.journal) (vec_capacity h.journal) };
+}
+
+impl Hall {
+    /// The hall before the first step: the opening world, and no step. `Memory` comes only where a
+    /// growth was refused.
+    pub fn new(alloc: Global, config: Config) -> Result<Hall, Memory>
+        ensures { IfOk result (λ hall. hall ≡ opening_hall config) }
+    {
+        let world = World::new(alloc, config)?;
+        Ok(Hall {
+            config,
+            world,
+            journal: Vec::new(alloc),
+            running: 0,
+        })
+    }
+
+    /// The configuration that it was made with.
+    pub fn config(&self) -> Config
+        ensures { result ≡ self.now.config }
+    {
+        self.config
+    }
+
+    /// The world: the one after the journal's steps.
+    pub fn world(&self) -> &World
+        ensures world { result.now ≡ self.now.world }
+        ensures replay { IsReplay self.now }
+    {
+        &self.world
+    }
+
+    /// The steps that were taken, the first first.
+    pub fn journal(&self) -> &[Step]
+        ensures journal { result.now ≡ self.now.journal }
+        ensures replay { IsReplay self.now }
+    {
+        self.journal.as_slice()
+    }
+
+    /// Has the world take a step, adds it to the journal, and answers what it did.
+    ///
+    /// Of the refusals that apply the one with the lowest number is answered, and the hall then equals
+    /// what it was. `Memory` comes only where no other applies and a growth was refused; a client's stop
+    /// takes no memory, since its place in the journal is free from the time when the client joins.
+    pub fn take(&mut self, step: Step) -> Result<Effect, Refusal>
+        ensures takes { Takes self.old step result self.new }
+        ensures replay { IsReplay self.new }
+        ensures sound { IsSound self.new.world }
+    {
+        laws::a_list_may_have_one_more_step();
+        laws::a_stop_is_of_a_client_that_runs();
+        if let Some(refusal) = self.world.refusal(&step) {
+            return Err(refusal);
+        }
+        let kept = step.copy()?;
+        make_room(&mut self.journal, self.running, &kept)?;
+        let effect = self.world.step(step)?;
+        self.running = running_after(self.running, &kept);
+        self.journal.push_reserved(kept);
+        Ok(effect)
+    }
+}
+
+/// Makes room for a step, and behind it for the stops of all clients that then run. A client's stop has
+/// its place.
+fn make_room(journal: &mut Vec<Step>, running: usize, step: &Step) -> Result<(), Memory>
+    requires free { vec_len journal.old + running ≤ vec_capacity journal.old }
+    requires runs { stop_count step.now ≤ running }
+    ensures items { journal.new.items ≡ journal.old.items }
+    ensures len { vec_len journal.new ≡ vec_len journal.old }
+    ensures capacity { vec_capacity journal.old ≤ vec_capacity journal.new }
+    ensures ok { OnOk result (vec_len journal.new + 1 + (running + join_count step.now) ≤ vec_capacity journal.new + stop_count step.now) }
+    ensures err { OnErr result (MayWantMemory step.now) }
+{
+    match step {
+        Step::StopClient { .. } => {}
+        Step::Join { .. } => journal.reserve(running + 2)?,
+        _ => journal.reserve(running + 1)?,
+    }
+    Ok(())
+}
+
+/// How many clients run after a step, where so many did before.
+fn running_after(running: usize, step: &Step) -> usize
+    requires runs { stop_count step.now ≤ running }
+    requires few { running ≤ 9223372036854775807 }
+    ensures { result + stop_count step.now ≡ running + join_count step.now }
+{
+    match step {
+        Step::Join { .. } => running + 1,
+        Step::StopClient { .. } => running - 1,
+        _ => running,
+    }
+}
