@@ -70,7 +70,7 @@ noted_after s op follows Counted = tt
 noted_after s op follows outcome.Ready = tt
 
 -- a reply that counts names the pending call
-counts_op : (rules : Rules) (call : Call) (counted : Replicas) (op : OpId) (replica : ℕ) → counts rules call counted op replica ≡ true → op ≡ call.op
+pub counts_op : (rules : Rules) (call : Call) (counted : Replicas) (op : OpId) (replica : ℕ) → counts rules call counted op replica ≡ true → op ≡ call.op
 counts_op rules call counted op replica e = same_op op call.op (eqb-true op.0 call.op.0 (both_true (nat_eq op.0 call.op.0) _ e).0)
 
 asked_notes : (s : System) (rules : Rules) (asking : Asking) (op : OpId) (replica : ℕ) (pair : Pair) (b : Bool) → counts rules asking.call asking.counted op replica ≡ b

@@ -57,7 +57,7 @@ module _ (nodes : List Node) (number : ℕ) (node : Node) (key : List ℕ) (pair
   abbrev adopted : List Node
   adopted = slice_set nodes number adopter
 
-  adopted_at : (r : ℕ) (k : List ℕ) → Adopted (held_in nodes) number key pair r k (held_in adopted r k)
+  pub adopted_at : (r : ℕ) (k : List ℕ) → Adopted (held_in nodes) number key pair r k (held_in adopted r k)
   adopted_at r k =
       elim (slice_cases nodes number node adopter r is) [
         | inl here ↦

@@ -30,3 +30,5 @@ pub mod Handles
 pub mod Refused
 pub mod Onward
 pub mod RunningCounts
+pub mod LastingLaws
+pub mod AddingLaws

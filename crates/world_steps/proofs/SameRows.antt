@@ -137,7 +137,7 @@ pair_of-adopt pairs key pair = either (is_lt (tag_cmp (pair_of pairs key).tag pa
     either : (b : Bool) → pair_of (cond b (map.insert pairs key pair) pairs) key ≡ cond b pair (pair_of pairs key)
     either b = elim b as (λ c. pair_of (cond c (map.insert pairs key pair) pairs) key ≡ cond c pair (pair_of pairs key)) [ true ↦ pair_of-insert_same pairs key pair | false ↦ refl ]
 
-adopted_rises : (P : ℕ → List ℕ → Pair) (at : ℕ) (key : List ℕ) (pair : Pair) (r : ℕ) (k : List ℕ) (new : Pair) → Adopted P at key pair r k new → IsAtMost (P r k).tag new.tag
+pub adopted_rises : (P : ℕ → List ℕ → Pair) (at : ℕ) (key : List ℕ) (pair : Pair) (r : ℕ) (k : List ℕ) (new : Pair) → Adopted P at key pair r k new → IsAtMost (P r k).tag new.tag
 adopted_rises P at key pair r k new (Same e) = equal_at_most (P r k).tag new.tag (sym (ap (λ (p : Pair). p.tag) e))
 adopted_rises P at key pair r k new (Changed a b e) =
     let h : P r k ≡ P at key = cc in

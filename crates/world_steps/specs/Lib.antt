@@ -7,4 +7,5 @@ pub mod Runs
 pub mod Sound
 pub mod SoundSystems
 pub mod Moves
+pub mod Lasting
 pub mod Numbers

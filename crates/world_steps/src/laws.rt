@@ -6,9 +6,11 @@ ghost use Rattle.recorder.specs.Sound.{TagSound};
 ghost use Rattle.recorder.specs.declared.part.Call.{Call};
 ghost use Rattle.world_steps.specs.Clients.{running_count};
 ghost use Rattle.world_steps.specs.Configs.{Config};
+ghost use Rattle.world_steps.specs.Lasting.{AddsRowOf, Grows, HasJoined, client_in};
 ghost use Rattle.world_steps.specs.Refusals.{refusal_of};
 ghost use Rattle.world_steps.specs.Runs.{AreAccepted, after, join_count, next, stop_count};
-ghost use Rattle.world_steps.specs.SoundSystems.{IsSound};
+ghost use Rattle.world_steps.specs.Sound.{IsAtMost};
+ghost use Rattle.world_steps.specs.SoundSystems.{IsSound, held_in};
 ghost use Rattle.world_steps.specs.Systems.{moved, opening};
 ghost use Rattle.world_steps.specs.declared.step.Step.{Step};
 ghost use Rattle.world_steps.specs.declared.system.System.{System};
@@ -38,4 +40,18 @@ pub fn a_list_may_have_one_more_step()
 pub fn a_stop_is_of_a_client_that_runs()
     ensures { (s : System) (step : Step) → IsSound s → refusal_of s step ≡ None
         → running_count (moved s step).members + stop_count step ≤ running_count s.members + join_count step }
+{}
+
+/// Whatever steps follow, a name that joined stays joined, no replica's tag of a key falls, and the rows
+/// stay, with new ones behind them.
+pub fn further_steps_take_nothing_away()
+    ensures joined { (config : Config) (steps later : List Step) (name : ℕ) → HasJoined (after config steps) name → HasJoined (after config (steps ++ later)) name }
+    ensures held { (config : Config) (steps later : List Step) (number : ℕ) (key : List ℕ)
+        → IsAtMost (held_in (after config steps).nodes number key).tag (held_in (after config (steps ++ later)).nodes number key).tag }
+    ensures rows { (config : Config) (steps later : List Step) → Grows (after config steps).history.rows (after config (steps ++ later)).history.rows }
+{}
+
+/// A step adds no row, or one: of the client that it names or delivers to.
+pub fn a_step_adds_a_row_of_its_client()
+    ensures { (s : System) (step : Step) → IsSound s → AddsRowOf (client_in s step) s.history.rows (next s step).history.rows }
 {}
