@@ -3,7 +3,8 @@
 Runs built programs with the library before them that refuses one growth, the first, the second and so on until a run meets none.
 
 - abd: a check, a justify and a simulate of an example. With a refusal a run has the very answer of a run without one, or status 4,
-  nothing on standard output and one line on standard error, which names memory and a line that the file has.
+  nothing on standard output and one line on standard error, which names memory and a line of the file, or the number behind
+  its last where all lines were read.
 - the row programs: each row alone. What is said of it is what is expected, up to the first line that names memory or to the program's end.
 - growth_tests: each test. It passes (it calls again after a refused growth, and compares whole worlds, pools, replicas, clients and
   histories as they were before the call and after it), or it ends early, since a growth of its own was refused.
@@ -79,7 +80,7 @@ def commands(library, top):
             if status != 4 or out or not found:
                 raise Wrong(f"abd {' '.join(words)}, growth {at}: status {status}, {out!r}, {errors!r}")
             if found[1]:
-                if found[1] not in words or not 1 <= int(found[2]) <= lines_of(f"{folder}/{found[1]}"):
+                if found[1] not in words or not 1 <= int(found[2]) <= lines_of(f"{folder}/{found[1]}") + 1:
                     raise Wrong(f"abd {' '.join(words)}, growth {at}: no such line: {errors!r}")
                 named.add((found[1], int(found[2])))
 
