@@ -5,7 +5,8 @@ Runs built programs with the library before them that refuses one growth, the fi
 - abd: a check, a justify and a simulate of an example. With a refusal a run has the very answer of a run without one, or status 4,
   nothing on standard output and one line on standard error, which names memory and a line of the file, or the number behind
   its last where all lines were read.
-- the row programs: each row alone. What is said of it is what is expected, up to the first line that names memory or to the program's end.
+- the row programs: each row alone. What is said of it is what is expected, up to a line that names memory, or a step that the program
+  couldn't make for want of it (with what such a command wrote before its message, at most three lines), or to the program's end.
 - growth_tests: each test. It passes (it calls again after a refused growth, and compares whole worlds, pools, replicas, clients and
   histories as they were before the call and after it), or it ends early, since a growth of its own was refused.
 """
@@ -19,6 +20,8 @@ import tempfile
 # A row that goes over all small parts takes millions of growths: of a row no more than so many are refused.
 MOST = 3000
 ALL = 1_000_000
+# What a row program says where it couldn't go on for want of memory.
+WANT = r"(?i)memory|NO SUCH |not understood"
 ROWS = {"record_rows", "protocol_rows", "command_rows"}
 
 
@@ -110,9 +113,9 @@ def rows(library, top, name):
 
                 def judge(at, status, out, errors):
                     lines = out.splitlines()
-                    names = [place for place, line in enumerate(lines) if "memory" in line.lower()]
-                    before = lines[: names[0]] if names else lines
-                    if status == 0 or before != wanted[: len(before)]:
+                    other = next((k for k, line in enumerate(lines) if wanted[k : k + 1] != [line]), len(lines))
+                    wants = other == len(lines) or re.search(WANT, "\n".join(lines[other : other + 4]))
+                    if status == 0 or not wants:
                         raise Wrong(f"{name}, {data}, {block.splitlines()[0]!r}, growth {at}: status {status}, {out!r}, {errors!r}")
 
                 count, same, is_whole = runs.go_over(["one.row"], judge, MOST)

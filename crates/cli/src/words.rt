@@ -1,8 +1,8 @@
 //! The words of a command line.
 ghost use Rattle.std.specs.Prelude.{◌≡◌, false, codes, IfOk, IfErr, MatchOption, map, string_bytes};
-ghost use Rattle.clap.specs.Words.{app_of, found_of, kind_of, rows_of, subcommand_rows_of};
+ghost use Rattle.clap.specs.Words.{app_of, found_of, kind_of, rows_of, rule_of, subcommand_rows_of};
 ghost use Rattle.clap.specs.declared.builder.command.Command.TheViews.{out-Command as fields_of};
-ghost use Rattle.cli.specs.Words.{abd_app, bare_app, check_app, justify_app, simulate_app, Asks, AsksNothing, MakesAs, MakesOf, Says};
+ghost use Rattle.cli.specs.Words.{abd_app, bare_app, check_app, justify_app, needed_word, simulate_app, Asks, AsksNothing, MakesAs, MakesOf, Says};
 ghost use Rattle.cli.specs.declared.asked.Command.{Command};
 
 use crate::asked::{Command, Usage};
@@ -11,17 +11,25 @@ use clap::error::ErrorKind;
 use clap::{Arg, ArgMatches, Error};
 use std::alloc::{AllocError, Global};
 
+/// A word that has to be there, with what help says of it.
+fn needed_word<'a>(alloc: Global, name: &'a str, help: &'a str) -> Arg<'a>
+    ensures rule { rule_of result ≡ needed_word name.entry.now }
+    ensures local { result.global ≡ false }
+{
+    Arg::new(alloc, name).required(true).help(help)
+}
+
 /// `abd check HISTORY ORDERS`.
 fn check_words<'a>(alloc: Global) -> Result<clap::Command<'a>, AllocError>
     ensures app { IfOk result (λ words. app_of words ≡ check_app) }
     ensures local { IfOk result (λ words. (fields_of words).has_globals ≡ false) }
 {
-    let history = Arg::new(alloc, "HISTORY")
-        .required(true)
-        .help("The recorded calls: a history file");
-    let orders = Arg::new(alloc, "ORDERS")
-        .required(true)
-        .help("For each key an order of its calls: an order file");
+    let history = needed_word(alloc, "HISTORY", "The recorded calls: a history file");
+    let orders = needed_word(
+        alloc,
+        "ORDERS",
+        "For each key an order of its calls: an order file",
+    );
     let check = clap::Command::new(alloc, "check")
         .about("Judge, key by key, whether the orders show that the history is atomic")
         .after_help(help::CHECK);
@@ -33,9 +41,11 @@ fn justify_words<'a>(alloc: Global) -> Result<clap::Command<'a>, AllocError>
     ensures app { IfOk result (λ words. app_of words ≡ justify_app) }
     ensures local { IfOk result (λ words. (fields_of words).has_globals ≡ false) }
 {
-    let history = Arg::new(alloc, "HISTORY")
-        .required(true)
-        .help("The recorded calls, with their notes: a history file");
+    let history = needed_word(
+        alloc,
+        "HISTORY",
+        "The recorded calls, with their notes: a history file",
+    );
     let justify = clap::Command::new(alloc, "justify")
         .about("Make from the notes an order of each key's calls, check it, and write the orders")
         .after_help(help::JUSTIFY);
@@ -47,7 +57,9 @@ fn simulate_words<'a>(alloc: Global) -> Result<clap::Command<'a>, AllocError>
     ensures app { IfOk result (λ words. app_of words ≡ simulate_app) }
     ensures local { IfOk result (λ words. (fields_of words).has_globals ≡ false) }
 {
-    let script = Arg::new(alloc, "SCRIPT").required(true).help(
+    let script = needed_word(
+        alloc,
+        "SCRIPT",
         "What clients, replicas and the network do, step by step: a script",
     );
     let simulate = clap::Command::new(alloc, "simulate")
