@@ -1,0 +1,84 @@
+-- The turns of a worker.
+use Rattle.std.proofs.Common.{ℕ, ◌≡◌, ◌+◌, ◌*◌, ◌<◌, ◌≤◌, List, [], ◌∷◌, ◌++◌, Some, length, inl, inr, subst, sym, ap, refl, ◌∙◌, arith, length-append}
+use Rattle.std.specs.List.{slice_get}
+use Rattle.std.proofs.Common.{Bor, get_or}
+use Rattle.std.proofs.Math.Nat.{lt_of_mul-lt-mul_right}
+use Rattle.recorder.proofs.Lists.{push_cases}
+use Rattle.tag.specs.declared.numbers.OpId.{OpId}
+use Rattle.recorder.specs.declared.part.Call.{Call}
+use Rattle.certificate_check.specs.declared.verdict.Verdict.{Verdict}
+use Rattle.certificate_check.specs.Verdicts.{IsVerdict}
+use Rattle.parallel_keys.specs.declared.share.Share.{Share}
+use Rattle.parallel_keys.specs.Shares.{IsShare, parts_of, orders_of}
+use Rattle.parallel_keys.proofs.Places.{map_at}
+use Rattle.parallel_keys.specs.KeyVerdicts.{IsVerdictAt, AreTurns, AreLists, AreFirstLists}
+
+-- the turns that a worker has taken, and the index that is next
+pub record TurnsSoFar (parts : List (List Call)) (orders : List (List OpId)) (w k next : ℕ) (verdicts : List Verdict) : Type 0 where
+  pub next_at : next ≡ w + length verdicts * k
+  pub each : (turn : ℕ) (verdict : Verdict) → slice_get verdicts turn ≡ Some verdict → IsVerdictAt parts orders (w + turn * k) verdict
+
+module _ (parts : List (List Call)) (orders : List (List OpId)) (w k : ℕ) where
+  pub turns_none : (next : ℕ) (verdicts : List Verdict) → next ≡ w → verdicts ≡ [] → TurnsSoFar parts orders w k next verdicts
+  turns_none next verdicts first none = record {
+    next_at = rw none (omega arith);
+    each = λ turn verdict at. let no : slice_get [] turn ≡ Some verdict = rw none at at in absurd (nothing turn verdict no);
+  }
+    where
+      nothing : (turn : ℕ) (verdict : Verdict) → slice_get [] turn ≡ Some verdict → ⊥
+      nothing turn verdict h = cc
+
+  pub turns_more : (next after : ℕ) (verdicts new : List Verdict) (verdict : Verdict) → TurnsSoFar parts orders w k next verdicts → IsVerdictAt parts orders next verdict → after ≡ next + k → new ≡ verdicts ++ verdict ∷ [] → TurnsSoFar parts orders w k after new
+  turns_more next after verdicts new verdict so_far judged later grown = record {
+    next_at = later ∙ ap (λ n. n + k) so_far.next_at ∙ one_more (length verdicts) ∙ ap (λ n. w + n * k) (sym (ap length grown ∙ length-append verdicts (verdict ∷ []) ∙ refl));
+    each = λ turn told at. elim (push_cases verdicts verdict turn told (subst (λ (l : List Verdict). slice_get l turn ≡ Some told) grown at)) [
+      | inl it ↦ so_far.each turn told it
+      | inr it ↦ rw (sym it.1, it.0, sym so_far.next_at) judged
+    ];
+  }
+    where
+      one_more : (n : ℕ) → w + n * k + k ≡ w + (n + 1) * k
+      one_more n = grind arith
+
+  pub turns_all : (next : ℕ) (verdicts : List Verdict) → TurnsSoFar parts orders w k next verdicts → length parts ≤ next → AreTurns parts orders w k verdicts
+  turns_all next verdicts so_far end = record {
+    all = λ turn below. let at = so_far.next_at in lt_of_mul-lt-mul_right k (omega arith);
+    each = so_far.each;
+  }
+
+-- the verdict on a share's part and order at an index
+pub judged_at : (share : Share) → IsShare share → (index : ℕ) (verdict : Verdict) (p : Bor (List Call)) (o : Bor (List OpId)) → index < length share.parts.now → IsVerdict (get_or share.parts.now index p).now (get_or share.orders.now index o).now verdict → IsVerdictAt (parts_of share) (orders_of share) index verdict
+judged_at share is index verdict p o below judged = record {
+  part = (get_or share.parts.now index p).now;
+  order = (get_or share.orders.now index o).now;
+  part_at = map_at (λ (b : Bor (List Call)). b.now) share.parts.now index p below;
+  order_at = map_at (λ (b : Bor (List OpId)). b.now) share.orders.now index o (let paired = is.paired in omega arith);
+  judged = judged;
+}
+
+-- the list of a further worker
+module _ (parts : List (List Call)) (orders : List (List OpId)) (k : ℕ) where
+  pub lists_one : (last : ℕ) (lists : List (List Verdict)) (one : List Verdict) → last ≡ 0 → lists ≡ one ∷ [] → AreTurns parts orders last k one → AreFirstLists parts orders k last lists
+  lists_one last lists one first is turns = record {
+    all = ap length is ∙ ap (λ n. n + 1) (sym first);
+    each = λ w verdicts at. elim (push_cases [] one w verdicts (subst (λ (l : List (List Verdict)). slice_get l w ≡ Some verdicts) is at)) [
+      | inl it ↦ absurd (nothing w verdicts it)
+      | inr it ↦ rw (sym it.1, it.0, sym first) turns
+    ];
+  }
+    where
+      nothing : (w : ℕ) (verdicts : List Verdict) → slice_get [] w ≡ Some verdicts → ⊥
+      nothing w verdicts h = cc
+
+  pub lists_more : (before last : ℕ) (lists new : List (List Verdict)) (one : List Verdict) → AreFirstLists parts orders k before lists → last ≡ before + 1 → new ≡ lists ++ one ∷ [] → AreTurns parts orders last k one → AreFirstLists parts orders k last new
+  lists_more before last lists new one are next is turns = record {
+    all = ap length is ∙ length-append lists (one ∷ []) ∙ ap (λ n. n + 1) (are.all ∙ sym next);
+    each = λ w verdicts at. elim (push_cases lists one w verdicts (subst (λ (l : List (List Verdict)). slice_get l w ≡ Some verdicts) is at)) [
+      | inl it ↦ are.each w verdicts it
+      | inr it ↦ let here : w ≡ last = it.0 ∙ are.all ∙ sym next in rw (sym it.1, here) turns
+    ];
+  }
+
+  -- those up to the last of k workers are all
+  pub lists_all : (last : ℕ) (lists : List (List Verdict)) → AreFirstLists parts orders k last lists → last + 1 ≡ k → AreLists parts orders k lists
+  lists_all last lists are end = record { all = are.all ∙ end; each = are.each }

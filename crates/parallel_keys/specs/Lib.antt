@@ -1,0 +1,4 @@
+pub mod Workers
+pub mod Numbers
+pub mod KeyVerdicts
+pub mod Shares

@@ -1,0 +1,125 @@
+//! Judging many keys.
+ghost use Rattle.std.specs.Prelude.{◌≡◌, ◌<◌, ◌≤◌, length, map, IfOk};
+ghost use Rattle.parallel_keys.specs.KeyVerdicts.{AreLists, AreTurns, AreVerdicts};
+ghost use Rattle.parallel_keys.specs.Shares.{AreUpToShare, IsShare};
+
+use crate::error::CheckError;
+use crate::gate::CheckGate;
+use crate::share::{Share, share_of};
+use crate::weaving::weave;
+use crate::workers::Workers;
+use certificate_check::Verdict;
+use recorder::Part;
+use std::alloc::Global;
+use std::sync::Wait;
+use std::thread;
+use std::thread::{PromisedHandle, Scope, Threads};
+use tag::{Memory, OpId};
+
+/// The verdict on the part and the order at an index.
+#[derive(Clone, Copy, Debug, PartialEq, Eq)]
+pub struct KeyVerdict {
+    pub index: usize,
+    pub verdict: Verdict,
+}
+
+/// Starts a worker on a thread of its own.
+fn start<'s, 'e: 's, G: CheckGate + Sync>(
+    scope: &'s Scope<'s, &'e ()>,
+    alloc: Global,
+    share: Share<'e>,
+    gate: &'e G,
+) -> Result<PromisedHandle<Result<Vec<Verdict>, Memory>, Share<'e>>, CheckError>
+    requires { IsShare share }
+    ensures { IfOk result (λ started. started.promise ≡ share.entry) }
+{
+    let Share {
+        parts,
+        orders,
+        worker,
+        workers,
+    } = share;
+    Ok(scope.spawn_with(
+        share,
+        move || -> Result<Vec<Verdict>, Memory>
+            requires { (length parts.now ≡ length orders.now) × (worker < workers) × (workers ≤ 16) }
+            ensures { IfOk result (λ verdicts. AreTurns (map (λ p. p.now) parts.entry.now) (map (λ o. o.now) orders.entry.now) worker workers verdicts.items) }
+        { share_of(parts, orders, worker, workers).judge(alloc, gate) },
+    )?)
+}
+
+/// Judges the first workers of a row, each on a thread of its own but worker 0, which is the caller's
+/// thread; the lists of their verdicts, in order of worker. All are started before one is waited for.
+fn run_workers<'s, 'e: 's, R: Threads, G: CheckGate + Sync>(
+    rt: &R,
+    scope: &'s Scope<'s, &'e ()>,
+    alloc: Global,
+    last: Share<'e>,
+    gate: &'e G,
+) -> Result<Vec<Vec<Verdict>>, CheckError>
+    requires { IsShare last }
+    ensures { IfOk result (λ lists. AreUpToShare last.entry (map (λ v. v.items) lists.items)) }
+{
+    if last.worker == 0 {
+        let mut lists = Vec::new(alloc);
+        lists.push(last.judge(alloc, gate)?)?;
+        return Ok(lists);
+    }
+    let started = start(scope, alloc, last, gate)?;
+    let before = share_of(last.parts, last.orders, last.worker - 1, last.workers);
+    let mut lists = run_workers(rt, scope, alloc, before, gate)?;
+    lists.push(started.join(rt)?)?;
+    Ok(lists)
+}
+
+/// The lists of all workers' verdicts, in order of worker.
+fn run_all<R: Threads + Wait, G: CheckGate + Sync>(
+    rt: &R,
+    alloc: Global,
+    parts: &[&Part],
+    orders: &[&[OpId]],
+    workers: Workers,
+    gate: &G,
+) -> Result<Vec<Vec<Verdict>>, CheckError>
+    requires { length parts.now ≡ length orders.now }
+    ensures { IfOk result (λ lists. AreLists (map (λ p. p.now) parts.now) (map (λ o. o.now) orders.now) workers (map (λ v. v.items) lists.items)) }
+{
+    let workers = usize::from(workers.count());
+    thread::scope(
+        thread::scope_env(),
+        rt,
+        |scope| -> Result<Vec<Vec<Verdict>>, CheckError>
+            requires { (length parts.now ≡ length orders.now) × (0 < workers) × (workers ≤ 16) }
+            ensures { IfOk result (λ lists. AreLists (map (λ p. p.now) parts.entry.now) (map (λ o. o.now) orders.entry.now) workers (map (λ v. v.items) lists.items)) }
+        {
+            run_workers(
+                rt,
+                scope,
+                alloc,
+                share_of(parts, orders, workers - 1, workers),
+                gate,
+            )
+        },
+    )
+}
+
+/// Judges the order at each index against the part there; a verdict for each index, in order of index.
+///
+/// Worker w of k takes the indexes w, w + k, w + 2k and so on. Each worker has a thread of its own, all
+/// at once; worker 0's is the caller's, so one worker starts no thread. The gate is called on the
+/// worker's thread before an index is judged. `Memory` comes only where a growth was refused, `Thread`
+/// only where a thread couldn't be started; the threads have ended then too.
+pub fn check_all<R: Threads + Wait, G: CheckGate + Sync>(
+    rt: &R,
+    alloc: Global,
+    parts: &[&Part],
+    orders: &[&[OpId]],
+    workers: Workers,
+    gate: &G,
+) -> Result<Vec<KeyVerdict>, CheckError>
+    requires { length parts.now ≡ length orders.now }
+    ensures { IfOk result (λ verdicts. AreVerdicts (map (λ p. p.now) parts.now) (map (λ o. o.now) orders.now) verdicts.items) }
+{
+    let lists = run_all(rt, alloc, parts, orders, workers, gate)?;
+    Ok(weave(alloc, parts, orders, &lists)?)
+}

@@ -1,0 +1,85 @@
+//! Why keys weren't judged.
+ghost use Rattle.std.specs.Prelude.{◌≡◌};
+ghost use Rattle.parallel_keys.specs.Numbers.{check_error_name, check_error_number};
+
+use std::alloc::{AllocError, AllocFailed};
+use std::thread::SpawnError;
+use tag::Memory;
+use thiserror::Error;
+
+/// Why the orders of keys weren't judged.
+#[derive(Clone, Copy, Debug, PartialEq, Eq, Error)]
+pub enum CheckError {
+    /// A growth was refused.
+    #[error("no memory")]
+    Memory,
+    /// A thread couldn't be started.
+    #[error("no thread")]
+    Thread,
+}
+
+impl CheckError {
+    /// Its number in the order of the reasons, 1 or 2.
+    pub fn number(self) -> u8
+        ensures { result ≡ check_error_number self }
+    {
+        match self {
+            CheckError::Memory => 1,
+            CheckError::Thread => 2,
+        }
+    }
+
+    /// Its name, as it stands here.
+    pub fn name(self) -> &'static str
+        ensures { result.now ≡ check_error_name self }
+    {
+        match self {
+            CheckError::Memory => "Memory",
+            CheckError::Thread => "Thread",
+        }
+    }
+}
+
+impl From<Memory> for CheckError {
+    ghost use Rattle.std.specs.Prelude.{◌≡◌};
+    ghost use Rattle.parallel_keys.specs.declared.error.CheckError.TheVariants.{Memory};
+
+    ghost from_gives = { λ _ e. e ≡ Memory };
+
+    fn from(_: Memory) -> CheckError {
+        CheckError::Memory
+    }
+}
+
+impl From<AllocError> for CheckError {
+    ghost use Rattle.std.specs.Prelude.{◌≡◌};
+    ghost use Rattle.parallel_keys.specs.declared.error.CheckError.TheVariants.{Memory};
+
+    ghost from_gives = { λ _ e. e ≡ Memory };
+
+    fn from(_: AllocError) -> CheckError {
+        CheckError::Memory
+    }
+}
+
+impl<T: Drop> From<AllocFailed<T>> for CheckError {
+    ghost use Rattle.std.specs.Prelude.{◌≡◌};
+    ghost use Rattle.parallel_keys.specs.declared.error.CheckError.TheVariants.{Memory};
+
+    ghost from_gives = { λ _ e. e ≡ Memory };
+
+    fn from(_: AllocFailed<T>) -> CheckError {
+        CheckError::Memory
+    }
+}
+
+impl<F: Drop> From<SpawnError<F>> for CheckError {
+    ghost use Rattle.std.specs.Prelude.{◌≡◌};
+    ghost use Rattle.parallel_keys.specs.declared.error.CheckError.TheVariants.{Thread};
+
+    ghost from_gives = { λ _ e. e ≡ Thread };
+
+    fn from(_: SpawnError<F>) -> CheckError {
+        CheckError::Thread
+    }
+}

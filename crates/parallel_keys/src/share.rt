@@ -1,0 +1,63 @@
+//! The keys that one worker judges.
+ghost use Rattle.std.specs.Prelude.{◌≡◌};
+
+use crate::gate::CheckGate;
+use certificate_check::{Verdict, check_part};
+use recorder::Part;
+use std::alloc::Global;
+use std::thread::Promise;
+use tag::{Memory, OpId};
+
+/// The keys of one of several workers: those at its number, at its number and so many workers more,
+/// and so on. As a promise it says what the worker's list of verdicts is.
+#[derive(Clone, Copy)]
+pub struct Share<'a> {
+    pub parts: &'a [&'a Part],
+    pub orders: &'a [&'a [OpId]],
+    pub worker: usize,
+    pub workers: usize,
+}
+
+/// The share of that worker.
+pub(crate) fn share_of<'a>(
+    parts: &'a [&'a Part],
+    orders: &'a [&'a [OpId]],
+    worker: usize,
+    workers: usize,
+) -> Share<'a>
+    ensures { result ≡ record { parts = parts.entry; orders = orders.entry; worker = worker; workers = workers } }
+{
+    Share {
+        parts,
+        orders,
+        worker,
+        workers,
+    }
+}
+
+impl<'a> Promise<Result<Vec<Verdict>, Memory>> for Share<'a> {
+    ghost use Rattle.std.specs.Prelude.{IfOk};
+    ghost use Rattle.parallel_keys.specs.Shares.{AreOfShare};
+
+    ghost kept_by = { λ share result. IfOk result (λ verdicts. AreOfShare share verdicts.items) };
+}
+
+impl<'a> Share<'a> {
+    ghost use Rattle.std.specs.Prelude.{IfOk};
+    ghost use Rattle.parallel_keys.specs.Shares.{AreOfShare, IsShare};
+
+    /// Judges the keys of the share, in order of index.
+    pub(crate) fn judge<G: CheckGate>(self, alloc: Global, gate: &G) -> Result<Vec<Verdict>, Memory>
+        requires { IsShare self }
+        ensures { IfOk result (λ verdicts. AreOfShare self.entry verdicts.items) }
+    {
+        let mut verdicts = Vec::new(alloc);
+        let mut index = self.worker;
+        while index < self.parts.len() {
+            gate.at(index);
+            verdicts.push(check_part(alloc, self.parts[index], self.orders[index])?)?;
+            index += self.workers;
+        }
+        Ok(verdicts)
+    }
+}
