@@ -8,6 +8,8 @@
 mod check;
 mod error;
 mod gate;
+mod histories;
+mod pairing;
 mod share;
 mod weaving;
 mod workers;
@@ -15,4 +17,5 @@ mod workers;
 pub use check::{KeyVerdict, check_all};
 pub use error::CheckError;
 pub use gate::{CheckGate, NoGate};
+pub use histories::{check_histories, check_history};
 pub use workers::Workers;

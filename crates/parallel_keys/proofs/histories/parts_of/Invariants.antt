@@ -1,0 +1,6 @@
+use Rattle.std.proofs.Common.{◌≡◌, map, take}
+use Rattle.parallel_keys.specs.declared.pairing.Pair.{Pair}
+use Rattle.parallel_keys.proofs.histories.parts_of.Given as goal
+
+abbrev pub invariant-loop-pair : goal.invariant-loop-pair
+invariant-loop-pair l = map (λ p. p.now) l.parts.items ≡ map (λ (p : Pair). p.part.now) (take l.pair-index l.pairs)
