@@ -6,3 +6,4 @@ pub mod Fronts
 pub mod Given
 pub mod Recorded
 pub mod Halls
+pub mod Apart

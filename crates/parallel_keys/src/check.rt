@@ -42,8 +42,10 @@ fn start<'s, 'e: 's, G: CheckGate + Sync>(
     Ok(scope.spawn_with(
         share,
         move || -> Result<Vec<Verdict>, Memory>
-            requires { (length parts.now ≡ length orders.now) × (worker < workers) × (workers ≤ 16) }
-            ensures { IfOk result (λ verdicts. AreTurns (map (λ p. p.now) parts.entry.now) (map (λ o. o.now) orders.entry.now) worker workers verdicts.items) }
+            requires { (length parts.now ≡ length orders.now)
+                × (worker < workers) × (workers ≤ 16) }
+            ensures { IfOk result (λ verdicts. AreTurns (map (λ p. p.now) parts.entry.now)
+                (map (λ o. o.now) orders.entry.now) worker workers verdicts.items) }
         { share_of(parts, orders, worker, workers).judge(alloc, gate) },
     )?)
 }
@@ -82,15 +84,18 @@ fn run_all<R: Threads + Wait, G: CheckGate + Sync>(
     gate: &G,
 ) -> Result<Vec<Vec<Verdict>>, CheckError>
     requires { length parts.now ≡ length orders.now }
-    ensures { IfOk result (λ lists. AreLists (map (λ p. p.now) parts.now) (map (λ o. o.now) orders.now) workers (map (λ v. v.items) lists.items)) }
+    ensures { IfOk result (λ lists. AreLists (map (λ p. p.now) parts.now)
+        (map (λ o. o.now) orders.now) workers (map (λ v. v.items) lists.items)) }
 {
     let workers = usize::from(workers.count());
     thread::scope(
         thread::scope_env(),
         rt,
         |scope| -> Result<Vec<Vec<Verdict>>, CheckError>
-            requires { (length parts.now ≡ length orders.now) × (0 < workers) × (workers ≤ 16) }
-            ensures { IfOk result (λ lists. AreLists (map (λ p. p.now) parts.entry.now) (map (λ o. o.now) orders.entry.now) workers (map (λ v. v.items) lists.items)) }
+            requires { (length parts.now ≡ length orders.now)
+                × (0 < workers) × (workers ≤ 16) }
+            ensures { IfOk result (λ lists. AreLists (map (λ p. p.now) parts.entry.now)
+                (map (λ o. o.now) orders.entry.now) workers (map (λ v. v.items) lists.items)) }
         {
             run_workers(
                 rt,
@@ -118,7 +123,8 @@ pub fn check_all<R: Threads + Wait, G: CheckGate + Sync>(
     gate: &G,
 ) -> Result<Vec<KeyVerdict>, CheckError>
     requires { length parts.now ≡ length orders.now }
-    ensures { IfOk result (λ verdicts. AreVerdicts (map (λ p. p.now) parts.now) (map (λ o. o.now) orders.now) verdicts.items) }
+    ensures { IfOk result (λ verdicts. AreVerdicts (map (λ p. p.now) parts.now)
+        (map (λ o. o.now) orders.now) verdicts.items) }
 {
     let lists = run_all(rt, alloc, parts, orders, workers, gate)?;
     Ok(weave(alloc, parts, orders, &lists)?)

@@ -14,7 +14,7 @@ pub enum CheckError {
     #[error("no memory")]
     Memory,
     /// A thread couldn't be started.
-    #[error("no thread")]
+    #[error("no thread could be started")]
     Thread,
 }
 

@@ -20,7 +20,8 @@ use tag::{Key, Memory, OpId};
 
 /// The parts of the pairs.
 fn parts_of<'a>(alloc: Global, pairs: &[Pair<'a>]) -> Result<Vec<&'a Part>, Memory>
-    ensures { IfOk result (λ parts. map (λ p. p.now) parts.items ≡ map (λ p. p.part.now) pairs.now) }
+    ensures { IfOk result (λ parts.
+        map (λ p. p.now) parts.items ≡ map (λ p. p.part.now) pairs.now) }
 {
     let mut parts = Vec::with_capacity(alloc, pairs.len())?;
     for pair in pairs {
@@ -31,7 +32,8 @@ fn parts_of<'a>(alloc: Global, pairs: &[Pair<'a>]) -> Result<Vec<&'a Part>, Memo
 
 /// The orders of the pairs.
 fn orders_of<'a>(alloc: Global, pairs: &[Pair<'a>]) -> Result<Vec<&'a [OpId]>, Memory>
-    ensures { IfOk result (λ orders. map (λ o. o.now) orders.items ≡ map (λ p. p.order.now) pairs.now) }
+    ensures { IfOk result (λ orders.
+        map (λ o. o.now) orders.items ≡ map (λ p. p.order.now) pairs.now) }
 {
     let mut orders = Vec::with_capacity(alloc, pairs.len())?;
     for pair in pairs {
@@ -41,8 +43,13 @@ fn orders_of<'a>(alloc: Global, pairs: &[Pair<'a>]) -> Result<Vec<&'a [OpId]>, M
 }
 
 /// The verdicts with their keys.
-fn with_keys(alloc: Global, pairs: &[Pair<'_>], verdicts: &[KeyVerdict]) -> Result<Vec<(Key, Verdict)>, Memory>
-    requires { AreVerdicts (map (λ p. p.part.now) pairs.now) (map (λ p. p.order.now) pairs.now) verdicts.now }
+fn with_keys(
+    alloc: Global,
+    pairs: &[Pair<'_>],
+    verdicts: &[KeyVerdict],
+) -> Result<Vec<(Key, Verdict)>, Memory>
+    requires { AreVerdicts (map (λ p. p.part.now) pairs.now)
+        (map (λ p. p.order.now) pairs.now) verdicts.now }
     ensures { IfOk result (λ keyed. AreOn (map what_of pairs.now) keyed.items) }
 {
     let mut keyed = Vec::with_capacity(alloc, pairs.len())?;

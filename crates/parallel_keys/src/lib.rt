@@ -6,6 +6,7 @@
 #![tactic(auto)]
 
 mod check;
+mod distinct;
 mod error;
 mod gate;
 mod histories;
@@ -15,6 +16,7 @@ mod weaving;
 mod workers;
 
 pub use check::{KeyVerdict, check_all};
+pub use distinct::are_distinct;
 pub use error::CheckError;
 pub use gate::{CheckGate, NoGate};
 pub use histories::{check_histories, check_history};

@@ -1,6 +1,7 @@
 //! The keys of histories and of orders, with what is judged of each.
 ghost use Rattle.std.specs.Prelude.{◌≡◌, [], ◌∷◌, ◌++◌, map, filter, IfOk, OnOk};
-ghost use Rattle.parallel_keys.specs.Pairings.{AreDistinct, all_parts, KeyParts, given_order, is_other, judged_keys, keys_in, other_key, recorded_key};
+ghost use Rattle.parallel_keys.specs.Pairings.{AreDistinct, KeyParts, all_parts, given_order, keys_in};
+ghost use Rattle.parallel_keys.specs.Pairings.{is_other, judged_keys, other_key, recorded_key};
 ghost use Rattle.parallel_keys.specs.Pairs.{HasKeys, key_of, what_of};
 
 use indexmap::IndexMap;

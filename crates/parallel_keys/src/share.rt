@@ -25,7 +25,12 @@ pub(crate) fn share_of<'a>(
     worker: usize,
     workers: usize,
 ) -> Share<'a>
-    ensures { result ≡ record { parts = parts.entry; orders = orders.entry; worker = worker; workers = workers } }
+    ensures { result ≡ record {
+      parts = parts.entry;
+      orders = orders.entry;
+      worker = worker;
+      workers = workers;
+    } }
 {
     Share {
         parts,

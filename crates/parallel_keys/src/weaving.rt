@@ -16,8 +16,10 @@ pub(crate) fn weave(
     lists: &[Vec<Verdict>],
 ) -> Result<Vec<KeyVerdict>, Memory>
     requires some { 0 < length lists.now }
-    requires lists { AreLists (map (λ p. p.now) parts.now) (map (λ o. o.now) orders.now) (length lists.now) (map (λ v. v.items) lists.now) }
-    ensures { IfOk result (λ verdicts. AreVerdicts (map (λ p. p.now) parts.now) (map (λ o. o.now) orders.now) verdicts.items) }
+    requires lists { AreLists (map (λ p. p.now) parts.now) (map (λ o. o.now) orders.now)
+        (length lists.now) (map (λ v. v.items) lists.now) }
+    ensures { IfOk result (λ verdicts. AreVerdicts (map (λ p. p.now) parts.now)
+        (map (λ o. o.now) orders.now) verdicts.items) }
 {
     let workers = lists.len();
     let mut verdicts = Vec::with_capacity(alloc, parts.len())?;
