@@ -6,6 +6,7 @@ use std::thread;
 use std::time::{Clock, Duration};
 
 /// A gate at which each worker waits until another has come there.
+#[derive(Drop)]
 struct Meeting<'a, R> {
     rt: &'a R,
     came: AtomicU64,
