@@ -5,9 +5,9 @@ use Rattle.recorder.specs.declared.part.Call.{Call}
 use Rattle.recorder.specs.declared.order.KeyOrder.{KeyOrder}
 use Rattle.recorder.specs.Records.{IsPart}
 use Rattle.recorder.specs.Orders.{IsOrder}
-use Rattle.file_format.specs.declared.fault.FileFault.{FileFault}
+use Rattle.file_format.specs.Faults.{FileFault}
 use Rattle.file_format.specs.declared.fault.LineFault.{LineFault}
-use Rattle.file_format.specs.declared.fault.FaultKind.TheVariants as kind
+use Rattle.counted_devices.specs.declared.read_fault.FaultKind.TheVariants as kind
 use Rattle.counted_devices.specs.Deliveries.{Delivers}
 use Rattle.history_file.specs.Deliveries.{ReadsAll, StopsWith}
 use Rattle.file_format.specs.Formats.{Format}

@@ -7,7 +7,7 @@ use Rattle.counted_devices.specs.Sendings.{Begins}
 use Rattle.fault_script.specs.Deliveries.{StopsWith}
 use Rattle.fault_script.specs.Simulations.{Simulates}
 use Rattle.fault_script.specs.declared.fault.LineFault.{LineFault}
-use Rattle.fault_script.specs.declared.fault.ErrorKind.TheVariants as kind
+use Rattle.counted_devices.specs.declared.read_fault.FaultKind.TheVariants as kind
 use Rattle.cli.specs.declared.status.Status.{Status}
 use Rattle.cli.specs.declared.status.Status.TheVariants as status
 use Rattle.cli.specs.Passages.{Passage, Writing}

@@ -1,9 +1,7 @@
 -- The exit statuses.
 use Rattle.std.specs.Prelude.{ℕ}
-use Rattle.file_format.specs.declared.fault.FaultKind.{FaultKind}
-use Rattle.file_format.specs.declared.fault.FaultKind.TheVariants as kind
-use Rattle.fault_script.specs.declared.fault.ErrorKind.{ErrorKind}
-use Rattle.fault_script.specs.declared.fault.ErrorKind.TheVariants as error
+use Rattle.counted_devices.specs.declared.read_fault.FaultKind.{FaultKind}
+use Rattle.counted_devices.specs.declared.read_fault.FaultKind.TheVariants as kind
 use Rattle.cli.specs.declared.status.Status.{Status}
 use Rattle.cli.specs.declared.status.Status.TheVariants.{Good, Refused, Usage, Format, Failed}
 use Rattle.cli.specs.declared.status.Failure.{Failure}
@@ -18,19 +16,14 @@ code_of Format = 3
 code_of Failed = 4
 
 -- a fault of a line is the file's own; a reader that fails and want of memory are not
-abbrev pub status_of_kind : FaultKind → Status
+abbrev pub status_of_kind : {L : Type 0} → FaultKind L → Status
 status_of_kind (kind.Line fault) = Format
 status_of_kind kind.Device = Failed
 status_of_kind kind.Memory = Failed
 
-abbrev pub status_of_error : ErrorKind → Status
-status_of_error (error.Line fault) = Format
-status_of_error error.Device = Failed
-status_of_error error.Memory = Failed
-
 abbrev pub status_of : Failure → Status
 status_of (failure.Closed name) = Format
 status_of (failure.File name fault) = status_of_kind fault.kind
-status_of (failure.Script name error) = status_of_error error.kind
+status_of (failure.Script name error) = status_of_kind error.kind
 status_of failure.Output = Failed
 status_of failure.Memory = Failed

@@ -2,7 +2,8 @@
 ghost use Rattle.std.specs.Prelude.{◌≡◌, ◌⊎◌, IfOk, IfErr};
 ghost use Rattle.counted_devices.specs.Counts.{IsOneMore};
 ghost use Rattle.counted_devices.specs.Deliveries.{Delivers};
-ghost use Rattle.history_file.specs.Deliveries.{HasFailed, ReadsAll};
+ghost use Rattle.counted_devices.specs.ReadFaults.{HasFailed};
+ghost use Rattle.history_file.specs.Deliveries.{ReadsAll};
 ghost use Rattle.file_format.specs.HistoryFormat.{history_format, MakesHistory};
 ghost use Rattle.file_format.specs.OrderFormat.{order_format, AreJoined};
 ghost use Rattle.cli.specs.Checks.{Ends, Stops, TellsFault};

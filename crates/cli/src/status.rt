@@ -1,9 +1,10 @@
 //! How a command ends: its exit status, and what it says of a failure.
 ghost use Rattle.std.specs.Prelude.{◌≡◌};
-ghost use Rattle.cli.specs.Statuses.{code_of, status_of};
+ghost use Rattle.cli.specs.Statuses.{code_of, status_of, status_of_kind};
 
-use fault_script::{ErrorKind, ScriptError};
-use file_format::{FaultKind, FileFault};
+use counted_devices::FaultKind;
+use fault_script::ScriptError;
+use file_format::FileFault;
 use std::io::Write;
 use thiserror::Error;
 
@@ -52,6 +53,16 @@ pub enum Failure<'a> {
     Memory,
 }
 
+/// The status of a file or a script that couldn't be read.
+fn kind_status<L: Copy>(kind: FaultKind<L>) -> Status
+    ensures { result ≡ status_of_kind kind }
+{
+    match kind {
+        FaultKind::Line(_) => Status::Format,
+        FaultKind::Device | FaultKind::Memory => Status::Failed,
+    }
+}
+
 impl Failure<'_> {
     /// The status that the program ends with.
     pub fn status(self) -> Status
@@ -59,14 +70,8 @@ impl Failure<'_> {
     {
         match self {
             Failure::Closed { .. } => Status::Format,
-            Failure::File { fault, .. } => match fault.kind {
-                FaultKind::Line(_) => Status::Format,
-                FaultKind::Device | FaultKind::Memory => Status::Failed,
-            },
-            Failure::Script { error, .. } => match error.kind {
-                ErrorKind::Line(_) => Status::Format,
-                ErrorKind::Device | ErrorKind::Memory => Status::Failed,
-            },
+            Failure::File { fault, .. } => kind_status(fault.kind),
+            Failure::Script { error, .. } => kind_status(error.kind),
             Failure::Output | Failure::Memory => Status::Failed,
         }
     }

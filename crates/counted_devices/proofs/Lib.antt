@@ -1,4 +1,5 @@
 pub mod Cutting
 pub mod CutOnce
 pub mod Consuming
+pub mod ReadFaults
 pub mod Leaving

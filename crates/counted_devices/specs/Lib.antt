@@ -3,4 +3,5 @@ pub mod Cuts
 pub mod Counts
 pub mod Devices
 pub mod Deliveries
+pub mod ReadFaults
 pub mod Sendings

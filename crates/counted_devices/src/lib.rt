@@ -7,11 +7,13 @@
 mod counted;
 mod counting;
 mod lines;
+mod read_fault;
 mod sending;
 mod write_fault;
 
 pub use counted::{Counted, CountedRead, CountedWrite};
 pub use counting::Counting;
 pub use lines::{Cut, cut_parts, first_end};
+pub use read_fault::{FaultKind, FaultNumbers, ReadFault, Stop};
 pub use sending::{relieve, write_text};
 pub use write_fault::WriteFault;

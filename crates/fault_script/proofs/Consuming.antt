@@ -1,29 +1,28 @@
 -- Bytes that a reader gives, one piece after another.
-use Rattle.std.proofs.Common.{ℕ, List, ◌++◌, Option, Result, Ok, Err, inl, inr}
+use Rattle.std.proofs.Common.{ℕ, List, ◌++◌, Option, Result, Ok, Err, ◌⊎◌, inl, inr}
 use Rattle.std.specs.Prelude.{IfOk, IfErr}
 use Rattle.std.specs.Io.KnownBytes.{Consumes, IsAtEnd}
 use Rattle.counted_devices.specs.Deliveries.{Delivers}
+use Rattle.counted_devices.specs.ReadFaults.{HasFailed}
 use Rattle.counted_devices.proofs.Consuming.{Consumes-join}
+use Rattle.counted_devices.proofs.ReadFaults.{of_line, no_device}
 use Rattle.fault_script.specs.declared.command.Script.{Script}
 use Rattle.fault_script.specs.declared.feed.Feed.{Feed}
-use Rattle.fault_script.specs.declared.fault.ScriptError.{ScriptError}
-use Rattle.fault_script.specs.declared.fault.ErrorKind.{ErrorKind}
-use Rattle.fault_script.specs.declared.fault.ErrorKind.TheVariants as kind
-use Rattle.fault_script.specs.Feeds.{Stands, Fed, ErrorSoFar, ErrorAtEnd, Ends}
-use Rattle.fault_script.specs.Deliveries.{Holds, ReadsAll, StopsAt, StopsWith, HasFailed}
+use Rattle.fault_script.specs.Faults.{ScriptError, ErrorKind}
+use Rattle.fault_script.specs.declared.fault.LineFault.{LineFault}
+use Rattle.fault_script.specs.Feeds.{Stands, Fed, FirstFault, FaultAtEnd, ErrorSoFar, ErrorAtEnd, Ends}
+use Rattle.fault_script.specs.Deliveries.{Holds, ReadsAll, StopsAt, StopsWith, IsUnderWay}
 
 pub Holds-step : (a b c : Option (List ℕ)) (old new : Feed) (piece : List ℕ) → Holds a b old → Consumes b c piece → ((bytes : List ℕ) → Stands bytes old → Fed (bytes ++ piece) (Ok tt) new) → Holds a c new
 Holds-step a b c old new piece h k fed = record { bytes = h.bytes ++ piece; given = Consumes-join a b c h.bytes piece h.given k; fact = fed h.bytes h.fact }
 
 so_far : (left : Option (List ℕ)) (bytes : List ℕ) (number : ℕ) (k : ErrorKind) → ErrorSoFar bytes number k → StopsWith left number k bytes
-so_far left bytes number (kind.Line fault) h = inl h
-so_far left bytes number kind.Device h = absurd h
-so_far left bytes number kind.Memory h = tt
+so_far left bytes number k h =
+    let AtEnd : LineFault → Type 0 = λ fault. FirstFault bytes number fault ⊎ (IsAtEnd left × FaultAtEnd bytes number fault) in
+    of_line (FirstFault bytes number) AtEnd (IsUnderWay bytes number) k (λ fault g. inl g) h
 
 never_failed : (bytes : List ℕ) (number : ℕ) (k : ErrorKind) (old new : ℕ) → ErrorSoFar bytes number k → HasFailed k old new
-never_failed bytes number (kind.Line fault) old new h = tt
-never_failed bytes number kind.Device old new h = absurd h
-never_failed bytes number kind.Memory old new h = tt
+never_failed bytes number k old new h = no_device (FirstFault bytes number) k old new h
 
 pub Holds-stop : (a b c : Option (List ℕ)) (old new : Feed) (piece : List ℕ) (error : ScriptError) → Holds a b old → Consumes b c piece → ((bytes : List ℕ) → Stands bytes old → Fed (bytes ++ piece) (Err error) new) → Delivers a c (StopsAt c error)
 Holds-stop a b c old new piece error h k fed = record { bytes = h.bytes ++ piece; given = Consumes-join a b c h.bytes piece h.given k; fact = so_far c (h.bytes ++ piece) error.line error.kind (fed h.bytes h.fact) }
@@ -32,14 +31,12 @@ pub Holds-no_device : (a b : Option (List ℕ)) (old new : Feed) (piece : List �
 Holds-no_device a b old new piece error m n h fed = never_failed (h.bytes ++ piece) error.line error.kind m n (fed h.bytes h.fact)
 
 at_end : (left : Option (List ℕ)) (bytes : List ℕ) (number : ℕ) (k : ErrorKind) → IsAtEnd left → ErrorAtEnd bytes number k → StopsWith left number k bytes
-at_end left bytes number (kind.Line fault) e h = inr (e, h)
-at_end left bytes number kind.Device e h = absurd h
-at_end left bytes number kind.Memory e h = tt
+at_end left bytes number k e h =
+    let AtEnd : LineFault → Type 0 = λ fault. FirstFault bytes number fault ⊎ (IsAtEnd left × FaultAtEnd bytes number fault) in
+    of_line (FaultAtEnd bytes number) AtEnd (IsUnderWay bytes number) k (λ fault g. inr (e, g)) h
 
 end_never_failed : (bytes : List ℕ) (number : ℕ) (k : ErrorKind) (old new : ℕ) → ErrorAtEnd bytes number k → HasFailed k old new
-end_never_failed bytes number (kind.Line fault) old new h = tt
-end_never_failed bytes number kind.Device old new h = absurd h
-end_never_failed bytes number kind.Memory old new h = tt
+end_never_failed bytes number k old new h = no_device (FaultAtEnd bytes number) k old new h
 
 -- the end: the script of all the bytes, or the first fault of all
 pub finish_read : (a c : Option (List ℕ)) (feed : Feed) (r : Result Script ScriptError) → Holds a c feed → IsAtEnd c → ((bytes : List ℕ) → Stands bytes feed → Ends bytes r) → IfOk r (λ script. Delivers a c (ReadsAll c script))

@@ -11,9 +11,8 @@ use Rattle.fault_script.specs.declared.command.Script.{Script}
 use Rattle.fault_script.specs.declared.progress.Progress.{Progress}
 use Rattle.fault_script.specs.declared.feed.Feed.{Feed}
 use Rattle.fault_script.specs.declared.fault.LineFault.TheVariants.{TooLong}
-use Rattle.fault_script.specs.declared.fault.ScriptError.{ScriptError}
-use Rattle.fault_script.specs.declared.fault.ErrorKind.{ErrorKind}
-use Rattle.fault_script.specs.declared.fault.ErrorKind.TheVariants as kind
+use Rattle.fault_script.specs.Faults.{ScriptError, ErrorKind}
+use Rattle.counted_devices.specs.declared.read_fault.FaultKind.TheVariants as kind
 use Rattle.fault_script.specs.Lines.{is_long}
 use Rattle.fault_script.specs.Scripts.{no_line, HasFault}
 use Rattle.fault_script.specs.Feeds.{IsDraft, IsAt, HasFaultOf, Takes, EndsBy, Stands, IsWhole, FirstFault, ErrorSoFar, Fed, Ended, ErrorAtEnd, Ends}

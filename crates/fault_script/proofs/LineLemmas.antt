@@ -4,8 +4,8 @@ use Rattle.std.specs.Prelude.{IsUtf8}
 use Rattle.std.proofs.lemmas.Str.{IsUtf8-take, IsCharBoundary-before_ascii}
 use Rattle.fault_script.specs.declared.saying.Opened.{Opened}
 use Rattle.fault_script.specs.declared.saying.Said.{Said}
-use Rattle.fault_script.specs.declared.fault.Stop.{Stop}
-use Rattle.fault_script.specs.declared.fault.Stop.TheVariants as stop
+use Rattle.fault_script.specs.Faults.{Stop}
+use Rattle.counted_devices.specs.declared.read_fault.Stop.TheVariants as stop
 use Rattle.fault_script.specs.Words.{without_return}
 use Rattle.fault_script.specs.Says.{Gives}
 use Rattle.fault_script.specs.Saying.{text_says}

@@ -1,8 +1,8 @@
 -- Numbers of votes, read one after another.
 use Rattle.std.proofs.Common.{ℕ, zero, suc, ◌≡◌, ◌<◌, List, [], ◌∷◌, ◌++◌, Option, Result, Ok, Err, refl, ap, ◌∙◌, subst, arith}
 use Rattle.fault_script.specs.declared.fault.LineFault.{LineFault}
-use Rattle.fault_script.specs.declared.fault.Stop.{Stop}
-use Rattle.fault_script.specs.declared.fault.Stop.TheVariants as stops
+use Rattle.fault_script.specs.Faults.{Stop}
+use Rattle.counted_devices.specs.declared.read_fault.Stop.TheVariants as stops
 use Rattle.fault_script.specs.Says.{◌>>=◌, Fails, needed_number}
 use Rattle.fault_script.specs.Settings.{capped, numbers_in}
 use Rattle.fault_script.proofs.Chains.{after}

@@ -1,14 +1,12 @@
 -- What was made of what a reader delivered.
 use Rattle.std.specs.Prelude.{ℕ, ◌≡◌, ◌≤◌, ◌+◌, ◌⊎◌, List, length, Option}
 use Rattle.std.specs.Io.KnownBytes.{IsAtEnd}
-use Rattle.counted_devices.specs.Counts.{IsOneMore}
 use Rattle.counted_devices.specs.Cuts.{Splits}
 use Rattle.counted_devices.specs.Deliveries.{Delivers}
+use Rattle.counted_devices.specs.ReadFaults.{IsFaultBy}
 use Rattle.fault_script.specs.declared.command.Script.{Script}
 use Rattle.fault_script.specs.declared.feed.Feed.{Feed}
-use Rattle.fault_script.specs.declared.fault.ScriptError.{ScriptError}
-use Rattle.fault_script.specs.declared.fault.ErrorKind.{ErrorKind}
-use Rattle.fault_script.specs.declared.fault.ErrorKind.TheVariants as kind
+use Rattle.fault_script.specs.Faults.{ScriptError, ErrorKind}
 use Rattle.fault_script.specs.Scripts.{Placed, AreRead, Commands}
 use Rattle.fault_script.specs.Feeds.{Stands, FirstFault, FaultAtEnd}
 
@@ -33,14 +31,8 @@ pub record IsUnderWay (bytes : List ℕ) (number : ℕ) : Type 0 where
 -- of what was delivered the first fault is that, at the reader's end or before it; a device's error
 -- comes behind whole lines without a fault, and names the line under way
 abbrev pub StopsWith : Option (List ℕ) → ℕ → ErrorKind → List ℕ → Type 0
-StopsWith left number (kind.Line fault) bytes = FirstFault bytes number fault ⊎ (IsAtEnd left × FaultAtEnd bytes number fault)
-StopsWith left number kind.Device bytes = IsUnderWay bytes number
-StopsWith left number kind.Memory bytes = Unit {0}
+StopsWith left number kind bytes =
+    IsFaultBy (λ fault. FirstFault bytes number fault ⊎ (IsAtEnd left × FaultAtEnd bytes number fault)) (IsUnderWay bytes number) kind
 
 abbrev pub StopsAt : Option (List ℕ) → ScriptError → List ℕ → Type 0
 StopsAt left error bytes = StopsWith left error.line error.kind bytes
-
--- a device's error comes only where the count of failures grew
-abbrev pub HasFailed : ErrorKind → ℕ → ℕ → Type 0
-HasFailed kind.Device old new = IsOneMore old new
-HasFailed k old new = Unit {0}

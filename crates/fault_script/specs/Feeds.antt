@@ -2,17 +2,16 @@
 use Rattle.std.specs.Prelude.{ℕ, ◌≡◌, ◌≤◌, ◌<◌, ◌+◌, ◌⊎◌, List, [], ◌∷◌, ◌++◌, length, Result, Ok, Err, All, MatchResult}
 use Rattle.std.specs.List.{flat_map}
 use Rattle.counted_devices.specs.Cuts.{ended, HasNoEnd, Splits}
+use Rattle.counted_devices.specs.ReadFaults.{IsFaultBy}
 use Rattle.fault_script.specs.declared.draft.Draft.{Draft}
 use Rattle.fault_script.specs.declared.progress.Progress.{Progress}
 use Rattle.fault_script.specs.declared.feed.Feed.{Feed}
 use Rattle.fault_script.specs.declared.command.Script.{Script}
 use Rattle.fault_script.specs.declared.fault.LineFault.{LineFault}
 use Rattle.fault_script.specs.declared.fault.LineFault.TheVariants.{NoReplicas}
-use Rattle.fault_script.specs.declared.fault.ScriptError.{ScriptError}
-use Rattle.fault_script.specs.declared.fault.Stop.{Stop}
-use Rattle.fault_script.specs.declared.fault.Stop.TheVariants as stop
-use Rattle.fault_script.specs.declared.fault.ErrorKind.{ErrorKind}
-use Rattle.fault_script.specs.declared.fault.ErrorKind.TheVariants as kind
+use Rattle.fault_script.specs.Faults.{ScriptError, Stop, ErrorKind}
+use Rattle.counted_devices.specs.declared.read_fault.Stop.TheVariants as stop
+use Rattle.counted_devices.specs.declared.read_fault.FaultKind.TheVariants as kind
 use Rattle.fault_script.specs.Scripts.{Placed, AreRead, HasFault, IsMadeOf, Commands, HasNoCommand, opened_of, commands_of}
 
 -- the draft is what those lines say
@@ -30,11 +29,6 @@ DrawsBy earlier line number (Err stop.Memory) new = Unit {0}
 abbrev pub Draws : Draft → List ℕ → ℕ → Result (Unit {0}) Stop → Draft → Type 0
 Draws old line number result new = (earlier : List (List ℕ)) (saids : List Placed) → AreRead earlier saids → IsDraft saids old → number ≡ length earlier + 1 → DrawsBy earlier line number result new
 
--- what a stop is as an error's kind
-abbrev pub kind_of : Stop → ErrorKind
-kind_of (stop.Fault fault) = kind.Line fault
-kind_of stop.Memory = kind.Memory
-
 -- those lines were taken
 pub record IsAt (lines : List (List ℕ)) (progress : Progress) : Type 0 where
   pub saids : List Placed
@@ -44,9 +38,7 @@ pub record IsAt (lines : List (List ℕ)) (progress : Progress) : Type 0 where
 
 -- a fault of the line; a line has none of a device, and of memory nothing is said
 abbrev pub HasFaultOf : List (List ℕ) → List ℕ → ℕ → ErrorKind → Type 0
-HasFaultOf earlier line number (kind.Line fault) = HasFault earlier line number fault
-HasFaultOf earlier line number kind.Device = ⊥
-HasFaultOf earlier line number kind.Memory = Unit {0}
+HasFaultOf earlier line number kind = IsFaultBy (HasFault earlier line number) ⊥ kind
 
 -- behind the lines before, this one was taken, or it has that fault
 abbrev pub Takes : List (List ℕ) → List ℕ → Result (Unit {0}) ScriptError → Progress → Type 0
@@ -77,9 +69,7 @@ pub record FirstFault (bytes : List ℕ) (number : ℕ) (fault : LineFault) : Ty
 
 -- the same of an error of any kind
 abbrev pub ErrorSoFar : List ℕ → ℕ → ErrorKind → Type 0
-ErrorSoFar bytes number (kind.Line fault) = FirstFault bytes number fault
-ErrorSoFar bytes number kind.Device = ⊥
-ErrorSoFar bytes number kind.Memory = Unit {0}
+ErrorSoFar bytes number kind = IsFaultBy (FirstFault bytes number) ⊥ kind
 
 -- what a feed answers, when it was fed these bytes in all
 abbrev pub Fed : List ℕ → Result (Unit {0}) ScriptError → Feed → Type 0
@@ -109,9 +99,7 @@ abbrev pub FaultAtEnd : List ℕ → ℕ → LineFault → Type 0
 FaultAtEnd bytes number fault = LastFault bytes number fault ⊎ (HasNoCommand bytes × (number ≡ 1) × (fault ≡ NoReplicas))
 
 abbrev pub ErrorAtEnd : List ℕ → ℕ → ErrorKind → Type 0
-ErrorAtEnd bytes number (kind.Line fault) = FaultAtEnd bytes number fault
-ErrorAtEnd bytes number kind.Device = ⊥
-ErrorAtEnd bytes number kind.Memory = Unit {0}
+ErrorAtEnd bytes number kind = IsFaultBy (FaultAtEnd bytes number) ⊥ kind
 
 -- what is answered at the end of these bytes
 abbrev pub Ends : List ℕ → Result Script ScriptError → Type 0

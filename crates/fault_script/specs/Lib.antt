@@ -1,4 +1,5 @@
 pub mod Numbers
+pub mod Faults
 pub mod Words
 pub mod Says
 pub mod Settings

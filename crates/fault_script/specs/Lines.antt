@@ -4,8 +4,8 @@ use Rattle.fault_script.specs.declared.saying.Opened.{Opened}
 use Rattle.fault_script.specs.declared.saying.Said.{Said}
 use Rattle.fault_script.specs.declared.fault.LineFault.{LineFault}
 use Rattle.fault_script.specs.declared.fault.LineFault.TheVariants.{NotUtf8, TooLong}
-use Rattle.fault_script.specs.declared.fault.Stop.{Stop}
-use Rattle.fault_script.specs.declared.fault.Stop.TheVariants as stop
+use Rattle.fault_script.specs.Faults.{Stop}
+use Rattle.counted_devices.specs.declared.read_fault.Stop.TheVariants as stop
 use Rattle.fault_script.specs.Words.{without_return}
 use Rattle.fault_script.specs.Saying.{text_says}
 

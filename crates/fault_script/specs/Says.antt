@@ -3,8 +3,8 @@ use Rattle.std.specs.Prelude.{ℕ, ◌≡◌, ◌&&◌, List, [], ◌∷◌, Boo
 use Rattle.tag.specs.Names.{is_key, is_value}
 use Rattle.fault_script.specs.declared.fault.LineFault.{LineFault}
 use Rattle.fault_script.specs.declared.fault.LineFault.TheVariants.{UnknownCommand, Range}
-use Rattle.fault_script.specs.declared.fault.Stop.{Stop}
-use Rattle.fault_script.specs.declared.fault.Stop.TheVariants as stop
+use Rattle.fault_script.specs.Faults.{Stop}
+use Rattle.counted_devices.specs.declared.read_fault.Stop.TheVariants as stop
 use Rattle.fault_script.specs.Words.{number_of}
 
 -- the first fault of two steps, or what the second makes of the first

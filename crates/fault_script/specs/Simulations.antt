@@ -10,7 +10,7 @@ use Rattle.recorder.specs.declared.row.Row.{Row}
 use Rattle.fault_script.specs.Deliveries.{ReadsAll}
 use Rattle.fault_script.specs.ScriptRuns.{IsRunOf}
 use Rattle.fault_script.specs.declared.command.Script.{Script}
-use Rattle.fault_script.specs.declared.fault.ScriptError.{ScriptError}
+use Rattle.fault_script.specs.Faults.{ScriptError}
 use Rattle.fault_script.specs.declared.simulating.SimulateError.{SimulateError}
 use Rattle.fault_script.specs.declared.simulating.SimulateError.TheVariants as error
 

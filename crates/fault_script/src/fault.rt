@@ -1,8 +1,8 @@
 //! Faults of scripts.
 ghost use Rattle.std.specs.Prelude.{◌≡◌};
-ghost use Rattle.fault_script.specs.Numbers.{line_fault_number, error_number};
+ghost use Rattle.fault_script.specs.Numbers.{line_fault_number};
 
-use tag::Memory;
+use counted_devices::{FaultKind, FaultNumbers, ReadFault};
 use thiserror::Error;
 
 /// What is wrong with a line. Of several the first that is tested is named: `TooLong`, `NotUtf8`,
@@ -31,34 +31,14 @@ pub enum LineFault {
 }
 
 /// What is wrong with a script, or with its reading.
-#[derive(Clone, Copy, Debug, PartialEq, Eq, Error)]
-pub enum ErrorKind {
-    /// A line has a fault.
-    #[error(transparent)]
-    Line(LineFault),
-    /// The reader failed.
-    #[error("device")]
-    Device,
-    /// A growth was refused.
-    #[error("memory")]
-    Memory,
-}
+pub type ErrorKind = FaultKind<LineFault>;
 
 /// What is wrong with a script, and the number of the line, from 1, that has the fault or was under
 /// way when it came.
-#[derive(Clone, Copy, Debug, PartialEq, Eq, Error)]
-#[error("line {line}: script fault {} {kind}", .kind.number())]
-pub struct ScriptError {
-    pub line: u64,
-    pub kind: ErrorKind,
-}
+pub type ScriptError = ReadFault<LineFault>;
 
 /// Why the reading of a line stopped: the line has a fault, or a growth was refused.
-#[derive(Clone, Copy, Debug, PartialEq, Eq)]
-pub enum Stop {
-    Fault(LineFault),
-    Memory,
-}
+pub type Stop = counted_devices::Stop<LineFault>;
 
 impl LineFault {
     /// The fault's number, 1 to 6.
@@ -76,26 +56,20 @@ impl LineFault {
     }
 }
 
-impl ErrorKind {
-    /// The error's number, 1 to 8.
-    pub fn number(self) -> u8
-        ensures { result ≡ error_number self }
-    {
-        match self {
-            ErrorKind::Line(fault) => fault.number(),
-            ErrorKind::Device => 7,
-            ErrorKind::Memory => 8,
-        }
-    }
-}
+impl FaultNumbers for LineFault {
+    ghost number = { line_fault_number };
 
-impl From<Memory> for Stop {
-    ghost use Rattle.std.specs.Prelude.{◌≡◌};
-    ghost use Rattle.fault_script.specs.declared.fault.Stop.TheVariants.{Memory};
+    ghost DEVICE = { 7 };
 
-    ghost from_gives = { λ _ e. e ≡ Memory };
+    ghost MEMORY = { 8 };
 
-    fn from(_: Memory) -> Stop {
-        Stop::Memory
+    const TITLE: &'static str = "script fault";
+
+    const DEVICE: u8 = 7;
+
+    const MEMORY: u8 = 8;
+
+    fn number(self) -> u8 {
+        LineFault::number(self)
     }
 }

@@ -6,7 +6,7 @@ use crate::command::Script;
 use crate::draft::Draft;
 use crate::fault::Stop;
 use crate::lines::LONGEST;
-use crate::progress::{Progress, error_at};
+use crate::progress::Progress;
 use crate::{LineFault, ScriptError};
 use counted_devices::first_end;
 use std::alloc::Global;
@@ -52,11 +52,11 @@ impl Feed {
         ensures rest { OnOk result (length self.new.rest.items ≡ length self.old.rest.items + length part.now) }
     {
         if self.rest.len().saturating_add(part.len()) > LONGEST {
-            return Err(error_at(self.line(), Stop::Fault(LineFault::TooLong)));
+            return Err(ScriptError::at(self.line(), Stop::Fault(LineFault::TooLong)));
         }
         match self.rest.extend_from_slice(part) {
             Ok(()) => Ok(()),
-            Err(_) => Err(error_at(self.line(), Stop::Memory)),
+            Err(_) => Err(ScriptError::at(self.line(), Stop::Memory)),
         }
     }
 

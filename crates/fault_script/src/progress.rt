@@ -1,29 +1,16 @@
 //! How far the lines of a script were taken.
 ghost use Rattle.std.specs.Prelude.{ℕ, ◌≡◌, ◌<◌, ◌+◌, ◌^◌, List, OnOk};
-ghost use Rattle.fault_script.specs.Feeds.{kind_of};
 
 use crate::command::Script;
 use crate::draft::Draft;
 use crate::fault::Stop;
-use crate::{ErrorKind, LineFault, ScriptError};
+use crate::{LineFault, ScriptError};
 
 /// What the lines so far made, and how many they were.
 #[derive(Drop)]
 pub struct Progress {
     pub draft: Draft,
     pub lines: u64,
-}
-
-/// The error of that line.
-pub(crate) fn error_at(line: u64, stop: Stop) -> ScriptError
-    ensures line { result.line ≡ line }
-    ensures kind { result.kind ≡ kind_of stop }
-{
-    let kind = match stop {
-        Stop::Fault(fault) => ErrorKind::Line(fault),
-        Stop::Memory => ErrorKind::Memory,
-    };
-    ScriptError { line, kind }
 }
 
 impl Progress {
@@ -41,7 +28,7 @@ impl Progress {
                 self.lines = number;
                 Ok(())
             }
-            Err(stop) => Err(error_at(number, stop)),
+            Err(stop) => Err(ScriptError::at(number, stop)),
         }
     }
 
@@ -59,7 +46,7 @@ impl Progress {
                 config: opened.config,
                 commands,
             }),
-            None => Err(error_at(1, Stop::Fault(LineFault::NoReplicas))),
+            None => Err(ScriptError::at(1, Stop::Fault(LineFault::NoReplicas))),
         }
     }
 }

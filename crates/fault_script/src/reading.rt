@@ -2,7 +2,8 @@
 ghost use Rattle.std.specs.Prelude.{ℕ, ◌≡◌, ◌<◌, ◌≤◌, ◌+◌, ◌^◌, List, Option, length, true, false, IfOk, IfErr, MatchResult};
 ghost use Rattle.std.specs.Io.KnownBytes.{IsAtEnd};
 ghost use Rattle.counted_devices.specs.Deliveries.{Delivers};
-ghost use Rattle.fault_script.specs.Deliveries.{Holds, ReadsAll, StopsAt, HasFailed};
+ghost use Rattle.counted_devices.specs.ReadFaults.{HasFailed};
+ghost use Rattle.fault_script.specs.Deliveries.{Holds, ReadsAll, StopsAt};
 
 use crate::command::Script;
 use crate::feed::Feed;

@@ -6,7 +6,8 @@ ghost use Rattle.counted_devices.specs.Deliveries.{Delivers};
 ghost use Rattle.counted_devices.specs.Sendings.{Begins};
 ghost use Rattle.file_format.specs.Texts.{history_text};
 ghost use Rattle.recorder.specs.declared.row.Row.{Row};
-ghost use Rattle.fault_script.specs.Deliveries.{HasFailed, StopsAt};
+ghost use Rattle.counted_devices.specs.ReadFaults.{HasFailed};
+ghost use Rattle.fault_script.specs.Deliveries.{StopsAt};
 ghost use Rattle.fault_script.specs.Simulations.{IfScript, IsSoundRun, Simulates};
 
 use crate::command::Script;

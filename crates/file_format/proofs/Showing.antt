@@ -4,8 +4,8 @@ use Rattle.serde_json.specs.Data.{Data}
 use Rattle.tag.specs.declared.actions.Action.{Action}
 use Rattle.file_format.specs.declared.fault.LineFault.{LineFault}
 use Rattle.file_format.specs.declared.fault.LineFault.TheVariants.{NotJson, NoHeader, Version, Range, TooLong}
-use Rattle.file_format.specs.declared.fault.Stop.{Stop}
-use Rattle.file_format.specs.declared.fault.Stop.TheVariants as stop
+use Rattle.file_format.specs.Faults.{Stop}
+use Rattle.counted_devices.specs.declared.read_fault.Stop.TheVariants as stop
 use Rattle.file_format.specs.Members.{◌>>=◌, Gives, needed, ranged}
 use Rattle.file_format.specs.Rows.{begun, written_in, action_of, invoke_in, note_in, answer_of, returned_of, respond_in, row_of, row_in}
 use Rattle.file_format.specs.OrderLines.{piece_in}

@@ -5,8 +5,8 @@ use Rattle.serde_json.specs.Read.{read, of_json}
 use Rattle.serde_json.specs.Find.{as_null, as_str}
 use Rattle.json.specs.Value.{value_view}
 use Rattle.file_format.specs.declared.fault.LineFault.TheVariants.{NotJson}
-use Rattle.file_format.specs.declared.fault.Stop.{Stop}
-use Rattle.file_format.specs.declared.fault.Stop.TheVariants as stop
+use Rattle.file_format.specs.Faults.{Stop}
+use Rattle.counted_devices.specs.declared.read_fault.Stop.TheVariants as stop
 use Rattle.file_format.specs.declared.document.Document.{Document}
 use Rattle.file_format.specs.declared.document.Member.{Member}
 use Rattle.file_format.specs.declared.document.Member.TheVariants as member

@@ -3,8 +3,8 @@ use Rattle.std.specs.Prelude.{ℕ, List, [], ◌∷◌, ◌++◌, Result, Ok, Er
 use Rattle.serde_json.specs.Data.{Data}
 use Rattle.file_format.specs.declared.fault.LineFault.{LineFault}
 use Rattle.file_format.specs.declared.fault.LineFault.TheVariants.{NotJson, TooLong}
-use Rattle.file_format.specs.declared.fault.Stop.{Stop}
-use Rattle.file_format.specs.declared.fault.Stop.TheVariants as stop
+use Rattle.file_format.specs.Faults.{Stop}
+use Rattle.counted_devices.specs.declared.read_fault.Stop.TheVariants as stop
 
 -- a format: its name in the header, the item that a line's value says, which items may stand in a
 -- file, and which fault an item has behind others

@@ -1,4 +1,5 @@
 pub mod Numbers
+pub mod Faults
 pub mod Trees
 pub mod Documents
 pub mod Members

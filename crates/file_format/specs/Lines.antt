@@ -4,8 +4,8 @@ use Rattle.std.specs.List.{AllZip}
 use Rattle.serde_json.specs.Data.{Data}
 use Rattle.file_format.specs.declared.fault.LineFault.{LineFault}
 use Rattle.file_format.specs.declared.fault.LineFault.TheVariants.{NotJson, TooLong}
-use Rattle.file_format.specs.declared.fault.Stop.{Stop}
-use Rattle.file_format.specs.declared.fault.Stop.TheVariants as stop
+use Rattle.file_format.specs.Faults.{Stop}
+use Rattle.counted_devices.specs.declared.read_fault.Stop.TheVariants as stop
 use Rattle.file_format.specs.declared.judging.Judgement.{Judgement}
 use Rattle.file_format.specs.declared.judging.Judgement.TheVariants as judgement
 use Rattle.counted_devices.specs.Cuts.{AreLinesIn}

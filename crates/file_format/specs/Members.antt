@@ -7,8 +7,8 @@ use Rattle.tag.specs.Names.{is_key, is_value}
 use Rattle.tag.specs.Tags.{Tag}
 use Rattle.file_format.specs.declared.fault.LineFault.{LineFault}
 use Rattle.file_format.specs.declared.fault.LineFault.TheVariants.{Member, Range}
-use Rattle.file_format.specs.declared.fault.Stop.{Stop}
-use Rattle.file_format.specs.declared.fault.Stop.TheVariants as stop
+use Rattle.file_format.specs.Faults.{Stop}
+use Rattle.counted_devices.specs.declared.read_fault.Stop.TheVariants as stop
 
 -- the first fault of two steps, or what the second makes of the first
 infixl 10 ◌>>=◌

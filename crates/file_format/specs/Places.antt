@@ -7,8 +7,8 @@ use Rattle.recorder.specs.Histories.{Recorded, MayFollow, IsBusy, IsPendingOp, I
 use Rattle.recorder.specs.Answers.{with_row}
 use Rattle.file_format.specs.declared.fault.LineFault.{LineFault}
 use Rattle.file_format.specs.declared.fault.LineFault.TheVariants.{CallOutOfTurn, ClientBusy, CallNotPending, WrongKind, NoteTwice, TooManyCalls}
-use Rattle.file_format.specs.declared.fault.Stop.{Stop}
-use Rattle.file_format.specs.declared.fault.Stop.TheVariants as stop
+use Rattle.file_format.specs.Faults.{Stop}
+use Rattle.counted_devices.specs.declared.read_fault.Stop.TheVariants as stop
 
 -- an invocation's call isn't the next number
 abbrev pub IsOutOfTurn : List Row → Row → Type 0

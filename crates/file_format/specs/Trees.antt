@@ -9,8 +9,8 @@ use Rattle.std.specs.declared.alloc.Global.{Global}
 use Rattle.serde_json.specs.Find.{as_u64}
 use Rattle.serde_json.specs.Read.{number_of, max_depth}
 use Rattle.file_format.specs.declared.fault.LineFault.TheVariants.{NotJson}
-use Rattle.file_format.specs.declared.fault.Stop.{Stop}
-use Rattle.file_format.specs.declared.fault.Stop.TheVariants as stop
+use Rattle.file_format.specs.Faults.{Stop}
+use Rattle.counted_devices.specs.declared.read_fault.Stop.TheVariants as stop
 
 -- the tree of a whole text
 abbrev pub tree_in : List ℕ → Option Json

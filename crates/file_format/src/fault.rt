@@ -1,8 +1,8 @@
 //! Faults of files.
 ghost use Rattle.std.specs.Prelude.{◌≡◌};
-ghost use Rattle.file_format.specs.Numbers.{line_fault_number, fault_number};
+ghost use Rattle.file_format.specs.Numbers.{line_fault_number};
 
-use tag::Memory;
+use counted_devices::{FaultNumbers, ReadFault};
 use thiserror::Error;
 
 /// What is wrong with a line. Of several the first that is tested is named: `TooLong`, then
@@ -48,34 +48,14 @@ pub enum LineFault {
 }
 
 /// What is wrong with a file, or with its reading.
-#[derive(Clone, Copy, Debug, PartialEq, Eq, Error)]
-pub enum FaultKind {
-    /// A line has a fault.
-    #[error(transparent)]
-    Line(LineFault),
-    /// The reader failed.
-    #[error("device")]
-    Device,
-    /// A growth was refused.
-    #[error("memory")]
-    Memory,
-}
+pub type FaultKind = counted_devices::FaultKind<LineFault>;
 
 /// What is wrong with a file, and the number of the line, from 1, that has the fault or was under
 /// way when it came.
-#[derive(Clone, Copy, Debug, PartialEq, Eq, Error)]
-#[error("line {line}: fault {} {kind}", .kind.number())]
-pub struct FileFault {
-    pub line: u64,
-    pub kind: FaultKind,
-}
+pub type FileFault = ReadFault<LineFault>;
 
 /// Why the judgement of a line stopped: the line has a fault, or a growth was refused.
-#[derive(Clone, Copy, Debug, PartialEq, Eq)]
-pub enum Stop {
-    Fault(LineFault),
-    Memory,
-}
+pub type Stop = counted_devices::Stop<LineFault>;
 
 impl LineFault {
     /// The fault's number, 1 to 12.
@@ -99,26 +79,20 @@ impl LineFault {
     }
 }
 
-impl FaultKind {
-    /// The fault's number, 1 to 14.
-    pub fn number(self) -> u8
-        ensures { result ≡ fault_number self }
-    {
-        match self {
-            FaultKind::Line(fault) => fault.number(),
-            FaultKind::Device => 13,
-            FaultKind::Memory => 14,
-        }
-    }
-}
+impl FaultNumbers for LineFault {
+    ghost number = { line_fault_number };
 
-impl From<Memory> for Stop {
-    ghost use Rattle.std.specs.Prelude.{◌≡◌};
-    ghost use Rattle.file_format.specs.declared.fault.Stop.TheVariants.{Memory};
+    ghost DEVICE = { 13 };
 
-    ghost from_gives = { λ _ e. e ≡ Memory };
+    ghost MEMORY = { 14 };
 
-    fn from(_: Memory) -> Stop {
-        Stop::Memory
+    const TITLE: &'static str = "fault";
+
+    const DEVICE: u8 = 13;
+
+    const MEMORY: u8 = 14;
+
+    fn number(self) -> u8 {
+        LineFault::number(self)
     }
 }

@@ -5,9 +5,8 @@ use Rattle.std.proofs.lemmas.Slice.Zip.{AllZip-long}
 use Rattle.std.proofs.lemmas.List.Elements.{All-nil}
 use Rattle.std.proofs.lemmas.Bool.{lt-ltb}
 use Rattle.file_format.specs.declared.fault.LineFault.TheVariants.{TooLong}
-use Rattle.file_format.specs.declared.fault.FileFault.{FileFault}
-use Rattle.file_format.specs.declared.fault.FaultKind.{FaultKind}
-use Rattle.file_format.specs.declared.fault.FaultKind.TheVariants as kind
+use Rattle.file_format.specs.Faults.{FileFault, FaultKind}
+use Rattle.counted_devices.specs.declared.read_fault.FaultKind.TheVariants as kind
 use Rattle.history_file.specs.declared.progress.Progress.{Progress}
 use Rattle.file_format.specs.declared.judging.Judgement.{Judgement}
 use Rattle.history_file.specs.declared.feed.Feed.{Feed}

@@ -1,18 +1,20 @@
 -- Bytes that a reader gives, one piece after another.
-use Rattle.std.proofs.Common.{ℕ, ◌≡◌, ◌+◌, List, [], ◌++◌, Option, None, Result, Ok, Err, inl, inr, arith}
+use Rattle.std.proofs.Common.{ℕ, ◌≡◌, ◌+◌, List, [], ◌++◌, Option, None, Result, Ok, Err, ◌⊎◌, inl, inr, arith}
 use Rattle.std.specs.Prelude.{IfOk, IfErr, MatchResult}
 use Rattle.std.specs.Io.KnownBytes.{Consumes, IsAtEnd}
-use Rattle.file_format.specs.declared.fault.FileFault.{FileFault}
-use Rattle.file_format.specs.declared.fault.FaultKind.{FaultKind}
-use Rattle.file_format.specs.declared.fault.FaultKind.TheVariants as kind
+use Rattle.file_format.specs.Faults.{FileFault, FaultKind}
+use Rattle.file_format.specs.declared.fault.LineFault.{LineFault}
+use Rattle.file_format.specs.Readings.{FirstFaultInAll}
 use Rattle.history_file.specs.declared.feed.Feed.{Feed}
 use Rattle.file_format.specs.Formats.{Format}
-use Rattle.history_file.specs.Feeds.{Stands, FaultSoFar, FaultInAll}
+use Rattle.history_file.specs.Feeds.{Stands, FirstFaultSoFar, FaultSoFar, FaultInAll}
 use Rattle.history_file.specs.Ahead.{FaultStays}
 use Rattle.history_file.proofs.Advancing.{stays_now}
 use Rattle.counted_devices.specs.Deliveries.{Delivers}
-use Rattle.history_file.specs.Deliveries.{Holds, StopsAt, StopsWith, IsUnderWay, HasFailed}
+use Rattle.counted_devices.specs.ReadFaults.{HasFailed}
+use Rattle.history_file.specs.Deliveries.{Holds, StopsAt, StopsWith, IsUnderWay}
 use Rattle.counted_devices.proofs.Consuming.{Consumes-none, Consumes-join}
+use Rattle.counted_devices.proofs.ReadFaults.{of_line, no_device}
 
 module _ {Item Contents : Type 0} (format : Format Item) (Makes : List Item → Contents → Type 0) where
   pub Holds-start : (a : Option (List ℕ)) (feed : Feed Contents) → Stands format Makes [] feed → Holds format Makes a a feed
@@ -23,14 +25,13 @@ module _ {Item Contents : Type 0} (format : Format Item) (Makes : List Item → 
   Delivers-more P Q a b c piece h k goes = record { bytes = h.bytes ++ piece; given = Consumes-join a b c h.bytes piece h.given k; fact = goes h.bytes h.fact }
 
   so_far : (left : Option (List ℕ)) (bytes : List ℕ) (number : ℕ) (k : FaultKind) → FaultSoFar format bytes number k → StopsWith format left number k bytes
-  so_far left bytes number (kind.Line fault) h = inl h
-  so_far left bytes number kind.Device h = absurd h
-  so_far left bytes number kind.Memory h = tt
+  so_far left bytes number k h =
+      let Whole : LineFault → Type 0 = λ fault. FirstFaultSoFar format bytes number fault in
+      let AtEnd : LineFault → Type 0 = λ fault. FirstFaultSoFar format bytes number fault ⊎ (IsAtEnd left × FirstFaultInAll format bytes number fault) in
+      of_line Whole AtEnd (IsUnderWay format bytes number) k (λ fault g. inl g) h
 
   never_failed : (bytes : List ℕ) (number : ℕ) (k : FaultKind) (old new : ℕ) → FaultSoFar format bytes number k → HasFailed k old new
-  never_failed bytes number (kind.Line fault) old new h = tt
-  never_failed bytes number kind.Device old new h = absurd h
-  never_failed bytes number kind.Memory old new h = tt
+  never_failed bytes number k old new h = no_device (FirstFaultSoFar format bytes number) k old new h
 
   -- a fault of a line
   pub Delivers-stop : (P : List ℕ → Type 0) (a b c : Option (List ℕ)) (piece : List ℕ) (fault : FileFault) → Delivers a b P → Consumes b c piece → ((bytes : List ℕ) → P bytes → FaultSoFar format (bytes ++ piece) fault.line fault.kind) → Delivers a c (StopsAt format c fault)
@@ -66,14 +67,13 @@ module _ {Item Contents : Type 0} (format : Format Item) (Makes : List Item → 
       (record { bytes = h.bytes; given = h.given; fact = so_far c h.bytes fault.line fault.kind now }, never_failed h.bytes fault.line fault.kind m n now)
 
   at_end : (left : Option (List ℕ)) (bytes : List ℕ) (number : ℕ) (k : FaultKind) → IsAtEnd left → FaultInAll format bytes number k → StopsWith format left number k bytes
-  at_end left bytes number (kind.Line fault) e h = inr (e, h)
-  at_end left bytes number kind.Device e h = absurd h
-  at_end left bytes number kind.Memory e h = tt
+  at_end left bytes number k e h =
+      let InAll : LineFault → Type 0 = λ fault. FirstFaultInAll format bytes number fault in
+      let AtEnd : LineFault → Type 0 = λ fault. FirstFaultSoFar format bytes number fault ⊎ (IsAtEnd left × FirstFaultInAll format bytes number fault) in
+      of_line InAll AtEnd (IsUnderWay format bytes number) k (λ fault g. inr (e, g)) h
 
   end_never_failed : (bytes : List ℕ) (number : ℕ) (k : FaultKind) (old new : ℕ) → FaultInAll format bytes number k → HasFailed k old new
-  end_never_failed bytes number (kind.Line fault) old new h = tt
-  end_never_failed bytes number kind.Device old new h = absurd h
-  end_never_failed bytes number kind.Memory old new h = tt
+  end_never_failed bytes number k old new h = no_device (FirstFaultInAll format bytes number) k old new h
 
   -- the end: what was made of all the bytes, or the first fault of all
   pub finish_read : {X : Type 0} (Good : List ℕ → X → Type 0) (a c : Option (List ℕ)) (feed : Feed Contents) (r : Result X FileFault) → Holds format Makes a c feed → IsAtEnd c → ((bytes : List ℕ) → Stands format Makes bytes feed → MatchResult r (λ x. Good bytes x) (λ fault. FaultInAll format bytes fault.line fault.kind)) → IfOk r (λ x. Delivers a c (λ bytes. IsAtEnd c × Good bytes x))

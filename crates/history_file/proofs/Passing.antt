@@ -2,9 +2,8 @@
 use Rattle.std.proofs.Common.{ℕ, ◌≡◌, ◌<◌, ◌≤◌, ◌+◌, length, arith, Ok, Err, List, sym, subst}
 use Rattle.std.specs.List.{flat_map}
 use Rattle.file_format.specs.declared.fault.LineFault.TheVariants.{TooLong}
-use Rattle.file_format.specs.declared.fault.FileFault.{FileFault}
-use Rattle.file_format.specs.declared.fault.FaultKind.{FaultKind}
-use Rattle.file_format.specs.declared.fault.FaultKind.TheVariants as kind
+use Rattle.file_format.specs.Faults.{FileFault, FaultKind}
+use Rattle.counted_devices.specs.declared.read_fault.FaultKind.TheVariants as kind
 use Rattle.history_file.specs.declared.progress.Progress.{Progress}
 use Rattle.counted_devices.specs.Cuts.{ended, Splits, Divides, AreLinesIn}
 use Rattle.file_format.specs.Formats.{Format}

@@ -3,9 +3,8 @@ use Rattle.std.proofs.Common.{ℕ, ◌≡◌, ◌<◌, ◌+◌, List, [], ◌∷
 use Rattle.std.specs.List.{AllZip}
 use Rattle.file_format.specs.declared.judging.Judgement.{Judgement}
 use Rattle.file_format.specs.declared.fault.LineFault.{LineFault}
-use Rattle.file_format.specs.declared.fault.FileFault.{FileFault}
-use Rattle.file_format.specs.declared.fault.FaultKind.{FaultKind}
-use Rattle.file_format.specs.declared.fault.FaultKind.TheVariants as kind
+use Rattle.file_format.specs.Faults.{FileFault, FaultKind}
+use Rattle.counted_devices.specs.declared.read_fault.FaultKind.TheVariants as kind
 use Rattle.history_file.specs.declared.progress.Progress.{Progress}
 use Rattle.file_format.specs.Lines.{Shows, ShowsItem}
 use Rattle.file_format.specs.Formats.{Format}

@@ -1,7 +1,7 @@
 -- Lines that are judged ahead of where they are taken.
 use Rattle.std.specs.Prelude.{ℕ, ◌≡◌, ◌≤◌, ◌<◌, List, ◌++◌, length, Result, MatchResult}
 use Rattle.std.specs.List.{AllZip}
-use Rattle.file_format.specs.declared.fault.FileFault.{FileFault}
+use Rattle.file_format.specs.Faults.{FileFault}
 use Rattle.history_file.specs.declared.judged.Judged.{Judged}
 use Rattle.history_file.specs.declared.ahead.Ahead.{Ahead}
 use Rattle.history_file.specs.declared.progress.Progress.{Progress}

@@ -2,12 +2,10 @@
 use Rattle.std.specs.Prelude.{ℕ, ◌≡◌, ◌≤◌, ◌+◌, ◌⊎◌, List, length, Option}
 use Rattle.std.specs.Io.KnownBytes.{IsAtEnd}
 use Rattle.counted_devices.specs.Deliveries.{Delivers}
-use Rattle.file_format.specs.declared.fault.FileFault.{FileFault}
-use Rattle.file_format.specs.declared.fault.FaultKind.{FaultKind}
-use Rattle.file_format.specs.declared.fault.FaultKind.TheVariants as kind
+use Rattle.counted_devices.specs.ReadFaults.{IsFaultBy}
+use Rattle.file_format.specs.Faults.{FileFault, FaultKind}
 use Rattle.history_file.specs.declared.feed.Feed.{Feed}
 use Rattle.history_file.specs.declared.ahead.Ahead.{Ahead}
-use Rattle.counted_devices.specs.Counts.{IsOneMore}
 use Rattle.counted_devices.specs.Cuts.{Splits}
 use Rattle.file_format.specs.Formats.{Format}
 use Rattle.file_format.specs.Files.{AreLinesOf}
@@ -40,14 +38,8 @@ pub record IsUnderWay {Item : Type 0} (format : Format Item) (bytes : List ℕ) 
 -- of what was delivered the first fault of a line is that, at the reader's end or before it; a
 -- device's fault comes behind whole lines without a fault, and names the line under way
 abbrev pub StopsWith : {Item : Type 0} → Format Item → Option (List ℕ) → ℕ → FaultKind → List ℕ → Type 0
-StopsWith format left number (kind.Line fault) bytes = FirstFaultSoFar format bytes number fault ⊎ (IsAtEnd left × FirstFaultInAll format bytes number fault)
-StopsWith format left number kind.Device bytes = IsUnderWay format bytes number
-StopsWith format left number kind.Memory bytes = Unit {0}
+StopsWith format left number kind bytes =
+    IsFaultBy (λ fault. FirstFaultSoFar format bytes number fault ⊎ (IsAtEnd left × FirstFaultInAll format bytes number fault)) (IsUnderWay format bytes number) kind
 
 abbrev pub StopsAt : {Item : Type 0} → Format Item → Option (List ℕ) → FileFault → List ℕ → Type 0
 StopsAt format left fault bytes = StopsWith format left fault.line fault.kind bytes
-
--- a device's fault comes only where the count of failures grew
-abbrev pub HasFailed : FaultKind → ℕ → ℕ → Type 0
-HasFailed kind.Device old new = IsOneMore old new
-HasFailed k old new = Unit {0}

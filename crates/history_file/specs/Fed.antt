@@ -1,7 +1,7 @@
 -- What contracts see of the public feeds.
 use Rattle.std.specs.Prelude.{List, ℕ, Result}
 use Rattle.recorder.specs.Histories.{Recorded}
-use Rattle.file_format.specs.declared.fault.FileFault.{FileFault}
+use Rattle.file_format.specs.Faults.{FileFault}
 use Rattle.history_file.specs.declared.feed.Feed.{Feed}
 use Rattle.history_file.specs.KeyedOrders.{KeyedOrders}
 use Rattle.history_file.specs.Feeds.{Stands, Fed, Ends}

@@ -1,12 +1,11 @@
 -- What a feed stands for, and what it answers.
 use Rattle.std.specs.Prelude.{ℕ, ◌≡◌, ◌≤◌, List, [], ◌∷◌, ◌++◌, length, Result, Ok, Err, None, nat_lt, if◌then◌else◌, MatchResult}
 use Rattle.file_format.specs.declared.fault.LineFault.{LineFault}
-use Rattle.file_format.specs.declared.fault.FileFault.{FileFault}
-use Rattle.file_format.specs.declared.fault.FaultKind.{FaultKind}
-use Rattle.file_format.specs.declared.fault.FaultKind.TheVariants as kind
+use Rattle.file_format.specs.Faults.{FileFault, FaultKind}
 use Rattle.history_file.specs.declared.progress.Progress.{Progress}
 use Rattle.history_file.specs.declared.feed.Feed.{Feed}
 use Rattle.counted_devices.specs.Cuts.{Splits}
+use Rattle.counted_devices.specs.ReadFaults.{IsFaultBy}
 use Rattle.file_format.specs.Formats.{Format}
 use Rattle.file_format.specs.Readings.{Reads, FirstFaultInAll}
 use Rattle.file_format.specs.Files.{IsFirstFault}
@@ -34,9 +33,7 @@ pub record FirstFaultSoFar {Item : Type 0} (format : Format Item) (bytes : List 
 
 -- the same of a fault of any kind: a feed has no fault of a device, and of memory nothing is said
 abbrev pub FaultSoFar : {Item : Type 0} → Format Item → List ℕ → ℕ → FaultKind → Type 0
-FaultSoFar format bytes number (kind.Line fault) = FirstFaultSoFar format bytes number fault
-FaultSoFar format bytes number kind.Device = ⊥
-FaultSoFar format bytes number kind.Memory = Unit {0}
+FaultSoFar format bytes number kind = IsFaultBy (FirstFaultSoFar format bytes number) ⊥ kind
 
 -- what a feed answers, when it was fed these bytes in all
 abbrev pub Fed : {Item Contents : Type 0} → Format Item → (List Item → Contents → Type 0) → List ℕ → Result (Unit {0}) FileFault → Feed Contents → Type 0
@@ -45,9 +42,7 @@ Fed format Makes bytes (Err fault) new = FaultSoFar format bytes fault.line faul
 
 -- the first fault of a whole file, of any kind
 abbrev pub FaultInAll : {Item : Type 0} → Format Item → List ℕ → ℕ → FaultKind → Type 0
-FaultInAll format bytes number (kind.Line fault) = FirstFaultInAll format bytes number fault
-FaultInAll format bytes number kind.Device = ⊥
-FaultInAll format bytes number kind.Memory = Unit {0}
+FaultInAll format bytes number kind = IsFaultBy (FirstFaultInAll format bytes number) ⊥ kind
 
 -- what is answered at the end of these bytes
 abbrev pub Ends : {Item Contents : Type 0} → Format Item → (List Item → Contents → Type 0) → List ℕ → Result Contents FileFault → Type 0
@@ -68,6 +63,4 @@ pub record FaultPassed {Item Contents : Type 0} (format : Format Item) (Makes : 
   pub first : (before : List (List ℕ)) → IsAt format Makes before old → IsFirstFault format (whole_lines (before ++ lines) rest) number fault
 
 abbrev pub PassStops : {Item Contents : Type 0} → Format Item → (List Item → Contents → Type 0) → Progress Contents → List ℕ → ℕ → FaultKind → Type 0
-PassStops format Makes old bytes number (kind.Line fault) = FaultPassed format Makes old bytes number fault
-PassStops format Makes old bytes number kind.Device = (before : List (List ℕ)) → IsAt format Makes before old → ⊥
-PassStops format Makes old bytes number kind.Memory = Unit {0}
+PassStops format Makes old bytes number kind = IsFaultBy (FaultPassed format Makes old bytes number) ((before : List (List ℕ)) → IsAt format Makes before old → ⊥) kind

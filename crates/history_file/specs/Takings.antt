@@ -1,11 +1,8 @@
 -- How far the whole lines of a file were taken, and the first fault among them.
 use Rattle.std.specs.Prelude.{ℕ, ◌≡◌, ◌<◌, List, [], ◌∷◌, ◌++◌, length, Result, Ok, Err}
 use Rattle.counted_devices.specs.Cuts.{AreLinesIn}
-use Rattle.file_format.specs.declared.fault.Stop.{Stop}
-use Rattle.file_format.specs.declared.fault.Stop.TheVariants as stop
-use Rattle.file_format.specs.declared.fault.FileFault.{FileFault}
-use Rattle.file_format.specs.declared.fault.FaultKind.{FaultKind}
-use Rattle.file_format.specs.declared.fault.FaultKind.TheVariants as kind
+use Rattle.counted_devices.specs.ReadFaults.{IsFaultBy}
+use Rattle.file_format.specs.Faults.{FileFault, FaultKind}
 use Rattle.file_format.specs.declared.judging.Judgement.{Judgement}
 use Rattle.file_format.specs.Lines.{ShowsItem}
 use Rattle.file_format.specs.Formats.{Format}
@@ -14,13 +11,7 @@ use Rattle.history_file.specs.declared.progress.Progress.{Progress}
 
 -- of faults of lines, it is the first; lines have no fault of a device, and of memory nothing is said
 abbrev pub IsFirstOfKind : {Item : Type 0} → Format Item → List (List ℕ) → ℕ → FaultKind → Type 0
-IsFirstOfKind format lines number (kind.Line fault) = IsFirstFault format lines number fault
-IsFirstOfKind format lines number kind.Device = ⊥
-IsFirstOfKind format lines number kind.Memory = Unit {0}
-
-abbrev pub kind_of : Stop → FaultKind
-kind_of (stop.Fault fault) = kind.Line fault
-kind_of stop.Memory = kind.Memory
+IsFirstOfKind format lines number kind = IsFaultBy (IsFirstFault format lines number) ⊥ kind
 
 -- those lines were taken: the contents are made of their items
 pub record IsAt {Item Contents : Type 0} (format : Format Item) (Makes : List Item → Contents → Type 0) (lines : List (List ℕ)) (progress : Progress Contents) : Type 0 where

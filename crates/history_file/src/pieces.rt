@@ -5,8 +5,8 @@ ghost use Rattle.history_file.specs.Feeds.{Passed, PassStops};
 
 use crate::format::Contents;
 use crate::progress::Progress;
-use counted_devices::{cut_parts, first_end};
-use file_format::{FaultKind, FileFault, LONGEST, LineFault};
+use counted_devices::{FaultKind, cut_parts, first_end};
+use file_format::{FileFault, LONGEST, LineFault};
 use std::alloc::Global;
 use std::thread::Threads;
 

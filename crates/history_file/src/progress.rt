@@ -4,11 +4,11 @@ ghost use Rattle.std.specs.List.{AllZip, flat_map};
 ghost use Rattle.history_file.specs.Ahead.{Records};
 ghost use Rattle.counted_devices.specs.Cuts.{HasNoEnd, ended};
 ghost use Rattle.file_format.specs.Lines.{ShowsItem};
-ghost use Rattle.history_file.specs.Takings.{IsAt, Takes, TakesJudged, TakesParts, kind_of};
+ghost use Rattle.history_file.specs.Takings.{IsAt, Takes, TakesJudged, TakesParts};
 
 use crate::format::Contents;
 use crate::judgements::Judgements;
-use file_format::{FaultKind, FileFault, Judgement, Stop, judge_header};
+use file_format::{FileFault, Judgement, Stop, judge_header};
 use std::alloc::Global;
 use std::thread::Threads;
 
@@ -17,18 +17,6 @@ use std::thread::Threads;
 pub struct Progress<C> {
     pub contents: C,
     pub lines: u64,
-}
-
-/// The fault of that line.
-fn fault_at(line: u64, stop: Stop) -> FileFault
-    ensures line { result.line ≡ line }
-    ensures kind { result.kind ≡ kind_of stop }
-{
-    let kind = match stop {
-        Stop::Fault(fault) => FaultKind::Line(fault),
-        Stop::Memory => FaultKind::Memory,
-    };
-    FileFault { line, kind }
 }
 
 impl<C: Contents> Progress<C> {
@@ -43,7 +31,7 @@ impl<C: Contents> Progress<C> {
                 self.lines = 1;
                 Ok(())
             }
-            Err(stop) => Err(fault_at(1, stop)),
+            Err(stop) => Err(FileFault::at(1, stop)),
         }
     }
 
@@ -55,13 +43,13 @@ impl<C: Contents> Progress<C> {
     {
         let line = self.lines + 1;
         match judgement {
-            Judgement::Fault(fault) => Err(fault_at(line, Stop::Fault(fault))),
+            Judgement::Fault(fault) => Err(FileFault::at(line, Stop::Fault(fault))),
             Judgement::Item(item) => match self.contents.follow(item) {
                 Ok(()) => {
                     self.lines = line;
                     Ok(())
                 }
-                Err(stop) => Err(fault_at(line, stop)),
+                Err(stop) => Err(FileFault::at(line, stop)),
             },
         }
     }
@@ -117,7 +105,7 @@ impl<C: Contents> Progress<C> {
     {
         match C::judge_all(rt, alloc, parts) {
             Ok(judgements) => self.record(judgements),
-            Err(_) => Err(fault_at(self.lines + 1, Stop::Memory)),
+            Err(_) => Err(FileFault::at(self.lines + 1, Stop::Memory)),
         }
     }
 

@@ -2,7 +2,8 @@
 ghost use Rattle.std.specs.Prelude.{ℕ, ◌≡◌, ◌<◌, ◌≤◌, List, Option, length, true, false, IfOk, IfErr, MatchResult};
 ghost use Rattle.std.specs.Io.KnownBytes.{IsAtEnd};
 ghost use Rattle.counted_devices.specs.Deliveries.{Delivers};
-ghost use Rattle.history_file.specs.Deliveries.{Holds, HoldsAhead, ReadsAll, StopsAt, HasFailed};
+ghost use Rattle.counted_devices.specs.ReadFaults.{HasFailed};
+ghost use Rattle.history_file.specs.Deliveries.{Holds, HoldsAhead, ReadsAll, StopsAt};
 ghost use Rattle.file_format.specs.HistoryFormat.{history_format, MakesHistory};
 ghost use Rattle.file_format.specs.OrderFormat.{order_format, AreJoined};
 

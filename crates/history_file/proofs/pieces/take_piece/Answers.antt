@@ -3,7 +3,7 @@ use Rattle.std.specs.Prelude.{MatchResult}
 use Rattle.std.proofs.lemmas.List.Elements.{All-append}
 use Rattle.std.proofs.lemmas.Result.{err_from_is_err_and}
 use Rattle.file_format.specs.declared.fault.LineFault.TheVariants.{TooLong}
-use Rattle.file_format.specs.declared.fault.FaultKind.TheVariants as kind
+use Rattle.counted_devices.specs.declared.read_fault.FaultKind.TheVariants as kind
 use Rattle.counted_devices.specs.Cuts.{HasNoEnd}
 use Rattle.history_file.specs.Feeds.{Passed, PassStops}
 use Rattle.history_file.specs.Takings.{IsAt, IsFirstOfKind}

@@ -18,4 +18,4 @@ returns-in-Some c = λ lines at. (
 pub returns-in-None : goal.returns-in-None
 returns-in-None c = λ lines at.
     let P : List Placed → Type 0 = λ saids. AreRead lines saids in
-    (subst P (no_command lines at.saids at.read (sym at.drafted.opened ∙ c.in-None.is)) at.read, c.error_at.ensures.line, c.error_at.ensures.kind)
+    (subst P (no_command lines at.saids at.read (sym at.drafted.opened ∙ c.in-None.is)) at.read, c.at.ensures.line, c.at.ensures.kind)
