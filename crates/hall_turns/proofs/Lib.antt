@@ -1,0 +1,7 @@
+mod Results
+mod Rows
+mod Moves
+mod Turning
+mod ClientTurns
+mod FreeTurns
+mod Joining

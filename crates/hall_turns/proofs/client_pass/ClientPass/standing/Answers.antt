@@ -1,0 +1,21 @@
+use Rattle.std.proofs.Common.{refl}
+use Rattle.hall_turns.proofs.ClientTurns.{client_turn, left, same_returns, seat_recorded}
+use Rattle.hall_turns.proofs.Turning.{recorded}
+use Rattle.hall_turns.proofs.client_pass.ClientPass.standing.Goals as goal
+
+pub give_back-requires : goal.give_back-requires
+give_back-requires g c = same_returns c.self.inside.door c.receive-hall.new.self c.receive-hall.result c.receive-hall.result c.receive-hall.ensures refl
+
+pub invariant_of-self : goal.invariant_of-self
+invariant_of-self g c =
+    seat_recorded c.self.inside.client c.give_back.new.self c.receive-hall.result (client_turn c.self.inside.client c.self.inside.door.rows c.self.inside.door c.receive-hall.new.self c.give_back.new.self c.receive-hall.result c.receive-hall.result c.self.invariant.0 c.receive-hall.ensures c.give_back.ensures).is
+    (recorded c.receive-hall.result c.known.ensures.replay c.known.ensures.sound c.known.ensures.formed)
+
+pub returns-clause-recorded : goal.returns-clause-recorded
+returns-clause-recorded g c =
+    (seat_recorded c.self.inside.client c.give_back.new.self c.receive-hall.result (client_turn c.self.inside.client c.self.inside.door.rows c.self.inside.door c.receive-hall.new.self c.give_back.new.self c.receive-hall.result c.receive-hall.result c.self.invariant.0 c.receive-hall.ensures c.give_back.ensures).is
+    (recorded c.receive-hall.result c.known.ensures.replay c.known.ensures.sound c.known.ensures.formed)).1
+
+pub returns-clause-looked : goal.returns-clause-looked
+returns-clause-looked g c = rw (← c.self.view_is)
+    (left c.self.inside.client c.self.inside.door.rows c.self.inside.door c.receive-hall.new.self c.give_back.new.self c.receive-hall.result c.receive-hall.result c.self.invariant.0 c.receive-hall.ensures c.give_back.ensures refl)

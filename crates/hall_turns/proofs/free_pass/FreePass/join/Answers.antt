@@ -1,0 +1,28 @@
+use Rattle.std.proofs.Common.{List, ap, subst, sym}
+use Rattle.recorder.specs.declared.row.Row.{Row}
+use Rattle.world_steps.specs.Lasting.{Grows}
+use Rattle.hall_turns.specs.declared.rule.View.{View}
+use Rattle.hall_turns.specs.Turns.{AreRecorded, HasNoCall, Seen}
+use Rattle.hall_turns.proofs.ClientTurns.{same_returns}
+use Rattle.hall_turns.proofs.Joining.{entered, joins_world, seat_rows}
+use Rattle.hall_turns.proofs.Turning.{recorded}
+use Rattle.hall_turns.proofs.free_pass.FreePass.join.Goals as goal
+
+pub give_named-requires : goal.give_named-requires
+give_named-requires g c =
+    let in_it = entered c.self.inside.door c.receive-hall.new.self c.receive-hall.result c.join_in-joined.new.hall c.args.client c.self.invariant.0 c.receive-hall.ensures c.known.ensures.replay c.known-2.ensures.replay
+    c.further_steps_take_nothing_away.ensures.joined c.in-Ok.ensures.joined.0 c.in-Ok.ensures.joined.2 in
+    record { free = in_it.0; joined = in_it.1 }
+
+pub give_back-requires : goal.give_back-requires
+give_back-requires g c = same_returns c.self.inside.door c.receive-hall.new.self c.receive-hall.result c.join_in-joined.new.hall c.receive-hall.ensures c.in-Err.ensures.refused
+
+pub new-requires-clause-recorded : goal.new-requires-clause-recorded
+new-requires-clause-recorded g c =
+    subst AreRecorded (sym (ap (λ (y : View). y.rows) c.give_named.ensures)) (recorded c.join_in-joined.new.hall c.known-2.ensures.replay c.known-2.ensures.sound c.known-2.ensures.formed)
+
+pub returns-in-Ok-clause-rows : goal.returns-in-Ok-clause-rows
+returns-in-Ok-clause-rows g c =
+    let enters = joins_world c.receive-hall.result c.join_in-joined.new.hall c.args.client c.known.ensures.replay c.known-2.ensures.replay c.further_steps_take_nothing_away.ensures.joined c.in-Ok.ensures.joined.0 c.in-Ok.ensures.joined.2 in
+    subst (λ (y : List Row × List Row). Grows y.0 y.1 × HasNoCall c.args.client y.1) (λ i. (c.self.view_is i, sym (ap (λ (s : Seen). s.rows) c.new.ensures) i))
+    (seat_rows c.self.inside.door c.receive-hall.new.self c.give_named.new.self c.receive-hall.result c.join_in-joined.new.hall c.args.client c.receive-hall.ensures c.known.ensures.sound enters c.give_named.ensures)

@@ -1,0 +1,270 @@
+-- A hall that threads take in turns: it lies in a channel or is out with one pass, and each pass knows what it has seen.
+use Rattle.std.specs.Prelude.{ℕ, ◌≡◌, ◌≤◌, List, [], ◌∷◌, ◌++◌, Option, Some, None, Result, length}
+use Rattle.std.specs.FinMap as finite
+use mathlib.Core.Option.{some}
+use lib.ListN.{get_elem?}
+use Rattle.tag.specs.declared.actions.Action.{Action}
+use Rattle.tag.specs.Tags.{Tag}
+use Rattle.tag.specs.declared.actions.Returned.{Returned}
+use Rattle.tag.specs.declared.numbers.OpId.{OpId}
+use Rattle.client_phases.specs.Clients.{answer_of, pending_of}
+use Rattle.client_phases.specs.declared.clients.Client.{Client}
+use Rattle.network.specs.declared.messages.Message.{Message}
+use Rattle.network.specs.declared.messages.Message.TheVariants.{ToReplica, ToClient}
+use Rattle.recorder.specs.Histories.{IsWellFormed, Recorded}
+use Rattle.recorder.specs.declared.row.Row.{Row}
+use Rattle.recorder.specs.declared.row.Row.TheVariants.{Invoke, Note}
+use Rattle.world_steps.specs.Configs.{config_of}
+use Rattle.world_steps.specs.Lasting.{Grows, HasJoined, IsRowOf}
+use Rattle.world_steps.specs.SoundSystems.{IsSound}
+use Rattle.world_steps.specs.Sound.{At}
+use Rattle.world_steps.specs.Systems.{opening}
+use Rattle.world_steps.specs.declared.effect.Effect.{Effect}
+use Rattle.world_steps.specs.declared.step.Step.{Step}
+use Rattle.world_steps.specs.declared.step.Step.TheVariants as step
+use Rattle.world_steps.specs.declared.refusal.Refusal.{Refusal}
+use Rattle.world_steps.specs.declared.system.System.{System}
+use Rattle.hall_journal.specs.Halls.{Hall, IsReplay, Takes}
+use Rattle.hall_turns.specs.declared.rule.View.{View}
+
+-- ---- what a pass knows
+
+-- a pass without a client, which has seen these rows
+abbrev pub guest : List Row → View
+guest rows = record { client = None; rows = rows; taken = None }
+
+-- the pass of a client
+abbrev pub seat : ℕ → List Row → View
+seat client rows = record { client = Some client; rows = rows; taken = None }
+
+-- the first pass: a hall that nobody has had yet is out with it
+abbrev pub maker : View
+maker = record { client = None; rows = []; taken = Some (opening (config_of 1 1 1)) }
+
+-- the pass, once it took the hall with this world
+abbrev pub holding : View → System → View
+holding v s = record { client = v.client; rows = v.rows; taken = Some s }
+
+-- the pass, once it gave the hall back with this world
+abbrev pub resting : View → System → View
+resting v s = record { client = v.client; rows = s.history.rows; taken = None }
+
+abbrev pub IsAtRest : View → Type 0
+IsAtRest v = v.taken ≡ None
+
+-- ---- what other passes may have added
+
+-- the row is of a call of another client
+pub record IsOfAnother (rows : List Row) (client : ℕ) (row : Row) : Type 0 where
+  pub name : ℕ
+  pub apart : name ≡ client → ⊥
+  pub is : IsRowOf rows name row
+
+-- rows came behind those that were seen, each of another client's call
+pub record OthersAdd (client : ℕ) (seen rows : List Row) : Type 0 where
+  pub grown : Grows seen rows
+  pub others : (place : ℕ) (row : Row) → length seen ≤ place → At rows place row → IsOfAnother rows client row
+
+-- ---- the rule
+
+-- what a pass knows of the world: its rows begin with those that the pass has seen; and where the pass has a client, this one joined, and
+-- what came behind those rows is of other clients
+pub record Knows (v : View) (s : System) : Type 0 where
+  pub seen : Grows v.rows s.history.rows
+  pub others : (client : ℕ) → v.client ≡ Some client → OthersAdd client v.rows s.history.rows
+  pub joined : (client : ℕ) → v.client ≡ Some client → HasJoined s client
+
+-- a pass that holds the hall is its holder, and took it with this world
+pub record Fits (now : System) (holder : Option ℕ) (pass : ℕ) (v : View) : Type 0 where
+  pub knows : Knows v now
+  pub out : (s : System) → v.taken ≡ Some s → (holder ≡ Some pass) × (s ≡ now)
+
+-- the hall lies in the channel, or is out with one pass
+abbrev pub Placed : List Hall → List View → System → Option ℕ → Type 0
+Placed halls views now None = (hall : Hall) × (halls ≡ hall ∷ []) × (hall.world ≡ now)
+Placed halls views now (Some pass) = (halls ≡ []) × ((v : View) × (get_elem? views pass ≡ some v) × (v.taken ≡ Some now))
+
+-- each pass fits
+abbrev pub AreFitting : System → Option ℕ → List View → Type 0
+AreFitting now holder views = (pass : ℕ) (v : View) → get_elem? views pass ≡ some v → Fits now holder pass v
+
+-- no two passes have one client
+abbrev pub AreApart : List View → Type 0
+AreApart views = (i j : ℕ) (u v : View) (client : ℕ) → get_elem? views i ≡ some u → get_elem? views j ≡ some v → u.client ≡ Some client → v.client ≡ Some client → i ≡ j
+
+-- there is one hall, and each pass knows a beginning of its record
+pub record Kept (halls : List Hall) (views : List View) : Type 0 where
+  pub now : System
+  pub holder : Option ℕ
+  pub placed : Placed halls views now holder
+  pub fitting : AreFitting now holder views
+  pub apart : AreApart views
+
+-- ---- the moves of a pass
+
+-- the hall was taken
+pub record Receives (v : View) (hall : Hall) (w : View) : Type 0 where
+  pub is : w ≡ holding v hall.world
+  pub knows : Knows v hall.world
+
+-- the hall was given back: all its rows are seen
+abbrev pub Returns : View → Hall → View → Type 0
+Returns v hall w = w ≡ resting v hall.world
+
+-- the row is of a call of the pass's client
+pub record IsOwn (v : View) (rows : List Row) (row : Row) : Type 0 where
+  pub name : ℕ
+  pub client : v.client ≡ Some name
+  pub is : IsRowOf rows name row
+
+-- what may be done to a hall that is out with the pass: rows of its client's calls are added and no others, and who joined stays joined
+pub record Adds (v : View) (old new : System) : Type 0 where
+  pub grown : Grows old.history.rows new.history.rows
+  pub own : (place : ℕ) (row : Row) → length old.history.rows ≤ place → At new.history.rows place row → IsOwn v new.history.rows row
+  pub joined : (client : ℕ) → HasJoined old client → HasJoined new client
+
+-- the hall is out with the pass, and may be given back as it is
+pub record MayReturn (v : View) (new : System) : Type 0 where
+  pub old : System
+  pub taken : v.taken ≡ Some old
+  pub adds : Adds v old new
+
+-- a client joins the world, and no row comes
+pub record Enters (old : System) (client : ℕ) (new : System) : Type 0 where
+  pub fresh : HasJoined old client → ⊥
+  pub rows : new.history.rows ≡ old.history.rows
+  pub names : new.members.joined ≡ old.members.joined ++ client ∷ []
+  pub joined : HasJoined new client
+  pub stayed : (other : ℕ) → HasJoined old other → HasJoined new other
+
+-- the hall is out with the pass, and the client joined it since
+pub record HasEntered (v : View) (client : ℕ) (new : System) : Type 0 where
+  pub old : System
+  pub taken : v.taken ≡ Some old
+  pub enters : Enters old client new
+
+-- the last name that joined
+abbrev pub last_of : List ℕ → ℕ
+last_of [] = 0
+last_of (name ∷ []) = name
+last_of (name ∷ next ∷ names) = last_of (next ∷ names)
+
+-- the hall was given back by a pass whose client is from now on the last that joined
+abbrev pub BecomesSeat : View → Hall → View → Type 0
+BecomesSeat v hall w = w ≡ seat (last_of hall.world.members.joined) hall.world.history.rows
+
+-- ---- turns
+
+-- a step that a pass may take, whose client, if it has one, this is: one that names nobody else
+abbrev pub MayTake : Option ℕ → Step → Type 0
+MayTake client (step.Join name) = ⊥
+MayTake client (step.Invoke name key action) = client ≡ Some name
+MayTake client (step.Send name replica) = client ≡ Some name
+MayTake client (step.Deliver flight) = ⊥
+MayTake client (step.Lose flight) = Unit {0}
+MayTake client (step.Repeat flight) = Unit {0}
+MayTake client (step.Respond name) = client ≡ Some name
+MayTake client (step.StopClient name) = client ≡ Some name
+MayTake client (step.StopReplica number) = Unit {0}
+MayTake client (step.StartReplica number) = Unit {0}
+
+-- the rows are the record of a world that steps reach, and each may follow those before it
+pub record AreRecorded (rows : List Row) : Type 0 where
+  pub hall : Hall
+  pub replay : IsReplay hall
+  pub sound : IsSound hall.world
+  pub is : rows ≡ hall.world.history.rows
+  pub formed : IsWellFormed rows
+
+-- a pass had the hall for one turn, in which the hall took the step, or refused it
+pub record Turns (v : View) (step : Step) (result : Result Effect Refusal) (w : View) : Type 0 where
+  pub before : Hall
+  pub after : Hall
+  pub knows : Knows v before.world
+  pub took : Takes before step result after
+  pub recorded : AreRecorded after.world.history.rows
+  pub is : w ≡ resting v after.world
+
+-- a pass had the hall for one turn, and left it as it was
+pub record Looks (v w : View) : Type 0 where
+  pub hall : Hall
+  pub knows : Knows v hall.world
+  pub recorded : AreRecorded hall.world.history.rows
+  pub is : w ≡ resting v hall.world
+
+-- ---- what contracts say of a client's pass
+
+-- the client, and the rows that it has seen
+pub record Seen : Type 0 where
+  pub client : ℕ
+  pub rows : List Row
+
+-- one turn, in which the hall took the step, or refused it: behind the rows that were seen came those of other clients alone, and then
+-- what the step added
+pub record Turned (old : Seen) (step : Step) (result : Result Effect Refusal) (new : Seen) : Type 0 where
+  pub before : Hall
+  pub after : Hall
+  pub others : OthersAdd old.client old.rows before.world.history.rows
+  pub took : Takes before step result after
+  pub is : new ≡ record { client = old.client; rows = after.world.history.rows }
+
+-- one turn, or several, in which rows of other clients came, and no others
+pub record Looked (old new : Seen) : Type 0 where
+  pub client : new.client ≡ old.client
+  pub others : OthersAdd old.client old.rows new.rows
+
+-- one turn, in which that row of the client's came, at that place: before it came rows of other clients alone
+pub record AddedRow (old : Seen) (row : Row) (place : ℕ) (new : Seen) : Type 0 where
+  pub before : List Row
+  pub others : OthersAdd old.client old.rows before
+  pub at : length before ≡ place
+  pub own : IsRowOf before old.client row
+  pub is : new ≡ record { client = old.client; rows = before ++ row ∷ [] }
+
+-- one turn, in which rows of other clients came, and then perhaps a note of one of the client's calls
+pub data TookReply (old new : Seen) : Type 0 where
+  WithoutNote : Looked old new → TookReply old new
+  WithNote : (op : OpId) (tag : Tag) (place : ℕ) → AddedRow old (Note op tag) place new → TookReply old new
+
+-- a step without a row that a client's pass may take
+abbrev pub IsQuiet : Step → Type 0
+IsQuiet (step.Send name replica) = Unit {0}
+IsQuiet (step.Lose flight) = Unit {0}
+IsQuiet (step.Repeat flight) = Unit {0}
+IsQuiet (step.StopClient name) = Unit {0}
+IsQuiet other = ⊥
+
+-- no call of the client stands in the rows
+abbrev pub HasNoCall : ℕ → List Row → Type 0
+HasNoCall client rows = (place : ℕ) (op : OpId) (key : List ℕ) (action : Action) → At rows place (Invoke op client key action) → ⊥
+
+-- ---- what contracts say of a pass without a client
+
+-- one turn of a pass without a client, which had seen those rows
+pub record Served (old : List Row) (step : Step) (result : Result Effect Refusal) (new : List Row) : Type 0 where
+  pub before : Hall
+  pub after : Hall
+  pub grown : Grows old before.world.history.rows
+  pub took : Takes before step result after
+  pub is : new ≡ after.world.history.rows
+
+-- the history is a copy of a hall's, whose rows begin with those
+pub record IsCopied (seen : List Row) (history : Recorded) : Type 0 where
+  pub hall : Hall
+  pub replay : IsReplay hall
+  pub sound : IsSound hall.world
+  pub grown : Grows seen history.rows
+  pub is : history ≡ hall.world.history
+
+-- the message is for a replica
+abbrev pub IsToReplica : Option Message → Type 0
+IsToReplica (Some (ToReplica number request)) = Unit {0}
+IsToReplica (Some (ToClient name reply)) = ⊥
+IsToReplica None = ⊥
+
+-- the client is ready to answer that call so
+pub record IsReady (s : System) (client : ℕ) (op : OpId) (returned : Returned) : Type 0 where
+  pub state : Client
+  pub there : finite.get s.members.clients client ≡ Some state
+  pub pending : Some op ≡ pending_of state
+  pub answer : Some returned ≡ answer_of state

@@ -1,0 +1,295 @@
+//! A client's way to a hall.
+ghost use Rattle.std.specs.Prelude.{◌≡◌, ◌≤◌, Ok, Err, Some, None, IfOk, IfSome, OnErr, IsTrue, length, ℕ};
+ghost use Rattle.std.specs.Option.{option_copied};
+ghost use Rattle.network.specs.Flights.{message_of};
+ghost use Rattle.recorder.specs.declared.row.Row.TheVariants as row;
+ghost use Rattle.world_steps.specs.Lasting.{receiver};
+ghost use Rattle.world_steps.specs.Refusals.{refusal_of};
+ghost use Rattle.world_steps.specs.declared.effect.Effect.TheVariants as effect;
+ghost use Rattle.world_steps.specs.declared.step.Step.TheVariants as event;
+ghost use Rattle.hall_journal.specs.Halls.{Takes, with_step};
+ghost use Rattle.hall_turns.specs.Turns.{AddedRow, AreRecorded, IsQuiet, IsReady, Looked, MayTake, TookReply, Turned, seat};
+
+use crate::door::{Door, known};
+use client_phases::{Phase, Taken};
+use hall_journal::Hall;
+use network::Message;
+use quorum::ReplicaSet;
+use std::marker::Model;
+use std::sync::Wait;
+use tag::{Action, ClientId, Key, Memory, OpId, Returned};
+use world_steps::{Effect, Refusal, Step, World, laws};
+
+/// The way of a client to a hall. No other pass has this client: rows of its calls come by this one
+/// alone.
+#[derive(Drop)]
+pub struct ClientPass {
+    client: ClientId,
+    door: Door,
+}
+
+impl Model for ClientPass {
+    ghost use Rattle.std.specs.Prelude.{◌≡◌};
+    ghost use Rattle.hall_turns.specs.Turns.{AreRecorded, Seen, seat};
+
+    ghost Value = { Seen };
+
+    ghost view = { λ p. record { client = p.client; rows = p.door.rows } };
+
+    ghost invariant = { λ p. (p.door ≡ seat p.client p.door.rows) × AreRecorded p.door.rows };
+}
+
+/// A call that began.
+#[derive(Clone, Copy, Debug, PartialEq, Eq)]
+pub struct Begun {
+    /// Its number in the hall's record.
+    pub op: OpId,
+    /// The place of its invocation there.
+    pub place: usize,
+}
+
+/// A call that was answered.
+#[derive(Debug, Drop)]
+pub struct Ended {
+    /// Its number in the hall's record.
+    pub op: OpId,
+    /// The place of its response there.
+    pub place: usize,
+    /// Its answer.
+    pub returned: Returned,
+    /// A copy of its answer.
+    pub copy: Returned,
+}
+
+/// Where a client stands.
+#[derive(Clone, Copy, Debug)]
+pub struct Standing {
+    /// Its phase; stopped, where it isn't in the world.
+    pub phase: Phase,
+    /// The replicas that it counted in this phase.
+    pub counted: ReplicaSet,
+}
+
+/// Why a call didn't begin.
+#[derive(Clone, Copy, Debug, PartialEq, Eq)]
+pub enum Delay {
+    /// The record has fewer rows than were said to be seen.
+    Foreign,
+    /// The world refused it.
+    Refused(Refusal),
+}
+
+impl ClientPass {
+    /// The way of the client that this door's pass has.
+    pub(crate) fn new(client: ClientId, door: Door) -> ClientPass
+        requires seat { door ≡ seat client door.rows }
+        requires recorded { AreRecorded door.rows }
+        ensures { result ≡ record { client = client; rows = door.rows } }
+    {
+        ClientPass { client, door }
+    }
+
+    /// The client.
+    pub fn client(&self) -> ClientId
+        ensures client { result ≡ self.now.client }
+        ensures recorded { AreRecorded self.now.rows }
+    {
+        self.client
+    }
+
+    /// One turn: the hall takes a step of this client that adds no row.
+    pub fn take(&mut self, rt: &impl Wait, step: Step) -> Result<Effect, Refusal>
+        requires may { MayTake (Some self.old.client) step }
+        requires quiet { IsQuiet step }
+        ensures turned { Turned self.old step result self.new }
+        ensures looked { Looked self.old self.new }
+        ensures recorded { AreRecorded self.new.rows }
+    {
+        self.door.take(rt, step)
+    }
+}
+
+impl ClientPass {
+    /// One turn: where the client stands.
+    pub fn standing(&mut self, rt: &impl Wait) -> Standing
+        ensures looked { Looked self.old self.new }
+        ensures recorded { AreRecorded self.new.rows }
+    {
+        let hall = self.door.receive(rt);
+        known(&hall);
+        let standing = standing_in(hall.world(), self.client);
+        self.door.give_back(rt, hall);
+        standing
+    }
+
+    /// One turn: the client's call begins, where the record has as many rows as were seen.
+    pub fn invoke(
+        &mut self,
+        rt: &impl Wait,
+        key: Key,
+        action: Action,
+        seen: usize,
+    ) -> Result<Begun, Delay>
+        ensures begun { IfOk result (λ begun. AddedRow self.old
+            (row.Invoke begun.op self.old.client key action) begun.place self.new) }
+        ensures seen { IfOk result (λ begun. seen ≤ begun.place) }
+        ensures few { IfOk result (λ begun. begun.place ≤ 9223372036854775807) }
+        ensures delayed { OnErr result (Looked self.old self.new) }
+        ensures recorded { AreRecorded self.new.rows }
+    {
+        laws::a_step_adds_a_row_of_its_client();
+        laws::further_steps_take_nothing_away();
+        let mut hall = self.door.receive(rt);
+        known(&hall);
+        let begun = begin_in(&mut hall, self.client, key, action, seen);
+        known(&hall);
+        self.door.give_back(rt, hall);
+        begun
+    }
+
+    /// One turn: a reply comes to the client, where the flight is a reply to it.
+    pub fn deliver(&mut self, rt: &impl Wait, flight: u32) -> Result<Taken, Refusal>
+        ensures took { TookReply self.old self.new }
+        ensures refused { OnErr result (Looked self.old self.new) }
+        ensures recorded { AreRecorded self.new.rows }
+    {
+        laws::a_step_adds_a_row_of_its_client();
+        laws::further_steps_take_nothing_away();
+        let mut hall = self.door.receive(rt);
+        known(&hall);
+        let taken = deliver_in(&mut hall, self.client, flight);
+        known(&hall);
+        self.door.give_back(rt, hall);
+        taken
+    }
+
+    /// One turn: the client's call is answered, where it is ready.
+    pub fn respond(&mut self, rt: &impl Wait) -> Result<Ended, Refusal>
+        ensures copy { IfOk result (λ ended. ended.copy ≡ ended.returned) }
+        ensures few { IfOk result (λ ended. ended.place ≤ 9223372036854775807) }
+        ensures ended { IfOk result (λ ended. AddedRow self.old
+            (row.Respond ended.op ended.returned) ended.place self.new) }
+        ensures refused { OnErr result (Looked self.old self.new) }
+        ensures recorded { AreRecorded self.new.rows }
+    {
+        laws::a_step_adds_a_row_of_its_client();
+        laws::further_steps_take_nothing_away();
+        let mut hall = self.door.receive(rt);
+        known(&hall);
+        let ended = respond_in(&mut hall, self.client);
+        known(&hall);
+        self.door.give_back(rt, hall);
+        ended
+    }
+}
+
+/// Has the hall take the invocation, where it has as many rows as were seen.
+fn begin_in(
+    hall: &mut Hall,
+    client: ClientId,
+    key: Key,
+    action: Action,
+    seen: usize,
+) -> Result<Begun, Delay>
+    ensures began { IfOk result (λ begun. Takes hall.old (event.Invoke client key action)
+        (Ok (effect.Invoked begun.op)) hall.new) }
+    ensures place { IfOk result (λ begun.
+        (length hall.old.world.history.rows ≡ begun.place) × (seen ≤ begun.place)) }
+    ensures few { IfOk result (λ begun. begun.place ≤ 9223372036854775807) }
+    ensures delayed { OnErr result (hall.new ≡ hall.old) }
+{
+    let place = hall.world().history().rows().len();
+    if place < seen {
+        return Err(Delay::Foreign);
+    }
+    match hall.take(Step::Invoke {
+        client,
+        key,
+        action,
+    }) {
+        Ok(Effect::Invoked(op)) => Ok(Begun { op, place }),
+        Ok(_) => unreachable!(),
+        Err(refusal) => Err(Delay::Refused(refusal)),
+    }
+}
+
+/// Has the hall take the delivery, where the flight is for the client.
+fn deliver_in(hall: &mut Hall, client: ClientId, flight: u32) -> Result<Taken, Refusal>
+    ensures took { IfOk result (λ taken.
+        Takes hall.old (event.Deliver flight) (Ok (effect.Taken taken)) hall.new
+        × (receiver (message_of hall.old.world.pool.flights flight) ≡ Some client)) }
+    ensures refused { OnErr result (hall.new ≡ hall.old) }
+{
+    if !is_for(hall.world().pool().look(flight), client) {
+        return Err(Refusal::NotInFlight);
+    }
+    match hall.take(Step::Deliver { flight }) {
+        Ok(Effect::Taken(taken)) => Ok(taken),
+        Ok(_) => unreachable!(),
+        Err(refusal) => Err(refusal),
+    }
+}
+
+/// Whether the message is for the client.
+fn is_for(message: Option<&Message>, client: ClientId) -> bool
+    ensures { IsTrue result → receiver (option_copied message.entry) ≡ Some client }
+{
+    match message {
+        Some(Message::ToClient(name, _)) => *name == client,
+        _ => false,
+    }
+}
+
+/// Has the hall take the response, where the client is ready.
+fn respond_in(hall: &mut Hall, client: ClientId) -> Result<Ended, Refusal>
+    ensures ended { IfOk result (λ ended. (refusal_of hall.old.world (event.Respond client) ≡ None)
+        × (hall.new ≡ with_step hall.old (event.Respond client))) }
+    ensures answer { IfOk result (λ ended. IsReady hall.old.world client ended.op ended.returned) }
+    ensures place { IfOk result (λ ended. length hall.old.world.history.rows ≡ ended.place) }
+    ensures copy { IfOk result (λ ended. ended.copy ≡ ended.returned) }
+    ensures few { IfOk result (λ ended. ended.place ≤ 9223372036854775807) }
+    ensures refused { OnErr result (hall.new ≡ hall.old) }
+{
+    let place = hall.world().history().rows().len();
+    let Some((op, returned)) = answer_in(hall.world(), client)? else {
+        return Err(Refusal::NotReady);
+    };
+    let copy = returned.copy()?;
+    match hall.take(Step::Respond { client }) {
+        Ok(_) => Ok(Ended {
+            op,
+            place,
+            returned,
+            copy,
+        }),
+        Err(refusal) => Err(refusal),
+    }
+}
+
+/// The number of the client's call and a copy of its answer, where it is ready.
+fn answer_in(world: &World, client: ClientId) -> Result<Option<(OpId, Returned)>, Memory>
+    ensures { IfOk result (λ found.
+        IfSome found (λ answer. IsReady world.now client answer.0 answer.1)) }
+{
+    let Some(state) = world.client(client) else {
+        return Ok(None);
+    };
+    match (state.pending(), state.answer()?) {
+        (Some(op), Some(returned)) => Ok(Some((op, returned))),
+        _ => Ok(None),
+    }
+}
+
+/// Where the client stands.
+fn standing_in(world: &World, client: ClientId) -> Standing {
+    match world.client(client) {
+        Some(state) => Standing {
+            phase: state.phase(),
+            counted: state.counted(),
+        },
+        None => Standing {
+            phase: Phase::Stopped,
+            counted: ReplicaSet::empty(),
+        },
+    }
+}

@@ -1,0 +1,144 @@
+//! The way to a hall: the ends of its channel, and a pass of the rule.
+ghost use Rattle.std.specs.Prelude.{◌≡◌, None, IfOk};
+ghost use Rattle.hall_turns.specs.Turns.{HasEntered, IsAtRest, MayReturn, MayTake, Receives, Returns, Turns, guest, maker, seat};
+ghost use Rattle.recorder.specs.Histories.{IsWellFormed};
+ghost use Rattle.hall_journal.specs.Halls.{IsReplay};
+ghost use Rattle.world_steps.specs.SoundSystems.{IsSound};
+
+use crate::rule::{Enter, Guest, OneHall, Receive, Return, View};
+use crossbeam_channel::{Pass, RuledReceiver, RuledSender, bounded_with};
+use hall_journal::Hall;
+use std::alloc::Global;
+use std::marker::Model;
+use std::sync::Wait;
+use tag::{ClientId, Memory};
+use world_steps::{Effect, Refusal, Step, laws};
+
+/// The way to one hall. A contract sees what its pass knows.
+#[derive(Drop)]
+pub struct Door {
+    sender: RuledSender<Hall, View, OneHall>,
+    receiver: RuledReceiver<Hall, View, OneHall>,
+    pass: Pass<Hall, View>,
+}
+
+impl Model for Door {
+    ghost use Rattle.std.specs.Prelude.{◌≡◌, ℕ, List, Option, refl};
+    ghost use Rattle.std.specs.Coded.{code_by, coded×, coded_list, coded_option, coded_ℕ};
+    ghost use Rattle.crossbeam_channel.specs.Claims.{view as pass_view, IsSeatAt};
+    ghost use Rattle.crossbeam_channel.specs.Ends.{sends_on, receives_on};
+    ghost use Rattle.recorder.specs.contracts.row.Row as entry;
+    ghost use Rattle.recorder.specs.declared.row.Row.{Row};
+    ghost use Rattle.world_steps.specs.contracts.world.World as whole;
+    ghost use Rattle.world_steps.specs.declared.system.System.{System};
+    ghost use Rattle.hall_turns.specs.declared.rule.View.{View};
+
+    ghost Value = { View };
+
+    ghost coded = { code_by (Option ℕ × (List Row × Option System)) (coded× (coded_option coded_ℕ) (coded× (coded_list entry.the_row.coded) (coded_option whole.the_row.coded))) (λ v. (v.client, (v.rows, v.taken))) (λ p. record { client = p.0; rows = p.1.0; taken = p.1.1 }) (λ _. refl) };
+
+    ghost view = { λ d. pass_view d.pass };
+
+    ghost invariant = { λ d. IsSeatAt (sends_on d.sender) d.pass × (receives_on d.receiver ≡ sends_on d.sender) };
+}
+
+impl Door {
+    /// The first door to a hall that nobody has had yet: it is out with this door.
+    pub(crate) fn new(alloc: Global) -> Result<Door, Memory>
+        ensures { IfOk result (λ door. door ≡ maker) }
+    {
+        let (sender, receiver, pass) = bounded_with::<Hall, View, OneHall, Global>(alloc, 1)?;
+        Ok(Door {
+            sender,
+            receiver,
+            pass,
+        })
+    }
+
+    /// Another door to the same hall, without a client. `Memory` comes only where a growth was refused.
+    pub(crate) fn guest(&mut self) -> Result<Door, Memory>
+        ensures same { self.new ≡ self.old }
+        ensures ok { IfOk result (λ door. door ≡ guest self.old.rows) }
+    {
+        let sender = self.sender.try_clone()?;
+        let receiver = self.receiver.try_clone()?;
+        let pass = self.sender.another::<Guest>(&mut self.pass);
+        Ok(Door {
+            sender,
+            receiver,
+            pass,
+        })
+    }
+
+    /// Takes the hall.
+    pub(crate) fn receive(&mut self, rt: &impl Wait) -> Hall
+        ensures { Receives self.old result self.new }
+    {
+        for _ in rt.forever() {
+            if let Ok(hall) = self.receiver.recv_as::<Receive, _>(rt, &mut self.pass) {
+                return hall;
+            }
+        }
+        unreachable!()
+    }
+
+    /// Gives the hall back, in which the client has just joined: it is this pass's from now on.
+    pub(crate) fn give_named(&mut self, rt: &impl Wait, hall: Hall, client: ClientId)
+        requires free { self.old.client ≡ None }
+        requires joined { HasEntered self.old client hall.world }
+        ensures { self.new ≡ seat client hall.world.history.rows }
+    {
+        let mut back = hall;
+        for _ in rt.forever() {
+            match self.sender.send_as::<Enter, _>(rt, &mut self.pass, back) {
+                Ok(()) => return,
+                Err(error) => back = error.into_inner(),
+            }
+        }
+        unreachable!()
+    }
+
+    /// Gives the hall back.
+    pub(crate) fn give_back(&mut self, rt: &impl Wait, hall: Hall)
+        requires { MayReturn self.old hall.world }
+        ensures { Returns self.old hall self.new }
+    {
+        let mut back = hall;
+        for _ in rt.forever() {
+            match self.sender.send_as::<Return, _>(rt, &mut self.pass, back) {
+                Ok(()) => return,
+                Err(error) => back = error.into_inner(),
+            }
+        }
+        unreachable!()
+    }
+}
+
+impl Door {
+    /// One turn: the hall takes the step, or refuses it.
+    pub(crate) fn take(&mut self, rt: &impl Wait, step: Step) -> Result<Effect, Refusal>
+        requires rest { IsAtRest self.old }
+        requires may { MayTake self.old.client step }
+        ensures { Turns self.old step result self.new }
+    {
+        laws::a_step_adds_a_row_of_its_client();
+        laws::further_steps_take_nothing_away();
+        let mut hall = self.receive(rt);
+        known(&hall);
+        let taken = hall.take(step);
+        known(&hall);
+        self.give_back(rt, hall);
+        taken
+    }
+}
+
+/// What holds of every hall.
+pub(crate) fn known(hall: &Hall)
+    ensures replay { IsReplay hall.now }
+    ensures sound { IsSound hall.now.world }
+    ensures formed { IsWellFormed hall.now.world.history.rows }
+{
+    let world = hall.world();
+    let _ = world.config();
+    let _ = world.history().rows();
+}

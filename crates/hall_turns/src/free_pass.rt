@@ -1,0 +1,175 @@
+//! A way to a hall without a client.
+ghost use Rattle.std.specs.Prelude.{◌≡◌, Ok, None, Some, IfOk, OnOk, OnErr, IsTrue, [], ℕ};
+ghost use Rattle.std.specs.Option.{option_copied};
+ghost use Rattle.network.specs.Flights.{message_of};
+ghost use Rattle.network.specs.declared.messages.Message.{Message};
+ghost use Rattle.recorder.specs.declared.row.Row.{Row};
+ghost use Rattle.world_steps.specs.Lasting.{Grows, receiver};
+ghost use Rattle.world_steps.specs.SoundSystems.{IsSound};
+ghost use Rattle.world_steps.specs.declared.effect.Effect.TheVariants as effect;
+ghost use Rattle.world_steps.specs.declared.step.Step.TheVariants as event;
+ghost use Rattle.hall_journal.specs.Halls.{IsReplay, Takes};
+ghost use Rattle.hall_turns.specs.Turns.{AreRecorded, Enters, HasNoCall, IsCopied, IsToReplica, MayTake, Served};
+
+use crate::client_pass::ClientPass;
+use crate::door::{Door, known};
+use hall_journal::Hall;
+use network::Message;
+use recorder::History;
+use std::alloc::Global;
+use std::marker::Model;
+use std::sync::Wait;
+use tag::{ClientId, Memory, ReplicaId};
+use world_steps::{Config, Effect, Refusal, Step, laws};
+
+/// A way to a hall that has no client, and so adds no row. A contract sees the rows that it has seen.
+#[derive(Drop)]
+pub struct FreePass {
+    door: Door,
+}
+
+impl Model for FreePass {
+    ghost use Rattle.std.specs.Prelude.{◌≡◌, List};
+    ghost use Rattle.recorder.specs.declared.row.Row.{Row};
+    ghost use Rattle.hall_turns.specs.Turns.{AreRecorded, guest};
+
+    ghost Value = { List Row };
+
+    ghost view = { λ p. p.door.rows };
+
+    ghost invariant = { λ p. (p.door ≡ guest p.door.rows) × AreRecorded p.door.rows };
+}
+
+impl FreePass {
+    /// The first way to a new hall, which lies in its channel from now on. `Memory` comes only where a
+    /// growth was refused.
+    pub fn open(rt: &impl Wait, alloc: Global, config: Config) -> Result<FreePass, Memory>
+        ensures { IfOk result (λ pass. pass ≡ []) }
+    {
+        let hall = Hall::new(alloc, config)?;
+        let mut door = Door::new(alloc)?;
+        known(&hall);
+        door.give_back(rt, hall);
+        Ok(FreePass { door })
+    }
+
+    /// Another way to the same hall. `Memory` comes only where a growth was refused.
+    pub fn another(&mut self) -> Result<FreePass, Memory>
+        ensures same { self.new ≡ self.old }
+        ensures ok { IfOk result (λ pass. pass ≡ self.old) }
+    {
+        let door = self.door.guest()?;
+        Ok(FreePass { door })
+    }
+
+    /// One turn: the hall takes a step that names no client.
+    pub fn take(&mut self, rt: &impl Wait, step: Step) -> Result<Effect, Refusal>
+        requires free { MayTake None step }
+        ensures { Served self.old step result self.new }
+    {
+        self.door.take(rt, step)
+    }
+
+    /// One turn: a request comes to the replica, where the flight is a request to it. The number of the
+    /// flight that carries the reply.
+    pub fn deliver(
+        &mut self,
+        rt: &impl Wait,
+        replica: ReplicaId,
+        flight: u32,
+    ) -> Result<u32, Refusal>
+        ensures served { IfOk result (λ reply.
+            Served self.old (event.Deliver flight) (Ok (effect.Answered reply)) self.new) }
+        ensures refused { OnErr result (Grows self.old self.new) }
+    {
+        laws::a_step_adds_a_row_of_its_client();
+        laws::further_steps_take_nothing_away();
+        let mut hall = self.door.receive(rt);
+        known(&hall);
+        let served = serve_in(&mut hall, replica, flight);
+        known(&hall);
+        self.door.give_back(rt, hall);
+        served
+    }
+
+    /// One turn: a copy of the record.
+    pub fn history(&mut self, rt: &impl Wait) -> Result<History, Memory>
+        ensures copied { IfOk result (λ history. IsCopied self.old history) }
+        ensures seen { Grows self.old self.new }
+    {
+        let hall = self.door.receive(rt);
+        known(&hall);
+        let copy = hall.world().history().copy();
+        self.door.give_back(rt, hall);
+        copy
+    }
+
+    /// One turn: the client joins, and has this way from now on.
+    pub fn join(self, rt: &impl Wait, client: ClientId) -> Result<ClientPass, Refusal>
+        ensures client { IfOk result (λ pass. pass.client ≡ client) }
+        ensures rows { IfOk result (λ pass. Grows self pass.rows × HasNoCall client pass.rows) }
+    {
+        laws::further_steps_take_nothing_away();
+        let FreePass { mut door } = self;
+        let mut hall = door.receive(rt);
+        known(&hall);
+        let joined = join_in(&mut hall, client);
+        known(&hall);
+        match joined {
+            Ok(()) => {
+                door.give_named(rt, hall, client);
+                Ok(ClientPass::new(client, door))
+            }
+            Err(refusal) => {
+                door.give_back(rt, hall);
+                Err(refusal)
+            }
+        }
+    }
+
+    /// Takes the hall for good.
+    pub fn into_hall(self, rt: &impl Wait) -> Hall
+        ensures rows { Grows self result.world.history.rows }
+    {
+        let FreePass { mut door } = self;
+        door.receive(rt)
+    }
+}
+
+/// Has the hall take the delivery, where the flight is for the replica.
+fn serve_in(hall: &mut Hall, replica: ReplicaId, flight: u32) -> Result<u32, Refusal>
+    ensures served { IfOk result (λ reply.
+        Takes hall.old (event.Deliver flight) (Ok (effect.Answered reply)) hall.new
+        × IsToReplica (message_of hall.old.world.pool.flights flight)) }
+    ensures refused { OnErr result (hall.new ≡ hall.old) }
+{
+    if !is_to(hall.world().pool().look(flight), replica) {
+        return Err(Refusal::NotInFlight);
+    }
+    match hall.take(Step::Deliver { flight }) {
+        Ok(Effect::Answered(reply)) => Ok(reply),
+        Ok(_) => unreachable!(),
+        Err(refusal) => Err(refusal),
+    }
+}
+
+/// Whether the message is for the replica.
+fn is_to(message: Option<&Message>, replica: ReplicaId) -> bool
+    ensures { IsTrue result → IsToReplica (option_copied message.entry) }
+{
+    match message {
+        Some(Message::ToReplica(number, _)) => *number == replica,
+        _ => false,
+    }
+}
+
+/// Has the hall take the client in.
+fn join_in(hall: &mut Hall, client: ClientId) -> Result<(), Refusal>
+    ensures joined { OnOk result (Takes hall.old (event.Join client) (Ok effect.Joined) hall.new) }
+    ensures refused { OnErr result (hall.new ≡ hall.old) }
+{
+    match hall.take(Step::Join { client }) {
+        Ok(_) => Ok(()),
+        Err(refusal) => Err(refusal),
+    }
+}
