@@ -1,0 +1,5 @@
+mod Lists
+mod Logs
+mod Keeping
+mod Answering
+mod Seating

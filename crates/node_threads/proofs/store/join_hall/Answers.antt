@@ -1,0 +1,11 @@
+use Rattle.std.proofs.Common.{sym, subst}
+use Rattle.node_threads.specs.Seats.{AreFresh}
+use Rattle.node_threads.proofs.Lists.{behind}
+use Rattle.node_threads.proofs.Seating.{fresh_more}
+use Rattle.node_threads.proofs.store.join_hall.Goals as goal
+
+pub returns : goal.returns
+returns g c = record {
+  fresh = subst (AreFresh c.args.client) (sym (behind c.args.passes.now.items c.reserve.new.self.items c.push_reserved.new.self.items _ c.reserve.ensures.items c.push_reserved.ensures.items))
+      (fresh_more c.args.client c.args.passes.now.items _ c.requires c.in_ok-pass.ensures.client c.in_ok-pass.ensures.rows.1);
+}

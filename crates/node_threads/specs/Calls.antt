@@ -1,0 +1,42 @@
+-- What a call's turns leave of a client's log.
+use Rattle.std.specs.Prelude.{ℕ, ◌≡◌, ◌≤◌, List}
+use Rattle.tag.specs.declared.actions.Action.{Action}
+use Rattle.tag.specs.declared.actions.Returned.{Returned}
+use Rattle.tag.specs.declared.numbers.OpId.{OpId}
+use Rattle.recorder.specs.declared.row.Row.TheVariants.{Invoke, Respond}
+use Rattle.hall_turns.specs.Turns.{AddedRow, AreRecorded, Seen}
+use Rattle.world_steps.specs.Lasting.{Grows}
+use Rattle.node_threads.specs.declared.entry.Entry.{Entry}
+use Rattle.node_threads.specs.declared.errand.Outcome.{Outcome}
+use Rattle.node_threads.specs.declared.errand.Outcome.TheVariants as outcome
+use Rattle.node_threads.specs.Logs.{IsLog}
+
+-- rows came, but none that begins or ends a call of the client: its log stays
+pub record KeepsLog (old new : Seen) : Type 0 where
+  pub client : new.client ≡ old.client
+  pub grown : Grows old.rows new.rows
+  pub log : (log : List Entry) → IsLog old.rows old.client log → IsLog new.rows new.client log
+
+-- the client's call began, at that place: its log has an entry more, pending
+pub record BeginsCall (old : Seen) (key : List ℕ) (action : Action) (op : OpId) (place : ℕ) (new : Seen) : Type 0 where
+  pub added : AddedRow old (Invoke op old.client key action) place new
+  pub recorded : AreRecorded new.rows
+
+-- the client's call was answered, at that place, after turns that left its log as it was
+pub record EndsCall (old : Seen) (op : OpId) (returned : Returned) (place : ℕ) (new : Seen) : Type 0 where
+  pub middle : Seen
+  pub kept : KeepsLog old middle
+  pub answered : AddedRow middle (Respond op returned) place new
+  pub recorded : AreRecorded new.rows
+
+-- what became of a call, where the client's pass had seen so many rows at least: it didn't begin; or it began and isn't answered; or it is
+abbrev pub Drives : Seen → List ℕ → Action → ℕ → Outcome → Seen → Type 0
+Drives old key action seen (outcome.Refused error) new = KeepsLog old new
+Drives old key action seen (outcome.Pending begun error) new = (seen ≤ begun.place) × ((middle : Seen) × BeginsCall old key action begun.op begun.place middle × KeepsLog middle new)
+Drives old key action seen (outcome.Done begun ended) new = (seen ≤ begun.place) × ((middle : Seen) × BeginsCall old key action begun.op begun.place middle × EndsCall middle ended.op ended.returned ended.place new)
+
+-- places are below the lengths of lists that a program holds, and the copy of an answer is the answer
+abbrev pub IsPlaced : Outcome → Type 0
+IsPlaced (outcome.Refused error) = Unit {0}
+IsPlaced (outcome.Pending begun error) = begun.place ≤ 9223372036854775807
+IsPlaced (outcome.Done begun ended) = (begun.place ≤ 9223372036854775807) × (ended.place ≤ 9223372036854775807) × (ended.copy ≡ ended.returned)

@@ -1,0 +1,6 @@
+pub mod Logs
+pub mod Calls
+pub mod Receipts
+pub mod Seats
+pub mod Answers
+pub mod Stores

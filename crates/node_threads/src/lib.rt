@@ -1,0 +1,24 @@
+//! A running store: halls that threads take in turns, a thread for each replica, and seats for callers.
+//!
+//! `Store::start` makes the halls and starts the replicas; `Store::join` gives a client its seat;
+//! `Store::call` makes a call on a seat, in rounds of messages that a `Gate` may lose or double. What a
+//! seat's log says of a call is what the halls recorded.
+#![tactic(auto)]
+
+mod config;
+mod entry;
+mod errand;
+mod errors;
+mod gate;
+mod receipt;
+mod replicas;
+mod seat;
+mod store;
+
+pub use config::StoreConfig;
+pub use entry::Entry;
+pub use errors::{CallError, JoinError, StartError};
+pub use gate::{Gate, OpenGate, Passage, Place};
+pub use receipt::Receipt;
+pub use seat::{Answer, Seat};
+pub use store::Store;

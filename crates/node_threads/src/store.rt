@@ -1,0 +1,279 @@
+//! A running store: its halls, and a thread for each replica.
+ghost use Rattle.std.specs.Prelude.{◌≡◌, ◌≤◌, Err, true, false, [], IfOk, OnErr, OnOk};
+ghost use Rattle.recorder.specs.Halls.{hall_of};
+ghost use Rattle.node_threads.specs.Answers.{HasFailed, IsAnswered};
+ghost use Rattle.node_threads.specs.Seats.{AreFresh};
+
+use crate::config::StoreConfig;
+use crate::errand::Errand;
+use crate::errors::{CallError, JoinError, StartError};
+use crate::gate::Gate;
+use crate::replicas::{Parcel, serve};
+use crate::seat::{Answer, Seat};
+use crossbeam_channel::{Receiver, Sender, unbounded};
+use hall_turns::{ClientPass, FreePass};
+use recorder::Halls;
+use std::alloc::Global;
+use std::marker::Model;
+use std::sync::{Arc, Mutex, Wait};
+use std::thread;
+use std::thread::Threads;
+use tag::{Action, ClientId, Key, OpId, ReplicaId};
+use world_steps::{Config, Refusal, Step};
+
+/// A running store. Each replica is served by a thread of its own, in all halls; they end when the store
+/// is let go.
+#[derive(Drop)]
+pub struct Store<G> {
+    number: u64,
+    halls: Halls,
+    rounds: u16,
+    gate: Arc<G, Global>,
+    roots: Vec<Mutex<FreePass>>,
+    ways: Vec<Sender<Parcel>>,
+    ends: Receiver<ReplicaId>,
+}
+
+impl<G> Model for Store<G> {
+    ghost use Rattle.node_threads.specs.Stores.{Store};
+
+    ghost Value = { Store };
+
+    ghost view = { λ s. record { number = s.number; halls = s.halls; rounds = s.rounds } };
+}
+
+impl<G: Gate + Send + Sync + Drop + 'static> Store<G> {
+    /// Starts a store: its halls, all new, and a thread for each replica, all up. After an error no store
+    /// stands, and threads that were started are asked to end.
+    pub fn start<R>(
+        rt: &R,
+        alloc: Global,
+        config: StoreConfig,
+        gate: G,
+    ) -> Result<Store<G>, StartError>
+    where
+        R: Threads + Wait + Copy + Send + 'static,
+        requires { (1 ≤ config.rounds) × (config.rounds ≤ 10000) }
+        ensures { IfOk result (λ store. store
+            ≡ record { number = config.store; halls = config.halls; rounds = config.rounds }) }
+    {
+        let gate = Arc::new(alloc, gate).map_err(|_| StartError::Memory)?;
+        let mut roots = open_halls(rt, alloc, config.halls, config.world)?;
+        let (ended, ends) = unbounded(alloc).map_err(|_| StartError::Memory)?;
+        let ways = start_replicas(rt, alloc, &config, &mut roots, &gate, &ended)?;
+        Ok(Store {
+            number: config.store,
+            halls: config.halls,
+            rounds: config.rounds,
+            gate,
+            roots: behind_locks(alloc, roots)?,
+            ways,
+            ends,
+        })
+    }
+}
+
+/// Opens so many new halls.
+fn open_halls<R: Wait>(
+    rt: &R,
+    alloc: Global,
+    halls: Halls,
+    world: Config,
+) -> Result<Vec<FreePass>, StartError> {
+    let mut roots = Vec::new(alloc);
+    for _ in 0..halls.count() {
+        roots.push(FreePass::open(rt, alloc, world)?)?;
+    }
+    Ok(roots)
+}
+
+/// Puts each way to a hall behind a lock of its own.
+fn behind_locks(alloc: Global, roots: Vec<FreePass>) -> Result<Vec<Mutex<FreePass>>, StartError> {
+    let mut locked = Vec::new(alloc);
+    for root in roots {
+        locked.push(Mutex::new(root))?;
+    }
+    Ok(locked)
+}
+
+/// Starts a thread for each replica. The ways to them, by number.
+fn start_replicas<R, G>(
+    rt: &R,
+    alloc: Global,
+    config: &StoreConfig,
+    roots: &mut Vec<FreePass>,
+    gate: &Arc<G, Global>,
+    ended: &Sender<ReplicaId>,
+) -> Result<Vec<Sender<Parcel>>, StartError>
+where
+    R: Threads + Wait + Copy + Send + 'static,
+    G: Gate + Send + Sync + Drop + 'static,
+{
+    let mut ways = Vec::new(alloc);
+    for number in 0..15 {
+        if let Some(replica) = ReplicaId::new(number) {
+            if number < config.world.replicas() {
+                ways.push(start_replica(rt, alloc, replica, roots, gate, ended)?)?;
+            }
+        }
+    }
+    Ok(ways)
+}
+
+/// Starts the thread of a replica. The way to it.
+fn start_replica<R, G>(
+    rt: &R,
+    alloc: Global,
+    replica: ReplicaId,
+    roots: &mut Vec<FreePass>,
+    gate: &Arc<G, Global>,
+    ended: &Sender<ReplicaId>,
+) -> Result<Sender<Parcel>, StartError>
+where
+    R: Threads + Wait + Copy + Send + 'static,
+    G: Gate + Send + Sync + Drop + 'static,
+{
+    let (way, parcels) = unbounded(alloc).map_err(|_| StartError::Memory)?;
+    let passes = others(alloc, roots)?;
+    let ended = ended.clone().map_err(|_| StartError::Memory)?;
+    let own = *rt;
+    let theirs = Arc::try_clone(gate).map_err(|_| StartError::Memory)?;
+    let started = thread::spawn(rt, move || {
+        serve(&own, &*theirs, replica, passes, parcels);
+        let _ = ended.send(&own, replica);
+    });
+    if started.is_err() {
+        return Err(StartError::Thread);
+    }
+    Ok(way)
+}
+
+/// Another way to each hall.
+fn others(alloc: Global, roots: &mut Vec<FreePass>) -> Result<Vec<FreePass>, StartError> {
+    let mut passes = Vec::new(alloc);
+    for root in roots.iter_mut() {
+        passes.push(root.another()?)?;
+    }
+    Ok(passes)
+}
+
+impl<G: Gate> Store<G> {
+    /// A seat for a new client, in all halls. After an error the client is stopped in the halls that it
+    /// had joined, and its name is spent there.
+    pub fn join<R: Wait>(&self, rt: &R, alloc: Global, client: ClientId) -> Result<Seat, JoinError>
+        ensures store { IfOk result (λ seat. seat.store ≡ self.now.number) }
+        ensures client { IfOk result (λ seat. seat.client ≡ client) }
+        ensures fresh { IfOk result (λ seat. (seat.log ≡ []) × (seat.is_spent ≡ false)) }
+    {
+        let mut passes = Vec::new(alloc);
+        for root in &self.roots {
+            match join_hall(rt, root, &mut passes, client) {
+                Ok(()) => {}
+                Err(error) => {
+                    stop_all(rt, passes);
+                    return Err(error);
+                }
+            }
+        }
+        let mut seen = Vec::new(alloc);
+        for _ in &passes {
+            seen.push(0)?;
+        }
+        Ok(Seat::new(alloc, self.number, client, passes, seen))
+    }
+
+    /// Makes a call of the seat's client.
+    ///
+    /// It goes to the hall of its key. Where it is answered the seat's log has one entry more, behind all
+    /// that the seat had seen, and the receipt tells of it. It may wait for other threads.
+    pub fn call<R: Wait>(
+        &self,
+        rt: &R,
+        alloc: Global,
+        seat: &mut Seat,
+        key: Key,
+        action: Action,
+    ) -> Result<Answer, CallError>
+        ensures answered { IfOk result (λ answer.
+            IsAnswered seat.old (hall_of self.now.halls key) key action answer seat.new) }
+        ensures failed { OnErr result
+            (HasFailed seat.old (hall_of self.now.halls key) key action seat.new) }
+        ensures spent { seat.old.is_spent ≡ true
+            → (result ≡ Err CallError.SeatSpent) × (seat.new ≡ seat.old) }
+        ensures own { OnOk result (seat.old.store ≡ self.now.number) }
+    {
+        if seat.is_spent() {
+            return Err(CallError::SeatSpent);
+        }
+        if seat.store() != self.number || seat.halls() != usize::from(self.halls.count()) {
+            return Err(CallError::Foreign);
+        }
+        let hall = self.halls.of(&key);
+        let (reports, inbox) = unbounded(alloc)?;
+        let mut errand = Errand {
+            gate: &*self.gate,
+            replicas: self.ways.as_slice(),
+            hall,
+            call: OpId(0),
+            reports,
+            inbox,
+            awaited: 0,
+        };
+        seat.call(rt, &mut errand, key, action, self.rounds)
+    }
+
+    /// Has the replica go down in each hall, where it is up. `ReplicaDown` comes only where it is down in
+    /// each, `NoSuchReplica` before any step. After `Memory` the halls below the one that refused are done,
+    /// and the call may be made again.
+    pub fn stop_replica<R: Wait>(&self, rt: &R, replica: ReplicaId) -> Result<(), Refusal> {
+        let mut done = Err(Refusal::ReplicaDown);
+        for root in &self.roots {
+            match root.lock(rt).take(rt, Step::StopReplica { replica }) {
+                Ok(_) => done = Ok(()),
+                Err(Refusal::ReplicaDown) => {}
+                Err(refusal) => return Err(refusal),
+            }
+        }
+        done
+    }
+
+    /// Has the replica go up in each hall, where it is down, with what it stored. `ReplicaUp` comes only
+    /// where it is up in each, `NoSuchReplica` before any step. After `Memory` the halls below the one that
+    /// refused are done, and the call may be made again.
+    pub fn start_replica<R: Wait>(&self, rt: &R, replica: ReplicaId) -> Result<(), Refusal> {
+        let mut done = Err(Refusal::ReplicaUp);
+        for root in &self.roots {
+            match root.lock(rt).take(rt, Step::StartReplica { replica }) {
+                Ok(_) => done = Ok(()),
+                Err(Refusal::ReplicaUp) => {}
+                Err(refusal) => return Err(refusal),
+            }
+        }
+        done
+    }
+}
+
+/// Has the client join a hall, whose pass comes behind those of the halls before.
+fn join_hall<R: Wait>(
+    rt: &R,
+    root: &Mutex<FreePass>,
+    passes: &mut Vec<ClientPass>,
+    client: ClientId,
+) -> Result<(), JoinError>
+    requires { AreFresh client passes.old.items }
+    ensures fresh { AreFresh client passes.new.items }
+{
+    passes.reserve(1)?;
+    let free = root.lock(rt).another()?;
+    let pass = free.join(rt, client)?;
+    passes.push_reserved(pass);
+    Ok(())
+}
+
+/// Stops the client in the halls of these passes.
+fn stop_all<R: Wait>(rt: &R, passes: Vec<ClientPass>) {
+    for mut pass in passes {
+        let name = pass.client();
+        let _ = pass.take(rt, Step::StopClient { client: name });
+    }
+}
