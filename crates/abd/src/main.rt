@@ -5,8 +5,10 @@ use cli::{
     Command, Counting, Failure, Source, Status, Usage, check_command, command, justify_command,
     simulate_command,
 };
+use parallel_keys::Workers;
 use std::io::ErrorKind;
 use std::process::ExitCode;
+use std::sync::Wait;
 use std::thread::Threads;
 use std::{env, fs};
 
@@ -31,7 +33,13 @@ fn refuse(rt: &HostRuntime, usage: Usage) -> Status {
 }
 
 /// Opens both files before either is read, and checks.
-fn check(rt: &HostRuntime, threads: &(impl Threads + Sync), history: &str, orders: &str) -> Status {
+fn check(
+    rt: &HostRuntime,
+    threads: &(impl Threads + Wait + Sync),
+    history: &str,
+    orders: &str,
+    workers: Workers,
+) -> Status {
     let mut errors = rt.stderr();
     let Ok(history_file) = fs::open(rt, history) else {
         return Failure::Closed { name: history }.report(&mut errors);
@@ -47,6 +55,7 @@ fn check(rt: &HostRuntime, threads: &(impl Threads + Sync), history: &str, order
         rt.alloc(),
         &mut history,
         &mut orders,
+        workers,
         &mut out,
         &mut errors,
     )
@@ -74,7 +83,24 @@ fn simulate(rt: &HostRuntime, script: &str) -> Status {
     simulate_command(rt.alloc(), &mut script, &mut out, &mut errors)
 }
 
-fn run(rt: &HostRuntime, threads: &(impl Threads + Sync)) -> Status {
+/// Does what was asked for.
+fn obey(
+    rt: &HostRuntime,
+    threads: &(impl Threads + Wait + Sync),
+    asked: Command<'_>,
+) -> Status {
+    match asked {
+        Command::Check {
+            history,
+            orders,
+            workers,
+        } => check(rt, threads, history, orders, workers),
+        Command::Justify { history } => justify(rt, threads, history),
+        Command::Simulate { script } => simulate(rt, script),
+    }
+}
+
+fn run(rt: &HostRuntime, threads: &(impl Threads + Wait + Sync)) -> Status {
     let words = match env::args(rt) {
         Ok(words) => words,
         Err(error) if error.kind() == ErrorKind::OutOfMemory => {
@@ -90,9 +116,7 @@ fn run(rt: &HostRuntime, threads: &(impl Threads + Sync)) -> Status {
         Err(_) => return Failure::Memory.report(&mut rt.stderr()),
     };
     match command(rt.alloc(), words.as_slice()) {
-        Ok(Command::Check { history, orders }) => check(rt, threads, history, orders),
-        Ok(Command::Justify { history }) => justify(rt, threads, history),
-        Ok(Command::Simulate { script }) => simulate(rt, script),
+        Ok(asked) => obey(rt, threads, asked),
         Err(usage) => refuse(rt, usage),
     }
 }

@@ -1,31 +1,74 @@
--- What is said of the entries, said of every key.
-use Rattle.std.proofs.Common.{ℕ, ◌≡◌, inl, inr, Bool, true, false, cond, List, [], ◌∷◌, Option, Some, None, is_some, unwrap_or, filter, map, refl, sym, ap, subst, ◌∙◌, arith}
+-- The verdicts on the keys, said of every key.
+use Rattle.std.proofs.Common.{ℕ, zero, suc, ◌≡◌, ◌<◌, ◌⊎◌, inl, inr, Bool, true, false, cond, List, [], ◌∷◌, Option, Some, None, is_some, is_none, filter, map, length, refl, sym, ap, subst, ◌∙◌, arith}
 use Rattle.std.specs.List.{Contains, slice_get, flat_map}
 use Rattle.std.specs.Option.{option_map}
 use Rattle.std.specs.Str.{bytes_eq}
 use Rattle.std.specs.Map.{lookup}
 use Rattle.std.specs.Cmp.Lexicographic.{bytes_decides}
-use Rattle.std.proofs.lemmas.Option.{slice_get-map}
+use Rattle.std.proofs.lemmas.Option.{slice_get-map, slice_get_within}
 use Rattle.tag.specs.declared.numbers.OpId.{OpId}
 use Rattle.recorder.specs.declared.row.Row.{Row}
 use Rattle.recorder.specs.declared.part.Call.{Call}
 use Rattle.recorder.specs.declared.order.KeyOrder.{KeyOrder}
 use Rattle.recorder.specs.Records.{AreParts, IsPart}
 use Rattle.recorder.specs.Orders.{IsOrder}
-use Rattle.recorder.proofs.Lists.{place_of, Contains-slice_get}
+use Rattle.recorder.proofs.Lists.{Contains-slice_get, get_at, place_of}
+use Rattle.certificate_check.specs.Verdicts.{IsVerdict}
+use Rattle.certificate_check.specs.declared.verdict.Verdict.{Verdict}
+use Rattle.certificate_check.specs.declared.verdict.Verdict.TheVariants.{Yes, No}
+use Rattle.certificate_check.specs.declared.verdict.Fault.{Fault}
+use Rattle.certificate_check.proofs.Faults.{refuted}
 use Rattle.file_format.specs.OrderFormat.{AreJoined, key_in, order_in, order_on}
+use Rattle.parallel_keys.specs.Histories.{AreOn, KeyVerdicts}
+use Rattle.parallel_keys.specs.Pairings.{AreDistinct, Judged, KeyParts, given_order, is_other, judged_keys}
+use Rattle.parallel_keys.proofs.Fronts.{place_before}
+use Rattle.parallel_keys.proofs.Given.{given_at}
 use Rattle.cli.specs.Checks.{IsYes, IsNo, Judges}
-use Rattle.cli.specs.Judging.{Entries, JudgesAll, list_at, verdict_status}
+use Rattle.cli.specs.Judging.{SaysAll}
+use Rattle.cli.specs.declared.status.Status.{Status}
+use Rattle.cli.specs.declared.status.Status.TheVariants.{Good, Refused, Usage, Format, Failed}
 use Rattle.cli.proofs.Entries.{contains_nothing, contains_head, contains_tail, found_entry, found_key}
-use Rattle.cli.proofs.Keyed.{AreKeyed}
+use Rattle.cli.proofs.Judged.{judged_of, other_at, recorded_at}
 
--- the place of a list of which a function makes that
-place_before : {A B : Type 0} (f : A → B) (xs : List A) (i : ℕ) (y : B) → slice_get (map f xs) i ≡ Some y → (x : A) × (slice_get xs i ≡ Some x) × (f x ≡ y)
-place_before {A} {B} f xs i y h = by (slice_get xs i) refl (sym (slice_get-map f xs i) ∙ h)
+-- orders that pieces were joined to have no key twice
+pub distinct : (pieces orders : List KeyOrder) → AreJoined pieces orders → AreDistinct orders
+distinct pieces orders joined i j a b lt at_i at_j same =
+    let key_at : (k : ℕ) (o : KeyOrder) → slice_get orders k ≡ Some o → slice_get (map key_in orders) k ≡ Some o.key = λ k o at. slice_get-map key_in orders k ∙ ap (option_map key_in) at in
+    let first = joined.keys.each i a.key (key_at i a at_i) in
+    let again = key_at j b at_j ∙ ap Some (sym same) in
+    absurd (omega (arith, joined.keys.ordered i j a.key a.key first.0 first.0 lt (key_at i a at_i) again first.1 first.1))
+
+-- the place of a key's order, or none has the key
+abbrev IsHeld : List KeyOrder → List ℕ → Type 0
+IsHeld orders key = (i : ℕ) × (one : KeyOrder) × (slice_get orders i ≡ Some one) × (one.key ≡ key)
+
+abbrev IsFree : List KeyOrder → List ℕ → Type 0
+IsFree orders key = (i : ℕ) (one : KeyOrder) → slice_get orders i ≡ Some one → one.key ≡ key → ⊥
+
+held : (orders : List KeyOrder) (key : List ℕ) → IsHeld orders key ⊎ IsFree orders key
+held [] key = inr (λ i one at same. absurd (cc))
+held (o ∷ os) key = by (bytes_eq o.key key) refl (held os key)
   where
-    by : (o : Option A) → slice_get xs i ≡ o → option_map f o ≡ Some y → (x : A) × (slice_get xs i ≡ Some x) × (f x ≡ y)
-    by None is e = absurd (cc)
-    by (Some x) is e = (x, is, cc)
+    missed : bytes_eq o.key key ≡ false → IsFree os key → IsFree (o ∷ os) key
+    missed other free zero one at same =
+        let is : o ≡ one = cc in
+        let hit : bytes_eq o.key key ≡ true = (bytes_decides o.key key).1 (ap key_in is ∙ same) in
+        absurd (cc)
+    missed other free (suc i) one at same = free i one at same
+
+    by : (b : Bool) → bytes_eq o.key key ≡ b → IsHeld os key ⊎ IsFree os key → IsHeld (o ∷ os) key ⊎ IsFree (o ∷ os) key
+    by true hit later = inl (0, o, refl, (bytes_decides o.key key).0 hit)
+    by false other (inl (i, one, at, same)) = inl (suc i, one, at, same)
+    by false other (inr free) = inr (missed other free)
+
+-- what is given for a key that none of the orders has
+given_nothing : (orders : List KeyOrder) (key : List ℕ) → IsFree orders key → given_order orders key ≡ []
+given_nothing [] key free = refl
+given_nothing (o ∷ os) key free = by (bytes_eq o.key key) refl (given_nothing os key (λ i one at same. free (suc i) one at same))
+  where
+    by : (b : Bool) → bytes_eq o.key key ≡ b → given_order os key ≡ [] → cond (bytes_eq o.key key) o.order (given_order os key) ≡ []
+    by true hit later = absurd (free 0 o refl ((bytes_decides o.key key).0 hit))
+    by false missed later = ap (λ (b : Bool). cond b o.order (given_order os key)) missed ∙ later
 
 -- the order of a key that no piece names is empty
 unnamed : (key : List ℕ) (pieces : List KeyOrder) → ((p : KeyOrder) → Contains pieces p → bytes_eq p.key key ≡ true → ⊥) → order_on key pieces ≡ []
@@ -36,32 +79,29 @@ unnamed key (p ∷ ps) none = by (bytes_eq p.key key) refl (unnamed key ps (λ q
     by true same later = absurd (none p (contains_head p ps) same)
     by false other later = later
 
-module _ (pieces orders : List KeyOrder) (entries : Entries OpId) (joined : AreJoined pieces orders) (keyed : AreKeyed orders entries) where
-  -- an entry is its key's order in the pieces
-  entry_on : (key : List ℕ) (order : List OpId) → Contains entries (key, order) → order ≡ order_on key pieces
-  entry_on key order h =
-      let at = place_of orders (record { key = key; order = order }) (keyed.found key order h) in
-      joined.each at.0 (record { key = key; order = order }) at.1
+module _ (pieces orders : List KeyOrder) (joined : AreJoined pieces orders) where
+  -- an order is its key's in the pieces
+  order_is : (i : ℕ) (one : KeyOrder) (key : List ℕ) → slice_get orders i ≡ Some one → one.key ≡ key → one.order ≡ order_on key pieces
+  order_is i one key at same = joined.each i one at ∙ ap (λ (k : List ℕ). order_on k pieces) same
 
-  -- a key without an entry is in no piece
-  not_named : (key : List ℕ) → lookup (bytes_eq key) entries ≡ None → (p : KeyOrder) → Contains pieces p → bytes_eq p.key key ≡ true → ⊥
-  not_named key none p h same =
-      let at = place_of pieces p h in
-      let named : slice_get (map key_in pieces) at.0 ≡ Some p.key = slice_get-map key_in pieces at.0 ∙ ap (option_map key_in) at.1 in
-      let listed = joined.keys.all at.0 p.key named in
-      let order = place_before key_in orders listed.0 p.key listed.1 in
-      let is : order.0.key ≡ key = order.2 ∙ (bytes_decides p.key key).0 same in
-      let found : is_some (lookup (bytes_eq key) entries) ≡ true = subst (λ (k : List ℕ). is_some (lookup (bytes_eq k) entries) ≡ true) is (keyed.all order.0 (Contains-slice_get orders listed.0 order.0 order.1)) in
-      let missed : is_some (lookup (bytes_eq key) entries) ≡ false = ap is_some none in
-      cc
-
-  -- what the map has under a key is the key's order in the pieces
-  pub list_on : (key : List ℕ) → list_at entries key ≡ order_on key pieces
-  list_on key = by (lookup (bytes_eq key) entries) refl
+  -- a key that no order has is in no piece
+  free_on : (key : List ℕ) → IsFree orders key → order_on key pieces ≡ []
+  free_on key free = unnamed key pieces named
     where
-      by : (o : Option (List OpId)) → lookup (bytes_eq key) entries ≡ o → unwrap_or o [] ≡ order_on key pieces
-      by None is = sym (unnamed key pieces (not_named key is))
-      by (Some order) is = entry_on key order (found_entry entries key order is)
+      named : (p : KeyOrder) → Contains pieces p → bytes_eq p.key key ≡ true → ⊥
+      named p h same =
+          let at = place_of pieces p h in
+          let named_at : slice_get (map key_in pieces) at.0 ≡ Some p.key = slice_get-map key_in pieces at.0 ∙ ap (option_map key_in) at.1 in
+          let listed = joined.keys.all at.0 p.key named_at in
+          let order = place_before key_in orders listed.0 p.key listed.1 in
+          free listed.0 order.0 order.1 (order.2 ∙ (bytes_decides p.key key).0 same)
+
+  -- what is given for a key is its order in the pieces
+  given_on : (key : List ℕ) → given_order orders key ≡ order_on key pieces
+  given_on key = elim (held orders key) [
+    | inl w ↦ sym (given_at orders w.0 w.1 key (distinct pieces orders joined) w.2 w.3) ∙ order_is w.0 w.1 key w.2 w.3
+    | inr free ↦ given_nothing orders key free ∙ sym (free_on key free)
+  ]
 
 -- no call is the order of no call
 pub empty_order : IsOrder [] []
@@ -74,7 +114,12 @@ empty_order = record {
   precedence = λ i j a b h stands later precedes. contains_nothing a stands.recorded;
 }
 
-module _ (rows : List Row) (parts : Entries Call) (are : AreParts rows parts) where
+-- an option in which nothing is
+is_nothing : {X : Type 0} (o : Option X) → is_none o ≡ true → o ≡ None
+is_nothing None is = refl
+is_nothing (Some x) is = absurd (cc)
+
+module _ (rows : List Row) (parts : KeyParts) (are : AreParts rows parts) where
   -- a key on which no call is begun has the part without a call
   unbegun : (key : List ℕ) → lookup (bytes_eq key) parts ≡ None → IsPart rows key []
   unbegun key none = record {
@@ -87,32 +132,69 @@ module _ (rows : List Row) (parts : Entries Call) (are : AreParts rows parts) wh
     ordered = λ i j a b h first second. absurd (cc);
   }
 
-  module _ (pieces orders : List KeyOrder) (entries : Entries OpId) (joined : AreJoined pieces orders) (keyed : AreKeyed orders entries) where
-    -- along the key's order in the map and in the pieces
-    along : (part : List Call) (key : List ℕ) → IsOrder part (list_at entries key) → IsOrder part (order_on key pieces)
-    along part key = subst (λ (order : List OpId). IsOrder part order) (list_on pieces orders entries joined keyed key)
+  module _ (pieces orders : List KeyOrder) (verdicts : KeyVerdicts) (joined : AreJoined pieces orders) (on : AreOn (judged_keys parts orders) verdicts) where
+    -- where all verdicts are yes, what is judged at a place is an order
+    yes_at : SaysAll verdicts Good → (k : ℕ) (one : Judged) → slice_get (judged_keys parts orders) k ≡ Some one → IsOrder one.part one.order
+    yes_at all k one at =
+        let within = slice_get_within (judged_keys parts orders) k one at in
+        let told = get_at verdicts k (omega (arith, within, on.all)) in
+        subst (λ (v : Verdict). IsVerdict one.part one.order v) (all k told.0 told.1) (on.each k one told.0 at told.1).1
 
-    back : (part : List Call) (key : List ℕ) → IsOrder part (order_on key pieces) → IsOrder part (list_at entries key)
-    back part key = subst (λ (order : List OpId). IsOrder part order) (sym (list_on pieces orders entries joined keyed key))
-
-    all_yes : JudgesAll parts entries true → (key : List ℕ) → IsYes rows pieces key
+    all_yes : SaysAll verdicts Good → (key : List ℕ) → IsYes rows pieces key
     all_yes all key = by (lookup (bytes_eq key) parts) refl
       where
-        of_none : (o : Option (List OpId)) → lookup (bytes_eq key) entries ≡ o → lookup (bytes_eq key) parts ≡ None → IsOrder [] (unwrap_or o [])
-        of_none None is none = empty_order
-        of_none (Some order) is none = all.1 (key, order) (found_entry entries key order is) none
+        unrecorded : lookup (bytes_eq key) parts ≡ None → IsOrder [] (order_on key pieces)
+        unrecorded none = elim (held orders key) [
+          | inl w ↦
+              let other : is_other parts w.1 ≡ true = ap (λ (k : List ℕ). is_none (lookup (bytes_eq k) parts)) w.3 ∙ ap is_none none in
+              let judged = other_at parts orders w.0 w.1 w.2 other in
+              subst (λ (order : List OpId). IsOrder [] order) (order_is pieces orders joined w.0 w.1 key w.2 w.3) (yes_at all judged.0 _ judged.1)
+          | inr free ↦ subst (λ (order : List OpId). IsOrder [] order) (sym (free_on pieces orders joined key free)) empty_order
+        ]
 
         by : (o : Option (List Call)) → lookup (bytes_eq key) parts ≡ o → IsYes rows pieces key
-        by None is = record { part = []; recorded = unbegun key is; ordered = along [] key (of_none (lookup (bytes_eq key) entries) refl is) }
+        by None is = record { part = []; recorded = unbegun key is; ordered = unrecorded is }
         by (Some part) is =
             let h = found_entry parts key part is in
-            record { part = part; recorded = are.each key part h; ordered = along part key (all.0 (key, part) h) }
+            let at = place_of parts (key, part) h in
+            let judged = recorded_at parts orders at.0 (key, part) at.1 in
+            record { part = part; recorded = are.each key part h; ordered = subst (λ (order : List OpId). IsOrder part order) (given_on pieces orders joined key) (yes_at all judged.0 _ judged.1) }
 
-    some_no : JudgesAll parts entries false → (key : List ℕ) × IsNo rows pieces key
-    some_no (inl (e, h, fails)) = (e.0, record { part = e.1; recorded = are.each e.0 e.1 h; unordered = λ order. fails (back e.1 e.0 order) })
-    some_no (inr (e, h, fails)) = (e.0, record { part = []; recorded = unbegun e.0 fails.0; unordered = λ order. fails.1 (subst (λ (o : List OpId). IsOrder [] o) (sym (entry_on pieces orders entries joined keyed e.0 e.1 h)) order) })
+    -- a key whose verdict is a fault has no order
+    no_at : (one : Judged) (fault : Fault) → IsVerdict one.part one.order (No fault) → (part : List Call) (order : List OpId) → one.part ≡ part → one.order ≡ order → IsOrder part order → ⊥
+    no_at one fault judged part order same_part same_order good = refuted one.part one.order fault judged (rw (same_part, same_order) good)
+
+    some_no : SaysAll verdicts Refused → (key : List ℕ) × IsNo rows pieces key
+    some_no (k, fault, refused) =
+        let within = slice_get_within verdicts k (refused.key, No fault) refused.told in
+        let one = get_at (judged_keys parts orders) k (omega (arith, within, on.all)) in
+        let judged = (on.each k one.0 (refused.key, No fault) one.1 refused.told).1 in
+        elim (judged_of parts orders k one.0 one.1) [
+          | inl w ↦
+              let entry = w.1 in
+              let order = ap (λ (j : Judged). j.order) (sym w.3) ∙ given_on pieces orders joined entry.0 in (
+                entry.0,
+                record {
+                  part = entry.1;
+                  recorded = are.each entry.0 entry.1 (Contains-slice_get parts w.0 entry w.2);
+                  unordered = no_at one.0 fault judged entry.1 (order_on entry.0 pieces) (ap (λ (j : Judged). j.part) (sym w.3)) order;
+                },
+              )
+          | inr w ↦
+              let order = ap (λ (j : Judged). j.order) (sym w.4) ∙ order_is pieces orders joined w.0 w.1 w.1.key w.2 refl in (
+                w.1.key,
+                record {
+                  part = [];
+                  recorded = unbegun w.1.key (is_nothing (lookup (bytes_eq w.1.key) parts) w.3);
+                  unordered = no_at one.0 fault judged [] (order_on w.1.key pieces) (ap (λ (j : Judged). j.part) (sym w.4)) order;
+                },
+              )
+        ]
 
     -- the status says it
-    pub judged_status : (yes : Bool) → JudgesAll parts entries yes → Judges rows pieces (verdict_status yes)
-    judged_status true all = all_yes all
-    judged_status false some = some_no some
+    pub judged_status : (s : Status) → SaysAll verdicts s → Judges rows pieces s
+    judged_status Good all = all_yes all
+    judged_status Refused some = some_no some
+    judged_status Usage none = none
+    judged_status Format none = none
+    judged_status Failed none = none

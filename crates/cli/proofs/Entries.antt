@@ -5,7 +5,6 @@ use Rattle.std.specs.Str.{bytes_eq}
 use Rattle.std.specs.Map.{lookup}
 use Rattle.std.specs.Cmp.Lexicographic.{bytes_decides}
 use Rattle.std.proofs.lemmas.List.Elements.{Contains-append_left, Contains-append_right, Contains-append_cases, Contains-push, Contains-push_cases}
-use Rattle.indexmap.specs.IndexMap.{insert_entry}
 
 -- an empty list contains nothing
 pub contains_nothing : {X : Type 0} (x : X) → Contains [] x → ⊥
@@ -47,19 +46,3 @@ found_key {X} (e ∷ es) key x h = elim (contains_cases e es (key, x) h) [
     either : {X : Type 0} (b : Bool) (y : X) (o : Option X) → is_some o ≡ true → is_some (cond b (Some y) o) ≡ true
     either true y o h = refl
     either false y o h = h
-
--- an entry after an insertion was there before, or is the one inserted
-inserted_either : {X : Type 0} (x : List ℕ × X) (es : List (List ℕ × X)) (k : List ℕ) (v : X) (e : List ℕ × X) (b : Bool) → bytes_eq k x.0 ≡ b → (Contains (insert_entry bytes_eq es k v) e → Contains es e ⊎ ((k, v) ≡ e))
-    → Contains (cond b ((x.0, v) ∷ es) (x ∷ insert_entry bytes_eq es k v)) e → Contains (x ∷ es) e ⊎ ((k, v) ≡ e)
-inserted_either {X} x es k v e true same later h = elim (contains_cases (x.0, v) es e h) [
-  | inl w ↦ let is : ◌≡◌ {A = List ℕ × X} (k, v) (x.0, v) = ap (λ (q : List ℕ). let p : List ℕ × X = (q, v) in p) ((bytes_decides k x.0).0 same) in inr (is ∙ w)
-  | inr w ↦ inl (contains_tail x es e w)
-]
-inserted_either {X} x es k v e false other later h = elim (contains_cases x (insert_entry bytes_eq es k v) e h) [
-  | inl w ↦ inl (subst (λ (y : List ℕ × X). Contains (x ∷ es) y) w (contains_head x es))
-  | inr w ↦ elim (later w) [ inl u ↦ inl (contains_tail x es e u) | inr u ↦ inr u ]
-]
-
-pub inserted_cases : {X : Type 0} (es : List (List ℕ × X)) (k : List ℕ) (v : X) (e : List ℕ × X) → Contains (insert_entry bytes_eq es k v) e → Contains es e ⊎ ((k, v) ≡ e)
-inserted_cases [] k v e h = elim (contains_cases (k, v) [] e h) [ inl w ↦ inr w | inr w ↦ absurd (contains_nothing e w) ]
-inserted_cases (x ∷ es) k v e h = inserted_either x es k v e (bytes_eq k x.0) refl (inserted_cases es k v e) h

@@ -2,11 +2,11 @@ mod CommandNames
 mod DeviceFailures
 pub mod EachKey
 pub mod Entries
+mod Halting
 pub mod HistoryEndings
-pub mod Judgements
-pub mod Keyed
+pub mod Judged
 mod LineSpelling
-pub mod Lines
+pub mod Told
 pub mod Noted
 pub mod Prefixes
 pub mod Reading

@@ -7,7 +7,7 @@ use Rattle.cli.specs.declared.status.Status.TheVariants.{Good, Refused, Usage, F
 use Rattle.cli.specs.declared.status.Failure.{Failure}
 use Rattle.cli.specs.declared.status.Failure.TheVariants as failure
 
--- 0 all is well, 1 a key is refused, 2 usage, 3 a file's opening or format, 4 memory or a device
+-- 0 all is well, 1 a key is refused, 2 usage, 3 a file's opening or format, 4 memory, a device or a thread
 abbrev pub code_of : Status → ℕ
 code_of Good = 0
 code_of Refused = 1
@@ -27,3 +27,4 @@ status_of (failure.File name fault) = status_of_kind fault.kind
 status_of (failure.Script name error) = status_of_kind error.kind
 status_of failure.Output = Failed
 status_of failure.Memory = Failed
+status_of failure.Thread = Failed

@@ -1,8 +1,11 @@
 -- What the words of a command line ask for, by clap's reading of a simple command.
-use Rattle.std.specs.Prelude.{◌≡◌, ◌⊎◌, List, [], Option, Some, true, codes}
-use Rattle.clap.specs.Words.{App, IsAmong, Row, Rule, Text, fault_of, first_of, new_app, new_rule, subcommand_of, with_rule, with_subcommand}
+use Rattle.std.specs.Prelude.{ℕ, ◌≡◌, ◌⊎◌, List, [], ◌∷◌, Option, Some, pos, true, codes}
+use Rattle.std.specs.Str.Parse.{IsNumeral, digits_value, without_leading_plus}
+use Rattle.clap.specs.Words.{App, IsAmong, Row, Rule, Text, fault_of, first_of, new_app, new_rule, one_of, subcommand_of, with_rule, with_subcommand}
+use Rattle.clap.specs.declared.builder.value_parser.ValueParser.TheVariants as parser
 use Rattle.clap.specs.declared.error.kind.ErrorKind.{ErrorKind}
 use Rattle.clap.specs.declared.error.kind.ErrorKind.TheVariants.{DisplayHelp, DisplayVersion, OutOfMemory}
+use Rattle.parallel_keys.specs.Workers.{IsCount}
 use Rattle.cli.specs.declared.asked.Command.{Command}
 use Rattle.cli.specs.declared.asked.Command.TheVariants.{Check, Justify, Simulate}
 use Rattle.cli.specs.declared.asked.Usage.{Usage}
@@ -12,9 +15,18 @@ use Rattle.cli.specs.declared.asked.Usage.TheVariants as usage
 abbrev pub needed_word : Text → Rule
 needed_word name = record (new_rule name) { required = true }
 
--- abd check HISTORY ORDERS
+-- the option --workers N, a number from 1 to 16, 1 where it isn't given
+abbrev pub workers_option : Rule
+workers_option = record (new_rule (codes "workers")) {
+  long = Some (codes "workers");
+  value_names = 1;
+  defaults = codes "1" ∷ [];
+  parser = Some (parser.Signed (pos 1) (pos 16));
+}
+
+-- abd check HISTORY ORDERS [--workers N]
 abbrev pub check_app : App
-check_app = with_rule (with_rule (new_app (codes "check")) (needed_word (codes "HISTORY"))) (needed_word (codes "ORDERS"))
+check_app = with_rule (with_rule (with_rule (new_app (codes "check")) (needed_word (codes "HISTORY"))) (needed_word (codes "ORDERS"))) workers_option
 
 -- abd justify HISTORY
 abbrev pub justify_app : App
@@ -39,15 +51,23 @@ pub record NamesFiles (rows : List Row) (history orders : Text) : Type 0 where
   pub history_named : first_of (codes "HISTORY") rows ≡ Some history
   pub orders_named : first_of (codes "ORDERS") rows ≡ Some orders
 
+-- the words behind `check` ask for so many workers: their number is what stands behind `--workers`, or else the 1
+pub record AsksWorkers (rows : List Row) (workers : ℕ) : Type 0 where
+  pub text : Text
+  pub given : one_of (codes "workers") rows ≡ Some text
+  pub numeral : IsNumeral 10 (without_leading_plus text)
+  pub number : digits_value 10 (without_leading_plus text) ≡ workers
+  pub few : IsCount workers
+
 -- the words behind the command's name make it that command
 abbrev pub Makes : List Row → Command → Type 0
-Makes rows (Check history orders) = NamesFiles rows history.now orders.now
+Makes rows (Check history orders workers) = NamesFiles rows history.now orders.now × AsksWorkers rows workers
 Makes rows (Justify history) = first_of (codes "HISTORY") rows ≡ Some history.now
 Makes rows (Simulate script) = first_of (codes "SCRIPT") rows ≡ Some script.now
 
 -- the command's name
 abbrev pub name_of : Command → Text
-name_of (Check history orders) = codes "check"
+name_of (Check history orders workers) = codes "check"
 name_of (Justify history) = codes "justify"
 name_of (Simulate script) = codes "simulate"
 

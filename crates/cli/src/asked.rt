@@ -1,13 +1,23 @@
 //! What a command line asks for.
+use parallel_keys::Workers;
+
 /// What a command line asks for.
 #[derive(Clone, Copy, Debug, PartialEq, Eq)]
 pub enum Command<'a> {
-    /// To judge the orders of a history's keys.
-    Check { history: &'a str, orders: &'a str },
+    /// To judge the orders of a history's keys, by so many workers.
+    Check {
+        history: &'a str,
+        orders: &'a str,
+        workers: Workers,
+    },
     /// To make the orders of a history's keys from its notes.
-    Justify { history: &'a str },
+    Justify {
+        history: &'a str,
+    },
     /// To run a script and write the history of its run.
-    Simulate { script: &'a str },
+    Simulate {
+        script: &'a str,
+    },
 }
 
 /// Why a command line asks for no command.

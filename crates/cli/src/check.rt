@@ -13,9 +13,11 @@ use crate::judging::{Halt, judge};
 use crate::status::{Failure, Status};
 use counted_devices::{CountedRead, CountedWrite};
 use history_file::{read_history, read_orders};
+use parallel_keys::Workers;
 use recorder::{History, KeyOrder};
 use std::alloc::Global;
 use std::io::Write;
+use std::sync::Wait;
 use std::thread::Threads;
 
 /// A file that was opened: its name as it was given, and its bytes.
@@ -79,12 +81,14 @@ fn orders_in<'a, R: CountedRead>(
 /// What goes to `out` is those lines, once all keys are judged, or after a failure of `out` a
 /// beginning of them; nothing where either file has a fault. A fault of the orders is answered only
 /// where the history was read whole. A failure is said on `errors`. `Good` where every line says yes,
-/// `Refused` where one says no.
+/// `Refused` where one says no. The lines and the status are the same for every number of workers,
+/// each of which judges its share of the keys.
 pub fn check_command<'a, H: CountedRead, O: CountedRead, W: CountedWrite, E: Write>(
-    rt: &(impl Threads + Sync),
+    rt: &(impl Threads + Wait + Sync),
     alloc: Global,
     history: &mut Source<'a, H>,
     orders: &mut Source<'a, O>,
+    workers: Workers,
     out: &mut W,
     errors: &mut E,
 ) -> Status
@@ -104,9 +108,10 @@ pub fn check_command<'a, H: CountedRead, O: CountedRead, W: CountedWrite, E: Wri
         Ok(orders) => orders,
         Err(failure) => return failure.report(errors),
     };
-    match judge(alloc, &history, orders, out) {
+    match judge(rt, alloc, &history, orders.as_slice(), workers, out) {
         Ok(status) => status,
         Err(Halt::Output) => Failure::Output.report(errors),
         Err(Halt::Memory) => Failure::Memory.report(errors),
+        Err(Halt::Thread) => Failure::Thread.report(errors),
     }
 }

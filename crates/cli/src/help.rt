@@ -11,12 +11,15 @@ abd simulate examples/new_then_old.script > made.history\n  \
 abd justify made.history > made.orders\n  \
 abd check made.history made.orders";
 
+/// Of the option `--workers`.
+pub const WORKERS: &str = "How many threads judge the keys, 1 to 16; the lines are the same";
+
 /// Of `abd check`.
 pub const CHECK: &str =
     "Prints one line a key, `KEY: yes` or `KEY: no` and the fault, keys in the order in which \
 the history first sees them, then those that only the orders have. One of the files may be /dev/stdin, for what is \
-piped in.\nExit status: 0 all yes, 1 a key refused, 2 usage, 3 a file can't be opened or read as its format, 4 memory \
-or a device.\n\nExample: abd check examples/two_calls.history examples/two_calls.orders";
+piped in.\nExit status: 0 all yes, 1 a key refused, 2 usage, 3 a file can't be opened or read as its format, 4 memory, \
+a device or a thread.\n\nExample: abd check examples/two_calls.history examples/two_calls.orders";
 
 /// Of `abd justify`.
 pub const JUSTIFY: &str =

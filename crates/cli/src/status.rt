@@ -19,7 +19,7 @@ pub enum Status {
     Usage,
     /// A file can't be opened, or isn't of its format.
     Format,
-    /// Want of memory, or a device that failed.
+    /// Want of memory, a device that failed, or a thread that couldn't be started.
     Failed,
 }
 
@@ -51,6 +51,8 @@ pub enum Failure<'a> {
     Output,
     #[error("no memory")]
     Memory,
+    #[error("no thread could be started")]
+    Thread,
 }
 
 /// The status of a file or a script that couldn't be read.
@@ -72,7 +74,7 @@ impl Failure<'_> {
             Failure::Closed { .. } => Status::Format,
             Failure::File { fault, .. } => kind_status(fault.kind),
             Failure::Script { error, .. } => kind_status(error.kind),
-            Failure::Output | Failure::Memory => Status::Failed,
+            Failure::Output | Failure::Memory | Failure::Thread => Status::Failed,
         }
     }
 

@@ -2,13 +2,14 @@
 ghost use Rattle.std.specs.Prelude.{◌≡◌, false, codes, IfOk, IfErr, MatchOption, map, string_bytes};
 ghost use Rattle.clap.specs.Words.{app_of, found_of, kind_of, rows_of, rule_of, subcommand_rows_of};
 ghost use Rattle.clap.specs.declared.builder.command.Command.TheViews.{out-Command as fields_of};
-ghost use Rattle.cli.specs.Words.{abd_app, bare_app, check_app, justify_app, needed_word, simulate_app, Asks, AsksNothing, MakesAs, MakesOf, Says};
+ghost use Rattle.cli.specs.Words.{abd_app, bare_app, check_app, justify_app, needed_word, simulate_app, workers_option, Asks, AsksNothing, MakesAs, MakesOf, Says};
 ghost use Rattle.cli.specs.declared.asked.Command.{Command};
 
 use crate::asked::{Command, Usage};
 use crate::help;
 use clap::error::ErrorKind;
-use clap::{Arg, ArgMatches, Error};
+use clap::{Arg, ArgMatches, Error, value_parser};
+use parallel_keys::Workers;
 use std::alloc::{AllocError, Global};
 
 /// A word that has to be there, with what help says of it.
@@ -19,7 +20,20 @@ fn needed_word<'a>(alloc: Global, name: &'a str, help: &'a str) -> Arg<'a>
     Arg::new(alloc, name).required(true).help(help)
 }
 
-/// `abd check HISTORY ORDERS`.
+/// The option `--workers N`, whose number is 1 to 16, and 1 where it isn't given.
+fn workers_option<'a>(alloc: Global) -> Arg<'a>
+    ensures rule { rule_of result ≡ workers_option }
+    ensures local { result.global ≡ false }
+{
+    Arg::new(alloc, "workers")
+        .long("workers")
+        .value_name("N")
+        .default_value("1")
+        .value_parser(value_parser!(u8).range(1..17))
+        .help(help::WORKERS)
+}
+
+/// `abd check HISTORY ORDERS [--workers N]`.
 fn check_words<'a>(alloc: Global) -> Result<clap::Command<'a>, AllocError>
     ensures app { IfOk result (λ words. app_of words ≡ check_app) }
     ensures local { IfOk result (λ words. (fields_of words).has_globals ≡ false) }
@@ -33,7 +47,7 @@ fn check_words<'a>(alloc: Global) -> Result<clap::Command<'a>, AllocError>
     let check = clap::Command::new(alloc, "check")
         .about("Judge, key by key, whether the orders show that the history is atomic")
         .after_help(help::CHECK);
-    check.arg(history)?.arg(orders)
+    check.arg(history)?.arg(orders)?.arg(workers_option(alloc))
 }
 
 /// `abd justify HISTORY`.
@@ -117,7 +131,13 @@ fn check_in<'a>(matches: &ArgMatches<'a>) -> Option<Command<'a>>
 {
     let history = matches.get_str("HISTORY")?;
     let orders = matches.get_str("ORDERS")?;
-    Some(Command::Check { history, orders })
+    let count = matches.get_one::<u8>("workers")?;
+    let workers = Workers::new(count)?;
+    Some(Command::Check {
+        history,
+        orders,
+        workers,
+    })
 }
 
 /// `justify`, of the words behind its name.

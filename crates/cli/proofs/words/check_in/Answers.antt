@@ -1,8 +1,10 @@
--- The rows of the matches are what `get_str` reads.
-use Rattle.std.proofs.Common.{◌≡◌, None, codes, List, refl, sym, ◌∙◌}
-use Rattle.clap.specs.Words.{first_of, found_of, rows_of, Row}
-use Rattle.clap.proofs.WalkLemmas.{first_value-rows}
-use Rattle.cli.specs.Words.{MakesAs}
+-- The rows of the matches are what `get_str` and `get_one` read.
+use Rattle.std.proofs.Common.{ℕ, ◌≡◌, ◌<◌, ◌^◌, Option, Some, None, Result, Ok, codes, List, refl, sym, ap, subst, ◌∙◌, arith}
+use Rattle.std.specs.Str.Parse.{IsNumeral, ParsesUnsigned, digits_value, without_leading_plus}
+use Rattle.clap.specs.Words.{Row, Text, first_of, found_of, one_of, rows_of}
+use Rattle.clap.proofs.WalkLemmas.{first_value-rows, one_text-rows}
+use Rattle.parallel_keys.specs.Workers.{IsCount}
+use Rattle.cli.specs.Words.{AsksWorkers, MakesAs}
 use Rattle.cli.specs.declared.asked.Command.{Command}
 use Rattle.cli.specs.declared.asked.Command.TheVariants.{Check, Justify, Simulate}
 use Rattle.cli.proofs.CommandNames.{check_is_not_justify, check_is_not_simulate}
@@ -10,14 +12,42 @@ use Rattle.cli.proofs.words.check_in.Goals as goal
 
 -- without the one file or the other, the rows make no command of that name
 no_history : (rows : List Row) → first_of (codes "HISTORY") rows ≡ None → (command : Command) → MakesAs (codes "check") rows command → ⊥
-no_history rows none (Check history orders) makes = let h = makes.1.history_named in cc
+no_history rows none (Check history orders workers) makes = let h = makes.1.0.history_named in cc
 no_history rows none (Justify history) makes = check_is_not_justify (sym makes.0)
 no_history rows none (Simulate script) makes = check_is_not_simulate (sym makes.0)
 
 no_orders : (rows : List Row) → first_of (codes "ORDERS") rows ≡ None → (command : Command) → MakesAs (codes "check") rows command → ⊥
-no_orders rows none (Check history orders) makes = let h = makes.1.orders_named in cc
+no_orders rows none (Check history orders workers) makes = let h = makes.1.0.orders_named in cc
 no_orders rows none (Justify history) makes = check_is_not_justify (sym makes.0)
 no_orders rows none (Simulate script) makes = check_is_not_simulate (sym makes.0)
+
+-- and without a number of workers, or with another
+no_workers : (rows : List Row) → ((workers : ℕ) → AsksWorkers rows workers → ⊥) → (command : Command) → MakesAs (codes "check") rows command → ⊥
+no_workers rows none (Check history orders workers) makes = none workers makes.1.1
+no_workers rows none (Justify history) makes = check_is_not_justify (sym makes.0)
+no_workers rows none (Simulate script) makes = check_is_not_simulate (sym makes.0)
+
+-- the text is a number of 8 bits
+abbrev IsByte : Text → Type 0
+IsByte text = IsNumeral 10 (without_leading_plus text) × (digits_value 10 (without_leading_plus text) < 2 ^ 8)
+
+no_number : (rows : List Row) → ((text : Text) → one_of (codes "workers") rows ≡ Some text → IsByte text → ⊥) → (workers : ℕ) → AsksWorkers rows workers → ⊥
+no_number rows none workers asks =
+    let small : digits_value 10 (without_leading_plus asks.text) < 256 = omega (arith, asks.number, asks.few.most) in
+    none asks.text asks.given (asks.numeral, small)
+
+too_many : (rows : List Row) (count : ℕ) → ((text : Text) → one_of (codes "workers") rows ≡ Some text → count ≡ digits_value 10 (without_leading_plus text)) → (IsCount count → ⊥) → (workers : ℕ) → AsksWorkers rows workers → ⊥
+too_many rows count read none workers asks = none (subst IsCount (sym (read asks.text asks.given ∙ asks.number)) asks.few)
+
+-- the number that was read is asked for
+asked : (rows : List Row) (count : ℕ) → ((text : Text) → one_of (codes "workers") rows ≡ Some text → IsByte text × (count ≡ digits_value 10 (without_leading_plus text))) → (one_of (codes "workers") rows ≡ None → ⊥) → IsCount count → AsksWorkers rows count
+asked rows count read some few = by (one_of (codes "workers") rows) refl
+  where
+    by : (o : Option Text) → one_of (codes "workers") rows ≡ o → AsksWorkers rows count
+    by None is = absurd (some is)
+    by (Some text) is =
+        let number = read text is in
+        record { text = text; given = is; numeral = number.0.0; number = sym number.1; few = few }
 
 pub returns-in_err-history : goal.returns-in_err-history
 returns-in_err-history c =
@@ -29,12 +59,28 @@ returns-in_err-orders c =
     let found = found_of c.args.matches.now in
     rw c.from_residual-in_err-orders.ensures (no_orders (rows_of found) (sym (first_value-rows found (codes "ORDERS")) ∙ sym c.in_err-orders.ensures))
 
+pub returns-in_err-count : goal.returns-in_err-count
+returns-in_err-count c =
+    let found = found_of c.args.matches.now in
+    rw c.from_residual-in_err-count.ensures (no_workers (rows_of found) (no_number (rows_of found) (λ text given is. (c.in_err-count.ensures.value text (one_text-rows found (codes "workers") ∙ given)).1.0 is)))
+
+pub returns-in_err-workers : goal.returns-in_err-workers
+returns-in_err-workers c =
+    let found = found_of c.args.matches.now in
+    rw c.from_residual-in_err-workers.ensures (no_workers (rows_of found) (too_many (rows_of found) c.in_ok-count.count (λ text given. (c.in_ok-count.ensures.value text (one_text-rows found (codes "workers") ∙ given)).0.1) (λ few. let some = c.in_err-workers.ensures.some.1 few in absurd (cc))))
+
 pub returns : goal.returns
 returns c =
     let found = found_of c.args.matches.now in (
       refl,
-      record {
-        history_named = sym (first_value-rows found (codes "HISTORY")) ∙ sym c.in_ok-history.ensures;
-        orders_named = sym (first_value-rows found (codes "ORDERS")) ∙ sym c.in_ok-orders.ensures;
-      },
+      (
+        record {
+          history_named = sym (first_value-rows found (codes "HISTORY")) ∙ sym c.in_ok-history.ensures;
+          orders_named = sym (first_value-rows found (codes "ORDERS")) ∙ sym c.in_ok-orders.ensures;
+        },
+        subst (λ (n : ℕ). AsksWorkers (rows_of found) n) (sym c.in_ok-workers.ensures.value) (asked (rows_of found) c.in_ok-count.count
+            (λ text given. (c.in_ok-count.ensures.value text (one_text-rows found (codes "workers") ∙ given)).0)
+            (λ none. let no = c.in_ok-count.ensures.none (one_text-rows found (codes "workers") ∙ none) in absurd (cc))
+            (c.in_ok-workers.ensures.some.0 refl)),
+      ),
     )

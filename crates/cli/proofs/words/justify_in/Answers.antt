@@ -10,7 +10,7 @@ use Rattle.cli.proofs.words.justify_in.Goals as goal
 
 -- without the file, the rows make no command of that name
 no_history : (rows : List Row) → first_of (codes "HISTORY") rows ≡ None → (command : Command) → MakesAs (codes "justify") rows command → ⊥
-no_history rows none (Check history orders) makes = check_is_not_justify makes.0
+no_history rows none (Check history orders workers) makes = check_is_not_justify makes.0
 no_history rows none (Justify history) makes = let h = makes.1 in cc
 no_history rows none (Simulate script) makes = justify_is_not_simulate (sym makes.0)
 

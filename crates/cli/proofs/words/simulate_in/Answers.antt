@@ -10,7 +10,7 @@ use Rattle.cli.proofs.words.simulate_in.Goals as goal
 
 -- without the file, the rows make no command of that name
 no_script : (rows : List Row) → first_of (codes "SCRIPT") rows ≡ None → (command : Command) → MakesAs (codes "simulate") rows command → ⊥
-no_script rows none (Check history orders) makes = check_is_not_simulate makes.0
+no_script rows none (Check history orders workers) makes = check_is_not_simulate makes.0
 no_script rows none (Justify history) makes = justify_is_not_simulate makes.0
 no_script rows none (Simulate script) makes = let h = makes.1 in cc
 

@@ -1,0 +1,15 @@
+-- Why keys weren't judged, as a judging says it.
+use Rattle.std.proofs.Common.{ℕ, ◌≡◌, refl}
+use Rattle.parallel_keys.specs.declared.error.CheckError.{CheckError}
+use Rattle.parallel_keys.specs.declared.error.CheckError.TheVariants.{Memory, Thread}
+use Rattle.cli.specs.declared.judging.Halt.TheVariants as halt
+use Rattle.cli.specs.Halts.{Halts, halt_of}
+
+-- nothing went out
+pub halted : {W : Type 0} (failures : W → ℕ) (error : CheckError) (out : W) → Halts failures (halt_of error) out out
+halted failures Memory out = refl
+halted failures Thread out = refl
+
+pub not_output : (error : CheckError) → halt_of error ≡ halt.Output → ⊥
+not_output Memory is = absurd (cc)
+not_output Thread is = absurd (cc)

@@ -1,0 +1,33 @@
+-- What is said of the verdicts, said of every key.
+use Rattle.std.proofs.lemmas.Result.{err_from_is_err_and}
+use Rattle.cli.proofs.EachKey.{judged_status}
+use Rattle.cli.proofs.Halting.{halted, not_output}
+use Rattle.cli.proofs.Told.{lines_said}
+use Rattle.cli.proofs.judging.judge.Goals as goal
+
+pub returns-in_err-judged-clause-begun : goal.returns-in_err-judged-clause-begun
+returns-in_err-judged-clause-begun g c =
+    let p = err_from_is_err_and c.from_residual.result c.from_residual.ensures.1 in
+    rw (p.1, p.2) (λ pieces joined is. absurd (not_output _ is))
+
+pub returns-in_err-judged-clause-output : goal.returns-in_err-judged-clause-output
+returns-in_err-judged-clause-output g c =
+    let p = err_from_is_err_and c.from_residual.result c.from_residual.ensures.1 in
+    rw (p.1, p.2) (halted _ _ c.args.out.now)
+
+pub returns-in-Ok-clause-judged : goal.returns-in-Ok-clause-judged
+returns-in-Ok-clause-judged g c = λ pieces joined.
+    let judges = c.in_ok-judged.ensures in
+    judged_status c.args.history.now.rows judges.parts judges.recorded pieces c.args.orders.now c.in_ok-judged.judged.items joined judges.judged c.status_of.result (rw c.as_slice-verdicts.ensures.value at c.status_of.ensures)
+
+pub returns-in-Ok-clause-said : goal.returns-in-Ok-clause-said
+returns-in-Ok-clause-said g c = λ pieces joined.
+    let text = c.in_ok-text.text.items in
+    let lines = lines_said c.args.history.now.rows pieces c.args.orders.now c.in_ok-judged.judged.items text joined c.in_ok-judged.ensures (rw c.as_slice-verdicts.ensures.value at c.in_ok-text.ensures) in
+    (text, lines, rw c.as_slice.ensures.value at c.in-Ok.ensures.written)
+
+pub returns-clause-begun : goal.returns-clause-begun
+returns-clause-begun g c = λ pieces joined is.
+    let text = c.in_ok-text.text.items in
+    let lines = lines_said c.args.history.now.rows pieces c.args.orders.now c.in_ok-judged.judged.items text joined c.in_ok-judged.ensures (rw c.as_slice-verdicts.ensures.value at c.in_ok-text.ensures) in
+    (text, lines, rw c.as_slice.ensures.value at c.in-Err.ensures.begun)
