@@ -55,6 +55,12 @@ impl<'a> Asked<'a> {
         self.value(name).parse::<usize>().unwrap_or(otherwise)
     }
 
+    /// The numbers of workers that judge: 1 unless the row says others.
+    pub fn workers(self) -> &'a str {
+        let workers = self.value("workers");
+        if workers.is_empty() { "1" } else { workers }
+    }
+
     /// The sizes of pieces in which each file of the row is read: 1, 7 and 1,048,576 bytes unless
     /// the row says others.
     pub fn sizes(self) -> &'a str {

@@ -5,8 +5,10 @@ use crate::devices::{AMPLE, Bounded, Pieces};
 use crate::formats::Counting;
 use crate::notation::bytes_of;
 use cli::{Source, Status, check_command, justify_command, simulate_command};
+use parallel_keys::Workers;
 use std::alloc::{AllocError, Global};
 use std::io::ErrorKind;
+use std::sync::Wait;
 use std::thread::Threads;
 
 /// What a command reads: a script or a history, and orders where it is to check.
@@ -17,13 +19,14 @@ struct Input<'a> {
 }
 
 /// How the devices are: the size of pieces, how the first file's reader fails at its end, if it
-/// does, and the room of the standard output and of standard error.
+/// does, and the room of the standard output and of standard error. And how many workers there are.
 #[derive(Clone, Copy)]
 struct Way {
     size: usize,
     failure: Option<ErrorKind>,
     out: usize,
     errors: usize,
+    workers: u8,
 }
 
 /// Devices that do all that is asked of them.
@@ -32,6 +35,7 @@ const WELL: Way = Way {
     failure: None,
     out: AMPLE,
     errors: AMPLE,
+    workers: 1,
 };
 
 /// What comes of a command.
@@ -61,7 +65,7 @@ fn simulated(alloc: Global, input: Input<'_>, way: Way) -> Said {
 }
 
 /// The justification of a history named `h`.
-fn justified(rt: &(impl Threads + Sync), alloc: Global, input: Input<'_>, way: Way) -> Said {
+fn justified(rt: &(impl Threads + Wait + Sync), alloc: Global, input: Input<'_>, way: Way) -> Said {
     let history = Pieces {
         left: input.file,
         size: way.size,
@@ -79,7 +83,14 @@ fn justified(rt: &(impl Threads + Sync), alloc: Global, input: Input<'_>, way: W
 }
 
 /// The check of a history named `h` and orders named `o`.
-fn checked(rt: &(impl Threads + Sync), alloc: Global, input: Input<'_>, way: Way) -> Said {
+fn checked(rt: &(impl Threads + Wait + Sync), alloc: Global, input: Input<'_>, way: Way) -> Said {
+    let Some(workers) = Workers::new(way.workers) else {
+        return Said {
+            status: Status::Usage,
+            out: Vec::new(alloc),
+            errors: Vec::new(alloc),
+        };
+    };
     let history = Pieces {
         left: input.file,
         size: way.size,
@@ -94,7 +105,15 @@ fn checked(rt: &(impl Threads + Sync), alloc: Global, input: Input<'_>, way: Way
     let mut orders = Source::new("o", Counting::new(orders));
     let mut out = Counting::new(Bounded::new(alloc, way.out));
     let mut errors = Bounded::new(alloc, way.errors);
-    let status = check_command(rt, alloc, &mut history, &mut orders, &mut out, &mut errors);
+    let status = check_command(
+        rt,
+        alloc,
+        &mut history,
+        &mut orders,
+        workers,
+        &mut out,
+        &mut errors,
+    );
     Said {
         status,
         out: out.into_inner().taken,
@@ -103,7 +122,13 @@ fn checked(rt: &(impl Threads + Sync), alloc: Global, input: Input<'_>, way: Way
 }
 
 /// The command of that name.
-fn run(rt: &(impl Threads + Sync), alloc: Global, name: &str, input: Input<'_>, way: Way) -> Said {
+fn run(
+    rt: &(impl Threads + Wait + Sync),
+    alloc: Global,
+    name: &str,
+    input: Input<'_>,
+    way: Way,
+) -> Said {
     match name {
         "simulate" => simulated(alloc, input, way),
         "justify" => justified(rt, alloc, input, way),
@@ -134,7 +159,7 @@ fn push_said(text: &mut String, name: &str, said: &Said) -> Result<(), AllocErro
 /// A check, with what it says.
 fn push_check(
     text: &mut String,
-    rt: &(impl Threads + Sync),
+    rt: &(impl Threads + Wait + Sync),
     input: Input<'_>,
     way: Way,
 ) -> Result<Status, AllocError> {
@@ -146,7 +171,7 @@ fn push_check(
 /// A justification and, where it is good, the check of its orders.
 fn push_justification(
     text: &mut String,
-    rt: &(impl Threads + Sync),
+    rt: &(impl Threads + Wait + Sync),
     input: Input<'_>,
     way: Way,
 ) -> Result<Status, AllocError> {
@@ -165,7 +190,7 @@ fn push_justification(
 /// A simulation and, where it is good, the justification of its history.
 fn push_simulation(
     text: &mut String,
-    rt: &(impl Threads + Sync),
+    rt: &(impl Threads + Wait + Sync),
     input: Input<'_>,
     way: Way,
 ) -> Result<Status, AllocError> {
@@ -183,7 +208,7 @@ fn push_simulation(
 
 /// The command of that name, and those that go on with what it wrote.
 fn chain(
-    rt: &(impl Threads + Sync),
+    rt: &(impl Threads + Wait + Sync),
     alloc: Global,
     name: &str,
     input: Input<'_>,
@@ -229,7 +254,7 @@ fn room_answer(alloc: Global, said: &Said, whole: &Said, way: Way) -> Result<Str
 /// The command with each room from none to that of all that it writes: on standard error where the
 /// row says `each-notes`, and else on the standard output.
 fn rooms(
-    rt: &(impl Threads + Sync),
+    rt: &(impl Threads + Wait + Sync),
     alloc: Global,
     asked: Asked<'_>,
     input: Input<'_>,
@@ -256,7 +281,7 @@ fn rooms(
 
 /// What comes of the row's command on one input.
 fn one(
-    rt: &(impl Threads + Sync),
+    rt: &(impl Threads + Wait + Sync),
     alloc: Global,
     asked: Asked<'_>,
     input: Input<'_>,
@@ -266,12 +291,15 @@ fn one(
     }
     let mut answers = Agreed::new(alloc);
     for size in asked.sizes().split(',') {
-        let way = Way {
-            size: size.parse::<usize>().unwrap_or(1),
-            failure: asked.failure(),
-            ..WELL
-        };
-        answers.take(chain(rt, alloc, asked.kind(), input, way)?)?;
+        for workers in asked.workers().split(',') {
+            let way = Way {
+                size: size.parse::<usize>().unwrap_or(1),
+                failure: asked.failure(),
+                workers: workers.parse::<u8>().unwrap_or(0),
+                ..WELL
+            };
+            answers.take(chain(rt, alloc, asked.kind(), input, way)?)?;
+        }
     }
     answers.text(alloc)
 }
@@ -279,7 +307,7 @@ fn one(
 /// `simulate`: each line is a script. `justify`: the lines are a history.
 /// `check`: the lines up to `orders:` are a history, those from each such line on are orders.
 pub fn command_row(
-    rt: &(impl Threads + Sync),
+    rt: &(impl Threads + Wait + Sync),
     alloc: Global,
     asked: Asked<'_>,
     lines: &str,
@@ -303,7 +331,7 @@ pub fn command_row(
 
 fn push_one(
     text: &mut String,
-    rt: &(impl Threads + Sync),
+    rt: &(impl Threads + Wait + Sync),
     asked: Asked<'_>,
     file: &[u8],
     orders: &[u8],
@@ -315,7 +343,7 @@ fn push_one(
 /// The checks of one history with several orders.
 fn push_checks(
     text: &mut String,
-    rt: &(impl Threads + Sync),
+    rt: &(impl Threads + Wait + Sync),
     asked: Asked<'_>,
     lines: &str,
 ) -> Result<(), AllocError> {
@@ -331,7 +359,7 @@ fn push_checks(
 
 /// Scripts whose lines differ in a word `SEED`: the numbers `first` to `last` of the row.
 pub fn seeds_row(
-    rt: &(impl Threads + Sync),
+    rt: &(impl Threads + Wait + Sync),
     alloc: Global,
     asked: Asked<'_>,
     lines: &str,
@@ -352,7 +380,7 @@ pub fn seeds_row(
 
 /// The three statuses, and whether there is a key.
 fn seed_answer(
-    rt: &(impl Threads + Sync),
+    rt: &(impl Threads + Wait + Sync),
     alloc: Global,
     script: Input<'_>,
 ) -> Result<String, AllocError> {

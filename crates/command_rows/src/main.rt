@@ -24,13 +24,14 @@ use readings::{Format, cuts_row, feed_history_row, feed_orders_row, files_row};
 use row_files::{Row, report};
 use std::alloc::{AllocError, Global};
 use std::process::ExitCode;
+use std::sync::Wait;
 use std::thread::Threads;
 use std::{env, fs, io};
 use wording::words_row;
 
 /// What comes of rows that read files.
 fn file_row(
-    threads: &(impl Threads + Sync),
+    threads: &(impl Threads + Wait + Sync),
     alloc: Global,
     asked: Asked<'_>,
     lines: &str,
@@ -51,7 +52,7 @@ fn file_row(
 
 /// What comes of a row.
 fn found(
-    threads: &(impl Threads + Sync),
+    threads: &(impl Threads + Wait + Sync),
     alloc: Global,
     asked: Asked<'_>,
     lines: &str,
@@ -72,7 +73,11 @@ fn found(
 }
 
 /// Says what came of a row. Whether it is as expected.
-fn say_row(rt: &HostRuntime, threads: &(impl Threads + Sync), block: &str) -> io::Result<bool> {
+fn say_row(
+    rt: &HostRuntime,
+    threads: &(impl Threads + Wait + Sync),
+    block: &str,
+) -> io::Result<bool> {
     let Some(row) = Row::read(block) else {
         rt.println("NOT A ROW")?;
         return Ok(false);
@@ -85,7 +90,11 @@ fn say_row(rt: &HostRuntime, threads: &(impl Threads + Sync), block: &str) -> io
 }
 
 /// Says what came of the rows of a file. Whether all are as expected.
-fn say_file(rt: &HostRuntime, threads: &(impl Threads + Sync), name: &str) -> io::Result<bool> {
+fn say_file(
+    rt: &HostRuntime,
+    threads: &(impl Threads + Wait + Sync),
+    name: &str,
+) -> io::Result<bool> {
     let text = fs::read_to_string(rt, name)?;
     let mut good = true;
     for block in text.as_str().split("\n### ").skip(1) {
@@ -97,7 +106,7 @@ fn say_file(rt: &HostRuntime, threads: &(impl Threads + Sync), name: &str) -> io
 }
 
 /// Goes over the files that the program's words name. Whether all rows are as expected.
-fn say_files(rt: &HostRuntime, threads: &(impl Threads + Sync)) -> io::Result<bool> {
+fn say_files(rt: &HostRuntime, threads: &(impl Threads + Wait + Sync)) -> io::Result<bool> {
     let Ok(words) = env::args(rt)?.collect::<Vec<String>>(rt.alloc()) else {
         return Ok(false);
     };

@@ -22,8 +22,13 @@ fn text_said(alloc: Global, name: &str, text: &str, word: &str) -> Result<String
 
 fn asked_said(alloc: Global, asked: Command<'_>) -> Result<String, AllocError> {
     match asked {
-        Command::Check { history, orders } => {
-            format!(in alloc; "check of [{history}] and [{orders}]\n")
+        Command::Check {
+            history,
+            orders,
+            workers,
+        } => {
+            let count = workers.count();
+            format!(in alloc; "check of [{history}] and [{orders}], workers: {count}\n")
         }
         Command::Justify { history } => format!(in alloc; "justify of [{history}]\n"),
         Command::Simulate { script } => format!(in alloc; "simulate of [{script}]\n"),
