@@ -84,11 +84,7 @@ fn simulate(rt: &HostRuntime, script: &str) -> Status {
 }
 
 /// Does what was asked for.
-fn obey(
-    rt: &HostRuntime,
-    threads: &(impl Threads + Wait + Sync),
-    asked: Command<'_>,
-) -> Status {
+fn obey(rt: &HostRuntime, threads: &(impl Threads + Wait + Sync), asked: Command<'_>) -> Status {
     match asked {
         Command::Check {
             history,
