@@ -1,7 +1,8 @@
 -- What stands at a place of a list to which something came.
-use Rattle.std.proofs.Common.{◌≡◌, ◌<◌, ◌≤◌, ◌⊎◌, ℕ, zero, suc, List, [], ◌∷◌, ◌++◌, Some, None, length, slice_get, refl, ap, ◌∙◌, inl, inr, arith, take}
+use Rattle.std.proofs.Common.{◌≡◌, ◌<◌, ◌≤◌, ◌⊎◌, ℕ, zero, suc, List, [], ◌∷◌, ◌++◌, Some, None, length, slice_get, refl, ap, ◌∙◌, inl, inr, arith, take, get_or, map, sym}
 use Rattle.std.specs.Prelude.{Contains}
-use Rattle.std.proofs.lemmas.Option.{slice_get-get_or, slice_get_within}
+use Rattle.std.specs.Option.{option_map}
+use Rattle.std.proofs.lemmas.Option.{slice_get-get_or, slice_get-map, slice_get_within}
 
 pub none_some : {A B : Type 0} {x : A} → None ≡ Some x → B
 none_some e = absurd (cc)
@@ -60,3 +61,10 @@ place_of xs x h = (h.0, slice_get-get_or xs h.0 x h.1 ∙ ap Some h.2)
 -- an element that came behind, where nothing else did
 pub behind : {X : Type 0} (start reserved now : List X) (x : X) → reserved ≡ start → now ≡ reserved ++ x ∷ [] → now ≡ start ++ x ∷ []
 behind start reserved now x same more = more ∙ ap (λ l. l ++ x ∷ []) same
+
+-- an element by its place, and what a map makes of it
+pub item_at : {X : Type 0} (xs : List X) (k : ℕ) (x : X) → k < length xs → x ≡ get_or xs k x → slice_get xs k ≡ Some x
+item_at xs k x lt is = slice_get-get_or xs k x lt ∙ ap Some (sym is)
+
+pub mapped_at : {X Y : Type 0} (v : X → Y) (xs : List X) (k : ℕ) (x : X) → k < length xs → x ≡ get_or xs k x → slice_get (map v xs) k ≡ Some (v x)
+mapped_at v xs k x lt is = slice_get-map v xs k ∙ ap (option_map v) (item_at xs k x lt is)

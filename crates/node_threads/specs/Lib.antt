@@ -4,3 +4,4 @@ pub mod Receipts
 pub mod Seats
 pub mod Answers
 pub mod Stores
+pub mod Comparisons

@@ -5,6 +5,7 @@
 //! seat's log says of a call is what the halls recorded.
 #![tactic(auto)]
 
+mod comparing;
 mod config;
 mod entry;
 mod errand;
