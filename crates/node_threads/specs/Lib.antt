@@ -5,3 +5,4 @@ pub mod Seats
 pub mod Answers
 pub mod Stores
 pub mod Comparisons
+pub mod Snapshots

@@ -14,6 +14,7 @@ mod gate;
 mod receipt;
 mod replicas;
 mod seat;
+mod snapshot;
 mod store;
 
 pub use config::StoreConfig;

@@ -1,8 +1,9 @@
 //! A running store: its halls, and a thread for each replica.
-ghost use Rattle.std.specs.Prelude.{◌≡◌, ◌≤◌, Err, true, false, [], IfOk, OnErr, OnOk};
+ghost use Rattle.std.specs.Prelude.{◌≡◌, ◌≤◌, ◌↔◌, Err, true, false, [], length, IfOk, IfSome, IsNone, OnErr, OnOk};
 ghost use Rattle.recorder.specs.Halls.{hall_of};
 ghost use Rattle.node_threads.specs.Answers.{HasFailed, IsAnswered};
 ghost use Rattle.node_threads.specs.Seats.{AreFresh};
+ghost use Rattle.node_threads.specs.Snapshots.{Shows};
 
 use crate::config::StoreConfig;
 use crate::errand::Errand;
@@ -10,9 +11,10 @@ use crate::errors::{CallError, JoinError, StartError};
 use crate::gate::Gate;
 use crate::replicas::{Parcel, serve};
 use crate::seat::{Answer, Seat};
+use crate::snapshot::shown;
 use crossbeam_channel::{Receiver, Sender, unbounded};
 use hall_turns::{ClientPass, FreePass};
-use recorder::Halls;
+use recorder::{Halls, History};
 use std::alloc::Global;
 use std::marker::Model;
 use std::sync::{Arc, Mutex, Wait};
@@ -39,7 +41,11 @@ impl<G> Model for Store<G> {
 
     ghost Value = { Store };
 
+    ghost use Rattle.std.specs.Prelude.{◌≡◌, length};
+
     ghost view = { λ s. record { number = s.number; halls = s.halls; rounds = s.rounds } };
+
+    ghost invariant = { λ s. length s.roots.items ≡ s.halls };
 }
 
 impl<G: Gate + Send + Sync + Drop + 'static> Store<G> {
@@ -58,42 +64,35 @@ impl<G: Gate + Send + Sync + Drop + 'static> Store<G> {
             ≡ record { number = config.store; halls = config.halls; rounds = config.rounds }) }
     {
         let gate = Arc::new(alloc, gate).map_err(|_| StartError::Memory)?;
-        let mut roots = open_halls(rt, alloc, config.halls, config.world)?;
+        let roots = open_halls(rt, alloc, config.halls, config.world)?;
         let (ended, ends) = unbounded(alloc).map_err(|_| StartError::Memory)?;
-        let ways = start_replicas(rt, alloc, &config, &mut roots, &gate, &ended)?;
+        let ways = start_replicas(rt, alloc, &config, &roots, &gate, &ended)?;
         Ok(Store {
             number: config.store,
             halls: config.halls,
             rounds: config.rounds,
             gate,
-            roots: behind_locks(alloc, roots)?,
+            roots,
             ways,
             ends,
         })
     }
 }
 
-/// Opens so many new halls.
+/// Opens so many new halls, and puts the way to each behind a lock of its own.
 fn open_halls<R: Wait>(
     rt: &R,
     alloc: Global,
     halls: Halls,
     world: Config,
-) -> Result<Vec<FreePass>, StartError> {
+) -> Result<Vec<Mutex<FreePass>>, StartError>
+    ensures { IfOk result (λ roots. length roots.items ≡ halls) }
+{
     let mut roots = Vec::new(alloc);
     for _ in 0..halls.count() {
-        roots.push(FreePass::open(rt, alloc, world)?)?;
+        roots.push(Mutex::new(FreePass::open(rt, alloc, world)?))?;
     }
     Ok(roots)
-}
-
-/// Puts each way to a hall behind a lock of its own.
-fn behind_locks(alloc: Global, roots: Vec<FreePass>) -> Result<Vec<Mutex<FreePass>>, StartError> {
-    let mut locked = Vec::new(alloc);
-    for root in roots {
-        locked.push(Mutex::new(root))?;
-    }
-    Ok(locked)
 }
 
 /// Starts a thread for each replica. The ways to them, by number.
@@ -101,7 +100,7 @@ fn start_replicas<R, G>(
     rt: &R,
     alloc: Global,
     config: &StoreConfig,
-    roots: &mut Vec<FreePass>,
+    roots: &[Mutex<FreePass>],
     gate: &Arc<G, Global>,
     ended: &Sender<ReplicaId>,
 ) -> Result<Vec<Sender<Parcel>>, StartError>
@@ -125,7 +124,7 @@ fn start_replica<R, G>(
     rt: &R,
     alloc: Global,
     replica: ReplicaId,
-    roots: &mut Vec<FreePass>,
+    roots: &[Mutex<FreePass>],
     gate: &Arc<G, Global>,
     ended: &Sender<ReplicaId>,
 ) -> Result<Sender<Parcel>, StartError>
@@ -134,7 +133,7 @@ where
     G: Gate + Send + Sync + Drop + 'static,
 {
     let (way, parcels) = unbounded(alloc).map_err(|_| StartError::Memory)?;
-    let passes = others(alloc, roots)?;
+    let passes = others(rt, alloc, roots)?;
     let ended = ended.clone().map_err(|_| StartError::Memory)?;
     let own = *rt;
     let theirs = Arc::try_clone(gate).map_err(|_| StartError::Memory)?;
@@ -149,10 +148,14 @@ where
 }
 
 /// Another way to each hall.
-fn others(alloc: Global, roots: &mut Vec<FreePass>) -> Result<Vec<FreePass>, StartError> {
+fn others<R: Wait>(
+    rt: &R,
+    alloc: Global,
+    roots: &[Mutex<FreePass>],
+) -> Result<Vec<FreePass>, StartError> {
     let mut passes = Vec::new(alloc);
-    for root in roots.iter_mut() {
-        passes.push(root.another()?)?;
+    for root in roots {
+        passes.push(root.lock(rt).another()?)?;
     }
     Ok(passes)
 }
@@ -220,6 +223,31 @@ impl<G: Gate> Store<G> {
             awaited: 0,
         };
         seat.call(rt, &mut errand, key, action, self.rounds)
+    }
+
+    /// A copy of a hall's record, in which the seat's calls of that hall are its client's. `None` comes
+    /// exactly for a hall that the store lacks. `Foreign` comes where the seat is another store's, or
+    /// where the record has fewer rows than the seat has seen, or other calls of its client than its log
+    /// has. A spent seat serves too.
+    pub fn snapshot<R: Wait>(
+        &self,
+        rt: &R,
+        alloc: Global,
+        seat: &Seat,
+        hall: u8,
+    ) -> Option<Result<History, CallError>>
+        ensures lacks { IsNone result ↔ (self.now.halls ≤ hall) }
+        ensures own { IfSome result (λ given. OnOk given (seat.now.store ≡ self.now.number)) }
+        ensures shown { IfSome result (λ given.
+            IfOk given (λ history. Shows history seat.now hall)) }
+    {
+        match self.roots.get(usize::from(hall)) {
+            Some(root) if seat.store() == self.number => {
+                Some(shown(rt, alloc, root, seat, hall))
+            }
+            Some(_) => Some(Err(CallError::Foreign)),
+            None => None,
+        }
     }
 
     /// Has the replica go down in each hall, where it is up. `ReplicaDown` comes only where it is down in

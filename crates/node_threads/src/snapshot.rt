@@ -1,0 +1,32 @@
+//! Copies of records, beside the log of a seat.
+ghost use Rattle.std.specs.Prelude.{IfOk};
+ghost use Rattle.node_threads.specs.Snapshots.{Shows};
+
+use crate::comparing::{is_log, of_this_hall};
+use crate::errors::CallError;
+use crate::seat::Seat;
+use hall_turns::FreePass;
+use recorder::History;
+use std::alloc::Global;
+use std::sync::{Mutex, Wait};
+
+/// A copy of the hall's record, where it has what the seat has seen of it, and its client's calls.
+pub(crate) fn shown<R: Wait>(
+    rt: &R,
+    alloc: Global,
+    root: &Mutex<FreePass>,
+    seat: &Seat,
+    hall: u8,
+) -> Result<History, CallError>
+    ensures { IfOk result (λ history. Shows history seat.now hall) }
+{
+    let history = root.lock(rt).history(rt)?;
+    let entries = of_this_hall(alloc, seat.log(), hall)?;
+    if history.rows().len() < seat.seen(hall) {
+        return Err(CallError::Foreign);
+    }
+    if !is_log(&history, seat.client(), &entries) {
+        return Err(CallError::Foreign);
+    }
+    Ok(history)
+}
