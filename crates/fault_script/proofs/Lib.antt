@@ -14,7 +14,6 @@ mod SaidBack
 mod FormFaults
 mod LineFaults
 mod ReadOnce
-mod Zips
 mod NoteSpelling
 mod RunSteps
 mod Walking

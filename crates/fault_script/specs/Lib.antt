@@ -12,7 +12,6 @@ pub mod Lines
 pub mod Scripts
 pub mod Feeds
 pub mod Deliveries
-pub mod Justified
 pub mod NoteTexts
 pub mod ScriptRuns
 pub mod Simulations

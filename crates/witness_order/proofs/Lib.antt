@@ -1,4 +1,5 @@
 mod Lists
+mod Zips
 mod Tags
 mod Parts
 pub mod Unnoted

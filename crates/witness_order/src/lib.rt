@@ -1,13 +1,16 @@
 //! The order that the tags of a part give.
 //!
 //! `order_of` sorts the settled calls of a part by their tags, in `n log n` steps. Where the tags
-//! are sound, that list is an order of the part.
+//! are sound, that list is an order of the part. `justified_orders` makes the orders of all keys of a
+//! record.
 #![tactic(auto)]
 
 mod error;
+mod justified;
 pub mod laws;
 mod sort_key;
 mod tag_order;
 
 pub use error::WitnessError;
+pub use justified::justified_orders;
 pub use tag_order::order_of;

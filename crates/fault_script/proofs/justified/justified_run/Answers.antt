@@ -3,7 +3,7 @@ use Rattle.recorder.specs.Histories.{Recorded}
 use Rattle.recorder.specs.Records.{IsPart}
 use Rattle.fault_script.proofs.justified.justified_run.Goals as goal
 
-pub key_orders-requires : goal.key_orders-requires
-key_orders-requires c = λ key part there.
+pub justified_orders-requires : goal.justified_orders-requires
+justified_orders-requires c = λ key part is.
     let h = c.into_history-history in
-    h.ensures.parts key part (subst (λ (r : Recorded). IsPart r.rows key part) h.ensures.history (c.in_ok-parts.ensures.each key part there))
+    h.ensures.parts key part (subst (λ (r : Recorded). IsPart r.rows key part) h.ensures.history is)

@@ -1,14 +1,14 @@
 use Rattle.std.proofs.Common.{◌≡◌, suc, ◌+◌, [], ◌∷◌, ◌++◌, take, sym, subst, arith}
 use Rattle.recorder.specs.Orders.{IsOrder}
-use Rattle.world_steps.proofs.Lookups.{contained}
-use Rattle.fault_script.specs.Justified.{AreOrdersOf}
-use Rattle.fault_script.proofs.Zips.{AllZip-next}
-use Rattle.fault_script.proofs.justified.key_orders.Goals as goal
+use Rattle.witness_order.proofs.Lists.{Contains-slice_get}
+use Rattle.witness_order.specs.Justified.{AreOrdersOf}
+use Rattle.witness_order.proofs.Zips.{AllZip-next}
+use Rattle.witness_order.proofs.justified.key_orders.Goals as goal
 
 pub key_order-requires : goal.key_order-requires
 key_order-requires c =
     let w = c.in-Some in
-    c.requires w.key.now w.part.now (contained c.args.parts.now.entries c.loop-index.index (w.key.now, w.part.now) (sym w.ensures.entry))
+    c.requires w.key.now w.part.now (Contains-slice_get c.args.parts.now.entries c.loop-index.index (w.key.now, w.part.now) (sym w.ensures.entry))
 
 pub loop-index-preserved : goal.loop-index-preserved
 loop-index-preserved c =

@@ -2,10 +2,15 @@
 use Rattle.std.specs.Prelude.{ℕ, ◌≡◌, List}
 use Rattle.std.specs.List.{AllZip}
 use Rattle.recorder.specs.Orders.{IsOrder}
-use Rattle.recorder.specs.Records.{AreParts}
+use Rattle.recorder.specs.Records.{AreParts, IsPart}
+use Rattle.recorder.specs.Sound.{TagSound}
 use Rattle.recorder.specs.declared.order.KeyOrder.{KeyOrder}
 use Rattle.recorder.specs.declared.part.Call.{Call}
 use Rattle.recorder.specs.declared.row.Row.{Row}
+
+-- the tags of each key's calls are sound
+abbrev pub HaveSoundTags : List Row → Type 0
+HaveSoundTags rows = (key : List ℕ) (part : List Call) → IsPart rows key part → TagSound part
 
 -- for each part, in order, an order of it under its key
 abbrev pub AreOrdersOf : List (List ℕ × List Call) → List KeyOrder → Type 0
