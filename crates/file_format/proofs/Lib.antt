@@ -5,6 +5,7 @@ pub mod WrittenLines
 pub mod WrittenFiles
 pub mod WrittenHistories
 pub mod WrittenOrders
+mod TakenLines
 pub mod Ranging
 pub mod Converting
 pub mod Looking

@@ -30,7 +30,7 @@ pub record IsGoodLine {Item : Type 0} (format : Format Item) (d : Data) (thing :
   pub back : read (compact_text d) ≡ Some d
   pub meant : format.meaning d ≡ Ok thing
 
-line_of_item : {Item : Type 0} (format : Format Item) (d : Data) (thing : Item) → IsGoodLine format d thing → IsLineOf format (compact_text d) thing
+pub line_of_item : {Item : Type 0} (format : Format Item) (d : Data) (thing : Item) → IsGoodLine format d thing → IsLineOf format (compact_text d) thing
 line_of_item format d thing h = record { short = h.short; value = d; json = (IsUtf8-compact_text d h.simple, h.back); meant = h.meant }
 
 header_simple : (name : List ℕ) → IsUtf8 name → IsSimple (header_data name)

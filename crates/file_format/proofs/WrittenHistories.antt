@@ -14,7 +14,7 @@ use Rattle.file_format.proofs.Saying.{row_there}
 use Rattle.file_format.proofs.WrittenLines.{row_simple, row_depth, row_back, row_length, says_row, line_length}
 use Rattle.file_format.proofs.WrittenFiles.{IsGoodLine, written_reads}
 
-good_row : (row : Row) → IsInRange row → IsGoodLine history_format (row_data row) row
+pub good_row : (row : Row) → IsInRange row → IsGoodLine history_format (row_data row) row
 good_row row h = record {
   simple = row_simple row h;
   short = line_length (row_data row) (row_length row h);

@@ -85,7 +85,7 @@ piece_length piece h few =
     let more = codes ",\"order\":[" ++ (calls ++ last) in
     rw (piece_bytes piece.key piece.order) (omega (arith, length-append (codes "{\"key\":") (quoted piece.key ++ more), length-append (quoted piece.key) more, length-append (codes ",\"order\":[") (calls ++ last), length-append calls last, length-quoted piece.key, short_key piece.key h.named, calls_length false piece.order h.calls))
 
-good_piece : (piece : KeyOrder) → IsOrderInRange piece → length piece.order ≤ 1000 → IsGoodLine order_format (piece_data piece) piece
+pub good_piece : (piece : KeyOrder) → IsOrderInRange piece → length piece.order ≤ 1000 → IsGoodLine order_format (piece_data piece) piece
 good_piece piece h few = record {
   simple = piece_simple piece h;
   short = line_length (piece_data piece) (piece_length piece h few);

@@ -27,11 +27,19 @@ pub enum Judgement<T> {
 }
 
 /// The line's item.
-fn item_on<T: LineItem>(alloc: Global, scratch: &mut Scratch, line: &[u8]) -> Result<T, Stop>
+fn item_on<T: LineItem>(
+    alloc: Global,
+    scratch: &mut Scratch,
+    text: &mut Vec<u8>,
+    line: &[u8],
+) -> Result<T, Stop>
     ensures { ShowsBy T.meaning line.now result }
 {
     if line.len() > LONGEST {
         return Err(Stop::Fault(LineFault::TooLong));
+    }
+    if let Some(item) = T::written_on(alloc, text, line)? {
+        return Ok(item);
     }
     let document = Document::read(alloc, line, scratch)?;
     T::item_in(alloc, &document)
@@ -41,11 +49,12 @@ fn item_on<T: LineItem>(alloc: Global, scratch: &mut Scratch, line: &[u8]) -> Re
 fn judge<T: LineItem>(
     alloc: Global,
     scratch: &mut Scratch,
+    text: &mut Vec<u8>,
     line: &[u8],
 ) -> Result<Judgement<T>, Memory>
     ensures { IfOk result (ShowsItem T.meaning line.now) }
 {
-    match item_on::<T>(alloc, scratch, line) {
+    match item_on::<T>(alloc, scratch, text, line) {
         Ok(item) => Ok(Judgement::Item(item)),
         Err(Stop::Fault(fault)) => Ok(Judgement::Fault(fault)),
         Err(Stop::Memory) => Err(Memory),
@@ -61,12 +70,13 @@ pub fn judge_part<T: LineItem>(
     ensures { IfOk result (λ run. ShowParts T.meaning (part.now ∷ []) run.items) }
 {
     let mut run = Vec::with_capacity(alloc, part.len() / USUAL)?;
+    let mut text = Vec::new(alloc);
     let mut rest = part;
     while let Some(end) = first_end(rest) {
-        run.push(judge::<T>(alloc, scratch, &rest[..end])?)?;
+        run.push(judge::<T>(alloc, scratch, &mut text, &rest[..end])?)?;
         rest = &rest[end + 1..];
     }
-    run.push(judge::<T>(alloc, scratch, rest)?)?;
+    run.push(judge::<T>(alloc, scratch, &mut text, rest)?)?;
     Ok(run)
 }
 

@@ -20,6 +20,7 @@ mod rows;
 mod texts;
 mod tree;
 mod writing;
+mod written;
 
 pub use document::Document;
 pub use fault::{FaultKind, FileFault, LineFault, Stop};
