@@ -80,6 +80,22 @@ impl Hall {
         self.journal.as_slice()
     }
 
+    /// The configuration, the world, and the steps that it took, of a hall that takes no more.
+    pub fn into_parts(self) -> (Config, World, Vec<Step>)
+        ensures config { result.0 ≡ self.config }
+        ensures world { result.1 ≡ self.world }
+        ensures journal { result.2.items ≡ self.journal }
+        ensures replay { IsReplay self }
+    {
+        let Hall {
+            config,
+            world,
+            journal,
+            ..
+        } = self;
+        (config, world, journal)
+    }
+
     /// Has the world take a step, adds it to the journal, and answers what it did.
     ///
     /// Of the refusals that apply the one with the lowest number is answered, and the hall then equals

@@ -256,6 +256,14 @@ pub record IsCopied (seen : List Row) (history : Recorded) : Type 0 where
   pub grown : Grows seen history.rows
   pub is : history ≡ hall.world.history
 
+-- that was told of the world of a hall, whose rows begin with those
+pub record IsTold (seen : List Row) (Told : System → Type 0) : Type 0 where
+  pub hall : Hall
+  pub replay : IsReplay hall
+  pub sound : IsSound hall.world
+  pub grown : Grows seen hall.world.history.rows
+  pub told : Told hall.world
+
 -- the message is for a replica
 abbrev pub IsToReplica : Option Message → Type 0
 IsToReplica (Some (ToReplica number request)) = Unit {0}

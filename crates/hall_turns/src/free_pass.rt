@@ -1,5 +1,6 @@
 //! A way to a hall without a client.
 ghost use Rattle.std.specs.Prelude.{◌≡◌, Ok, None, Some, IfOk, OnOk, OnErr, IsTrue, [], ℕ};
+ghost use Rattle.std.specs.Fn.{FnOnceReturnsAt};
 ghost use Rattle.std.specs.Option.{option_copied};
 ghost use Rattle.network.specs.Flights.{message_of};
 ghost use Rattle.network.specs.declared.messages.Message.{Message};
@@ -9,7 +10,7 @@ ghost use Rattle.world_steps.specs.SoundSystems.{IsSound};
 ghost use Rattle.world_steps.specs.declared.effect.Effect.TheVariants as effect;
 ghost use Rattle.world_steps.specs.declared.step.Step.TheVariants as event;
 ghost use Rattle.hall_journal.specs.Halls.{IsReplay, Takes};
-ghost use Rattle.hall_turns.specs.Turns.{AreRecorded, Enters, HasNoCall, IsCopied, IsToReplica, MayTake, Served};
+ghost use Rattle.hall_turns.specs.Turns.{AreRecorded, Enters, HasNoCall, IsCopied, IsToReplica, IsTold, MayTake, Served};
 
 use crate::client_pass::ClientPass;
 use crate::door::{Door, known};
@@ -20,7 +21,7 @@ use std::alloc::Global;
 use std::marker::Model;
 use std::sync::Wait;
 use tag::{ClientId, Memory, ReplicaId};
-use world_steps::{Config, Effect, Refusal, Step, laws};
+use world_steps::{Config, Effect, Refusal, Step, World, laws};
 
 /// A way to a hall that has no client, and so adds no row. A contract sees the rows that it has seen.
 #[derive(Drop)]
@@ -104,6 +105,19 @@ impl FreePass {
         copy
     }
 
+    /// One turn, in which `look` is lent the hall's world; the hall waits for it.
+    pub fn look<T, F: FnOnce(&World) -> T>(&mut self, rt: &impl Wait, look: F) -> T
+        requires { F.IsAlwaysCallable look }
+        ensures told { IsTold self.old (λ s. FnOnceReturnsAt F.FnOnce look s result) }
+        ensures seen { Grows self.old self.new }
+    {
+        let hall = self.door.receive(rt);
+        known(&hall);
+        let told = look(hall.world());
+        self.door.give_back(rt, hall);
+        told
+    }
+
     /// One turn: the client joins, and has this way from now on.
     pub fn join(self, rt: &impl Wait, client: ClientId) -> Result<ClientPass, Refusal>
         ensures client { IfOk result (λ pass. pass.client ≡ client) }
@@ -127,7 +141,7 @@ impl FreePass {
         }
     }
 
-    /// Takes the hall for good.
+    /// Takes the hall for good: whoever else has a way to it waits from now on.
     pub fn into_hall(self, rt: &impl Wait) -> Hall
         ensures rows { Grows self result.world.history.rows }
     {
