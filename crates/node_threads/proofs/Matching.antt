@@ -1,9 +1,8 @@
 -- A log beside the rows of a record, call by call.
-use Rattle.std.proofs.Common.{◌≡◌, ◌<◌, ◌≤◌, ◌⊎◌, ◌+◌, ℕ, List, [], ◌∷◌, ◌++◌, Some, None, length, slice_get, take, refl, sym, ap, ◌∙◌, subst, inl, inr, arith}
+use Rattle.std.proofs.Common.{◌≡◌, ◌<◌, ◌≤◌, ◌⊎◌, ◌+◌, ℕ, List, Some, None, length, slice_get, take, sym, ap, ◌∙◌, subst, inl, inr, arith}
 use Rattle.std.specs.Prelude.{Contains}
 use Rattle.std.proofs.lemmas.Bool.{cases_lt}
 use Rattle.std.proofs.lemmas.Option.{get_or_from_slice_get, slice_get_within}
-use Rattle.tag.specs.declared.actions.Action.{Action}
 use Rattle.tag.specs.declared.actions.Returned.{Returned}
 use Rattle.tag.specs.declared.numbers.OpId.{OpId}
 use Rattle.recorder.specs.Histories.{IsWellFormed}
@@ -11,14 +10,14 @@ use Rattle.recorder.specs.declared.part.Response.{Response}
 use Rattle.recorder.specs.declared.row.Row.{Row}
 use Rattle.recorder.specs.declared.row.Row.TheVariants.{Invoke, Respond}
 use Rattle.world_steps.specs.Sound.{At, NotCompleted}
-use Rattle.node_threads.specs.Comparisons.{AreInvocations, Begins, HasResponse, HaveResponses, IsInvocation}
+use Rattle.node_threads.specs.Comparisons.{AreInvocations, Begins, HasResponse, HaveResponses}
 use Rattle.node_threads.specs.declared.entry.Entry.{Entry}
 use Rattle.node_threads.specs.Logs.{IsLog}
 use Rattle.node_threads.proofs.Lists.{front_keeps, none_some, same_some, within}
 
 -- ---- invocations
 
-below_next : (p q : ℕ) → p < q + 1 → (p < q) ⊎ (p ≡ q)
+pub below_next : (p q : ℕ) → p < q + 1 → (p < q) ⊎ (p ≡ q)
 below_next p q lt = elim (cases_lt p q) [
   | inl before ↦ inl before
   | inr late ↦ inr (let least : q ≤ p = late in omega arith)

@@ -3,7 +3,6 @@ use Rattle.std.specs.Prelude.{ℕ, ◌≡◌, ◌<◌, ◌↔◌, List, Some, sl
 use Rattle.tag.specs.declared.actions.Action.{Action}
 use Rattle.tag.specs.declared.actions.Returned.{Returned}
 use Rattle.tag.specs.declared.numbers.OpId.{OpId}
-use Rattle.recorder.specs.declared.part.Response.{Response}
 use Rattle.recorder.specs.declared.row.Row.{Row}
 use Rattle.recorder.specs.declared.row.Row.TheVariants.{Invoke, Respond}
 use Rattle.world_steps.specs.Sound.{At}

@@ -1,3 +1,4 @@
+pub mod Numbers
 pub mod Logs
 pub mod Calls
 pub mod Receipts
@@ -6,3 +7,4 @@ pub mod Answers
 pub mod Stores
 pub mod Comparisons
 pub mod Snapshots
+pub mod Closings

@@ -16,13 +16,13 @@ use tag::{ClientId, Memory, OpId, Returned};
 pub(crate) fn of_this_hall<'a>(
     alloc: Global,
     log: &'a [Entry],
-    hall: u8,
+    hall: usize,
 ) -> Result<Vec<&'a Entry>, Memory>
     ensures { IfOk result (λ entries. map (λ e. e.now) entries.items ≡ of_hall hall log.now) }
 {
     let mut entries = Vec::new(alloc);
     for entry in log {
-        if entry.hall == hall {
+        if usize::from(entry.hall) == hall {
             entries.push(entry)?;
         }
     }

@@ -1,4 +1,7 @@
 //! Why a store answers otherwise than it was asked.
+ghost use Rattle.std.specs.Prelude.{◌≡◌};
+ghost use Rattle.node_threads.specs.Numbers.{call_error_name, call_error_number, close_error_name, close_error_number, join_error_number, start_error_number};
+
 use std::alloc::{AllocError, AllocFailed};
 use tag::Memory;
 use thiserror::Error;
@@ -46,6 +49,97 @@ pub enum CallError {
     /// A growth was refused. Before the call began all is as before; later it is as after `Unavailable`.
     #[error("memory")]
     Memory,
+}
+
+/// Why a closed store leaves nothing.
+#[derive(Clone, Copy, Debug, PartialEq, Eq, Error)]
+pub enum CloseError {
+    /// A seat is another store's, or has other calls in its log than a hall's record.
+    #[error("seat mismatch")]
+    SeatMismatch,
+    /// A growth was refused.
+    #[error("memory")]
+    Memory,
+}
+
+impl StartError {
+    /// Its number in the order of the reasons, 1 or 2.
+    pub fn number(self) -> u8
+        ensures { result ≡ start_error_number self }
+    {
+        match self {
+            StartError::Memory => 1,
+            StartError::Thread => 2,
+        }
+    }
+}
+
+impl JoinError {
+    /// Its number in the order of the reasons, 1 or 2.
+    pub fn number(self) -> u8
+        ensures { result ≡ join_error_number self }
+    {
+        match self {
+            JoinError::ClientTaken => 1,
+            JoinError::Memory => 2,
+        }
+    }
+}
+
+impl CallError {
+    /// Its number in the order of the reasons, 1 to 5.
+    pub fn number(self) -> u8
+        ensures { result ≡ call_error_number self }
+    {
+        match self {
+            CallError::Unavailable => 1,
+            CallError::SeatSpent => 2,
+            CallError::Foreign => 3,
+            CallError::Full => 4,
+            CallError::Memory => 5,
+        }
+    }
+
+    /// Its name, as it stands here.
+    pub fn name(self) -> &'static str
+        ensures { result.now ≡ call_error_name self }
+    {
+        match self {
+            CallError::Unavailable => "Unavailable",
+            CallError::SeatSpent => "SeatSpent",
+            CallError::Foreign => "Foreign",
+            CallError::Full => "Full",
+            CallError::Memory => "Memory",
+        }
+    }
+}
+
+impl CloseError {
+    /// Its number in the order of the reasons, 1 or 2.
+    pub fn number(self) -> u8
+        ensures { result ≡ close_error_number self }
+    {
+        match self {
+            CloseError::SeatMismatch => 1,
+            CloseError::Memory => 2,
+        }
+    }
+
+    /// Its name, as it stands here.
+    pub fn name(self) -> &'static str
+        ensures { result.now ≡ close_error_name self }
+    {
+        match self {
+            CloseError::SeatMismatch => "SeatMismatch",
+            CloseError::Memory => "Memory",
+        }
+    }
+}
+
+impl From<Memory> for CloseError {
+    fn from(_: Memory) -> CloseError {
+        CloseError::Memory
+    }
 }
 
 impl From<AllocError> for CallError {

@@ -2,9 +2,11 @@
 //!
 //! `Store::start` makes the halls and starts the replicas; `Store::join` gives a client its seat;
 //! `Store::call` makes a call on a seat, in rounds of messages that a `Gate` may lose or double. What a
-//! seat's log says of a call is what the halls recorded.
+//! seat's log says of a call is what the halls recorded. `Store::close` ends the store, and gives the halls'
+//! records with orders that show them atomic.
 #![tactic(auto)]
 
+mod closing;
 mod comparing;
 mod config;
 mod entry;
@@ -17,9 +19,10 @@ mod seat;
 mod snapshot;
 mod store;
 
+pub use closing::{Closed, ClosedHall};
 pub use config::StoreConfig;
 pub use entry::Entry;
-pub use errors::{CallError, JoinError, StartError};
+pub use errors::{CallError, CloseError, JoinError, StartError};
 pub use gate::{Gate, OpenGate, Passage, Place};
 pub use receipt::Receipt;
 pub use seat::{Answer, Seat};

@@ -20,8 +20,9 @@ pub(crate) fn shown<R: Wait>(
 ) -> Result<History, CallError>
     ensures { IfOk result (λ history. Shows history seat.now hall) }
 {
+    let at = usize::from(hall);
     let history = root.lock(rt).history(rt)?;
-    let entries = of_this_hall(alloc, seat.log(), hall)?;
+    let entries = of_this_hall(alloc, seat.log(), at)?;
     if history.rows().len() < seat.seen(hall) {
         return Err(CallError::Foreign);
     }

@@ -1,13 +1,17 @@
 //! A running store: its halls, and a thread for each replica.
 ghost use Rattle.std.specs.Prelude.{◌≡◌, ◌≤◌, ◌↔◌, Err, true, false, [], length, IfOk, IfSome, IsNone, OnErr, OnOk};
 ghost use Rattle.recorder.specs.Halls.{hall_of};
+ghost use Rattle.std.specs.Fn.{FnOnceReturnsAt};
+ghost use Rattle.hall_turns.specs.Turns.{IsTold};
 ghost use Rattle.node_threads.specs.Answers.{HasFailed, IsAnswered};
+ghost use Rattle.node_threads.specs.Closings.{Closes, HasForeign};
 ghost use Rattle.node_threads.specs.Seats.{AreFresh};
 ghost use Rattle.node_threads.specs.Snapshots.{Shows};
 
+use crate::closing::{Closed, are_logged, are_of_store, closed_halls, end_replicas};
 use crate::config::StoreConfig;
 use crate::errand::Errand;
-use crate::errors::{CallError, JoinError, StartError};
+use crate::errors::{CallError, CloseError, JoinError, StartError};
 use crate::gate::Gate;
 use crate::replicas::{Parcel, serve};
 use crate::seat::{Answer, Seat};
@@ -21,7 +25,7 @@ use std::sync::{Arc, Mutex, Wait};
 use std::thread;
 use std::thread::Threads;
 use tag::{Action, ClientId, Key, OpId, ReplicaId};
-use world_steps::{Config, Refusal, Step};
+use world_steps::{Config, Refusal, Step, World};
 
 /// A running store. Each replica is served by a thread of its own, in all halls; they end when the store
 /// is let go.
@@ -250,6 +254,19 @@ impl<G: Gate> Store<G> {
         }
     }
 
+    /// Lends `look` the world of a hall, for one turn: the hall waits for it. `None` comes exactly for a hall
+    /// that the store lacks, where `look` isn't called.
+    pub fn look<R: Wait, T, F: FnOnce(&World) -> T>(&self, rt: &R, hall: u8, look: F) -> Option<T>
+        requires { F.IsAlwaysCallable look }
+        ensures lacks { IsNone result ↔ (self.now.halls ≤ hall) }
+        ensures told { IfSome result (λ told. IsTold [] (λ s. FnOnceReturnsAt F.FnOnce look s told)) }
+    {
+        match self.roots.get(usize::from(hall)) {
+            Some(root) => Some(root.lock(rt).look(rt, look)),
+            None => None,
+        }
+    }
+
     /// Has the replica go down in each hall, where it is up. `ReplicaDown` comes only where it is down in
     /// each, `NoSuchReplica` before any step. After `Memory` the halls below the one that refused are done,
     /// and the call may be made again.
@@ -278,6 +295,43 @@ impl<G: Gate> Store<G> {
             }
         }
         done
+    }
+}
+
+impl<G: Gate + Drop> Store<G> {
+    /// Ends the store, and gives what its halls leave: of each its record, the steps that made it, and for
+    /// each key an order that shows the key's calls atomic.
+    ///
+    /// It has the replicas' threads end and waits for them, takes each hall for good, and compares the log
+    /// of each seat with its client's calls in the records. `SeatMismatch` comes where a seat is another
+    /// store's, or has other calls; `Memory` only where a growth was refused. The store is ended in every
+    /// case.
+    pub fn close<R: Wait>(
+        self,
+        rt: &R,
+        alloc: Global,
+        seats: Vec<Seat>,
+    ) -> Result<Closed, CloseError>
+        ensures closed { IfOk result (λ closed. Closes self seats.items closed.halls.items) }
+        ensures foreign { HasForeign self.number seats.items
+            → result ≡ Err CloseError.SeatMismatch }
+    {
+        let Store {
+            number,
+            roots,
+            ways,
+            ends,
+            ..
+        } = self;
+        end_replicas(rt, ways, &ends);
+        if !are_of_store(number, roots.len(), &seats) {
+            return Err(CloseError::SeatMismatch);
+        }
+        let halls = closed_halls(rt, alloc, roots)?;
+        if !are_logged(alloc, &halls, &seats)? {
+            return Err(CloseError::SeatMismatch);
+        }
+        Ok(Closed { halls })
     }
 }
 

@@ -1,6 +1,6 @@
 use Rattle.std.proofs.Common.{Some, ap, map, refl, ◌∙◌}
 use Rattle.node_threads.proofs.Lists.{item_at, mapped_at}
-use Rattle.node_threads.proofs.Matching.{begun_next, none_begun, passed_over}
+use Rattle.node_threads.proofs.Matching.{begun_next, passed_over}
 use Rattle.node_threads.proofs.comparing.are_invocations.Goals as goal
 use Rattle.node_threads.proofs.comparing.are_invocations.Goals.{then-begins+else-count-entries+else-entry-place+else-not-is_invocation, else-begins}
 

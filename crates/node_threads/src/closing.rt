@@ -1,0 +1,119 @@
+//! What a closed store leaves: the records of its halls, and the orders that show them atomic.
+ghost use Rattle.std.specs.Prelude.{◌≡◌, length, IfOk, IsTrue};
+ghost use Rattle.node_threads.specs.Closings.{AreClosed, AreOfStore, HasLogs, HaveLogs, IsClosed};
+
+use crate::comparing::{is_log, of_this_hall};
+use crate::errors::CloseError;
+use crate::replicas::Parcel;
+use crate::seat::Seat;
+use crossbeam_channel::{Receiver, Sender};
+use hall_journal::Hall;
+use hall_turns::FreePass;
+use recorder::{History, KeyOrder};
+use std::alloc::Global;
+use std::sync::{Mutex, Wait};
+use tag::{Memory, ReplicaId};
+use witness_order::justified_orders;
+use world_steps::{Config, Step};
+
+/// What a hall of a closed store leaves.
+#[derive(Drop)]
+pub struct ClosedHall {
+    /// What was fixed of its world.
+    pub config: Config,
+    /// Its record.
+    pub history: History,
+    /// The steps that it took, the first first.
+    pub journal: Vec<Step>,
+    /// For each key of the record an order of its calls, the keys as the record first sees them.
+    pub orders: Vec<KeyOrder>,
+}
+
+/// What a closed store leaves.
+#[derive(Drop)]
+pub struct Closed {
+    /// Its halls, hall 0 first.
+    pub halls: Vec<ClosedHall>,
+}
+
+/// Has the replicas' threads end, and waits until they have.
+pub(crate) fn end_replicas<R: Wait>(rt: &R, ways: Vec<Sender<Parcel>>, ends: &Receiver<ReplicaId>) {
+    let count = ways.len();
+    drop(ways);
+    for _ in 0..count {
+        let _ = ends.recv(rt);
+    }
+}
+
+/// Whether the seats are of the store of that number, which has so many halls.
+pub(crate) fn are_of_store(number: u64, halls: usize, seats: &[Seat]) -> bool
+    ensures { IsTrue result → AreOfStore number halls seats.now (length seats.now) }
+{
+    for seat in seats {
+        if seat.store() != number || seat.halls() != halls {
+            return false;
+        }
+    }
+    true
+}
+
+/// Takes the halls for good: the record of each, and its orders.
+pub(crate) fn closed_halls<R: Wait>(
+    rt: &R,
+    alloc: Global,
+    roots: Vec<Mutex<FreePass>>,
+) -> Result<Vec<ClosedHall>, Memory>
+    ensures count { IfOk result (λ halls. length halls.items ≡ length roots.items) }
+    ensures closed { IfOk result (λ halls. AreClosed halls.items) }
+{
+    let mut halls = Vec::new(alloc);
+    for root in roots {
+        let hall = root.into_inner().into_hall(rt);
+        halls.push(closed_hall(alloc, hall)?)?;
+    }
+    Ok(halls)
+}
+
+/// The record of a hall, and its orders.
+fn closed_hall(alloc: Global, hall: Hall) -> Result<ClosedHall, Memory>
+    ensures { IfOk result (λ closed. IsClosed closed) }
+{
+    let (config, world, journal) = hall.into_parts();
+    let history = world.into_history();
+    let orders = justified_orders(alloc, &history)?;
+    Ok(ClosedHall {
+        config,
+        history,
+        journal,
+        orders,
+    })
+}
+
+/// Whether each seat's entries of each hall are its client's calls in that hall's record.
+pub(crate) fn are_logged(
+    alloc: Global,
+    halls: &[ClosedHall],
+    seats: &[Seat],
+) -> Result<bool, Memory>
+    ensures { IfOk result (λ logged. IsTrue logged → HaveLogs halls.now seats.now (length seats.now)) }
+{
+    for seat in seats {
+        if !is_logged(alloc, halls, seat)? {
+            return Ok(false);
+        }
+    }
+    Ok(true)
+}
+
+/// Whether the seat's entries of each hall are its client's calls in that hall's record.
+fn is_logged(alloc: Global, halls: &[ClosedHall], seat: &Seat) -> Result<bool, Memory>
+    ensures { IfOk result (λ logged. IsTrue logged → HasLogs halls.now (length halls.now) seat.now) }
+{
+    for hall in 0..halls.len() {
+        let entries = of_this_hall(alloc, seat.log(), hall)?;
+        if !is_log(&halls[hall].history, seat.client(), &entries) {
+            return Ok(false);
+        }
+    }
+    Ok(true)
+}
