@@ -1,8 +1,10 @@
 //! A store of three replicas and two halls, as a program would use it: two callers in threads of their own
-//! write and read, while every fifth parcel is lost.
+//! write and read, while every fifth parcel is lost. The store is then closed, and the order of each key's
+//! calls that it leaves is judged.
 #![tactic(auto)]
 
-use node_threads::{Gate, Passage, Place, Seat, Store, StoreConfig};
+use certificate_check::check_part;
+use node_threads::{Closed, ClosedHall, Gate, Passage, Place, Seat, Store, StoreConfig};
 use recorder::Halls;
 use std::alloc::Global;
 use std::process::ExitCode;
@@ -71,7 +73,7 @@ fn caller<R: Wait, G: Gate>(
     rt: &R,
     alloc: Global,
     store: &Store<G>,
-    mut seat: Seat,
+    seat: &mut Seat,
     key: &Key,
     turns: u32,
 ) -> Tally {
@@ -81,7 +83,7 @@ fn caller<R: Wait, G: Gate>(
     };
     for turn in 0..turns {
         let text = if turn % 2 == 0 { "even" } else { "odd" };
-        match write_and_read(rt, alloc, store, &mut seat, key, text) {
+        match write_and_read(rt, alloc, store, seat, key, text) {
             Some(is_right) => {
                 tally.answered = u32::saturating_add(tally.answered, 2);
                 if is_right {
@@ -94,8 +96,8 @@ fn caller<R: Wait, G: Gate>(
     tally
 }
 
-/// Starts the store and has two callers call it.
-fn run<R>(rt: &R, alloc: Global) -> Option<(Tally, Tally)>
+/// A store of three replicas and two halls.
+fn start<R>(rt: &R, alloc: Global) -> Option<Store<EveryFifth>>
 where
     R: Threads + Wait + Copy + Send + Sync + 'static,
 {
@@ -108,29 +110,69 @@ where
     let gate = EveryFifth {
         parcels: AtomicU64::new(0),
     };
-    let store = Store::start(rt, alloc, config, gate).ok()?;
-    let first = store.join(rt, alloc, ClientId::new(1).ok()?).ok()?;
-    let second = store.join(rt, alloc, ClientId::new(2).ok()?).ok()?;
+    Store::start(rt, alloc, config, gate).ok()
+}
+
+/// Has two callers call a store, each on a key of its own, and closes it. What they saw, and what the store leaves.
+fn run<R>(rt: &R, alloc: Global) -> Option<(Tally, Tally, Closed)>
+where
+    R: Threads + Wait + Copy + Send + Sync + 'static,
+{
+    let store = start(rt, alloc)?;
+    let mut first = store.join(rt, alloc, ClientId::new(1).ok()?).ok()?;
+    let mut second = store.join(rt, alloc, ClientId::new(2).ok()?).ok()?;
     let apples = Key::new(alloc, "apples").ok()?;
-    let pears = Key::new(alloc, "pears").ok()?;
+    let limes = Key::new(alloc, "limes").ok()?;
     let shared = &store;
-    let (keys_one, keys_two) = (&apples, &pears);
-    Some(thread::join(
+    let (keys_one, keys_two) = (&apples, &limes);
+    let (seat_one, seat_two) = (&mut first, &mut second);
+    let (one, two) = thread::join(
         rt,
-        move || caller(rt, alloc, shared, first, keys_one, 25),
-        move || caller(rt, alloc, shared, second, keys_two, 25),
+        move || caller(rt, alloc, shared, seat_one, keys_one, 25),
+        move || caller(rt, alloc, shared, seat_two, keys_two, 25),
+    );
+    let mut seats = Vec::new(alloc);
+    seats.push(first).ok()?;
+    seats.push(second).ok()?;
+    let closed = store.close(rt, alloc, seats).ok()?;
+    Some((one, two, closed))
+}
+
+/// A line for each key of a hall: how many calls its order has, and the verdict on it.
+fn verdicts(alloc: Global, hall: &ClosedHall) -> Option<String> {
+    let parts = hall.history.parts().ok()?;
+    let mut lines = String::new(alloc);
+    for key_order in &hall.orders {
+        let order = key_order.order.as_slice();
+        let verdict = check_part(alloc, parts.get(&key_order.key)?, order).ok()?;
+        let (name, count) = (key_order.key.as_str(), order.len());
+        let line = format!(in alloc; "{name}, an order of {count} calls: {verdict}\n").ok()?;
+        lines.push_str(line.as_str()).ok()?;
+    }
+    Some(lines)
+}
+
+/// Says what the callers saw, and the verdict on each key.
+fn say<R>(rt: &HostRuntime, threads: &R) -> Option<()>
+where
+    R: Threads + Wait + Copy + Send + Sync + 'static,
+{
+    let (one, two, closed) = run(threads, rt.alloc())?;
+    rt.println(format_args!(
+        "answered {} and {}, right {} and {}",
+        one.answered, two.answered, one.right, two.right
     ))
+    .ok()?;
+    for hall in &closed.halls {
+        let lines = verdicts(rt.alloc(), hall)?;
+        rt.print(lines.as_str()).ok()?;
+    }
+    Some(())
 }
 
 fn main(rt: HostRuntime) -> ExitCode {
-    match run(&rt, rt.alloc()) {
-        Some((one, two)) => {
-            let _ = println!(rt;
-                "answered {} and {}, right {} and {}",
-                one.answered, two.answered, one.right, two.right
-            );
-            ExitCode::SUCCESS
-        }
+    match say(&rt, &rt) {
+        Some(()) => ExitCode::SUCCESS,
         None => ExitCode::FAILURE,
     }
 }

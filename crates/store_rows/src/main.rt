@@ -2,17 +2,90 @@
 #![tactic(auto)]
 
 mod gates;
+mod loads;
 mod rows;
 mod scene;
+mod signals;
+mod waits;
 
+use crate::loads::{FOUR_HALLS, PLAIN, SHORT, VOTES, four_callers, four_callers_twice};
 use crate::rows::{
     few_calls, few_flights, lost_replies, name_taken, stopped_replicas, two_stores, written_twice,
 };
+use crate::waits::{
+    answered_beside_a_looker, held_until_another_is_answered, one_stopped_at_each_place,
+    two_replicas_at_once, two_stopped_at_each_place,
+};
 use std::process::ExitCode;
+use std::sync::Wait;
+use std::thread::Threads;
+use std::time::Clock;
 
 /// Prints a row.
 fn show(rt: &HostRuntime, name: &str, found: Option<&str>) {
     let _ = println!(rt; "{}: {}", name, found.unwrap_or("not run"));
+}
+
+/// Rows of four callers.
+fn show_loads<R>(rt: &HostRuntime, threads: &R)
+where
+    R: Threads + Wait + Copy + Send + Sync + 'static,
+{
+    let alloc = rt.alloc();
+    show(rt, "four callers", four_callers(threads, alloc, &PLAIN));
+    show(
+        rt,
+        "four callers in four halls",
+        four_callers(threads, alloc, &FOUR_HALLS),
+    );
+    show(
+        rt,
+        "four callers whose reads are short",
+        four_callers(threads, alloc, &SHORT),
+    );
+    show(
+        rt,
+        "four callers of replicas with votes",
+        four_callers(threads, alloc, &VOTES),
+    );
+    show(
+        rt,
+        "four callers whose parcels go twice",
+        four_callers_twice(threads, alloc, &PLAIN),
+    );
+}
+
+/// Rows in which threads wait for each other.
+fn show_waits<R>(rt: &HostRuntime, threads: &R)
+where
+    R: Threads + Wait + Clock + Copy + Send + Sync + 'static,
+{
+    let alloc = rt.alloc();
+    show(
+        rt,
+        "an answer that is held until another caller has his",
+        held_until_another_is_answered(threads, alloc),
+    );
+    show(
+        rt,
+        "two replicas at once",
+        two_replicas_at_once(threads, alloc),
+    );
+    show(
+        rt,
+        "a call in one hall beside a looker in another",
+        answered_beside_a_looker(threads, alloc),
+    );
+    show(
+        rt,
+        "a replica of three stopped at each place",
+        one_stopped_at_each_place(threads, alloc),
+    );
+    show(
+        rt,
+        "two replicas of three stopped at each place",
+        two_stopped_at_each_place(threads, alloc),
+    );
 }
 
 fn main(rt: HostRuntime) -> ExitCode {
@@ -28,5 +101,7 @@ fn main(rt: HostRuntime) -> ExitCode {
         stopped_replicas(&rt, alloc),
     );
     show(&rt, "a name that joined", name_taken(&rt, alloc));
+    show_loads(&rt, &rt);
+    show_waits(&rt, &rt);
     ExitCode::SUCCESS
 }

@@ -1,7 +1,8 @@
 //! The rows.
 use crate::gates::{LosesReplies, Twins};
-use crate::scene::{failed, gave_a, read, seat_of, store_of, word, write};
-use node_threads::{CallError, JoinError, OpenGate};
+use crate::scene::{are_atomic, both, failed, gave_a, read, seat_of, store_of, word, write};
+use node_threads::{CallError, CloseError, JoinError, OpenGate};
+use recorder::Row;
 use std::alloc::Global;
 use std::sync::Wait;
 use std::thread::Threads;
@@ -21,7 +22,8 @@ where
     Some(word(first && second && third && !seat.is_spent()))
 }
 
-/// A call that runs out of flights leaves its seat spent, with one pending entry.
+/// A call that runs out of flights leaves its seat spent, with one pending entry, and the record has the one pending
+/// call.
 pub fn few_flights<R>(rt: &R, alloc: Global) -> Option<&'static str>
 where
     R: Threads + Wait + Copy + Send + 'static,
@@ -30,10 +32,19 @@ where
     let mut seat = seat_of(rt, alloc, &store, 1)?;
     let first = failed(read(rt, alloc, &store, &mut seat), CallError::Full);
     let second = failed(read(rt, alloc, &store, &mut seat), CallError::SeatSpent);
-    Some(word(first && second && seat.is_spent() && seat.log().len() == 1))
+    let spent = seat.is_spent() && seat.log().len() == 1;
+    let mut seats = Vec::new(alloc);
+    seats.push(seat).ok()?;
+    let closed = store.close(rt, alloc, seats).ok()?;
+    let [hall] = closed.halls.as_slice() else {
+        return None;
+    };
+    let pending = matches!(hall.history.rows(), [Row::Invoke { .. }]);
+    Some(word(first && second && spent && pending && are_atomic(alloc, &closed)))
 }
 
-/// A receipt of another store isn't met, and a seat makes no call in another store.
+/// A receipt of another store isn't met, a seat makes no call in another store and is shown no record of it, and a
+/// store isn't closed with a seat of another.
 pub fn two_stores<R>(rt: &R, alloc: Global) -> Option<&'static str>
 where
     R: Threads + Wait + Copy + Send + 'static,
@@ -45,7 +56,13 @@ where
     let receipt = write(rt, alloc, &two, &mut other).ok()?.receipt;
     let met = own.meet(&receipt) == Err(CallError::Foreign);
     let called = failed(read(rt, alloc, &two, &mut own), CallError::Foreign);
-    Some(word(met && called && own.seen(0) == 0 && own.log().is_empty()))
+    let same = own.seen(0) == 0 && own.log().is_empty();
+    let shown = two.snapshot(rt, alloc, &own, 0);
+    let foreign = matches!(shown, Some(Err(CallError::Foreign)));
+    let missing = one.snapshot(rt, alloc, &own, 1).is_none();
+    let closed = one.close(rt, alloc, both(alloc, own, other)?);
+    let mismatch = matches!(closed, Err(CloseError::SeatMismatch));
+    Some(word(met && called && same && foreign && missing && mismatch))
 }
 
 /// Without a reply a call is unavailable, and its seat is spent.

@@ -1,11 +1,26 @@
 //! Stores, seats and calls as rows name them.
-use node_threads::{Answer, CallError, Gate, Seat, Store, StoreConfig};
+ghost use Rattle.std.specs.Prelude.{◌≡◌, IfSome};
+
+use certificate_check::{Verdict, check_part};
+use node_threads::{Answer, CallError, Closed, ClosedHall, Gate, Seat, Store, StoreConfig};
 use recorder::Halls;
 use std::alloc::Global;
 use std::sync::Wait;
 use std::thread::Threads;
 use tag::{Action, ClientId, Key, Value};
 use world_steps::Config;
+
+/// What is fixed of a store of so many replicas and halls, whose calls make so many rounds.
+pub fn config_of(replicas: u8, rounds: u16, halls: u8) -> Option<StoreConfig>
+    ensures { IfSome result (λ config. config.rounds ≡ rounds) }
+{
+    Some(StoreConfig {
+        store: 1,
+        world: Config::new(replicas, 1000, 1_000_000)?,
+        rounds,
+        halls: Halls::new(halls)?,
+    })
+}
 
 /// A store of three replicas and one hall.
 pub fn store_of<R, G>(
@@ -80,6 +95,50 @@ pub fn gave_a(call: Result<Answer, CallError>) -> bool {
         },
         Err(_) => false,
     }
+}
+
+/// Both seats.
+pub fn both(alloc: Global, one: Seat, other: Seat) -> Option<Vec<Seat>> {
+    let mut seats = Vec::new(alloc);
+    seats.push(one).ok()?;
+    seats.push(other).ok()?;
+    Some(seats)
+}
+
+/// Whether the store closes with these seats, and leaves for each key an order of its calls.
+pub fn closes<R: Wait, G: Gate + Drop>(
+    rt: &R,
+    alloc: Global,
+    store: Store<G>,
+    seats: Vec<Seat>,
+) -> bool {
+    match store.close(rt, alloc, seats) {
+        Ok(closed) => are_atomic(alloc, &closed),
+        Err(_) => false,
+    }
+}
+
+/// Whether each key of each hall has an order that is one of its calls.
+pub fn are_atomic(alloc: Global, closed: &Closed) -> bool {
+    for hall in &closed.halls {
+        if is_atomic(alloc, hall) != Some(true) {
+            return false;
+        }
+    }
+    true
+}
+
+/// Whether each key of the hall has an order that is one of its calls.
+fn is_atomic(alloc: Global, hall: &ClosedHall) -> Option<bool> {
+    let parts = hall.history.parts().ok()?;
+    for key_order in &hall.orders {
+        let part = parts.get(&key_order.key)?;
+        let verdict = check_part(alloc, part, key_order.order.as_slice()).ok()?;
+        if verdict != Verdict::Yes {
+            return Some(false);
+        }
+    }
+    Some(parts.len() == hall.orders.len())
 }
 
 /// What a row says.

@@ -1,0 +1,238 @@
+//! Rows of four callers, of 50 calls each, over two keys.
+ghost use Rattle.std.specs.Prelude.{◌≡◌, IfSome};
+
+use crate::gates::{FifthAndSeventh, Twins};
+use crate::scene::{are_atomic, config_of, seat_of, word};
+use client_phases::ReadMode;
+use node_threads::{Closed, Gate, Seat, Store, StoreConfig};
+use quorum::Quorums;
+use recorder::Row;
+use std::alloc::Global;
+use std::sync::Wait;
+use std::sync::atomic::AtomicU64;
+use std::thread;
+use std::thread::Threads;
+use tag::{Action, Key, Value};
+
+/// What is fixed of a row's store.
+pub struct Fixed {
+    halls: u8,
+    reads: ReadMode,
+    has_votes: bool,
+}
+
+pub const PLAIN: Fixed = Fixed {
+    halls: 1,
+    reads: ReadMode::Full,
+    has_votes: false,
+};
+
+pub const FOUR_HALLS: Fixed = Fixed {
+    halls: 4,
+    reads: ReadMode::Full,
+    has_votes: false,
+};
+
+pub const SHORT: Fixed = Fixed {
+    halls: 1,
+    reads: ReadMode::Short,
+    has_votes: false,
+};
+
+pub const VOTES: Fixed = Fixed {
+    halls: 1,
+    reads: ReadMode::Full,
+    has_votes: true,
+};
+
+/// How many calls each caller makes.
+const TURNS: u32 = 50;
+
+/// What is fixed of the store.
+fn store_config(fixed: &Fixed) -> Option<StoreConfig>
+    ensures { IfSome result (λ config. config.rounds ≡ 1000) }
+{
+    let plain = config_of(3, 1000, fixed.halls)?;
+    let read = plain.world.with_reads(fixed.reads);
+    let world = if fixed.has_votes {
+        read.with_quorums(Quorums::new(&[1, 1, 3], 3, 3)?)?
+    } else {
+        read
+    };
+    Some(StoreConfig { world, ..plain })
+}
+
+/// What the caller does at the turn: caller 1 writes `k0` and reads it, in turn; others read `k0`, and write `k1` or
+/// read it.
+fn is_write(caller: u32, turn: u32) -> bool {
+    if caller == 1 {
+        return turn % 2 == 0;
+    }
+    turn % 2 == 1 && u32::wrapping_add(turn / 2, caller) % 2 == 0
+}
+
+/// The text that the caller writes at the turn.
+fn text_of(alloc: Global, caller: u32, turn: u32) -> Option<String> {
+    format!(in alloc; "c{caller}t{turn}").ok()
+}
+
+/// Makes the call of that turn. Whether it was answered, and a read by caller 1 gave what he wrote last.
+fn is_made<R: Wait, G: Gate>(
+    rt: &R,
+    alloc: Global,
+    store: &Store<G>,
+    seat: &mut Seat,
+    caller: u32,
+    turn: u32,
+) -> Option<bool> {
+    let name = if caller == 1 || turn % 2 == 0 {
+        "k0"
+    } else {
+        "k1"
+    };
+    let key = Key::new(alloc, name).ok()?;
+    let action = if is_write(caller, turn) {
+        Action::Write(Value::new(alloc, text_of(alloc, caller, turn)?.as_str()).ok()?)
+    } else {
+        Action::Read
+    };
+    let answer = store.call(rt, alloc, seat, key, action).ok()?;
+    if caller != 1 || turn % 2 == 0 {
+        return Some(true);
+    }
+    let wanted = text_of(alloc, caller, u32::saturating_sub(turn, 1))?;
+    match answer.value {
+        Some(value) => Some(value.as_str() == wanted.as_str()),
+        None => Some(false),
+    }
+}
+
+/// Makes a caller's calls. Whether all came out well.
+fn calls<R: Wait, G: Gate>(
+    rt: &R,
+    alloc: Global,
+    store: &Store<G>,
+    seat: &mut Seat,
+    caller: u32,
+) -> bool {
+    for turn in 0..TURNS {
+        if is_made(rt, alloc, store, seat, caller, turn) != Some(true) {
+            return false;
+        }
+    }
+    true
+}
+
+/// Two callers at once.
+fn pair<R, G>(
+    rt: &R,
+    alloc: Global,
+    store: &Store<G>,
+    one: &mut Seat,
+    other: &mut Seat,
+    first: u32,
+) -> bool
+where
+    R: Threads + Wait + Copy + Send + Sync + 'static,
+    G: Gate + Send + Sync + Drop + 'static,
+{
+    let second = u32::wrapping_add(first, 1);
+    let (good, well) = thread::join(
+        rt,
+        move || calls(rt, alloc, store, one, first),
+        move || calls(rt, alloc, store, other, second),
+    );
+    good && well
+}
+
+/// Whether each hall's record, as the seat is shown it, has as many calls of the seat's client as the seat has there.
+fn is_shown<R: Wait, G: Gate>(
+    rt: &R,
+    alloc: Global,
+    store: &Store<G>,
+    seat: &Seat,
+    halls: u8,
+) -> bool {
+    let mut shown = 0;
+    for hall in 0..halls {
+        let Some(Ok(history)) = store.snapshot(rt, alloc, seat, hall) else {
+            return false;
+        };
+        for row in history.rows() {
+            if let Row::Invoke { client, .. } = row
+                && *client == seat.client()
+            {
+                shown = usize::saturating_add(shown, 1);
+            }
+        }
+    }
+    shown == seat.log().len() && shown == 50
+}
+
+/// Whether the halls have the configuration that was given.
+fn has_config(closed: &Closed, config: &StoreConfig) -> bool {
+    for hall in &closed.halls {
+        let own = hall.config;
+        let given = config.world;
+        if own.replicas() != given.replicas()
+            || own.calls() != given.calls()
+            || own.flights() != given.flights()
+            || own.reads() != given.reads()
+            || own.quorums() != given.quorums()
+        {
+            return false;
+        }
+    }
+    closed.halls.len() == usize::from(config.halls.count())
+}
+
+/// Whether four callers' calls come out well, each is shown its calls, and the store closes.
+fn load<R, G>(rt: &R, alloc: Global, fixed: &Fixed, gate: G) -> Option<bool>
+where
+    R: Threads + Wait + Copy + Send + Sync + 'static,
+    G: Gate + Send + Sync + Drop + 'static,
+{
+    let config = store_config(fixed)?;
+    let store = Store::start(rt, alloc, config, gate).ok()?;
+    let mut first = seat_of(rt, alloc, &store, 1)?;
+    let mut second = seat_of(rt, alloc, &store, 2)?;
+    let mut third = seat_of(rt, alloc, &store, 3)?;
+    let mut fourth = seat_of(rt, alloc, &store, 4)?;
+    let shared = &store;
+    let (one, other) = (&mut first, &mut second);
+    let (next, last) = (&mut third, &mut fourth);
+    let (good, well) = thread::join(
+        rt,
+        move || pair(rt, alloc, shared, one, other, 1),
+        move || pair(rt, alloc, shared, next, last, 3),
+    );
+    let mut seats = Vec::new(alloc);
+    let mut shown = true;
+    for seat in [first, second, third, fourth] {
+        if !is_shown(rt, alloc, &store, &seat, fixed.halls) {
+            shown = false;
+        }
+        seats.push(seat).ok()?;
+    }
+    let closed = store.close(rt, alloc, seats).ok()?;
+    Some(good && well && shown && has_config(&closed, &config) && are_atomic(alloc, &closed))
+}
+
+/// Every fifth parcel is lost, and of the others every seventh goes twice.
+pub fn four_callers<R>(rt: &R, alloc: Global, fixed: &Fixed) -> Option<&'static str>
+where
+    R: Threads + Wait + Copy + Send + Sync + 'static,
+{
+    let gate = FifthAndSeventh {
+        parcels: AtomicU64::new(0),
+    };
+    Some(word(load(rt, alloc, fixed, gate)?))
+}
+
+/// Every parcel goes twice.
+pub fn four_callers_twice<R>(rt: &R, alloc: Global, fixed: &Fixed) -> Option<&'static str>
+where
+    R: Threads + Wait + Copy + Send + Sync + 'static,
+{
+    Some(word(load(rt, alloc, fixed, Twins)?))
+}
