@@ -7,8 +7,8 @@ Runs built programs with the library before them that refuses one growth, the fi
   its last where all lines were read.
 - the row programs: each row alone. What is said of it is what is expected, up to a line that names memory, or a step that the program
   couldn't make for want of it (with what such a command wrote before its message, at most three lines), or to the program's end.
-- growth_tests: each test. It passes (it calls again after a refused growth, and compares whole worlds, pools, replicas, clients and
-  histories as they were before the call and after it), or it ends early, since a growth of its own was refused.
+- growth_tests and parallel_tests: each test of a refused growth. It passes (it calls again after a refused growth, and compares whole worlds, pools, replicas, clients and
+  histories as they were before the call and after it, and verdicts), or it ends early, since a growth of its own was refused.
 """
 
 import os
@@ -23,6 +23,7 @@ ALL = 1_000_000
 # What a row program says where it couldn't go on for want of memory.
 WANT = r"(?i)memory|NO SUCH |not understood"
 ROWS = {"record_rows", "protocol_rows", "command_rows"}
+TESTS = ["growth_tests", "parallel_tests"]
 
 
 class Wrong(Exception):
@@ -123,13 +124,13 @@ def rows(library, top, name):
     print(f"{name}: {total} growths of its rows, each row alone; as expected all the same at {equal} of them, else memory is named; {many} rows with more than {MOST}", flush=True)
 
 
-def tests(library, top):
-    """The tests of growth_tests."""
-    runs = Runs(library, f"{top}/crates/growth_tests/out/growth_tests_tests", top)
+def tests(library, top, crate):
+    """The tests of a crate whose names say that a growth is refused."""
+    runs = Runs(library, f"{top}/crates/{crate}/out/{crate}_tests", top)
     listed = subprocess.run([runs.program, "--list"], capture_output=True, text=True).stdout
-    names = re.findall(r"^(\S+): test$", listed, re.M)
+    names = [name for name in re.findall(r"^(\S+): test$", listed, re.M) if "refused_growth" in name]
     if not names:
-        raise Wrong("growth_tests: it has no test")
+        raise Wrong(f"{crate}: it has no test of refused growths")
     for name in names:
 
         def judge(at, status, out, errors):
@@ -143,8 +144,8 @@ def tests(library, top):
 def main():
     library, top, *names = sys.argv[1:]
     bad = False
-    for name in names or ["abd", "record_rows", "protocol_rows", "command_rows", "growth_tests"]:
-        program = f"{top}/crates/{name}/out/{name}{'_tests' if name == 'growth_tests' else ''}"
+    for name in names or ["abd", "record_rows", "protocol_rows", "command_rows", *TESTS]:
+        program = f"{top}/crates/{name}/out/{name}{'_tests' if name in TESTS else ''}"
         if not os.path.isfile(program):
             print(f"{name} is not built")
             bad = True
@@ -155,7 +156,7 @@ def main():
             elif name in ROWS:
                 rows(library, top, name)
             else:
-                tests(library, top)
+                tests(library, top, name)
         except Wrong as it:
             print(it)
             bad = True

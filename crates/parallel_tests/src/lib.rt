@@ -1,7 +1,9 @@
-//! Tests of keys that are judged on several threads: that two workers run at once, and worked histories
-//! with every number of workers. There is nothing else here.
+//! Tests of keys that are judged on several threads: that two workers run at once, worked histories with
+//! every number of workers, and what a refused growth leaves. There is nothing else here.
 #![tactic(auto)]
 
+#[cfg(test)]
+mod growths;
 #[cfg(test)]
 mod meetings;
 #[cfg(test)]
