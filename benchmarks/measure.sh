@@ -14,7 +14,7 @@ for keys in 100 1 100000; do
   [ -s "$work/$keys.orders" ] || python3 "$here/big_history.py" --calls 1000000 --keys $keys --clients 16 \
     --history "$work/$keys.history" --orders "$work/$keys.orders"
   echo "== 1,000,000 calls, $keys keys"
-  for program in "$abd check" "$work/plain/target/release/plain_check"; do
+  for program in "$abd check" "$work/plain/target/release/plain_check" "$work/plain/target/release/plain_check --fast"; do
     # shellcheck disable=SC2086
     /usr/bin/time -f "${program##*/}: %e s, %U s of them computing, %M KiB" $program $files > "$work/out" 2> "$work/said"
     tail -n 1 "$work/said"

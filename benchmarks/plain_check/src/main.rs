@@ -1,23 +1,48 @@
 //! What `abd check` (two files) and `abd justify` (one) do, in plain sequential Rust with serde_json: the yardstick of the
-//! benchmark. It reads lawful files only, and stops at the first line that is none.
+//! benchmark. It reads lawful files only, and stops at the first line that is none. With `--fast` before the files, histories are read
+//! whole and their lines taken apart by hand, as far as `abd` itself writes them, and no text is copied (`fast.rs`).
+mod fast;
+
 use serde_json::Value;
 use std::collections::{HashMap, HashSet};
 use std::fs::File;
+use std::hash::Hash;
 use std::io::{BufRead, BufReader, BufWriter, Write};
 use std::time::Instant;
 
-enum Row {
-    Invoke { op: u32, client: u32, key: String, write: Option<String> },
+enum Row<T> {
+    Invoke { op: u32, client: u32, key: T, write: Option<T> },
     Note { op: u32, number: u32, writer: u32 },
-    Respond { op: u32, answer: Option<Option<String>> },
+    Respond { op: u32, answer: Option<Option<T>> },
 }
 
-struct Call {
+struct Call<T> {
     op: u32,
-    write: Option<String>,
+    write: Option<T>,
     note: Option<(u32, u32)>,
     invoked: usize,
-    response: Option<(usize, Option<Option<String>>)>,
+    response: Option<(usize, Option<Option<T>>)>,
+}
+
+/// The calls that are pending, and who made each call.
+#[derive(Default)]
+struct Pending {
+    busy: HashSet<u32>,
+    callers: Vec<u32>,
+}
+
+impl Pending {
+    /// The row comes next; it has to be one that may.
+    fn take<T>(&mut self, row: &Row<T>) {
+        match row {
+            Row::Invoke { op, client, .. } => {
+                assert!(*op as usize == self.callers.len() && self.busy.insert(*client));
+                self.callers.push(*client);
+            }
+            Row::Note { .. } => {}
+            Row::Respond { op, .. } => assert!(self.busy.remove(&self.callers[*op as usize])),
+        }
+    }
 }
 
 fn number(value: &Value, name: &str) -> u32 {
@@ -28,7 +53,7 @@ fn text(value: &Value, name: &str) -> String {
     value.get(name).and_then(Value::as_str).expect("a text").to_owned()
 }
 
-fn row_of(value: &Value) -> Row {
+fn row_of(value: &Value) -> Row<String> {
     let op = number(value, "call");
     match value.get("row").and_then(Value::as_str).expect("a row") {
         "invoke" => Row::Invoke {
@@ -42,10 +67,9 @@ fn row_of(value: &Value) -> Row {
     }
 }
 
-fn read_history(path: &str) -> Vec<Row> {
+fn read_history(path: &str) -> Vec<Row<String>> {
     let mut reader = BufReader::with_capacity(1 << 20, File::open(path).expect("a history"));
-    let (mut line, mut rows, mut busy) = (String::new(), Vec::new(), HashSet::new());
-    let mut callers: Vec<u32> = Vec::new();
+    let (mut line, mut rows, mut pending) = (String::new(), Vec::new(), Pending::default());
     reader.read_line(&mut line).expect("a header");
     loop {
         line.clear();
@@ -53,14 +77,7 @@ fn read_history(path: &str) -> Vec<Row> {
             return rows;
         }
         let row = row_of(&serde_json::from_str(&line).expect("JSON"));
-        match &row {
-            Row::Invoke { op, client, .. } => {
-                assert!(*op as usize == callers.len() && busy.insert(*client));
-                callers.push(*client);
-            }
-            Row::Note { .. } => {}
-            Row::Respond { op, .. } => assert!(busy.remove(&callers[*op as usize])),
-        }
+        pending.take(&row);
         rows.push(row);
     }
 }
@@ -76,9 +93,9 @@ fn read_orders(path: &str) -> HashMap<String, Vec<u32>> {
     orders
 }
 
-fn parts_of(rows: Vec<Row>) -> Vec<(String, Vec<Call>)> {
+fn parts_of<T: Clone + Eq + Hash>(rows: Vec<Row<T>>) -> Vec<(T, Vec<Call<T>>)> {
     let (mut slots, mut places) = (HashMap::new(), Vec::new());
-    let mut parts: Vec<(String, Vec<Call>)> = Vec::new();
+    let mut parts: Vec<(T, Vec<Call<T>>)> = Vec::new();
     for (place, row) in rows.into_iter().enumerate() {
         match row {
             Row::Invoke { op, key, write, .. } => {
@@ -102,7 +119,7 @@ fn parts_of(rows: Vec<Row>) -> Vec<(String, Vec<Call>)> {
     parts
 }
 
-fn is_order(part: &[Call], order: &[u32]) -> bool {
+fn is_order<T: PartialEq>(part: &[Call<T>], order: &[u32]) -> bool {
     let mut marks = vec![false; part.len()];
     let (mut current, mut latest) = (None, 0);
     for op in order {
@@ -130,14 +147,14 @@ fn is_order(part: &[Call], order: &[u32]) -> bool {
 }
 
 /// The settled calls by tag, a write before a read of the same tag, then by place of invocation.
-fn order_of(part: &[Call]) -> Vec<u32> {
+fn order_of<T>(part: &[Call<T>]) -> Vec<u32> {
     let settled = part.iter().filter(|call| call.response.is_some() || (call.write.is_some() && call.note.is_some()));
     let mut keys: Vec<_> = settled.map(|call| (call.note.expect("a note"), call.write.is_none(), call.invoked, call.op)).collect();
     keys.sort_unstable();
     keys.into_iter().map(|key| key.3).collect()
 }
 
-fn justify(parts: &[(String, Vec<Call>)]) {
+fn justify<T: AsRef<str> + PartialEq>(parts: &[(T, Vec<Call<T>>)]) {
     let mut out = BufWriter::with_capacity(1 << 16, std::io::stdout().lock());
     let orders: Vec<_> = parts.iter().map(|(_, part)| order_of(part)).collect();
     assert!(parts.iter().zip(&orders).all(|((_, part), order)| is_order(part, order)));
@@ -145,30 +162,40 @@ fn justify(parts: &[(String, Vec<Call>)]) {
     for ((key, _), order) in parts.iter().zip(&orders) {
         for piece in order.chunks(1000) {
             let calls: Vec<String> = piece.iter().map(u32::to_string).collect();
-            writeln!(out, "{{\"key\":\"{key}\",\"order\":[{}]}}", calls.join(",")).expect("written");
+            writeln!(out, "{{\"key\":\"{}\",\"order\":[{}]}}", key.as_ref(), calls.join(",")).expect("written");
         }
     }
 }
 
-fn main() {
-    let files: Vec<String> = std::env::args().skip(1).collect();
-    let start = Instant::now();
-    let rows = read_history(&files[0]);
+/// Judges what was read, or justifies it where there are no orders.
+fn answer<T: AsRef<str> + Clone + Eq + Hash>(rows: Vec<Row<T>>, orders: Option<&str>, start: Instant) {
     let read = start.elapsed();
-    if files.len() == 1 {
+    let Some(orders) = orders else {
         justify(&parts_of(rows));
         eprintln!("history read in {read:?}, all in {:?}", start.elapsed());
         return;
-    }
-    let orders = read_orders(&files[1]);
+    };
+    let orders = read_orders(orders);
     let parts = parts_of(rows);
     let empty = Vec::new();
     let mut yes = 0;
     for (key, part) in &parts {
-        let is_yes = is_order(part, orders.get(key).unwrap_or(&empty));
+        let is_yes = is_order(part, orders.get(key.as_ref()).unwrap_or(&empty));
         yes += is_yes as u32;
-        println!("{key}: {}", if is_yes { "yes" } else { "no" });
+        println!("{}: {}", key.as_ref(), if is_yes { "yes" } else { "no" });
     }
     let notes = parts.iter().flat_map(|part| &part.1).filter(|call| call.note.is_some()).count();
     eprintln!("{yes} of {} keys yes, {notes} notes; history read in {read:?}, all in {:?}", parts.len(), start.elapsed());
+}
+
+fn main() {
+    let mut files: Vec<String> = std::env::args().skip(1).collect();
+    let start = Instant::now();
+    if files[0] == "--fast" {
+        files.remove(0);
+        let bytes = std::fs::read(&files[0]).expect("a history");
+        answer(fast::rows_in(&bytes), files.get(1).map(String::as_str), start);
+    } else {
+        answer(read_history(&files[0]), files.get(1).map(String::as_str), start);
+    }
 }

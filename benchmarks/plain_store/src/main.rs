@@ -1,0 +1,268 @@
+//! What the running store does, in plain Rust: the yardstick of the benchmark. Halls are worlds behind std's Mutex, each with its record and
+//! its journal; each replica has a thread of its own and serves all halls; parcels and reports go by crossbeam's channels; a call takes its
+//! hall's lock for each step.
+//!
+//!     plain_store CALLERS CALLS HALLS
+use crossbeam_channel::{unbounded, Receiver, Sender};
+use std::collections::{BTreeMap, HashMap};
+use std::sync::Mutex;
+use std::thread;
+use std::time::Instant;
+
+const REPLICAS: u8 = 3;
+const KEYS: u32 = 8;
+
+type Tag = (u32, u32);
+type Pair = (Tag, Option<String>);
+
+#[derive(Clone)]
+enum Action {
+    Read,
+    Write(String),
+}
+
+#[allow(dead_code)]
+enum Row {
+    Invoke { op: u32, client: u32, key: String, action: Action },
+    Note { op: u32, tag: Tag },
+    Respond { op: u32, returned: Option<Option<String>> },
+}
+
+#[derive(Clone)]
+#[allow(dead_code)]
+enum Step {
+    Invoke { client: u32, key: String, action: Action },
+    Send { client: u32, replica: u8 },
+    Deliver { flight: u32 },
+    Respond { client: u32 },
+}
+
+enum Message {
+    Query { op: u32, replica: u8, key: String },
+    Put { op: u32, replica: u8, key: String, pair: Pair },
+    Held { op: u32, client: u32, replica: u8, pair: Pair },
+    Kept { op: u32, client: u32, replica: u8 },
+}
+
+enum Phase {
+    Idle,
+    Ask { best: Pair },
+    Put { pair: Pair },
+    Ready { value: Option<String> },
+}
+
+struct Client {
+    phase: Phase,
+    op: u32,
+    key: String,
+    action: Action,
+    counted: u16,
+}
+
+#[derive(Default)]
+struct Hall {
+    replicas: Vec<BTreeMap<String, Pair>>,
+    clients: BTreeMap<u32, Client>,
+    callers: Vec<u32>,
+    flights: HashMap<u32, Message>,
+    sent: u32,
+    rows: Vec<Row>,
+    journal: Vec<Step>,
+}
+
+impl Hall {
+    fn invoke(&mut self, client: u32, key: &str, action: &Action) -> u32 {
+        let op = self.callers.len() as u32;
+        self.callers.push(client);
+        self.rows.push(Row::Invoke { op, client, key: key.into(), action: action.clone() });
+        self.journal.push(Step::Invoke { client, key: key.into(), action: action.clone() });
+        let one = Client { phase: Phase::Ask { best: ((0, 0), None) }, op, key: key.into(), action: action.clone(), counted: 0 };
+        self.clients.insert(client, one);
+        op
+    }
+
+    fn send(&mut self, client: u32, replica: u8) -> Option<u32> {
+        let one = self.clients.get(&client)?;
+        let message = match &one.phase {
+            Phase::Ask { .. } => Message::Query { op: one.op, replica, key: one.key.clone() },
+            Phase::Put { pair } => Message::Put { op: one.op, replica, key: one.key.clone(), pair: pair.clone() },
+            _ => return None,
+        };
+        self.journal.push(Step::Send { client, replica });
+        Some(self.fly(message))
+    }
+
+    fn fly(&mut self, message: Message) -> u32 {
+        let flight = self.sent;
+        self.sent += 1;
+        self.flights.insert(flight, message);
+        flight
+    }
+
+    /// Delivers a request; the flight of the reply.
+    fn serve(&mut self, flight: u32) -> Option<u32> {
+        let reply = match self.flights.remove(&flight)? {
+            Message::Query { op, replica, key } => {
+                let pair = self.replicas[replica as usize].get(&key).cloned().unwrap_or(((0, 0), None));
+                Message::Held { op, client: self.callers[op as usize], replica, pair }
+            }
+            Message::Put { op, replica, key, pair } => {
+                let entry = self.replicas[replica as usize].entry(key).or_insert(((0, 0), None));
+                if pair.0 > entry.0 {
+                    *entry = pair;
+                }
+                Message::Kept { op, client: self.callers[op as usize], replica }
+            }
+            other => {
+                self.flights.insert(flight, other);
+                return None;
+            }
+        };
+        self.journal.push(Step::Deliver { flight });
+        Some(self.fly(reply))
+    }
+
+    /// Delivers a reply.
+    fn hear(&mut self, flight: u32) {
+        let Some(message) = self.flights.remove(&flight) else { return };
+        self.journal.push(Step::Deliver { flight });
+        let majority = REPLICAS as u32 / 2 + 1;
+        match message {
+            Message::Held { op, client, replica, pair } => {
+                let one = self.clients.get_mut(&client).expect("a client");
+                if one.op != op || one.counted >> replica & 1 == 1 {
+                    return;
+                }
+                let Phase::Ask { best } = &mut one.phase else { return };
+                one.counted |= 1 << replica;
+                if pair.0 > best.0 {
+                    *best = pair;
+                }
+                if one.counted.count_ones() >= majority {
+                    let best = std::mem::replace(best, ((0, 0), None));
+                    let pair = match &one.action {
+                        Action::Read => best,
+                        Action::Write(value) => ((best.0 .0 + 1, client), Some(value.clone())),
+                    };
+                    self.rows.push(Row::Note { op, tag: pair.0 });
+                    one.counted = 0;
+                    one.phase = Phase::Put { pair };
+                }
+            }
+            Message::Kept { op, client, replica } => {
+                let one = self.clients.get_mut(&client).expect("a client");
+                if one.op != op || one.counted >> replica & 1 == 1 {
+                    return;
+                }
+                let Phase::Put { pair } = &mut one.phase else { return };
+                one.counted |= 1 << replica;
+                if one.counted.count_ones() >= majority {
+                    let value = pair.1.take();
+                    one.phase = Phase::Ready { value };
+                }
+            }
+            _ => {}
+        }
+    }
+
+    fn respond(&mut self, client: u32) -> Option<Option<String>> {
+        let one = self.clients.get_mut(&client)?;
+        let Phase::Ready { value } = std::mem::replace(&mut one.phase, Phase::Idle) else { return None };
+        let returned = match one.action {
+            Action::Read => Some(value),
+            Action::Write(_) => None,
+        };
+        self.rows.push(Row::Respond { op: one.op, returned: returned.clone() });
+        self.journal.push(Step::Respond { client });
+        returned
+    }
+
+    /// Where the client stands: its phase, and what it counted.
+    fn standing(&self, client: u32) -> (u8, u16) {
+        let one = &self.clients[&client];
+        match one.phase {
+            Phase::Idle => (0, 0),
+            Phase::Ask { .. } => (1, one.counted),
+            Phase::Put { .. } => (2, one.counted),
+            Phase::Ready { .. } => (3, 0),
+        }
+    }
+}
+
+struct Parcel {
+    hall: usize,
+    flight: u32,
+    reports: Sender<Option<u32>>,
+}
+
+fn serve(halls: &[Mutex<Hall>], parcels: Receiver<Parcel>) {
+    for parcel in parcels {
+        let reply = halls[parcel.hall].lock().unwrap().serve(parcel.flight);
+        let _ = parcel.reports.send(reply);
+    }
+}
+
+fn call(halls: &[Mutex<Hall>], ways: &[Sender<Parcel>], client: u32, key: &str, action: &Action) -> Option<Option<String>> {
+    let at = key.bytes().map(usize::from).sum::<usize>() % halls.len();
+    let hall = &halls[at];
+    let (reports, inbox) = unbounded();
+    hall.lock().unwrap().invoke(client, key, action);
+    loop {
+        let (phase, counted) = hall.lock().unwrap().standing(client);
+        if phase == 3 {
+            return hall.lock().unwrap().respond(client);
+        }
+        let mut awaited = 0;
+        for replica in (0..REPLICAS).filter(|replica| counted >> replica & 1 == 0) {
+            let Some(flight) = hall.lock().unwrap().send(client, replica) else { break };
+            let _ = ways[replica as usize].send(Parcel { hall: at, flight, reports: reports.clone() });
+            awaited += 1;
+        }
+        while awaited > 0 && hall.lock().unwrap().standing(client).0 == phase {
+            awaited -= 1;
+            if let Ok(Some(reply)) = inbox.recv() {
+                hall.lock().unwrap().hear(reply);
+            }
+        }
+    }
+}
+
+fn caller(halls: &[Mutex<Hall>], ways: &[Sender<Parcel>], client: u32, calls: u32) -> u64 {
+    let mut answered = 0;
+    for turn in 0..calls {
+        let key = format!("k{}", (turn + client) % KEYS);
+        let action = if turn % 2 == 0 { Action::Write(format!("c{client}t{turn}")) } else { Action::Read };
+        if call(halls, ways, client, &key, &action).is_none() == (turn % 2 == 0) {
+            answered += 1;
+        }
+    }
+    answered
+}
+
+fn main() {
+    let numbers: Vec<u32> = std::env::args().skip(1).map(|word| word.parse().expect("a number")).collect();
+    let [callers, calls, count] = numbers[..] else { panic!("plain_store CALLERS CALLS HALLS") };
+    let fresh = || Mutex::new(Hall { replicas: (0..REPLICAS).map(|_| BTreeMap::new()).collect(), ..Hall::default() });
+    let halls: Vec<Mutex<Hall>> = (0..count).map(|_| fresh()).collect();
+    let start = Instant::now();
+    let answered: u64 = thread::scope(|scope| {
+        let mut ways = Vec::new();
+        for _ in 0..REPLICAS {
+            let (way, parcels) = unbounded();
+            ways.push(way);
+            let halls = &halls;
+            scope.spawn(move || serve(halls, parcels));
+        }
+        let threads: Vec<_> = (1..=callers)
+            .map(|client| {
+                let (halls, ways) = (&halls, ways.clone());
+                scope.spawn(move || caller(halls, &ways, client, calls))
+            })
+            .collect();
+        drop(ways);
+        threads.into_iter().map(|thread| thread.join().unwrap()).sum()
+    });
+    let time = start.elapsed();
+    let rows: usize = halls.iter().map(|hall| hall.lock().unwrap().rows.len()).sum();
+    println!("{answered} calls answered, {rows} rows, {:.0} calls a second", answered as f64 / time.as_secs_f64());
+}
