@@ -9,7 +9,7 @@ use Rattle.file_format.specs.declared.fault.LineFault.TheVariants.{NotJson, TooL
 use Rattle.file_format.specs.Documents.{IsJson}
 use Rattle.file_format.specs.Formats.{Format}
 use Rattle.file_format.specs.Lines.{Says, Shows}
-use Rattle.file_format.specs.Files.{IsLineOf, AreSpelled}
+use Rattle.file_format.specs.Files.{IsHeader, IsLineOf, AreSpelled}
 use Rattle.file_format.specs.Readings.{Reads}
 
 -- what a line shows is of one of three kinds
@@ -51,27 +51,47 @@ shows_once {X} meaning line a b h k =
       ]
     ]
 
-module _ {Item : Type 0} (format : Format Item) where
-  items_once : (lines : List (List ℕ)) (is js : List Item) → AllZip (IsLineOf format) lines is → AllZip (IsLineOf format) lines js → is ≡ js
-  items_once [] [] [] h k = refl
-  items_once [] [] (j ∷ js) h k = absurd k
-  items_once [] (i ∷ is) js h k = absurd h
-  items_once (line ∷ lines) [] js h k = absurd h
-  items_once (line ∷ lines) (i ∷ is) [] h k = absurd k
-  items_once (line ∷ lines) (i ∷ is) (j ∷ js) h k =
-      let e = shows_once format.meaning line (Ok i) (Ok j) h.0 k.0 in
+module _ {Header Item : Type 0} (format : Format Header Item) where
+  -- a line is one header
+  pub header_once : (line : List ℕ) (a b : Header) → IsHeader format line a → IsHeader format line b → a ≡ b
+  header_once line a b h k = let e = shows_once format.heading line (Ok a) (Ok b) h k in cc
+
+  items_once : (header : Header) (lines : List (List ℕ)) (is js : List Item) → AllZip (IsLineOf format header) lines is → AllZip (IsLineOf format header) lines js → is ≡ js
+  items_once header [] [] [] h k = refl
+  items_once header [] [] (j ∷ js) h k = absurd k
+  items_once header [] (i ∷ is) js h k = absurd h
+  items_once header (line ∷ lines) [] js h k = absurd h
+  items_once header (line ∷ lines) (i ∷ is) [] h k = absurd k
+  items_once header (line ∷ lines) (i ∷ is) (j ∷ js) h k =
+      let e = shows_once (format.meaning header) line (Ok i) (Ok j) h.0 k.0 in
       let one : i ≡ j = cc in
-      let others = items_once lines is js h.1 k.1 in
+      let others = items_once header lines is js h.1 k.1 in
       cc
 
-  pub spelled_once : (lines : List (List ℕ)) (is js : List Item) → AreSpelled format lines is → AreSpelled format lines js → is ≡ js
-  spelled_once [] is js h k = h ∙ sym k
-  spelled_once (header ∷ lines) is js h k = items_once lines is js h.1 k.1
+  pub spelled_once : (lines : List (List ℕ)) (a b : Header) (is js : List Item) → AreSpelled format lines a is → AreSpelled format lines b js → is ≡ js
+  spelled_once [] a b is js h k = h ∙ sym k
+  spelled_once (first ∷ lines) a b is js h k =
+      let P : Header → Type 0 = λ header. AllZip (IsLineOf format header) lines is in
+      items_once b lines is js (subst P (header_once first a b h.0 k.0) h.1) k.1
+
+  headers_once : (lines : List (List ℕ)) (a b : Header) (is js : List Item) → 0 < length lines → AreSpelled format lines a is → AreSpelled format lines b js → a ≡ b
+  headers_once [] a b is js some h k = absurd (omega arith)
+  headers_once (first ∷ lines) a b is js some h k = header_once first a b h.0 k.0
+
+  -- what two readings of the same bytes have is of the same lines
+  same_lines : {Contents : Type 0} (Makes : Header → List Item → Contents → Type 0) (bytes : List ℕ) (a b : Contents) (h : Reads format Makes bytes a) (k : Reads format Makes bytes b) → AreSpelled format (last_lines k.lines k.rest) h.header h.items
+  same_lines Makes bytes a b h k =
+      let w = splits_once bytes h.lines k.lines h.rest k.rest h.splits k.splits in
+      let Lines : List (List ℕ) → Type 0 = λ ls. AreSpelled format (last_lines ls k.rest) h.header h.items in
+      let Rest : List ℕ → Type 0 = λ r. AreSpelled format (last_lines h.lines r) h.header h.items in
+      subst Lines w.0 (subst Rest w.1 h.read.spelled)
+
+  -- a file has one header
+  pub reads_one_header : {Contents : Type 0} (Makes : Header → List Item → Contents → Type 0) (bytes : List ℕ) (a b : Contents) (h : Reads format Makes bytes a) (k : Reads format Makes bytes b) → h.header ≡ k.header
+  reads_one_header Makes bytes a b h k =
+      headers_once (last_lines k.lines k.rest) h.header k.header h.items k.items k.some (same_lines Makes bytes a b h k) k.read.spelled
 
   -- a file has one list of items
-  pub reads_once : {Contents : Type 0} (Makes : List Item → Contents → Type 0) (bytes : List ℕ) (a b : Contents) (h : Reads format Makes bytes a) (k : Reads format Makes bytes b) → h.items ≡ k.items
+  pub reads_once : {Contents : Type 0} (Makes : Header → List Item → Contents → Type 0) (bytes : List ℕ) (a b : Contents) (h : Reads format Makes bytes a) (k : Reads format Makes bytes b) → h.items ≡ k.items
   reads_once Makes bytes a b h k =
-      let w = splits_once bytes h.lines k.lines h.rest k.rest h.splits k.splits in
-      let Lines : List (List ℕ) → Type 0 = λ ls. AreSpelled format (last_lines ls k.rest) h.items in
-      let Rest : List ℕ → Type 0 = λ r. AreSpelled format (last_lines h.lines r) h.items in
-      spelled_once (last_lines k.lines k.rest) h.items k.items (subst Lines w.0 (subst Rest w.1 h.read.spelled)) k.read.spelled
+      spelled_once (last_lines k.lines k.rest) h.header k.header h.items k.items (same_lines Makes bytes a b h k) k.read.spelled

@@ -151,7 +151,7 @@ never_misplaced rows (Respond op returned) more f h bad =
     ]
 
 pub history_sharp : IsSharp history_format
-history_sharp = record { one = λ rows row f g h k. one_misplaced rows row f g h k; none = λ rows row more f h k. never_misplaced rows row more f h k }
+history_sharp = record { one = λ header rows row f g h k. one_misplaced rows row f g h k; none = λ header rows row more f h k. never_misplaced rows row more f h k }
 
 -- ---- pieces
 
@@ -167,6 +167,6 @@ totals pieces piece more =
 
 pub orders_sharp : IsSharp order_format
 orders_sharp = record {
-  one = λ pieces piece f g h k. (only_many pieces piece f h).0 ∙ sym (only_many pieces piece g k).0;
-  none = λ pieces piece more f h k. omega (arith, h.few, totals pieces piece more, (only_many pieces piece f k).1);
+  one = λ header pieces piece f g h k. (only_many pieces piece f h).0 ∙ sym (only_many pieces piece g k).0;
+  none = λ header pieces piece more f h k. omega (arith, h.few, totals pieces piece more, (only_many pieces piece f k).1);
 }

@@ -1,5 +1,5 @@
 -- A file whose lines are those of its items is read as them.
-use Rattle.std.proofs.Common.{◌≡◌, ◌<◌, ◌≤◌, ℕ, zero, suc, List, [], ◌∷◌, ◌++◌, length, get_or, Some, Ok, codes, IsUtf8, map, refl, sym, ap, ◌∙◌, arith, append-nil, length-append}
+use Rattle.std.proofs.Common.{◌≡◌, ◌<◌, ◌≤◌, ℕ, zero, suc, List, [], ◌∷◌, ◌++◌, length, get_or, Some, Result, Ok, codes, IsUtf8, map, refl, sym, ap, ◌∙◌, arith, append-nil, length-append}
 use Rattle.std.specs.Prelude.{All}
 use Rattle.std.specs.List.{slice_get, flat_map, AllZip}
 use Rattle.json.specs.Print.{quoted}
@@ -9,8 +9,11 @@ use Rattle.serde_json.specs.Read.{read}
 use Rattle.serde_json.specs.Written.{compact_text}
 use Rattle.serde_json.proofs.Numbers.{number_of-decimal}
 use Rattle.counted_devices.specs.Cuts.{ended, HasNoEnd}
+use Rattle.file_format.specs.declared.fault.LineFault.{LineFault}
 use Rattle.file_format.specs.Formats.{Format}
-use Rattle.file_format.specs.Files.{IsLineOf, IsHeader}
+use Rattle.file_format.specs.Files.{IsLineOf}
+use Rattle.file_format.specs.Headers.{header_in}
+use Rattle.file_format.specs.Lines.{Shows}
 use Rattle.file_format.specs.Readings.{Reads}
 use Rattle.file_format.specs.Texts.{header_data, line_text}
 use Rattle.file_format.proofs.Compact.{IsSimple, read-compact_text, IsUtf8-compact_text, HasNoEnd-compact_text, length-quoted}
@@ -23,15 +26,15 @@ pub record IsName (name : List ℕ) : Type 0 where
   pub text : IsUtf8 name
   pub short : length name ≤ 100
 
--- the value's line is one of the item
-pub record IsGoodLine {Item : Type 0} (format : Format Item) (d : Data) (thing : Item) : Type 0 where
+-- the value's line says that
+pub record IsGoodLine {X : Type 0} (meaning : Data → Result X LineFault) (d : Data) (thing : X) : Type 0 where
   pub simple : IsSimple d
   pub short : length (compact_text d) ≤ 65536
   pub back : read (compact_text d) ≡ Some d
-  pub meant : format.meaning d ≡ Ok thing
+  pub meant : meaning d ≡ Ok thing
 
-pub line_of_item : {Item : Type 0} (format : Format Item) (d : Data) (thing : Item) → IsGoodLine format d thing → IsLineOf format (compact_text d) thing
-line_of_item format d thing h = record { short = h.short; value = d; json = (IsUtf8-compact_text d h.simple, h.back); meant = h.meant }
+pub line_of_item : {X : Type 0} (meaning : Data → Result X LineFault) (d : Data) (thing : X) → IsGoodLine meaning d thing → Shows meaning (compact_text d) (Ok thing)
+line_of_item meaning d thing h = record { short = h.short; value = d; json = (IsUtf8-compact_text d h.simple, h.back); meant = h.meant }
 
 header_simple : (name : List ℕ) → IsUtf8 name → IsSimple (header_data name)
 unfolding header_data
@@ -45,13 +48,14 @@ header_short : (name : List ℕ) → length name ≤ 100 → length (compact_tex
 header_short name short =
     line_length (header_data name) (rw (header_bytes name) (omega (arith, length-append (codes "{\"abd\":") (quoted name ++ codes ",\"version\":1}\n"), length-append (quoted name) (codes ",\"version\":1}\n"), length-quoted name)))
 
-header_line : {Item : Type 0} (format : Format Item) → IsName format.name → IsHeader format (compact_text (header_data format.name))
+-- the header of a file of that name, and of version 1
+pub header_good : (name : List ℕ) → IsName name → IsGoodLine (header_in name) (header_data name) tt
 unfolding header_data
-header_line format h = record {
-  short = header_short format.name h.short;
-  value = header_data format.name;
-  json = (IsUtf8-compact_text (header_data format.name) (header_simple format.name h.text), header_read format.name h.text);
-  meant = header_there format.name (header_data format.name) (record { abd = refl; version = refl });
+header_good name h = record {
+  simple = header_simple name h.text;
+  short = header_short name h.short;
+  back = header_read name h.text;
+  meant = header_there name (header_data name) (record { abd = refl; version = refl });
 }
 
 all_more : (line : List ℕ) (lines : List (List ℕ)) → HasNoEnd line → All HasNoEnd lines → All HasNoEnd (line ∷ lines)
@@ -61,7 +65,7 @@ all_more line lines h more = λ k d lt. at k d lt
     at zero d lt = h
     at (suc k) d lt = more k d (omega arith)
 
-module _ {Item : Type 0} (format : Format Item) (value : Item → Data) where
+module _ {Header Item : Type 0} (format : Format Header Item) (header : Header) (value : Item → Data) where
   pub line_at : Item → List ℕ
   line_at thing = compact_text (value thing)
 
@@ -71,32 +75,33 @@ module _ {Item : Type 0} (format : Format Item) (value : Item → Data) where
   lines_text (thing ∷ items) = ap (λ (s : List ℕ). ended (line_at thing) ++ s) (lines_text items)
 
   AreGood : List Item → Type 0
-  AreGood items = (k : ℕ) (thing : Item) → slice_get items k ≡ Some thing → IsGoodLine format (value thing) thing
+  AreGood items = (k : ℕ) (thing : Item) → slice_get items k ≡ Some thing → IsGoodLine (format.meaning header) (value thing) thing
 
-  spelled : (items : List Item) → AreGood items → AllZip (IsLineOf format) (map line_at items) items
+  spelled : (items : List Item) → AreGood items → AllZip (IsLineOf format header) (map line_at items) items
   unfolding AreGood line_at
   spelled [] h = tt
-  spelled (thing ∷ items) h = (line_of_item format (value thing) thing (h 0 thing refl), spelled items (λ k other e. h (suc k) other e))
+  spelled (thing ∷ items) h = (line_of_item (format.meaning header) (value thing) thing (h 0 thing refl), spelled items (λ k other e. h (suc k) other e))
 
   whole_lines : (items : List Item) → AreGood items → All HasNoEnd (map line_at items)
   unfolding AreGood line_at
   whole_lines [] h = λ k d lt. absurd (omega arith)
   whole_lines (thing ∷ items) h = all_more (line_at thing) (map line_at items) (HasNoEnd-compact_text (value thing) (h 0 thing refl).simple) (whole_lines items (λ k other e. h (suc k) other e))
 
-  pub written_reads : {Contents : Type 0} (Makes : List Item → Contents → Type 0) (items : List Item) (contents : Contents) → IsName format.name → ((k : ℕ) (thing : Item) → slice_get items k ≡ Some thing → IsGoodLine format (value thing) thing) → format.Fits items → Makes items contents → Reads format Makes (line_text (header_data format.name) ++ flat_map (λ thing. line_text (value thing)) items) contents
+  pub written_reads : {Contents : Type 0} (Makes : Header → List Item → Contents → Type 0) (first : Data) (items : List Item) (contents : Contents) → IsGoodLine format.heading first header → ((k : ℕ) (thing : Item) → slice_get items k ≡ Some thing → IsGoodLine (format.meaning header) (value thing) thing) → format.Fits header items → Makes header items contents → Reads format Makes (line_text first ++ flat_map (λ thing. line_text (value thing)) items) contents
   unfolding line_text AreGood
-  written_reads Makes items contents name good fits made =
-      let header = compact_text (header_data format.name) in
+  written_reads Makes first items contents head good fits made =
+      let line = compact_text first in
       record {
-        lines = header ∷ map line_at items;
+        lines = line ∷ map line_at items;
         rest = [];
         splits = record {
-          whole = ap (λ (s : List ℕ). ended header ++ s) (lines_text items) ∙ sym (append-nil (flat_map ended (header ∷ map line_at items)));
-          each = all_more header (map line_at items) (HasNoEnd-compact_text (header_data format.name) (header_simple format.name name.text)) (whole_lines items good);
+          whole = ap (λ (s : List ℕ). ended line ++ s) (lines_text items) ∙ sym (append-nil (flat_map ended (line ∷ map line_at items)));
+          each = all_more line (map line_at items) (HasNoEnd-compact_text first head.simple) (whole_lines items good);
           partial = λ k d lt. absurd (omega arith);
         };
         some = omega arith;
+        header = header;
         items = items;
-        read = record { spelled = (header_line format name, spelled items good); fits = fits };
+        read = record { spelled = (line_of_item format.heading first header head, spelled items good); fits = fits };
         made = made;
       }

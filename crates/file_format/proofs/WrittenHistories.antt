@@ -7,14 +7,15 @@ use Rattle.file_format.specs.Readings.{Reads}
 use Rattle.file_format.specs.HistoryFormat.{history_format, MakesHistory, IsHistory}
 use Rattle.file_format.specs.Ranges.{IsInRange, AreInRange}
 use Rattle.file_format.specs.ReadAgain.{IsTextOf}
-use Rattle.file_format.specs.Texts.{row_data, history_text}
+use Rattle.file_format.specs.Rows.{row_in}
+use Rattle.file_format.specs.Texts.{header_data, row_data, history_text}
 use Rattle.file_format.proofs.Once.{reads_once}
 use Rattle.file_format.proofs.Compact.{read-compact_text}
 use Rattle.file_format.proofs.Saying.{row_there}
 use Rattle.file_format.proofs.WrittenLines.{row_simple, row_depth, row_back, row_length, says_row, line_length}
-use Rattle.file_format.proofs.WrittenFiles.{IsGoodLine, written_reads}
+use Rattle.file_format.proofs.WrittenFiles.{IsGoodLine, header_good, written_reads}
 
-pub good_row : (row : Row) → IsInRange row → IsGoodLine history_format (row_data row) row
+pub good_row : (row : Row) → IsInRange row → IsGoodLine row_in (row_data row) row
 good_row row h = record {
   simple = row_simple row h;
   short = line_length (row_data row) (row_length row h);
@@ -24,7 +25,7 @@ good_row row h = record {
 
 pub history_reads : (rows : List Row) → IsHistory rows → AreInRange rows → Reads history_format MakesHistory (history_text rows) (record { rows = rows; limit = 1000000 })
 history_reads rows formed ranges =
-    written_reads history_format row_data MakesHistory rows (record { rows = rows; limit = 1000000 }) (record { text = IsUtf8-are_ascii (codes "history") refl; short = omega arith }) (λ k row e. good_row row (ranges k row e)) formed refl
+    written_reads history_format tt row_data MakesHistory (header_data (codes "history")) rows (record { rows = rows; limit = 1000000 }) (header_good (codes "history") (record { text = IsUtf8-are_ascii (codes "history") refl; short = omega arith })) (λ k row e. good_row row (ranges k row e)) formed refl
 
 pub history_text_of : (rows : List Row) → IsHistory rows → AreInRange rows → IsTextOf (history_text rows) rows
 history_text_of rows formed ranges =

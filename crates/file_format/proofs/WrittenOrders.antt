@@ -16,7 +16,8 @@ use Rattle.recorder.specs.declared.order.KeyOrder.{KeyOrder}
 use Rattle.recorder.proofs.Lists.{slice_get-push_last}
 use Rattle.file_format.specs.Readings.{Reads}
 use Rattle.file_format.specs.Members.{numbers_in}
-use Rattle.file_format.specs.OrderFormat.{key_in, order_format, call_total, AreFew, AreJoined}
+use Rattle.file_format.specs.OrderFormat.{key_in, order_format, call_total, AreFew, AreJoined, MakesJoined}
+use Rattle.file_format.specs.OrderLines.{piece_in}
 use Rattle.file_format.specs.ReadAgain.{IsTextOfOrders}
 use Rattle.file_format.specs.Ranges.{AreOps, IsOrderInRange, AreOrdersInRange, HaveDistinctKeys}
 use Rattle.file_format.specs.Says.{SaysPiece}
@@ -29,7 +30,7 @@ use Rattle.file_format.proofs.OrderPieces.{piece_at}
 use Rattle.file_format.proofs.SayingPieces.{piece_there}
 use Rattle.file_format.proofs.Spelling.{piece_bytes}
 use Rattle.file_format.proofs.WrittenLines.{short_key, key_utf8, line_length}
-use Rattle.file_format.proofs.WrittenFiles.{IsGoodLine, written_reads}
+use Rattle.file_format.proofs.WrittenFiles.{IsGoodLine, header_good, written_reads}
 
 -- ---- the line of a piece
 
@@ -85,7 +86,7 @@ piece_length piece h few =
     let more = codes ",\"order\":[" ++ (calls ++ last) in
     rw (piece_bytes piece.key piece.order) (omega (arith, length-append (codes "{\"key\":") (quoted piece.key ++ more), length-append (quoted piece.key) more, length-append (codes ",\"order\":[") (calls ++ last), length-append calls last, length-quoted piece.key, short_key piece.key h.named, calls_length false piece.order h.calls))
 
-pub good_piece : (piece : KeyOrder) → IsOrderInRange piece → length piece.order ≤ 1000 → IsGoodLine order_format (piece_data piece) piece
+pub good_piece : (piece : KeyOrder) → IsOrderInRange piece → length piece.order ≤ 1000 → IsGoodLine piece_in (piece_data piece) piece
 good_piece piece h few = record {
   simple = piece_simple piece h;
   short = line_length (piece_data piece) (piece_length piece h few);
@@ -244,12 +245,12 @@ text_of_pieces : (orders : List KeyOrder) → flat_map order_text orders ≡ fla
 text_of_pieces [] = refl
 text_of_pieces (order ∷ orders) = ap (λ (s : List ℕ). order_text order ++ s) (text_of_pieces orders) ∙ sym (flat_map-append piece_text (pieces_of order) (flat_map pieces_of orders))
 
-pub orders_read : (orders : List KeyOrder) → AreOrdersInRange orders → HaveDistinctKeys orders → AreFew orders → Reads order_format AreJoined (orders_text orders) orders
+pub orders_read : (orders : List KeyOrder) → AreOrdersInRange orders → HaveDistinctKeys orders → AreFew orders → Reads order_format MakesJoined (orders_text orders) orders
 orders_read orders ranges distinct few =
     let pieces = flat_map pieces_of orders in
-    let P : List ℕ → Type 0 = λ s. Reads order_format AreJoined (line_text (header_data (codes "orders")) ++ s) orders in
+    let P : List ℕ → Type 0 = λ s. Reads order_format MakesJoined (line_text (header_data (codes "orders")) ++ s) orders in
     subst P (sym (text_of_pieces orders)) (
-    written_reads order_format piece_data AreJoined pieces orders (record { text = IsUtf8-are_ascii (codes "orders") refl; short = omega arith })
+    written_reads order_format tt piece_data MakesJoined (header_data (codes "orders")) pieces orders (header_good (codes "orders") (record { text = IsUtf8-are_ascii (codes "orders") refl; short = omega arith }))
     (λ k piece e. let fine = pieces_fine orders ranges k piece e in good_piece piece fine.0 fine.1)
     (record { few = omega (arith, pieces_total orders, few.few) }) (all_orders [] [] orders no_pieces distinct))
 
@@ -260,5 +261,5 @@ orders_text_of orders ranges distinct few =
       read = own;
       alone = λ others read.
           let P : List KeyOrder → Type 0 = λ pieces. AreJoined pieces others in
-          joined_once own.items others orders (subst P (reads_once order_format AreJoined (orders_text orders) others orders read own) read.made) own.made;
+          joined_once own.items others orders (subst P (reads_once order_format MakesJoined (orders_text orders) others orders read own) read.made) own.made;
     }

@@ -3,6 +3,7 @@ use Rattle.std.specs.Prelude.{◌≡◌, ◌≤◌, List, codes}
 use Rattle.recorder.specs.declared.row.Row.{Row}
 use Rattle.recorder.specs.Histories.{Recorded, IsWellFormed, call_count}
 use Rattle.file_format.specs.Formats.{Format}
+use Rattle.file_format.specs.Headers.{header_in}
 use Rattle.file_format.specs.Places.{IsMisplaced}
 use Rattle.file_format.specs.Rows.{row_in}
 
@@ -12,8 +13,9 @@ pub record IsHistory (rows : List Row) : Type 0 where
   pub few : call_count rows ≤ 1000000
 
 -- a history of those rows
-abbrev pub MakesHistory : List Row → Recorded → Type 0
-MakesHistory rows history = history ≡ record { rows = rows; limit = 1000000 }
+abbrev pub MakesHistory : Unit {0} → List Row → Recorded → Type 0
+MakesHistory header rows history = history ≡ record { rows = rows; limit = 1000000 }
 
-abbrev pub history_format : Format Row
-history_format = record { name = codes "history"; meaning = row_in; Fits = IsHistory; HasFault = IsMisplaced }
+-- of version 1 alone: its header says nothing that a row is judged by
+abbrev pub history_format : Format (Unit {0}) Row
+history_format = record { heading = header_in (codes "history"); meaning = λ header. row_in; Fits = λ header. IsHistory; HasFault = λ header. IsMisplaced }

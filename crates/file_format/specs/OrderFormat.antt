@@ -6,6 +6,7 @@ use Rattle.recorder.specs.declared.order.KeyOrder.{KeyOrder}
 use Rattle.file_format.specs.declared.fault.LineFault.{LineFault}
 use Rattle.file_format.specs.declared.fault.LineFault.TheVariants.{TooManyCalls}
 use Rattle.file_format.specs.Formats.{Format}
+use Rattle.file_format.specs.Headers.{header_in}
 use Rattle.file_format.specs.OrderLines.{piece_in}
 
 abbrev pub key_in : KeyOrder → List ℕ
@@ -47,5 +48,9 @@ abbrev pub IsTooMany : List KeyOrder → KeyOrder → LineFault → Type 0
 IsTooMany pieces piece TooManyCalls = 1000000 < call_total pieces + length piece.order
 IsTooMany pieces piece fault = ⊥
 
-abbrev pub order_format : Format KeyOrder
-order_format = record { name = codes "orders"; meaning = piece_in; Fits = AreFew; HasFault = IsTooMany }
+abbrev pub order_format : Format (Unit {0}) KeyOrder
+order_format = record { heading = header_in (codes "orders"); meaning = λ header. piece_in; Fits = λ header. AreFew; HasFault = λ header. IsTooMany }
+
+-- the orders that a file of the pieces makes
+abbrev pub MakesJoined : Unit {0} → List KeyOrder → List KeyOrder → Type 0
+MakesJoined header pieces orders = AreJoined pieces orders

@@ -5,7 +5,7 @@ use Rattle.recorder.specs.declared.row.Row.{Row}
 use Rattle.recorder.specs.declared.order.KeyOrder.{KeyOrder}
 use Rattle.file_format.specs.Readings.{Reads}
 use Rattle.file_format.specs.HistoryFormat.{history_format, MakesHistory}
-use Rattle.file_format.specs.OrderFormat.{order_format, AreJoined}
+use Rattle.file_format.specs.OrderFormat.{order_format, MakesJoined}
 
 -- the text is read as the history of the rows, and as no other one
 pub record IsTextOf (text : List ℕ) (rows : List Row) : Type 0 where
@@ -14,5 +14,5 @@ pub record IsTextOf (text : List ℕ) (rows : List Row) : Type 0 where
 
 -- the text is read as the orders, and as no others
 pub record IsTextOfOrders (text : List ℕ) (orders : List KeyOrder) : Type 0 where
-  pub read : Reads order_format AreJoined text orders
-  pub alone : (others : List KeyOrder) → Reads order_format AreJoined text others → others ≡ orders
+  pub read : Reads order_format MakesJoined text orders
+  pub alone : (others : List KeyOrder) → Reads order_format MakesJoined text others → others ≡ orders

@@ -7,17 +7,18 @@ use Rattle.file_format.specs.Formats.{Format}
 use Rattle.file_format.specs.Files.{AreLinesOf, IsFirstFault}
 
 -- the bytes of a whole file are a header and the lines of items, of which that is made
-pub record Reads {Item Contents : Type 0} (format : Format Item) (Makes : List Item → Contents → Type 0) (bytes : List ℕ) (contents : Contents) : Type 0 where
+pub record Reads {Header Item Contents : Type 0} (format : Format Header Item) (Makes : Header → List Item → Contents → Type 0) (bytes : List ℕ) (contents : Contents) : Type 0 where
   pub lines : List (List ℕ)
   pub rest : List ℕ
   pub splits : Splits bytes lines rest
   pub some : 0 < length (last_lines lines rest)
+  pub header : Header
   pub items : List Item
-  pub read : AreLinesOf format (last_lines lines rest) items
-  pub made : Makes items contents
+  pub read : AreLinesOf format (last_lines lines rest) header items
+  pub made : Makes header items contents
 
 -- the first fault of a whole file; one without a line has no header
-pub record FirstFaultInAll {Item : Type 0} (format : Format Item) (bytes : List ℕ) (number : ℕ) (fault : LineFault) : Type 0 where
+pub record FirstFaultInAll {Header Item : Type 0} (format : Format Header Item) (bytes : List ℕ) (number : ℕ) (fault : LineFault) : Type 0 where
   pub lines : List (List ℕ)
   pub rest : List ℕ
   pub splits : Splits bytes lines rest

@@ -19,64 +19,67 @@ pub const LONGEST: usize = 65_536;
 /// About how many bytes a line has.
 const USUAL: usize = 48;
 
-/// What a line behind the header shows by itself: its item, or its fault.
+/// What a line behind a header shows by itself: its item, or its fault.
 #[derive(Debug, Drop)]
 pub enum Judgement<T> {
     Item(T),
     Fault(LineFault),
 }
 
-/// The line's item.
+/// The line's item behind that header.
 fn item_on<T: LineItem>(
     alloc: Global,
+    header: T::Header,
     scratch: &mut Scratch,
     text: &mut Vec<u8>,
     line: &[u8],
 ) -> Result<T, Stop>
-    ensures { ShowsBy T.meaning line.now result }
+    ensures { ShowsBy (T.meaning header) line.now result }
 {
     if line.len() > LONGEST {
         return Err(Stop::Fault(LineFault::TooLong));
     }
-    if let Some(item) = T::written_on(alloc, text, line)? {
+    if let Some(item) = T::written_on(alloc, header, text, line)? {
         return Ok(item);
     }
     let document = Document::read(alloc, line, scratch)?;
-    T::item_in(alloc, &document)
+    T::item_in(alloc, header, &document)
 }
 
-/// What the line, without its end, shows behind the header.
+/// What the line, without its end, shows behind that header.
 fn judge<T: LineItem>(
     alloc: Global,
+    header: T::Header,
     scratch: &mut Scratch,
     text: &mut Vec<u8>,
     line: &[u8],
 ) -> Result<Judgement<T>, Memory>
-    ensures { IfOk result (ShowsItem T.meaning line.now) }
+    ensures { IfOk result (ShowsItem (T.meaning header) line.now) }
 {
-    match item_on::<T>(alloc, scratch, text, line) {
+    match item_on::<T>(alloc, header, scratch, text, line) {
         Ok(item) => Ok(Judgement::Item(item)),
         Err(Stop::Fault(fault)) => Ok(Judgement::Fault(fault)),
         Err(Stop::Memory) => Err(Memory),
     }
 }
 
-/// What the lines of a part, the last of them without its end, show behind the header.
+/// What the lines of a part, the last of them without its end, show behind that header.
 pub fn judge_part<T: LineItem>(
     alloc: Global,
+    header: T::Header,
     scratch: &mut Scratch,
     part: &[u8],
 ) -> Result<Vec<Judgement<T>>, Memory>
-    ensures { IfOk result (λ run. ShowParts T.meaning (part.now ∷ []) run.items) }
+    ensures { IfOk result (λ run. ShowParts (T.meaning header) (part.now ∷ []) run.items) }
 {
     let mut run = Vec::with_capacity(alloc, part.len() / USUAL)?;
     let mut text = Vec::new(alloc);
     let mut rest = part;
     while let Some(end) = first_end(rest) {
-        run.push(judge::<T>(alloc, scratch, &mut text, &rest[..end])?)?;
+        run.push(judge::<T>(alloc, header, scratch, &mut text, &rest[..end])?)?;
         rest = &rest[end + 1..];
     }
-    run.push(judge::<T>(alloc, scratch, &mut text, rest)?)?;
+    run.push(judge::<T>(alloc, header, scratch, &mut text, rest)?)?;
     Ok(run)
 }
 

@@ -10,7 +10,7 @@ ghost use Rattle.file_format.specs.LineFaults.{FaultsAre, HasRowFault, HasPieceF
 ghost use Rattle.file_format.specs.Readings.{Reads, FirstFaultInAll};
 ghost use Rattle.file_format.specs.HistoryFormat.{history_format, MakesHistory, IsHistory};
 ghost use Rattle.file_format.specs.Headers.{header_in};
-ghost use Rattle.file_format.specs.OrderFormat.{order_format, AreJoined, AreFew};
+ghost use Rattle.file_format.specs.OrderFormat.{order_format, MakesJoined, AreFew};
 ghost use Rattle.file_format.specs.OrderLines.{piece_in};
 ghost use Rattle.file_format.specs.Ranges.{AreInRange, AreOrdersInRange, HaveDistinctKeys};
 ghost use Rattle.file_format.specs.Rows.{row_in};
@@ -71,17 +71,17 @@ pub fn a_text_is_read_as_its_history_alone()
 
 /// Bytes are read as one list of orders.
 pub fn bytes_are_read_as_one_list_of_orders()
-    ensures { (bytes : List ℕ) (a b : List KeyOrder) → Reads order_format AreJoined bytes a → Reads order_format AreJoined bytes b → a ≡ b }
+    ensures { (bytes : List ℕ) (a b : List KeyOrder) → Reads order_format MakesJoined bytes a → Reads order_format MakesJoined bytes b → a ≡ b }
 {}
 
 /// What is written of orders of distinct keys is read as those orders.
 pub fn orders_are_read_from_their_text()
-    ensures { (orders : List KeyOrder) → AreOrdersInRange orders → HaveDistinctKeys orders → AreFew orders → Reads order_format AreJoined (orders_text orders) orders }
+    ensures { (orders : List KeyOrder) → AreOrdersInRange orders → HaveDistinctKeys orders → AreFew orders → Reads order_format MakesJoined (orders_text orders) orders }
 {}
 
 /// What is written of orders of distinct keys is read as no others.
 pub fn a_text_is_read_as_its_orders_alone()
-    ensures { (orders others : List KeyOrder) → AreOrdersInRange orders → HaveDistinctKeys orders → AreFew orders → Reads order_format AreJoined (orders_text orders) others → others ≡ orders }
+    ensures { (orders others : List KeyOrder) → AreOrdersInRange orders → HaveDistinctKeys orders → AreFew orders → Reads order_format MakesJoined (orders_text orders) others → others ≡ orders }
 {}
 
 /// A history file has one first fault.
@@ -101,5 +101,5 @@ pub fn a_history_has_no_fault()
 
 /// Bytes that are read as orders have no fault.
 pub fn orders_have_no_fault()
-    ensures { (bytes : List ℕ) (orders : List KeyOrder) (n : ℕ) (fault : LineFault) → Reads order_format AreJoined bytes orders → FirstFaultInAll order_format bytes n fault → ⊥ }
+    ensures { (bytes : List ℕ) (orders : List KeyOrder) (n : ℕ) (fault : LineFault) → Reads order_format MakesJoined bytes orders → FirstFaultInAll order_format bytes n fault → ⊥ }
 {}

@@ -20,43 +20,61 @@ use tag::Memory;
 
 /// What a line behind the header says.
 pub trait LineItem: Drop + Sized {
-    ghost meaning: { Data → Result Self LineFault };
+    /// What the first line says of the others.
+    type Header: Copy;
 
-    /// The item that the line, without its end, is written for, where `text` is lent room for a line.
-    /// `None` says nothing; `Memory` comes only where a growth was refused.
-    fn written_on(alloc: Global, text: &mut Vec<u8>, line: &[u8]) -> Result<Option<Self>, Memory>
-        ensures { IfOk result (λ found. IfSome found (λ item. Shows meaning line.now (Ok item))) };
+    ghost meaning: { Self.Header → Data → Result Self LineFault };
 
-    /// The item that the value says.
-    fn item_in(alloc: Global, document: &Document<'_>) -> Result<Self, Stop>
-        ensures said { Gives (λ item. item) result (meaning (data_in document.now)) }
-        ensures fine { IsFine (meaning (data_in document.now)) };
+    /// The item that the line, without its end, is written for behind that header, where `text` is lent
+    /// room for a line. `None` says nothing; `Memory` comes only where a growth was refused.
+    fn written_on(
+        alloc: Global,
+        header: Self::Header,
+        text: &mut Vec<u8>,
+        line: &[u8],
+    ) -> Result<Option<Self>, Memory>
+        ensures { IfOk result (λ found. IfSome found (λ item. Shows (meaning header) line.now (Ok item))) };
+
+    /// The item that the value says behind that header.
+    fn item_in(alloc: Global, header: Self::Header, document: &Document<'_>) -> Result<Self, Stop>
+        ensures said { Gives (λ item. item) result (meaning header (data_in document.now)) }
+        ensures fine { IsFine (meaning header (data_in document.now)) };
 }
 
 impl LineItem for Row {
-    ghost meaning = { row_in };
+    type Header = ();
 
-    fn written_on(alloc: Global, text: &mut Vec<u8>, line: &[u8]) -> Result<Option<Row>, Memory> {
+    ghost meaning = { λ header. row_in };
+
+    fn written_on(
+        alloc: Global,
+        _header: (),
+        text: &mut Vec<u8>,
+        line: &[u8],
+    ) -> Result<Option<Row>, Memory> {
         written_row(alloc, text, line)
     }
 
-    fn item_in(alloc: Global, document: &Document<'_>) -> Result<Row, Stop> {
+    fn item_in(alloc: Global, _header: (), document: &Document<'_>) -> Result<Row, Stop> {
         row_in(alloc, document)
     }
 }
 
 impl LineItem for KeyOrder {
-    ghost meaning = { piece_in };
+    type Header = ();
+
+    ghost meaning = { λ header. piece_in };
 
     fn written_on(
         alloc: Global,
+        _header: (),
         text: &mut Vec<u8>,
         line: &[u8],
     ) -> Result<Option<KeyOrder>, Memory> {
         written_piece(alloc, text, line)
     }
 
-    fn item_in(alloc: Global, document: &Document<'_>) -> Result<KeyOrder, Stop> {
+    fn item_in(alloc: Global, _header: (), document: &Document<'_>) -> Result<KeyOrder, Stop> {
         piece_in(alloc, document)
     }
 }

@@ -7,7 +7,7 @@ use Rattle.file_format.proofs.judging.judge_part.Goals as goal
 
 pub loop-end-preserved : goal.loop-end-preserved
 loop-end-preserved g c =
-    let meaning = g.T.LineItem.meaning in
+    let meaning = g.T.LineItem.meaning c.args.header in
     let part = c.args.part.now in
     let at = c.loop-end in
     let rest = at.rest.now in
@@ -20,7 +20,7 @@ loop-end-preserved g c =
 
 pub returns : goal.returns
 returns g c =
-    let meaning = g.T.LineItem.meaning in
+    let meaning = g.T.LineItem.meaning c.args.header in
     let part = c.args.part.now in
     let at = c.loop-end in
     let S : List (Judgement g.row.T.Denot) → Type 0 = λ js. ShowParts meaning (part ∷ []) js in

@@ -4,7 +4,7 @@ use Rattle.file_format.proofs.judging.judge_part.Given as goal
 
 abbrev pub invariant-loop-end : goal.invariant-loop-end
 invariant-loop-end g l = record {
-  shown : Shown g.T.LineItem.meaning l.part l.run.items l.rest;
+  shown : Shown (g.T.LineItem.meaning l.header) l.part l.run.items l.rest;
 }
 
 abbrev pub decreases-loop-end : goal.decreases-loop-end
