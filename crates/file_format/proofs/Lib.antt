@@ -16,8 +16,17 @@ pub mod ListedOrders
 pub mod Joining
 pub mod Saying
 pub mod SayingPieces
+pub mod QuorumRules
+pub mod SayingHalls
 pub mod LineFaults
+pub mod HallFaults
 pub mod Once
 pub mod OneOrder
 pub mod OneFault
 pub mod SharpFormats
+pub mod HallPlacing
+pub mod RowsByHall
+pub mod WrittenHalls
+pub mod HallTexts
+pub mod HallState
+pub mod Votes

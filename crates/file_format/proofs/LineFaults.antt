@@ -29,20 +29,20 @@ use Rattle.file_format.proofs.SayingPieces.{piece_back}
 -- ---- what a step tells
 
 -- an answer without a fault, or with the one that there is
-abbrev Told : {X : Type 0} → Type 0 → Type 0 → Result X LineFault → Type 0
+abbrev pub Told : {X : Type 0} → Type 0 → Type 0 → Result X LineFault → Type 0
 Told L O (Ok x) = Unit {0}
 Told L O (Err fault) = IsMemberFault L O fault
 
 module _ (L O : Type 0) where
-  bind : {A B : Type 0} (r : Result A LineFault) (f : A → Result B LineFault) → Told L O r → ((x : A) → r ≡ Ok x → Told L O (f x)) → Told L O (r >>= f)
+  pub bind : {A B : Type 0} (r : Result A LineFault) (f : A → Result B LineFault) → Told L O r → ((x : A) → r ≡ Ok x → Told L O (f x)) → Told L O (r >>= f)
   bind (Ok x) f h k = k x refl
   bind (Err e) f h k = h
 
-  need : {X : Type 0} (o : Option X) → (((x : X) → o ≡ Some x → ⊥) → L) → Told L O (needed o)
+  pub need : {X : Type 0} (o : Option X) → (((x : X) → o ≡ Some x → ⊥) → L) → Told L O (needed o)
   need None lacks = lacks (λ x e. cc)
   need (Some x) lacks = tt
 
-  range : {X : Type 0} (b : Bool) (x : X) → (b ≡ false → (L → ⊥) × O) → Told L O (ranged b x)
+  pub range : {X : Type 0} (b : Bool) (x : X) → (b ≡ false → (L → ⊥) × O) → Told L O (ranged b x)
   range true x out = tt
   range false x out = out refl
 
@@ -51,12 +51,12 @@ module _ (L O : Type 0) where
   picked false x y h k = k refl
 
   -- of two faults one is told
-  which : (f : LineFault) → IsMemberFault L O f → ((f ≡ Member) × L) ⊎ ((f ≡ Range) × (L → ⊥))
+  pub which : (f : LineFault) → IsMemberFault L O f → ((f ≡ Member) × L) ⊎ ((f ≡ Range) × (L → ⊥))
   which Member h = inl (refl, h)
   which Range h = inr (refl, h.0)
   which _ h = absurd h
 
-  one : (f g : LineFault) → IsMemberFault L O f → IsMemberFault L O g → f ≡ g
+  pub one : (f g : LineFault) → IsMemberFault L O f → IsMemberFault L O g → f ≡ g
   one f g h k =
       elim (which f h) [
         | inl a ↦ elim (which g k) [ inl b ↦ a.0 ∙ sym b.0 | inr b ↦ absurd (b.1 a.1) ]
@@ -68,7 +68,7 @@ module _ (L O : Type 0) where
   none Range l o h = o h.1
   none _ l o h = h
 
-  decided : {X : Type 0} (r : Result X LineFault) (f : LineFault) → Told L O r → ((x : X) → r ≡ Ok x → (L → ⊥) × (O → ⊥)) → (r ≡ Err f) ↔ IsMemberFault L O f
+  pub decided : {X : Type 0} (r : Result X LineFault) (f : LineFault) → Told L O r → ((x : X) → r ≡ Ok x → (L → ⊥) × (O → ⊥)) → (r ≡ Err f) ↔ IsMemberFault L O f
   decided (Ok x) f t fine = (λ e. cc, λ h. absurd (none f (fine x refl).0 (fine x refl).1 h))
   decided {X = X} (Err g) f t fine =
       let P : LineFault → Type 0 = λ x. IsMemberFault L O x in
@@ -76,7 +76,7 @@ module _ (L O : Type 0) where
 
 -- ---- rows
 
-two_texts : (d : Data) (name a b : List ℕ) → HasText d name a → HasText d name b → bytes_eq a b ≡ false → ⊥
+pub two_texts : (d : Data) (name a b : List ℕ) → HasText d name a → HasText d name b → bytes_eq a b ≡ false → ⊥
 two_texts d name a b h k apart =
     let same : Some a ≡ Some b = sym h ∙ k in
     let equal : a ≡ b = cc in
@@ -86,7 +86,7 @@ two_texts d name a b h k apart =
 other : (a b : List ℕ) → bytes_eq a b ≡ false → a ≢ b
 other a b apart equal = let yes = (bytes_decides a b).1 equal in cc
 
-equal_to : (a b : List ℕ) → bytes_eq a b ≡ true → Some a ≡ Some b
+pub equal_to : (a b : List ℕ) → bytes_eq a b ≡ true → Some a ≡ Some b
 equal_to a b e = ap Some ((bytes_decides a b).0 e)
 
 either_out : (a b : Bool) → (a && b) ≡ false → (a ≡ false) ⊎ (b ≡ false)
@@ -285,7 +285,7 @@ no_kind d kind here i n r (of_invoke k h) = two_texts d (codes "row") kind (code
 no_kind d kind here i n r (of_note k h) = two_texts d (codes "row") kind (codes "note") here k n
 no_kind d kind here i n r (of_respond k h) = two_texts d (codes "row") kind (codes "respond") here k r
 
-row_told : (d : Data) → Told (LacksRowMember d) (IsRowOutOfRange d) (row_in d)
+pub row_told : (d : Data) → Told (LacksRowMember d) (IsRowOutOfRange d) (row_in d)
 unfolding row_in row_of
 row_told d =
     let L = LacksRowMember d in
@@ -305,10 +305,10 @@ row_told d =
 
 -- ---- a row that is said has no fault
 
-one_text : (d : Data) (name a b : List ℕ) → HasText d name a → HasText d name b → a ≡ b
+pub one_text : (d : Data) (name a b : List ℕ) → HasText d name a → HasText d name b → a ≡ b
 one_text d name a b h k = let same : Some a ≡ Some b = sym h ∙ k in cc
 
-one_number : (d : Data) (name : List ℕ) (a b : ℕ) → HasNumber d name a → HasNumber d name b → a ≡ b
+pub one_number : (d : Data) (name : List ℕ) (a b : ℕ) → HasNumber d name a → HasNumber d name b → a ≡ b
 one_number d name a b h k = let same : Some a ≡ Some b = sym h ∙ k in cc
 
 fit_and_unfit : (test : List ℕ → Bool) (a b : List ℕ) → a ≡ b → test a ≡ true → test b ≡ false → ⊥
@@ -355,7 +355,7 @@ respond_within : (d : Data) (op : OpId) (returned : Returned) → SaysRespond d 
 respond_within d op returned s (great_call_answered g) = omega (arith, s.call.range, one_number d (codes "call") op.0 g.0 s.call.call g.1, g.2)
 respond_within d op returned s (long_answer l) = answer_short d returned s.answers l.0 l.1 l.2
 
-row_complete : (d : Data) (row : Row) → SaysRow d row → LacksRowMember d → ⊥
+pub row_complete : (d : Data) (row : Row) → SaysRow d row → LacksRowMember d → ⊥
 row_complete d (Invoke op client key action) s h = invoke_complete d op client key action s (of_invoke_alone d s.kind h)
 row_complete d (Note op tag) s h = note_has d op.0 tag.number tag.writer s.call.call s.number s.writer (of_note_alone d s.kind h)
 row_complete d (Respond op returned) s h = respond_has d op.0 s.call.call (answered_fits d returned s.answers) (of_respond_alone d s.kind h)
@@ -378,7 +378,7 @@ respond_row_within d op returned s (out_of_invoke k h) = two_texts d (codes "row
 respond_row_within d op returned s (out_of_note k h) = two_texts d (codes "row") (codes "respond") (codes "note") s.kind k refl
 respond_row_within d op returned s (out_of_respond k h) = respond_within d op returned s h
 
-row_within : (d : Data) (row : Row) → SaysRow d row → IsRowOutOfRange d → ⊥
+pub row_within : (d : Data) (row : Row) → SaysRow d row → IsRowOutOfRange d → ⊥
 row_within d (Invoke op client key action) s h = invoke_row_within d op client key action s h
 row_within d (Note op tag) s h = note_row_within d op tag s h
 row_within d (Respond op returned) s h = respond_row_within d op returned s h

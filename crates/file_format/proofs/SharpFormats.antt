@@ -14,69 +14,69 @@ use Rattle.recorder.specs.declared.order.KeyOrder.{KeyOrder}
 use Rattle.recorder.specs.Histories.{IsWellFormed, MayFollow, IsPendingOp, HasNote, Fits, call_count}
 use Rattle.file_format.specs.declared.fault.LineFault.{LineFault}
 use Rattle.file_format.specs.declared.fault.LineFault.TheVariants.{CallOutOfTurn, ClientBusy, CallNotPending, WrongKind, NoteTwice, TooManyCalls}
-use Rattle.file_format.specs.HistoryFormat.{IsHistory, history_format}
+use Rattle.file_format.specs.HistoryFormat.{history_format}
 use Rattle.file_format.specs.OrderFormat.{call_total, IsTooMany, order_format}
-use Rattle.file_format.specs.Places.{IsOutOfTurn, IsByBusy, IsUnfit, IsOneTooMany, IsMisplaced}
+use Rattle.file_format.specs.Places.{IsOutOfTurn, IsByBusy, IsUnfit, IsOneTooMany, IsMisplacedBehind}
 use Rattle.file_format.proofs.OneFault.{IsSharp}
 
 -- ---- the faults that each kind of row can have
 
-invoke_faults : (rows : List Row) (op : OpId) (client : ℕ) (key : List ℕ) (action : Action) (f : LineFault) → IsMisplaced rows (Invoke op client key action) f
+invoke_faults : (calls : ℕ) (rows : List Row) (op : OpId) (client : ℕ) (key : List ℕ) (action : Action) (f : LineFault) → IsMisplacedBehind calls rows (Invoke op client key action) f
     → ((f ≡ CallOutOfTurn) × IsOutOfTurn rows (Invoke op client key action)) ⊎ (((f ≡ ClientBusy) × (IsOutOfTurn rows (Invoke op client key action) → ⊥) × IsByBusy rows (Invoke op client key action))
-    ⊎ ((f ≡ TooManyCalls) × (IsOutOfTurn rows (Invoke op client key action) → ⊥) × (IsByBusy rows (Invoke op client key action) → ⊥) × IsOneTooMany rows (Invoke op client key action)))
-invoke_faults rows op client key action CallOutOfTurn h = inl (refl, h)
-invoke_faults rows op client key action ClientBusy h = inr (inl (refl, h.0, h.1))
-invoke_faults rows op client key action CallNotPending h = absurd h
-invoke_faults rows op client key action WrongKind h = absurd h
-invoke_faults rows op client key action NoteTwice h = absurd h
-invoke_faults rows op client key action TooManyCalls h = inr (inr (refl, h.0, h.1, h.2))
-invoke_faults rows op client key action _ h = absurd h
+    ⊎ ((f ≡ TooManyCalls) × (IsOutOfTurn rows (Invoke op client key action) → ⊥) × (IsByBusy rows (Invoke op client key action) → ⊥) × IsOneTooMany calls (Invoke op client key action)))
+invoke_faults calls rows op client key action CallOutOfTurn h = inl (refl, h)
+invoke_faults calls rows op client key action ClientBusy h = inr (inl (refl, h.0, h.1))
+invoke_faults calls rows op client key action CallNotPending h = absurd h
+invoke_faults calls rows op client key action WrongKind h = absurd h
+invoke_faults calls rows op client key action NoteTwice h = absurd h
+invoke_faults calls rows op client key action TooManyCalls h = inr (inr (refl, h.0, h.1, h.2))
+invoke_faults calls rows op client key action _ h = absurd h
 
-note_faults : (rows : List Row) (op : OpId) (tag : Tag) (f : LineFault) → IsMisplaced rows (Note op tag) f → ((f ≡ CallNotPending) × (IsPendingOp rows op → ⊥)) ⊎ ((f ≡ NoteTwice) × IsPendingOp rows op × HasNote rows op)
-note_faults rows op tag CallOutOfTurn h = absurd h
-note_faults rows op tag ClientBusy h = absurd h.1
-note_faults rows op tag CallNotPending h = inl (refl, h)
-note_faults rows op tag WrongKind h = absurd h
-note_faults rows op tag NoteTwice h = inr (refl, h.0, h.1)
-note_faults rows op tag TooManyCalls h = absurd h.2
-note_faults rows op tag _ h = absurd h
+note_faults : (calls : ℕ) (rows : List Row) (op : OpId) (tag : Tag) (f : LineFault) → IsMisplacedBehind calls rows (Note op tag) f → ((f ≡ CallNotPending) × (IsPendingOp rows op → ⊥)) ⊎ ((f ≡ NoteTwice) × IsPendingOp rows op × HasNote rows op)
+note_faults calls rows op tag CallOutOfTurn h = absurd h
+note_faults calls rows op tag ClientBusy h = absurd h.1
+note_faults calls rows op tag CallNotPending h = inl (refl, h)
+note_faults calls rows op tag WrongKind h = absurd h
+note_faults calls rows op tag NoteTwice h = inr (refl, h.0, h.1)
+note_faults calls rows op tag TooManyCalls h = absurd h.2
+note_faults calls rows op tag _ h = absurd h
 
-respond_faults : (rows : List Row) (op : OpId) (returned : Returned) (f : LineFault) → IsMisplaced rows (Respond op returned) f → ((f ≡ CallNotPending) × (IsPendingOp rows op → ⊥)) ⊎ ((f ≡ WrongKind) × IsUnfit rows (Respond op returned))
-respond_faults rows op returned CallOutOfTurn h = absurd h
-respond_faults rows op returned ClientBusy h = absurd h.1
-respond_faults rows op returned CallNotPending h = inl (refl, h)
-respond_faults rows op returned WrongKind h = inr (refl, h)
-respond_faults rows op returned NoteTwice h = absurd h
-respond_faults rows op returned TooManyCalls h = absurd h.2
-respond_faults rows op returned _ h = absurd h
+respond_faults : (calls : ℕ) (rows : List Row) (op : OpId) (returned : Returned) (f : LineFault) → IsMisplacedBehind calls rows (Respond op returned) f → ((f ≡ CallNotPending) × (IsPendingOp rows op → ⊥)) ⊎ ((f ≡ WrongKind) × IsUnfit rows (Respond op returned))
+respond_faults calls rows op returned CallOutOfTurn h = absurd h
+respond_faults calls rows op returned ClientBusy h = absurd h.1
+respond_faults calls rows op returned CallNotPending h = inl (refl, h)
+respond_faults calls rows op returned WrongKind h = inr (refl, h)
+respond_faults calls rows op returned NoteTwice h = absurd h
+respond_faults calls rows op returned TooManyCalls h = absurd h.2
+respond_faults calls rows op returned _ h = absurd h
 
-one_misplaced : (rows : List Row) (row : Row) (f g : LineFault) → IsMisplaced rows row f → IsMisplaced rows row g → f ≡ g
-one_misplaced rows (Invoke op client key action) f g h k =
-    elim (invoke_faults rows op client key action f h) [
-      | inl a ↦ elim (invoke_faults rows op client key action g k) [
+pub one_misplaced : (calls : ℕ) (rows : List Row) (row : Row) (f g : LineFault) → IsMisplacedBehind calls rows row f → IsMisplacedBehind calls rows row g → f ≡ g
+one_misplaced calls rows (Invoke op client key action) f g h k =
+    elim (invoke_faults calls rows op client key action f h) [
+      | inl a ↦ elim (invoke_faults calls rows op client key action g k) [
         | inl b ↦ a.0 ∙ sym b.0
         | inr v ↦ elim v [ inl b ↦ absurd (b.1 a.1) | inr b ↦ absurd (b.1 a.1) ]
       ]
       | inr u ↦ elim u [
-        | inl a ↦ elim (invoke_faults rows op client key action g k) [
+        | inl a ↦ elim (invoke_faults calls rows op client key action g k) [
           | inl b ↦ absurd (a.1 b.1)
           | inr v ↦ elim v [ inl b ↦ a.0 ∙ sym b.0 | inr b ↦ absurd (b.2 a.2) ]
         ]
-        | inr a ↦ elim (invoke_faults rows op client key action g k) [
+        | inr a ↦ elim (invoke_faults calls rows op client key action g k) [
           | inl b ↦ absurd (a.1 b.1)
           | inr v ↦ elim v [ inl b ↦ absurd (a.2 b.2) | inr b ↦ a.0 ∙ sym b.0 ]
         ]
       ]
     ]
-one_misplaced rows (Note op tag) f g h k =
-    elim (note_faults rows op tag f h) [
-      | inl a ↦ elim (note_faults rows op tag g k) [ inl b ↦ a.0 ∙ sym b.0 | inr b ↦ absurd (a.1 b.1) ]
-      | inr a ↦ elim (note_faults rows op tag g k) [ inl b ↦ absurd (b.1 a.1) | inr b ↦ a.0 ∙ sym b.0 ]
+one_misplaced calls rows (Note op tag) f g h k =
+    elim (note_faults calls rows op tag f h) [
+      | inl a ↦ elim (note_faults calls rows op tag g k) [ inl b ↦ a.0 ∙ sym b.0 | inr b ↦ absurd (a.1 b.1) ]
+      | inr a ↦ elim (note_faults calls rows op tag g k) [ inl b ↦ absurd (b.1 a.1) | inr b ↦ a.0 ∙ sym b.0 ]
     ]
-one_misplaced rows (Respond op returned) f g h k =
-    elim (respond_faults rows op returned f h) [
-      | inl a ↦ elim (respond_faults rows op returned g k) [ inl b ↦ a.0 ∙ sym b.0 | inr b ↦ let w = b.1 in absurd (a.1 (w.0, w.1, w.2)) ]
-      | inr a ↦ elim (respond_faults rows op returned g k) [ inl b ↦ let w = a.1 in absurd (b.1 (w.0, w.1, w.2)) | inr b ↦ a.0 ∙ sym b.0 ]
+one_misplaced calls rows (Respond op returned) f g h k =
+    elim (respond_faults calls rows op returned f h) [
+      | inl a ↦ elim (respond_faults calls rows op returned g k) [ inl b ↦ a.0 ∙ sym b.0 | inr b ↦ let w = b.1 in absurd (a.1 (w.0, w.1, w.2)) ]
+      | inr a ↦ elim (respond_faults calls rows op returned g k) [ inl b ↦ let w = a.1 in absurd (b.1 (w.0, w.1, w.2)) | inr b ↦ a.0 ∙ sym b.0 ]
     ]
 
 -- ---- a row of a history has none
@@ -127,31 +127,38 @@ one_action rows op c d i j k l a b h x y =
       ]
     ]
 
-never_misplaced : (rows : List Row) (row : Row) (more : List Row) (f : LineFault) → IsHistory (rows ++ row ∷ more) → IsMisplaced rows row f → ⊥
-never_misplaced rows (Invoke op client key action) more f h bad =
-    let may = follows rows (Invoke op client key action) more h.formed in
-    elim (invoke_faults rows op client key action f bad) [
+-- a row behind which a history goes on has no fault, where fewer than 1,000,000 calls began before it, if it begins one
+pub never_misplaced : (calls : ℕ) (rows : List Row) (row : Row) (more : List Row) (f : LineFault) → IsWellFormed (rows ++ row ∷ more) → (IsOneTooMany calls row → ⊥) → IsMisplacedBehind calls rows row f → ⊥
+never_misplaced calls rows (Invoke op client key action) more f formed room bad =
+    let may = follows rows (Invoke op client key action) more formed in
+    elim (invoke_faults calls rows op client key action f bad) [
       | inl a ↦ a.1 may.0
-      | inr v ↦ elim v [ inl a ↦ may.1 a.2 | inr a ↦ omega (arith, a.3, h.few, calls_both rows (Invoke op client key action ∷ more)) ]
+      | inr v ↦ elim v [ inl a ↦ may.1 a.2 | inr a ↦ room a.3 ]
     ]
-never_misplaced rows (Note op tag) more f h bad =
-    let may = follows rows (Note op tag) more h.formed in
-    elim (note_faults rows op tag f bad) [ inl a ↦ a.1 may.0 | inr a ↦ may.1 a.2 ]
-never_misplaced rows (Respond op returned) more f h bad =
-    let may = follows rows (Respond op returned) more h.formed in
-    elim (respond_faults rows op returned f bad) [
+never_misplaced calls rows (Note op tag) more f formed room bad =
+    let may = follows rows (Note op tag) more formed in
+    elim (note_faults calls rows op tag f bad) [ inl a ↦ a.1 may.0 | inr a ↦ may.1 a.2 ]
+never_misplaced calls rows (Respond op returned) more f formed room bad =
+    let may = follows rows (Respond op returned) more formed in
+    elim (respond_faults calls rows op returned f bad) [
       | inl a ↦ a.1 (may.0, may.1, may.2)
       | inr a ↦
           let w = a.1 in
           let i = place_of rows (Invoke op may.0 may.2.key may.1) may.2.invoked in
           let j = place_of rows (Invoke op w.0 w.2.key w.1) w.2.invoked in
           let all = rows ++ Respond op returned ∷ more in
-          let same = one_action all op may.0 w.0 i.0 j.0 may.2.key w.2.key may.1 w.1 h.formed (wider rows (Respond op returned ∷ more) i.0 _ i.1) (wider rows (Respond op returned ∷ more) j.0 _ j.1) in
+          let same = one_action all op may.0 w.0 i.0 j.0 may.2.key w.2.key may.1 w.1 formed (wider rows (Respond op returned ∷ more) i.0 _ i.1) (wider rows (Respond op returned ∷ more) j.0 _ j.1) in
           w.3 (subst (λ (a : Action). Fits a returned) same may.3)
     ]
 
+-- fewer than 1,000,000 calls began before a row of rows that begin no more
+pub has_room : (rows : List Row) (row : Row) (more : List Row) → call_count (rows ++ row ∷ more) ≤ 1000000 → IsOneTooMany (call_count rows) row → ⊥
+has_room rows (Invoke op client key action) more few many = omega (arith, few, many, calls_both rows (Invoke op client key action ∷ more))
+has_room rows (Note op tag) more few many = many
+has_room rows (Respond op returned) more few many = many
+
 pub history_sharp : IsSharp history_format
-history_sharp = record { one = λ header rows row f g h k. one_misplaced rows row f g h k; none = λ header rows row more f h k. never_misplaced rows row more f h k }
+history_sharp = record { one = λ header rows row f g h k. one_misplaced (call_count rows) rows row f g h k; none = λ header rows row more f h k. never_misplaced (call_count rows) rows row more f h.formed (has_room rows row more h.few) k }
 
 -- ---- pieces
 

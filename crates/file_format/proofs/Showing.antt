@@ -10,6 +10,10 @@ use Rattle.file_format.specs.Members.{◌>>=◌, Gives, needed, ranged}
 use Rattle.file_format.specs.Rows.{begun, written_in, action_of, invoke_in, note_in, answer_of, returned_of, respond_in, row_of, row_in}
 use Rattle.file_format.specs.OrderLines.{piece_in}
 use Rattle.file_format.specs.Headers.{header_of, header_in}
+use Rattle.file_format.specs.declared.file_header.FileHeader.{FileHeader}
+use Rattle.file_format.specs.declared.file_header.FileHeader.TheVariants.{Version1, Version2}
+use Rattle.file_format.specs.FileHeaders.{told_in, version_of, file_header_of, file_header_in}
+use Rattle.file_format.specs.HallRows.{only_row_in, placed_row_in, hall_row_in}
 use Rattle.file_format.specs.Formats.{IsFine, IsOfMembers}
 use Rattle.file_format.specs.Lines.{Shows, ShowsBy}
 use Rattle.file_format.specs.Documents.{IsJson}
@@ -96,6 +100,38 @@ header-well name (Some abd) (Some version) = search (choice, no_header, no_versi
 pub header_in-well : (name : List ℕ) (d : Data) → Well (header_in name d)
 unfolding header_in
 header_in-well name d = header-well name _ _
+
+-- a history file's header, and its rows with their halls
+told-well : (d : Data) → Well (told_in d)
+unfolding told_in
+told-well d = search (bind, need, range, ok) depth 30
+
+version-well : (version : ℕ) (d : Data) → Well (version_of version d)
+unfolding version_of
+version-well version d = search (choice, told-well, no_version, ok) depth 20
+
+file_header-well : (abd : Option (List ℕ)) (version : Option ℕ) (d : Data) → Well (file_header_of abd version d)
+unfolding file_header_of
+file_header-well None version d = record { fine = tt }
+file_header-well (Some abd) None d = search (choice, no_header, no_version) depth 20
+file_header-well (Some abd) (Some version) d = search (choice, version-well, no_header) depth 20
+
+pub file_header_in-well : (d : Data) → Well (file_header_in d)
+unfolding file_header_in
+file_header_in-well d = file_header-well _ _ d
+
+only_row-well : (d : Data) → Well (only_row_in d)
+unfolding only_row_in
+only_row-well d = search (bind, row_in-well, ok) depth 20
+
+placed_row-well : (halls : ℕ) (d : Data) → Well (placed_row_in halls d)
+unfolding placed_row_in
+placed_row-well halls d = search (bind, need, row_in-well, range, ok) depth 20
+
+pub hall_row_in-well : (header : FileHeader) (d : Data) → Well (hall_row_in header d)
+unfolding hall_row_in
+hall_row_in-well Version1 d = only_row-well d
+hall_row_in-well (Version2 halls quorums) d = placed_row-well halls d
 
 pub piece_in-well : (d : Data) → Well (piece_in d)
 unfolding piece_in

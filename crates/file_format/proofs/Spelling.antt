@@ -6,16 +6,18 @@ use Rattle.std.proofs.lemmas.Bool.{and_parts, leb-true}
 use Rattle.std.proofs.lemmas.Fmt.{decimal_digit}
 use Rattle.json.specs.Print.{quoted, escape, escape_byte}
 use Rattle.json.proofs.Printed.Strings.{escape_byte_plain}
-use Rattle.serde_json.specs.Data.{string, Members, member}
+use Rattle.serde_json.specs.Data.{string, Members, no_members, member}
 use Rattle.serde_json.specs.Written.{items_text, members_text}
 use Rattle.tag.specs.Tags.{Tag}
 use Rattle.tag.specs.declared.numbers.OpId.{OpId}
 use Rattle.tag.specs.declared.actions.Action.TheVariants.{Read, Write}
 use Rattle.tag.specs.declared.actions.Returned.TheVariants.{Value, Written}
 use Rattle.recorder.specs.declared.row.Row.TheVariants.{Invoke, Note, Respond}
+use Rattle.quorum.specs.Quorums.{Quorums}
 use Rattle.counted_devices.specs.Cuts.{ended}
+use Rattle.file_format.specs.declared.file_header.FileHeader.TheVariants.{Version2}
 use Rattle.file_format.specs.PlainTexts.{is_plain}
-use Rattle.file_format.specs.Texts.{header_data, row_data, answered_value, piece_data, calls_data, line_text, row_text, piece_text}
+use Rattle.file_format.specs.Texts.{whole, header_data, file_header_data, numbers_data, row_data, hall_member, hall_text, answered_value, piece_data, calls_data, line_text, placed_text, piece_text}
 
 abbrev end : List ℕ
 end = 10 ∷ []
@@ -31,14 +33,17 @@ member_bytes before middle rest = before ++ (middle ++ rest)
 member_end : (before middle rest : List ℕ) → member_bytes before middle rest ++ end ≡ member_bytes before middle (rest ++ end)
 member_end before middle rest = append_assoc before (middle ++ rest) end ∙ ap (λ (s : List ℕ). before ++ s) (append_assoc middle rest end)
 
-abbrev asks_read : List ℕ → List ℕ
-asks_read key = member_bytes (codes ",\"do\":\"read\",\"key\":") (quoted key) (codes ",\"row\":\"invoke\"}")
+-- the member `hall`, where there is one, before others
+hall_there : (hall : Option ℕ) (others : Members) → members_text true (hall_member hall others) ≡ hall_text hall ++ members_text true others
+unfolding escape_byte
+hall_there None others = refl
+hall_there (Some hall) others = refl
 
 abbrev writes_value : List ℕ → List ℕ
 writes_value value = member_bytes (codes ",\"row\":\"invoke\",\"value\":") (quoted value) (codes "}")
 
-abbrev asks_write : List ℕ → List ℕ → List ℕ
-asks_write key value = member_bytes (codes ",\"do\":\"write\",\"key\":") (quoted key) (writes_value value)
+abbrev on_key : List ℕ → List ℕ → List ℕ
+on_key key rest = member_bytes (codes ",\"key\":") (quoted key) rest
 
 abbrev begins_invoke : ℕ → ℕ → List ℕ → List ℕ
 begins_invoke call client rest = member_bytes (codes "{\"call\":") (decimal call) (member_bytes (codes ",\"client\":") (decimal client) rest)
@@ -48,31 +53,52 @@ invoke_end call client rest =
     member_end (codes "{\"call\":") (decimal call) (member_bytes (codes ",\"client\":") (decimal client) rest)
     ∙ ap (λ (s : List ℕ). member_bytes (codes "{\"call\":") (decimal call) s) (member_end (codes ",\"client\":") (decimal client) rest)
 
-pub read_bytes : (op : OpId) (client : ℕ) (key : List ℕ)
-    → row_text (Invoke op client key Read) ≡ codes "{\"call\":" ++ (decimal op.0 ++ (codes ",\"client\":" ++ (decimal client ++ (codes ",\"do\":\"read\",\"key\":" ++ (quoted key ++ codes ",\"row\":\"invoke\"}\n")))))
+pub read_bytes : (hall : Option ℕ) (op : OpId) (client : ℕ) (key : List ℕ)
+    → placed_text hall (Invoke op client key Read) ≡ codes "{\"call\":" ++ (decimal op.0 ++ (codes ",\"client\":" ++ (decimal client ++ (codes ",\"do\":\"read\"" ++ (hall_text hall ++ (codes ",\"key\":" ++ (quoted key ++ codes ",\"row\":\"invoke\"}\n")))))))
 unfolding line_text row_data escape_byte
-read_bytes op client key =
-    invoke_end op.0 client (asks_read key) ∙ ap (λ (s : List ℕ). begins_invoke op.0 client s) (member_end (codes ",\"do\":\"read\",\"key\":") (quoted key) (codes ",\"row\":\"invoke\"}"))
+read_bytes hall op client key =
+    let action = codes ",\"do\":\"read\"" in
+    let others = on_key key (codes ",\"row\":\"invoke\"}") in
+    ap (λ (s : List ℕ). begins_invoke op.0 client (action ++ s) ++ end) (hall_there hall (member (codes "key") (string key) (member (codes "row") (string (codes "invoke")) no_members)))
+    ∙ invoke_end op.0 client (member_bytes action (hall_text hall) others)
+    ∙ ap (λ (s : List ℕ). begins_invoke op.0 client s) (member_end action (hall_text hall) others
+    ∙ ap (λ (s : List ℕ). member_bytes action (hall_text hall) s) (member_end (codes ",\"key\":") (quoted key) (codes ",\"row\":\"invoke\"}")))
 
-pub write_bytes : (op : OpId) (client : ℕ) (key value : List ℕ)
-    → row_text (Invoke op client key (Write value)) ≡ codes "{\"call\":" ++ (decimal op.0 ++ (codes ",\"client\":" ++ (decimal client ++ (codes ",\"do\":\"write\",\"key\":" ++ (quoted key ++ (codes ",\"row\":\"invoke\",\"value\":" ++ (quoted value ++ codes "}\n")))))))
+pub write_bytes : (hall : Option ℕ) (op : OpId) (client : ℕ) (key value : List ℕ)
+    → placed_text hall (Invoke op client key (Write value)) ≡ codes "{\"call\":" ++ (decimal op.0 ++ (codes ",\"client\":" ++ (decimal client ++ (codes ",\"do\":\"write\"" ++ (hall_text hall ++ (codes ",\"key\":" ++ (quoted key ++ (codes ",\"row\":\"invoke\",\"value\":" ++ (quoted value ++ codes "}\n")))))))))
 unfolding line_text row_data escape_byte
-write_bytes op client key value =
-    invoke_end op.0 client (asks_write key value)
-    ∙ ap (λ (s : List ℕ). begins_invoke op.0 client s) (member_end (codes ",\"do\":\"write\",\"key\":") (quoted key) (writes_value value)
-    ∙ ap (λ (s : List ℕ). member_bytes (codes ",\"do\":\"write\",\"key\":") (quoted key) s) (member_end (codes ",\"row\":\"invoke\",\"value\":") (quoted value) (codes "}")))
+write_bytes hall op client key value =
+    let action = codes ",\"do\":\"write\"" in
+    let others = on_key key (writes_value value) in
+    ap (λ (s : List ℕ). begins_invoke op.0 client (action ++ s) ++ end) (hall_there hall (member (codes "key") (string key) (member (codes "row") (string (codes "invoke")) (member (codes "value") (string value) no_members))))
+    ∙ invoke_end op.0 client (member_bytes action (hall_text hall) others)
+    ∙ ap (λ (s : List ℕ). begins_invoke op.0 client s) (member_end action (hall_text hall) others
+    ∙ ap (λ (s : List ℕ). member_bytes action (hall_text hall) s) (member_end (codes ",\"key\":") (quoted key) (writes_value value)
+    ∙ ap (λ (s : List ℕ). on_key key s) (member_end (codes ",\"row\":\"invoke\",\"value\":") (quoted value) (codes "}"))))
 
-pub note_bytes : (op : OpId) (tag : Tag) → row_text (Note op tag) ≡ codes "{\"call\":" ++ (decimal op.0 ++ (codes ",\"number\":" ++ (decimal tag.number ++ (codes ",\"row\":\"note\",\"writer\":" ++ (decimal tag.writer ++ codes "}\n")))))
+-- a row that isn't an invocation: its call, its hall where there is one, and the rest
+abbrev begins_later : ℕ → Option ℕ → List ℕ → List ℕ
+begins_later call hall rest = member_bytes (codes "{\"call\":") (decimal call) (hall_text hall ++ rest)
+
+later_end : (call : ℕ) (hall : Option ℕ) (others : Members) (rest : List ℕ) → members_text true others ≡ rest → (codes "{\"call\":" ++ (decimal call ++ members_text true (hall_member hall others))) ++ end ≡ begins_later call hall (rest ++ end)
+later_end call hall others rest same =
+    ap (λ (s : List ℕ). (codes "{\"call\":" ++ (decimal call ++ s)) ++ end) (hall_there hall others ∙ ap (λ (s : List ℕ). hall_text hall ++ s) same)
+    ∙ member_end (codes "{\"call\":") (decimal call) (hall_text hall ++ rest)
+    ∙ ap (λ (s : List ℕ). member_bytes (codes "{\"call\":") (decimal call) s) (append_assoc (hall_text hall) rest end)
+
+pub note_bytes : (hall : Option ℕ) (op : OpId) (tag : Tag)
+    → placed_text hall (Note op tag) ≡ codes "{\"call\":" ++ (decimal op.0 ++ (hall_text hall ++ (codes ",\"number\":" ++ (decimal tag.number ++ (codes ",\"row\":\"note\",\"writer\":" ++ (decimal tag.writer ++ codes "}\n"))))))
 unfolding line_text row_data escape_byte
-note_bytes op tag =
+note_bytes hall op tag =
     let writer = member_bytes (codes ",\"row\":\"note\",\"writer\":") (decimal tag.writer) (codes "}") in
-    member_end (codes "{\"call\":") (decimal op.0) (member_bytes (codes ",\"number\":") (decimal tag.number) writer)
-    ∙ ap (λ (s : List ℕ). member_bytes (codes "{\"call\":") (decimal op.0) s) (member_end (codes ",\"number\":") (decimal tag.number) writer
+    let others = member (codes "number") (whole tag.number) (member (codes "row") (string (codes "note")) (member (codes "writer") (whole tag.writer) no_members)) in
+    later_end op.0 hall others (member_bytes (codes ",\"number\":") (decimal tag.number) writer) refl
+    ∙ ap (λ (s : List ℕ). begins_later op.0 hall s) (member_end (codes ",\"number\":") (decimal tag.number) writer
     ∙ ap (λ (s : List ℕ). member_bytes (codes ",\"number\":") (decimal tag.number) s) (member_end (codes ",\"row\":\"note\",\"writer\":") (decimal tag.writer) (codes "}")))
 
-pub written_bytes : (op : OpId) → row_text (Respond op Written) ≡ codes "{\"call\":" ++ (decimal op.0 ++ codes ",\"row\":\"respond\"}\n")
+pub written_bytes : (hall : Option ℕ) (op : OpId) → placed_text hall (Respond op Written) ≡ codes "{\"call\":" ++ (decimal op.0 ++ (hall_text hall ++ codes ",\"row\":\"respond\"}\n"))
 unfolding line_text row_data escape_byte
-written_bytes op = member_end (codes "{\"call\":") (decimal op.0) (codes ",\"row\":\"respond\"}")
+written_bytes hall op = later_end op.0 hall (member (codes "row") (string (codes "respond")) no_members) (codes ",\"row\":\"respond\"}") refl
 
 -- what a read's response has behind its call
 abbrev pub answer_members : Option (List ℕ) → Members
@@ -86,15 +112,32 @@ pub answered_bytes : (value : List ℕ) → ended (members_text true (answer_mem
 unfolding escape_byte
 answered_bytes value = member_end (codes ",\"row\":\"respond\",\"value\":") (quoted value) (codes "}")
 
-pub respond_bytes : (op : OpId) (answer : Option (List ℕ)) → row_text (Respond op (Value answer)) ≡ codes "{\"call\":" ++ (decimal op.0 ++ ended (members_text true (answer_members answer)))
+pub respond_bytes : (hall : Option ℕ) (op : OpId) (answer : Option (List ℕ)) → placed_text hall (Respond op (Value answer)) ≡ codes "{\"call\":" ++ (decimal op.0 ++ (hall_text hall ++ ended (members_text true (answer_members answer))))
 unfolding line_text row_data escape_byte
-respond_bytes op answer = member_end (codes "{\"call\":") (decimal op.0) (members_text true (answer_members answer))
+respond_bytes hall op answer = later_end op.0 hall (answer_members answer) (members_text true (answer_members answer)) refl
 
 pub piece_bytes : (key : List ℕ) (order : List OpId) → piece_text (record { key = key; order = order }) ≡ codes "{\"key\":" ++ (quoted key ++ (codes ",\"order\":[" ++ (items_text false (calls_data order) ++ codes "}\n")))
 unfolding line_text piece_data escape_byte
 piece_bytes key order =
     member_end (codes "{\"key\":") (quoted key) (member_bytes (codes ",\"order\":[") (items_text false (calls_data order)) (codes "}"))
     ∙ ap (λ (s : List ℕ). member_bytes (codes "{\"key\":") (quoted key) s) (member_end (codes ",\"order\":[") (items_text false (calls_data order)) (codes "}"))
+
+-- the header of version 2
+abbrev told_votes : List ℕ → List ℕ
+told_votes votes = member_bytes (codes ",\"version\":2,\"votes\":[") (items_text false (numbers_data votes)) (codes "}")
+
+pub quorums_bytes : (halls : ℕ) (quorums : Quorums)
+    → line_text (file_header_data (Version2 halls quorums)) ≡ codes "{\"abd\":\"history\",\"ask\":" ++ (decimal quorums.ask ++ (codes ",\"halls\":" ++ (decimal halls ++ (codes ",\"put\":" ++ (decimal quorums.put ++ (codes ",\"version\":2,\"votes\":[" ++ (items_text false (numbers_data quorums.votes) ++ codes "}\n")))))))
+unfolding line_text file_header_data escape_byte
+quorums_bytes halls quorums =
+    let votes = told_votes quorums.votes in
+    let put = member_bytes (codes ",\"put\":") (decimal quorums.put) votes in
+    let count = member_bytes (codes ",\"halls\":") (decimal halls) put in
+    rw (decimal_digit 2 (omega arith)) (
+    member_end (codes "{\"abd\":\"history\",\"ask\":") (decimal quorums.ask) count
+    ∙ ap (λ (s : List ℕ). member_bytes (codes "{\"abd\":\"history\",\"ask\":") (decimal quorums.ask) s) (member_end (codes ",\"halls\":") (decimal halls) put
+    ∙ ap (λ (s : List ℕ). member_bytes (codes ",\"halls\":") (decimal halls) s) (member_end (codes ",\"put\":") (decimal quorums.put) votes
+    ∙ ap (λ (s : List ℕ). member_bytes (codes ",\"put\":") (decimal quorums.put) s) (member_end (codes ",\"version\":2,\"votes\":[") (items_text false (numbers_data quorums.votes)) (codes "}")))))
 
 -- ---- bytes that come one after another
 

@@ -1,12 +1,13 @@
 -- The line that is written for a row, or for a piece of an order, is a line of it.
-use Rattle.std.proofs.Common.{◌≡◌, ◌<◌, ◌≤◌, ◌+◌, ◌^◌, ℕ, List, [], ◌∷◌, ◌++◌, true, ◌&&◌, nat_lt, nat_le, length, Some, None, decimal, codes, IsUtf8, refl, inl, inr, arith, length-append}
+use Rattle.std.proofs.Common.{◌≡◌, ◌<◌, ◌≤◌, ◌+◌, ◌^◌, ℕ, List, [], ◌∷◌, ◌++◌, true, ◌&&◌, nat_lt, nat_le, length, Option, Some, None, decimal, codes, IsUtf8, refl, inl, inr, arith, length-append}
+use Rattle.std.specs.Prelude.{⊤}
 use Rattle.std.specs.List.{list_all}
 use Rattle.std.proofs.lemmas.Bool.{and_parts, and_from, leb-true, lt-ltb, cases_lt}
 use Rattle.std.proofs.lemmas.Bool.Decides.{nat_tests}
 use Rattle.json.specs.Print.{quoted}
 use Rattle.json.specs.Tree as tree
 use Rattle.json.proofs.Printed.Utf8.{IsUtf8-are_ascii, are_ascii}
-use Rattle.serde_json.specs.Data.{Data}
+use Rattle.serde_json.specs.Data.{Data, Members}
 use Rattle.serde_json.specs.Read.{of_json}
 use Rattle.serde_json.specs.Written.{outline, compact_text}
 use Rattle.serde_json.proofs.Numbers.{number_of-decimal}
@@ -16,9 +17,9 @@ use Rattle.tag.specs.declared.actions.Returned.TheVariants.{Value, Written}
 use Rattle.recorder.specs.declared.row.Row.{Row}
 use Rattle.recorder.specs.declared.row.Row.TheVariants.{Invoke, Note, Respond}
 use Rattle.file_format.specs.Ranges.{IsInRange}
-use Rattle.file_format.specs.Texts.{row_data, line_text, row_text}
-use Rattle.file_format.specs.Says.{reads, writes, written, absent, answered, SaysRow}
-use Rattle.file_format.proofs.Compact.{IsSimple, length-quoted, length-digits}
+use Rattle.file_format.specs.Texts.{row_data, hall_member, hall_text, line_text, placed_text}
+use Rattle.file_format.specs.Says.{HasNumber, reads, writes, written, absent, answered, SaysRow}
+use Rattle.file_format.proofs.Compact.{IsSimple, HaveSimple, length-quoted, length-digits}
 use Rattle.file_format.proofs.Spelling.{read_bytes, write_bytes, note_bytes, written_bytes, absent_bytes, answered_bytes, respond_bytes}
 
 ascii : (name : List ℕ) → are_ascii name ≡ true → IsUtf8 name
@@ -32,23 +33,47 @@ short_key key h = leb-true (length key) 64 (and_parts (nat_le 1 (length key)) (n
 
 -- ---- rows
 
-pub row_back : (row : Row) → IsInRange row → of_json (outline (row_data row)) ≡ Some (row_data row)
-unfolding row_data
-row_back (Invoke op client key Read) h = rw (number_of-decimal op.0 (omega (arith, h.call)), number_of-decimal client (omega (arith, h.most))) refl
-row_back (Invoke op client key (Write value)) h = rw (number_of-decimal op.0 (omega (arith, h.call)), number_of-decimal client (omega (arith, h.most))) refl
-row_back (Note op tag) h = rw (number_of-decimal op.0 (omega (arith, h.call)), number_of-decimal tag.number (omega (arith, h.few)), number_of-decimal tag.writer (omega (arith, h.named))) refl
-row_back (Respond op Written) h = rw (number_of-decimal op.0 (omega (arith, h.call))) refl
-row_back (Respond op (Value None)) h = rw (number_of-decimal op.0 (omega (arith, h.call))) refl
-row_back (Respond op (Value (Some value))) h = rw (number_of-decimal op.0 (omega (arith, h.call))) refl
+-- the hall is a number of 8 bits, where the row has one as a member
+abbrev pub IsPlace : Option ℕ → Type 0
+IsPlace None = ⊤
+IsPlace (Some hall) = hall < 2 ^ 8
 
-pub says_row : (row : Row) → IsInRange row → SaysRow (row_data row) row
+pub row_back : (hall : Option ℕ) (row : Row) → IsPlace hall → IsInRange row → of_json (outline (row_data hall row)) ≡ Some (row_data hall row)
 unfolding row_data
-says_row (Invoke op client key Read) h = record { kind = refl; call = record { call = refl; range = h.call }; caller = refl; least = h.least; most = h.most; subject = refl; named = h.named; asks = reads refl }
-says_row (Invoke op client key (Write value)) h = record { kind = refl; call = record { call = refl; range = h.call }; caller = refl; least = h.least; most = h.most; subject = refl; named = h.named; asks = writes value refl (record { text = refl; short = h.asks.short }) }
-says_row (Note op tag) h = record { kind = refl; call = record { call = refl; range = h.call }; number = refl; few = h.few; writer = refl; named = h.named }
-says_row (Respond op Written) h = record { kind = refl; call = record { call = refl; range = h.call }; answers = written refl }
-says_row (Respond op (Value None)) h = record { kind = refl; call = record { call = refl; range = h.call }; answers = absent refl }
-says_row (Respond op (Value (Some value))) h = record { kind = refl; call = record { call = refl; range = h.call }; answers = answered value (record { text = refl; short = h.answers.short }) }
+row_back None (Invoke op client key Read) place h = rw (number_of-decimal op.0 (omega (arith, h.call)), number_of-decimal client (omega (arith, h.most))) refl
+row_back None (Invoke op client key (Write value)) place h = rw (number_of-decimal op.0 (omega (arith, h.call)), number_of-decimal client (omega (arith, h.most))) refl
+row_back None (Note op tag) place h = rw (number_of-decimal op.0 (omega (arith, h.call)), number_of-decimal tag.number (omega (arith, h.few)), number_of-decimal tag.writer (omega (arith, h.named))) refl
+row_back None (Respond op Written) place h = rw (number_of-decimal op.0 (omega (arith, h.call))) refl
+row_back None (Respond op (Value None)) place h = rw (number_of-decimal op.0 (omega (arith, h.call))) refl
+row_back None (Respond op (Value (Some value))) place h = rw (number_of-decimal op.0 (omega (arith, h.call))) refl
+row_back (Some hall) (Invoke op client key Read) place h = rw (number_of-decimal op.0 (omega (arith, h.call)), number_of-decimal client (omega (arith, h.most)), number_of-decimal hall (omega (arith, place))) refl
+row_back (Some hall) (Invoke op client key (Write value)) place h = rw (number_of-decimal op.0 (omega (arith, h.call)), number_of-decimal client (omega (arith, h.most)), number_of-decimal hall (omega (arith, place))) refl
+row_back (Some hall) (Note op tag) place h = rw (number_of-decimal op.0 (omega (arith, h.call)), number_of-decimal tag.number (omega (arith, h.few)), number_of-decimal tag.writer (omega (arith, h.named)), number_of-decimal hall (omega (arith, place))) refl
+row_back (Some hall) (Respond op Written) place h = rw (number_of-decimal op.0 (omega (arith, h.call)), number_of-decimal hall (omega (arith, place))) refl
+row_back (Some hall) (Respond op (Value None)) place h = rw (number_of-decimal op.0 (omega (arith, h.call)), number_of-decimal hall (omega (arith, place))) refl
+row_back (Some hall) (Respond op (Value (Some value))) place h = rw (number_of-decimal op.0 (omega (arith, h.call)), number_of-decimal hall (omega (arith, place))) refl
+
+pub says_row : (hall : Option ℕ) (row : Row) → IsInRange row → SaysRow (row_data hall row) row
+unfolding row_data
+says_row None (Invoke op client key Read) h = record { kind = refl; call = record { call = refl; range = h.call }; caller = refl; least = h.least; most = h.most; subject = refl; named = h.named; asks = reads refl }
+says_row None (Invoke op client key (Write value)) h = record { kind = refl; call = record { call = refl; range = h.call }; caller = refl; least = h.least; most = h.most; subject = refl; named = h.named; asks = writes value refl (record { text = refl; short = h.asks.short }) }
+says_row None (Note op tag) h = record { kind = refl; call = record { call = refl; range = h.call }; number = refl; few = h.few; writer = refl; named = h.named }
+says_row None (Respond op Written) h = record { kind = refl; call = record { call = refl; range = h.call }; answers = written refl }
+says_row None (Respond op (Value None)) h = record { kind = refl; call = record { call = refl; range = h.call }; answers = absent refl }
+says_row None (Respond op (Value (Some value))) h = record { kind = refl; call = record { call = refl; range = h.call }; answers = answered value (record { text = refl; short = h.answers.short }) }
+says_row (Some hall) (Invoke op client key Read) h = record { kind = refl; call = record { call = refl; range = h.call }; caller = refl; least = h.least; most = h.most; subject = refl; named = h.named; asks = reads refl }
+says_row (Some hall) (Invoke op client key (Write value)) h = record { kind = refl; call = record { call = refl; range = h.call }; caller = refl; least = h.least; most = h.most; subject = refl; named = h.named; asks = writes value refl (record { text = refl; short = h.asks.short }) }
+says_row (Some hall) (Note op tag) h = record { kind = refl; call = record { call = refl; range = h.call }; number = refl; few = h.few; writer = refl; named = h.named }
+says_row (Some hall) (Respond op Written) h = record { kind = refl; call = record { call = refl; range = h.call }; answers = written refl }
+says_row (Some hall) (Respond op (Value None)) h = record { kind = refl; call = record { call = refl; range = h.call }; answers = absent refl }
+says_row (Some hall) (Respond op (Value (Some value))) h = record { kind = refl; call = record { call = refl; range = h.call }; answers = answered value (record { text = refl; short = h.answers.short }) }
+
+-- the hall is said by its member
+pub says_hall : (hall : ℕ) (row : Row) → HasNumber (row_data (Some hall) row) (codes "hall") hall
+unfolding row_data
+says_hall hall (Invoke op client key action) = refl
+says_hall hall (Note op tag) = refl
+says_hall hall (Respond op returned) = refl
 
 byte_ascii : (b : ℕ) → is_key_byte b ≡ true → nat_lt b 128 ≡ true
 byte_ascii b h = elim (cases_lt b 128) [ inl small ↦ lt-ltb b 128 small | inr big ↦ absurd (grind (arith, nat_tests)) ]
@@ -60,16 +85,20 @@ key_ascii (b ∷ key) h = let p = and_parts (is_key_byte b) (list_all is_key_byt
 pub key_utf8 : (key : List ℕ) → is_key key ≡ true → IsUtf8 key
 key_utf8 key h = IsUtf8-are_ascii key (key_ascii key (and_parts (nat_le 1 (length key) && nat_le (length key) 64) (list_all is_key_byte key) h).1)
 
-pub row_simple : (row : Row) → IsInRange row → IsSimple (row_data row)
+hall_simple : (hall : Option ℕ) (others : Members) → IsPlace hall → HaveSimple others → HaveSimple (hall_member hall others)
+hall_simple None others place h = h
+hall_simple (Some hall) others place h = (ascii (codes "hall") refl, omega (arith, place), h)
+
+pub row_simple : (hall : Option ℕ) (row : Row) → IsPlace hall → IsInRange row → IsSimple (row_data hall row)
 unfolding row_data
-row_simple (Invoke op client key Read) h =
-    (ascii (codes "call") refl, omega (arith, h.call), (ascii (codes "client") refl, omega (arith, h.most), (ascii (codes "do") refl, ascii (codes "read") refl, (ascii (codes "key") refl, key_utf8 key h.named, (ascii (codes "row") refl, ascii (codes "invoke") refl, tt)))))
-row_simple (Invoke op client key (Write value)) h =
-    (ascii (codes "call") refl, omega (arith, h.call), (ascii (codes "client") refl, omega (arith, h.most), (ascii (codes "do") refl, ascii (codes "write") refl, (ascii (codes "key") refl, key_utf8 key h.named, (ascii (codes "row") refl, ascii (codes "invoke") refl, (ascii (codes "value") refl, h.asks.text, tt))))))
-row_simple (Note op tag) h = (ascii (codes "call") refl, omega (arith, h.call), (ascii (codes "number") refl, omega (arith, h.few), (ascii (codes "row") refl, ascii (codes "note") refl, (ascii (codes "writer") refl, omega (arith, h.named), tt))))
-row_simple (Respond op Written) h = (ascii (codes "call") refl, omega (arith, h.call), (ascii (codes "row") refl, ascii (codes "respond") refl, tt))
-row_simple (Respond op (Value None)) h = (ascii (codes "call") refl, omega (arith, h.call), (ascii (codes "row") refl, ascii (codes "respond") refl, (ascii (codes "value") refl, tt, tt)))
-row_simple (Respond op (Value (Some value))) h = (ascii (codes "call") refl, omega (arith, h.call), (ascii (codes "row") refl, ascii (codes "respond") refl, (ascii (codes "value") refl, h.answers.text, tt)))
+row_simple hall (Invoke op client key Read) place h =
+    (ascii (codes "call") refl, omega (arith, h.call), (ascii (codes "client") refl, omega (arith, h.most), (ascii (codes "do") refl, ascii (codes "read") refl, hall_simple hall _ place (ascii (codes "key") refl, key_utf8 key h.named, (ascii (codes "row") refl, ascii (codes "invoke") refl, tt)))))
+row_simple hall (Invoke op client key (Write value)) place h =
+    (ascii (codes "call") refl, omega (arith, h.call), (ascii (codes "client") refl, omega (arith, h.most), (ascii (codes "do") refl, ascii (codes "write") refl, hall_simple hall _ place (ascii (codes "key") refl, key_utf8 key h.named, (ascii (codes "row") refl, ascii (codes "invoke") refl, (ascii (codes "value") refl, h.asks.text, tt))))))
+row_simple hall (Note op tag) place h = (ascii (codes "call") refl, omega (arith, h.call), hall_simple hall _ place (ascii (codes "number") refl, omega (arith, h.few), (ascii (codes "row") refl, ascii (codes "note") refl, (ascii (codes "writer") refl, omega (arith, h.named), tt))))
+row_simple hall (Respond op Written) place h = (ascii (codes "call") refl, omega (arith, h.call), hall_simple hall _ place (ascii (codes "row") refl, ascii (codes "respond") refl, tt))
+row_simple hall (Respond op (Value None)) place h = (ascii (codes "call") refl, omega (arith, h.call), hall_simple hall _ place (ascii (codes "row") refl, ascii (codes "respond") refl, (ascii (codes "value") refl, tt, tt)))
+row_simple hall (Respond op (Value (Some value))) place h = (ascii (codes "call") refl, omega (arith, h.call), hall_simple hall _ place (ascii (codes "row") refl, ascii (codes "respond") refl, (ascii (codes "value") refl, h.answers.text, tt)))
 
 -- a row's line has a few members of bounded length
 length_more : (before middle rest : List ℕ) (a b c : ℕ) → length before ≤ a → length middle ≤ b → length rest ≤ c → length (before ++ (middle ++ rest)) ≤ a + b + c
@@ -99,45 +128,65 @@ asked_length call client rest n p q r =
     let first = length_more (codes "{\"call\":") (decimal call) (codes ",\"client\":" ++ (decimal client ++ rest)) 8 20 (10 + 20 + n) (omega arith) (count_length call p) second in
     within (codes "{\"call\":" ++ (decimal call ++ (codes ",\"client\":" ++ (decimal client ++ rest)))) (8 + 20 + (10 + 20 + n)) (n + 58) first (omega arith)
 
-pub row_length : (row : Row) → IsInRange row → length (row_text row) ≤ 65537
-row_length (Invoke op client key Read) h =
-    let rest = codes ",\"do\":\"read\",\"key\":" ++ (quoted key ++ codes ",\"row\":\"invoke\"}\n") in
-    let subject = length_more (codes ",\"do\":\"read\",\"key\":") (quoted key) (codes ",\"row\":\"invoke\"}\n") 19 most_key 18 (omega arith) (key_length key h.named) (omega arith) in
-    rw (read_bytes op client key) (omega (arith, asked_length op.0 client rest (19 + most_key + 18) h.call h.most subject))
-row_length (Invoke op client key (Write value)) h =
+most_hall : (hall : Option ℕ) → IsPlace hall → length (hall_text hall) ≤ 28
+most_hall None place = omega arith
+most_hall (Some hall) place = omega (arith, length-append (codes ",\"hall\":") (decimal hall), length-digits hall (omega (arith, place)))
+
+-- the hall comes between
+hall_length : (hall : Option ℕ) (rest : List ℕ) (n : ℕ) → IsPlace hall → length rest ≤ n → length (hall_text hall ++ rest) ≤ n + 28
+hall_length hall rest n place h = omega (arith, length-append (hall_text hall) rest, most_hall hall place)
+
+acting_length : (action : List ℕ) (hall : Option ℕ) (rest : List ℕ) (n : ℕ) → IsPlace hall → length action ≤ 20 → length rest ≤ n → length (action ++ (hall_text hall ++ rest)) ≤ n + 48
+acting_length action hall rest n place short h = omega (arith, length-append action (hall_text hall ++ rest), hall_length hall rest n place h)
+
+called_length : (call : ℕ) (hall : Option ℕ) (rest : List ℕ) (n : ℕ) → IsPlace hall → call < 2 ^ 32 → length rest ≤ n → length (codes "{\"call\":" ++ (decimal call ++ (hall_text hall ++ rest))) ≤ n + 56
+called_length call hall rest n place p h =
+    let more = length_more (codes "{\"call\":") (decimal call) (hall_text hall ++ rest) 8 20 (n + 28) (omega arith) (count_length call p) (hall_length hall rest n place h) in
+    within (codes "{\"call\":" ++ (decimal call ++ (hall_text hall ++ rest))) (8 + 20 + (n + 28)) (n + 56) more (omega arith)
+
+pub row_length : (hall : Option ℕ) (row : Row) → IsPlace hall → IsInRange row → length (placed_text hall row) ≤ 65537
+row_length hall (Invoke op client key Read) place h =
+    let on = codes ",\"key\":" ++ (quoted key ++ codes ",\"row\":\"invoke\"}\n") in
+    let subject = length_more (codes ",\"key\":") (quoted key) (codes ",\"row\":\"invoke\"}\n") 19 most_key 18 (omega arith) (key_length key h.named) (omega arith) in
+    let acting = acting_length (codes ",\"do\":\"read\"") hall on (19 + most_key + 18) place (omega arith) subject in
+    rw (read_bytes hall op client key) (omega (arith, asked_length op.0 client (codes ",\"do\":\"read\"" ++ (hall_text hall ++ on)) (19 + most_key + 18 + 48) h.call h.most acting))
+row_length hall (Invoke op client key (Write value)) place h =
     let more = codes ",\"row\":\"invoke\",\"value\":" ++ (quoted value ++ codes "}\n") in
-    let rest = codes ",\"do\":\"write\",\"key\":" ++ (quoted key ++ more) in
+    let on = codes ",\"key\":" ++ (quoted key ++ more) in
     let asked = length_more (codes ",\"row\":\"invoke\",\"value\":") (quoted value) (codes "}\n") 27 most_value 2 (omega arith) (value_length value h.asks.short) (omega arith) in
-    let subject = length_more (codes ",\"do\":\"write\",\"key\":") (quoted key) more 20 most_key (27 + most_value + 2) (omega arith) (key_length key h.named) asked in
-    rw (write_bytes op client key value) (omega (arith, asked_length op.0 client rest (20 + most_key + (27 + most_value + 2)) h.call h.most subject))
-row_length (Note op tag) h =
+    let subject = length_more (codes ",\"key\":") (quoted key) more 20 most_key (27 + most_value + 2) (omega arith) (key_length key h.named) asked in
+    let acting = acting_length (codes ",\"do\":\"write\"") hall on (20 + most_key + (27 + most_value + 2)) place (omega arith) subject in
+    rw (write_bytes hall op client key value) (omega (arith, asked_length op.0 client (codes ",\"do\":\"write\"" ++ (hall_text hall ++ on)) (20 + most_key + (27 + most_value + 2) + 48) h.call h.most acting))
+row_length hall (Note op tag) place h =
     let last = codes ",\"row\":\"note\",\"writer\":" ++ (decimal tag.writer ++ codes "}\n") in
     let rest = codes ",\"number\":" ++ (decimal tag.number ++ last) in
     let writer = length_more (codes ",\"row\":\"note\",\"writer\":") (decimal tag.writer) (codes "}\n") 30 20 2 (omega arith) (count_length tag.writer (omega (arith, h.named))) (omega arith) in
     let number = length_more (codes ",\"number\":") (decimal tag.number) last 20 20 (30 + 20 + 2) (omega arith) (count_length tag.number (omega (arith, h.few))) writer in
-    let call = length_more (codes "{\"call\":") (decimal op.0) rest 8 20 (20 + 20 + (30 + 20 + 2)) (omega arith) (count_length op.0 h.call) number in
-    rw (note_bytes op tag) (omega (arith, call))
-row_length (Respond op Written) h =
-    let call = length_more (codes "{\"call\":") (decimal op.0) (codes ",\"row\":\"respond\"}\n") 8 20 30 (omega arith) (count_length op.0 h.call) (omega arith) in
-    rw (written_bytes op) (omega (arith, call))
-row_length (Respond op (Value None)) h =
-    let call = length_more (codes "{\"call\":") (decimal op.0) (codes ",\"row\":\"respond\",\"value\":null}\n") 8 20 40 (omega arith) (count_length op.0 h.call) (omega arith) in
-    rw (respond_bytes op None, absent_bytes) (omega (arith, call))
-row_length (Respond op (Value (Some value))) h =
+    rw (note_bytes hall op tag) (omega (arith, called_length op.0 hall rest (20 + 20 + (30 + 20 + 2)) place h.call number))
+row_length hall (Respond op Written) place h =
+    rw (written_bytes hall op) (omega (arith, called_length op.0 hall (codes ",\"row\":\"respond\"}\n") 30 place h.call (omega arith)))
+row_length hall (Respond op (Value None)) place h =
+    rw (respond_bytes hall op None, absent_bytes) (omega (arith, called_length op.0 hall (codes ",\"row\":\"respond\",\"value\":null}\n") 40 place h.call (omega arith)))
+row_length hall (Respond op (Value (Some value))) place h =
     let rest = codes ",\"row\":\"respond\",\"value\":" ++ (quoted value ++ codes "}\n") in
     let answer = length_more (codes ",\"row\":\"respond\",\"value\":") (quoted value) (codes "}\n") 30 most_value 2 (omega arith) (value_length value h.answers.short) (omega arith) in
-    let call = length_more (codes "{\"call\":") (decimal op.0) rest 8 20 (30 + most_value + 2) (omega arith) (count_length op.0 h.call) answer in
-    rw (respond_bytes op (Some value), answered_bytes value) (omega (arith, call))
+    rw (respond_bytes hall op (Some value), answered_bytes value) (omega (arith, called_length op.0 hall rest (30 + most_value + 2) place h.call answer))
 
 pub line_length : (d : Data) → length (line_text d) ≤ 65537 → length (compact_text d) ≤ 65536
 unfolding line_text
 line_length d h = omega (arith, length-append (compact_text d) (10 ∷ []))
 
-pub row_depth : (row : Row) → IsInRange row → tree.depth (outline (row_data row)) ≤ 127
+pub row_depth : (hall : Option ℕ) (row : Row) → IsInRange row → tree.depth (outline (row_data hall row)) ≤ 127
 unfolding row_data
-row_depth (Invoke op client key Read) h = omega arith
-row_depth (Invoke op client key (Write value)) h = omega arith
-row_depth (Note op tag) h = omega arith
-row_depth (Respond op Written) h = omega arith
-row_depth (Respond op (Value None)) h = omega arith
-row_depth (Respond op (Value (Some value))) h = omega arith
+row_depth None (Invoke op client key Read) h = omega arith
+row_depth None (Invoke op client key (Write value)) h = omega arith
+row_depth None (Note op tag) h = omega arith
+row_depth None (Respond op Written) h = omega arith
+row_depth None (Respond op (Value None)) h = omega arith
+row_depth None (Respond op (Value (Some value))) h = omega arith
+row_depth (Some hall) (Invoke op client key Read) h = omega arith
+row_depth (Some hall) (Invoke op client key (Write value)) h = omega arith
+row_depth (Some hall) (Note op tag) h = omega arith
+row_depth (Some hall) (Respond op Written) h = omega arith
+row_depth (Some hall) (Respond op (Value None)) h = omega arith
+row_depth (Some hall) (Respond op (Value (Some value))) h = omega arith

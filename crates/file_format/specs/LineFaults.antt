@@ -5,6 +5,10 @@ use Rattle.serde_json.specs.Find.{get}
 use Rattle.tag.specs.Names.{is_key, is_value}
 use Rattle.file_format.specs.declared.fault.LineFault.{LineFault}
 use Rattle.file_format.specs.declared.fault.LineFault.TheVariants.{NoHeader, Version, Member, Range}
+use Rattle.quorum.specs.Quorums.{Quorums, IsLawful}
+use Rattle.recorder.specs.Halls.{IsCount}
+use Rattle.file_format.specs.declared.file_header.FileHeader.{FileHeader}
+use Rattle.file_format.specs.declared.file_header.FileHeader.TheVariants.{Version1, Version2}
 use Rattle.file_format.specs.Members.{numbers_at}
 use Rattle.file_format.specs.Says.{HasText, HasNumber}
 
@@ -53,6 +57,18 @@ pub data LacksPieceMember (d : Data) : Type 0 where
   no_subject : LacksText d (codes "key") → LacksPieceMember d
   no_order : LacksNumbers d (codes "order") → LacksPieceMember d
 
+-- a header of version 2 has the numbers `ask`, `halls` and `put` and the array of numbers `votes`
+pub data LacksQuorumMember (d : Data) : Type 0 where
+  no_ask : LacksNumber d (codes "ask") → LacksQuorumMember d
+  no_halls : LacksNumber d (codes "halls") → LacksQuorumMember d
+  no_put : LacksNumber d (codes "put") → LacksQuorumMember d
+  no_votes : LacksNumbers d (codes "votes") → LacksQuorumMember d
+
+-- a row of version 2 has the number `hall` too
+pub data LacksPlacedMember (d : Data) : Type 0 where
+  no_hall : LacksNumber d (codes "hall") → LacksPlacedMember d
+  of_row : LacksRowMember d → LacksPlacedMember d
+
 -- ---- a member that is outside its range
 
 -- `call` is 4,294,967,296 or more
@@ -98,6 +114,16 @@ pub data IsPieceOutOfRange (d : Data) : Type 0 where
   bad_subject : HasBadKey d → IsPieceOutOfRange d
   great_call : (numbers : List ℕ) (place call : ℕ) → numbers_at (codes "order") d ≡ Some numbers → slice_get numbers place ≡ Some call → 2 ^ 32 ≤ call → IsPieceOutOfRange d
 
+-- of a header of version 2: `halls` is 1 to 64, and the quorums are inside the rules
+pub data AreQuorumsOutOfRange (d : Data) : Type 0 where
+  bad_count : (halls : ℕ) → HasNumber d (codes "halls") halls → (IsCount halls → ⊥) → AreQuorumsOutOfRange d
+  bad_quorums : (quorums : Quorums) → numbers_at (codes "votes") d ≡ Some quorums.votes → HasNumber d (codes "ask") quorums.ask → HasNumber d (codes "put") quorums.put → (IsLawful quorums → ⊥) → AreQuorumsOutOfRange d
+
+-- of a row of version 2: `hall` is below the number of halls
+pub data IsPlacedOutOfRange (halls : ℕ) (d : Data) : Type 0 where
+  great_hall : (hall : ℕ) → HasNumber d (codes "hall") hall → halls ≤ hall → IsPlacedOutOfRange halls d
+  bad_row : IsRowOutOfRange d → IsPlacedOutOfRange halls d
+
 -- ---- the fault
 
 -- the faults that an answer can be are those
@@ -114,6 +140,11 @@ IsMemberFault Lacks IsOut fault = ⊥
 abbrev pub HasRowFault : Data → LineFault → Type 0
 HasRowFault d fault = IsMemberFault (LacksRowMember d) (IsRowOutOfRange d) fault
 
+-- the value has that fault as a line of a history file of either version
+abbrev pub HasHallRowFault : FileHeader → Data → LineFault → Type 0
+HasHallRowFault Version1 d fault = HasRowFault d fault
+HasHallRowFault (Version2 halls quorums) d fault = IsMemberFault (LacksPlacedMember d) (IsPlacedOutOfRange halls d) fault
+
 -- the value has that fault as a line of an order file
 abbrev pub HasPieceFault : Data → LineFault → Type 0
 HasPieceFault d fault = IsMemberFault (LacksPieceMember d) (IsPieceOutOfRange d) fault
@@ -123,3 +154,14 @@ abbrev pub HasHeaderFault : List ℕ → Data → LineFault → Type 0
 HasHeaderFault name d NoHeader = HasText d (codes "abd") name → ⊥
 HasHeaderFault name d Version = HasText d (codes "abd") name × (HasNumber d (codes "version") 1 → ⊥)
 HasHeaderFault name d fault = ⊥
+
+-- the value is the header of a history file of that version
+pub record IsOfVersion (d : Data) (version : ℕ) : Type 0 where
+  pub abd : HasText d (codes "abd") (codes "history")
+  pub told : HasNumber d (codes "version") version
+
+-- the value has that fault as the first line of a history file of either version
+abbrev pub HasFileHeaderFault : Data → LineFault → Type 0
+HasFileHeaderFault d NoHeader = HasText d (codes "abd") (codes "history") → ⊥
+HasFileHeaderFault d Version = HasText d (codes "abd") (codes "history") × (HasNumber d (codes "version") 1 → ⊥) × (HasNumber d (codes "version") 2 → ⊥)
+HasFileHeaderFault d fault = IsOfVersion d 2 × IsMemberFault (LacksQuorumMember d) (AreQuorumsOutOfRange d) fault

@@ -1,7 +1,7 @@
 -- The numbers of faults of lines, as programs print them.
 use Rattle.std.specs.Prelude.{ℕ}
 use Rattle.file_format.specs.declared.fault.LineFault.{LineFault}
-use Rattle.file_format.specs.declared.fault.LineFault.TheVariants.{NotJson, NoHeader, Version, Member, Range, CallOutOfTurn, ClientBusy, CallNotPending, WrongKind, NoteTwice, TooLong, TooManyCalls}
+use Rattle.file_format.specs.declared.fault.LineFault.TheVariants.{NotJson, NoHeader, Version, Member, Range, CallOutOfTurn, ClientBusy, CallNotPending, WrongKind, NoteTwice, TooLong, TooManyCalls, KeyInAnotherHall}
 
 -- the number of a line's fault
 abbrev pub line_fault_number : LineFault → ℕ
@@ -17,3 +17,4 @@ line_fault_number WrongKind = 9
 line_fault_number NoteTwice = 10
 line_fault_number TooLong = 11
 line_fault_number TooManyCalls = 12
+line_fault_number KeyInAnotherHall = 15

@@ -36,27 +36,34 @@ abbrev pub IsSecondNote : List Row → Row → Type 0
 IsSecondNote rows (Note op tag) = IsPendingOp rows op × HasNote rows op
 IsSecondNote rows row = ⊥
 
--- the 1,000,001st call
-abbrev pub IsOneTooMany : List Row → Row → Type 0
-IsOneTooMany rows (Invoke op client key action) = 1000000 ≤ call_count rows
-IsOneTooMany rows row = ⊥
+-- the 1,000,001st call, where so many began before
+abbrev pub IsOneTooMany : ℕ → Row → Type 0
+IsOneTooMany calls (Invoke op client key action) = 1000000 ≤ calls
+IsOneTooMany calls row = ⊥
 
--- the first fault, in order of number, that the row has after those rows
+-- the first fault, in order of number, that the row has after those rows of its hall, where so many calls began in all halls
+abbrev pub IsMisplacedBehind : ℕ → List Row → Row → LineFault → Type 0
+IsMisplacedBehind calls rows row CallOutOfTurn = IsOutOfTurn rows row
+IsMisplacedBehind calls rows row ClientBusy = (IsOutOfTurn rows row → ⊥) × IsByBusy rows row
+IsMisplacedBehind calls rows row CallNotPending = IsUnasked rows row
+IsMisplacedBehind calls rows row WrongKind = IsUnfit rows row
+IsMisplacedBehind calls rows row NoteTwice = IsSecondNote rows row
+IsMisplacedBehind calls rows row TooManyCalls = (IsOutOfTurn rows row → ⊥) × (IsByBusy rows row → ⊥) × IsOneTooMany calls row
+IsMisplacedBehind calls rows row fault = ⊥
+
+-- the same of one hall alone
 abbrev pub IsMisplaced : List Row → Row → LineFault → Type 0
-IsMisplaced rows row CallOutOfTurn = IsOutOfTurn rows row
-IsMisplaced rows row ClientBusy = (IsOutOfTurn rows row → ⊥) × IsByBusy rows row
-IsMisplaced rows row CallNotPending = IsUnasked rows row
-IsMisplaced rows row WrongKind = IsUnfit rows row
-IsMisplaced rows row NoteTwice = IsSecondNote rows row
-IsMisplaced rows row TooManyCalls = (IsOutOfTurn rows row → ⊥) × (IsByBusy rows row → ⊥) × IsOneTooMany rows row
-IsMisplaced rows row fault = ⊥
+IsMisplaced rows row fault = IsMisplacedBehind (call_count rows) rows row fault
 
 -- the row has no fault where it stands
-abbrev pub IsPlaced : List Row → Row → Type 0
-IsPlaced rows row = MayFollow rows row × (IsOneTooMany rows row → ⊥)
+abbrev pub IsPlacedBehind : ℕ → List Row → Row → Type 0
+IsPlacedBehind calls rows row = MayFollow rows row × (IsOneTooMany calls row → ⊥)
 
 -- the row is added at the end, or it has that fault; memory is wanted only for a row without one
+abbrev pub FollowsBehind : ℕ → Recorded → Row → Result (Unit {0}) Stop → Recorded → Type 0
+FollowsBehind calls old row (Ok done) new = (new ≡ with_row old row) × (IsOneTooMany calls row → ⊥)
+FollowsBehind calls old row (Err (stop.Fault fault)) new = IsMisplacedBehind calls old.rows row fault × (new ≡ old)
+FollowsBehind calls old row (Err stop.Memory) new = IsPlacedBehind calls old.rows row × (new ≡ old)
+
 abbrev pub FollowsRow : Recorded → Row → Result (Unit {0}) Stop → Recorded → Type 0
-FollowsRow old row (Ok done) new = new ≡ with_row old row
-FollowsRow old row (Err (stop.Fault fault)) new = IsMisplaced old.rows row fault × (new ≡ old)
-FollowsRow old row (Err stop.Memory) new = IsPlaced old.rows row × (new ≡ old)
+FollowsRow old row result new = FollowsBehind (call_count old.rows) old row result new

@@ -1,5 +1,5 @@
 -- What the types of a row's and of an order's parts carry: each is in its range.
-use Rattle.std.specs.Prelude.{ℕ, ◌≡◌, ◌≤◌, ◌<◌, ◌^◌, List, Some, None, slice_get, true, IsUtf8}
+use Rattle.std.specs.Prelude.{ℕ, ◌≡◌, ◌≤◌, ◌<◌, ◌^◌, List, Option, Some, None, slice_get, true, IsUtf8}
 use Rattle.tag.specs.declared.actions.Action.{Action}
 use Rattle.tag.specs.declared.actions.Action.TheVariants.{Read, Write}
 use Rattle.tag.specs.declared.actions.Returned.{Returned}
@@ -9,6 +9,8 @@ use Rattle.tag.specs.Names.{is_key, is_value}
 use Rattle.tag.specs.Tags.{Tag}
 use Rattle.recorder.specs.declared.row.Row.{Row}
 use Rattle.recorder.specs.declared.row.Row.TheVariants.{Invoke, Note, Respond}
+use Rattle.quorum.specs.Quorums.{Quorums, IsLawful}
+use Rattle.recorder.specs.Histories.{Recorded, IsWellFormed}
 use Rattle.recorder.specs.declared.order.KeyOrder.{KeyOrder}
 
 -- a number of 32 bits
@@ -55,6 +57,24 @@ IsInRange (Respond op returned) = IsResponse op returned
 
 abbrev pub AreInRange : List Row → Type 0
 AreInRange rows = (k : ℕ) (row : Row) → slice_get rows k ≡ Some row → IsInRange row
+
+-- a history, with its rows' parts in their ranges
+pub record IsWritten (history : Recorded) : Type 0 where
+  pub formed : IsWellFormed history.rows
+  pub ranges : AreInRange history.rows
+
+-- the same of the rows of each history
+abbrev pub HasRowsInRange : List Recorded → Type 0
+HasRowsInRange halls = (hall : ℕ) (history : Recorded) → slice_get halls hall ≡ Some history → AreInRange history.rows
+
+-- the rows of each history are well-formed
+abbrev pub HaveFormed : List Recorded → Type 0
+HaveFormed halls = (hall : ℕ) (history : Recorded) → slice_get halls hall ≡ Some history → IsWellFormed history.rows
+
+-- the quorums, where they are known, are inside the rules
+abbrev pub HasLawful : Option Quorums → Type 0
+HasLawful None = Unit {0}
+HasLawful (Some quorums) = IsLawful quorums
 
 abbrev pub AreOps : List OpId → Type 0
 AreOps ops = (k : ℕ) (op : OpId) → slice_get ops k ≡ Some op → IsOp op

@@ -12,6 +12,11 @@ use Rattle.tag.specs.Tags.{Tag}
 use Rattle.recorder.specs.declared.row.Row.{Row}
 use Rattle.recorder.specs.declared.row.Row.TheVariants.{Invoke, Note, Respond}
 use Rattle.recorder.specs.declared.order.KeyOrder.{KeyOrder}
+use Rattle.quorum.specs.Quorums.{Quorums, IsLawful}
+use Rattle.recorder.specs.Halls.{IsCount}
+use Rattle.file_format.specs.declared.file_header.FileHeader.{FileHeader}
+use Rattle.file_format.specs.declared.file_header.FileHeader.TheVariants.{Version1, Version2}
+use Rattle.file_format.specs.declared.hall_row.HallRow.{HallRow}
 use Rattle.file_format.specs.Members.{text_at, number_at, numbers_at}
 
 -- the member of that name is that text
@@ -86,3 +91,30 @@ pub record SaysPiece (d : Data) (piece : KeyOrder) : Type 0 where
   pub named : is_key piece.key ≡ true
   pub order : numbers_at (codes "order") d ≡ Some (map (λ (op : OpId). op.0) piece.order)
   pub range : (k : ℕ) (op : OpId) → slice_get piece.order k ≡ Some op → op.0 < 2 ^ 32
+
+-- the value is the header of a history file of version 2: `halls` is 1 to 64, and `votes`, `ask` and `put` are quorums inside the rules
+pub record SaysQuorums (d : Data) (halls : ℕ) (quorums : Quorums) : Type 0 where
+  pub abd : HasText d (codes "abd") (codes "history")
+  pub version : HasNumber d (codes "version") 2
+  pub told : HasNumber d (codes "halls") halls
+  pub count : IsCount halls
+  pub votes : numbers_at (codes "votes") d ≡ Some quorums.votes
+  pub ask : HasNumber d (codes "ask") quorums.ask
+  pub put : HasNumber d (codes "put") quorums.put
+  pub lawful : IsLawful quorums
+
+-- the value is that header of a history file
+abbrev pub SaysFileHeader : Data → FileHeader → Type 0
+SaysFileHeader d Version1 = SaysHeader (codes "history") d
+SaysFileHeader d (Version2 halls quorums) = SaysQuorums d halls quorums
+
+-- the value says a row of version 2: `hall` is the number of one of so many halls
+pub record SaysPlacedRow (halls : ℕ) (d : Data) (item : HallRow) : Type 0 where
+  pub hall : HasNumber d (codes "hall") item.hall
+  pub below : item.hall < halls
+  pub said : SaysRow d item.row
+
+-- the value says the row behind that header; in version 1 all rows are of hall 0, and a member `hall` is ignored
+abbrev pub SaysHallRow : FileHeader → Data → HallRow → Type 0
+SaysHallRow Version1 d item = (item.hall ≡ 0) × SaysRow d item.row
+SaysHallRow (Version2 halls quorums) d item = SaysPlacedRow halls d item

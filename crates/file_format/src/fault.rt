@@ -6,7 +6,7 @@ use counted_devices::{FaultNumbers, ReadFault};
 use thiserror::Error;
 
 /// What is wrong with a line. Of several the first that is tested is named: `TooLong`, then
-/// `NotJson`, then the others in this order, `TooManyCalls` last.
+/// `NotJson`, then the others in this order, `KeyInAnotherHall` behind `Range` and `TooManyCalls` last.
 #[derive(Clone, Copy, Debug, PartialEq, Eq, Error)]
 pub enum LineFault {
     /// The line is no JSON text, or isn't UTF-8.
@@ -45,6 +45,9 @@ pub enum LineFault {
     /// The 1,000,001st call.
     #[error("too many calls")]
     TooManyCalls,
+    /// An invocation in a hall that isn't its key's.
+    #[error("key in another hall")]
+    KeyInAnotherHall,
 }
 
 /// What is wrong with a file, or with its reading.
@@ -58,7 +61,7 @@ pub type FileFault = ReadFault<LineFault>;
 pub type Stop = counted_devices::Stop<LineFault>;
 
 impl LineFault {
-    /// The fault's number, 1 to 12.
+    /// The fault's number, 1 to 12, or 15.
     pub fn number(self) -> u8
         ensures { result ≡ line_fault_number self }
     {
@@ -75,6 +78,7 @@ impl LineFault {
             LineFault::NoteTwice => 10,
             LineFault::TooLong => 11,
             LineFault::TooManyCalls => 12,
+            LineFault::KeyInAnotherHall => 15,
         }
     }
 }

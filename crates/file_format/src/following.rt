@@ -1,7 +1,7 @@
 //! Rows that follow one another.
-ghost use Rattle.std.specs.Prelude.{◌≡◌, ◌≤◌};
+ghost use Rattle.std.specs.Prelude.{ℕ, ◌≡◌, ◌≤◌};
 ghost use Rattle.recorder.specs.Histories.{IsWellFormed, call_count};
-ghost use Rattle.file_format.specs.Places.{FollowsRow};
+ghost use Rattle.file_format.specs.Places.{FollowsBehind, FollowsRow};
 
 use crate::LineFault;
 use crate::fault::Stop;
@@ -13,12 +13,13 @@ pub const MOST_CALLS: u32 = 1_000_000;
 
 fn follow_invoke(
     history: &mut History,
+    earlier: usize,
     op: OpId,
     client: ClientId,
     key: Key,
     action: Action,
 ) -> Result<(), Stop>
-    ensures { history.old.limit ≡ 1000000 → FollowsRow history.old (Row.Invoke op client key action) result history.new }
+    ensures { history.old.limit ≡ 1000000 → call_count history.old.rows ≤ earlier → FollowsBehind earlier history.old (Row.Invoke op client key action) result history.new }
 {
     if op.0 as usize != history.calls() {
         return Err(Stop::Fault(LineFault::CallOutOfTurn));
@@ -26,7 +27,7 @@ fn follow_invoke(
     if history.is_busy(client) {
         return Err(Stop::Fault(LineFault::ClientBusy));
     }
-    if history.calls() >= MOST_CALLS as usize {
+    if earlier >= MOST_CALLS as usize {
         return Err(Stop::Fault(LineFault::TooManyCalls));
     }
     match history.invoke(client, key, action) {
@@ -36,7 +37,7 @@ fn follow_invoke(
 }
 
 fn follow_note(history: &mut History, op: OpId, tag: Tag) -> Result<(), Stop>
-    ensures { FollowsRow history.old (Row.Note op tag) result history.new }
+    ensures { (earlier : ℕ) → FollowsBehind earlier history.old (Row.Note op tag) result history.new }
 {
     match history.note(op, tag) {
         Ok(()) => Ok(()),
@@ -47,7 +48,7 @@ fn follow_note(history: &mut History, op: OpId, tag: Tag) -> Result<(), Stop>
 }
 
 fn follow_respond(history: &mut History, op: OpId, returned: Returned) -> Result<(), Stop>
-    ensures { FollowsRow history.old (Row.Respond op returned) result history.new }
+    ensures { (earlier : ℕ) → FollowsBehind earlier history.old (Row.Respond op returned) result history.new }
 {
     match history.respond(op, returned) {
         Ok(()) => Ok(()),
@@ -57,8 +58,8 @@ fn follow_respond(history: &mut History, op: OpId, returned: Returned) -> Result
     }
 }
 
-fn follow_row(history: &mut History, row: Row) -> Result<(), Stop>
-    ensures { history.old.limit ≡ 1000000 → FollowsRow history.old row result history.new }
+fn follow_row(history: &mut History, earlier: usize, row: Row) -> Result<(), Stop>
+    ensures { history.old.limit ≡ 1000000 → call_count history.old.rows ≤ earlier → FollowsBehind earlier history.old row result history.new }
 {
     match row {
         Row::Invoke {
@@ -66,10 +67,23 @@ fn follow_row(history: &mut History, row: Row) -> Result<(), Stop>
             client,
             key,
             action,
-        } => follow_invoke(history, op, client, key, action),
+        } => follow_invoke(history, earlier, op, client, key, action),
         Row::Note { op, tag } => follow_note(history, op, tag),
         Row::Respond { op, returned } => follow_respond(history, op, returned),
     }
+}
+
+/// Adds the row at the end of its hall's history, where so many calls began in all halls, or says which
+/// fault it has there.
+pub(crate) fn follow_in_hall(history: &mut History, earlier: usize, row: Row) -> Result<(), Stop>
+    ensures follows { history.old.limit ≡ 1000000 → call_count history.old.rows ≤ earlier → FollowsBehind earlier history.old row result history.new }
+    ensures formed { IsWellFormed history.new.rows }
+    ensures few { call_count history.new.rows ≤ history.new.limit }
+{
+    let result = follow_row(history, earlier, row);
+    let _rows = history.rows();
+    let _calls = history.calls();
+    result
 }
 
 /// Adds the row at the end, or says which fault it has there.
@@ -78,8 +92,6 @@ pub fn follow(history: &mut History, row: Row) -> Result<(), Stop>
     ensures formed { IsWellFormed history.new.rows }
     ensures few { call_count history.new.rows ≤ history.new.limit }
 {
-    let result = follow_row(history, row);
-    let _rows = history.rows();
-    let _calls = history.calls();
-    result
+    let earlier = history.calls();
+    follow_in_hall(history, earlier, row)
 }

@@ -1,13 +1,16 @@
 //! The judgement of a line by itself.
 ghost use Rattle.std.specs.Prelude.{◌≡◌, ◌∷◌, [], IfOk};
+ghost use Rattle.file_format.specs.FileHeaders.{file_header_in};
 ghost use Rattle.file_format.specs.Headers.{header_in};
 ghost use Rattle.file_format.specs.Lines.{ShowsBy, ShowsItem, ShowParts};
 
 use crate::LineFault;
 use crate::document::Document;
 use crate::fault::Stop;
+use crate::file_header::FileHeader;
 use crate::header::header_in;
 use crate::line_item::LineItem;
+use crate::quorum_header::file_header_in;
 use counted_devices::first_end;
 use json::Scratch;
 use std::alloc::Global;
@@ -81,6 +84,18 @@ pub fn judge_part<T: LineItem>(
     }
     run.push(judge::<T>(alloc, header, scratch, &mut text, rest)?)?;
     Ok(run)
+}
+
+/// What the line, without its end, says as the header of a history file of either version.
+pub fn judge_file_header(alloc: Global, line: &[u8]) -> Result<FileHeader, Stop>
+    ensures { ShowsBy file_header_in line.now result }
+{
+    if line.len() > LONGEST {
+        return Err(Stop::Fault(LineFault::TooLong));
+    }
+    let mut scratch = Scratch::new(alloc);
+    let document = Document::read(alloc, line, &mut scratch)?;
+    file_header_in(alloc, &document)
 }
 
 /// Whether the line, without its end, is the header of a file of that name.

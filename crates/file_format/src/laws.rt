@@ -6,16 +6,23 @@ ghost use Rattle.recorder.specs.declared.order.KeyOrder.{KeyOrder};
 ghost use Rattle.recorder.specs.Histories.{Recorded};
 ghost use Rattle.file_format.specs.declared.fault.LineFault.{LineFault};
 ghost use Rattle.file_format.specs.Lines.{Shows};
-ghost use Rattle.file_format.specs.LineFaults.{FaultsAre, HasRowFault, HasPieceFault, HasHeaderFault};
+ghost use Rattle.file_format.specs.LineFaults.{FaultsAre, HasRowFault, HasHallRowFault, HasPieceFault, HasHeaderFault, HasFileHeaderFault};
 ghost use Rattle.file_format.specs.Readings.{Reads, FirstFaultInAll};
 ghost use Rattle.file_format.specs.HistoryFormat.{history_format, MakesHistory, IsHistory};
 ghost use Rattle.file_format.specs.Headers.{header_in};
+ghost use Rattle.file_format.specs.FileHeaders.{file_header_in};
+ghost use Rattle.file_format.specs.HallRows.{hall_row_in};
+ghost use Rattle.file_format.specs.HistoriesFormat.{histories_format, MakesHistories};
+ghost use Rattle.file_format.specs.declared.file_header.FileHeader.{FileHeader};
+ghost use Rattle.file_format.specs.declared.hall_row.HallRow.{HallRow};
+ghost use Rattle.recorder.specs.Halls.{RecordedHalls, AreHalls};
+ghost use Rattle.file_format.specs.ReadAgain.{IsTextOfHistories};
 ghost use Rattle.file_format.specs.OrderFormat.{order_format, MakesJoined, AreFew};
 ghost use Rattle.file_format.specs.OrderLines.{piece_in};
-ghost use Rattle.file_format.specs.Ranges.{AreInRange, AreOrdersInRange, HaveDistinctKeys};
+ghost use Rattle.file_format.specs.Ranges.{AreInRange, HasRowsInRange, HaveFormed, HasLawful, AreOrdersInRange, HaveDistinctKeys};
 ghost use Rattle.file_format.specs.Rows.{row_in};
-ghost use Rattle.file_format.specs.Says.{SaysRow, SaysHeader, SaysPiece};
-ghost use Rattle.file_format.specs.Texts.{history_text, orders_text};
+ghost use Rattle.file_format.specs.Says.{SaysRow, SaysHallRow, SaysHeader, SaysFileHeader, SaysPiece};
+ghost use Rattle.file_format.specs.Texts.{history_text, histories_text, orders_text};
 
 /// A JSON value is read as a row exactly where its members say the row.
 pub fn a_row_is_read_where_its_members_say_it()
@@ -49,6 +56,28 @@ pub fn a_header_has_the_fault_of_its_members()
     ensures { (name : List ℕ) (d : Data) → FaultsAre (header_in name d) (HasHeaderFault name d) }
 {}
 
+/// A JSON value is read as the header of a history file of either version exactly where its members say
+/// so.
+pub fn a_file_header_is_read_where_its_members_say_it()
+    ensures { (d : Data) (header : FileHeader) → (file_header_in d ≡ Ok header) ↔ SaysFileHeader d header }
+{}
+
+/// Behind a header, a JSON value is read as a row of a hall exactly where its members say it.
+pub fn a_row_of_a_hall_is_read_where_its_members_say_it()
+    ensures { (header : FileHeader) (d : Data) (item : HallRow) → (hall_row_in header d ≡ Ok item) ↔ SaysHallRow header d item }
+{}
+
+/// The fault of a value that is no header of a history file of either version is the one that its
+/// members have, and no other.
+pub fn a_file_header_has_the_fault_of_its_members()
+    ensures { (d : Data) → FaultsAre (file_header_in d) (HasFileHeaderFault d) }
+{}
+
+/// The same of a value that is no row of a hall.
+pub fn a_row_of_a_hall_has_the_fault_of_its_members()
+    ensures { (header : FileHeader) (d : Data) → FaultsAre (hall_row_in header d) (HasHallRowFault header d) }
+{}
+
 /// A line of a history file shows one row, or one fault.
 pub fn a_line_shows_one_row_or_fault()
     ensures { (line : List ℕ) (a b : Result Row LineFault) → Shows row_in line a → Shows row_in line b → a ≡ b }
@@ -67,6 +96,26 @@ pub fn a_history_is_read_from_its_text()
 /// What is written of a history is read as no other one.
 pub fn a_text_is_read_as_its_history_alone()
     ensures { (rows : List Row) (history : Recorded) → IsHistory rows → AreInRange rows → Reads history_format MakesHistory (history_text rows) history → history.rows ≡ rows }
+{}
+
+/// Bytes are read as one row of histories.
+pub fn bytes_are_read_as_the_same_histories()
+    ensures { (bytes : List ℕ) (a b : RecordedHalls) → Reads histories_format MakesHistories bytes a → Reads histories_format MakesHistories bytes b → a ≡ b }
+{}
+
+/// What is written of histories is read as their rows by hall and their quorums, and as nothing else.
+pub fn histories_are_read_from_their_text()
+    ensures { (histories : RecordedHalls) → AreHalls histories → HasLawful histories.quorums → HaveFormed histories.halls → HasRowsInRange histories.halls → IsTextOfHistories (histories_text histories) histories }
+{}
+
+/// A history file of either version has one first fault.
+pub fn a_file_of_histories_has_one_first_fault()
+    ensures { (bytes : List ℕ) (m n : ℕ) (a b : LineFault) → FirstFaultInAll histories_format bytes m a → FirstFaultInAll histories_format bytes n b → (m ≡ n) × (a ≡ b) }
+{}
+
+/// Bytes that are read as histories have no fault.
+pub fn histories_have_no_fault()
+    ensures { (bytes : List ℕ) (histories : RecordedHalls) (n : ℕ) (fault : LineFault) → Reads histories_format MakesHistories bytes histories → FirstFaultInAll histories_format bytes n fault → ⊥ }
 {}
 
 /// Bytes are read as one list of orders.

@@ -7,7 +7,10 @@
 
 mod document;
 mod fault;
+mod file_header;
 mod following;
+mod hall_histories;
+mod hall_row;
 mod header;
 mod judging;
 pub mod laws;
@@ -15,6 +18,7 @@ mod line_item;
 mod numerals;
 mod order_lines;
 mod orders;
+mod quorum_header;
 mod ranges;
 mod rows;
 mod texts;
@@ -24,8 +28,11 @@ mod written;
 
 pub use document::Document;
 pub use fault::{FaultKind, FileFault, LineFault, Stop};
+pub use file_header::FileHeader;
 pub use following::{MOST_CALLS, follow};
-pub use judging::{Judgement, LONGEST, judge_header, judge_part};
+pub use hall_histories::HallHistories;
+pub use hall_row::HallRow;
+pub use judging::{Judgement, LONGEST, judge_file_header, judge_header, judge_part};
 pub use line_item::LineItem;
 pub use orders::{join, listed};
-pub use writing::{history_text, write_history, write_orders};
+pub use writing::{history_text, write_histories, write_history, write_orders};

@@ -5,15 +5,18 @@ ghost use Rattle.file_format.specs.declared.fault.LineFault.{LineFault};
 ghost use Rattle.file_format.specs.Documents.{data_in};
 ghost use Rattle.file_format.specs.Members.{Gives};
 ghost use Rattle.file_format.specs.Rows.{row_in};
+ghost use Rattle.file_format.specs.HallRows.{hall_row_in};
 ghost use Rattle.file_format.specs.OrderLines.{piece_in};
 ghost use Rattle.file_format.specs.Formats.{IsFine};
 ghost use Rattle.file_format.specs.Lines.{Shows};
 
 use crate::document::Document;
 use crate::fault::Stop;
+use crate::file_header::FileHeader;
+use crate::hall_row::{HallRow, hall_row_in};
 use crate::order_lines::piece_in;
 use crate::rows::row_in;
-use crate::written::{written_piece, written_row};
+use crate::written::{written_hall_row, written_piece, written_row};
 use recorder::{KeyOrder, Row};
 use std::alloc::Global;
 use tag::Memory;
@@ -57,6 +60,29 @@ impl LineItem for Row {
 
     fn item_in(alloc: Global, _header: (), document: &Document<'_>) -> Result<Row, Stop> {
         row_in(alloc, document)
+    }
+}
+
+impl LineItem for HallRow {
+    type Header = FileHeader;
+
+    ghost meaning = { hall_row_in };
+
+    fn written_on(
+        alloc: Global,
+        header: FileHeader,
+        text: &mut Vec<u8>,
+        line: &[u8],
+    ) -> Result<Option<HallRow>, Memory> {
+        written_hall_row(alloc, header, text, line)
+    }
+
+    fn item_in(
+        alloc: Global,
+        header: FileHeader,
+        document: &Document<'_>,
+    ) -> Result<HallRow, Stop> {
+        hall_row_in(alloc, header, document)
     }
 }
 

@@ -1,5 +1,5 @@
 //! Lines, as they are written.
-ghost use Rattle.std.specs.Prelude.{◌≡◌, ◌++◌, true, false, codes, decimal, OnOk};
+ghost use Rattle.std.specs.Prelude.{◌≡◌, ◌++◌, ◌<◌, true, false, codes, decimal, length, slice_index, OnOk};
 ghost use Rattle.std.specs.List.{list_all};
 ghost use Rattle.json.specs.Print.{quoted};
 ghost use Rattle.serde_json.specs.Data.{string, member};
@@ -7,13 +7,15 @@ ghost use Rattle.serde_json.specs.Written.{items_text, members_text};
 ghost use Rattle.counted_devices.specs.Cuts.{ended};
 ghost use Rattle.file_format.specs.PlainTexts.{is_plain};
 ghost use Rattle.file_format.specs.Ranges.{IsOp, HasAnswerIn, AreOps, IsInvocation, IsNote, IsResponse, IsInRange, IsOrderInRange};
-ghost use Rattle.file_format.specs.Texts.{header_data, answered_value, calls_data, line_text, row_text, piece_text};
+ghost use Rattle.file_format.specs.Texts.{header_data, file_header_data, hall_text, answered_value, calls_data, numbers_data, line_text, placed_text, piece_text};
 
+use crate::file_header::FileHeader;
 use itoa::Buffer;
 use json::Writer;
-use recorder::Row;
+use quorum::{Quorums, ReplicaSet};
+use recorder::{Halls, Row};
 use std::mem;
-use tag::{Action, ClientId, Key, Memory, OpId, Returned, Tag, Value};
+use tag::{Action, ClientId, Key, Memory, OpId, ReplicaId, Returned, Tag, Value};
 
 /// The most calls of a piece of an order.
 pub const MOST_IN_PIECE: usize = 1_000;
@@ -85,42 +87,111 @@ pub(crate) fn append_header(out: &mut Vec<u8>, name: &str) -> Result<(), Memory>
     append(out, b",\"version\":1}\n")
 }
 
+/// How many votes the replica has.
+fn vote_of(quorums: &Quorums, replica: ReplicaId) -> u8
+    requires { replica < length quorums.now.votes }
+    ensures { result ≡ slice_index quorums.now.votes replica }
+{
+    let mut alone = ReplicaSet::empty();
+    alone.add(replica);
+    quorums.votes(&alone)
+}
+
+/// Adds the votes of the replicas, a comma between two, and the bracket behind them.
+fn append_votes(out: &mut Vec<u8>, quorums: &Quorums) -> Result<(), Memory>
+    ensures { OnOk result (out.new.items ≡ out.old.items ++ items_text false (numbers_data quorums.now.votes)) }
+{
+    for number in 0..quorums.replicas() {
+        if let Some(replica) = ReplicaId::new(number) {
+            let votes = u32::from(vote_of(quorums, replica));
+            if number > 0 {
+                append_number(out, b",", votes)?;
+            } else {
+                append_number(out, b"", votes)?;
+            }
+        }
+    }
+    append(out, b"]")
+}
+
+/// Adds the header of a history file of version 2.
+fn append_quorums(out: &mut Vec<u8>, halls: Halls, quorums: &Quorums) -> Result<(), Memory>
+    ensures { OnOk result (out.new.items ≡ out.old.items ++ line_text (file_header_data (FileHeader.Version2 halls quorums.now))) }
+{
+    append_number(
+        out,
+        b"{\"abd\":\"history\",\"ask\":",
+        u32::from(quorums.ask()),
+    )?;
+    append_number(out, b",\"halls\":", u32::from(halls.count()))?;
+    append_number(out, b",\"put\":", u32::from(quorums.put()))?;
+    append(out, b",\"version\":2,\"votes\":[")?;
+    append_votes(out, quorums)?;
+    append(out, b"}\n")
+}
+
+/// Adds the header of a history file of either version.
+#[tactic(auto, unfolding(crate::specs::Texts::file_header_data))]
+pub(crate) fn append_file_header(out: &mut Vec<u8>, header: &FileHeader) -> Result<(), Memory>
+    ensures { OnOk result (out.new.items ≡ out.old.items ++ line_text (file_header_data header.now)) }
+{
+    match header {
+        FileHeader::Version1 => append_header(out, "history"),
+        FileHeader::Version2 { halls, quorums } => append_quorums(out, *halls, quorums),
+    }
+}
+
+/// Adds the bytes and then the row's hall, where that is a member.
+fn append_hall(out: &mut Vec<u8>, before: &[u8], hall: Option<u8>) -> Result<(), Memory>
+    ensures { OnOk result (out.new.items ≡ out.old.items ++ (before.now ++ hall_text hall)) }
+{
+    append(out, before)?;
+    match hall {
+        Some(hall) => append_number(out, b",\"hall\":", u32::from(hall)),
+        None => Ok(()),
+    }
+}
+
 fn append_invoke(
     out: &mut Vec<u8>,
+    hall: Option<u8>,
     op: OpId,
     client: ClientId,
     key: &Key,
     action: &Action,
 ) -> Result<(), Memory>
-    ensures text { OnOk result (out.new.items ≡ out.old.items ++ row_text (Row.Invoke op client key.now action.now)) }
+    ensures text { OnOk result (out.new.items ≡ out.old.items ++ placed_text hall (Row.Invoke op client key.now action.now)) }
     ensures range { OnOk result (IsInvocation op client key.now action.now) }
 {
     append_number(out, b"{\"call\":", op.0)?;
     append_number(out, b",\"client\":", client.get())?;
     match action {
         Action::Read => {
-            append_quoted(out, b",\"do\":\"read\",\"key\":", key.as_str())?;
+            append_hall(out, b",\"do\":\"read\"", hall)?;
+            append_quoted(out, b",\"key\":", key.as_str())?;
             append(out, b",\"row\":\"invoke\"}\n")
         }
         Action::Write(value) => {
-            append_quoted(out, b",\"do\":\"write\",\"key\":", key.as_str())?;
+            append_hall(out, b",\"do\":\"write\"", hall)?;
+            append_quoted(out, b",\"key\":", key.as_str())?;
             append_quoted(out, b",\"row\":\"invoke\",\"value\":", value.as_str())?;
             append(out, b"}\n")
         }
     }
 }
 
-fn append_note(out: &mut Vec<u8>, op: OpId, tag: Tag) -> Result<(), Memory>
-    ensures text { OnOk result (out.new.items ≡ out.old.items ++ row_text (Row.Note op tag)) }
+fn append_note(out: &mut Vec<u8>, hall: Option<u8>, op: OpId, tag: Tag) -> Result<(), Memory>
+    ensures text { OnOk result (out.new.items ≡ out.old.items ++ placed_text hall (Row.Note op tag)) }
     ensures range { OnOk result (IsNote op tag) }
 {
     append_number(out, b"{\"call\":", op.0)?;
+    append_hall(out, b"", hall)?;
     append_number(out, b",\"number\":", tag.number())?;
     append_number(out, b",\"row\":\"note\",\"writer\":", tag.writer())?;
     append(out, b"}\n")
 }
 
-/// Adds what a read's response has behind its call.
+/// Adds what a read's response has behind its call and its hall.
 fn append_answer(out: &mut Vec<u8>, answer: &Option<Value>) -> Result<(), Memory>
     ensures text { OnOk result (out.new.items ≡ out.old.items ++ ended (members_text true (member (codes "row") (string (codes "respond")) (answered_value (Returned.Value answer.now))))) }
     ensures range { OnOk result (HasAnswerIn (Returned.Value answer.now)) }
@@ -134,20 +205,26 @@ fn append_answer(out: &mut Vec<u8>, answer: &Option<Value>) -> Result<(), Memory
     }
 }
 
-fn append_respond(out: &mut Vec<u8>, op: OpId, returned: &Returned) -> Result<(), Memory>
-    ensures text { OnOk result (out.new.items ≡ out.old.items ++ row_text (Row.Respond op returned.now)) }
+fn append_respond(
+    out: &mut Vec<u8>,
+    hall: Option<u8>,
+    op: OpId,
+    returned: &Returned,
+) -> Result<(), Memory>
+    ensures text { OnOk result (out.new.items ≡ out.old.items ++ placed_text hall (Row.Respond op returned.now)) }
     ensures range { OnOk result (IsResponse op returned.now) }
 {
     append_number(out, b"{\"call\":", op.0)?;
+    append_hall(out, b"", hall)?;
     match returned {
         Returned::Written => append(out, b",\"row\":\"respond\"}\n"),
         Returned::Value(answer) => append_answer(out, answer),
     }
 }
 
-/// Adds the row's line.
-pub(crate) fn append_row(out: &mut Vec<u8>, row: &Row) -> Result<(), Memory>
-    ensures text { OnOk result (out.new.items ≡ out.old.items ++ row_text row.now) }
+/// Adds the row's line, with its hall where that is a member.
+pub(crate) fn append_row(out: &mut Vec<u8>, hall: Option<u8>, row: &Row) -> Result<(), Memory>
+    ensures text { OnOk result (out.new.items ≡ out.old.items ++ placed_text hall row.now) }
     ensures range { OnOk result (IsInRange row.now) }
 {
     match row {
@@ -156,9 +233,9 @@ pub(crate) fn append_row(out: &mut Vec<u8>, row: &Row) -> Result<(), Memory>
             client,
             key,
             action,
-        } => append_invoke(out, *op, *client, key, action),
-        Row::Note { op, tag } => append_note(out, *op, *tag),
-        Row::Respond { op, returned } => append_respond(out, *op, returned),
+        } => append_invoke(out, hall, *op, *client, key, action),
+        Row::Note { op, tag } => append_note(out, hall, *op, *tag),
+        Row::Respond { op, returned } => append_respond(out, hall, *op, returned),
     }
 }
 

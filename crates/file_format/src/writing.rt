@@ -1,16 +1,18 @@
 //! Files to writers.
 ghost use Rattle.std.specs.Prelude.{◌≡◌, ◌++◌, OnOk, OnErr, IfOk, IfErr};
+ghost use Rattle.std.specs.List.{flat_map};
 ghost use Rattle.std.specs.Io.KnownBytes.{Appends};
 ghost use Rattle.counted_devices.specs.Sendings.{Leaves, Begins, HasFailedBy};
 ghost use Rattle.file_format.specs.HistoryFormat.{IsHistory};
 ghost use Rattle.file_format.specs.OrderFormat.{AreFew};
-ghost use Rattle.file_format.specs.Ranges.{IsInRange, IsOrderInRange, HaveDistinctKeys};
-ghost use Rattle.file_format.specs.ReadAgain.{IsTextOf, IsTextOfOrders};
-ghost use Rattle.file_format.specs.Texts.{row_text, piece_text, order_text, history_text, orders_text};
+ghost use Rattle.file_format.specs.Ranges.{IsInRange, IsWritten, IsOrderInRange, HaveDistinctKeys};
+ghost use Rattle.file_format.specs.ReadAgain.{IsTextOf, IsTextOfHistories, IsTextOfOrders};
+ghost use Rattle.file_format.specs.Texts.{placed_text, piece_text, order_text, history_text, histories_text, orders_text};
 
-use crate::texts::{MOST_IN_PIECE, append_header, append_piece, append_row};
+use crate::file_header::FileHeader;
+use crate::texts::{MOST_IN_PIECE, append_file_header, append_header, append_piece, append_row};
 use counted_devices::{CountedWrite, WriteFault, relieve, write_text};
-use recorder::{History, KeyOrder, Row};
+use recorder::{Histories, History, KeyOrder, Row};
 use std::alloc::Global;
 use tag::{Key, Memory, OpId};
 
@@ -34,24 +36,25 @@ pub fn history_text(alloc: Global, history: &History) -> Result<Vec<u8>, Memory>
     let mut text = Vec::new(alloc);
     append_header(&mut text, "history")?;
     for row in lawful_rows(history) {
-        append_row(&mut text, row)?;
+        append_row(&mut text, None, row)?;
     }
     Ok(text)
 }
 
-/// The row's line comes behind what waits, which goes out once it is enough.
+/// The row's line, with its hall where that is a member, comes behind what waits, which goes out once it is enough.
 fn write_row<W: CountedWrite>(
+    hall: Option<u8>,
     row: &Row,
     batch: &mut Vec<u8>,
     writer: &mut W,
 ) -> Result<(), WriteFault>
-    ensures sent { OnOk result (Leaves (W.contents writer.old) (W.contents writer.new) (batch.old.items ++ row_text row.now) batch.new.items) }
-    ensures begun { OnErr result (Begins (W.contents writer.old) (W.contents writer.new) (batch.old.items ++ row_text row.now)) }
+    ensures sent { OnOk result (Leaves (W.contents writer.old) (W.contents writer.new) (batch.old.items ++ placed_text hall row.now) batch.new.items) }
+    ensures begun { OnErr result (Begins (W.contents writer.old) (W.contents writer.new) (batch.old.items ++ placed_text hall row.now)) }
     ensures device { IfErr result (λ fault. HasFailedBy fault (W.failures writer.old) (W.failures writer.new)) }
     ensures counted { OnOk result (W.failures writer.new ≡ W.failures writer.old) }
     ensures range { OnOk result (IsInRange row.now) }
 {
-    append_row(batch, row)?;
+    append_row(batch, hall, row)?;
     relieve(batch, writer)
 }
 
@@ -74,7 +77,52 @@ pub fn write_history<W: CountedWrite>(
     let mut batch = Vec::new(alloc);
     append_header(&mut batch, "history")?;
     for row in lawful_rows(history) {
-        write_row(row, &mut batch, writer)?;
+        write_row(None, row, &mut batch, writer)?;
+    }
+    write_text(batch.as_slice(), writer)
+}
+
+/// The lines of a hall's rows come behind what waits, which goes out once it is enough.
+fn write_hall<W: CountedWrite>(
+    hall: Option<u8>,
+    history: &History,
+    batch: &mut Vec<u8>,
+    writer: &mut W,
+) -> Result<(), WriteFault>
+    ensures sent { OnOk result (Leaves (W.contents writer.old) (W.contents writer.new) (batch.old.items ++ flat_map (placed_text hall) history.now.rows) batch.new.items) }
+    ensures begun { OnErr result (Begins (W.contents writer.old) (W.contents writer.new) (batch.old.items ++ flat_map (placed_text hall) history.now.rows)) }
+    ensures device { IfErr result (λ fault. HasFailedBy fault (W.failures writer.old) (W.failures writer.new)) }
+    ensures counted { OnOk result (W.failures writer.new ≡ W.failures writer.old) }
+    ensures range { OnOk result (IsWritten history.now) }
+{
+    for row in history.rows() {
+        write_row(hall, row, batch, writer)?;
+    }
+    Ok(())
+}
+
+/// Writes the text of the histories: its header, then a line for each row of hall 0, then for those
+/// of hall 1, and so on. Where the quorums are known it is a file of version 2, and else one of
+/// version 1. It is read as the histories' rows by hall and their quorums, and as nothing else.
+///
+/// What went out is said as by `write_history`.
+pub fn write_histories<W: CountedWrite>(
+    alloc: Global,
+    histories: &Histories,
+    writer: &mut W,
+) -> Result<(), WriteFault>
+    ensures written { OnOk result (Appends (W.contents writer.old) (W.contents writer.new) (histories_text histories.now)) }
+    ensures begun { OnErr result (Begins (W.contents writer.old) (W.contents writer.new) (histories_text histories.now)) }
+    ensures device { IfErr result (λ fault. HasFailedBy fault (W.failures writer.old) (W.failures writer.new)) }
+    ensures counted { OnOk result (W.failures writer.new ≡ W.failures writer.old) }
+    ensures read { OnOk result (IsTextOfHistories (histories_text histories.now) histories.now) }
+{
+    let header = FileHeader::of(histories);
+    let mut batch = Vec::new(alloc);
+    append_file_header(&mut batch, &header)?;
+    let halls = histories.halls();
+    for (hall, history) in halls.iter().enumerate() {
+        write_hall(header.place(hall as u8), history, &mut batch, writer)?;
     }
     write_text(batch.as_slice(), writer)
 }

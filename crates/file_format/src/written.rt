@@ -4,10 +4,13 @@
 //! it is the very same. So nothing rests on the guess but the time that it takes.
 ghost use Rattle.std.specs.Prelude.{◌≡◌, Ok, IfOk, IfSome, IsTrue};
 ghost use Rattle.counted_devices.specs.Cuts.{ended};
+ghost use Rattle.file_format.specs.HallRows.{hall_row_in};
 ghost use Rattle.file_format.specs.Lines.{Shows};
 ghost use Rattle.file_format.specs.OrderLines.{piece_in};
 ghost use Rattle.file_format.specs.Rows.{row_in};
 
+use crate::file_header::FileHeader;
+use crate::hall_row::HallRow;
 use crate::texts::{MOST_IN_PIECE, append_piece, append_row};
 use recorder::{KeyOrder, Order, Row};
 use std::alloc::Global;
@@ -70,15 +73,35 @@ fn guessed_write(alloc: Global, bytes: &[u8]) -> Result<Option<Action>, Memory> 
     }
 }
 
+/// The number of the row's hall, 0 where the bytes don't begin with one, and what is behind it.
+fn guessed_hall(bytes: &[u8]) -> (u8, &[u8]) {
+    match bytes.strip_prefix(b",\"hall\":".as_slice()) {
+        Some(rest) => {
+            let (hall, rest) = number(rest);
+            ((hall % 256) as u8, rest)
+        }
+        None => (0, bytes),
+    }
+}
+
+/// The key's text, with which the bytes behind the hall begin.
+fn guessed_key(bytes: &[u8]) -> Option<(&str, &[u8])> {
+    text(bytes.strip_prefix(b",\"key\":\"".as_slice())?)
+}
+
 /// The invocation whose bytes behind `"client":` these are.
-fn guessed_invoke(alloc: Global, op: OpId, bytes: &[u8]) -> Result<Option<Row>, Memory> {
+fn guessed_invoke(alloc: Global, op: OpId, bytes: &[u8]) -> Result<Option<HallRow>, Memory> {
     let (name, rest) = number(bytes);
     let Ok(client) = ClientId::new(name) else {
         return Ok(None);
     };
-    let read = rest.strip_prefix(b",\"do\":\"read\",\"key\":\"".as_slice());
-    let write = rest.strip_prefix(b",\"do\":\"write\",\"key\":\"".as_slice());
-    let Some((name, rest)) = read.or(write).and_then(text) else {
+    let read = rest.strip_prefix(b",\"do\":\"read\"".as_slice());
+    let write = rest.strip_prefix(b",\"do\":\"write\"".as_slice());
+    let Some(rest) = read.or(write) else {
+        return Ok(None);
+    };
+    let (hall, rest) = guessed_hall(rest);
+    let Some((name, rest)) = guessed_key(rest) else {
         return Ok(None);
     };
     let action = match write {
@@ -86,12 +109,15 @@ fn guessed_invoke(alloc: Global, op: OpId, bytes: &[u8]) -> Result<Option<Row>, 
         None => Some(Action::Read),
     };
     match (key(alloc, name)?, action) {
-        (Some(key), Some(action)) => Ok(Some(Row::Invoke {
-            op,
-            client,
-            key,
-            action,
-        })),
+        (Some(key), Some(action)) => {
+            let row = Row::Invoke {
+                op,
+                client,
+                key,
+                action,
+            };
+            Ok(Some(HallRow { hall, row }))
+        }
         _ => Ok(None),
     }
 }
@@ -119,22 +145,31 @@ fn guessed_respond(alloc: Global, op: OpId, bytes: &[u8]) -> Result<Option<Row>,
     Ok(Some(Row::Respond { op, returned }))
 }
 
-/// The row that the line may be.
-fn guessed_row(alloc: Global, line: &[u8]) -> Result<Option<Row>, Memory> {
+/// The note or the response whose bytes behind the call these are.
+fn guessed_later(alloc: Global, op: OpId, bytes: &[u8]) -> Result<Option<HallRow>, Memory> {
+    let (hall, rest) = guessed_hall(bytes);
+    let row = if let Some(rest) = rest.strip_prefix(b",\"number\":".as_slice()) {
+        guessed_note(op, rest)
+    } else if let Some(rest) = rest.strip_prefix(b",\"row\":\"respond\"".as_slice()) {
+        guessed_respond(alloc, op, rest)?
+    } else {
+        None
+    };
+    match row {
+        Some(row) => Ok(Some(HallRow { hall, row })),
+        None => Ok(None),
+    }
+}
+
+/// The row that the line may be, and its hall.
+fn guessed_row(alloc: Global, line: &[u8]) -> Result<Option<HallRow>, Memory> {
     let Some(rest) = line.strip_prefix(b"{\"call\":".as_slice()) else {
         return Ok(None);
     };
     let (call, rest) = number(rest);
-    let op = OpId(call);
-    if let Some(rest) = rest.strip_prefix(b",\"client\":".as_slice()) {
-        return guessed_invoke(alloc, op, rest);
-    }
-    if let Some(rest) = rest.strip_prefix(b",\"number\":".as_slice()) {
-        return Ok(guessed_note(op, rest));
-    }
-    match rest.strip_prefix(b",\"row\":\"respond\"".as_slice()) {
-        Some(rest) => guessed_respond(alloc, op, rest),
-        None => Ok(None),
+    match rest.strip_prefix(b",\"client\":".as_slice()) {
+        Some(rest) => guessed_invoke(alloc, OpId(call), rest),
+        None => guessed_later(alloc, OpId(call), rest),
     }
 }
 
@@ -154,13 +189,37 @@ pub(crate) fn written_row(
 ) -> Result<Option<Row>, Memory>
     ensures { IfOk result (λ found. IfSome found (λ row. Shows row_in line.now (Ok row))) }
 {
-    let Some(row) = guessed_row(alloc, line)? else {
+    let Some(HallRow { hall: _, row }) = guessed_row(alloc, line)? else {
         return Ok(None);
     };
     text.clear();
-    append_row(text, &row)?;
+    append_row(text, None, &row)?;
     if is_line(text, line) {
         Ok(Some(row))
+    } else {
+        Ok(None)
+    }
+}
+
+/// The same of a row with its hall, behind that header.
+pub(crate) fn written_hall_row(
+    alloc: Global,
+    header: FileHeader,
+    text: &mut Vec<u8>,
+    line: &[u8],
+) -> Result<Option<HallRow>, Memory>
+    ensures { IfOk result (λ found. IfSome found (λ item. Shows (hall_row_in header) line.now (Ok item))) }
+{
+    let Some(item) = guessed_row(alloc, line)? else {
+        return Ok(None);
+    };
+    if item.hall >= header.halls() {
+        return Ok(None);
+    }
+    text.clear();
+    append_row(text, header.place(item.hall), &item.row)?;
+    if is_line(text, line) {
+        Ok(Some(item))
     } else {
         Ok(None)
     }

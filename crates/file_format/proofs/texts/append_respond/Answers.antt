@@ -1,17 +1,20 @@
 use Rattle.std.proofs.Common.{decimal}
 use Rattle.std.specs.Prelude.{codes}
 use Rattle.std.proofs.lemmas.Result.{on_ok_weaker}
+use Rattle.file_format.specs.Texts.{hall_text}
 use Rattle.file_format.proofs.Spelling.{written_bytes, respond_bytes, then, spelled}
 use Rattle.file_format.proofs.texts.append_respond.Goals as goal
 
 pub returns-in-Written-clause-text : goal.returns-in-Written-clause-text
 returns-in-Written-clause-text c =
     let op = c.args.op in
-    rw c.in-Written.is (on_ok_weaker c.append.result (λ last. spelled _ _ _ _ (written_bytes op)
-    (then _ _ _ (codes "{\"call\":") (decimal op.0) (codes ",\"row\":\"respond\"}\n") c.in_ok-append_number.ensures.text last)) c.append.ensures)
+    rw c.in-Written.is (on_ok_weaker c.append.result (λ last. spelled _ _ _ _ (written_bytes c.args.hall op)
+    (then _ _ _ (codes "{\"call\":") (decimal op.0) _ c.in_ok-append_number.ensures.text
+    (then _ _ _ (codes "") (hall_text c.args.hall) (codes ",\"row\":\"respond\"}\n") c.in_ok-append_hall.ensures last))) c.append.ensures)
 
 pub returns-in-Value-clause-text : goal.returns-in-Value-clause-text
 returns-in-Value-clause-text c =
     let op = c.args.op in
-    rw c.in-Value.is (on_ok_weaker c.append_answer.result (λ last. spelled _ _ _ _ (respond_bytes op c.in-Value.answer)
-    (then _ _ _ (codes "{\"call\":") (decimal op.0) _ c.in_ok-append_number.ensures.text last)) c.append_answer.ensures.text)
+    rw c.in-Value.is (on_ok_weaker c.append_answer.result (λ last. spelled _ _ _ _ (respond_bytes c.args.hall op c.in-Value.answer)
+    (then _ _ _ (codes "{\"call\":") (decimal op.0) _ c.in_ok-append_number.ensures.text
+    (then _ _ _ (codes "") (hall_text c.args.hall) _ c.in_ok-append_hall.ensures last))) c.append_answer.ensures.text)

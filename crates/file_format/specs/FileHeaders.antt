@@ -1,0 +1,72 @@
+-- The header of a history file of either version: version 2 tells how many halls there are, and the store's quorums.
+use Rattle.std.specs.Prelude.{ℕ, ◌+◌, ◌&&◌, ◌==◌, List, Bool, Option, Some, None, Result, Ok, Err, codes, bytes_eq, length, sum, nat_le, nat_lt, if◌then◌else◌}
+use Rattle.std.specs.List.{list_all}
+use Rattle.serde_json.specs.Data.{Data}
+use Rattle.quorum.specs.Quorums.{Quorums}
+use Rattle.file_format.specs.declared.fault.LineFault.{LineFault}
+use Rattle.file_format.specs.declared.fault.LineFault.TheVariants.{NoHeader, Version}
+use Rattle.file_format.specs.declared.file_header.FileHeader.{FileHeader}
+use Rattle.file_format.specs.declared.file_header.FileHeader.TheVariants.{Version1, Version2}
+use Rattle.file_format.specs.Members.{◌>>=◌, text_at, number_at, numbers_at, needed, ranged}
+
+-- how many halls there are
+abbrev pub halls_in : FileHeader → ℕ
+halls_in Version1 = 1
+halls_in (Version2 halls quorums) = halls
+
+-- the quorums of the store, where they are told
+abbrev pub quorums_in : FileHeader → Option Quorums
+quorums_in Version1 = None
+quorums_in (Version2 halls quorums) = Some quorums
+
+-- the header of so many halls: of version 2 where the quorums are known
+abbrev pub header_with : ℕ → Option Quorums → FileHeader
+header_with halls None = Version1
+header_with halls (Some quorums) = Version2 halls quorums
+
+-- what a row of that hall has as its member `hall`: in version 1 it has none
+abbrev pub place_in : FileHeader → ℕ → Option ℕ
+place_in Version1 hall = None
+place_in (Version2 halls quorums) hall = Some hall
+
+-- 1 to 15 replicas, of 1 to 9 votes each
+abbrev pub are_votes : List ℕ → Bool
+are_votes votes = nat_le 1 (length votes) && nat_le (length votes) 15 && list_all (λ v. nat_le 1 v && nat_le v 9) votes
+
+-- so many votes make a quorum that can be reached
+abbrev pub is_reached : List ℕ → ℕ → Bool
+is_reached votes enough = nat_le 1 enough && nat_le enough (sum votes)
+
+-- the quorums are inside the rules
+abbrev pub are_quorums : List ℕ → ℕ → ℕ → Bool
+are_quorums votes ask put = are_votes votes && is_reached votes ask && is_reached votes put && nat_lt (sum votes) (ask + put)
+
+abbrev pub quorums_of : List ℕ → ℕ → ℕ → Result Quorums LineFault
+quorums_of votes ask put = ranged (are_quorums votes ask put) (record { votes = votes; ask = ask; put = put })
+
+abbrev pub count_of : ℕ → Result ℕ LineFault
+count_of halls = ranged (nat_le 1 halls && nat_le halls 64) halls
+
+-- the halls and the quorums that a header of version 2 tells: first its members and their kinds, then their ranges
+unfoldable pub told_in : Data → Result FileHeader LineFault
+told_in d = do
+  ask ← needed (number_at (codes "ask") d)
+  halls ← needed (number_at (codes "halls") d)
+  put ← needed (number_at (codes "put") d)
+  votes ← needed (numbers_at (codes "votes") d)
+  count ← count_of halls
+  quorums ← quorums_of votes ask put
+  Ok (Version2 count quorums)
+
+unfoldable pub version_of : ℕ → Data → Result FileHeader LineFault
+version_of version d = if version == 1 then Ok Version1 else if version == 2 then told_in d else Err Version
+
+-- a history file of version 1 or 2
+unfoldable pub file_header_of : Option (List ℕ) → Option ℕ → Data → Result FileHeader LineFault
+file_header_of None version d = Err NoHeader
+file_header_of (Some abd) None d = if bytes_eq abd (codes "history") then Err Version else Err NoHeader
+file_header_of (Some abd) (Some version) d = if bytes_eq abd (codes "history") then version_of version d else Err NoHeader
+
+-- the value is the header of a history file, or its fault
+unfoldable pub file_header_in : Data → Result FileHeader LineFault
+file_header_in d = file_header_of (text_at (codes "abd") d) (number_at (codes "version") d) d

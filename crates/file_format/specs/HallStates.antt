@@ -1,0 +1,17 @@
+-- What the histories of a file's halls carry while its rows come in.
+use Rattle.std.specs.Prelude.{ℕ, ◌≡◌, length, Some, slice_get}
+use Rattle.recorder.specs.Halls.{RecordedHalls, AreHalls, hall_calls}
+use Rattle.recorder.specs.Histories.{Recorded}
+use Rattle.file_format.specs.declared.hall_histories.HallHistories.TheInside.{Inside}
+use Rattle.file_format.specs.FileHeaders.{halls_in, quorums_in}
+
+-- the histories so far, and the quorums that the header tells
+abbrev pub histories_in : Inside → RecordedHalls
+histories_in now = record { halls = now.halls.items; quorums = quorums_in now.header }
+
+-- they are those of a row of halls, each with room for 1,000,000 calls, and their calls are counted
+pub record IsUnderWay (now : Inside) : Type 0 where
+  pub lawful : AreHalls (histories_in now)
+  pub count : length now.halls.items ≡ halls_in now.header
+  pub counted : now.calls ≡ hall_calls now.halls.items
+  pub room : (hall : ℕ) (history : Recorded) → slice_get now.halls.items hall ≡ Some history → history.limit ≡ 1000000

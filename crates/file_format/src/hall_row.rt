@@ -1,0 +1,66 @@
+//! Rows by hall.
+ghost use Rattle.std.specs.Prelude.{◌≡◌, nat_lt};
+ghost use Rattle.file_format.specs.Documents.{data_in};
+ghost use Rattle.file_format.specs.HallRows.{only_row_in, placed_row_in, hall_row_in};
+ghost use Rattle.file_format.specs.Members.{Gives, ranged};
+
+use crate::LineFault;
+use crate::document::Document;
+use crate::fault::Stop;
+use crate::file_header::FileHeader;
+use crate::rows::row_in;
+use recorder::Row;
+use std::alloc::Global;
+
+/// A row, and the number of the hall that it is of.
+#[derive(Debug, Drop)]
+pub struct HallRow {
+    pub hall: u8,
+    pub row: Row,
+}
+
+/// The number of one of so many halls.
+fn hall_of(number: u64, halls: u8) -> Result<u8, Stop>
+    ensures { Gives (λ hall. hall) result (ranged (nat_lt number halls) number) }
+{
+    if number < u64::from(halls) {
+        Ok(number as u8)
+    } else {
+        Err(Stop::Fault(LineFault::Range))
+    }
+}
+
+/// The row of version 1 that the value says.
+#[tactic(auto, unfolding(crate::specs::HallRows::only_row_in))]
+fn only_row_in(alloc: Global, document: &Document<'_>) -> Result<HallRow, Stop>
+    ensures { Gives (λ item. item) result (only_row_in (data_in document.now)) }
+{
+    let row = row_in(alloc, document)?;
+    Ok(HallRow { hall: 0, row })
+}
+
+/// The row of version 2 that the value says, and its hall.
+#[tactic(auto, unfolding(crate::specs::HallRows::placed_row_in))]
+fn placed_row_in(alloc: Global, halls: u8, document: &Document<'_>) -> Result<HallRow, Stop>
+    ensures { Gives (λ item. item) result (placed_row_in halls (data_in document.now)) }
+{
+    let number = document.needed_number("hall")?;
+    let row = row_in(alloc, document)?;
+    let hall = hall_of(number, halls)?;
+    Ok(HallRow { hall, row })
+}
+
+/// The row that the value says behind that header, and its hall.
+#[tactic(auto, unfolding(crate::specs::HallRows::hall_row_in))]
+pub(crate) fn hall_row_in(
+    alloc: Global,
+    header: FileHeader,
+    document: &Document<'_>,
+) -> Result<HallRow, Stop>
+    ensures { Gives (λ item. item) result (hall_row_in header (data_in document.now)) }
+{
+    match header {
+        FileHeader::Version1 => only_row_in(alloc, document),
+        FileHeader::Version2 { halls, .. } => placed_row_in(alloc, halls.count(), document),
+    }
+}
