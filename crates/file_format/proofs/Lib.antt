@@ -30,3 +30,4 @@ pub mod WrittenHalls
 pub mod HallTexts
 pub mod HallState
 pub mod Votes
+pub mod OneHall

@@ -1,5 +1,5 @@
 //! Laws of the definitions, each the contract of a function that does nothing.
-ghost use Rattle.std.specs.Prelude.{ℕ, ◌≡◌, ◌↔◌, List, Ok, Result};
+ghost use Rattle.std.specs.Prelude.{ℕ, ◌≡◌, ◌↔◌, List, [], ◌∷◌, None, Ok, Result};
 ghost use Rattle.serde_json.specs.Data.{Data};
 ghost use Rattle.recorder.specs.declared.row.Row.{Row};
 ghost use Rattle.recorder.specs.declared.order.KeyOrder.{KeyOrder};
@@ -101,6 +101,11 @@ pub fn a_text_is_read_as_its_history_alone()
 /// Bytes are read as one row of histories.
 pub fn bytes_are_read_as_the_same_histories()
     ensures { (bytes : List ℕ) (a b : RecordedHalls) → Reads histories_format MakesHistories bytes a → Reads histories_format MakesHistories bytes b → a ≡ b }
+{}
+
+/// A history file of version 1 is read as one hall, without quorums.
+pub fn a_history_is_read_as_one_hall()
+    ensures { (bytes : List ℕ) (history : Recorded) → Reads history_format MakesHistory bytes history → Reads histories_format MakesHistories bytes (record { halls = history ∷ []; quorums = None }) }
 {}
 
 /// What is written of histories is read as their rows by hall and their quorums, and as nothing else.
