@@ -22,7 +22,7 @@ use Rattle.history_file.proofs.Taking.{IsFirstFault-more}
 use Rattle.history_file.proofs.Feeding.{with_more, long_first}
 use Rattle.counted_devices.proofs.Cutting.{Splits-join, Splits-room, Splits-none, Splits-rest, cut_of}
 
-module _ {Item Contents : Type 0} (format : Format Item) (Makes : List Item → Contents → Type 0) where
+module _ {Header Item Contents : Type 0} (format : Format Header Item) (Makes : Header → List Item → Contents → Type 0) where
   -- a fault among the whole lines
   pub so_far : (bytes : List ℕ) (lines : List (List ℕ)) (rest : List ℕ) (number : ℕ) (k : FaultKind) → Splits bytes lines rest → IsFirstOfKind format lines number k → FaultSoFar format bytes number k
   so_far bytes lines rest number (kind.Line fault) s h = record {
@@ -34,41 +34,42 @@ module _ {Item Contents : Type 0} (format : Format Item) (Makes : List Item → 
   so_far bytes lines rest number kind.Device s h = h
   so_far bytes lines rest number kind.Memory s h = tt
 
-  none_shown : (lines : List (List ℕ)) → AllZip (ShowsItem format.meaning) lines [] → lines ≡ []
-  none_shown [] h = refl
-  none_shown (line ∷ lines) h = absurd h
+  none_shown : (header : Header) (lines : List (List ℕ)) → AllZip (ShowsItem (format.meaning header)) lines [] → lines ≡ []
+  none_shown header [] h = refl
+  none_shown header (line ∷ lines) h = absurd h
 
   -- nothing waits: all lines were taken
   all_taken : (bytes : List ℕ) (ahead : Ahead Contents Item) (a : IsAhead format Makes bytes ahead) → ahead.judged.judgements ≡ [] → Splits bytes a.taken ahead.judged.rest.items
   all_taken bytes ahead a none =
-      let A : List (Judgement Item) → Type 0 = λ js. AllZip (ShowsItem format.meaning) a.waiting js in
-      let nothing : a.waiting ≡ [] = none_shown a.waiting (subst A none a.shown) in
+      let A : List (Judgement Item) → Type 0 = λ js. AllZip (ShowsItem (format.meaning a.header)) a.waiting js in
+      let nothing : a.waiting ≡ [] = none_shown a.header a.waiting (subst A none a.shown) in
       let P : List (List ℕ) → Type 0 = λ ls. Splits bytes ls ahead.judged.rest.items in
       subst P (ap (λ (ls : List (List ℕ)). a.taken ++ ls) nothing ∙ append-nil a.taken) a.splits
 
   pub settled : (bytes : List ℕ) (ahead : Ahead Contents Item) (feed : Feed Contents) → IsAhead format Makes bytes ahead → length ahead.judged.rest.items ≤ 65536 → ahead.judged.judgements ≡ [] → feed.progress ≡ ahead.progress → feed.rest.items ≡ ahead.judged.rest.items → feed.fed ≡ ahead.fed → feed.fault ≡ None → Stands format Makes bytes feed
   settled bytes ahead feed a short none p r f sound =
       let Q : List ℕ → Type 0 = λ xs. Splits bytes a.taken xs in
-      let R : Progress Contents → Type 0 = λ x. IsAt format Makes a.taken x in
+      let R : Progress Contents → Type 0 = λ x. IsAt format Makes a.taken a.header x in
       record {
         lines = a.taken;
         splits = subst Q (sym r) (all_taken bytes ahead a none);
-        at = subst R (sym p) a.at;
+        at = (a.header, subst R (sym p) a.at);
         short = omega (arith, ap length r, short);
         fed = f ∙ a.fed;
         sound = sound;
       }
 
   -- no byte yet
-  pub opening_stands : (ahead : Ahead Contents Item) → format.Fits [] → Makes [] ahead.progress.contents → ahead.progress.lines ≡ 0 → ahead.judged.judgements ≡ [] → ahead.judged.rest.items ≡ [] → ahead.fed ≡ 0 → StandsAhead format Makes [] ahead
-  opening_stands ahead fits made lines none r f =
+  pub opening_stands : (ahead : Ahead Contents Item) (header : Header) → format.Fits header [] → ahead.progress.lines ≡ 0 → ahead.judged.judgements ≡ [] → ahead.judged.rest.items ≡ [] → ahead.fed ≡ 0 → StandsAhead format Makes [] ahead
+  opening_stands ahead header fits lines none r f =
       let Q : List ℕ → Type 0 = λ xs. Splits [] [] xs in
-      let A : List (Judgement Item) → Type 0 = λ js. AllZip (ShowsItem format.meaning) [] js in (
+      let A : List (Judgement Item) → Type 0 = λ js. AllZip (ShowsItem (format.meaning header)) [] js in (
         record {
           taken = [];
           waiting = [];
+          header = header;
           splits = subst Q (sym r) (Splits-none [] (All-nil (λ (b : ℕ). b ≢ 10)));
-          at = record { items = []; sound = record { spelled = refl; fits = fits }; made = made; counted = lines };
+          at = record { items = []; sound = record { spelled = refl; fits = fits }; made = λ some. absurd (omega (arith, some)); counted = lines };
           shown = subst A (sym none) tt;
           fed = f;
         },
@@ -80,13 +81,14 @@ module _ {Item Contents : Type 0} (format : Format Item) (Makes : List Item → 
   nothing_waits bytes feed ahead s p none r f =
       let P : List (List ℕ) → Type 0 = λ ls. Splits bytes ls feed.rest.items in
       let Q : List ℕ → Type 0 = λ xs. Splits bytes (s.lines ++ []) xs in
-      let R : Progress Contents → Type 0 = λ x. IsAt format Makes s.lines x in
-      let A : List (Judgement Item) → Type 0 = λ js. AllZip (ShowsItem format.meaning) [] js in (
+      let R : Progress Contents → Type 0 = λ x. IsAt format Makes s.lines s.at.0 x in
+      let A : List (Judgement Item) → Type 0 = λ js. AllZip (ShowsItem (format.meaning s.at.0)) [] js in (
         record {
           taken = s.lines;
           waiting = [];
+          header = s.at.0;
           splits = subst Q (sym r) (subst P (sym (append-nil s.lines)) s.splits);
-          at = subst R (sym p) s.at;
+          at = subst R (sym p) s.at.1;
           shown = subst A (sym none) tt;
           fed = f ∙ s.fed;
         },
@@ -102,7 +104,7 @@ module _ {Item Contents : Type 0} (format : Format Item) (Makes : List Item → 
       let lines = a.taken ++ a.waiting in
       let rest = old.judged.rest.items in
       let cut = cut_of (rest ++ more) in
-      so_far (bytes ++ more) (lines ++ cut.lines) cut.rest fault.line fault.kind (Splits-join bytes more lines cut.lines rest cut.rest a.splits cut.splits) (IsFirstFault-more format Makes lines cut.lines fault.line fault.kind (records a.waiting a.shown a.taken a.at some))
+      so_far (bytes ++ more) (lines ++ cut.lines) cut.rest fault.line fault.kind (Splits-join bytes more lines cut.lines rest cut.rest a.splits cut.splits) (IsFirstFault-more format Makes lines cut.lines fault.line fault.kind (records a.header a.waiting a.shown a.taken a.at some))
 
   pub caught_fault : (bytes : List ℕ) (old : Ahead Contents Item) (fault : FileFault) → IsAhead format Makes bytes old → 0 < old.progress.lines → Records format Makes old.progress old.judged.judgements (Err fault) → FaultStays format bytes fault
   caught_fault bytes old fault a some records = λ more. fault_behind bytes more old fault a (lines_taken bytes old a some) records
@@ -116,12 +118,13 @@ module _ {Item Contents : Type 0} (format : Format Item) (Makes : List Item → 
       let lines = a.taken ++ a.waiting in
       let P : List (List ℕ) → Type 0 = λ ls. Splits bytes ls old.judged.rest.items in
       let Q : List ℕ → Type 0 = λ xs. Splits bytes (lines ++ []) xs in
-      let A : List (Judgement Item) → Type 0 = λ js. AllZip (ShowsItem format.meaning) [] js in
+      let A : List (Judgement Item) → Type 0 = λ js. AllZip (ShowsItem (format.meaning a.header)) [] js in
       record {
         taken = lines;
         waiting = [];
+        header = a.header;
         splits = subst Q (sym r) (subst P (sym (append-nil lines)) a.splits);
-        at = records a.waiting a.shown a.taken a.at (lines_taken bytes old a some);
+        at = records a.header a.waiting a.shown a.taken a.at (lines_taken bytes old a some);
         shown = subst A (sym none) tt;
         fed = f ∙ a.fed;
       }
@@ -129,14 +132,15 @@ module _ {Item Contents : Type 0} (format : Format Item) (Makes : List Item → 
   pub advance_fault : (bytes piece : List ℕ) (old : Ahead Contents Item) (fault : FileFault) → IsAhead format Makes bytes old → 0 < old.progress.lines → Records format Makes old.progress old.judged.judgements (Err fault) → FaultSoFar format (bytes ++ piece) fault.line fault.kind
   advance_fault bytes piece old fault a some records = fault_behind bytes piece old fault a (lines_taken bytes old a some) records
 
-  pub advanced : (bytes piece : List ℕ) (old new : Ahead Contents Item) (a : IsAhead format Makes bytes old) → 0 < old.progress.lines → Records format Makes old.progress old.judged.judgements (Ok new.progress) → IsJudged format (old.judged.rest.items ++ piece) new.judged → new.fed ≡ old.fed + length piece → IsAhead format Makes (bytes ++ piece) new
+  pub advanced : (bytes piece : List ℕ) (old new : Ahead Contents Item) (a : IsAhead format Makes bytes old) → 0 < old.progress.lines → Records format Makes old.progress old.judged.judgements (Ok new.progress) → IsJudged format a.header (old.judged.rest.items ++ piece) new.judged → new.fed ≡ old.fed + length piece → IsAhead format Makes (bytes ++ piece) new
   advanced bytes piece old new a some records j f =
       let lines = a.taken ++ a.waiting in
       record {
         taken = lines;
         waiting = j.lines;
+        header = a.header;
         splits = Splits-join bytes piece lines j.lines old.judged.rest.items new.judged.rest.items a.splits j.splits;
-        at = records a.waiting a.shown a.taken a.at (lines_taken bytes old a some);
+        at = records a.header a.waiting a.shown a.taken a.at (lines_taken bytes old a some);
         shown = j.shown;
         fed = omega (arith, f, a.fed, length-append bytes piece);
       }
@@ -149,19 +153,19 @@ module _ {Item Contents : Type 0} (format : Format Item) (Makes : List Item → 
         lines = a.taken;
         rest = rest;
         splits = all_taken bytes ahead a none;
-        first = long_first format Makes (nat_lt 65536 (length rest)) a.taken rest a.at.items number (lt-ltb 65536 (length rest) long) long a.at.sound (omega (arith, counted, a.at.counted));
+        first = long_first format Makes (nat_lt 65536 (length rest)) a.taken rest a.header a.at.items number (lt-ltb 65536 (length rest) long) long a.at.sound (omega (arith, counted, a.at.counted));
       }
 
   -- bytes without an end have no whole line
-  pub judged_none : (bytes : List ℕ) (judged : Judged Item) → HasNoEnd bytes → judged.judgements ≡ [] → judged.rest.items ≡ bytes → IsJudged format bytes judged
-  judged_none bytes judged h none r =
+  pub judged_none : (header : Header) (bytes : List ℕ) (judged : Judged Item) → HasNoEnd bytes → judged.judgements ≡ [] → judged.rest.items ≡ bytes → IsJudged format header bytes judged
+  judged_none header bytes judged h none r =
       let Q : List ℕ → Type 0 = λ xs. Splits bytes [] xs in
-      let A : List (Judgement Item) → Type 0 = λ js. AllZip (ShowsItem format.meaning) [] js in
+      let A : List (Judgement Item) → Type 0 = λ js. AllZip (ShowsItem (format.meaning header)) [] js in
       record { lines = []; splits = subst Q (sym r) (Splits-none bytes h); shown = subst A (sym none) tt }
 
   -- the first line is behind the rest, the others are those of the tail's parts
-  pub judged_parts : (rest front tail : List ℕ) (parts : List (List ℕ)) (judged : Judged Item) → Divides tail parts judged.rest.items → ShowParts format.meaning ((rest ++ front) ∷ parts) judged.judgements → IsJudged format (rest ++ (front ++ 10 ∷ tail)) judged
-  judged_parts rest front tail parts judged d h =
+  pub judged_parts : (header : Header) (rest front tail : List ℕ) (parts : List (List ℕ)) (judged : Judged Item) → Divides tail parts judged.rest.items → ShowParts (format.meaning header) ((rest ++ front) ∷ parts) judged.judgements → IsJudged format header (rest ++ (front ++ 10 ∷ tail)) judged
+  judged_parts header rest front tail parts judged d h =
       let left = judged.rest.items in
       let line = rest ++ front in
       let whole : flat_map ended (line ∷ parts) ++ left ≡ rest ++ (front ++ 10 ∷ tail) =
@@ -170,5 +174,5 @@ module _ {Item Contents : Type 0} (format : Format Item) (Makes : List Item → 
       record { lines = h.lines; splits = subst P whole (Splits-rest (flat_map ended (line ∷ parts)) left h.lines h.cut d.partial); shown = h.shown }
 
   -- each line and its end is a byte at least
-  pub judged_room : (bytes : List ℕ) (judged : Judged Item) → IsJudged format bytes judged → length judged.judgements + length judged.rest.items ≤ length bytes
-  judged_room bytes judged j = omega (arith, AllZip-long (ShowsItem format.meaning) j.lines judged.judgements j.shown, Splits-room bytes j.lines judged.rest.items j.splits)
+  pub judged_room : (header : Header) (bytes : List ℕ) (judged : Judged Item) → IsJudged format header bytes judged → length judged.judgements + length judged.rest.items ≤ length bytes
+  judged_room header bytes judged j = omega (arith, AllZip-long (ShowsItem (format.meaning header)) j.lines judged.judgements j.shown, Splits-room bytes j.lines judged.rest.items j.splits)

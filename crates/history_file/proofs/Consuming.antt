@@ -16,7 +16,7 @@ use Rattle.history_file.specs.Deliveries.{Holds, StopsAt, StopsWith, IsUnderWay}
 use Rattle.counted_devices.proofs.Consuming.{Consumes-none, Consumes-join}
 use Rattle.counted_devices.proofs.ReadFaults.{of_line, no_device}
 
-module _ {Item Contents : Type 0} (format : Format Item) (Makes : List Item → Contents → Type 0) where
+module _ {Header Item Contents : Type 0} (format : Format Header Item) (Makes : Header → List Item → Contents → Type 0) where
   pub Holds-start : (a : Option (List ℕ)) (feed : Feed Contents) → Stands format Makes [] feed → Holds format Makes a a feed
   Holds-start a feed s = record { bytes = []; given = Consumes-none a; fact = s }
 
@@ -52,7 +52,7 @@ module _ {Item Contents : Type 0} (format : Format Item) (Makes : List Item → 
   Holds-device a c feed number h line = record {
     bytes = h.bytes;
     given = h.given;
-    fact = record { lines = h.fact.lines; rest = feed.rest.items; splits = h.fact.splits; short = h.fact.short; items = h.fact.at.items; sound = h.fact.at.sound; counted = omega (arith, line h.fact.sound, h.fact.at.counted) };
+    fact = record { lines = h.fact.lines; rest = feed.rest.items; splits = h.fact.splits; short = h.fact.short; header = h.fact.at.0; items = h.fact.at.1.items; sound = h.fact.at.1.sound; counted = omega (arith, line h.fact.sound, h.fact.at.1.counted) };
   }
 
   -- the feed, when the lines that waited are taken

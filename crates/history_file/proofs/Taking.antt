@@ -8,51 +8,100 @@ use Rattle.counted_devices.specs.declared.read_fault.FaultKind.TheVariants as ki
 use Rattle.history_file.specs.declared.progress.Progress.{Progress}
 use Rattle.file_format.specs.Lines.{Shows, ShowsItem}
 use Rattle.file_format.specs.Formats.{Format}
-use Rattle.file_format.specs.Files.{IsLineOf, AreSpelled, HasFault, IsFirstFault}
-use Rattle.history_file.specs.Takings.{IsFirstOfKind, IsAt, Takes, TakesJudged}
+use Rattle.file_format.specs.Files.{IsHeader, IsLineOf, AreSpelled, AreLinesOf, HasFault, IsFirstFault}
+use Rattle.history_file.specs.Takings.{IsFirstOfKind, IsAt, AreTaken, Takes, TakesJudged, TakesLine}
 use Rattle.file_format.proofs.Zips.{AllZip-push_both, parted}
 
-module _ {Item Contents : Type 0} (format : Format Item) (Makes : List Item → Contents → Type 0) where
-  AreSpelled-push : (before : List (List ℕ)) (items : List Item) (line : List ℕ) (item : Item) → 0 < length before → AreSpelled format before items → IsLineOf format line item → AreSpelled format (before ++ line ∷ []) (items ++ item ∷ [])
-  AreSpelled-push [] items line item some h l = absurd (omega arith)
-  AreSpelled-push (header ∷ lines) items line item some h l = (h.0, AllZip-push_both (IsLineOf format) lines items line item h.1 l)
+module _ {Header Item Contents : Type 0} (format : Format Header Item) (Makes : Header → List Item → Contents → Type 0) where
+  AreSpelled-push : (before : List (List ℕ)) (header : Header) (items : List Item) (line : List ℕ) (item : Item) → 0 < length before → AreSpelled format before header items → IsLineOf format header line item → AreSpelled format (before ++ line ∷ []) header (items ++ item ∷ [])
+  AreSpelled-push [] header items line item some h l = absurd (omega arith)
+  AreSpelled-push (first ∷ lines) header items line item some h l = (h.0, AllZip-push_both (IsLineOf format header) lines items line item h.1 l)
 
   -- an item's line more
-  pub taken_item : (before : List (List ℕ)) (line : List ℕ) (old new : Progress Contents) (item : Item) (at : IsAt format Makes before old) → 0 < length before → IsLineOf format line item → format.Fits (at.items ++ item ∷ []) → Makes (at.items ++ item ∷ []) new.contents → new.lines ≡ old.lines + 1 → IsAt format Makes (before ++ line ∷ []) new
-  taken_item before line old new item at some l fits made lines = record {
+  pub taken_item : (before : List (List ℕ)) (header : Header) (line : List ℕ) (old new : Progress Contents) (item : Item) (at : IsAt format Makes before header old) → 0 < length before → IsLineOf format header line item
+      → format.Fits header (at.items ++ item ∷ []) → Makes header (at.items ++ item ∷ []) new.contents → new.lines ≡ old.lines + 1 → IsAt format Makes (before ++ line ∷ []) header new
+  taken_item before header line old new item at some l fits made lines = record {
     items = at.items ++ item ∷ [];
-    sound = record { spelled = AreSpelled-push before at.items line item some at.sound.spelled l; fits = fits };
-    made = made;
+    sound = record { spelled = AreSpelled-push before header at.items line item some at.sound.spelled l; fits = fits };
+    made = λ any. made;
     counted = omega (arith, lines, at.counted, length-append before (line ∷ []));
   }
 
-  faulty_behind : (before : List (List ℕ)) (items : List Item) (line : List ℕ) (item : Item) (fault : LineFault) → 0 < length before → IsLineOf format line item → format.HasFault items item fault → HasFault format before items line fault
-  faulty_behind [] items line item fault some l h = absurd (omega arith)
-  faulty_behind (header ∷ lines) items line item fault some l h = inr (item, l, h)
+  faulty_behind : (before : List (List ℕ)) (header : Header) (items : List Item) (line : List ℕ) (item : Item) (fault : LineFault) → 0 < length before → IsLineOf format header line item → format.HasFault header items item fault → HasFault format before header items line fault
+  faulty_behind [] header items line item fault some l h = absurd (omega arith)
+  faulty_behind (first ∷ lines) header items line item fault some l h = inr (item, l, h)
 
-  faulty_itself : (before : List (List ℕ)) (items : List Item) (line : List ℕ) (fault : LineFault) → 0 < length before → Shows format.meaning line (Err fault) → HasFault format before items line fault
-  faulty_itself [] items line fault some h = absurd (omega arith)
-  faulty_itself (header ∷ lines) items line fault some h = inl h
+  faulty_itself : (before : List (List ℕ)) (header : Header) (items : List Item) (line : List ℕ) (fault : LineFault) → 0 < length before → Shows (format.meaning header) line (Err fault) → HasFault format before header items line fault
+  faulty_itself [] header items line fault some h = absurd (omega arith)
+  faulty_itself (first ∷ lines) header items line fault some h = inl h
 
-  first_at : (before : List (List ℕ)) (line : List ℕ) (old : Progress Contents) (fault : LineFault) (number : ℕ) (at : IsAt format Makes before old) → number ≡ old.lines + 1 → HasFault format before at.items line fault → IsFirstFault format (before ++ line ∷ []) number fault
-  first_at before line old fault number at counted faulty = record {
+  first_at : (before : List (List ℕ)) (header : Header) (line : List ℕ) (old : Progress Contents) (fault : LineFault) (number : ℕ) (at : IsAt format Makes before header old) → number ≡ old.lines + 1 → HasFault format before header at.items line fault → IsFirstFault format (before ++ line ∷ []) number fault
+  first_at before header line old fault number at counted faulty = record {
     earlier = before;
     line = line;
     later = [];
     place = refl;
     counted = omega (arith, counted, at.counted);
+    header = header;
     items = at.items;
     sound = at.sound;
     faulty = faulty;
   }
 
   -- an item's line that has a fault where it stands
-  pub stopped_item : (before : List (List ℕ)) (line : List ℕ) (old : Progress Contents) (item : Item) (fault : LineFault) (number : ℕ) (at : IsAt format Makes before old) → 0 < length before → IsLineOf format line item → number ≡ old.lines + 1 → format.HasFault at.items item fault → IsFirstFault format (before ++ line ∷ []) number fault
-  stopped_item before line old item fault number at some l counted h = first_at before line old fault number at counted (faulty_behind before at.items line item fault some l h)
+  pub stopped_item : (before : List (List ℕ)) (header : Header) (line : List ℕ) (old : Progress Contents) (item : Item) (fault : LineFault) (number : ℕ) (at : IsAt format Makes before header old) → 0 < length before → IsLineOf format header line item → number ≡ old.lines + 1
+      → format.HasFault header at.items item fault → IsFirstFault format (before ++ line ∷ []) number fault
+  stopped_item before header line old item fault number at some l counted h = first_at before header line old fault number at counted (faulty_behind before header at.items line item fault some l h)
 
   -- a line that has a fault by itself
-  pub stopped_line : (before : List (List ℕ)) (line : List ℕ) (old : Progress Contents) (fault : LineFault) (number : ℕ) (at : IsAt format Makes before old) → 0 < length before → Shows format.meaning line (Err fault) → number ≡ old.lines + 1 → IsFirstFault format (before ++ line ∷ []) number fault
-  stopped_line before line old fault number at some h counted = first_at before line old fault number at counted (faulty_itself before at.items line fault some h)
+  pub stopped_line : (before : List (List ℕ)) (header : Header) (line : List ℕ) (old : Progress Contents) (fault : LineFault) (number : ℕ) (at : IsAt format Makes before header old) → 0 < length before → Shows (format.meaning header) line (Err fault) → number ≡ old.lines + 1
+      → IsFirstFault format (before ++ line ∷ []) number fault
+  stopped_line before header line old fault number at some h counted = first_at before header line old fault number at counted (faulty_itself before header at.items line fault some h)
+
+  -- no line was taken
+  lines_none : (before : List (List ℕ)) → length before ≡ 0 → before ≡ []
+  lines_none [] e = refl
+  lines_none (line ∷ lines) e = absurd (omega arith)
+
+  opened : (header : Header) (line : List ℕ) (new : Progress Contents) → IsHeader format line header → format.Fits header [] → Makes header [] new.contents → new.lines ≡ 1 → IsAt format Makes (line ∷ []) header new
+  opened header line new h fits made lines = record {
+    items = [];
+    sound = record { spelled = (h, tt); fits = fits };
+    made = λ any. made;
+    counted = lines;
+  }
+
+  -- the first line, which is the header
+  pub taken_header : (before : List (List ℕ)) (header : Header) (line : List ℕ) (old new : Progress Contents) → AreTaken format Makes before old → old.lines ≡ 0 → IsHeader format line header → format.Fits header [] → Makes header [] new.contents → new.lines ≡ 1 → AreTaken format Makes (before ++ line ∷ []) new
+  taken_header before header line old new at none h fits made lines =
+      let P : List (List ℕ) → Type 0 = λ ls. AreTaken format Makes (ls ++ line ∷ []) new in
+      subst P (sym (lines_none before (sym at.1.counted ∙ none))) (header, opened header line new h fits made lines)
+
+  first_stopped : (header : Header) (items : List Item) (line : List ℕ) (fault : LineFault) → AreLinesOf format [] header items → Shows format.heading line (Err fault) → IsFirstFault format (line ∷ []) 1 fault
+  first_stopped header items line fault sound h = record {
+    earlier = [];
+    line = line;
+    later = [];
+    place = refl;
+    counted = refl;
+    header = header;
+    items = items;
+    sound = sound;
+    faulty = h;
+  }
+
+  -- the first line has that fault
+  pub stopped_header : (before : List (List ℕ)) (line : List ℕ) (old : Progress Contents) (fault : LineFault) → AreTaken format Makes before old → old.lines ≡ 0 → Shows format.heading line (Err fault) → IsFirstFault format (before ++ line ∷ []) 1 fault
+  stopped_header before line old fault at none h =
+      let empty : before ≡ [] = lines_none before (sym at.1.counted ∙ none) in
+      let P : List (List ℕ) → Type 0 = λ ls. IsFirstFault format (ls ++ line ∷ []) 1 fault in
+      let Q : List (List ℕ) → Type 0 = λ ls. AreLinesOf format ls at.0 at.1.items in
+      subst P (sym empty) (first_stopped at.0 at.1.items line fault (subst Q empty at.1.sound) h)
+
+  -- one line behind the header, said without it
+  pub line_taken : (before : List (List ℕ)) (header : Header) (line : List ℕ) (result : Result (Unit {0}) FileFault) (new : Progress Contents) → Takes format Makes before header (line ∷ []) result new → TakesLine format Makes before line result new
+  line_taken before header line (Ok done) new at = (header, at)
+  line_taken before header line (Err fault) new first = first
 
   -- lines behind the first fault change nothing
   pub IsFirstFault-more : (lines more : List (List ℕ)) (number : ℕ) (k : FaultKind) → IsFirstOfKind format lines number k → IsFirstOfKind format (lines ++ more) number k
@@ -62,6 +111,7 @@ module _ {Item Contents : Type 0} (format : Format Item) (Makes : List Item → 
     later = h.later ++ more;
     place = ap (λ (ls : List (List ℕ)). ls ++ more) h.place ∙ append_assoc h.earlier (h.line ∷ h.later) more;
     counted = h.counted;
+    header = h.header;
     items = h.items;
     sound = h.sound;
     faulty = h.faulty;
@@ -70,23 +120,23 @@ module _ {Item Contents : Type 0} (format : Format Item) (Makes : List Item → 
   IsFirstFault-more lines more number kind.Memory h = tt
 
   -- some of the lines were taken, and what is left is judged
-  pub record Half (before lines : List (List ℕ)) (new : Progress Contents) (judgements : List (Judgement Item)) : Type 0 where
+  pub record Half (before : List (List ℕ)) (header : Header) (lines : List (List ℕ)) (new : Progress Contents) (judgements : List (Judgement Item)) : Type 0 where
     pub done : List (List ℕ)
     pub rest : List (List ℕ)
     pub whole : lines ≡ done ++ rest
-    pub at : IsAt format Makes (before ++ done) new
-    pub shown : AllZip (ShowsItem format.meaning) rest judgements
+    pub at : IsAt format Makes (before ++ done) header new
+    pub shown : AllZip (ShowsItem (format.meaning header)) rest judgements
 
-  pub record Goes (lines : List (List ℕ)) (old new : Progress Contents) (judgements : List (Judgement Item)) : Type 0 where
-    pub each : (before : List (List ℕ)) → IsAt format Makes before old → 0 < length before → Half before lines new judgements
+  pub record Goes (header : Header) (lines : List (List ℕ)) (old new : Progress Contents) (judgements : List (Judgement Item)) : Type 0 where
+    pub each : (before : List (List ℕ)) → IsAt format Makes before header old → 0 < length before → Half before header lines new judgements
 
-  pub Goes-start : (lines : List (List ℕ)) (old : Progress Contents) (judgements : List (Judgement Item)) → AllZip (ShowsItem format.meaning) lines judgements → Goes lines old old judgements
-  Goes-start lines old judgements shown = record {
+  pub Goes-start : (header : Header) (lines : List (List ℕ)) (old : Progress Contents) (judgements : List (Judgement Item)) → AllZip (ShowsItem (format.meaning header)) lines judgements → Goes header lines old old judgements
+  Goes-start header lines old judgements shown = record {
     each = λ before at some. record {
       done = [];
       rest = lines;
       whole = refl;
-      at = let P : List (List ℕ) → Type 0 = λ ls. IsAt format Makes ls old in subst P (sym (append-nil before)) at;
+      at = let P : List (List ℕ) → Type 0 = λ ls. IsAt format Makes ls header old in subst P (sym (append-nil before)) at;
       shown = shown;
     };
   }
@@ -94,67 +144,68 @@ module _ {Item Contents : Type 0} (format : Format Item) (Makes : List Item → 
   some_more : (before done : List (List ℕ)) → 0 < length before → 0 < length (before ++ done)
   some_more before done some = omega (arith, length-append before done)
 
-  half_step : (before lines done rest : List (List ℕ)) (mid new : Progress Contents) (j : Judgement Item) (js : List (Judgement Item)) → 0 < length before → lines ≡ done ++ rest → IsAt format Makes (before ++ done) mid → AllZip (ShowsItem format.meaning) rest (j ∷ js) → TakesJudged format Makes mid j (Ok tt) new → Half before lines new js
-  half_step before lines done [] mid new j js some whole at shown takes = absurd shown
-  half_step before lines done (line ∷ rest) mid new j js some whole at shown takes = record {
+  half_step : (header : Header) (before lines done rest : List (List ℕ)) (mid new : Progress Contents) (j : Judgement Item) (js : List (Judgement Item)) → 0 < length before → lines ≡ done ++ rest → IsAt format Makes (before ++ done) header mid → AllZip (ShowsItem (format.meaning header)) rest (j ∷ js) → TakesJudged format Makes mid j (Ok tt) new → Half before header lines new js
+  half_step header before lines done [] mid new j js some whole at shown takes = absurd shown
+  half_step header before lines done (line ∷ rest) mid new j js some whole at shown takes = record {
     done = done ++ line ∷ [];
     rest = rest;
     whole = whole ∙ sym (append_assoc done (line ∷ []) rest);
-    at = let P : List (List ℕ) → Type 0 = λ ls. IsAt format Makes ls new in subst P (append_assoc before done (line ∷ [])) (takes (before ++ done) line at (some_more before done some) shown.0);
+    at = let P : List (List ℕ) → Type 0 = λ ls. IsAt format Makes ls header new in subst P (append_assoc before done (line ∷ [])) (takes (before ++ done) header line at (some_more before done some) shown.0);
     shown = shown.1;
   }
 
-  pub Goes-step : (lines : List (List ℕ)) (old mid new : Progress Contents) (j : Judgement Item) (js : List (Judgement Item)) → Goes lines old mid (j ∷ js) → TakesJudged format Makes mid j (Ok tt) new → Goes lines old new js
-  Goes-step lines old mid new j js goes takes = record {
-    each = λ before at some. let h = goes.each before at some in half_step before lines h.done h.rest mid new j js some h.whole h.at h.shown takes;
+  pub Goes-step : (header : Header) (lines : List (List ℕ)) (old mid new : Progress Contents) (j : Judgement Item) (js : List (Judgement Item)) → Goes header lines old mid (j ∷ js) → TakesJudged format Makes mid j (Ok tt) new → Goes header lines old new js
+  Goes-step header lines old mid new j js goes takes = record {
+    each = λ before at some. let h = goes.each before at some in half_step header before lines h.done h.rest mid new j js some h.whole h.at h.shown takes;
   }
 
-  half_stop : (before lines done rest : List (List ℕ)) (mid new : Progress Contents) (j : Judgement Item) (js : List (Judgement Item)) (fault : FileFault) → 0 < length before → lines ≡ done ++ rest → IsAt format Makes (before ++ done) mid → AllZip (ShowsItem format.meaning) rest (j ∷ js) → TakesJudged format Makes mid j (Err fault) new → IsFirstOfKind format (before ++ lines) fault.line fault.kind
-  half_stop before lines done [] mid new j js fault some whole at shown takes = absurd shown
-  half_stop before lines done (line ∷ rest) mid new j js fault some whole at shown takes =
+  half_stop : (header : Header) (before lines done rest : List (List ℕ)) (mid new : Progress Contents) (j : Judgement Item) (js : List (Judgement Item)) (fault : FileFault) → 0 < length before → lines ≡ done ++ rest → IsAt format Makes (before ++ done) header mid → AllZip (ShowsItem (format.meaning header)) rest (j ∷ js) → TakesJudged format Makes mid j (Err fault) new → IsFirstOfKind format (before ++ lines) fault.line fault.kind
+  half_stop header before lines done [] mid new j js fault some whole at shown takes = absurd shown
+  half_stop header before lines done (line ∷ rest) mid new j js fault some whole at shown takes =
       let P : List (List ℕ) → Type 0 = λ ls. IsFirstOfKind format ls fault.line fault.kind in
-      let one = takes (before ++ done) line at (some_more before done some) shown.0 in
+      let one = takes (before ++ done) header line at (some_more before done some) shown.0 in
       let same : ((before ++ done) ++ line ∷ []) ++ rest ≡ before ++ lines =
       append_assoc (before ++ done) (line ∷ []) rest ∙ append_assoc before done (line ∷ rest) ∙ ap (λ (ls : List (List ℕ)). before ++ ls) (sym whole) in
       subst P same (IsFirstFault-more ((before ++ done) ++ line ∷ []) rest fault.line fault.kind one)
 
-  pub Goes-stop : (lines : List (List ℕ)) (old mid new : Progress Contents) (j : Judgement Item) (js : List (Judgement Item)) (fault : FileFault) → Goes lines old mid (j ∷ js) → TakesJudged format Makes mid j (Err fault) new → (before : List (List ℕ)) → IsAt format Makes before old → 0 < length before → IsFirstOfKind format (before ++ lines) fault.line fault.kind
-  Goes-stop lines old mid new j js fault goes takes before at some =
-      let h = goes.each before at some in half_stop before lines h.done h.rest mid new j js fault some h.whole h.at h.shown takes
+  pub Goes-stop : (header : Header) (lines : List (List ℕ)) (old mid new : Progress Contents) (j : Judgement Item) (js : List (Judgement Item)) (fault : FileFault) → Goes header lines old mid (j ∷ js) → TakesJudged format Makes mid j (Err fault) new → (before : List (List ℕ)) → IsAt format Makes before header old → 0 < length before → IsFirstOfKind format (before ++ lines) fault.line fault.kind
+  Goes-stop header lines old mid new j js fault goes takes before at some =
+      let h = goes.each before at some in half_stop header before lines h.done h.rest mid new j js fault some h.whole h.at h.shown takes
 
   -- what becomes of the lines that show that, behind others
   abbrev pub TakesRun : List (Judgement Item) → Progress Contents → Result (Unit {0}) FileFault → Progress Contents → Type 0
-  TakesRun js old result new = (lines : List (List ℕ)) → AllZip (ShowsItem format.meaning) lines js → (before : List (List ℕ)) → IsAt format Makes before old → 0 < length before → Takes format Makes before lines result new
+  TakesRun js old result new =
+      (header : Header) (lines : List (List ℕ)) → AllZip (ShowsItem (format.meaning header)) lines js → (before : List (List ℕ)) → IsAt format Makes before header old → 0 < length before → Takes format Makes before header lines result new
 
   -- a run of lines more
-  pub Goes-run : (lines : List (List ℕ)) (old mid new : Progress Contents) (js more : List (Judgement Item)) → Goes lines old mid (js ++ more) → TakesRun js mid (Ok tt) new → Goes lines old new more
-  Goes-run lines old mid new js more goes takes = record {
+  pub Goes-run : (header : Header) (lines : List (List ℕ)) (old mid new : Progress Contents) (js more : List (Judgement Item)) → Goes header lines old mid (js ++ more) → TakesRun js mid (Ok tt) new → Goes header lines old new more
+  Goes-run header lines old mid new js more goes takes = record {
     each = λ before at some.
         let h = goes.each before at some in
-        let p = parted (ShowsItem format.meaning) h.rest js more h.shown in
-        let P : List (List ℕ) → Type 0 = λ ls. IsAt format Makes ls new in
+        let p = parted (ShowsItem (format.meaning header)) h.rest js more h.shown in
+        let P : List (List ℕ) → Type 0 = λ ls. IsAt format Makes ls header new in
         record {
           done = h.done ++ p.front;
           rest = p.back;
           whole = h.whole ∙ ap (λ (ls : List (List ℕ)). h.done ++ ls) p.whole ∙ sym (append_assoc h.done p.front p.back);
-          at = subst P (append_assoc before h.done p.front) (takes p.front p.first (before ++ h.done) h.at (some_more before h.done some));
+          at = subst P (append_assoc before h.done p.front) (takes header p.front p.first (before ++ h.done) h.at (some_more before h.done some));
           shown = p.second;
         };
   }
 
-  pub Goes-run_stop : (lines : List (List ℕ)) (old mid new : Progress Contents) (js more : List (Judgement Item)) (fault : FileFault) → Goes lines old mid (js ++ more) → TakesRun js mid (Err fault) new → (before : List (List ℕ)) → IsAt format Makes before old → 0 < length before → IsFirstOfKind format (before ++ lines) fault.line fault.kind
-  Goes-run_stop lines old mid new js more fault goes takes before at some =
+  pub Goes-run_stop : (header : Header) (lines : List (List ℕ)) (old mid new : Progress Contents) (js more : List (Judgement Item)) (fault : FileFault) → Goes header lines old mid (js ++ more) → TakesRun js mid (Err fault) new → (before : List (List ℕ)) → IsAt format Makes before header old → 0 < length before → IsFirstOfKind format (before ++ lines) fault.line fault.kind
+  Goes-run_stop header lines old mid new js more fault goes takes before at some =
       let h = goes.each before at some in
-      let p = parted (ShowsItem format.meaning) h.rest js more h.shown in
-      let one = takes p.front p.first (before ++ h.done) h.at (some_more before h.done some) in
+      let p = parted (ShowsItem (format.meaning header)) h.rest js more h.shown in
+      let one = takes header p.front p.first (before ++ h.done) h.at (some_more before h.done some) in
       let P : List (List ℕ) → Type 0 = λ ls. IsFirstOfKind format ls fault.line fault.kind in
       let same : ((before ++ h.done) ++ p.front) ++ p.back ≡ before ++ lines =
       append_assoc (before ++ h.done) p.front p.back ∙ append_assoc before h.done (p.front ++ p.back) ∙ ap (λ (ls : List (List ℕ)). before ++ (h.done ++ ls)) (sym p.whole) ∙ ap (λ (ls : List (List ℕ)). before ++ ls) (sym h.whole) in
       subst P same (IsFirstFault-more ((before ++ h.done) ++ p.front) p.back fault.line fault.kind one)
 
-  half_end : (before lines done rest : List (List ℕ)) (new : Progress Contents) → lines ≡ done ++ rest → IsAt format Makes (before ++ done) new → AllZip (ShowsItem format.meaning) rest [] → IsAt format Makes (before ++ lines) new
-  half_end before lines done [] new whole at shown = let P : List (List ℕ) → Type 0 = λ ls. IsAt format Makes (before ++ ls) new in subst P (sym (append-nil done) ∙ sym whole) at
-  half_end before lines done (line ∷ rest) new whole at shown = absurd shown
+  half_end : (header : Header) (before lines done rest : List (List ℕ)) (new : Progress Contents) → lines ≡ done ++ rest → IsAt format Makes (before ++ done) header new → AllZip (ShowsItem (format.meaning header)) rest [] → IsAt format Makes (before ++ lines) header new
+  half_end header before lines done [] new whole at shown = let P : List (List ℕ) → Type 0 = λ ls. IsAt format Makes (before ++ ls) header new in subst P (sym (append-nil done) ∙ sym whole) at
+  half_end header before lines done (line ∷ rest) new whole at shown = absurd shown
 
-  pub Goes-end : (lines : List (List ℕ)) (old new : Progress Contents) → Goes lines old new [] → (before : List (List ℕ)) → IsAt format Makes before old → 0 < length before → IsAt format Makes (before ++ lines) new
-  Goes-end lines old new goes before at some = let h = goes.each before at some in half_end before lines h.done h.rest new h.whole h.at h.shown
+  pub Goes-end : (header : Header) (lines : List (List ℕ)) (old new : Progress Contents) → Goes header lines old new [] → (before : List (List ℕ)) → IsAt format Makes before header old → 0 < length before → IsAt format Makes (before ++ lines) header new
+  Goes-end header lines old new goes before at some = let h = goes.each before at some in half_end header before lines h.done h.rest new h.whole h.at h.shown

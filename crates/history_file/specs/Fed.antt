@@ -1,13 +1,15 @@
 -- What contracts see of the public feeds.
-use Rattle.std.specs.Prelude.{List, ℕ, Result}
+use Rattle.std.specs.Prelude.{List, ℕ, Option, Result}
 use Rattle.recorder.specs.Histories.{Recorded}
+use Rattle.recorder.specs.Halls.{RecordedHalls}
 use Rattle.file_format.specs.Faults.{FileFault}
 use Rattle.history_file.specs.declared.feed.Feed.{Feed}
 use Rattle.history_file.specs.KeyedOrders.{KeyedOrders}
 use Rattle.history_file.specs.Feeds.{Stands, Fed, Ends}
 use Rattle.file_format.specs.HistoryFormat.{history_format, MakesHistory}
+use Rattle.file_format.specs.HistoriesFormat.{histories_format, MakesHistories}
 use Rattle.file_format.specs.OrderFormat.{order_format}
-use Rattle.history_file.specs.Making.{MakesOrders}
+use Rattle.history_file.specs.Making.{MakesOrders, MakesHalls}
 
 -- the feed stands for the history of all lines of the bytes that are whole so far
 abbrev pub StandsForRows : List ℕ → Feed Recorded → Type 0
@@ -27,3 +29,13 @@ StandsForOrders bytes feed = Stands order_format MakesOrders bytes feed
 
 abbrev pub FedOrders : List ℕ → Result (Unit {0}) FileFault → Feed KeyedOrders → Type 0
 FedOrders bytes result feed = Fed order_format MakesOrders bytes result feed
+
+-- the same of history files of either version
+abbrev pub StandsForHalls : List ℕ → Feed (Option RecordedHalls) → Type 0
+StandsForHalls bytes feed = Stands histories_format MakesHalls bytes feed
+
+abbrev pub FedHalls : List ℕ → Result (Unit {0}) FileFault → Feed (Option RecordedHalls) → Type 0
+FedHalls bytes result feed = Fed histories_format MakesHalls bytes result feed
+
+abbrev pub EndsHalls : List ℕ → Result RecordedHalls FileFault → Type 0
+EndsHalls = Ends histories_format MakesHistories

@@ -9,13 +9,13 @@ use Rattle.counted_devices.specs.ReadFaults.{IsFaultBy}
 use Rattle.file_format.specs.Formats.{Format}
 use Rattle.file_format.specs.Readings.{Reads, FirstFaultInAll}
 use Rattle.file_format.specs.Files.{IsFirstFault}
-use Rattle.history_file.specs.Takings.{IsAt}
+use Rattle.history_file.specs.Takings.{AreTaken}
 
 -- the feed stands for what all lines of the bytes make that are whole so far
-pub record Stands {Item Contents : Type 0} (format : Format Item) (Makes : List Item → Contents → Type 0) (bytes : List ℕ) (feed : Feed Contents) : Type 0 where
+pub record Stands {Header Item Contents : Type 0} (format : Format Header Item) (Makes : Header → List Item → Contents → Type 0) (bytes : List ℕ) (feed : Feed Contents) : Type 0 where
   pub lines : List (List ℕ)
   pub splits : Splits bytes lines feed.rest.items
-  pub at : IsAt format Makes lines feed.progress
+  pub at : AreTaken format Makes lines feed.progress
   pub short : length feed.rest.items ≤ 65536
   pub fed : feed.fed ≡ length bytes
   pub sound : feed.fault ≡ None
@@ -25,42 +25,42 @@ abbrev pub whole_lines : List (List ℕ) → List ℕ → List (List ℕ)
 whole_lines lines rest = if nat_lt 65536 (length rest) then lines ++ rest ∷ [] else lines
 
 -- among the lines that are whole so far, the first with a fault has that number and that fault
-pub record FirstFaultSoFar {Item : Type 0} (format : Format Item) (bytes : List ℕ) (number : ℕ) (fault : LineFault) : Type 0 where
+pub record FirstFaultSoFar {Header Item : Type 0} (format : Format Header Item) (bytes : List ℕ) (number : ℕ) (fault : LineFault) : Type 0 where
   pub lines : List (List ℕ)
   pub rest : List ℕ
   pub splits : Splits bytes lines rest
   pub first : IsFirstFault format (whole_lines lines rest) number fault
 
 -- the same of a fault of any kind: a feed has no fault of a device, and of memory nothing is said
-abbrev pub FaultSoFar : {Item : Type 0} → Format Item → List ℕ → ℕ → FaultKind → Type 0
+abbrev pub FaultSoFar : {Header Item : Type 0} → Format Header Item → List ℕ → ℕ → FaultKind → Type 0
 FaultSoFar format bytes number kind = IsFaultBy (FirstFaultSoFar format bytes number) ⊥ kind
 
 -- what a feed answers, when it was fed these bytes in all
-abbrev pub Fed : {Item Contents : Type 0} → Format Item → (List Item → Contents → Type 0) → List ℕ → Result (Unit {0}) FileFault → Feed Contents → Type 0
+abbrev pub Fed : {Header Item Contents : Type 0} → Format Header Item → (Header → List Item → Contents → Type 0) → List ℕ → Result (Unit {0}) FileFault → Feed Contents → Type 0
 Fed format Makes bytes (Ok done) new = Stands format Makes bytes new
 Fed format Makes bytes (Err fault) new = FaultSoFar format bytes fault.line fault.kind
 
 -- the first fault of a whole file, of any kind
-abbrev pub FaultInAll : {Item : Type 0} → Format Item → List ℕ → ℕ → FaultKind → Type 0
+abbrev pub FaultInAll : {Header Item : Type 0} → Format Header Item → List ℕ → ℕ → FaultKind → Type 0
 FaultInAll format bytes number kind = IsFaultBy (FirstFaultInAll format bytes number) ⊥ kind
 
 -- what is answered at the end of these bytes
-abbrev pub Ends : {Item Contents : Type 0} → Format Item → (List Item → Contents → Type 0) → List ℕ → Result Contents FileFault → Type 0
+abbrev pub Ends : {Header Item Contents : Type 0} → Format Header Item → (Header → List Item → Contents → Type 0) → List ℕ → Result Contents FileFault → Type 0
 Ends format Makes bytes result = MatchResult result (λ contents. Reads format Makes bytes contents) (λ fault. FaultInAll format bytes fault.line fault.kind)
 
 -- the bytes' lines were taken, and that rest is left
-pub record Passed {Item Contents : Type 0} (format : Format Item) (Makes : List Item → Contents → Type 0) (old : Progress Contents) (bytes rest : List ℕ) (new : Progress Contents) : Type 0 where
+pub record Passed {Header Item Contents : Type 0} (format : Format Header Item) (Makes : Header → List Item → Contents → Type 0) (old : Progress Contents) (bytes rest : List ℕ) (new : Progress Contents) : Type 0 where
   pub lines : List (List ℕ)
   pub splits : Splits bytes lines rest
   pub short : length rest ≤ 65536
-  pub taken : (before : List (List ℕ)) → IsAt format Makes before old → IsAt format Makes (before ++ lines) new
+  pub taken : (before : List (List ℕ)) → AreTaken format Makes before old → AreTaken format Makes (before ++ lines) new
 
 -- the first fault among the lines before and those of the bytes
-pub record FaultPassed {Item Contents : Type 0} (format : Format Item) (Makes : List Item → Contents → Type 0) (old : Progress Contents) (bytes : List ℕ) (number : ℕ) (fault : LineFault) : Type 0 where
+pub record FaultPassed {Header Item Contents : Type 0} (format : Format Header Item) (Makes : Header → List Item → Contents → Type 0) (old : Progress Contents) (bytes : List ℕ) (number : ℕ) (fault : LineFault) : Type 0 where
   pub lines : List (List ℕ)
   pub rest : List ℕ
   pub splits : Splits bytes lines rest
-  pub first : (before : List (List ℕ)) → IsAt format Makes before old → IsFirstFault format (whole_lines (before ++ lines) rest) number fault
+  pub first : (before : List (List ℕ)) → AreTaken format Makes before old → IsFirstFault format (whole_lines (before ++ lines) rest) number fault
 
-abbrev pub PassStops : {Item Contents : Type 0} → Format Item → (List Item → Contents → Type 0) → Progress Contents → List ℕ → ℕ → FaultKind → Type 0
-PassStops format Makes old bytes number kind = IsFaultBy (FaultPassed format Makes old bytes number) ((before : List (List ℕ)) → IsAt format Makes before old → ⊥) kind
+abbrev pub PassStops : {Header Item Contents : Type 0} → Format Header Item → (Header → List Item → Contents → Type 0) → Progress Contents → List ℕ → ℕ → FaultKind → Type 0
+PassStops format Makes old bytes number kind = IsFaultBy (FaultPassed format Makes old bytes number) ((before : List (List ℕ)) → AreTaken format Makes before old → ⊥) kind

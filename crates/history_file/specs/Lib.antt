@@ -1,4 +1,5 @@
 pub mod KeyedOrders
+pub mod Beginnings
 pub mod Takings
 pub mod Making
 pub mod Feeds

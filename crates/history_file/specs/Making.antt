@@ -1,11 +1,20 @@
--- The orders that the lines of a file make.
-use Rattle.std.specs.Prelude.{◌≡◌, List, map}
+-- What the lines of a file make.
+use Rattle.std.specs.Prelude.{◌≡◌, List, map, Option, Some, None}
+use Rattle.recorder.specs.Halls.{RecordedHalls}
 use Rattle.recorder.specs.declared.order.KeyOrder.{KeyOrder}
 use Rattle.file_format.specs.OrderFormat.{AreJoined, call_total}
 use Rattle.file_format.specs.Joins.{order_of}
+use Rattle.file_format.specs.declared.file_header.FileHeader.{FileHeader}
+use Rattle.file_format.specs.declared.hall_row.HallRow.{HallRow}
+use Rattle.file_format.specs.HistoriesFormat.{MakesHistories}
 use Rattle.history_file.specs.KeyedOrders.{KeyedOrders}
 
 -- the orders that the pieces make, and how many calls they have
-pub record MakesOrders (pieces : List KeyOrder) (orders : KeyedOrders) : Type 0 where
+pub record MakesOrders (header : Unit {0}) (pieces : List KeyOrder) (orders : KeyedOrders) : Type 0 where
   pub joined : AreJoined pieces (map order_of orders.entries)
   pub counted : orders.calls ≡ call_total pieces
+
+-- the histories of halls that the rows make behind that header; before one came there are none
+abbrev pub MakesHalls : FileHeader → List HallRow → Option RecordedHalls → Type 0
+MakesHalls header items None = ⊥
+MakesHalls header items (Some histories) = MakesHistories header items histories

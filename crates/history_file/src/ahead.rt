@@ -154,6 +154,7 @@ impl<C: Contents> Ahead<C, C::Item> {
         } = self;
         let Judged { judgements, rest } = judged;
         let alloc = *rest.allocator();
+        let header = progress.contents.header();
         let (taken, next) = join(
             rt,
             || -> Result<Progress<C>, FileFault>
@@ -163,9 +164,9 @@ impl<C: Contents> Ahead<C, C::Item> {
             { progress.recorded(judgements) },
             || -> Result<Judged<C::Item>, Memory>
                 requires { IsSync R.row }
-                ensures judged { IfOk result (λ judged. HasNoEnd rest.items → IsJudged C.format (rest.items ++ piece.entry.now) judged) }
+                ensures judged { IfOk result (λ judged. HasNoEnd rest.items → IsJudged C.format header (rest.items ++ piece.entry.now) judged) }
                 ensures room { IfOk result (λ judged. length judged.judgements + length judged.rest.items ≤ length rest.items + length piece.entry.now) }
-            { judge_piece::<C, R>(rt, alloc, rest.as_slice(), piece) },
+            { judge_piece::<C, R>(rt, alloc, header, rest.as_slice(), piece) },
         );
         let progress = taken?;
         let Ok(judged) = next else {

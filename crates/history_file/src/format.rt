@@ -3,6 +3,7 @@ ghost use Rattle.std.specs.Prelude.{◌≡◌, List, [], ℕ, IfOk, map};
 ghost use Rattle.std.specs.Thread.{IsSync};
 ghost use Rattle.file_format.specs.Lines.{ShowParts};
 ghost use Rattle.file_format.specs.Formats.{Format, Follows};
+ghost use Rattle.history_file.specs.Beginnings.{Begins};
 
 use crate::judgements::Judgements;
 use file_format::Stop;
@@ -12,33 +13,42 @@ use tag::Memory;
 
 /// What the lines of a file make, one after another.
 pub trait Contents: Drop + Send {
+    /// What the first line says of the others.
+    type Header: Copy + Send + Sync;
+
     type Item: Drop + Send;
 
-    ghost format: { Format Self.Item };
+    ghost format: { Format Self.Header Self.Item };
 
-    ghost Makes: { List Self.Item → Self → Type 0 };
+    ghost Makes: { Self.Header → List Self.Item → Self → Type 0 };
 
-    /// The name in the header.
-    fn name() -> &'static str
-        ensures { result.now ≡ format.name };
-
-    /// What no line makes.
+    /// What stands here before the first line.
     fn opening(alloc: Global) -> Self
     where
         Self: Sized,
-        ensures made { Makes [] result }
-        ensures fits { format.Fits [] };
+        ensures some { (header : Self.Header) × format.Fits header [] };
 
-    /// What the lines of the parts show behind the header, in order. Parts are judged side by side.
+    /// What the first line makes.
+    fn begin(alloc: Global, line: &[u8]) -> Result<Self, Stop>
+    where
+        Self: Sized,
+        ensures { Begins format Makes line.now result };
+
+    /// What the first line said.
+    fn header(&self) -> Self::Header
+        ensures { (header : Self.Header) (items : List Self.Item) → Makes header items self.now → result ≡ header };
+
+    /// What the lines of the parts show behind that header, in order. Parts are judged side by side.
     fn judge_all<R: Threads + Sync>(
         rt: &R,
         alloc: Global,
+        header: Self::Header,
         parts: &[&[u8]],
     ) -> Result<Judgements<Self::Item>, Memory>
         requires { IsSync R.row }
-        ensures { IfOk result (λ judgements. ShowParts format.meaning (map (λ part. part.now) parts.now) judgements) };
+        ensures { IfOk result (λ judgements. ShowParts (format.meaning header) (map (λ part. part.now) parts.now) judgements) };
 
     /// Takes the next item, or says which fault it has behind the others.
     fn follow(&mut self, item: Self::Item) -> Result<(), Stop>
-        ensures { (items : List Self.Item) → Makes items self.old → format.Fits items → Follows format Makes items item result self.new };
+        ensures { (header : Self.Header) (items : List Self.Item) → Makes header items self.old → format.Fits header items → Follows format Makes header items item result self.new };
 }

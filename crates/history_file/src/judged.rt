@@ -17,16 +17,17 @@ pub struct Judged<T> {
     pub rest: Vec<u8>,
 }
 
-/// Judges the whole lines of the rest and the piece behind it.
+/// Judges, behind that header, the whole lines of the rest and the piece behind it.
 ///
 /// The piece's first line is put behind the rest; the others are judged where they lie.
 pub(crate) fn judge_piece<C: Contents, R: Threads + Sync>(
     rt: &R,
     alloc: Global,
+    header: C::Header,
     rest: &[u8],
     piece: &[u8],
 ) -> Result<Judged<C::Item>, Memory>
-    ensures judged { IfOk result (λ judged. HasNoEnd rest.now → IsJudged C.format (rest.now ++ piece.now) judged) }
+    ensures judged { IfOk result (λ judged. HasNoEnd rest.now → IsJudged C.format header (rest.now ++ piece.now) judged) }
     ensures room { IfOk result (λ judged. length judged.judgements + length judged.rest.items ≤ length rest.now + length piece.now) }
 {
     let mut first = Vec::from_slice(alloc, rest)?;
@@ -40,7 +41,7 @@ pub(crate) fn judge_piece<C: Contents, R: Threads + Sync>(
     first.extend_from_slice(&piece[..end])?;
     let mut found = cut_parts(alloc, &piece[end + 1..])?;
     found.parts.insert(0, first.as_slice())?;
-    let judgements = C::judge_all(rt, alloc, found.parts.as_slice())?;
+    let judgements = C::judge_all(rt, alloc, header, found.parts.as_slice())?;
     Ok(Judged {
         judgements,
         rest: Vec::from_slice(alloc, found.rest)?,

@@ -2,7 +2,7 @@
 ghost use Rattle.std.specs.Prelude.{ℕ, ◌≡◌, ◌≤◌, ◌+◌, ◌^◌, ◌++◌, List, [], None, Some, length, IfOk, IfErr, MatchResult};
 ghost use Rattle.file_format.specs.Readings.{Reads};
 ghost use Rattle.history_file.specs.Feeds.{Stands, FaultInAll};
-ghost use Rattle.file_format.specs.OrderFormat.{order_format, AreJoined};
+ghost use Rattle.file_format.specs.OrderFormat.{order_format, MakesJoined};
 ghost use Rattle.history_file.specs.Making.{MakesOrders};
 ghost use Rattle.history_file.specs.Fed.{StandsForOrders, FedOrders};
 
@@ -69,7 +69,7 @@ impl OrderFeed {
     /// The orders, at the end of the file; or the first fault of the file, or the one that an
     /// earlier call answered.
     pub fn finish(self, rt: &(impl Threads + Sync)) -> Result<Vec<KeyOrder>, FileFault>
-        ensures ends { (bytes : List ℕ) → StandsForOrders bytes self → MatchResult result (λ orders. Reads order_format AreJoined bytes orders.items) (λ fault. FaultInAll order_format bytes fault.line fault.kind) }
+        ensures ends { (bytes : List ℕ) → StandsForOrders bytes self → MatchResult result (λ orders. Reads order_format MakesJoined bytes orders.items) (λ fault. FaultInAll order_format bytes fault.line fault.kind) }
         ensures kept { (fault : _) → self.fault ≡ Some fault → result ≡ Err fault }
     {
         finish_orders(rt, self.feed)
@@ -81,7 +81,7 @@ pub(crate) fn finish_orders(
     rt: &(impl Threads + Sync),
     feed: Feed<Orders>,
 ) -> Result<Vec<KeyOrder>, FileFault>
-    ensures ends { (bytes : List ℕ) → Stands order_format MakesOrders bytes feed → MatchResult result (λ orders. Reads order_format AreJoined bytes orders.items) (λ fault. FaultInAll order_format bytes fault.line fault.kind) }
+    ensures ends { (bytes : List ℕ) → Stands order_format MakesOrders bytes feed → MatchResult result (λ orders. Reads order_format MakesJoined bytes orders.items) (λ fault. FaultInAll order_format bytes fault.line fault.kind) }
     ensures kept { (fault : _) → feed.fault ≡ Some fault → result ≡ Err fault }
 {
     let alloc = *feed.rest.allocator();

@@ -1,15 +1,12 @@
 //! The format of order files.
-ghost use Rattle.std.specs.Prelude.{◌≡◌, ◌≤◌, ◌∷◌, ◌++◌, [], OnOk, IfOk};
-ghost use Rattle.file_format.specs.Lines.{ShowParts};
-ghost use Rattle.file_format.specs.OrderLines.{piece_in};
+ghost use Rattle.std.specs.Prelude.{◌≡◌, ◌≤◌, []};
 ghost use Rattle.file_format.specs.OrderFormat.{order_format};
 
 use crate::format::Contents;
 use crate::judgements::Judgements;
-use file_format::{Judgement, LineFault, MOST_CALLS, Stop, join, judge_part};
+use crate::side_by_side::judge_parts;
+use file_format::{LineFault, MOST_CALLS, Stop, join, judge_header};
 use indexmap::IndexMap;
-use json::Scratch;
-use rayon::prelude::*;
 use recorder::{KeyOrder, Order};
 use std::alloc::Global;
 use std::marker::Model;
@@ -35,6 +32,16 @@ impl Model for Orders {
 }
 
 impl Orders {
+    /// No order yet.
+    fn new(alloc: Global) -> Orders
+        ensures { result ≡ record { entries = []; calls = 0 } }
+    {
+        Orders {
+            orders: IndexMap::new(alloc),
+            calls: 0,
+        }
+    }
+
     /// The orders by key.
     pub(crate) fn into_map(self) -> IndexMap<Key, Order>
         ensures { result.entries ≡ self.entries }
@@ -46,47 +53,32 @@ impl Orders {
 impl Contents for Orders {
     ghost use Rattle.history_file.specs.Making.{MakesOrders};
 
+    type Header = ();
+
     type Item = KeyOrder;
 
     ghost format = { order_format };
 
     ghost Makes = { MakesOrders };
 
-    fn name() -> &'static str {
-        "orders"
+    fn opening(alloc: Global) -> Orders {
+        Orders::new(alloc)
     }
 
-    fn opening(alloc: Global) -> Orders {
-        Orders {
-            orders: IndexMap::new(alloc),
-            calls: 0,
-        }
+    fn begin(alloc: Global, line: &[u8]) -> Result<Orders, Stop> {
+        judge_header(alloc, "orders", line)?;
+        Ok(Orders::new(alloc))
     }
+
+    fn header(&self) {}
 
     fn judge_all<R: Threads + Sync>(
         rt: &R,
         alloc: Global,
+        header: (),
         parts: &[&[u8]],
     ) -> Result<Judgements<KeyOrder>, Memory> {
-        let runs: Result<Vec<Vec<Judgement<KeyOrder>>>, Memory> = parts
-            .par_iter()
-            .with_min_len(1)
-            .map_init(
-                || Box::new(alloc, Scratch::new(alloc)).ok(),
-                |scratch: &mut Option<Box<Scratch>>, part: &&[u8]| -> Result<
-                    Vec<Judgement<KeyOrder>>,
-                    Memory,
-                >
-                    ensures { IfOk result (λ run. ShowParts piece_in (part.now.now ∷ []) run.items) }
-                {
-                    match scratch {
-                        Some(scratch) => judge_part::<KeyOrder>(alloc, scratch, part),
-                        None => Err(Memory),
-                    }
-                },
-            )
-            .collect(rt, alloc)?;
-        Ok(Judgements::of(runs?))
+        judge_parts::<KeyOrder, R>(rt, alloc, header, parts)
     }
 
     fn follow(&mut self, piece: KeyOrder) -> Result<(), Stop> {

@@ -4,11 +4,11 @@ ghost use Rattle.std.specs.List.{AllZip, flat_map};
 ghost use Rattle.history_file.specs.Ahead.{Records};
 ghost use Rattle.counted_devices.specs.Cuts.{HasNoEnd, ended};
 ghost use Rattle.file_format.specs.Lines.{ShowsItem};
-ghost use Rattle.history_file.specs.Takings.{IsAt, Takes, TakesJudged, TakesParts};
+ghost use Rattle.history_file.specs.Takings.{AreTaken, IsAt, Takes, TakesJudged, TakesLine, TakesParts};
 
 use crate::format::Contents;
 use crate::judgements::Judgements;
-use file_format::{FileFault, Judgement, Stop, judge_header};
+use file_format::{FileFault, Judgement, Stop};
 use std::alloc::Global;
 use std::thread::Threads;
 
@@ -23,11 +23,12 @@ impl<C: Contents> Progress<C> {
     /// Takes the first line.
     fn take_header(&mut self, alloc: Global, line: &[u8]) -> Result<(), FileFault>
         requires { self.old.lines ≡ 0 }
-        ensures taken { IsAt C.format C.Makes [] self.old → Takes C.format C.Makes [] (line.now ∷ []) result self.new }
+        ensures taken { (before : List (List ℕ)) → AreTaken C.format C.Makes before self.old → TakesLine C.format C.Makes before line.now result self.new }
         ensures lines { OnOk result (self.new.lines ≡ 1) }
     {
-        match judge_header(alloc, C::name(), line) {
-            Ok(()) => {
+        match C::begin(alloc, line) {
+            Ok(contents) => {
+                self.contents = contents;
                 self.lines = 1;
                 Ok(())
             }
@@ -57,7 +58,7 @@ impl<C: Contents> Progress<C> {
     /// Takes what a run of later lines shows.
     fn record_run(&mut self, run: Vec<Judgement<C::Item>>) -> Result<(), FileFault>
         requires { self.old.lines + length run.items < 2 ^ 63 }
-        ensures taken { (lines : List (List ℕ)) → AllZip (ShowsItem C.format.meaning) lines run.items → (before : List (List ℕ)) → IsAt C.format C.Makes before self.old → 0 < length before → Takes C.format C.Makes before lines result self.new }
+        ensures taken { (header : C.Header) (lines : List (List ℕ)) → AllZip (ShowsItem (C.format.meaning header)) lines run.items → (before : List (List ℕ)) → IsAt C.format C.Makes before header self.old → 0 < length before → Takes C.format C.Makes before header lines result self.new }
         ensures lines { OnOk result (self.new.lines ≡ self.old.lines + length run.items) }
     {
         for judgement in run {
@@ -69,7 +70,7 @@ impl<C: Contents> Progress<C> {
     /// Takes what later lines show.
     pub(crate) fn record(&mut self, judgements: Judgements<C::Item>) -> Result<(), FileFault>
         requires { self.old.lines + length judgements < 2 ^ 63 }
-        ensures taken { (lines : List (List ℕ)) → AllZip (ShowsItem C.format.meaning) lines judgements → (before : List (List ℕ)) → IsAt C.format C.Makes before self.old → 0 < length before → Takes C.format C.Makes before lines result self.new }
+        ensures taken { (header : C.Header) (lines : List (List ℕ)) → AllZip (ShowsItem (C.format.meaning header)) lines judgements → (before : List (List ℕ)) → IsAt C.format C.Makes before header self.old → 0 < length before → Takes C.format C.Makes before header lines result self.new }
         ensures lines { OnOk result (self.new.lines ≡ self.old.lines + length judgements) }
     {
         for run in judgements.into_runs() {
@@ -103,7 +104,7 @@ impl<C: Contents> Progress<C> {
         ensures more { OnOk result (self.old.lines ≤ self.new.lines) }
         ensures lines { OnOk result (self.new.lines ≤ self.old.lines + length (flat_map ended (map (λ part. part.now) parts.now))) }
     {
-        match C::judge_all(rt, alloc, parts) {
+        match C::judge_all(rt, alloc, self.contents.header(), parts) {
             Ok(judgements) => self.record(judgements),
             Err(_) => Err(FileFault::at(self.lines + 1, Stop::Memory)),
         }
@@ -117,7 +118,7 @@ impl<C: Contents> Progress<C> {
         line: &[u8],
     ) -> Result<(), FileFault>
         requires { self.old.lines + length line.now + 1 < 2 ^ 63 }
-        ensures taken { HasNoEnd line.now → (before : List (List ℕ)) → IsAt C.format C.Makes before self.old → Takes C.format C.Makes before (line.now ∷ []) result self.new }
+        ensures taken { HasNoEnd line.now → (before : List (List ℕ)) → AreTaken C.format C.Makes before self.old → TakesLine C.format C.Makes before line.now result self.new }
         ensures some { OnOk result (0 < self.new.lines) }
         ensures lines { OnOk result (self.new.lines ≤ self.old.lines + length line.now + 1) }
     {

@@ -5,17 +5,19 @@ ghost use Rattle.counted_devices.specs.Deliveries.{Delivers};
 ghost use Rattle.counted_devices.specs.ReadFaults.{HasFailed};
 ghost use Rattle.history_file.specs.Deliveries.{Holds, HoldsAhead, ReadsAll, StopsAt};
 ghost use Rattle.file_format.specs.HistoryFormat.{history_format, MakesHistory};
-ghost use Rattle.file_format.specs.OrderFormat.{order_format, AreJoined};
+ghost use Rattle.file_format.specs.HistoriesFormat.{histories_format, MakesHistories};
+ghost use Rattle.file_format.specs.OrderFormat.{order_format, MakesJoined};
 
 use crate::ahead::Ahead;
 use crate::batches::{Behind, PIECE, read_batch};
 use crate::feed::Feed;
 use crate::format::Contents;
+use crate::histories_feed::finish_histories;
 use crate::order_feed::finish_orders;
 use crate::order_format::Orders;
 use counted_devices::CountedRead;
-use file_format::{FaultKind, FileFault};
-use recorder::{History, KeyOrder};
+use file_format::{FaultKind, FileFault, HallHistories};
+use recorder::{Histories, History, KeyOrder};
 use std::alloc::{AllocError, Global};
 use std::thread::Threads;
 
@@ -118,6 +120,23 @@ pub fn read_history<R: CountedRead>(
     feed.finish(rt)
 }
 
+/// The histories by hall that the reader's bytes are, all of them up to its end: of version 2, or of
+/// version 1, which is one hall without quorums.
+///
+/// A file with a fault is refused as by `read_history`.
+pub fn read_histories<R: CountedRead>(
+    rt: &(impl Threads + Sync),
+    alloc: Global,
+    reader: &mut R,
+) -> Result<Histories, FileFault>
+    ensures read { IfOk result (λ histories. Delivers (R.remaining reader.old) (R.remaining reader.new) (ReadsAll histories_format MakesHistories (R.remaining reader.new) histories)) }
+    ensures fault { IfErr result (λ fault. Delivers (R.remaining reader.old) (R.remaining reader.new) (StopsAt histories_format (R.remaining reader.new) fault)) }
+    ensures device { IfErr result (λ fault. HasFailed fault.kind (R.failures reader.old) (R.failures reader.new)) }
+{
+    let feed = feed_all::<Option<HallHistories>, R>(rt, alloc, reader)?;
+    finish_histories(rt, feed)
+}
+
 /// The orders that the reader's bytes are, all of them up to its end: the keys in the order of
 /// their first lines, each with its pieces joined.
 ///
@@ -127,7 +146,7 @@ pub fn read_orders<R: CountedRead>(
     alloc: Global,
     reader: &mut R,
 ) -> Result<Vec<KeyOrder>, FileFault>
-    ensures read { IfOk result (λ orders. Delivers (R.remaining reader.old) (R.remaining reader.new) (ReadsAll order_format AreJoined (R.remaining reader.new) orders.items)) }
+    ensures read { IfOk result (λ orders. Delivers (R.remaining reader.old) (R.remaining reader.new) (ReadsAll order_format MakesJoined (R.remaining reader.new) orders.items)) }
     ensures fault { IfErr result (λ fault. Delivers (R.remaining reader.old) (R.remaining reader.new) (StopsAt order_format (R.remaining reader.new) fault)) }
     ensures device { IfErr result (λ fault. HasFailed fault.kind (R.failures reader.old) (R.failures reader.new)) }
 {

@@ -13,7 +13,7 @@ returns-in_default-clause-judged g c = λ partial.
     let all = c.args.rest.now ++ c.args.piece.now in
     let none : HasNoEnd all = All-append (λ (b : ℕ). b ≢ 10) c.args.rest.now c.args.piece.now partial c.in_default.ensures in
     let whole = c.in_ok-extend_from_slice.ensures.items ∙ ap (λ (xs : List ℕ). xs ++ c.args.piece.now) c.in_ok-first.ensures.items in
-    judged_none g.C.Contents.format g.C.Contents.Makes all _ none c.new.ensures whole
+    judged_none g.C.Contents.format g.C.Contents.Makes c.args.header all _ none c.new.ensures whole
 
 pub returns-clause-judged : goal.returns-clause-judged
 returns-clause-judged g c = λ partial.
@@ -27,12 +27,12 @@ returns-clause-judged g c = λ partial.
     let parts = map (λ (part : Bor (List ℕ)). part.now) found.parts.items in
     let S : List ℕ → Type 0 = λ xs. Divides (behind piece end) parts xs in
     let divides : S judged.rest.items = subst S (sym c.in_ok-from_slice.ensures.items) c.in_ok-found.ensures in
-    let A : List (Bor (List ℕ)) → Type 0 = λ ps. ShowParts g.C.Contents.format.meaning (map (λ (part : Bor (List ℕ)). part.now) ps) judged.judgements in
+    let A : List (Bor (List ℕ)) → Type 0 = λ ps. ShowParts (g.C.Contents.format.meaning c.args.header) (map (λ (part : Bor (List ℕ)). part.now) ps) judged.judgements in
     let all : A (c.as_slice.result ∷ found.parts.items) = subst A (c.as_slice-2.ensures.value ∙ c.in_ok-insert.ensures.items) c.in_ok-judgements.ensures in
-    let F : List ℕ → Type 0 = λ xs. ShowParts g.C.Contents.format.meaning (xs ∷ parts) judged.judgements in
+    let F : List ℕ → Type 0 = λ xs. ShowParts (g.C.Contents.format.meaning c.args.header) (xs ∷ parts) judged.judgements in
     let shown : F (rest ++ front) = subst F first all in
-    let Q : List ℕ → Type 0 = λ xs. IsJudged g.C.Contents.format (rest ++ xs) judged in
-    subst Q (sym (cut_at piece end c.in-Some.ensures.0 c.in-Some.ensures.2)) (judged_parts g.C.Contents.format g.C.Contents.Makes rest front (behind piece end) parts judged divides shown)
+    let Q : List ℕ → Type 0 = λ xs. IsJudged g.C.Contents.format c.args.header (rest ++ xs) judged in
+    subst Q (sym (cut_at piece end c.in-Some.ensures.0 c.in-Some.ensures.2)) (judged_parts g.C.Contents.format g.C.Contents.Makes c.args.header rest front (behind piece end) parts judged divides shown)
 
 pub returns-clause-room : goal.returns-clause-room
 returns-clause-room g c =
@@ -46,9 +46,9 @@ returns-clause-room g c =
     let parts = map (λ (part : Bor (List ℕ)). part.now) found.parts.items in
     let S : List ℕ → Type 0 = λ xs. Divides (behind piece end) parts xs in
     let divides : S judged.rest.items = subst S (sym c.in_ok-from_slice.ensures.items) c.in_ok-found.ensures in
-    let A : List (Bor (List ℕ)) → Type 0 = λ ps. ShowParts g.C.Contents.format.meaning (map (λ (part : Bor (List ℕ)). part.now) ps) judged.judgements in
+    let A : List (Bor (List ℕ)) → Type 0 = λ ps. ShowParts (g.C.Contents.format.meaning c.args.header) (map (λ (part : Bor (List ℕ)). part.now) ps) judged.judgements in
     let all : A (c.as_slice.result ∷ found.parts.items) = subst A (c.as_slice-2.ensures.value ∙ c.in_ok-insert.ensures.items) c.in_ok-judgements.ensures in
-    let F : List ℕ → Type 0 = λ xs. ShowParts g.C.Contents.format.meaning (xs ∷ parts) judged.judgements in
-    let j = judged_parts g.C.Contents.format g.C.Contents.Makes rest front (behind piece end) parts judged divides (subst F first all) in
+    let F : List ℕ → Type 0 = λ xs. ShowParts (g.C.Contents.format.meaning c.args.header) (xs ∷ parts) judged.judgements in
+    let j = judged_parts g.C.Contents.format g.C.Contents.Makes c.args.header rest front (behind piece end) parts judged divides (subst F first all) in
     let whole = ap length (cut_at piece end c.in-Some.ensures.0 c.in-Some.ensures.2) in
-    omega (arith, whole, length-append rest (front ++ 10 ∷ behind piece end), judged_room g.C.Contents.format g.C.Contents.Makes (rest ++ (front ++ 10 ∷ behind piece end)) judged j)
+    omega (arith, whole, length-append rest (front ++ 10 ∷ behind piece end), judged_room g.C.Contents.format g.C.Contents.Makes c.args.header (rest ++ (front ++ 10 ∷ behind piece end)) judged j)

@@ -20,6 +20,7 @@ returns-in-Ok-clause-ends g c = λ bytes s.
       rest = r.rest;
       splits = r.splits;
       some = r.some;
+      header = r.header;
       items = r.items;
       read = r.read;
       made = subst Made same r.made.joined;

@@ -6,7 +6,7 @@ use Rattle.file_format.specs.declared.fault.LineFault.TheVariants.{TooLong}
 use Rattle.counted_devices.specs.declared.read_fault.FaultKind.TheVariants as kind
 use Rattle.counted_devices.specs.Cuts.{HasNoEnd}
 use Rattle.history_file.specs.Feeds.{Passed, PassStops}
-use Rattle.history_file.specs.Takings.{IsAt, IsFirstOfKind}
+use Rattle.history_file.specs.Takings.{AreTaken, IsFirstOfKind}
 use Rattle.counted_devices.proofs.Cutting.{behind, cut_at}
 use Rattle.history_file.proofs.Feeding.{Passed-line, PassStops-line, line_stops, passes_alone}
 use Rattle.history_file.proofs.pieces.take_piece.Goals as goal
@@ -35,7 +35,7 @@ returns-in_err-take_line-clause-passes g c = λ partial.
     let same : c.as_slice-2.result.now ≡ rest ++ front = c.as_slice-2.ensures.value ∙ c.in_ok-lengthen-2.ensures in
     let N : List ℕ → Type 0 = λ xs. HasNoEnd xs in
     let none : HasNoEnd c.as_slice-2.result.now = subst N (sym same) (All-append (λ (b : ℕ). b ≢ 10) rest front partial c.in-Some.ensures.1) in
-    let P : List ℕ → Type 0 = λ xs. (before : List (List ℕ)) → IsAt g.C.Contents.format g.C.Contents.Makes before old → IsFirstOfKind g.C.Contents.format (before ++ xs ∷ []) fault.line fault.kind in
+    let P : List ℕ → Type 0 = λ xs. (before : List (List ℕ)) → AreTaken g.C.Contents.format g.C.Contents.Makes before old → IsFirstOfKind g.C.Contents.format (before ++ xs ∷ []) fault.line fault.kind in
     let Q : List ℕ → Type 0 = λ xs. PassStops g.C.Contents.format g.C.Contents.Makes old (rest ++ xs) fault.line fault.kind in
     rw (p.1, p.2) (subst Q (sym (cut_at piece end c.in-Some.ensures.0 c.in-Some.ensures.2)) (line_stops g.C.Contents.format g.C.Contents.Makes old rest front tail fault.line fault.kind partial c.in-Some.ensures.1 (subst P same (c.in_err-take_line.ensures.taken none))))
 
@@ -53,7 +53,7 @@ returns-in_err-rest-clause-passes g c = λ partial.
     let same : c.as_slice-2.result.now ≡ rest ++ front = c.as_slice-2.ensures.value ∙ c.in_ok-lengthen-2.ensures in
     let N : List ℕ → Type 0 = λ xs. HasNoEnd xs in
     let none : HasNoEnd c.as_slice-2.result.now = subst N (sym same) (All-append (λ (b : ℕ). b ≢ 10) rest front partial c.in-Some.ensures.1) in
-    let P : List ℕ → Type 0 = λ xs. (before : List (List ℕ)) → IsAt g.C.Contents.format g.C.Contents.Makes before old → IsAt g.C.Contents.format g.C.Contents.Makes (before ++ xs ∷ []) mid in
+    let P : List ℕ → Type 0 = λ xs. (before : List (List ℕ)) → AreTaken g.C.Contents.format g.C.Contents.Makes before old → AreTaken g.C.Contents.format g.C.Contents.Makes (before ++ xs ∷ []) mid in
     let Q : List ℕ → Type 0 = λ xs. PassStops g.C.Contents.format g.C.Contents.Makes old (rest ++ xs) fault.line fault.kind in
     rw (p.1, p.2) (subst Q (sym (cut_at piece end c.in-Some.ensures.0 c.in-Some.ensures.2)) (PassStops-line g.C.Contents.format g.C.Contents.Makes old mid rest front tail fault.line fault.kind partial c.in-Some.ensures.1 (subst P same (c.in_ok-take_line.ensures.taken none)) c.in_err-rest.ensures.passes))
 
@@ -71,6 +71,6 @@ returns-clause-passes g c = λ partial.
     let same : c.as_slice-2.result.now ≡ rest ++ front = c.as_slice-2.ensures.value ∙ c.in_ok-lengthen-2.ensures in
     let N : List ℕ → Type 0 = λ xs. HasNoEnd xs in
     let none : HasNoEnd c.as_slice-2.result.now = subst N (sym same) (All-append (λ (b : ℕ). b ≢ 10) rest front partial c.in-Some.ensures.1) in
-    let P : List ℕ → Type 0 = λ xs. (before : List (List ℕ)) → IsAt g.C.Contents.format g.C.Contents.Makes before old → IsAt g.C.Contents.format g.C.Contents.Makes (before ++ xs ∷ []) mid in
+    let P : List ℕ → Type 0 = λ xs. (before : List (List ℕ)) → AreTaken g.C.Contents.format g.C.Contents.Makes before old → AreTaken g.C.Contents.format g.C.Contents.Makes (before ++ xs ∷ []) mid in
     let Q : List ℕ → Type 0 = λ xs. Passed g.C.Contents.format g.C.Contents.Makes old (rest ++ xs) left new in
     subst Q (sym (cut_at piece end c.in-Some.ensures.0 c.in-Some.ensures.2)) (Passed-line g.C.Contents.format g.C.Contents.Makes old mid new rest front tail left partial c.in-Some.ensures.1 (subst P same (c.in_ok-take_line.ensures.taken none)) c.in_ok-rest.ensures.passes)

@@ -1,4 +1,4 @@
-use Rattle.file_format.specs.OrderFormat.{order_format, AreJoined}
+use Rattle.file_format.specs.OrderFormat.{order_format, MakesJoined}
 use Rattle.history_file.specs.Making.{MakesOrders}
 use Rattle.file_format.specs.Readings.{Reads}
 use Rattle.history_file.proofs.Consuming.{finish_read, finish_fault, finish_device}
@@ -9,7 +9,7 @@ use Rattle.recorder.specs.declared.order.KeyOrder.{KeyOrder}
 use Rattle.history_file.proofs.reading.read_orders.Goals as goal
 
 abbrev Good : List ℕ → Vec KeyOrder Global → Type 0
-Good bytes orders = Reads order_format AreJoined bytes orders.items
+Good bytes orders = Reads order_format MakesJoined bytes orders.items
 
 pub returns-clause-read : goal.returns-clause-read
 returns-clause-read g c =

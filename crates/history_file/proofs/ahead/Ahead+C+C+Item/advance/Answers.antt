@@ -1,4 +1,4 @@
-use Rattle.std.proofs.Common.{◌<◌, ◌++◌, Result, refl, arith, subst}
+use Rattle.std.proofs.Common.{◌≡◌, ◌<◌, ◌++◌, Result, refl, arith, subst}
 use Rattle.std.specs.Prelude.{IfOk}
 use Rattle.std.proofs.lemmas.Result.{err_from_is_err_and}
 use Rattle.file_format.specs.Faults.{FileFault}
@@ -23,5 +23,10 @@ returns-clause-goes g c =
     let old = c.args.self in
     let some : 0 < old.progress.lines = omega (arith, c.if-self-eq0.false) in
     let P : Result (Progress g.row.C.Denot) FileFault → Type 0 = λ r. Records g.C.Contents.format g.C.Contents.Makes old.progress old.judged.judgements r in
-    let Q : Result (Judged g.row.C-Item.Denot) Memory → Type 0 = λ r. IfOk r (λ judged. HasNoEnd old.judged.rest.items → IsJudged g.C.Contents.format (old.judged.rest.items ++ c.args.piece.now) judged) in
-    λ bytes s. c.check_length.ensures.goes _ (advanced g.C.Contents.format g.C.Contents.Makes bytes c.args.piece.now old _ s.0 some (subst P c.in_ok-progress.was c.join-taken.ensures.first.0) (subst Q c.in-Ok.is c.join-taken.ensures.second.0 s.0.splits.partial) refl)
+    let Q : Result (Judged g.row.C-Item.Denot) Memory → Type 0 = λ r. IfOk r (λ judged. HasNoEnd old.judged.rest.items → IsJudged g.C.Contents.format c.header-header.result (old.judged.rest.items ++ c.args.piece.now) judged) in
+    λ bytes s.
+    let a = s.0 in
+    let known : c.header-header.result ≡ a.header = c.header-header.ensures a.header a.at.items (a.at.made (omega (arith, a.at.counted, some))) in
+    let judged = subst Q c.in-Ok.is c.join-taken.ensures.second.0 a.splits.partial in
+    let H : g.row.C-Header.Denot → Type 0 = λ h. IsJudged g.C.Contents.format h (old.judged.rest.items ++ c.args.piece.now) _ in
+    c.check_length.ensures.goes _ (advanced g.C.Contents.format g.C.Contents.Makes bytes c.args.piece.now old _ a some (subst P c.in_ok-progress.was c.join-taken.ensures.first.0) (subst H known judged) refl)

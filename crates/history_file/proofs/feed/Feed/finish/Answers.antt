@@ -2,7 +2,7 @@ use Rattle.std.proofs.Common.{ℕ, zero, suc, ◌≡◌, ◌<◌, ◌==◌, ◌+
 use Rattle.std.specs.Vec.{vec_len}
 use Rattle.std.proofs.lemmas.Result.{err_from_is_err_and}
 use Rattle.counted_devices.specs.Cuts.{HasNoEnd}
-use Rattle.history_file.specs.Takings.{IsAt, IsFirstOfKind}
+use Rattle.history_file.specs.Takings.{AreTaken, IsFirstOfKind}
 use Rattle.history_file.specs.declared.progress.Progress.{Progress}
 use Rattle.history_file.proofs.Feeding.{stops_in_all, Reads-rest, Reads-whole}
 use Rattle.history_file.proofs.feed.Feed.finish.Goals as goal
@@ -18,7 +18,7 @@ returns-in_err-take_line-clause-ends g c =
     let fault = c.in_err-take_line.field-0.0 in
     let feed = c.args.self in
     let N : List ℕ → Type 0 = λ xs. HasNoEnd xs in
-    let P : List ℕ → Type 0 = λ xs. (before : List (List ℕ)) → IsAt g.C.Contents.format g.C.Contents.Makes before feed.progress → IsFirstOfKind g.C.Contents.format (before ++ xs ∷ []) fault.line fault.kind in
+    let P : List ℕ → Type 0 = λ xs. (before : List (List ℕ)) → AreTaken g.C.Contents.format g.C.Contents.Makes before feed.progress → IsFirstOfKind g.C.Contents.format (before ++ xs ∷ []) fault.line fault.kind in
     let some : 0 < length feed.rest.items = omega (arith, some_of (vec_len feed.rest) (sym c.is_empty.ensures ∙ c.if-not-is_empty.true), feed.rest.ok.0) in
     rw (p.1, p.2) (λ bytes s. stops_in_all g.C.Contents.format g.C.Contents.Makes bytes feed fault.line fault.kind s some (subst P c.as_slice.ensures.value (c.in_err-take_line.ensures.taken (subst N (sym c.as_slice.ensures.value) s.splits.partial))))
 
@@ -28,7 +28,7 @@ returns-clause-ends g c =
     λ bytes s. elim c.if-not-is_empty.branch [
       | then-not-is_empty+in_ok-take_line w ↦
           let N : List ℕ → Type 0 = λ xs. HasNoEnd xs in
-          let P : List ℕ → Type 0 = λ xs. (before : List (List ℕ)) → IsAt g.C.Contents.format g.C.Contents.Makes before feed.progress → IsAt g.C.Contents.format g.C.Contents.Makes (before ++ xs ∷ []) w.take_line.new.self in
+          let P : List ℕ → Type 0 = λ xs. (before : List (List ℕ)) → AreTaken g.C.Contents.format g.C.Contents.Makes before feed.progress → AreTaken g.C.Contents.format g.C.Contents.Makes (before ++ xs ∷ []) w.take_line.new.self in
           let some : 0 < length feed.rest.items = omega (arith, some_of (vec_len feed.rest) (sym c.is_empty.ensures ∙ w.if-not-is_empty.true), feed.rest.ok.0) in
           rw w.progress-is (Reads-rest g.C.Contents.format g.C.Contents.Makes bytes feed w.take_line.new.self s some (subst P w.as_slice.ensures.value (w.in_ok-take_line.ensures.taken (subst N (sym w.as_slice.ensures.value) s.splits.partial))))
       | else-not-is_empty w ↦

@@ -6,9 +6,9 @@ use Rattle.history_file.specs.Making.{MakesOrders}
 use Rattle.history_file.proofs.order_format.OrdersContents.follow.Goals as goal
 
 pub returns : goal.returns
-returns c = λ pieces made fits.
+returns c = λ header pieces made fits.
     let piece = c.args.piece in
-    let before : MakesOrders pieces (record { entries = c.self.inside.orders.entries; calls = c.self.inside.calls }) = rw (← c.self.view_is) at made in
+    let before : MakesOrders header pieces (record { entries = c.self.inside.orders.entries; calls = c.self.inside.calls }) = rw (← c.self.view_is) at made in
     let grown = sum_by-append (λ (p : KeyOrder). length p.order) pieces (piece ∷ []) in
     let count = ap length c.as_slice-count.ensures in (
       omega (arith, grown, count, before.counted, c.if-count-self.false),

@@ -18,9 +18,9 @@ loop-run-init g c =
     let all : (runs : List (Vec (Judgement g.row.C-Item.Denot) Global)) → List (Judgement g.row.C-Item.Denot) = λ runs. flat_map (λ run. run.items) runs in
     let whole = c.into_runs-run-items.ensures ∙ ap all (sym gives.0) in
     record {
-      goes = λ lines shown.
-          let P : List (Judgement g.row.C-Item.Denot) → Type 0 = λ js. Goes g.C.Contents.format g.C.Contents.Makes lines c.args.self.now c.args.self.now js in
-          subst P whole (Goes-start g.C.Contents.format g.C.Contents.Makes lines c.args.self.now c.args.judgements shown);
+      goes = λ header lines shown.
+          let P : List (Judgement g.row.C-Item.Denot) → Type 0 = λ js. Goes g.C.Contents.format g.C.Contents.Makes header lines c.args.self.now c.args.self.now js in
+          subst P whole (Goes-start g.C.Contents.format g.C.Contents.Makes header lines c.args.self.now c.args.judgements shown);
       known = omega (arith, gives.1, c.into_runs-run-items.result.ok.0);
       room = ap (λ (js : List (Judgement g.row.C-Item.Denot)). c.args.self.now.lines + length js) (sym whole);
     }
@@ -40,9 +40,9 @@ loop-run-preserved g c =
     let count = ap length parts in
     let sum = length-append run.items (all left) in
     record {
-      goes = λ lines shown.
-          let P : List (Judgement g.row.C-Item.Denot) → Type 0 = λ js. Goes g.C.Contents.format g.C.Contents.Makes lines old at.self js in
-          Goes-run g.C.Contents.format g.C.Contents.Makes lines old at.self c.record_run.new.self run.items (all left) (subst P parts (at.invariant.goes lines shown)) c.in_ok-record_run.ensures.taken;
+      goes = λ header lines shown.
+          let P : List (Judgement g.row.C-Item.Denot) → Type 0 = λ js. Goes g.C.Contents.format g.C.Contents.Makes header lines old at.self js in
+          Goes-run g.C.Contents.format g.C.Contents.Makes header lines old at.self c.record_run.new.self run.items (all left) (subst P parts (at.invariant.goes header lines shown)) c.in_ok-record_run.ensures.taken;
       known = omega arith;
       room = omega arith;
     }
@@ -57,9 +57,9 @@ returns-in_err-record_run-clause-taken g c =
     let steps : into_iter_items at.run-iterator ≡ run ∷ left = c.in-Some.ensures.steps.0 in
     let parts : all (into_iter_items at.run-iterator) ≡ run.items ++ all left = ap all steps in
     let p = err_from_is_err_and c.from_residual.result c.from_residual.ensures.1 in
-    λ lines shown before was some.
-    let P : List (Judgement g.row.C-Item.Denot) → Type 0 = λ js. Goes g.C.Contents.format g.C.Contents.Makes lines old at.self js in
-    rw (p.1, p.2) (Goes-run_stop g.C.Contents.format g.C.Contents.Makes lines old at.self c.record_run.new.self run.items (all left) c.in_err-record_run.field-0.0 (subst P parts (at.invariant.goes lines shown)) c.in_err-record_run.ensures.taken before was some)
+    λ header lines shown before was some.
+    let P : List (Judgement g.row.C-Item.Denot) → Type 0 = λ js. Goes g.C.Contents.format g.C.Contents.Makes header lines old at.self js in
+    rw (p.1, p.2) (Goes-run_stop g.C.Contents.format g.C.Contents.Makes header lines old at.self c.record_run.new.self run.items (all left) c.in_err-record_run.field-0.0 (subst P parts (at.invariant.goes header lines shown)) c.in_err-record_run.ensures.taken before was some)
 
 pub returns-clause-taken : goal.returns-clause-taken
 returns-clause-taken g c =
@@ -68,9 +68,9 @@ returns-clause-taken g c =
     let old = c.args.self.now in
     let all : (runs : List (Vec (Judgement g.row.C-Item.Denot) Global)) → List (Judgement g.row.C-Item.Denot) = λ runs. flat_map (λ r. r.items) runs in
     let empty : into_iter_items at.run-iterator ≡ [] = nothing_left _ (sym at.invariant.known ∙ none.0) in
-    λ lines shown.
-    let P : List (Judgement g.row.C-Item.Denot) → Type 0 = λ js. Goes g.C.Contents.format g.C.Contents.Makes lines old at.self js in
-    Goes-end g.C.Contents.format g.C.Contents.Makes lines old at.self (subst P (ap all empty) (at.invariant.goes lines shown))
+    λ header lines shown.
+    let P : List (Judgement g.row.C-Item.Denot) → Type 0 = λ js. Goes g.C.Contents.format g.C.Contents.Makes header lines old at.self js in
+    Goes-end g.C.Contents.format g.C.Contents.Makes header lines old at.self (subst P (ap all empty) (at.invariant.goes header lines shown))
 
 pub returns-clause-lines : goal.returns-clause-lines
 returns-clause-lines g c =

@@ -14,9 +14,9 @@ loop-judgement-init g c =
     let gives = c.into_iter-judgement-iterator.ensures.into_iter_gives in
     let same = ap length gives.0 in
     record {
-      goes = λ lines shown.
-          let P : List (Judgement g.row.C-Item.Denot) → Type 0 = λ js. Goes g.C.Contents.format g.C.Contents.Makes lines c.args.self.now c.args.self.now js in
-          subst P (sym gives.0) (Goes-start g.C.Contents.format g.C.Contents.Makes lines c.args.self.now c.args.run.items shown);
+      goes = λ header lines shown.
+          let P : List (Judgement g.row.C-Item.Denot) → Type 0 = λ js. Goes g.C.Contents.format g.C.Contents.Makes header lines c.args.self.now c.args.self.now js in
+          subst P (sym gives.0) (Goes-start g.C.Contents.format g.C.Contents.Makes header lines c.args.self.now c.args.run.items shown);
       known = omega (arith, gives.1, c.args.run.ok.0);
       room = omega arith;
     }
@@ -31,9 +31,9 @@ loop-judgement-preserved g c =
     let gone = c.in-Some.ensures.steps.1 in
     let grown = c.in_ok-take_judgement.ensures.lines in
     record {
-      goes = λ lines shown.
-          let P : List (Judgement g.row.C-Item.Denot) → Type 0 = λ js. Goes g.C.Contents.format g.C.Contents.Makes lines old at.self js in
-          Goes-step g.C.Contents.format g.C.Contents.Makes lines old at.self c.take_judgement.new.self j (into_iter_items c.next.new.self) (subst P steps (at.invariant.goes lines shown)) c.in_ok-take_judgement.ensures.taken;
+      goes = λ header lines shown.
+          let P : List (Judgement g.row.C-Item.Denot) → Type 0 = λ js. Goes g.C.Contents.format g.C.Contents.Makes header lines old at.self js in
+          Goes-step g.C.Contents.format g.C.Contents.Makes header lines old at.self c.take_judgement.new.self j (into_iter_items c.next.new.self) (subst P steps (at.invariant.goes header lines shown)) c.in_ok-take_judgement.ensures.taken;
       known = omega arith;
       room = omega arith;
     }
@@ -45,9 +45,9 @@ returns-in_err-take_judgement-clause-taken g c =
     let old = c.args.self.now in
     let steps : into_iter_items at.judgement-iterator ≡ j ∷ into_iter_items c.next.new.self = c.in-Some.ensures.steps.0 in
     let p = err_from_is_err_and c.from_residual.result c.from_residual.ensures.1 in
-    λ lines shown before was some.
-    let P : List (Judgement g.row.C-Item.Denot) → Type 0 = λ js. Goes g.C.Contents.format g.C.Contents.Makes lines old at.self js in
-    rw (p.1, p.2) (Goes-stop g.C.Contents.format g.C.Contents.Makes lines old at.self c.take_judgement.new.self j (into_iter_items c.next.new.self) c.in_err-take_judgement.field-0.0 (subst P steps (at.invariant.goes lines shown)) c.in_err-take_judgement.ensures.taken before was some)
+    λ header lines shown before was some.
+    let P : List (Judgement g.row.C-Item.Denot) → Type 0 = λ js. Goes g.C.Contents.format g.C.Contents.Makes header lines old at.self js in
+    rw (p.1, p.2) (Goes-stop g.C.Contents.format g.C.Contents.Makes header lines old at.self c.take_judgement.new.self j (into_iter_items c.next.new.self) c.in_err-take_judgement.field-0.0 (subst P steps (at.invariant.goes header lines shown)) c.in_err-take_judgement.ensures.taken before was some)
 
 pub returns-clause-taken : goal.returns-clause-taken
 returns-clause-taken g c =
@@ -55,6 +55,6 @@ returns-clause-taken g c =
     let none = c.in-None.ensures.steps in
     let old = c.args.self.now in
     let empty : into_iter_items at.judgement-iterator ≡ [] = nothing_left _ (sym at.invariant.known ∙ none.0) in
-    λ lines shown.
-    let P : List (Judgement g.row.C-Item.Denot) → Type 0 = λ js. Goes g.C.Contents.format g.C.Contents.Makes lines old at.self js in
-    Goes-end g.C.Contents.format g.C.Contents.Makes lines old at.self (subst P empty (at.invariant.goes lines shown))
+    λ header lines shown.
+    let P : List (Judgement g.row.C-Item.Denot) → Type 0 = λ js. Goes g.C.Contents.format g.C.Contents.Makes header lines old at.self js in
+    Goes-end g.C.Contents.format g.C.Contents.Makes header lines old at.self (subst P empty (at.invariant.goes header lines shown))

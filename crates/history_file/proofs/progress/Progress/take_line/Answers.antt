@@ -1,9 +1,11 @@
-use Rattle.std.proofs.Common.{◌<◌, [], ◌∷◌, length, arith}
+use Rattle.std.proofs.Common.{ℕ, ◌≡◌, ◌<◌, List, [], ◌∷◌, length, arith, inl, inr, refl}
+use Rattle.std.proofs.lemmas.Result.{err_from_is_err_and}
 use Rattle.counted_devices.proofs.Cutting.{one_line}
+use Rattle.history_file.proofs.Taking.{line_taken}
 use Rattle.history_file.proofs.progress.Progress.take_line.Goals as goal
 
 pub returns-clause-taken : goal.returns-clause-taken
 returns-clause-taken g c = λ none before at.
     let line = c.args.line.now in
-    let some : 0 < length before = omega (arith, c.if-self-eq0.false, at.counted) in
-    c.take_parts.ensures.taken (line ∷ []) (one_line line none) before at some
+    let some : 0 < length before = omega (arith, c.if-self-eq0.false, at.1.counted) in
+    line_taken g.C.Contents.format g.C.Contents.Makes before at.0 line c.take_parts.result c.take_parts.new.self (c.take_parts.ensures.taken (line ∷ []) (one_line line none) before at.0 at.1 some)

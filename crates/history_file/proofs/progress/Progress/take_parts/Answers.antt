@@ -11,21 +11,23 @@ use Rattle.history_file.proofs.progress.Progress.take_parts.Goals as goal
 pub record-requires-after_bounds : goal.record-requires-after_bounds
 record-requires-after_bounds g c κs within =
     let parts = map (λ (part : Bor (List ℕ)). part.now) c.args.parts.now in
-    let shows : ShowParts g.C.Contents.format.meaning parts c.in-Ok.judgements = c.in-Ok.ensures in
-    omega (arith, c.requires, AllZip-long (ShowsItem g.C.Contents.format.meaning) shows.lines c.in-Ok.judgements shows.shown, Splits-room (flat_map ended parts) shows.lines [] shows.cut)
+    let shows : ShowParts (g.C.Contents.format.meaning c.header.result) parts c.in-Ok.judgements = c.in-Ok.ensures in
+    omega (arith, c.requires, AllZip-long (ShowsItem (g.C.Contents.format.meaning c.header.result)) shows.lines c.in-Ok.judgements shows.shown, Splits-room (flat_map ended parts) shows.lines [] shows.cut)
 
 pub returns-in-Ok-clause-taken : goal.returns-in-Ok-clause-taken
-returns-in-Ok-clause-taken g c = λ lines cut.
+returns-in-Ok-clause-taken g c = λ lines cut before header at some.
     let parts = map (λ (part : Bor (List ℕ)). part.now) c.args.parts.now in
-    let shows : ShowParts g.C.Contents.format.meaning parts c.in-Ok.judgements = c.in-Ok.ensures in
+    let shows : ShowParts (g.C.Contents.format.meaning c.header.result) parts c.in-Ok.judgements = c.in-Ok.ensures in
     let same : shows.lines ≡ lines = (splits_once (flat_map ended parts) shows.lines lines [] [] shows.cut cut).0 in
-    let P : List (List ℕ) → Type 0 = λ ls. AllZip (ShowsItem g.C.Contents.format.meaning) ls c.in-Ok.judgements in
-    c.record.ensures.taken lines (subst P same shows.shown)
+    let known : c.header.result ≡ header = c.header.ensures header at.items (at.made some) in
+    let P : List (List ℕ) → Type 0 = λ ls. AllZip (ShowsItem (g.C.Contents.format.meaning c.header.result)) ls c.in-Ok.judgements in
+    let Q : g.row.C-Header.Denot → Type 0 = λ h. AllZip (ShowsItem (g.C.Contents.format.meaning h)) lines c.in-Ok.judgements in
+    c.record.ensures.taken header lines (subst Q known (subst P same shows.shown)) before at some
 
 pub returns-in-Ok-clause-lines : goal.returns-in-Ok-clause-lines
 returns-in-Ok-clause-lines g c =
     let parts = map (λ (part : Bor (List ℕ)). part.now) c.args.parts.now in
-    let shows : ShowParts g.C.Contents.format.meaning parts c.in-Ok.judgements = c.in-Ok.ensures in
-    let long = AllZip-long (ShowsItem g.C.Contents.format.meaning) shows.lines c.in-Ok.judgements shows.shown in
+    let shows : ShowParts (g.C.Contents.format.meaning c.header.result) parts c.in-Ok.judgements = c.in-Ok.ensures in
+    let long = AllZip-long (ShowsItem (g.C.Contents.format.meaning c.header.result)) shows.lines c.in-Ok.judgements shows.shown in
     let room = Splits-room (flat_map ended parts) shows.lines [] shows.cut in
     on_ok_weaker c.record.result (λ exactly. omega (arith, exactly, long, room)) c.record.ensures.lines

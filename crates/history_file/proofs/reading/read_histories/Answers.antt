@@ -1,0 +1,17 @@
+use Rattle.file_format.specs.HistoriesFormat.{histories_format, MakesHistories}
+use Rattle.file_format.specs.Readings.{Reads}
+use Rattle.history_file.specs.Making.{MakesHalls}
+use Rattle.history_file.proofs.Consuming.{finish_read, finish_fault, finish_device}
+use Rattle.history_file.proofs.reading.read_histories.Goals as goal
+
+pub returns-clause-read : goal.returns-clause-read
+returns-clause-read g c =
+    finish_read histories_format MakesHalls (Reads histories_format MakesHistories) (g.R.Read.remaining c.args.reader.now) (g.R.Read.remaining c.feed_all.new.reader) c.in_ok-feed.feed c.finish_histories.result c.in_ok-feed.ensures.holds.0 c.in_ok-feed.ensures.holds.1 c.finish_histories.ensures.ends
+
+pub returns-clause-fault : goal.returns-clause-fault
+returns-clause-fault g c =
+    finish_fault histories_format MakesHalls (Reads histories_format MakesHistories) (g.R.Read.remaining c.args.reader.now) (g.R.Read.remaining c.feed_all.new.reader) c.in_ok-feed.feed c.finish_histories.result c.in_ok-feed.ensures.holds.0 c.in_ok-feed.ensures.holds.1 c.finish_histories.ensures.ends
+
+pub returns-clause-device : goal.returns-clause-device
+returns-clause-device g c =
+    finish_device histories_format MakesHalls (Reads histories_format MakesHistories) (g.R.Read.remaining c.args.reader.now) (g.R.Read.remaining c.feed_all.new.reader) c.in_ok-feed.feed c.finish_histories.result _ _ c.in_ok-feed.ensures.holds.0 c.finish_histories.ensures.ends

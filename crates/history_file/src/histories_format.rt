@@ -1,0 +1,57 @@
+//! The format of history files of either version.
+ghost use Rattle.file_format.specs.HistoriesFormat.{histories_format};
+ghost use Rattle.history_file.specs.Making.{MakesHalls};
+
+use crate::format::Contents;
+use crate::judgements::Judgements;
+use crate::side_by_side::judge_parts;
+use file_format::{FileHeader, HallHistories, HallRow, LineFault, Stop, judge_file_header};
+use std::alloc::Global;
+use std::thread::Threads;
+use tag::Memory;
+
+/// The histories of a file's halls: there are none before its header comes.
+impl Contents for Option<HallHistories> {
+    type Header = FileHeader;
+
+    type Item = HallRow;
+
+    ghost format = { histories_format };
+
+    ghost Makes = { MakesHalls };
+
+    fn opening(_alloc: Global) -> Option<HallHistories> {
+        None
+    }
+
+    fn begin(alloc: Global, line: &[u8]) -> Result<Option<HallHistories>, Stop> {
+        let header = judge_file_header(alloc, line)?;
+        match HallHistories::new(alloc, header) {
+            Ok(histories) => Ok(Some(histories)),
+            Err(_) => Err(Stop::Memory),
+        }
+    }
+
+    fn header(&self) -> FileHeader {
+        match self {
+            Some(histories) => histories.header(),
+            None => FileHeader::Version1,
+        }
+    }
+
+    fn judge_all<R: Threads + Sync>(
+        rt: &R,
+        alloc: Global,
+        header: FileHeader,
+        parts: &[&[u8]],
+    ) -> Result<Judgements<HallRow>, Memory> {
+        judge_parts::<HallRow, R>(rt, alloc, header, parts)
+    }
+
+    fn follow(&mut self, item: HallRow) -> Result<(), Stop> {
+        match self {
+            Some(histories) => histories.follow(item),
+            None => Err(Stop::Fault(LineFault::NoHeader)),
+        }
+    }
+}
