@@ -114,8 +114,8 @@ pub fn check_history<R: Threads + Wait, G: CheckGate + Sync>(
     check_parts(rt, alloc, &parts, orders, workers, gate)
 }
 
-/// The parts of each history.
-fn hall_parts(alloc: Global, histories: &[History]) -> Result<Vec<IndexMap<Key, Part>>, Memory>
+/// The parts of each history's keys, the histories in their order, in each the keys first seen first.
+pub fn hall_parts(alloc: Global, histories: &[History]) -> Result<Vec<IndexMap<Key, Part>>, Memory>
     ensures { IfOk result (λ parts. AreHallParts histories.now (map (λ p. p.entries) parts.items)) }
 {
     let mut parts = Vec::with_capacity(alloc, histories.len())?;

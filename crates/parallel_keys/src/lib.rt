@@ -1,8 +1,9 @@
 //! The verdicts on the orders of many keys, judged on several threads.
 //!
 //! `check_all` judges many parts and their orders, `check_history` and `check_histories` the keys of
-//! recorded histories. Each verdict is the definition's for its key, whatever the number of workers.
-//! Worker w of k takes every k-th key from key w on, so each takes about as many keys as any other.
+//! recorded histories, which `hall_parts` lists. Each verdict is the definition's for its key, whatever
+//! the number of workers. Worker w of k takes every k-th key from key w on, so each takes about as many
+//! keys as any other.
 #![tactic(auto)]
 
 mod check;
@@ -19,5 +20,5 @@ pub use check::{KeyVerdict, check_all};
 pub use distinct::are_distinct;
 pub use error::CheckError;
 pub use gate::{CheckGate, NoGate};
-pub use histories::{check_histories, check_history};
+pub use histories::{check_histories, check_history, hall_parts};
 pub use workers::Workers;
