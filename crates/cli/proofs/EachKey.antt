@@ -7,10 +7,9 @@ use Rattle.std.specs.Map.{lookup}
 use Rattle.std.specs.Cmp.Lexicographic.{bytes_decides}
 use Rattle.std.proofs.lemmas.Option.{slice_get-map, slice_get_within}
 use Rattle.tag.specs.declared.numbers.OpId.{OpId}
-use Rattle.recorder.specs.declared.row.Row.{Row}
+use Rattle.recorder.specs.Histories.{Recorded}
 use Rattle.recorder.specs.declared.part.Call.{Call}
 use Rattle.recorder.specs.declared.order.KeyOrder.{KeyOrder}
-use Rattle.recorder.specs.Records.{AreParts, IsPart}
 use Rattle.recorder.specs.Orders.{IsOrder}
 use Rattle.recorder.proofs.Lists.{Contains-slice_get, get_at, place_of}
 use Rattle.certificate_check.specs.Verdicts.{IsVerdict}
@@ -27,7 +26,8 @@ use Rattle.cli.specs.Checks.{IsYes, IsNo, Judges}
 use Rattle.cli.specs.Judging.{SaysAll}
 use Rattle.cli.specs.declared.status.Status.{Status}
 use Rattle.cli.specs.declared.status.Status.TheVariants.{Good, Refused, Usage, Format, Failed}
-use Rattle.cli.proofs.Entries.{contains_nothing, contains_head, contains_tail, found_entry, found_key}
+use Rattle.cli.proofs.Entries.{contains_nothing, contains_head, contains_tail, found_entry}
+use Rattle.cli.proofs.HallParts.{HaveParts}
 use Rattle.cli.proofs.Judged.{judged_of, other_at, recorded_at}
 
 -- orders that pieces were joined to have no key twice
@@ -119,19 +119,7 @@ is_nothing : {X : Type 0} (o : Option X) → is_none o ≡ true → o ≡ None
 is_nothing None is = refl
 is_nothing (Some x) is = absurd (cc)
 
-module _ (rows : List Row) (parts : KeyParts) (are : AreParts rows parts) where
-  -- a key on which no call is begun has the part without a call
-  unbegun : (key : List ℕ) → lookup (bytes_eq key) parts ≡ None → IsPart rows key []
-  unbegun key none = record {
-    each = λ call h. absurd (contains_nothing call h);
-    all = λ place op client action h.
-        let part = are.all key place (op, client, action, h) in
-        let found : is_some (lookup (bytes_eq key) parts) ≡ true = found_key parts key part.0 part.1 in
-        let missed : is_some (lookup (bytes_eq key) parts) ≡ false = ap is_some none in
-        absurd (cc);
-    ordered = λ i j a b h first second. absurd (cc);
-  }
-
+module _ (halls : List Recorded) (parts : KeyParts) (have : HaveParts halls parts) where
   module _ (pieces orders : List KeyOrder) (verdicts : KeyVerdicts) (joined : AreJoined pieces orders) (on : AreOn (judged_keys parts orders) verdicts) where
     -- where all verdicts are yes, what is judged at a place is an order
     yes_at : SaysAll verdicts Good → (k : ℕ) (one : Judged) → slice_get (judged_keys parts orders) k ≡ Some one → IsOrder one.part one.order
@@ -140,7 +128,7 @@ module _ (rows : List Row) (parts : KeyParts) (are : AreParts rows parts) where
         let told = get_at verdicts k (omega (arith, within, on.all)) in
         subst (λ (v : Verdict). IsVerdict one.part one.order v) (all k told.0 told.1) (on.each k one told.0 at told.1).1
 
-    all_yes : SaysAll verdicts Good → (key : List ℕ) → IsYes rows pieces key
+    all_yes : SaysAll verdicts Good → (key : List ℕ) → IsYes halls pieces key
     all_yes all key = by (lookup (bytes_eq key) parts) refl
       where
         unrecorded : lookup (bytes_eq key) parts ≡ None → IsOrder [] (order_on key pieces)
@@ -152,19 +140,19 @@ module _ (rows : List Row) (parts : KeyParts) (are : AreParts rows parts) where
           | inr free ↦ subst (λ (order : List OpId). IsOrder [] order) (sym (free_on pieces orders joined key free)) empty_order
         ]
 
-        by : (o : Option (List Call)) → lookup (bytes_eq key) parts ≡ o → IsYes rows pieces key
-        by None is = record { part = []; recorded = unbegun key is; ordered = unrecorded is }
+        by : (o : Option (List Call)) → lookup (bytes_eq key) parts ≡ o → IsYes halls pieces key
+        by None is = record { part = []; recorded = have.none key is; ordered = unrecorded is }
         by (Some part) is =
             let h = found_entry parts key part is in
             let at = place_of parts (key, part) h in
             let judged = recorded_at parts orders at.0 (key, part) at.1 in
-            record { part = part; recorded = are.each key part h; ordered = subst (λ (order : List OpId). IsOrder part order) (given_on pieces orders joined key) (yes_at all judged.0 _ judged.1) }
+            record { part = part; recorded = have.each key part h; ordered = subst (λ (order : List OpId). IsOrder part order) (given_on pieces orders joined key) (yes_at all judged.0 _ judged.1) }
 
     -- a key whose verdict is a fault has no order
     no_at : (one : Judged) (fault : Fault) → IsVerdict one.part one.order (No fault) → (part : List Call) (order : List OpId) → one.part ≡ part → one.order ≡ order → IsOrder part order → ⊥
     no_at one fault judged part order same_part same_order good = refuted one.part one.order fault judged (rw (same_part, same_order) good)
 
-    some_no : SaysAll verdicts Refused → (key : List ℕ) × IsNo rows pieces key
+    some_no : SaysAll verdicts Refused → (key : List ℕ) × IsNo halls pieces key
     some_no (k, fault, refused) =
         let within = slice_get_within verdicts k (refused.key, No fault) refused.told in
         let one = get_at (judged_keys parts orders) k (omega (arith, within, on.all)) in
@@ -176,7 +164,7 @@ module _ (rows : List Row) (parts : KeyParts) (are : AreParts rows parts) where
                 entry.0,
                 record {
                   part = entry.1;
-                  recorded = are.each entry.0 entry.1 (Contains-slice_get parts w.0 entry w.2);
+                  recorded = have.each entry.0 entry.1 (Contains-slice_get parts w.0 entry w.2);
                   unordered = no_at one.0 fault judged entry.1 (order_on entry.0 pieces) (ap (λ (j : Judged). j.part) (sym w.3)) order;
                 },
               )
@@ -185,14 +173,14 @@ module _ (rows : List Row) (parts : KeyParts) (are : AreParts rows parts) where
                 w.1.key,
                 record {
                   part = [];
-                  recorded = unbegun w.1.key (is_nothing (lookup (bytes_eq w.1.key) parts) w.3);
+                  recorded = have.none w.1.key (is_nothing (lookup (bytes_eq w.1.key) parts) w.3);
                   unordered = no_at one.0 fault judged [] (order_on w.1.key pieces) (ap (λ (j : Judged). j.part) (sym w.4)) order;
                 },
               )
         ]
 
     -- the status says it
-    pub judged_status : (s : Status) → SaysAll verdicts s → Judges rows pieces s
+    pub judged_status : (s : Status) → SaysAll verdicts s → Judges halls pieces s
     judged_status Good all = all_yes all
     judged_status Refused some = some_no some
     judged_status Usage none = none

@@ -2,6 +2,7 @@ mod CommandNames
 mod DeviceFailures
 pub mod EachKey
 pub mod Entries
+pub mod HallParts
 mod Halting
 pub mod HistoryEndings
 pub mod Judged

@@ -4,14 +4,14 @@ use Rattle.std.specs.List.{slice_get, flat_map}
 use Rattle.std.proofs.lemmas.Grind.{flat_map-append}
 use Rattle.std.proofs.lemmas.Bool.{cases_lt}
 use Rattle.std.proofs.lemmas.Option.{same_Some, slice_get_read}
-use Rattle.recorder.specs.declared.row.Row.{Row}
+use Rattle.recorder.specs.Histories.{Recorded}
 use Rattle.recorder.specs.declared.order.KeyOrder.{KeyOrder}
 use Rattle.certificate_check.specs.declared.verdict.Fault.{Fault}
 use Rattle.certificate_check.specs.declared.verdict.Verdict.{Verdict}
 use Rattle.certificate_check.specs.declared.verdict.Verdict.TheVariants.{Yes, No}
 use Rattle.file_format.specs.OrderFormat.{AreJoined}
 use Rattle.parallel_keys.specs.Pairings.{Judged}
-use Rattle.parallel_keys.specs.Histories.{AreOn, JudgesHistory, KeyVerdicts}
+use Rattle.parallel_keys.specs.Histories.{AreOn, JudgesHistories, KeyVerdicts}
 use Rattle.parallel_keys.proofs.Fronts.{front_more}
 use Rattle.cli.specs.Judging.{SaysAll}
 use Rattle.cli.specs.VerdictLines.{AreLines, AreLinesOf, line_text, lines_text}
@@ -34,8 +34,8 @@ told_lines (one ∷ judged) (told ∷ verdicts) on =
     (told.1, lines_text verdicts, first.1, told_lines judged verdicts (behind one judged told verdicts on), rw (sym first.0) refl)
 
 -- they are what a check of the history prints
-pub lines_said : (rows : List Row) (pieces orders : List KeyOrder) (verdicts : KeyVerdicts) (text : List ℕ) → AreJoined pieces orders → JudgesHistory rows orders verdicts → text ≡ lines_text verdicts → AreLinesOf rows pieces text
-lines_said rows pieces orders verdicts text joined judges said = record {
+pub lines_said : (halls : List Recorded) (pieces orders : List KeyOrder) (verdicts : KeyVerdicts) (text : List ℕ) → AreJoined pieces orders → JudgesHistories halls orders verdicts → text ≡ lines_text verdicts → AreLinesOf halls pieces text
+lines_said halls pieces orders verdicts text joined judges said = record {
   parts = judges.parts;
   orders = orders;
   recorded = judges.recorded;

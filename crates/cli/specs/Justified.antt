@@ -2,17 +2,19 @@
 use Rattle.std.specs.Prelude.{ℕ, ◌≡◌, ◌⊎◌, List, ◌∷◌, ◌++◌, Some, length, codes, decimal, slice_get}
 use Rattle.std.specs.Io.KnownBytes.{Appends}
 use Rattle.tag.specs.declared.numbers.OpId.{OpId}
-use Rattle.recorder.specs.declared.row.Row.{Row}
 use Rattle.recorder.specs.declared.part.Call.{Call}
 use Rattle.recorder.specs.declared.order.KeyOrder.{KeyOrder}
-use Rattle.recorder.specs.Records.{AreParts}
+use Rattle.recorder.specs.Histories.{Recorded}
+use Rattle.recorder.specs.Halls.{RecordedHalls}
 use Rattle.recorder.specs.Orders.{IsOrder}
 use Rattle.recorder.specs.Sound.{IsByTag}
 use Rattle.witness_order.specs.Notes.{AllNoted, IsLeastUnnoted}
 use Rattle.certificate_check.specs.Verdicts.{IsFault}
 use Rattle.counted_devices.specs.Deliveries.{Delivers}
 use Rattle.history_file.specs.Deliveries.{ReadsAll}
-use Rattle.file_format.specs.HistoryFormat.{history_format, MakesHistory}
+use Rattle.file_format.specs.HistoriesFormat.{histories_format, MakesHistories}
+use Rattle.parallel_keys.specs.Histories.{AreHallParts}
+use Rattle.parallel_keys.specs.Pairings.{KeyParts, all_parts}
 use Rattle.counted_devices.specs.Sendings.{Begins}
 use Rattle.file_format.specs.Texts.{orders_text}
 use Rattle.cli.specs.declared.justifying.Unjustified.{Unjustified}
@@ -91,23 +93,23 @@ JustifiesParts parts writer errors status.Refused = RefusesFirst parts errors
 JustifiesParts parts writer errors status.Failed = (writer.new ≡ writer.old) ⊎ ((orders : List KeyOrder) × AreJustified parts orders × Begins writer.old writer.new (orders_text orders))
 JustifiesParts parts writer errors s = ⊥
 
--- what it says of the rows of a history: the same of the parts of their keys, or, where they could not be made, that nothing went out
-abbrev pub JustifiesRows : List Row → Passage → Writing → Status → Type 0
-JustifiesRows rows writer errors s = ((parts : List KeyPart) × AreParts rows parts × JustifiesParts parts writer errors s) ⊎ ((s ≡ status.Failed) × (writer.new ≡ writer.old))
+-- what it says of histories by hall: the same of the parts of their keys, hall by hall, or, where they could not be made, that nothing went out
+abbrev pub JustifiesHalls : List Recorded → Passage → Writing → Status → Type 0
+JustifiesHalls halls writer errors s = ((parts : List KeyParts) × AreHallParts halls parts × JustifiesParts (all_parts parts) writer errors s) ⊎ ((s ≡ status.Failed) × (writer.new ≡ writer.old))
 
--- the reader came to its end, and gave a history whose keys have these parts
-pub record HasParts (reader : Passage) (parts : List KeyPart) : Type 0 where
-  pub rows : List Row
-  pub read : Delivers reader.old reader.new (ReadsAll history_format MakesHistory reader.new (record { rows = rows; limit = 1000000 }))
-  pub split : AreParts rows parts
+-- the reader came to its end, and gave histories by hall whose keys have these parts
+pub record HasParts (reader : Passage) (parts : List KeyParts) : Type 0 where
+  pub histories : RecordedHalls
+  pub read : Delivers reader.old reader.new (ReadsAll histories_format MakesHistories reader.new histories)
+  pub split : AreHallParts histories.halls parts
 
--- the history's keys have these orders
+-- the histories' keys have these orders
 abbrev pub HasOrders : Passage → List KeyOrder → Type 0
-HasOrders reader orders = (parts : List KeyPart) × HasParts reader parts × AreJustified parts orders
+HasOrders reader orders = (parts : List KeyParts) × HasParts reader parts × AreJustified (all_parts parts) orders
 
--- the history has a key without one: why the first such key has none is told
+-- the histories have a key without one: why the first such key has none is told
 abbrev pub HasNoOrders : Passage → Writing → Type 0
-HasNoOrders reader errors = (parts : List KeyPart) × HasParts reader parts × RefusesFirst parts errors
+HasNoOrders reader errors = (parts : List KeyParts) × HasParts reader parts × RefusesFirst (all_parts parts) errors
 
 -- what the status of a justification says: the text of the orders went out, or a key has none, or the file has a fault,
 -- or all that went out is a beginning of that text
@@ -115,5 +117,5 @@ abbrev pub Justifies : Passage → Passage → Writing → Status → Type 0
 Justifies reader writer errors status.Good = (orders : List KeyOrder) × HasOrders reader orders × Appends writer.old writer.new (orders_text orders)
 Justifies reader writer errors status.Refused = HasNoOrders reader errors
 Justifies reader writer errors status.Usage = ⊥
-Justifies reader writer errors status.Format = IsFaulty history_format reader.old reader.new
+Justifies reader writer errors status.Format = IsFaulty histories_format reader.old reader.new
 Justifies reader writer errors status.Failed = (writer.new ≡ writer.old) ⊎ ((orders : List KeyOrder) × HasOrders reader orders × Begins writer.old writer.new (orders_text orders))

@@ -1,17 +1,16 @@
 -- The lines that a check prints: one for each key, with the verdict on its order.
 use Rattle.std.specs.Prelude.{ℕ, ◌≡◌, List, [], ◌∷◌, ◌++◌, codes, decimal}
 use Rattle.std.specs.List.{flat_map}
-use Rattle.recorder.specs.declared.row.Row.{Row}
 use Rattle.recorder.specs.declared.order.KeyOrder.{KeyOrder}
-use Rattle.recorder.specs.Records.{AreParts}
+use Rattle.recorder.specs.Histories.{Recorded}
 use Rattle.certificate_check.specs.Verdicts.{IsVerdict}
 use Rattle.certificate_check.specs.declared.verdict.Verdict.{Verdict}
 use Rattle.certificate_check.specs.declared.verdict.Verdict.TheVariants.{Yes, No}
 use Rattle.certificate_check.specs.declared.verdict.Fault.{Fault}
 use Rattle.certificate_check.specs.declared.verdict.Fault.TheVariants.{UnknownCall, CallTwice, MissingCall, PendingRead, WrongAnswer, OrderBroken}
 use Rattle.file_format.specs.OrderFormat.{AreJoined}
-use Rattle.parallel_keys.specs.Histories.{KeyVerdicts}
-use Rattle.parallel_keys.specs.Pairings.{Judged, KeyParts, judged_keys}
+use Rattle.parallel_keys.specs.Histories.{AreHallParts, KeyVerdicts}
+use Rattle.parallel_keys.specs.Pairings.{Judged, KeyParts, all_parts, judged_keys}
 
 -- what is wrong with an order
 abbrev pub fault_text : Fault → List ℕ
@@ -40,15 +39,15 @@ AreLines [] text = text ≡ []
 AreLines (judged ∷ rest) text =
     (verdict : Verdict) × (lines : List ℕ) × IsVerdict judged.part judged.order verdict × AreLines rest lines × (text ≡ line_text judged.key verdict ++ lines)
 
--- what a check of these rows and pieces of orders prints: first the keys of the history, in the order in which the rows
--- first see them, then those that only the pieces have, in the order in which they first stand there
-pub record AreLinesOf (rows : List Row) (pieces : List KeyOrder) (text : List ℕ) : Type 0 where
-  pub parts : KeyParts
+-- what a check of these histories and pieces of orders prints: first the keys of the histories, hall by hall, in each in
+-- the order in which its rows first see them, then those that only the pieces have, in the order in which they first stand there
+pub record AreLinesOf (halls : List Recorded) (pieces : List KeyOrder) (text : List ℕ) : Type 0 where
+  pub parts : List KeyParts
   pub orders : List KeyOrder
-  pub recorded : AreParts rows parts
+  pub recorded : AreHallParts halls parts
   pub joined : AreJoined pieces orders
-  pub lines : AreLines (judged_keys parts orders) text
+  pub lines : AreLines (judged_keys (all_parts parts) orders) text
 
--- that holds of what a check of these rows and pieces prints
-abbrev pub HasLines : List Row → List KeyOrder → (List ℕ → Type 0) → Type 0
-HasLines rows pieces P = (text : List ℕ) × AreLinesOf rows pieces text × P text
+-- that holds of what a check of these histories and pieces prints
+abbrev pub HasLines : List Recorded → List KeyOrder → (List ℕ → Type 0) → Type 0
+HasLines halls pieces P = (text : List ℕ) × AreLinesOf halls pieces text × P text

@@ -4,17 +4,17 @@ ghost use Rattle.counted_devices.specs.Counts.{IsOneMore};
 ghost use Rattle.counted_devices.specs.Deliveries.{Delivers};
 ghost use Rattle.counted_devices.specs.ReadFaults.{HasFailed};
 ghost use Rattle.history_file.specs.Deliveries.{ReadsAll};
-ghost use Rattle.file_format.specs.HistoryFormat.{history_format, MakesHistory};
-ghost use Rattle.file_format.specs.OrderFormat.{order_format, AreJoined};
+ghost use Rattle.file_format.specs.HistoriesFormat.{histories_format, MakesHistories};
+ghost use Rattle.file_format.specs.OrderFormat.{order_format, MakesJoined};
 ghost use Rattle.cli.specs.Checks.{Ends, Stops, TellsFault};
 ghost use Rattle.cli.specs.Statuses.{status_of};
 
 use crate::judging::{Halt, judge};
 use crate::status::{Failure, Status};
 use counted_devices::{CountedRead, CountedWrite};
-use history_file::{read_history, read_orders};
+use history_file::{read_histories, read_orders};
 use parallel_keys::Workers;
-use recorder::{History, KeyOrder};
+use recorder::{Histories, KeyOrder};
 use std::alloc::Global;
 use std::io::Write;
 use std::sync::Wait;
@@ -37,18 +37,18 @@ impl<'a, R> Source<'a, R> {
     }
 }
 
-/// The history that the file is.
-pub(crate) fn history_in<'a, R: CountedRead>(
+/// The histories that the file is.
+pub(crate) fn histories_in<'a, R: CountedRead>(
     rt: &(impl Threads + Sync),
     alloc: Global,
     source: &mut Source<'a, R>,
-) -> Result<History, Failure<'a>>
-    ensures read { IfOk result (λ history. Delivers (R.remaining source.old.reader) (R.remaining source.new.reader) (ReadsAll history_format MakesHistory (R.remaining source.new.reader) history)) }
-    ensures fault { IfErr result (λ failure. Stops history_format (R.remaining source.old.reader) (R.remaining source.new.reader) (status_of failure)) }
+) -> Result<Histories, Failure<'a>>
+    ensures read { IfOk result (λ histories. Delivers (R.remaining source.old.reader) (R.remaining source.new.reader) (ReadsAll histories_format MakesHistories (R.remaining source.new.reader) histories)) }
+    ensures fault { IfErr result (λ failure. Stops histories_format (R.remaining source.old.reader) (R.remaining source.new.reader) (status_of failure)) }
     ensures told { IfErr result (λ failure. TellsFault source.old.name.now (λ fault. HasFailed fault.kind (R.failures source.old.reader) (R.failures source.new.reader)) failure) }
 {
-    match read_history(rt, alloc, &mut source.reader) {
-        Ok(history) => Ok(history),
+    match read_histories(rt, alloc, &mut source.reader) {
+        Ok(histories) => Ok(histories),
         Err(fault) => Err(Failure::File {
             name: source.name,
             fault,
@@ -62,7 +62,7 @@ fn orders_in<'a, R: CountedRead>(
     alloc: Global,
     source: &mut Source<'a, R>,
 ) -> Result<Vec<KeyOrder>, Failure<'a>>
-    ensures read { IfOk result (λ orders. Delivers (R.remaining source.old.reader) (R.remaining source.new.reader) (ReadsAll order_format AreJoined (R.remaining source.new.reader) orders.items)) }
+    ensures read { IfOk result (λ orders. Delivers (R.remaining source.old.reader) (R.remaining source.new.reader) (ReadsAll order_format MakesJoined (R.remaining source.new.reader) orders.items)) }
     ensures fault { IfErr result (λ failure. Stops order_format (R.remaining source.old.reader) (R.remaining source.new.reader) (status_of failure)) }
     ensures told { IfErr result (λ failure. TellsFault source.old.name.now (λ fault. HasFailed fault.kind (R.failures source.old.reader) (R.failures source.new.reader)) failure) }
 {
@@ -75,8 +75,9 @@ fn orders_in<'a, R: CountedRead>(
     }
 }
 
-/// Reads the history and then the orders, and prints a line for each key: the keys of the history
-/// in the order in which it first sees them, then those that only the orders have.
+/// Reads the history, of version 1 or 2, and then the orders, and prints a line for each key: the keys
+/// of the history hall by hall, in each in the order in which it first sees them, then those that only
+/// the orders have.
 ///
 /// What goes to `out` is those lines, once all keys are judged, or after a failure of `out` a
 /// beginning of them; nothing where either file has a fault. A fault of the orders is answered only
@@ -100,15 +101,15 @@ pub fn check_command<'a, H: CountedRead, O: CountedRead, W: CountedWrite, E: Wri
     ensures quiet { result ≡ Status.Format → out.new ≡ out.old }
     ensures failed { result ≡ Status.Failed → (out.new ≡ out.old) ⊎ IsOneMore (W.failures out.old) (W.failures out.new) }
 {
-    let history = match history_in(rt, alloc, history) {
-        Ok(history) => history,
+    let histories = match histories_in(rt, alloc, history) {
+        Ok(histories) => histories,
         Err(failure) => return failure.report(errors),
     };
     let orders = match orders_in(rt, alloc, orders) {
         Ok(orders) => orders,
         Err(failure) => return failure.report(errors),
     };
-    match judge(rt, alloc, &history, orders.as_slice(), workers, out) {
+    match judge(rt, alloc, &histories, orders.as_slice(), workers, out) {
         Ok(status) => status,
         Err(Halt::Output) => Failure::Output.report(errors),
         Err(Halt::Memory) => Failure::Memory.report(errors),

@@ -1,4 +1,4 @@
-//! Judging the orders of a history's keys, with a line for each.
+//! Judging the orders of the keys of histories, with a line for each.
 ghost use Rattle.std.specs.Prelude.{◌≡◌, List, IfOk, IfErr, OnOk};
 ghost use Rattle.std.specs.Io.KnownBytes.{Appends};
 ghost use Rattle.recorder.specs.declared.order.KeyOrder.{KeyOrder};
@@ -14,8 +14,8 @@ use crate::status::Status;
 use crate::verdict_lines::append_line;
 use certificate_check::Verdict;
 use counted_devices::{CountedWrite, write_text};
-use parallel_keys::{CheckError, NoGate, Workers, check_history};
-use recorder::{History, KeyOrder};
+use parallel_keys::{CheckError, NoGate, Workers, check_histories};
+use recorder::{Histories, KeyOrder};
 use std::alloc::Global;
 use std::sync::Wait;
 use std::thread::Threads;
@@ -81,28 +81,29 @@ fn status_of(verdicts: &[(Key, Verdict)]) -> Status
     Status::Good
 }
 
-/// Judges a history by the orders of an order file, and says a line for each key once all are
+/// Judges histories by the orders of an order file, and says a line for each key once all are
 /// judged: `Good` where every line says yes, `Refused` where one says no.
 pub(crate) fn judge<R: Threads + Wait, W: CountedWrite>(
     rt: &R,
     alloc: Global,
-    history: &History,
+    histories: &Histories,
     orders: &[KeyOrder],
     workers: Workers,
     out: &mut W,
 ) -> Result<Status, Halt>
     requires { AreDistinct orders.now }
     ensures judged { IfOk result (λ status. (pieces : List KeyOrder) → AreJoined pieces orders.now
-        → Judges history.now.rows pieces status) }
+        → Judges histories.now.halls pieces status) }
     ensures said { OnOk result ((pieces : List KeyOrder) → AreJoined pieces orders.now
-        → HasLines history.now.rows pieces
+        → HasLines histories.now.halls pieces
         (Appends (W.contents out.old) (W.contents out.new))) }
     ensures begun { IfErr result (λ halt. (pieces : List KeyOrder) → AreJoined pieces orders.now
-        → halt ≡ Halt.Output → HasLines history.now.rows pieces
+        → halt ≡ Halt.Output → HasLines histories.now.halls pieces
         (Begins (W.contents out.old) (W.contents out.new))) }
     ensures output { IfErr result (λ halt. Halts W.failures halt out.old out.new) }
 {
-    let judged = check_history(rt, alloc, history, orders, workers, &NoGate)?;
+    let _halls = histories.halls();
+    let judged = check_histories(rt, alloc, histories, orders, workers, &NoGate)?;
     let verdicts = judged.as_slice();
     let text = lines_of(alloc, verdicts)?;
     match write_text(text.as_slice(), out) {

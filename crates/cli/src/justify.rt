@@ -1,16 +1,18 @@
-//! `abd justify`: an order of each key's calls, made from the history's notes.
-ghost use Rattle.std.specs.Prelude.{◌≡◌, ◌⊎◌, IfOk};
+//! `abd justify`: an order of each key's calls, made from the notes of its history.
+ghost use Rattle.std.specs.Prelude.{◌≡◌, ◌⊎◌, map, IfOk};
 ghost use Rattle.counted_devices.specs.Counts.{IsOneMore};
 ghost use Rattle.file_format.specs.Texts.{orders_text};
-ghost use Rattle.cli.specs.Justified.{Justifies, JustifiesParts, JustifiesRows, Refuses, SendsOrders};
+ghost use Rattle.parallel_keys.specs.Pairings.{all_parts};
+ghost use Rattle.cli.specs.Justified.{Justifies, JustifiesParts, JustifiesHalls, Refuses, SendsOrders};
 
-use crate::check::{Source, history_in};
+use crate::check::{Source, histories_in};
 use crate::justifying::{Unjustified, justified_orders};
 use crate::status::{Failure, Status};
 use counted_devices::{CountedRead, CountedWrite, Counting, write_text};
 use file_format::write_orders;
 use indexmap::IndexMap;
-use recorder::{History, KeyOrder, Part};
+use parallel_keys::hall_parts;
+use recorder::{Histories, KeyOrder, Part};
 use std::alloc::Global;
 use std::thread::Threads;
 use tag::{Key, Memory};
@@ -71,11 +73,11 @@ fn refuse<E: CountedWrite>(alloc: Global, refusal: Unjustified<'_>, errors: &mut
 /// Makes each key's order from the notes of its part, checks it, and writes the order file.
 fn justify_parts<W: CountedWrite, E: CountedWrite>(
     alloc: Global,
-    parts: &IndexMap<Key, Part>,
+    parts: &[IndexMap<Key, Part>],
     out: &mut W,
     errors: &mut E,
 ) -> Status
-    ensures ends { JustifiesParts parts.now.entries
+    ensures ends { JustifiesParts (all_parts (map (λ p. p.entries) parts.now))
         (record { old = W.contents out.old; new = W.contents out.new })
         (record {
           old = E.contents errors.old;
@@ -94,14 +96,14 @@ fn justify_parts<W: CountedWrite, E: CountedWrite>(
     }
 }
 
-/// Makes the order file of a history.
-fn justify_history<W: CountedWrite, E: CountedWrite>(
+/// Makes the order file of histories.
+fn justify_histories<W: CountedWrite, E: CountedWrite>(
     alloc: Global,
-    history: &History,
+    histories: &Histories,
     out: &mut W,
     errors: &mut E,
 ) -> Status
-    ensures ends { JustifiesRows history.now.rows
+    ensures ends { JustifiesHalls histories.now.halls
         (record { old = W.contents out.old; new = W.contents out.new })
         (record {
           old = E.contents errors.old;
@@ -114,14 +116,14 @@ fn justify_history<W: CountedWrite, E: CountedWrite>(
     ensures failed { result ≡ Status.Failed
         → (out.new ≡ out.old) ⊎ IsOneMore (W.failures out.old) (W.failures out.new) }
 {
-    match history.parts() {
-        Ok(parts) => justify_parts(alloc, &parts, out, errors),
+    match hall_parts(alloc, histories.halls()) {
+        Ok(parts) => justify_parts(alloc, parts.as_slice(), out, errors),
         Err(_) => Failure::Memory.report(errors),
     }
 }
 
-/// Reads the history, makes each key's order from the notes and checks it, the keys in the order
-/// in which the history first sees them, and then writes the order file.
+/// Reads the history, of version 1 or 2, makes each key's order from the notes and checks it, the keys
+/// hall by hall, in each in the order in which it first sees them, and then writes the order file.
 ///
 /// Nothing goes to `out` before every key has its order and the whole text is made; after a failure of
 /// `out` a beginning of it may have gone out. `Refused` where a key has none: why the first such key
@@ -148,8 +150,8 @@ pub fn justify_command<'a, H: CountedRead, W: CountedWrite, E: CountedWrite>(
     ensures failed { result ≡ Status.Failed
         → (out.new ≡ out.old) ⊎ IsOneMore (W.failures out.old) (W.failures out.new) }
 {
-    match history_in(rt, alloc, history) {
-        Ok(history) => justify_history(alloc, &history, out, errors),
+    match histories_in(rt, alloc, history) {
+        Ok(histories) => justify_histories(alloc, &histories, out, errors),
         Err(failure) => failure.report(errors),
     }
 }

@@ -1,6 +1,7 @@
 //! The orders that the notes of a history give its keys, each checked.
-ghost use Rattle.std.specs.Prelude.{◌≡◌, ◌++◌, IfOk, IfErr, OnOk};
-ghost use Rattle.cli.specs.Justified.{AreJustified, IsJustifiedOrder, IsUnjustified, IsFirstUnjustified, refusal_text, status_of_refusal};
+ghost use Rattle.std.specs.Prelude.{◌≡◌, ◌++◌, List, map, IfOk, IfErr, OnOk};
+ghost use Rattle.parallel_keys.specs.Pairings.{all_parts};
+ghost use Rattle.cli.specs.Justified.{AreJustified, KeyPart, IsJustifiedOrder, IsUnjustified, IsFirstUnjustified, refusal_text, status_of_refusal};
 
 use crate::status::Status;
 use crate::verdict_lines::{append, append_fault, append_number};
@@ -97,20 +98,41 @@ fn key_order<'k>(alloc: Global, key: &'k Key, part: &Part) -> Result<KeyOrder, U
     }
 }
 
-/// The tag order of each key, the keys in their order in the map.
+/// Adds the tag order of each key of a map, the keys in their order there.
+fn add_orders<'k>(
+    alloc: Global,
+    orders: &mut Vec<KeyOrder>,
+    parts: &'k IndexMap<Key, Part>,
+) -> Result<(), Unjustified<'k>>
+    ensures orders { OnOk result ((before : List KeyPart) → AreJustified before orders.old.items
+        → AreJustified (before ++ parts.now.entries) orders.new.items) }
+    ensures refused { IfErr result (λ refusal. (before behind : List KeyPart)
+        → AreJustified before orders.old.items
+        → IsFirstUnjustified (before ++ (parts.now.entries ++ behind)) refusal) }
+{
+    for (key, part) in parts {
+        orders.push(key_order(alloc, key, part)?)?;
+    }
+    Ok(())
+}
+
+/// The tag order of each key of the maps, the maps one after another and the keys in their order
+/// there.
 ///
 /// It ends at the first key that has none, or whose tag order is no order of its calls; `Memory`
 /// comes only where a growth was refused.
 pub fn justified_orders<'k>(
     alloc: Global,
-    parts: &'k IndexMap<Key, Part>,
+    parts: &'k [IndexMap<Key, Part>],
 ) -> Result<Vec<KeyOrder>, Unjustified<'k>>
-    ensures orders { IfOk result (λ orders. AreJustified parts.now.entries orders.items) }
-    ensures refused { IfErr result (IsFirstUnjustified parts.now.entries) }
+    ensures orders { IfOk result (λ orders.
+        AreJustified (all_parts (map (λ p. p.entries) parts.now)) orders.items) }
+    ensures refused { IfErr result
+        (IsFirstUnjustified (all_parts (map (λ p. p.entries) parts.now))) }
 {
     let mut orders = Vec::new(alloc);
-    for (key, part) in parts {
-        orders.push(key_order(alloc, key, part)?)?;
+    for own in parts {
+        add_orders(alloc, &mut orders, own)?;
     }
     Ok(orders)
 }

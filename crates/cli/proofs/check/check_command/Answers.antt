@@ -15,10 +15,10 @@ judge-requires g c =
 pub returns-in-Ok-judge-clause-ends : goal.returns-in-Ok-judge-clause-ends
 returns-in-Ok-judge-clause-ends g c =
     let along = λ (pieces : List KeyOrder) (joined : AreJoined pieces c.in-Ok-orders_in.orders.items). subst (λ (l : List KeyOrder). AreJoined pieces l) (sym c.as_slice.ensures.value) joined in
-    ends _ _ _ c.in-Ok.history c.in-Ok-orders_in.orders.items c.in-Ok.ensures.read c.in-Ok-orders_in.ensures.read c.in-Ok-judge.status
+    ends _ _ _ c.in-Ok.histories c.in-Ok-orders_in.orders.items c.in-Ok.ensures.read c.in-Ok-orders_in.ensures.read c.in-Ok-judge.status
     (λ pieces joined. c.in-Ok-judge.ensures.judged pieces (along pieces joined)) (λ pieces joined. c.in-Ok-judge.ensures.said pieces (along pieces joined))
 
 pub returns-in-Err-Output-clause-ends : goal.returns-in-Err-Output-clause-ends
 returns-in-Err-Output-clause-ends g c =
     let along = λ (pieces : List KeyOrder) (joined : AreJoined pieces c.in-Ok-orders_in.orders.items). subst (λ (l : List KeyOrder). AreJoined pieces l) (sym c.as_slice.ensures.value) joined in
-    rw c.report-in-Err-Output.ensures (breaks _ _ _ c.in-Ok.history c.in-Ok-orders_in.orders.items c.in-Ok.ensures.read c.in-Ok-orders_in.ensures.read (λ pieces joined. c.in-Err-Output.ensures.begun pieces (along pieces joined) c.in-Err-Output.field-0-is))
+    rw c.report-in-Err-Output.ensures (breaks _ _ _ c.in-Ok.histories c.in-Ok-orders_in.orders.items c.in-Ok.ensures.read c.in-Ok-orders_in.ensures.read (λ pieces joined. c.in-Err-Output.ensures.begun pieces (along pieces joined) c.in-Err-Output.field-0-is))

@@ -1,6 +1,8 @@
 -- What is said of the verdicts, said of every key.
 use Rattle.std.proofs.lemmas.Result.{err_from_is_err_and}
+use Rattle.parallel_keys.specs.Pairings.{all_parts}
 use Rattle.cli.proofs.EachKey.{judged_status}
+use Rattle.cli.proofs.HallParts.{have_parts}
 use Rattle.cli.proofs.Halting.{halted, not_output}
 use Rattle.cli.proofs.Told.{lines_said}
 use Rattle.cli.proofs.judging.judge.Goals as goal
@@ -18,16 +20,18 @@ returns-in_err-judged-clause-output g c =
 pub returns-in-Ok-clause-judged : goal.returns-in-Ok-clause-judged
 returns-in-Ok-clause-judged g c = λ pieces joined.
     let judges = c.in_ok-judged.ensures in
-    judged_status c.args.history.now.rows judges.parts judges.recorded pieces c.args.orders.now c.in_ok-judged.judged.items joined judges.judged c.status_of.result (rw c.as_slice-verdicts.ensures.value at c.status_of.ensures)
+    let lawful = c.halls-_halls.ensures.lawful in
+    let halls = c.args.histories.now.halls in
+    judged_status halls (all_parts judges.parts) (have_parts halls judges.parts judges.recorded lawful.count.least lawful.keys) pieces c.args.orders.now c.in_ok-judged.judged.items joined judges.judged c.status_of.result (rw c.as_slice-verdicts.ensures.value at c.status_of.ensures)
 
 pub returns-in-Ok-clause-said : goal.returns-in-Ok-clause-said
 returns-in-Ok-clause-said g c = λ pieces joined.
     let text = c.in_ok-text.text.items in
-    let lines = lines_said c.args.history.now.rows pieces c.args.orders.now c.in_ok-judged.judged.items text joined c.in_ok-judged.ensures (rw c.as_slice-verdicts.ensures.value at c.in_ok-text.ensures) in
+    let lines = lines_said c.args.histories.now.halls pieces c.args.orders.now c.in_ok-judged.judged.items text joined c.in_ok-judged.ensures (rw c.as_slice-verdicts.ensures.value at c.in_ok-text.ensures) in
     (text, lines, rw c.as_slice.ensures.value at c.in-Ok.ensures.written)
 
 pub returns-clause-begun : goal.returns-clause-begun
 returns-clause-begun g c = λ pieces joined is.
     let text = c.in_ok-text.text.items in
-    let lines = lines_said c.args.history.now.rows pieces c.args.orders.now c.in_ok-judged.judged.items text joined c.in_ok-judged.ensures (rw c.as_slice-verdicts.ensures.value at c.in_ok-text.ensures) in
+    let lines = lines_said c.args.histories.now.halls pieces c.args.orders.now c.in_ok-judged.judged.items text joined c.in_ok-judged.ensures (rw c.as_slice-verdicts.ensures.value at c.in_ok-text.ensures) in
     (text, lines, rw c.as_slice.ensures.value at c.in-Err.ensures.begun)

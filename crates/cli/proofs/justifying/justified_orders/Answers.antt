@@ -1,16 +1,12 @@
 use Rattle.std.proofs.lemmas.Result.{err_from_is_err_and}
-use Rattle.cli.specs.declared.justifying.Unjustified.TheVariants.{Memory}
-use Rattle.cli.proofs.Noted.{all_noted}
-use Rattle.cli.proofs.Prefixes.{first_unjustified, justified_more}
+use Rattle.cli.proofs.Prefixes.{hall_justified, hall_unjustified, justified_nothing}
 use Rattle.cli.proofs.justifying.justified_orders.Goals as goal
 
-pub loop-key-preserved : goal.loop-key-preserved
-loop-key-preserved c =
-    justified_more c.args.parts.now.entries c.next.new.self c.loop-key.key-iterator c.loop-key.orders.items c.push.new.self.items (c.in-Some.key.now, c.in-Some.part.now) c.in_ok-key_order.field-0
-    c.in-Some.ensures.steps c.in_ok-push.ensures.items c.loop-key.invariant c.in_ok-key_order.ensures.order
+pub loop-own-preserved : goal.loop-own-preserved
+loop-own-preserved c =
+    hall_justified _ c.args.parts.now c.loop-own.own-index c.own-item.result c.loop-own-test.true c.own-item.is c.add_orders.new.orders.items (c.in_ok-add_orders.ensures.orders _ c.loop-own.invariant)
 
-pub returns-in_err-push-clause-refused : goal.returns-in_err-push-clause-refused
-returns-in_err-push-clause-refused c =
-    let p = err_from_is_err_and c.from_residual-in_err-push.result c.from_residual-in_err-push.ensures.1 in
-    let noted = all_noted c.in-Some.part.now c.in_ok-key_order.field-0.order c.in_ok-key_order.ensures.order.by_tag in
-    rw (p.1, p.2) (first_unjustified c.args.parts.now.entries c.next.new.self c.loop-key.key-iterator c.loop-key.orders.items (c.in-Some.key.now, c.in-Some.part.now) Memory c.in-Some.ensures.steps c.loop-key.invariant noted)
+pub returns-in_err-add_orders-clause-refused : goal.returns-in_err-add_orders-clause-refused
+returns-in_err-add_orders-clause-refused c =
+    let p = err_from_is_err_and c.from_residual.result c.from_residual.ensures.1 in
+    rw (p.1, p.2) (hall_unjustified _ c.args.parts.now c.loop-own.own-index c.own-item.result c.loop-own-test.true c.own-item.is c.in_err-add_orders.field-0.0 (c.in_err-add_orders.ensures.refused _ _ c.loop-own.invariant))
