@@ -7,6 +7,8 @@ mod clients;
 #[cfg(test)]
 mod files;
 #[cfg(test)]
+mod halls;
+#[cfg(test)]
 mod networks;
 #[cfg(test)]
 mod randoms;

@@ -9,7 +9,7 @@ use world_steps::{Config, Effect, Refusal, Step, World};
 /// A step, by a letter and two numbers: client `who` joins (`j`), begins a write of `a` on `x` (`w`) or a
 /// read of it (`r`), sends to replica `at` (`s`), responds (`a`), stops (`k`); the flight `at` is delivered
 /// (`d`), lost (`l`) or repeated (`c`); the replica `at` stops (`-`) or starts (`+`).
-fn step(alloc: Global, kind: char, who: u32, at: u32) -> Result<Step, Memory> {
+pub fn step(alloc: Global, kind: char, who: u32, at: u32) -> Result<Step, Memory> {
     let (Ok(client), Some(replica)) = (ClientId::new(who), ReplicaId::new(at.min(14) as u8)) else {
         return Err(Memory);
     };
