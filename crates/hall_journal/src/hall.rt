@@ -16,7 +16,8 @@ use world_steps::{Config, Effect, Refusal, Step, World, laws};
 #[derive(Drop)]
 pub struct Hall {
     config: Config,
-    world: World,
+    /// In a place of its own, so that a hall that goes from hand to hand is a few words.
+    world: Box<World>,
     journal: Vec<Step>,
     running: usize,
 }
@@ -37,9 +38,9 @@ impl Model for Hall {
 
     ghost coded = { code_by (Config × (System × List Step)) (coded× settings.the_row.coded (coded× whole.the_row.coded (coded_list event.the_row.coded))) (λ h. (h.config, (h.world, h.journal))) (λ p. record { config = p.0; world = p.1.0; journal = p.1.1 }) (λ _. refl) };
 
-    ghost view = { λ h. record { config = h.config; world = h.world; journal = h.journal.items } };
+    ghost view = { λ h. record { config = h.config; world = h.world.value; journal = h.journal.items } };
 
-    ghost invariant = { λ h. IsReplay (record { config = h.config; world = h.world; journal = h.journal.items }) × IsSound h.world × HasPlaces h.world.members h.running (vec_len h.journal) (vec_capacity h.journal) };
+    ghost invariant = { λ h. IsReplay (record { config = h.config; world = h.world.value; journal = h.journal.items }) × IsSound h.world.value × HasPlaces h.world.value.members h.running (vec_len h.journal) (vec_capacity h.journal) };
 }
 
 impl Hall {
@@ -51,7 +52,7 @@ impl Hall {
         let world = World::new(alloc, config)?;
         Ok(Hall {
             config,
-            world,
+            world: Box::new(alloc, world)?,
             journal: Vec::new(alloc),
             running: 0,
         })
@@ -93,7 +94,7 @@ impl Hall {
             journal,
             ..
         } = self;
-        (config, world, journal)
+        (config, Box::into_inner(world), journal)
     }
 
     /// Has the world take a step, adds it to the journal, and answers what it did.
