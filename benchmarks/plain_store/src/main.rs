@@ -1,6 +1,6 @@
 //! What the running store does, in plain Rust: the yardstick of the benchmark. Halls are worlds behind std's Mutex, each with its record and
 //! its journal; each replica has a thread of its own and serves all halls; parcels and reports go by crossbeam's channels; a call takes its
-//! hall's lock for each step.
+//! hall's lock for each step; a caller keeps a log of its calls. It asks no gate, and has no limits, so it refuses nothing.
 //!
 //!     plain_store CALLERS CALLS HALLS
 use crossbeam_channel::{unbounded, Receiver, Sender};
@@ -71,14 +71,16 @@ struct Hall {
 }
 
 impl Hall {
-    fn invoke(&mut self, client: u32, key: &str, action: &Action) -> u32 {
+    /// The call's number, and the place of its invocation.
+    fn invoke(&mut self, client: u32, key: &str, action: &Action) -> (u32, usize) {
         let op = self.callers.len() as u32;
+        let place = self.rows.len();
         self.callers.push(client);
         self.rows.push(Row::Invoke { op, client, key: key.into(), action: action.clone() });
         self.journal.push(Step::Invoke { client, key: key.into(), action: action.clone() });
         let one = Client { phase: Phase::Ask { best: ((0, 0), None) }, op, key: key.into(), action: action.clone(), counted: 0 };
         self.clients.insert(client, one);
-        op
+        (op, place)
     }
 
     fn send(&mut self, client: u32, replica: u8) -> Option<u32> {
@@ -165,16 +167,18 @@ impl Hall {
         }
     }
 
-    fn respond(&mut self, client: u32) -> Option<Option<String>> {
+    /// The place of the response, and the answer.
+    fn respond(&mut self, client: u32) -> Option<(usize, Option<Option<String>>)> {
         let one = self.clients.get_mut(&client)?;
         let Phase::Ready { value } = std::mem::replace(&mut one.phase, Phase::Idle) else { return None };
         let returned = match one.action {
             Action::Read => Some(value),
             Action::Write(_) => None,
         };
+        let place = self.rows.len();
         self.rows.push(Row::Respond { op: one.op, returned: returned.clone() });
         self.journal.push(Step::Respond { client });
-        returned
+        Some((place, returned))
     }
 
     /// Where the client stands: its phase, and what it counted.
@@ -202,15 +206,29 @@ fn serve(halls: &[Mutex<Hall>], parcels: Receiver<Parcel>) {
     }
 }
 
-fn call(halls: &[Mutex<Hall>], ways: &[Sender<Parcel>], client: u32, key: &str, action: &Action) -> Option<Option<String>> {
+/// What a caller keeps of a call.
+#[allow(dead_code)]
+struct Entry {
+    hall: usize,
+    op: u32,
+    key: String,
+    action: Action,
+    invoked: usize,
+    response: (usize, Option<Option<String>>),
+}
+
+fn call(halls: &[Mutex<Hall>], ways: &[Sender<Parcel>], client: u32, key: &str, action: &Action, log: &mut Vec<Entry>) -> Option<Option<String>> {
     let at = key.bytes().map(usize::from).sum::<usize>() % halls.len();
     let hall = &halls[at];
     let (reports, inbox) = unbounded();
-    hall.lock().unwrap().invoke(client, key, action);
+    let (op, invoked) = hall.lock().unwrap().invoke(client, key, action);
     loop {
         let (phase, counted) = hall.lock().unwrap().standing(client);
         if phase == 3 {
-            return hall.lock().unwrap().respond(client);
+            let (place, returned) = hall.lock().unwrap().respond(client)?;
+            let response = (place, returned.clone());
+            log.push(Entry { hall: at, op, key: key.into(), action: action.clone(), invoked, response });
+            return returned;
         }
         let mut awaited = 0;
         for replica in (0..REPLICAS).filter(|replica| counted >> replica & 1 == 0) {
@@ -229,10 +247,11 @@ fn call(halls: &[Mutex<Hall>], ways: &[Sender<Parcel>], client: u32, key: &str, 
 
 fn caller(halls: &[Mutex<Hall>], ways: &[Sender<Parcel>], client: u32, calls: u32) -> u64 {
     let mut answered = 0;
+    let mut log = Vec::new();
     for turn in 0..calls {
         let key = format!("k{}", (turn + client) % KEYS);
         let action = if turn % 2 == 0 { Action::Write(format!("c{client}t{turn}")) } else { Action::Read };
-        if call(halls, ways, client, &key, &action).is_none() == (turn % 2 == 0) {
+        if call(halls, ways, client, &key, &action, &mut log).is_none() == (turn % 2 == 0) {
             answered += 1;
         }
     }
