@@ -1,5 +1,5 @@
 //! The way to a hall: the ends of its channel, and a pass of the rule.
-ghost use Rattle.std.specs.Prelude.{◌≡◌, None, IfOk};
+ghost use Rattle.std.specs.Prelude.{◌≡◌, None, IfOk, IfSome, IsNone};
 ghost use Rattle.hall_turns.specs.Turns.{HasEntered, IsAtRest, MayReturn, MayTake, Receives, Returns, Turns, guest, maker, seat};
 ghost use Rattle.recorder.specs.Histories.{IsWellFormed};
 ghost use Rattle.hall_journal.specs.Halls.{IsReplay};
@@ -11,8 +11,12 @@ use hall_journal::Hall;
 use std::alloc::Global;
 use std::marker::Model;
 use std::sync::Wait;
+use std::thread;
 use tag::{ClientId, Memory};
 use world_steps::{Effect, Refusal, Step, laws};
+
+/// How often a thread looks for the hall before it sleeps.
+const LOOKS: u32 = 8;
 
 /// The way to one hall. A contract sees what its pass knows.
 #[derive(Drop)]
@@ -71,7 +75,34 @@ impl Door {
     }
 
     /// Takes the hall.
+    ///
+    /// It looks a few times, and lets other threads run in between, before it sleeps: a turn is short, and a thread
+    /// that doesn't sleep needn't be woken.
     pub(crate) fn receive(&mut self, rt: &impl Wait) -> Hall
+        ensures { Receives self.old result self.new }
+    {
+        for _ in 0..LOOKS {
+            if let Some(hall) = self.look(rt) {
+                return hall;
+            }
+            thread::yield_now();
+        }
+        self.wait(rt)
+    }
+
+    /// Takes the hall, where it lies in its channel.
+    fn look(&mut self, rt: &impl Wait) -> Option<Hall>
+        ensures taken { IfSome result (λ hall. Receives self.old hall self.new) }
+        ensures out { IsNone result → self.new ≡ self.old }
+    {
+        match self.receiver.try_recv_as::<Receive, _>(rt, &mut self.pass) {
+            Ok(hall) => Some(hall),
+            Err(_) => None,
+        }
+    }
+
+    /// Takes the hall, and sleeps until it lies in its channel.
+    fn wait(&mut self, rt: &impl Wait) -> Hall
         ensures { Receives self.old result self.new }
     {
         for _ in rt.forever() {
