@@ -5,10 +5,12 @@ ghost use Rattle.node_threads.specs.Calls.{Drives, EndsCall, IsPlaced, KeepsLog}
 
 use crate::errors::CallError;
 use crate::gate::{Gate, Passage, Place};
+use crate::patience::next_message;
 use crate::replicas::{Parcel, Report};
 use client_phases::{Phase, Taken};
 use crossbeam_channel::{Receiver, Sender};
-use hall_turns::{Begun, ClientPass, Delay, Ended, Standing};
+use hall_turns::{Begun, ClientPass, Delay, Ended};
+use quorum::ReplicaSet;
 use std::sync::Wait;
 use tag::{Action, Key, OpId, ReplicaId};
 use world_steps::{Effect, Refusal, Step};
@@ -82,8 +84,7 @@ impl<'a, G: Gate> Errand<'a, G> {
             (ended.place ≤ 9223372036854775807) × (ended.copy ≡ ended.returned)) }
         ensures failed { OnErr result (KeepsLog pass.old pass.new) }
     {
-        self.leave(rt, pass, Phase::Ask, rounds)?;
-        self.leave(rt, pass, Phase::Put, rounds)?;
+        self.make_ready(rt, pass, rounds)?;
         let place = Place::Respond {
             hall: self.hall,
             call: self.call,
@@ -95,30 +96,44 @@ impl<'a, G: Gate> Errand<'a, G> {
         }
     }
 
-    /// Makes rounds until the phase is over.
+    /// Has the client ask, and then put where it has to.
     #[tactic(auto, using(crate::proofs::Keeping::keeps_same, crate::proofs::Keeping::keeps_then))]
-    pub(crate) fn leave<R: Wait>(
+    fn make_ready<R: Wait>(
         &mut self,
         rt: &R,
         pass: &mut ClientPass,
-        phase: Phase,
         rounds: u16,
     ) -> Result<(), CallError>
         ensures { KeepsLog pass.old pass.new }
     {
+        match self.leave(rt, pass, rounds)? {
+            Phase::Put => match self.leave(rt, pass, rounds) {
+                Ok(_) => Ok(()),
+                Err(error) => Err(error),
+            },
+            _ => Ok(()),
+        }
+    }
+
+    /// Makes rounds until the phase is over, which has just begun. The phase that follows it.
+    #[tactic(auto, using(crate::proofs::Keeping::keeps_same, crate::proofs::Keeping::keeps_then))]
+    fn leave<R: Wait>(
+        &mut self,
+        rt: &R,
+        pass: &mut ClientPass,
+        rounds: u16,
+    ) -> Result<Phase, CallError>
+        ensures { KeepsLog pass.old pass.new }
+    {
+        let mut counted = ReplicaSet::empty();
         for _ in 0..rounds {
-            let standing = look(rt, pass);
-            if standing.phase != phase {
-                return Ok(());
+            self.send_round(rt, pass, counted)?;
+            if let Some(next) = self.hear_round(rt, pass)? {
+                return Ok(next);
             }
-            self.send_round(rt, pass, &standing)?;
-            self.hear_round(rt, pass)?;
+            counted = counted_by(rt, pass);
         }
-        if look(rt, pass).phase == phase {
-            Err(CallError::Unavailable)
-        } else {
-            Ok(())
-        }
+        Err(CallError::Unavailable)
     }
 
     /// Sends the client's request to each replica that it didn't count.
@@ -127,13 +142,13 @@ impl<'a, G: Gate> Errand<'a, G> {
         &mut self,
         rt: &R,
         pass: &mut ClientPass,
-        standing: &Standing,
+        counted: ReplicaSet,
     ) -> Result<(), CallError>
         ensures { KeepsLog pass.old pass.new }
     {
         for number in 0..15 {
             if let Some(replica) = ReplicaId::new(number) {
-                if !standing.counted.contains(replica) {
+                if !counted.contains(replica) {
                     self.send(rt, pass, replica)?;
                 }
             }
@@ -203,21 +218,27 @@ impl<'a, G: Gate> Errand<'a, G> {
         Ok(())
     }
 
-    /// Hears what the replicas report until the phase is over or each parcel was reported on.
+    /// Hears what the replicas report until the phase is over or each parcel was reported on. The phase that
+    /// follows, where it is over.
     #[tactic(auto, using(crate::proofs::Keeping::keeps_same, crate::proofs::Keeping::keeps_then))]
-    fn hear_round<R: Wait>(&mut self, rt: &R, pass: &mut ClientPass) -> Result<(), CallError>
+    fn hear_round<R: Wait>(
+        &mut self,
+        rt: &R,
+        pass: &mut ClientPass,
+    ) -> Result<Option<Phase>, CallError>
         ensures { KeepsLog pass.old pass.new }
     {
         for _ in 0..self.awaited {
-            let Ok(report) = self.inbox.recv(rt) else {
+            let Some(report) = next_message(rt, &self.inbox) else {
                 return Err(CallError::Unavailable);
             };
             self.awaited = u64::saturating_sub(self.awaited, 1);
-            if hear(rt, pass, report)? {
-                return Ok(());
+            let next = hear(rt, pass, report)?;
+            if next.is_some() {
+                return Ok(next);
             }
         }
-        Ok(())
+        Ok(None)
     }
 }
 
@@ -239,45 +260,46 @@ fn parcels_of<R: Wait>(rt: &R, pass: &mut ClientPass, passage: Passage, flight: 
     }
 }
 
-/// Delivers what was reported. Whether the client's phase is over.
+/// Delivers what was reported. The phase that follows, where the client's phase is over.
 #[tactic(auto, using(crate::proofs::Keeping::keeps_same, crate::proofs::Keeping::keeps_then))]
-fn hear<R: Wait>(rt: &R, pass: &mut ClientPass, report: Report) -> Result<bool, CallError>
+fn hear<R: Wait>(rt: &R, pass: &mut ClientPass, report: Report) -> Result<Option<Phase>, CallError>
     ensures { KeepsLog pass.old pass.new }
 {
     match report {
-        Report::Blank => Ok(false),
+        Report::Blank => Ok(None),
         Report::Reply(flight) => deliver(rt, pass, flight),
         Report::Twice(flight) => {
             let first = deliver(rt, pass, flight)?;
             let second = deliver(rt, pass, flight)?;
-            Ok(first || second)
+            Ok(first.or(second))
         }
     }
 }
 
-/// Delivers a reply to the client. Whether its phase is over.
-fn deliver<R: Wait>(rt: &R, pass: &mut ClientPass, flight: u32) -> Result<bool, CallError>
+/// Delivers a reply to the client. The phase that follows, where its phase is over.
+fn deliver<R: Wait>(rt: &R, pass: &mut ClientPass, flight: u32) -> Result<Option<Phase>, CallError>
     ensures { KeepsLog pass.old pass.new }
 {
     let taken = pass.deliver(rt, flight);
-    ends_phase(taken)
+    phase_after(taken)
 }
 
-/// Whether a phase is over with what came of a reply.
-fn ends_phase(taken: Result<Taken, Refusal>) -> Result<bool, CallError> {
+/// The phase that a reply makes begin, if it does.
+fn phase_after(taken: Result<Taken, Refusal>) -> Result<Option<Phase>, CallError> {
     match taken {
-        Ok(Taken::Stale | Taken::Counted) => Ok(false),
-        Ok(Taken::Noted(_) | Taken::Agreed(_) | Taken::Ready) => Ok(true),
-        Err(Refusal::NotInFlight) => Ok(false),
+        Ok(Taken::Stale | Taken::Counted) => Ok(None),
+        Ok(Taken::Noted(_)) => Ok(Some(Phase::Put)),
+        Ok(Taken::Agreed(_) | Taken::Ready) => Ok(Some(Phase::Ready)),
+        Err(Refusal::NotInFlight) => Ok(None),
         Err(refusal) => Err(refused(refusal)),
     }
 }
 
-/// Where the client stands.
-fn look<R: Wait>(rt: &R, pass: &mut ClientPass) -> Standing
+/// The replicas that the client counted in its phase.
+fn counted_by<R: Wait>(rt: &R, pass: &mut ClientPass) -> ReplicaSet
     ensures { KeepsLog pass.old pass.new }
 {
-    pass.standing(rt)
+    pass.standing(rt).counted
 }
 
 /// One turn with a step that adds no row.

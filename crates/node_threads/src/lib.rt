@@ -13,6 +13,7 @@ mod entry;
 mod errand;
 mod errors;
 mod gate;
+mod patience;
 mod receipt;
 mod replicas;
 mod seat;

@@ -1,5 +1,6 @@
 //! Replicas, each served by a thread of its own.
 use crate::gate::{Gate, Passage, Place};
+use crate::patience::next_message;
 use crossbeam_channel::{Receiver, Sender};
 use hall_turns::FreePass;
 use std::sync::Wait;
@@ -38,7 +39,10 @@ pub(crate) fn serve<R: Wait, G: Gate>(
     mut passes: Vec<FreePass>,
     parcels: Receiver<Parcel>,
 ) {
-    for parcel in parcels.iter(rt) {
+    for _ in rt.forever() {
+        let Some(parcel) = next_message(rt, &parcels) else {
+            return;
+        };
         let report = match passes.get_mut(usize::from(parcel.hall)) {
             Some(pass) => handle(rt, gate, replica, pass, &parcel),
             None => Report::Blank,
