@@ -222,7 +222,7 @@ makes_more header items old new item history h halls quorums = record {
     own_more = ap (λ (r : Recorded). with_row r item.row) (own_rows header items old item history h) ∙ ap (λ (rs : List Row). record { rows = rs; limit = 1000000 }) (sym (rows_here items item))
 
 -- a fault among its hall's rows is one among all rows
-in_hall : (halls : ℕ) (items : List HallRow) (item : HallRow) (f : LineFault) → IsOfItsHall halls item → IsMisplacedBehind (calls_together items) (rows_of item.hall items) item.row f → IsMisplacedInHall halls items item f
+pub in_hall : (halls : ℕ) (items : List HallRow) (item : HallRow) (f : LineFault) → IsOfItsHall halls item → IsMisplacedBehind (calls_together items) (rows_of item.hall items) item.row f → IsMisplacedInHall halls items item f
 in_hall halls items item Range placed h = absurd h
 in_hall halls items item KeyInAnotherHall placed h = absurd h
 in_hall halls items item _ placed h = (placed, h)

@@ -1,24 +1,33 @@
 -- A history file of version 1, read as histories by hall: one hall.
-use Rattle.std.proofs.Common.{ℕ, zero, suc, ◌≡◌, ◌%◌, List, [], ◌∷◌, Some, None, Ok, codes, sum, refl, sym, ap, subst, arith, append-nil}
+use Rattle.std.proofs.Common.{ℕ, zero, suc, ◌≡◌, ◌≢◌, ◌%◌, inl, inr, List, [], ◌∷◌, Some, None, Result, Ok, Err, codes, sum, refl, sym, ap, subst, arith, append-nil}
 use Rattle.std.specs.List.{slice_get, AllZip}
+use Rattle.serde_json.specs.Data.{Data}
 use Rattle.recorder.specs.declared.row.Row.{Row}
 use Rattle.recorder.specs.declared.row.Row.TheVariants.{Invoke, Note, Respond}
 use Rattle.recorder.specs.Halls.{RecordedHalls, AreHalls, FallsTo, hall_calls}
 use Rattle.recorder.specs.Histories.{Recorded, IsWellFormed, call_count}
 use Rattle.counted_devices.specs.Cuts.{last_lines}
+use Rattle.file_format.specs.declared.fault.LineFault.{LineFault}
+use Rattle.file_format.specs.declared.fault.LineFault.TheVariants.{NotJson, NoHeader, Version, TooLong}
 use Rattle.file_format.specs.declared.file_header.FileHeader.TheVariants.{Version1}
 use Rattle.file_format.specs.declared.hall_row.HallRow.{HallRow}
 use Rattle.file_format.specs.FileHeaders.{file_header_in}
-use Rattle.file_format.specs.Files.{IsLineOf, AreSpelled}
+use Rattle.file_format.specs.Files.{IsLineOf, AreSpelled, HasFault, IsFirstFault}
+use Rattle.file_format.specs.HallPlaces.{rows_of, IsMisplacedInHall}
 use Rattle.file_format.specs.HallRows.{hall_row_in}
 use Rattle.file_format.specs.Headers.{header_in}
-use Rattle.file_format.specs.HistoriesFormat.{histories_format, MakesHistories}
+use Rattle.file_format.specs.HistoriesFormat.{histories_format, AreHistories, MakesHistories}
 use Rattle.file_format.specs.HistoryFormat.{history_format, MakesHistory, IsHistory}
+use Rattle.file_format.specs.LineFaults.{HasHeaderFault, HasFileHeaderFault}
 use Rattle.file_format.specs.Lines.{Shows}
-use Rattle.file_format.specs.Readings.{Reads}
+use Rattle.file_format.specs.Places.{IsMisplaced, IsMisplacedBehind}
+use Rattle.file_format.specs.Readings.{Reads, FirstFaultInAll}
 use Rattle.file_format.specs.Rows.{row_in}
 use Rattle.file_format.specs.Texts.{rows_from}
-use Rattle.file_format.proofs.RowsByHall.{tagged, fits_again, made_again}
+use Rattle.file_format.proofs.HallFaults.{file_header_fault, hall_row_fault}
+use Rattle.file_format.proofs.HallPlacing.{in_hall}
+use Rattle.file_format.proofs.LineFaults.{header_fault, row_fault}
+use Rattle.file_format.proofs.RowsByHall.{tagged, rows_tagged, plain_tagged, fits_again, made_again}
 use Rattle.file_format.proofs.Saying.{row_back}
 use Rattle.file_format.proofs.SayingHalls.{file_header_there, hall_row_there}
 use Rattle.file_format.proofs.SayingPieces.{header_back}
@@ -92,3 +101,57 @@ read_too bytes history h =
       };
       made = subst (λ (one : Recorded). MakesHistories Version1 (rows_from 0 (alone rows).halls) (record { halls = one ∷ []; quorums = None })) (sym h.made) (made_again (alone rows) all);
     }
+
+-- ---- its first fault, other than a version
+
+err_too : {X Y : Type 0} (m : Data → Result X LineFault) (n : Data → Result Y LineFault) (line : List ℕ) (f : LineFault) → ((d : Data) → m d ≡ Err f → n d ≡ Err f) → Shows m line (Err f) → Shows n line (Err f)
+err_too m n line TooLong too h = h
+err_too m n line NotJson too h = h
+err_too m n line _ too h = record { short = h.short; value = h.value; json = h.json; meant = too h.value h.meant }
+
+header_fault_too : (d : Data) (f : LineFault) → f ≢ Version → HasHeaderFault (codes "history") d f → HasFileHeaderFault d f
+header_fault_too d NoHeader other h = h
+header_fault_too d Version other h = absurd (other refl)
+header_fault_too d _ other h = absurd h
+
+no_header_too : (f : LineFault) → f ≢ Version → (d : Data) → header_in (codes "history") d ≡ Err f → file_header_in d ≡ Err f
+no_header_too f other d e = (file_header_fault d f).1 (header_fault_too d f other ((header_fault (codes "history") d f).0 e))
+
+no_row_too : (f : LineFault) (d : Data) → row_in d ≡ Err f → hall_row_in Version1 d ≡ Err f
+no_row_too f d e = (hall_row_fault Version1 d f).1 ((row_fault d f).0 e)
+
+misplaced_too : (rows : List Row) (row : Row) (f : LineFault) → IsMisplaced rows row f → IsMisplacedInHall 1 (tagged 0 rows) (in_hall_0 row) f
+misplaced_too rows row f h =
+    in_hall 1 (tagged 0 rows) (in_hall_0 row) f (record { below = omega arith; falls = falls row })
+    (subst (λ (calls : ℕ). IsMisplacedBehind calls (rows_of 0 (tagged 0 rows)) row f) (sym (ap call_count (plain_tagged 0 rows)))
+    (subst (λ (rs : List Row). IsMisplacedBehind (call_count rows) rs row f) (sym (rows_tagged 0 rows)) h))
+
+fault_too : (earlier : List (List ℕ)) (rows : List Row) (line : List ℕ) (f : LineFault) → f ≢ Version → HasFault history_format earlier tt rows line f → HasFault histories_format earlier Version1 (tagged 0 rows) line f
+fault_too [] rows line f other h = err_too (header_in (codes "history")) file_header_in line f (no_header_too f other) h
+fault_too (first ∷ earlier) rows line f other (inl h) = inl (err_too row_in (hall_row_in Version1) line f (no_row_too f) h)
+fault_too (first ∷ earlier) rows line f other (inr h) = inr (in_hall_0 h.0, row_too line h.0 h.1, misplaced_too rows h.0 f h.2)
+
+fits_too : (rows : List Row) → IsHistory rows → AreHistories Version1 (tagged 0 rows)
+fits_too rows h =
+    subst (λ (placed : List HallRow). AreHistories Version1 placed) (append-nil (tagged 0 rows)) (fits_again (alone rows) (one_hall rows h) (formed_too rows h))
+
+first_too : (lines : List (List ℕ)) (n : ℕ) (f : LineFault) → f ≢ Version → IsFirstFault history_format lines n f → IsFirstFault histories_format lines n f
+first_too lines n f other h = record {
+  earlier = h.earlier;
+  line = h.line;
+  later = h.later;
+  place = h.place;
+  counted = h.counted;
+  header = Version1;
+  items = tagged 0 h.items;
+  sound = record { spelled = spelled_too h.earlier h.items h.sound.spelled; fits = fits_too h.items h.sound.fits };
+  faulty = fault_too h.earlier h.items h.line f other h.faulty;
+}
+
+pub first_fault_too : (bytes : List ℕ) (n : ℕ) (f : LineFault) → f ≢ Version → FirstFaultInAll history_format bytes n f → FirstFaultInAll histories_format bytes n f
+first_fault_too bytes n f other h = record {
+  lines = h.lines;
+  rest = h.rest;
+  splits = h.splits;
+  first = elim h.first [ inl one ↦ inl (first_too (last_lines h.lines h.rest) n f other one) | inr none ↦ inr none ];
+}

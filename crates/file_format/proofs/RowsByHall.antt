@@ -24,7 +24,7 @@ use Rattle.file_format.proofs.HallPlacing.{rows-append, calls-append, one_here, 
 abbrev pub tagged : ℕ → List Row → List HallRow
 tagged hall rows = map (λ row. record { hall = hall; row = row }) rows
 
-rows_tagged : (hall : ℕ) (rows : List Row) → rows_of hall (tagged hall rows) ≡ rows
+pub rows_tagged : (hall : ℕ) (rows : List Row) → rows_of hall (tagged hall rows) ≡ rows
 rows_tagged hall [] = refl
 rows_tagged hall (row ∷ rows) =
     let one : HallRow = record { hall = hall; row = row } in
@@ -36,7 +36,7 @@ rows_elsewhere hall other (row ∷ rows) apart =
     let one : HallRow = record { hall = hall; row = row } in
     rows-append other (one ∷ []) (tagged hall rows) ∙ ap₂ (λ (a b : List Row). a ++ b) (one_apart other one apart) (rows_elsewhere hall other rows apart)
 
-plain_tagged : (hall : ℕ) (rows : List Row) → map row_in_hall (tagged hall rows) ≡ rows
+pub plain_tagged : (hall : ℕ) (rows : List Row) → map row_in_hall (tagged hall rows) ≡ rows
 plain_tagged hall [] = refl
 plain_tagged hall (row ∷ rows) = ap (λ (rs : List Row). row ∷ rs) (plain_tagged hall rows)
 

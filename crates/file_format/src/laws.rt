@@ -1,10 +1,11 @@
 //! Laws of the definitions, each the contract of a function that does nothing.
-ghost use Rattle.std.specs.Prelude.{ℕ, ◌≡◌, ◌↔◌, List, [], ◌∷◌, None, Ok, Result};
+ghost use Rattle.std.specs.Prelude.{ℕ, ◌≡◌, ◌≢◌, ◌↔◌, List, [], ◌∷◌, None, Ok, Result};
 ghost use Rattle.serde_json.specs.Data.{Data};
 ghost use Rattle.recorder.specs.declared.row.Row.{Row};
 ghost use Rattle.recorder.specs.declared.order.KeyOrder.{KeyOrder};
 ghost use Rattle.recorder.specs.Histories.{Recorded};
 ghost use Rattle.file_format.specs.declared.fault.LineFault.{LineFault};
+ghost use Rattle.file_format.specs.declared.fault.LineFault.TheVariants.{Version};
 ghost use Rattle.file_format.specs.Lines.{Shows};
 ghost use Rattle.file_format.specs.LineFaults.{FaultsAre, HasRowFault, HasHallRowFault, HasPieceFault, HasHeaderFault, HasFileHeaderFault};
 ghost use Rattle.file_format.specs.Readings.{Reads, FirstFaultInAll};
@@ -116,6 +117,12 @@ pub fn histories_are_read_from_their_text()
 /// A history file of either version has one first fault.
 pub fn a_file_of_histories_has_one_first_fault()
     ensures { (bytes : List ℕ) (m n : ℕ) (a b : LineFault) → FirstFaultInAll histories_format bytes m a → FirstFaultInAll histories_format bytes n b → (m ≡ n) × (a ≡ b) }
+{}
+
+/// The first fault of a history file of version 1 is its first fault as histories too, where it isn't
+/// that of its version.
+pub fn a_fault_of_a_history_is_one_of_histories()
+    ensures { (bytes : List ℕ) (n : ℕ) (fault : LineFault) → fault ≢ Version → FirstFaultInAll history_format bytes n fault → FirstFaultInAll histories_format bytes n fault }
 {}
 
 /// Bytes that are read as histories have no fault.
