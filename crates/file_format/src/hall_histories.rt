@@ -1,7 +1,7 @@
 //! Rows of several halls that follow one another.
-ghost use Rattle.std.specs.Prelude.{◌≡◌, ◌<◌, ◌↔◌, List, [], IfOk, OnErr, IsTrue};
+ghost use Rattle.std.specs.Prelude.{◌≡◌, ◌<◌, ◌↔◌, List, [], length, IfOk, OnErr, IsTrue};
 ghost use Rattle.recorder.specs.Halls.{FallsTo};
-ghost use Rattle.file_format.specs.FileHeaders.{halls_in};
+ghost use Rattle.file_format.specs.FileHeaders.{halls_in, header_with};
 ghost use Rattle.file_format.specs.Formats.{Follows};
 ghost use Rattle.file_format.specs.HistoriesFormat.{histories_format, MakesHistories, AreHistories};
 ghost use Rattle.file_format.specs.declared.file_header.FileHeader.{FileHeader};
@@ -53,6 +53,13 @@ impl HallHistories {
             halls,
             calls: 0,
         })
+    }
+
+    /// What the first line said.
+    pub fn header(&self) -> FileHeader
+        ensures { result ≡ header_with (length self.now.halls) self.now.quorums }
+    {
+        self.header
     }
 
     /// Adds the row at the end of its hall's rows, or says which fault it has there.
