@@ -5,7 +5,7 @@ use Rattle.std.specs.Str.{bytes_eq}
 use Rattle.std.specs.Map.{lookup}
 use Rattle.std.proofs.Math.Nat.{mod-lt}
 use Rattle.std.proofs.lemmas.Option.{slice_get_within, get_or_from_slice_get}
-use Rattle.std.proofs.lemmas.List.Elements.{Contains-append_left, Contains-append_right, Contains-append_cases}
+use Rattle.std.proofs.lemmas.List.Elements.{All-get_or, Contains-append_left, Contains-append_right, Contains-append_cases}
 use Rattle.recorder.specs.declared.row.Row.{Row}
 use Rattle.recorder.specs.declared.row.Row.TheVariants.{Invoke}
 use Rattle.recorder.specs.declared.part.Call.{Call}
@@ -58,7 +58,7 @@ module _ (halls : List Recorded) (parts : List KeyParts) (are : AreHallParts hal
       let begins = seen.1.begins in
       let row : Row = Invoke begins.0 begins.1 key begins.2 in
       let here : slice_get history.rows seen.0 ≡ Some row = begins.3 in
-      subst (FallsTo (length halls) hall) (get_or_from_slice_get history.rows seen.0 row row here) (keys hall history at seen.0 row (slice_get_within history.rows seen.0 row here))
+      subst (FallsTo (length halls) hall) (get_or_from_slice_get history.rows seen.0 row row here) (All-get_or (FallsTo (length halls) hall) history.rows seen.0 row (slice_get_within history.rows seen.0 row here) (keys hall history at))
 
   own_part : (key : List ℕ) (part : List Call) → Contains (all_parts parts) (key, part) → IsHallPart halls key part
   own_part key part h =

@@ -18,15 +18,17 @@ pub const WORKERS: &str = "How many threads judge the keys, 1 to 16; the lines a
 pub const CHECK: &str =
     "Prints one line a key, `KEY: yes` or `KEY: no` and the fault, keys hall by hall, in each in the \
 order in which the history first sees them, then those that only the orders have. HISTORY is of version 1 or 2. One \
-of the files may be /dev/stdin, for what is piped in.\nExit status: 0 all yes, 1 a key refused, 2 usage, 3 a file can't be opened or read as its format, 4 memory, \
-a device or a thread.\n\nExample: abd check examples/two_calls.history examples/two_calls.orders";
+of the files may be /dev/stdin, for what is piped in.\nExit status: 0 all yes, 1 a key refused, 2 usage, 3 a file \
+can't be opened or read as its format, 4 memory, a device or a thread.\n\n\
+Example: abd check examples/two_calls.history examples/two_calls.orders";
 
 /// Of `abd justify`.
 pub const JUSTIFY: &str =
     "Writes an order file, for `abd check`, keys hall by hall, in each in the order in which the \
-history first sees them. HISTORY is of version 1 or 2. Where a key has no such order it writes nothing, and says the first such key on standard error. HISTORY may be \
-/dev/stdin, for what is piped in.\nExit status: 0 written, 1 a key has no order, 2 usage, 3 the file can't be opened \
-or read as its format, 4 memory or a device.\n\nExample: abd justify examples/new_then_old.history";
+history first sees them. HISTORY is of version 1 or 2. Where a key has no such order it writes nothing, and says the \
+first such key on standard error. HISTORY may be /dev/stdin, for what is piped in.\nExit status: 0 written, 1 a key \
+has no order, 2 usage, 3 the file can't be opened or read as its format, 4 memory or a device.\n\n\
+Example: abd justify examples/new_then_old.history";
 
 /// Of `abd simulate`.
 pub const SIMULATE: &str =
