@@ -20,7 +20,7 @@ returns-in_err-judged-clause-output g c =
 pub returns-in-Ok-clause-judged : goal.returns-in-Ok-clause-judged
 returns-in-Ok-clause-judged g c = λ pieces joined.
     let judges = c.in_ok-judged.ensures in
-    let lawful = c.halls-_halls.ensures.lawful in
+    let lawful = c.halls-halls.ensures.lawful in
     let halls = c.args.histories.now.halls in
     judged_status halls (all_parts judges.parts) (have_parts halls judges.parts judges.recorded lawful.count.least lawful.keys) pieces c.args.orders.now c.in_ok-judged.judged.items joined judges.judged c.status_of.result (rw c.as_slice-verdicts.ensures.value at c.status_of.ensures)
 
