@@ -1,0 +1,4 @@
+pub mod Calling
+pub mod Lists
+pub mod Parting
+pub mod Seating

@@ -1,0 +1,23 @@
+use Rattle.std.proofs.Common.{◌≡◌, List, IfOk, map, ap, sym, subst, ◌∙◌}
+use Rattle.node_threads.specs.Closings.{Closes}
+use Rattle.node_threads.specs.Seats.{Seat}
+use Rattle.node_threads.specs.Stores.{Store}
+use Rattle.workload.specs.declared.load.LoadOptions.{LoadOptions}
+use Rattle.store_load.specs.Callers.{AreCalled}
+use Rattle.store_load.specs.Loads.{store_of}
+use Rattle.store_load.proofs.Seating.{called}
+use Rattle.store_load.proofs.loaded.run_load.Goals as goal
+
+pub returns : goal.returns
+returns g c =
+    let options = c.options-options.result in
+    let is : options ≡ c.args.load = c.options-options.ensures.options in
+    let seats = c.in_ok-seats.seats.items in
+    let callers = c.in_ok-callers.callers.items in
+    record {
+      callers = callers;
+      called = subst (λ (o : LoadOptions). AreCalled o callers) is (called options seats callers c.in_ok-seats.ensures c.in_ok-callers.ensures);
+      refusals = c.in_ok-seats-2.ensures.refused;
+      closed = subst (λ (all : List Seat). IfOk c.close.result (λ closed. Closes (store_of c.args.load) all closed.halls.items)) c.in_ok-seats-2.ensures.seats
+          (subst (λ (s : Store). IfOk c.close.result (λ closed. Closes s c.in_ok-seats-2.seats.items closed.halls.items)) (c.in_ok-store.ensures ∙ ap store_of is) c.close.ensures.closed);
+    }

@@ -1,0 +1,37 @@
+-- What a load comes to.
+use Rattle.std.specs.Prelude.{ℕ, ◌≡◌, List, [], ◌∷◌, ◌++◌, Option, Some, None, IfOk, map}
+use Rattle.node_threads.specs.Closings.{Closes}
+use Rattle.node_threads.specs.Stores.{Store}
+use Rattle.node_threads.specs.declared.errors.CallError.{CallError}
+use Rattle.workload.specs.declared.load.LoadOptions.{LoadOptions}
+use Rattle.world_steps.specs.Configs.{Config}
+use Rattle.store_load.specs.Callers.{AreCalled}
+use Rattle.store_load.specs.declared.callers.Called.{Called}
+use Rattle.store_load.specs.declared.loaded.Loaded.{Loaded}
+use Rattle.store_load.specs.declared.loaded.Refused.{Refused}
+
+-- what is fixed of each hall's world
+abbrev pub world_of : LoadOptions → Config
+world_of load = record { quorums = load.quorums; reads = load.reads; calls = 1000000; flights = 4000000 }
+
+-- the store that is started
+abbrev pub store_of : LoadOptions → Store
+store_of load = record { number = 1; halls = load.halls; rounds = load.rounds }
+
+-- a caller whose call was refused
+abbrev pub refused_of : ℕ → Option CallError → List Refused
+refused_of caller None = []
+refused_of caller (Some error) = record { caller = caller; error = error } ∷ []
+
+-- those of the callers whose calls were refused, in their order
+abbrev pub refusals_of : List Called → List Refused
+refusals_of [] = []
+refusals_of (called ∷ rest) = refused_of called.seat.client called.refusal ++ refusals_of rest
+
+-- each caller made its calls, the refusals are told, and if the store closed, each hall's record shows these calls and comes
+-- with orders that show it atomic
+pub record IsLoaded (load : LoadOptions) (loaded : Loaded) : Type 0 where
+  pub callers : List Called
+  pub called : AreCalled load callers
+  pub refusals : loaded.refusals.items ≡ refusals_of callers
+  pub closed : IfOk loaded.closed (λ closed. Closes (store_of load) (map (λ c. c.seat) callers) closed.halls.items)
