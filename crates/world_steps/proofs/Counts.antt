@@ -8,11 +8,11 @@ use Rattle.recorder.specs.declared.row.Row.TheVariants.{Invoke, Note, Respond}
 use Rattle.world_steps.specs.Sound.{NotNoted, is_note_of, is_noted, noted_below}
 use Rattle.world_steps.proofs.RowLaws.{same_op}
 
-or_or : (a b c : Bool) → (a || (b || c)) ≡ ((a || b) || c)
+pub or_or : (a b c : Bool) → (a || (b || c)) ≡ ((a || b) || c)
 or_or true b c = refl
 or_or false b c = refl
 
-or_false : (a : Bool) → (a || false) ≡ a
+pub or_false : (a : Bool) → (a || false) ≡ a
 or_false true = refl
 or_false false = refl
 
@@ -29,7 +29,7 @@ no_more a b true true le h = omega arith
 no_more a b false q le h = omega arith
 no_more a b true false le h = let e : false ≡ true = h refl in absurd cc
 
-stays_noted : (R : List Row) (x : Row) (n : ℕ) → is_noted R n ≡ true → is_noted (R ++ x ∷ []) n ≡ true
+pub stays_noted : (R : List Row) (x : Row) (n : ℕ) → is_noted R n ≡ true → is_noted (R ++ x ∷ []) n ≡ true
 stays_noted R x n e = noted_push R x n ∙ ap (λ b. b || is_note_of n x) e
 
 -- a row more: no fewer calls are noted
@@ -37,7 +37,7 @@ pub noted_below_push : (R : List Row) (x : Row) (n : ℕ) → noted_below R n �
 noted_below_push R x zero = omega arith
 noted_below_push R x (suc n) = no_more (noted_below R n) (noted_below (R ++ x ∷ []) n) (is_noted R n) (is_noted (R ++ x ∷ []) n) (noted_below_push R x n) (stays_noted R x n)
 
-now_noted : (R : List Row) (op : OpId) (t : Tag) (b : Bool) → nat_eq op.0 op.0 ≡ b → is_noted (R ++ Note op t ∷ []) op.0 ≡ true
+pub now_noted : (R : List Row) (op : OpId) (t : Tag) (b : Bool) → nat_eq op.0 op.0 ≡ b → is_noted (R ++ Note op t ∷ []) op.0 ≡ true
 now_noted R op t true e = noted_push R (Note op t) op.0 ∙ ap (λ b. is_noted R op.0 || b) e ∙ or_true (is_noted R op.0)
 now_noted R op t false e = absurd (eqb-false op.0 op.0 e refl)
 

@@ -1,6 +1,7 @@
 pub mod TagLaws
 pub mod RowLaws
 pub mod Counts
+pub mod WriteCounts
 pub mod Frames
 pub mod SameRows
 pub mod MoreRows
@@ -28,6 +29,7 @@ pub mod Headline
 pub mod Written
 pub mod Handles
 pub mod Refused
+pub mod Sources
 pub mod Onward
 pub mod RunningCounts
 pub mod LastingLaws

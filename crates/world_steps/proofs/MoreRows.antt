@@ -8,10 +8,18 @@ use Rattle.tag.specs.declared.actions.Returned.{Returned}
 use Rattle.recorder.specs.declared.row.Row.{Row}
 use Rattle.recorder.specs.declared.row.Row.TheVariants.{Invoke, Note, Respond}
 use Rattle.recorder.specs.Histories.{call_count}
-use Rattle.world_steps.specs.Sound.{At, IsAtMost, Completed, NotNoted, Answered, RowsSound, noted_below}
+use Rattle.world_steps.specs.Sound.{At, IsAtMost, Completed, IsFromWrite, NotNoted, Answered, RowsSound, noted_below, write_count}
 use Rattle.world_steps.proofs.RowLaws.{more, extends, before, after_push, within, count_push}
 use Rattle.world_steps.proofs.Counts.{noted_below_push, noted_below_note, noted_below_wider, not_noted}
+use Rattle.world_steps.proofs.WriteCounts.{from_more, write_count_note, write_count_rises}
 use Rattle.world_steps.proofs.Frames.{answered_more}
+
+-- a call has one key
+same_key : (R : List Row) → RowsSound R → (p q : ℕ) (o : OpId) (c d : ℕ) (k l : List ℕ) (a b : Action) → At R p (Invoke o c k a) → At R q (Invoke o d l b) → k ≡ l
+same_key R rows p q o c d k l a b i j =
+    let places : p ≡ q = rows.once p q o c d k l a b i j in
+    let h : At R q (Invoke o c k a) = subst (λ w. At R w (Invoke o c k a)) places i in
+    cc
 
 -- the count of noted calls never falls
 noted_rises : (R : List Row) (x : Row) (k : ℕ) → call_count (more R x) ≡ call_count R + k → noted_below R (call_count R) ≤ noted_below (more R x) (call_count (more R x))
@@ -45,6 +53,11 @@ rows_respond R op returned rows answer =
       bounded = λ p o t i.
           let h : t.number ≤ noted_below R (call_count R) = rows.bounded p o t (notes p o t i) in
           let g : noted_below R (call_count R) ≤ noted_below (more R x) (call_count (more R x)) = noted_rises R x 0 n in
+          omega (arith, h, g);
+      written = λ p m o c k a t i j. from_more R (more R x) (extends R x) k t (rows.written p m o c k a t (invokes p o c k a i) (notes m o t j));
+      counted = λ p m o c k value t i j.
+          let h : t.number ≤ write_count R k = rows.counted p m o c k value t (invokes p o c k (Write value) i) (notes m o t j) in
+          let g : write_count R k ≤ write_count (more R x) k = write_count_rises k R x 0 n in
           omega (arith, h, g);
       answered = λ s o r i.
           elim (after_push R x s (Respond o r) i) [
@@ -115,6 +128,14 @@ rows_invoke R op c key action rows next done =
           let h : t.number ≤ noted_below R (call_count R) = rows.bounded p o t (notes p o t i) in
           let g : noted_below R (call_count R) ≤ noted_below (more R x) (call_count (more R x)) = noted_rises R x 1 n in
           omega (arith, h, g);
+      written = λ p m o d k a t i j.
+          let note : At R m (Note o t) = notes m o t j in
+          from_more R (more R x) (extends R x) k t (rows.written p m o d k a t (noted_before p m o d k a t i note) note);
+      counted = λ p m o d k value t i j.
+          let note : At R m (Note o t) = notes m o t j in
+          let h : t.number ≤ write_count R k = rows.counted p m o d k value t (noted_before p m o d k (Write value) t i note) note in
+          let g : write_count R k ≤ write_count (more R x) k = write_count_rises k R x 1 n in
+          omega (arith, h, g);
       answered = λ s o r i. answered_more R (more R x) (extends R x) o r (rows.answered s o r (responds s o r i));
     }
 
@@ -132,8 +153,9 @@ IsOwn c action tag = (value : List ℕ) → action ≡ Write value → (0 < tag.
 
 pub rows_note : (R : List Row) (op : OpId) (c q : ℕ) (key : List ℕ) (action : Action) (tag : Tag) → RowsSound R
     → At R q (Invoke op c key action) → NotNoted R op → AboveDone R q key action tag → IsOwn c action tag → tag.number ≤ noted_below R (call_count R) + 1
+    → IsFromWrite (more R (Note op tag)) key tag → tag.number ≤ write_count R key + 1
     → RowsSound (more R (Note op tag))
-rows_note R op c q key action tag rows known quiet above mine small =
+rows_note R op c q key action tag rows known quiet above mine small written few =
     let x : Row = Note op tag in
     let invokes : (p : ℕ) (o : OpId) (d : ℕ) (k : List ℕ) (a : Action) → At (more R x) p (Invoke o d k a) → At R p (Invoke o d k a) = λ p o d k a i. before R x p (Invoke o d k a) (λ e. cc) i in
     let responds : (p : ℕ) (o : OpId) (r : Returned) → At (more R x) p (Respond o r) → At R p (Respond o r) = λ p o r i. before R x p (Respond o r) (λ e. cc) i in
@@ -210,6 +232,33 @@ rows_note R op c q key action tag rows known quiet above mine small =
           elim (after_push R x p (Note o t) i) [
             | inl old ↦ let h : t.number ≤ noted_below R (call_count R) = rows.bounded p o t old in omega (arith, h, g, e)
             | inr new ↦ let h : tag ≡ t = cc in let z : tag.number ≡ t.number = ap (λ (u : Tag). u.number) h in omega (arith, z, small, g, e)
+          ];
+      written = λ p m o d k a t i j.
+          elim (after_push R x m (Note o t) j) [
+            | inl old ↦ from_more R (more R x) (extends R x) k t (rows.written p m o d k a t (invokes p o d k a i) old)
+            | inr new ↦
+                let eo : o ≡ op = cc in
+                let et : tag ≡ t = cc in
+                let h : At R p (Invoke op d k a) = subst (λ w. At R p (Invoke w d k a)) eo (invokes p o d k a i) in
+                let ek : key ≡ k = same_key R rows q p op c d key k action a known h in
+                subst (λ w. IsFromWrite (more R x) k w) et (subst (λ w. IsFromWrite (more R x) w tag) ek written)
+          ];
+      counted = λ p m o d k value t i j.
+          elim (after_push R x m (Note o t) j) [
+            | inl old ↦
+                let h : t.number ≤ write_count R k = rows.counted p m o d k value t (invokes p o d k (Write value) i) old in
+                let g : write_count R k ≤ write_count (more R x) k = write_count_rises k R x 0 n in
+                omega (arith, h, g)
+            | inr new ↦
+                let eo : o ≡ op = cc in
+                let et : tag ≡ t = cc in
+                let z : tag.number ≡ t.number = ap (λ (u : Tag). u.number) et in
+                let h : At R p (Invoke op d k (Write value)) = subst (λ w. At R p (Invoke w d k (Write value))) eo (invokes p o d k (Write value) i) in
+                let ek : key ≡ k = same_key R rows q p op c d key k action (Write value) known h in
+                let fresh : op.0 < call_count R = rows.fresh q op c key action known in
+                let g : write_count R k + 1 ≤ write_count (more R x) k = write_count_note R p op d k value tag h fresh (not_noted R op quiet) in
+                let f : tag.number ≤ write_count R k + 1 = subst (λ w. tag.number ≤ write_count R w + 1) ek few in
+                omega (arith, z, g, f)
           ];
       answered = λ s o r i. answered_more R (more R x) (extends R x) o r (rows.answered s o r (responds s o r i));
     }

@@ -61,6 +61,8 @@ opening_sound config lawful calls = record {
       rising = λ s p q o u c d returned k a b t v m n i j l before im in1. absurd cc;
       own = λ p n o c k value t i j. absurd cc;
       bounded = λ p o t i. absurd cc;
+      written = λ p n o c k a t i j. absurd cc;
+      counted = λ p n o c k value t i j. absurd cc;
       answered = λ s o returned i. absurd cc;
     };
     pairs = λ number key. Unwritten (nothing_held config number key);

@@ -21,7 +21,7 @@ use Rattle.client_phases.specs.Calls.{Chosen, answer_from, pair_to_put}
 use Rattle.client_phases.specs.Asking.{Asking, opening_of}
 use Rattle.client_phases.specs.declared.states.State.{State}
 use Rattle.client_phases.specs.declared.states.State.TheVariants.{Idle, Ask, Ready}
-use Rattle.world_steps.specs.Sound.{At, IsAtMost, Invoked, Noted, Completed, NotNoted, NotCompleted, OthersCompleted, Pending, IsGood, Answered, noted_below, RowsSound, QuorumHolds, MessageSound, StateSound, Told, QuorumTells, Sound}
+use Rattle.world_steps.specs.Sound.{At, IsAtMost, Invoked, Noted, Completed, NotNoted, NotCompleted, OthersCompleted, Pending, IsGood, Answered, noted_below, write_count, RowsSound, QuorumHolds, MessageSound, StateSound, Told, QuorumTells, Sound}
 use Rattle.world_steps.specs.Sound.IsGood.{Unwritten, Wrote}
 use Rattle.world_steps.specs.Sound.MessageSound.{SoundHeld}
 use Rattle.world_steps.specs.Sound.StateSound.{SoundIdle, SoundAsking, SoundReady}
@@ -29,6 +29,7 @@ use Rattle.world_steps.specs.Sound.Told.{InReply, InAsking}
 use Rattle.world_steps.proofs.TagLaws.{at_most_itself, at_most_below, below_next}
 use Rattle.world_steps.proofs.RowLaws.{same_op, after_push, pushed, within, more, Extends, extends, before}
 use Rattle.world_steps.proofs.Counts.{noted_below_all, not_noted}
+use Rattle.world_steps.proofs.WriteCounts.{from_counted, good_from}
 use Rattle.world_steps.proofs.Quorums.{in_nobody, quorums_meet}
 use Rattle.world_steps.proofs.Frames.{Tags, tags_of, completed_more, good_more, message_more, state_more, tells_more, Older, NoneInvoked, NoneNoted, NoneDone, told_older}
 use Rattle.world_steps.proofs.SameRows.{same_client, same_key, Turned, CountsAnswers, turned_older, tags_stay}
@@ -300,7 +301,9 @@ noting quorums R P F C D c asking counted best new sound is full answers good ar
     (good_put R w.place call.op c call.key call.action best w.is good) in
     record {
       lawful = sound.lawful;
-      recorded = rows_note R call.op c w.place call.key call.action pair.tag sound.recorded w.is quiet above (own_put c call.action best) (small_put c call.action best (noted_below R (call_count R)) (good_bounded R call.key best sound.recorded good));
+      recorded = rows_note R call.op c w.place call.key call.action pair.tag sound.recorded w.is quiet above (own_put c call.action best) (small_put c call.action best (noted_below R (call_count R)) (good_bounded R call.key best sound.recorded good))
+      (good_from (more R x) call.key pair (good_put R w.place call.op c call.key call.action best w.is good))
+      (small_put c call.action best (write_count R call.key) (from_counted R sound.recorded call.key best.tag (good_from R call.key best good)));
       pairs = λ r k. good_more R (more R x) (extends R x) k (P r k) (sound.pairs r k);
       messages = λ m f. message_more R (more R x) (tags_of P) (tags_of P) (extends R x) (tags_stay P) m (sound.messages m f);
       states = λ d y z. turned_more quorums R (more R x) (tags_of P) C c new (extends R x) (λ e ne p o k a i. invokes p o e k a i) others_quiet (λ e ne p q o k a r i j. responds p o r j) sound.states here d y (turned d y z);

@@ -6,6 +6,7 @@ pub mod Refusals
 pub mod Runs
 pub mod Sound
 pub mod SoundSystems
+pub mod Sources
 pub mod Moves
 pub mod Lasting
 pub mod Numbers

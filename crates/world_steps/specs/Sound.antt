@@ -1,11 +1,11 @@
 -- What holds throughout every run (Attiya, Bar-Noy and Dolev 1995; Lynch and Shvartsman 1997): a statement about
 -- the rows of the record, the pairs that replicas hold, the messages in flight and the states of clients.
-use Rattle.std.specs.Prelude.{ℕ, zero, suc, ◌≡◌, ◌≢◌, ◌<◌, ◌≤◌, ◌+◌, ◌⊎◌, Bool, true, false, ◌||◌, if◌then◌else◌, nat_eq, List, [], ◌∷◌, Option, Some, slice_get}
+use Rattle.std.specs.Prelude.{ℕ, zero, suc, ◌≡◌, ◌≢◌, ◌<◌, ◌≤◌, ◌+◌, ◌⊎◌, Bool, true, false, ◌&&◌, ◌||◌, if◌then◌else◌, nat_eq, bytes_eq, List, [], ◌∷◌, Option, Some, slice_get}
 use Rattle.std.specs.FinSet as finite
-use Rattle.tag.specs.Tags.{Tag, IsBelow}
+use Rattle.tag.specs.Tags.{Tag, IsBelow, least}
 use Rattle.tag.specs.declared.numbers.OpId.{OpId}
 use Rattle.tag.specs.declared.actions.Action.{Action}
-use Rattle.tag.specs.declared.actions.Action.TheVariants.{Write}
+use Rattle.tag.specs.declared.actions.Action.TheVariants.{Read, Write}
 use Rattle.tag.specs.declared.actions.Returned.{Returned}
 use Rattle.recorder.specs.declared.row.Row.{Row}
 use Rattle.recorder.specs.declared.row.Row.TheVariants.{Invoke, Note, Respond}
@@ -118,6 +118,47 @@ abbrev pub noted_below : List Row → ℕ → ℕ
 noted_below rows zero = 0
 noted_below rows (suc n) = noted_below rows n + (if is_noted rows n then 1 else 0)
 
+-- ---- the tags of a key
+
+-- a write on the key was noted with the tag
+pub record WasWritten (rows : List Row) (key : List ℕ) (tag : Tag) : Type 0 where
+  pub op : OpId
+  pub client : ℕ
+  pub value : List ℕ
+  pub place : ℕ
+  pub invoked : At rows place (Invoke op client key (Write value))
+  pub note : ℕ
+  pub noted : At rows note (Note op tag)
+
+-- the least tag, or that of a noted write on the key
+abbrev pub IsFromWrite : List Row → List ℕ → Tag → Type 0
+IsFromWrite rows key tag = (tag ≡ least) ⊎ WasWritten rows key tag
+
+-- the row begins a write on the key, with that number
+abbrev pub begins_write : List ℕ → ℕ → Row → Bool
+begins_write key number (Invoke op client of (Write value)) = nat_eq op.0 number && bytes_eq of key
+begins_write key number (Invoke op client of Read) = false
+begins_write key number (Note op tag) = false
+begins_write key number (Respond op returned) = false
+
+-- the call with that number is a write on the key
+abbrev pub is_write_on : List Row → List ℕ → ℕ → Bool
+is_write_on [] key number = false
+is_write_on (row ∷ rows) key number = begins_write key number row || is_write_on rows key number
+
+-- the call with that number is a noted write on the key
+abbrev pub is_noted_write : List Row → List ℕ → ℕ → Bool
+is_noted_write rows key number = is_noted rows number && is_write_on rows key number
+
+-- how many numbers below n pass the test
+abbrev pub count_below : (ℕ → Bool) → ℕ → ℕ
+count_below test zero = 0
+count_below test (suc n) = count_below test n + (if test n then 1 else 0)
+
+-- how many writes on the key are noted
+abbrev pub write_count : List Row → List ℕ → ℕ
+write_count rows key = count_below (is_noted_write rows key) (call_count rows)
+
 -- what the rows are
 pub record RowsSound (rows : List Row) : Type 0 where
   -- a call is begun once, with a number below the count of calls
@@ -138,6 +179,11 @@ pub record RowsSound (rows : List Row) : Type 0 where
       → (0 < t.number) × (t.writer ≡ c)
   -- no tag has a number above the count of noted calls
   pub bounded : (p : ℕ) (o : OpId) (t : Tag) → At rows p (Note o t) → t.number ≤ noted_below rows (call_count rows)
+  -- a call's tag is the least one or that of a noted write on its key
+  pub written : (p n : ℕ) (o : OpId) (c : ℕ) (k : List ℕ) (a : Action) (t : Tag) → At rows p (Invoke o c k a) → At rows n (Note o t) → IsFromWrite rows k t
+  -- that of a write has no number above the count of noted writes on its key
+  pub counted : (p n : ℕ) (o : OpId) (c : ℕ) (k value : List ℕ) (t : Tag) → At rows p (Invoke o c k (Write value)) → At rows n (Note o t)
+      → t.number ≤ write_count rows k
   -- each response answers from a good pair
   pub answered : (s : ℕ) (o : OpId) (returned : Returned) → At rows s (Respond o returned) → Answered rows o returned
 

@@ -11,6 +11,7 @@ ghost use Rattle.world_steps.specs.Refusals.{refusal_of};
 ghost use Rattle.world_steps.specs.Runs.{AreAccepted, after, join_count, next, stop_count};
 ghost use Rattle.world_steps.specs.Sound.{IsAtMost};
 ghost use Rattle.world_steps.specs.SoundSystems.{IsSound, held_in};
+ghost use Rattle.world_steps.specs.Sources.{HeldComeFromWrites, NotesComeFromWrites, PutsComeFromWrites, RepliesComeFromWrites};
 ghost use Rattle.world_steps.specs.Systems.{moved, opening};
 ghost use Rattle.world_steps.specs.declared.step.Step.{Step};
 ghost use Rattle.world_steps.specs.declared.system.System.{System};
@@ -24,6 +25,15 @@ pub fn every_run_is_sound()
 /// that its calls sorted by tag are an order of it.
 pub fn every_run_has_sound_tags()
     ensures { (config : Config) (steps : List Step) (key : List ℕ) (part : List Call) → IsLawful config.quorums → config.calls ≤ 1000000 → IsPart (after config steps).history.rows key part → TagSound part }
+{}
+
+/// Whatever the run, the tag of a note, of a replica's pair and of a message in flight is the least one
+/// or that of a noted write on its key, and its number is at most how many writes on the key are noted.
+pub fn tags_come_from_writes()
+    ensures notes { (config : Config) (steps : List Step) → IsLawful config.quorums → config.calls ≤ 1000000 → NotesComeFromWrites (after config steps) }
+    ensures held { (config : Config) (steps : List Step) → IsLawful config.quorums → config.calls ≤ 1000000 → HeldComeFromWrites (after config steps) }
+    ensures puts { (config : Config) (steps : List Step) → IsLawful config.quorums → config.calls ≤ 1000000 → PutsComeFromWrites (after config steps) }
+    ensures replies { (config : Config) (steps : List Step) → IsLawful config.quorums → config.calls ≤ 1000000 → RepliesComeFromWrites (after config steps) }
 {}
 
 /// What a list with one more step leaves is the next system after the list. Where each step of the list
