@@ -13,7 +13,7 @@ use world_steps::{Config, Effect, Refusal, Step, World, laws};
 ///
 /// Of every hall that exists the world is the one after the journal's steps, and each of them was
 /// accepted at its place.
-#[derive(Drop)]
+#[derive(Debug, Drop)]
 pub struct Hall {
     config: Config,
     /// In a place of its own, so that a hall that goes from hand to hand is a few words.

@@ -11,7 +11,7 @@ use tag::{Key, Memory};
 /// Keys, each once, in the order in which they were first seen. A key's number is its place.
 ///
 /// The keys' texts are shared with those that were given.
-#[derive(Drop)]
+#[derive(Debug, Drop)]
 pub struct KeyNumbers {
     places: BTreeMap<(u64, Key), usize>,
     keys: Vec<Key>,

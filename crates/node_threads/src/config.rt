@@ -3,7 +3,7 @@ use recorder::Halls;
 use world_steps::Config;
 
 /// What is fixed of a store before it starts.
-#[derive(Clone, Copy, Debug)]
+#[derive(Clone, Copy, Debug, PartialEq, Eq)]
 pub struct StoreConfig {
     /// Its number. A program that runs two stores gives them two numbers.
     pub store: u64,

@@ -1,6 +1,12 @@
 //! Histories by hall.
 ghost use Rattle.std.specs.Prelude.{◌≡◌, ◌<◌, ◌≤◌, ◌↔◌, length, IsSome, IfSome, IsTrue, Option, is_some};
+ghost use Rattle.std.specs.Cmp.{and_per, on_per};
+ghost use Rattle.std.specs.Cmp.Lexicographic.{lists_per, pointwise};
+ghost use Rattle.std.specs.Cmp.Rules.{comparing};
+ghost use Rattle.std.specs.Ordering.{eq_of_both, on};
+ghost use Rattle.std.proofs.Common.{rules};
 ghost use Rattle.quorum.specs.Quorums.{Quorums};
+ghost use Rattle.recorder.specs.contracts.history.equal.HistoryPartialEq.TheImpl.Laws as history;
 ghost use Rattle.recorder.specs.Halls.{AreHalls, AreOfTheirHalls, IsCount, IsHallOf, FallsTo, hall_calls};
 
 use crate::halls::Halls;
@@ -14,7 +20,7 @@ use std::marker::Model;
 ///
 /// There are 1 to 64, with at most 1,000,000 calls together. Each call's key is one of its hall's
 /// (`Halls::of`), so no key is in two halls. Without quorums there is one hall.
-#[derive(Drop)]
+#[derive(Debug, Drop)]
 pub struct Histories {
     halls: Vec<History>,
     quorums: Option<Quorums>,
@@ -30,6 +36,16 @@ impl Model for Histories {
     ghost view = { λ h. record { halls = h.halls.items; quorums = h.quorums } };
 
     ghost invariant = { λ h. AreHalls (record { halls = h.halls.items; quorums = h.quorums }) };
+}
+
+impl PartialEq for Histories {
+    ghost eq = { eq_of_both (on (λ h. h.quorums) ⟦<Option<Quorums> as PartialEq>⟧.eq) (on (λ h. h.halls) (pointwise ⟦<History as PartialEq>⟧.eq)) };
+
+    ghost laws = { and_per (on_per (λ h. h.quorums) (Prim.search (comparing, rules))) (on_per (λ h. h.halls) (lists_per history.laws-law)) };
+
+    fn eq(&self, other: &Histories) -> bool {
+        self.quorums == other.quorums && self.halls == other.halls
+    }
 }
 
 impl Histories {

@@ -5,6 +5,7 @@ ghost use Rattle.recorder.specs.Histories.{IsBusy, IsWellFormed, call_count, cal
 ghost use Rattle.recorder.specs.Answers.{Adds, IsRefused, MayBegin, with_row};
 ghost use Rattle.recorder.specs.States.{is_write};
 
+mod equal;
 mod parts;
 
 use crate::row::{Row, RowRefusal};
@@ -30,7 +31,7 @@ struct CallState {
 /// call gets one note and one response at most, both while it is pending, and an answer of its
 /// kind. A row that breaks a rule is refused and leaves the history as it was; adding one takes
 /// the same time however many there are.
-#[derive(Drop)]
+#[derive(Debug, Drop)]
 pub struct History {
     rows: Vec<Row>,
     states: Vec<CallState>,

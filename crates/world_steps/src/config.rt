@@ -9,7 +9,7 @@ use std::marker::Model;
 
 /// The replicas with their quorums, how clients read, and how many calls may be invoked and messages
 /// sent: 1 to 15 replicas, 1 to 1,000,000 calls, 1 to 16,000,000 messages.
-#[derive(Clone, Copy, Debug)]
+#[derive(Clone, Copy, Debug, PartialEq, Eq)]
 pub struct Config {
     quorums: Quorums,
     reads: ReadMode,

@@ -25,7 +25,7 @@ use tag::{ClientId, Memory, ReplicaId};
 ///
 /// Every world that exists is sound: tags come from notes, replicas' tags never fall, what is said to
 /// be kept is stored, a put quorum holds each completed call, and what is told carries what precedes.
-#[derive(Drop)]
+#[derive(Debug, Drop)]
 pub struct World {
     system: System,
 }
