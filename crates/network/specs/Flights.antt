@@ -1,5 +1,5 @@
 -- The flights under way: a finite map from numbers to a message and the count of its copies.
-use Rattle.std.specs.Prelude.{ℕ, ◌-◌, ◌+◌, ◌==◌, Option, None, Some, option_map, if◌then◌else◌}
+use Rattle.std.specs.Prelude.{ℕ, ◌≡◌, ◌-◌, ◌+◌, ◌==◌, Option, None, Some, option_map, if◌then◌else◌}
 use Rattle.std.specs.Option.{option_map_or}
 use Rattle.std.specs.Ordering.{nat_cmp}
 use Rattle.std.specs.FinMap as finite
@@ -18,6 +18,14 @@ copies_of flights number = option_map_or (λ flight. flight.copies) (finite.get 
 -- the message of a flight that has a copy
 abbrev pub message_of : Flights → ℕ → Option Message
 message_of flights number = option_map (λ flight. flight.message) (finite.get flights number)
+
+-- that is the flight's message
+abbrev pub IsMessageOf : Flights → ℕ → Message → Type 0
+IsMessageOf flights number message = message_of flights number ≡ Some message
+
+-- the number names no flight that has a copy
+abbrev pub IsGone : Flights → ℕ → Type 0
+IsGone flights number = finite.get flights number ≡ None
 
 -- the flights where one is that message with so many copies
 abbrev pub with_copies : Flights → ℕ → Message → ℕ → Flights

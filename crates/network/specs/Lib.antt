@@ -1,2 +1,3 @@
 pub mod Flights
+pub mod Refusals
 pub mod Pools

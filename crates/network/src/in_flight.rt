@@ -68,7 +68,8 @@ impl InFlight {
     /// Gives a flight that is there so many copies. No memory is taken.
     pub(crate) fn set_copies(&mut self, number: u32, copies: u32)
         requires { IsSome (finite.get self.old number) }
-        ensures { (flight : Flight) → finite.get self.old number ≡ Some flight → self.new ≡ with_copies self.old number flight.message copies }
+        ensures { (flight : Flight) → finite.get self.old number ≡ Some flight
+            → self.new ≡ with_copies self.old number flight.message copies }
     {
         if let Some(flight) = self.by_number.get_mut(&number) {
             flight.copies = copies;

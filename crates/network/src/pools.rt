@@ -1,8 +1,9 @@
 //! The pool: the network of all clients and replicas.
-ghost use Rattle.std.specs.Prelude.{◌≡◌, ◌<◌, ◌≤◌, ◌-◌, ◌↔◌, ◌⊎◌, None, Err, IfOk, IfErr, IsOk, OnOk, OnErr, IsSome, IfSome, Some, OnSome, IfNone, IsTrue};
+ghost use Rattle.std.specs.Prelude.{◌≡◌, ◌<◌, ◌≤◌, ◌-◌, ◌↔◌, Err, IfOk, IfErr, IsOk, OnOk, OnErr, IsSome, IfSome, OnSome, IfNone, IsTrue};
 ghost use Rattle.std.specs.Option.{option_copied};
 ghost use Rattle.std.specs.FinMap as finite;
-ghost use Rattle.network.specs.Flights.{copies_of, message_of};
+ghost use Rattle.network.specs.Flights.{copies_of, message_of, IsGone, IsMessageOf};
+ghost use Rattle.network.specs.Refusals.{IsEither};
 ghost use Rattle.network.specs.Pools.{IsBag, silent, with_one_less, with_one_more, with_sent, without_last};
 
 use crate::in_flight::InFlight;
@@ -31,7 +32,11 @@ impl Model for Pool {
 
     ghost Value = { Pool };
 
-    ghost coded = { code_by (ℕ × (ℕ × Flights)) (coded× coded_ℕ (coded× coded_ℕ (finite.code coded_ℕ flight.the_row.coded))) (λ p. (p.sent, (p.limit, p.flights))) (λ c. record { sent = c.0; limit = c.1.0; flights = c.1.1 }) (λ _. refl) };
+    ghost coded = { code_by (ℕ × (ℕ × Flights))
+        (coded× coded_ℕ (coded× coded_ℕ (finite.code coded_ℕ flight.the_row.coded)))
+        (λ p. (p.sent, (p.limit, p.flights)))
+        (λ c. record { sent = c.0; limit = c.1.0; flights = c.1.1 })
+        (λ _. refl) };
 
     ghost view = { λ p. record { sent = p.sent; limit = p.limit; flights = p.flights } };
 
@@ -111,7 +116,7 @@ impl Pool {
         ensures after { OnOk result (self.new ≡ with_sent self.old message) }
         ensures full { (result ≡ Err NetRefusal.FlightsFull) ↔ (self.old.limit ≤ self.old.sent) }
         ensures room { OnOk result (self.old.sent < self.old.limit) }
-        ensures only { IfErr result (λ refusal. (refusal ≡ NetRefusal.FlightsFull) ⊎ (refusal ≡ NetRefusal.Memory)) }
+        ensures only { IfErr result (IsEither NetRefusal.FlightsFull NetRefusal.Memory) }
         ensures err { OnErr result (self.new ≡ self.old) }
     {
         if self.sent >= self.limit {
@@ -129,11 +134,11 @@ impl Pool {
     /// `NotInFlight` comes exactly where the flight has no copy, `Memory` only where a copy of the
     /// message was refused; the last copy takes none.
     pub fn deliver(&mut self, number: u32) -> Result<Message, NetRefusal>
-        ensures message { IfOk result (λ message. message_of self.old.flights number ≡ Some message) }
+        ensures message { IfOk result (IsMessageOf self.old.flights number) }
         ensures after { OnOk result (self.new ≡ with_one_less self.old number) }
-        ensures gone { (result ≡ Err NetRefusal.NotInFlight) ↔ (finite.get self.old.flights number ≡ None) }
+        ensures gone { (result ≡ Err NetRefusal.NotInFlight) ↔ IsGone self.old.flights number }
         ensures last { copies_of self.old.flights number ≡ 1 → IsOk result }
-        ensures only { IfErr result (λ refusal. (refusal ≡ NetRefusal.NotInFlight) ⊎ (refusal ≡ NetRefusal.Memory)) }
+        ensures only { IfErr result (IsEither NetRefusal.NotInFlight NetRefusal.Memory) }
         ensures err { OnErr result (self.new ≡ self.old) }
     {
         let Some(flight) = self.flights.get(number) else {
@@ -153,7 +158,7 @@ impl Pool {
     /// `NotInFlight` comes exactly where the flight has no copy. No memory is taken.
     pub fn lose(&mut self, number: u32) -> Result<(), NetRefusal>
         ensures after { OnOk result (self.new ≡ with_one_less self.old number) }
-        ensures gone { (result ≡ Err NetRefusal.NotInFlight) ↔ (finite.get self.old.flights number ≡ None) }
+        ensures gone { (result ≡ Err NetRefusal.NotInFlight) ↔ IsGone self.old.flights number }
         ensures only { IfErr result (λ refusal. refusal ≡ NetRefusal.NotInFlight) }
         ensures err { OnErr result (self.new ≡ self.old) }
     {
@@ -171,9 +176,10 @@ impl Pool {
     /// 1,000. No memory is taken.
     pub fn repeat(&mut self, number: u32) -> Result<(), NetRefusal>
         ensures after { OnOk result (self.new ≡ with_one_more self.old number) }
-        ensures gone { (result ≡ Err NetRefusal.NotInFlight) ↔ (finite.get self.old.flights number ≡ None) }
-        ensures full { (result ≡ Err NetRefusal.CopiesFull) ↔ (copies_of self.old.flights number ≡ 1000) }
-        ensures only { IfErr result (λ refusal. (refusal ≡ NetRefusal.NotInFlight) ⊎ (refusal ≡ NetRefusal.CopiesFull)) }
+        ensures gone { (result ≡ Err NetRefusal.NotInFlight) ↔ IsGone self.old.flights number }
+        ensures full { (result ≡ Err NetRefusal.CopiesFull)
+            ↔ (copies_of self.old.flights number ≡ 1000) }
+        ensures only { IfErr result (IsEither NetRefusal.NotInFlight NetRefusal.CopiesFull) }
         ensures err { OnErr result (self.new ≡ self.old) }
     {
         match self.copies(number) {
@@ -191,7 +197,7 @@ impl Pool {
     pub fn unsend(&mut self) -> Option<Message>
         // Before the first send `sent - 1` is 0, a number that has no copy.
         ensures some { IsSome result ↔ (copies_of self.old.flights (self.old.sent - 1) ≡ 1) }
-        ensures message { IfSome result (λ message. message_of self.old.flights (self.old.sent - 1) ≡ Some message) }
+        ensures message { IfSome result (IsMessageOf self.old.flights (self.old.sent - 1)) }
         ensures after { OnSome result (self.new ≡ without_last self.old) }
         ensures none { IfNone result (self.new ≡ self.old) }
     {
