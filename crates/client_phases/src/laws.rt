@@ -7,5 +7,6 @@ ghost use Rattle.replica.specs.declared.replies.Reply.{Reply};
 
 /// A reply counts once: what comes again is stale.
 pub fn a_reply_counts_once()
-    ensures { (client : Client) (reply : Reply) → taken (client_after client reply) reply ≡ Taken.Stale }
+    ensures { (client : Client) (reply : Reply)
+        → taken (client_after client reply) reply ≡ Taken.Stale }
 {}

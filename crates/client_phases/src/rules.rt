@@ -41,7 +41,8 @@ impl Rules {
     }
 
     fn is_agreed(&self, call: &Call, tally: &Tally) -> bool
-        ensures { (found : Option (List ℕ)) → result ≡ is_agreed self.now (asking_from call.now tally.now found) }
+        ensures { (found : Option (List ℕ))
+            → result ≡ is_agreed self.now (asking_from call.now tally.now found) }
     {
         match (self.reads, &call.action) {
             (ReadMode::Short, Action::Read) => {
@@ -54,7 +55,8 @@ impl Rules {
     /// What an asking comes to.
     pub(crate) fn outcome(&self, call: &Call, tally: &Tally) -> Taken
         requires { LeavesRoom call.now.action tally.now.best }
-        ensures { (found : Option (List ℕ)) → result ≡ (asked self.now (asking_from call.now tally.now found)).1 }
+        ensures { (found : Option (List ℕ))
+            → result ≡ (asked self.now (asking_from call.now tally.now found)).1 }
     {
         if !self.quorums.is_ask(&tally.counted) {
             return Taken::Counted;

@@ -21,7 +21,9 @@ pub struct Cut<'a> {
 
 /// The place of the first end of a line.
 pub fn first_end(bytes: &[u8]) -> Option<usize>
-    ensures { MatchOption result (HasNoEnd bytes.now) (λ i. (i < length bytes.now) × HasNoEnd (take i bytes.now) × (slice_index bytes.now i ≡ 10)) }
+    ensures { MatchOption result (HasNoEnd bytes.now)
+        (λ i. (i < length bytes.now) × HasNoEnd (take i bytes.now)
+        × (slice_index bytes.now i ≡ 10)) }
 {
     memchr(END, bytes)
 }
@@ -37,14 +39,16 @@ fn end_from(bytes: &[u8], from: usize) -> Option<usize>
 
 /// The place of the last end of a line.
 fn last_end(bytes: &[u8]) -> Option<usize>
-    ensures { MatchOption result (HasNoEnd bytes.now) (λ i. (i < length bytes.now) × (slice_index bytes.now i ≡ 10)) }
+    ensures { MatchOption result (HasNoEnd bytes.now)
+        (λ i. (i < length bytes.now) × (slice_index bytes.now i ≡ 10)) }
 {
     memrchr(END, bytes)
 }
 
 /// The place of the first end of a line behind a part's bytes, or else of the last end.
 fn part_end(bytes: &[u8]) -> Option<usize>
-    ensures { MatchOption result (HasNoEnd bytes.now) (λ i. (i < length bytes.now) × (slice_index bytes.now i ≡ 10)) }
+    ensures { MatchOption result (HasNoEnd bytes.now)
+        (λ i. (i < length bytes.now) × (slice_index bytes.now i ≡ 10)) }
 {
     if bytes.len() > PART {
         if let Some(end) = end_from(bytes, PART) {
@@ -56,7 +60,8 @@ fn part_end(bytes: &[u8]) -> Option<usize>
 
 /// Cuts the bytes into parts of whole lines.
 pub fn cut_parts(alloc: Global, bytes: &[u8]) -> Result<Cut<'_>, Memory>
-    ensures { IfOk result (λ found. Divides bytes.now (map (λ part. part.now) found.parts.items) found.rest.now) }
+    ensures { IfOk result (λ found. Divides bytes.now
+        (map (λ part. part.now) found.parts.items) found.rest.now) }
 {
     let mut parts = Vec::new(alloc);
     let mut rest = bytes;

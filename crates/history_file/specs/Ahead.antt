@@ -4,13 +4,14 @@ use Rattle.std.specs.List.{AllZip}
 use Rattle.file_format.specs.Faults.{FileFault}
 use Rattle.history_file.specs.declared.judged.Judged.{Judged}
 use Rattle.history_file.specs.declared.ahead.Ahead.{Ahead}
+use Rattle.history_file.specs.declared.feed.Feed.{Feed}
 use Rattle.history_file.specs.declared.progress.Progress.{Progress}
 use Rattle.file_format.specs.declared.judging.Judgement.{Judgement}
 use Rattle.counted_devices.specs.Cuts.{Splits}
 use Rattle.file_format.specs.Lines.{ShowsItem}
 use Rattle.file_format.specs.Formats.{Format}
 use Rattle.history_file.specs.Takings.{IsAt, IsFirstOfKind}
-use Rattle.history_file.specs.Feeds.{FaultSoFar}
+use Rattle.history_file.specs.Feeds.{FaultSoFar, Stands}
 
 -- behind that header the bytes' lines show that, and that rest is left
 pub record IsJudged {Header Item : Type 0} (format : Format Header Item) (header : Header) (bytes : List ℕ) (judged : Judged Item) : Type 0 where
@@ -50,3 +51,7 @@ FaultStays format bytes fault = (more : List ℕ) → FaultSoFar format (bytes +
 -- what becomes of it, when the lines that waited are taken
 abbrev pub CatchesUp : {Header Item Contents : Type 0} → Format Header Item → (Header → List Item → Contents → Type 0) → List ℕ → Result (Ahead Contents Item) FileFault → Type 0
 CatchesUp format Makes bytes result = MatchResult result (λ new. IsAhead format Makes bytes new) (λ fault. FaultStays format bytes fault)
+
+-- what the feed stands for once the lines that waited are taken
+abbrev pub Settles : {Header Item Contents : Type 0} → Format Header Item → (Header → List Item → Contents → Type 0) → List ℕ → Result (Feed Contents) FileFault → Type 0
+Settles format Makes bytes result = MatchResult result (λ feed. Stands format Makes bytes feed) (λ fault. FaultStays format bytes fault)

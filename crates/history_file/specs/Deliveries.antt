@@ -1,8 +1,8 @@
 -- What was made of what a reader delivered.
-use Rattle.std.specs.Prelude.{ℕ, ◌≡◌, ◌≤◌, ◌+◌, ◌⊎◌, List, length, Option}
+use Rattle.std.specs.Prelude.{ℕ, ◌≡◌, ◌≤◌, ◌+◌, ◌⊎◌, List, length, Option, Result, MatchResult}
 use Rattle.std.specs.Io.KnownBytes.{IsAtEnd}
 use Rattle.counted_devices.specs.Deliveries.{Delivers}
-use Rattle.counted_devices.specs.ReadFaults.{IsFaultBy}
+use Rattle.counted_devices.specs.ReadFaults.{IsFaultBy, HasFailed}
 use Rattle.file_format.specs.Faults.{FileFault, FaultKind}
 use Rattle.history_file.specs.declared.feed.Feed.{Feed}
 use Rattle.history_file.specs.declared.ahead.Ahead.{Ahead}
@@ -42,5 +42,28 @@ abbrev pub StopsWith : {Header Item : Type 0} → Format Header Item → Option 
 StopsWith format left number kind bytes =
     IsFaultBy (λ fault. FirstFaultSoFar format bytes number fault ⊎ (IsAtEnd left × FirstFaultInAll format bytes number fault)) (IsUnderWay format bytes number) kind
 
+-- the same of a fault with its line and its kind
 abbrev pub StopsAt : {Header Item : Type 0} → Format Header Item → Option (List ℕ) → FileFault → List ℕ → Type 0
 StopsAt format left fault bytes = StopsWith format left fault.line fault.kind bytes
+
+-- between two states of a reader all its bytes to its end were read as that
+abbrev pub ReadsFrom : {Header Item Contents R : Type 0} → Format Header Item → (Header → List Item → Contents → Type 0) → (R → Option (List ℕ)) → R → R → Contents → Type 0
+ReadsFrom format Makes remaining old new contents = Delivers (remaining old) (remaining new) (ReadsAll format Makes (remaining new) contents)
+
+-- between two states of a reader that fault is the first one
+abbrev pub StopsFrom : {Header Item R : Type 0} → Format Header Item → (R → Option (List ℕ)) → R → R → FileFault → Type 0
+StopsFrom format remaining old new fault = Delivers (remaining old) (remaining new) (StopsAt format (remaining new) fault)
+
+-- a device's fault comes only where the reader's count of failures grew
+abbrev pub FailsFrom : {R : Type 0} → (R → ℕ) → R → R → FileFault → Type 0
+FailsFrom failures old new fault = HasFailed fault.kind (failures old) (failures new)
+
+-- the feed stands for all bytes that the reader gave, and the reader is at its end
+abbrev pub HoldsAll : {Header Item Contents R : Type 0} → Format Header Item → (Header → List Item → Contents → Type 0) → (R → Option (List ℕ)) → R → R → Feed Contents → Type 0
+HoldsAll format Makes remaining old new feed = Holds format Makes (remaining old) (remaining new) feed × IsAtEnd (remaining new)
+
+-- what becomes of lines that are judged ahead, of a reader that had those bytes at first: they stand for
+-- what it gave, or that fault is the first one, and a device's comes only where a failure was counted
+abbrev pub GoesOn : {Header Item Contents X R : Type 0} → Format Header Item → (Header → List Item → Contents → Type 0) → (R → Option (List ℕ)) → (R → ℕ) → Option (List ℕ) → R → R → Result (Ahead Contents Item × X) FileFault → Type 0
+GoesOn format Makes remaining failures start old new result =
+    MatchResult result (λ next. HoldsAhead format Makes start (remaining new) next.0) (λ fault. Delivers start (remaining new) (StopsAt format (remaining new) fault) × HasFailed fault.kind (failures old) (failures new))

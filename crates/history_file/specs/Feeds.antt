@@ -1,6 +1,8 @@
 -- What a feed stands for, and what it answers.
-use Rattle.std.specs.Prelude.{ℕ, ◌≡◌, ◌≤◌, List, [], ◌∷◌, ◌++◌, length, Result, Ok, Err, None, nat_lt, if◌then◌else◌, MatchResult}
+use Rattle.std.specs.Prelude.{ℕ, ◌≡◌, ◌≤◌, ◌<◌, ◌+◌, List, [], ◌∷◌, ◌++◌, length, Result, Ok, Err, None, nat_lt, if◌then◌else◌, MatchResult}
 use Rattle.file_format.specs.declared.fault.LineFault.{LineFault}
+use Rattle.file_format.specs.declared.fault.LineFault.TheVariants.{TooLong}
+use Rattle.counted_devices.specs.declared.read_fault.FaultKind.TheVariants as kinds
 use Rattle.file_format.specs.Faults.{FileFault, FaultKind}
 use Rattle.history_file.specs.declared.progress.Progress.{Progress}
 use Rattle.history_file.specs.declared.feed.Feed.{Feed}
@@ -62,5 +64,14 @@ pub record FaultPassed {Header Item Contents : Type 0} (format : Format Header I
   pub splits : Splits bytes lines rest
   pub first : (before : List (List ℕ)) → AreTaken format Makes before old → IsFirstFault format (whole_lines (before ++ lines) rest) number fault
 
+-- the same of a fault of any kind; lines have none of a device
 abbrev pub PassStops : {Header Item Contents : Type 0} → Format Header Item → (Header → List Item → Contents → Type 0) → Progress Contents → List ℕ → ℕ → FaultKind → Type 0
 PassStops format Makes old bytes number kind = IsFaultBy (FaultPassed format Makes old bytes number) ((before : List (List ℕ)) → AreTaken format Makes before old → ⊥) kind
+
+-- what becomes of the bytes' lines: they were taken and that rest is left, or they have that fault
+abbrev pub Passes : {Header Item Contents X : Type 0} → Format Header Item → (Header → List Item → Contents → Type 0) → Progress Contents → List ℕ → Result X FileFault → (X → List ℕ) → Progress Contents → Type 0
+Passes format Makes old bytes result rest_of new = MatchResult result (λ x. Passed format Makes old bytes (rest_of x) new) (λ fault. PassStops format Makes old bytes fault.line fault.kind)
+
+-- the line under way isn't too long, or that is its fault
+abbrev pub IsShort : ℕ → List ℕ → Result (Unit {0}) FileFault → Type 0
+IsShort lines rest result = MatchResult result (λ _. length rest ≤ 65536) (λ fault. (65536 < length rest) × (fault.line ≡ lines + 1) × (fault.kind ≡ kinds.Line TooLong))

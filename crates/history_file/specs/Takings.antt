@@ -1,5 +1,6 @@
 -- How far the whole lines of a file were taken, and the first fault among them.
 use Rattle.std.specs.Prelude.{ℕ, ◌≡◌, ◌<◌, List, [], ◌∷◌, ◌++◌, length, Result, Ok, Err}
+use Rattle.std.specs.List.{AllZip}
 use Rattle.counted_devices.specs.Cuts.{AreLinesIn}
 use Rattle.counted_devices.specs.ReadFaults.{IsFaultBy}
 use Rattle.file_format.specs.Faults.{FileFault, FaultKind}
@@ -33,6 +34,11 @@ Takes format Makes before header lines (Err fault) new = IsFirstOfKind format (b
 abbrev pub TakesJudged : {Header Item Contents : Type 0} → Format Header Item → (Header → List Item → Contents → Type 0) → Progress Contents → Judgement Item → Result (Unit {0}) FileFault → Progress Contents → Type 0
 TakesJudged {Header = Header} format Makes old judgement result new =
     (before : List (List ℕ)) (header : Header) (line : List ℕ) → IsAt format Makes before header old → 0 < length before → ShowsItem (format.meaning header) line judgement → Takes format Makes before header (line ∷ []) result new
+
+-- the same of lines behind the header, by what they show
+abbrev pub TakesShown : {Header Item Contents : Type 0} → Format Header Item → (Header → List Item → Contents → Type 0) → Progress Contents → List (Judgement Item) → Result (Unit {0}) FileFault → Progress Contents → Type 0
+TakesShown {Header = Header} format Makes old judgements result new =
+    (header : Header) (lines : List (List ℕ)) → AllZip (ShowsItem (format.meaning header)) lines judgements → (before : List (List ℕ)) → IsAt format Makes before header old → 0 < length before → Takes format Makes before header lines result new
 
 -- the same of the lines of parts behind the header
 abbrev pub TakesParts : {Header Item Contents : Type 0} → Format Header Item → (Header → List Item → Contents → Type 0) → Progress Contents → List (List ℕ) → Result (Unit {0}) FileFault → Progress Contents → Type 0

@@ -29,8 +29,7 @@ pub struct Ahead<C, T> {
 }
 
 impl<C: Contents> Ahead<C, C::Item> {
-    ghost use Rattle.history_file.specs.Feeds.{Stands};
-    ghost use Rattle.history_file.specs.Ahead.{IsJudged, Records, IsAhead, StandsAhead, GoesAhead, CatchesUp, FaultStays};
+    ghost use Rattle.history_file.specs.Ahead.{IsJudged, Records, IsAhead, StandsAhead, GoesAhead, CatchesUp, Settles};
 
     /// No byte yet.
     pub(crate) fn new(alloc: Global) -> Ahead<C, C::Item>
@@ -52,8 +51,10 @@ impl<C: Contents> Ahead<C, C::Item> {
 
     /// Takes the lines that were judged.
     fn catch_up(self) -> Result<Ahead<C, C::Item>, FileFault>
-        ensures goes { (bytes : List ℕ) → IsAhead C.format C.Makes bytes self → CatchesUp C.format C.Makes bytes result }
-        ensures same { IfOk result (λ new. (new.fed ≡ self.fed) × (new.judged.rest ≡ self.judged.rest)) }
+        ensures goes { (bytes : List ℕ) → IsAhead C.format C.Makes bytes self
+            → CatchesUp C.format C.Makes bytes result }
+        ensures same { IfOk result (λ new. (new.fed ≡ self.fed)
+            × (new.judged.rest ≡ self.judged.rest)) }
         ensures none { IfOk result (λ new. new.judged.judgements ≡ []) }
     {
         if self.progress.lines == 0 {
@@ -76,7 +77,8 @@ impl<C: Contents> Ahead<C, C::Item> {
 
     /// The feed that stands for all bytes so far.
     pub(crate) fn settle(self) -> Result<Feed<C>, FileFault>
-        ensures settles { (bytes : List ℕ) → StandsAhead C.format C.Makes bytes self → MatchResult result (λ feed. Stands C.format C.Makes bytes feed) (λ fault. FaultStays C.format bytes fault) }
+        ensures settles { (bytes : List ℕ) → StandsAhead C.format C.Makes bytes self
+            → Settles C.format C.Makes bytes result }
         ensures fed { IfOk result (λ feed. (feed.fed ≡ self.fed) × (feed.fault ≡ None)) }
     {
         let Ahead {
@@ -99,7 +101,8 @@ impl<C: Contents> Ahead<C, C::Item> {
         piece: &[u8],
     ) -> Result<Ahead<C, C::Item>, FileFault>
         requires { self.fed + length piece.now ≤ 2 ^ 62 }
-        ensures goes { (bytes : List ℕ) → StandsAhead C.format C.Makes bytes self → GoesAhead C.format C.Makes (bytes ++ piece.now) result }
+        ensures goes { (bytes : List ℕ) → StandsAhead C.format C.Makes bytes self
+            → GoesAhead C.format C.Makes (bytes ++ piece.now) result }
         ensures count { IfOk result (λ new. new.fed ≡ self.fed + length piece.now) }
     {
         let mut feed = self.settle()?;
@@ -120,7 +123,8 @@ impl<C: Contents> Ahead<C, C::Item> {
 
     /// Refuses a line under way that is too long, after the lines before it.
     fn check_length(self) -> Result<Ahead<C, C::Item>, FileFault>
-        ensures goes { (bytes : List ℕ) → IsAhead C.format C.Makes bytes self → GoesAhead C.format C.Makes bytes result }
+        ensures goes { (bytes : List ℕ) → IsAhead C.format C.Makes bytes self
+            → GoesAhead C.format C.Makes bytes result }
         ensures count { IfOk result (λ new. new.fed ≡ self.fed) }
     {
         if self.judged.rest.len() <= LONGEST {
@@ -133,15 +137,16 @@ impl<C: Contents> Ahead<C, C::Item> {
         })
     }
 
-    /// Judges the next piece while the lines before it are taken. A piece that isn't worth a thread,
-    /// or before which no line came, is taken at once.
+    /// Judges the next piece while the lines before it are taken. A piece that isn't worth a
+    /// thread, or before which no line came, is taken at once.
     pub(crate) fn advance<R: Threads + Sync>(
         self,
         rt: &R,
         piece: &[u8],
     ) -> Result<Ahead<C, C::Item>, FileFault>
         requires { self.fed + length piece.now ≤ 2 ^ 62 }
-        ensures goes { (bytes : List ℕ) → StandsAhead C.format C.Makes bytes self → GoesAhead C.format C.Makes (bytes ++ piece.now) result }
+        ensures goes { (bytes : List ℕ) → StandsAhead C.format C.Makes bytes self
+            → GoesAhead C.format C.Makes (bytes ++ piece.now) result }
         ensures count { IfOk result (λ new. new.fed ≡ self.fed + length piece.now) }
     {
         if self.progress.lines == 0 || piece.len() < LEAST {
@@ -160,12 +165,15 @@ impl<C: Contents> Ahead<C, C::Item> {
             || -> Result<Progress<C>, FileFault>
                 requires { progress.lines + length judgements < 2 ^ 63 }
                 ensures taken { Records C.format C.Makes progress judgements result }
-                ensures lines { IfOk result (λ new. new.lines ≡ progress.lines + length judgements) }
+                ensures lines { IfOk result (λ new. new.lines
+                    ≡ progress.lines + length judgements) }
             { progress.recorded(judgements) },
             || -> Result<Judged<C::Item>, Memory>
                 requires { IsSync R.row }
-                ensures judged { IfOk result (λ judged. HasNoEnd rest.items → IsJudged C.format header (rest.items ++ piece.entry.now) judged) }
-                ensures room { IfOk result (λ judged. length judged.judgements + length judged.rest.items ≤ length rest.items + length piece.entry.now) }
+                ensures judged { IfOk result (λ judged. HasNoEnd rest.items
+                    → IsJudged C.format header (rest.items ++ piece.entry.now) judged) }
+                ensures room { IfOk result (λ judged. length judged.judgements
+                    + length judged.rest.items ≤ length rest.items + length piece.entry.now) }
             { judge_piece::<C, R>(rt, alloc, header, rest.as_slice(), piece) },
         );
         let progress = taken?;

@@ -28,9 +28,11 @@ pub struct Batch {
 pub(crate) fn read_batch<R: CountedRead>(reader: &mut R, room: &mut [u8]) -> Batch
     requires { 0 < length room.old }
     ensures bound { result.count ≤ length room.new }
-    ensures bytes { Consumes (R.remaining reader.old) (R.remaining reader.new) (take result.count room.new) }
+    ensures bytes { Consumes (R.remaining reader.old) (R.remaining reader.new)
+        (take result.count room.new) }
     ensures given { R.given reader.new ≡ R.given reader.old + result.count }
-    ensures behind { IsBehind result.count result.behind (R.remaining reader.new) (R.failures reader.old) (R.failures reader.new) }
+    ensures behind { IsBehind result.count result.behind (R.remaining reader.new)
+        (R.failures reader.old) (R.failures reader.new) }
 {
     let mut count = 0;
     'pieces: while count < room.len() {

@@ -47,11 +47,14 @@ impl<C: Contents> Feed<C> {
     /// Takes the next piece.
     pub(crate) fn feed(&mut self, rt: &(impl Threads + Sync), piece: &[u8]) -> Result<(), FileFault>
         requires { self.old.fed + length piece.now ≤ 2 ^ 62 }
-        ensures fed { (bytes : List ℕ) → Stands C.format C.Makes bytes self.old → Fed C.format C.Makes (bytes ++ piece.now) result self.new }
-        ensures count { MatchResult result (λ _. self.new.fed ≡ self.old.fed + length piece.now) (λ _. self.new.fed ≡ self.old.fed) }
+        ensures fed { (bytes : List ℕ) → Stands C.format C.Makes bytes self.old
+            → Fed C.format C.Makes (bytes ++ piece.now) result self.new }
+        ensures count { MatchResult result (λ _. self.new.fed ≡ self.old.fed + length piece.now)
+            (λ _. self.new.fed ≡ self.old.fed) }
         ensures sound { IfOk result (λ _. self.new.fault ≡ None) }
         ensures kept { IfErr result (λ fault. self.new.fault ≡ Some fault) }
-        ensures stays { (fault : _) → self.old.fault ≡ Some fault → (result ≡ Err fault) × (self.new ≡ self.old) }
+        ensures stays { (fault : _) → self.old.fault ≡ Some fault
+            → (result ≡ Err fault) × (self.new ≡ self.old) }
     {
         if let Some(fault) = self.fault {
             return Err(fault);
@@ -70,7 +73,8 @@ impl<C: Contents> Feed<C> {
 
     /// Ends the file.
     pub(crate) fn finish(self, rt: &(impl Threads + Sync)) -> Result<C, FileFault>
-        ensures ends { (bytes : List ℕ) → Stands C.format C.Makes bytes self → Ends C.format C.Makes bytes result }
+        ensures ends { (bytes : List ℕ) → Stands C.format C.Makes bytes self
+            → Ends C.format C.Makes bytes result }
         ensures kept { (fault : _) → self.fault ≡ Some fault → result ≡ Err fault }
     {
         let Feed {

@@ -36,9 +36,11 @@ pub trait Contents: Drop + Send {
 
     /// What the first line said.
     fn header(&self) -> Self::Header
-        ensures { (header : Self.Header) (items : List Self.Item) → Makes header items self.now → result ≡ header };
+        ensures { (header : Self.Header) (items : List Self.Item) → Makes header items self.now
+            → result ≡ header };
 
-    /// What the lines of the parts show behind that header, in order. Parts are judged side by side.
+    /// What the lines of the parts show behind that header, in order. Parts are judged side by
+    /// side.
     fn judge_all<R: Threads + Sync>(
         rt: &R,
         alloc: Global,
@@ -46,9 +48,11 @@ pub trait Contents: Drop + Send {
         parts: &[&[u8]],
     ) -> Result<Judgements<Self::Item>, Memory>
         requires { IsSync R.row }
-        ensures { IfOk result (λ judgements. ShowParts (format.meaning header) (map (λ part. part.now) parts.now) judgements) };
+        ensures { IfOk result (λ judgements. ShowParts (format.meaning header)
+            (map (λ part. part.now) parts.now) judgements) };
 
     /// Takes the next item, or says which fault it has behind the others.
     fn follow(&mut self, item: Self::Item) -> Result<(), Stop>
-        ensures { (header : Self.Header) (items : List Self.Item) → Makes header items self.old → format.Fits header items → Follows format Makes header items item result self.new };
+        ensures { (header : Self.Header) (items : List Self.Item) → Makes header items self.old
+            → format.Fits header items → Follows format Makes header items item result self.new };
 }

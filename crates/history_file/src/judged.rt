@@ -27,8 +27,10 @@ pub(crate) fn judge_piece<C: Contents, R: Threads + Sync>(
     rest: &[u8],
     piece: &[u8],
 ) -> Result<Judged<C::Item>, Memory>
-    ensures judged { IfOk result (λ judged. HasNoEnd rest.now → IsJudged C.format header (rest.now ++ piece.now) judged) }
-    ensures room { IfOk result (λ judged. length judged.judgements + length judged.rest.items ≤ length rest.now + length piece.now) }
+    ensures judged { IfOk result (λ judged. HasNoEnd rest.now
+        → IsJudged C.format header (rest.now ++ piece.now) judged) }
+    ensures room { IfOk result (λ judged. length judged.judgements + length judged.rest.items
+        ≤ length rest.now + length piece.now) }
 {
     let mut first = Vec::from_slice(alloc, rest)?;
     let Some(end) = first_end(piece) else {

@@ -1,4 +1,5 @@
-//! History and order files: what their bytes are read as, and the first fault of those that are none.
+//! History and order files: what their bytes are read as, and the first fault of those that are
+//! none.
 //!
 //! A file comes in pieces of any size, from a reader or from the caller. What was read is what the
 //! lines say one for one, to the reader's end; a file with a fault is refused with its first one.
@@ -8,6 +9,7 @@
 mod ahead;
 mod batches;
 mod feed;
+mod file_feed;
 mod format;
 mod histories_feed;
 mod histories_format;

@@ -1,7 +1,7 @@
 //! Pieces of a file, cut into lines that are taken.
 ghost use Rattle.std.specs.Prelude.{◌≡◌, ◌<◌, ◌≤◌, ◌+◌, ◌^◌, ◌++◌, length, IfOk, MatchResult};
 ghost use Rattle.counted_devices.specs.Cuts.{HasNoEnd};
-ghost use Rattle.history_file.specs.Feeds.{Passed, PassStops};
+ghost use Rattle.history_file.specs.Feeds.{IsShort, Passes};
 
 use crate::format::Contents;
 use crate::progress::Progress;
@@ -23,7 +23,7 @@ fn memory_at(line: u64) -> FileFault
 /// A line without its end so far must not be too long.
 fn check_length(lines: u64, rest: &[u8]) -> Result<(), FileFault>
     requires { lines < 2 ^ 63 }
-    ensures { MatchResult result (λ _. length rest.now ≤ 65536) (λ fault. (65536 < length rest.now) × (fault.line ≡ lines + 1) × (fault.kind ≡ FaultKind.Line LineFault.TooLong)) }
+    ensures { IsShort lines rest.now result }
 {
     if rest.len() > LONGEST {
         return Err(FileFault {
@@ -43,8 +43,10 @@ fn pass<C: Contents>(
 ) -> Result<Vec<u8>, FileFault>
     requires some { 0 < progress.old.lines }
     requires room { progress.old.lines + length bytes.now < 2 ^ 63 }
-    ensures passes { MatchResult result (λ rest. Passed C.format C.Makes progress.old bytes.now rest.items progress.new) (λ fault. PassStops C.format C.Makes progress.old bytes.now fault.line fault.kind) }
-    ensures lines { IfOk result (λ rest. progress.new.lines + length rest.items ≤ progress.old.lines + length bytes.now) }
+    ensures passes { Passes C.format C.Makes progress.old bytes.now result
+        (λ rest. rest.items) progress.new }
+    ensures lines { IfOk result (λ rest. progress.new.lines + length rest.items
+        ≤ progress.old.lines + length bytes.now) }
 {
     let Ok(found) = cut_parts(alloc, bytes) else {
         return Err(memory_at(progress.lines + 1));
@@ -60,7 +62,8 @@ fn pass<C: Contents>(
 /// Makes the rest longer.
 fn lengthen(lines: u64, rest: &mut Vec<u8>, bytes: &[u8]) -> Result<(), FileFault>
     requires { lines < 2 ^ 63 }
-    ensures { MatchResult result (λ _. rest.new.items ≡ rest.old.items ++ bytes.now) (λ fault. fault.kind ≡ FaultKind.Memory) }
+    ensures { MatchResult result (λ _. rest.new.items ≡ rest.old.items ++ bytes.now)
+        (λ fault. fault.kind ≡ FaultKind.Memory) }
 {
     if rest.extend_from_slice(bytes).is_err() {
         return Err(memory_at(lines + 1));
@@ -78,8 +81,11 @@ pub(crate) fn take_piece<C: Contents>(
     piece: &[u8],
 ) -> Result<(), FileFault>
     requires { progress.old.lines + length rest.old.items + length piece.now < 2 ^ 63 }
-    ensures passes { HasNoEnd rest.old.items → MatchResult result (λ _. Passed C.format C.Makes progress.old (rest.old.items ++ piece.now) rest.new.items progress.new) (λ fault. PassStops C.format C.Makes progress.old (rest.old.items ++ piece.now) fault.line fault.kind) }
-    ensures lines { IfOk result (λ _. progress.new.lines + length rest.new.items ≤ progress.old.lines + length rest.old.items + length piece.now) }
+    ensures passes { HasNoEnd rest.old.items
+        → Passes C.format C.Makes progress.old (rest.old.items ++ piece.now) result
+        (λ _. rest.new.items) progress.new }
+    ensures lines { IfOk result (λ _. progress.new.lines + length rest.new.items
+        ≤ progress.old.lines + length rest.old.items + length piece.now) }
 {
     let Some(end) = first_end(piece) else {
         lengthen(progress.lines, rest, piece)?;

@@ -1,10 +1,9 @@
 //! How far the lines of a file were taken.
 ghost use Rattle.std.specs.Prelude.{ℕ, ◌≡◌, ◌<◌, ◌≤◌, ◌+◌, ◌^◌, List, [], ◌∷◌, length, map, IfOk, OnOk};
-ghost use Rattle.std.specs.List.{AllZip, flat_map};
+ghost use Rattle.std.specs.List.{flat_map};
 ghost use Rattle.history_file.specs.Ahead.{Records};
 ghost use Rattle.counted_devices.specs.Cuts.{HasNoEnd, ended};
-ghost use Rattle.file_format.specs.Lines.{ShowsItem};
-ghost use Rattle.history_file.specs.Takings.{AreTaken, IsAt, Takes, TakesJudged, TakesLine, TakesParts};
+ghost use Rattle.history_file.specs.Takings.{AreTaken, TakesJudged, TakesLine, TakesParts, TakesShown};
 
 use crate::format::Contents;
 use crate::judgements::Judgements;
@@ -23,7 +22,8 @@ impl<C: Contents> Progress<C> {
     /// Takes the first line.
     fn take_header(&mut self, alloc: Global, line: &[u8]) -> Result<(), FileFault>
         requires { self.old.lines ≡ 0 }
-        ensures taken { (before : List (List ℕ)) → AreTaken C.format C.Makes before self.old → TakesLine C.format C.Makes before line.now result self.new }
+        ensures taken { (before : List (List ℕ)) → AreTaken C.format C.Makes before self.old
+            → TakesLine C.format C.Makes before line.now result self.new }
         ensures lines { OnOk result (self.new.lines ≡ 1) }
     {
         match C::begin(alloc, line) {
@@ -58,7 +58,7 @@ impl<C: Contents> Progress<C> {
     /// Takes what a run of later lines shows.
     fn record_run(&mut self, run: Vec<Judgement<C::Item>>) -> Result<(), FileFault>
         requires { self.old.lines + length run.items < 2 ^ 63 }
-        ensures taken { (header : C.Header) (lines : List (List ℕ)) → AllZip (ShowsItem (C.format.meaning header)) lines run.items → (before : List (List ℕ)) → IsAt C.format C.Makes before header self.old → 0 < length before → Takes C.format C.Makes before header lines result self.new }
+        ensures taken { TakesShown C.format C.Makes self.old run.items result self.new }
         ensures lines { OnOk result (self.new.lines ≡ self.old.lines + length run.items) }
     {
         for judgement in run {
@@ -70,7 +70,7 @@ impl<C: Contents> Progress<C> {
     /// Takes what later lines show.
     pub(crate) fn record(&mut self, judgements: Judgements<C::Item>) -> Result<(), FileFault>
         requires { self.old.lines + length judgements < 2 ^ 63 }
-        ensures taken { (header : C.Header) (lines : List (List ℕ)) → AllZip (ShowsItem (C.format.meaning header)) lines judgements → (before : List (List ℕ)) → IsAt C.format C.Makes before header self.old → 0 < length before → Takes C.format C.Makes before header lines result self.new }
+        ensures taken { TakesShown C.format C.Makes self.old judgements result self.new }
         ensures lines { OnOk result (self.new.lines ≡ self.old.lines + length judgements) }
     {
         for run in judgements.into_runs() {
@@ -99,10 +99,13 @@ impl<C: Contents> Progress<C> {
         alloc: Global,
         parts: &[&[u8]],
     ) -> Result<(), FileFault>
-        requires { self.old.lines + length (flat_map ended (map (λ part. part.now) parts.now)) < 2 ^ 63 }
-        ensures taken { TakesParts C.format C.Makes self.old (map (λ part. part.now) parts.now) result self.new }
+        requires { self.old.lines + length
+            (flat_map ended (map (λ part. part.now) parts.now)) < 2 ^ 63 }
+        ensures taken { TakesParts C.format C.Makes self.old
+            (map (λ part. part.now) parts.now) result self.new }
         ensures more { OnOk result (self.old.lines ≤ self.new.lines) }
-        ensures lines { OnOk result (self.new.lines ≤ self.old.lines + length (flat_map ended (map (λ part. part.now) parts.now))) }
+        ensures lines { OnOk result (self.new.lines ≤ self.old.lines + length
+            (flat_map ended (map (λ part. part.now) parts.now))) }
     {
         match C::judge_all(rt, alloc, self.contents.header(), parts) {
             Ok(judgements) => self.record(judgements),
@@ -118,7 +121,9 @@ impl<C: Contents> Progress<C> {
         line: &[u8],
     ) -> Result<(), FileFault>
         requires { self.old.lines + length line.now + 1 < 2 ^ 63 }
-        ensures taken { HasNoEnd line.now → (before : List (List ℕ)) → AreTaken C.format C.Makes before self.old → TakesLine C.format C.Makes before line.now result self.new }
+        ensures taken { HasNoEnd line.now → (before : List (List ℕ))
+            → AreTaken C.format C.Makes before self.old
+            → TakesLine C.format C.Makes before line.now result self.new }
         ensures some { OnOk result (0 < self.new.lines) }
         ensures lines { OnOk result (self.new.lines ≤ self.old.lines + length line.now + 1) }
     {

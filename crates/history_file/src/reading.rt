@@ -1,9 +1,7 @@
 //! Files from readers.
 ghost use Rattle.std.specs.Prelude.{ℕ, ◌≡◌, ◌<◌, ◌≤◌, List, Option, length, true, false, IfOk, IfErr, MatchResult};
 ghost use Rattle.std.specs.Io.KnownBytes.{IsAtEnd};
-ghost use Rattle.counted_devices.specs.Deliveries.{Delivers};
-ghost use Rattle.counted_devices.specs.ReadFaults.{HasFailed};
-ghost use Rattle.history_file.specs.Deliveries.{Holds, HoldsAhead, ReadsAll, StopsAt};
+ghost use Rattle.history_file.specs.Deliveries.{FailsFrom, GoesOn, HoldsAhead, HoldsAll, ReadsFrom, StopsFrom};
 ghost use Rattle.file_format.specs.HistoryFormat.{history_format, MakesHistory};
 ghost use Rattle.file_format.specs.HistoriesFormat.{histories_format, MakesHistories};
 ghost use Rattle.file_format.specs.OrderFormat.{order_format, MakesJoined};
@@ -40,7 +38,9 @@ fn read_next<C: Contents, R: CountedRead, T: Threads + Sync>(
 ) -> Result<(Ahead<C, C::Item>, bool), FileFault>
     requires some { 0 < length room.old }
     requires fed { ahead.fed ≤ R.given reader.old }
-    ensures goes { (start : Option (List ℕ)) → HoldsAhead C.format C.Makes start (R.remaining reader.old) ahead → MatchResult result (λ next. HoldsAhead C.format C.Makes start (R.remaining reader.new) next.0) (λ fault. Delivers start (R.remaining reader.new) (StopsAt C.format (R.remaining reader.new) fault) × HasFailed fault.kind (R.failures reader.old) (R.failures reader.new)) }
+    ensures goes { (start : Option (List ℕ))
+        → HoldsAhead C.format C.Makes start (R.remaining reader.old) ahead
+        → GoesOn C.format C.Makes R.remaining R.failures start reader.old reader.new result }
     ensures fed { IfOk result (λ next. next.0.fed ≤ R.given reader.new) }
     ensures end { IfOk result (λ next. next.1 ≡ false → IsAtEnd (R.remaining reader.new)) }
     ensures more { IfOk result (λ next. next.1 ≡ true → R.given reader.old < R.given reader.new) }
@@ -69,8 +69,9 @@ fn feed_in_pieces<C: Contents, R: CountedRead, T: Threads + Sync>(
     room: &mut [u8],
 ) -> Result<Feed<C>, FileFault>
     requires { 0 < length room.old }
-    ensures holds { IfOk result (λ feed. Holds C.format C.Makes (R.remaining reader.old) (R.remaining reader.new) feed × IsAtEnd (R.remaining reader.new)) }
-    ensures fault { IfErr result (λ fault. Delivers (R.remaining reader.old) (R.remaining reader.new) (StopsAt C.format (R.remaining reader.new) fault) × HasFailed fault.kind (R.failures reader.old) (R.failures reader.new)) }
+    ensures holds { IfOk result (HoldsAll C.format C.Makes R.remaining reader.old reader.new) }
+    ensures fault { IfErr result (λ fault. StopsFrom C.format R.remaining reader.old reader.new fault
+        × FailsFrom R.failures reader.old reader.new fault) }
 {
     let mut ahead = Ahead::<C, C::Item>::new(alloc);
     'pieces: loop {
@@ -88,9 +89,9 @@ fn feed_all<C: Contents, R: CountedRead>(
     alloc: Global,
     reader: &mut R,
 ) -> Result<Feed<C>, FileFault>
-    ensures holds { IfOk result (λ feed. Holds C.format C.Makes (R.remaining reader.old) (R.remaining reader.new) feed × IsAtEnd (R.remaining reader.new)) }
-    ensures fault { IfErr result (λ fault. Delivers (R.remaining reader.old) (R.remaining reader.new) (StopsAt C.format (R.remaining reader.new) fault)) }
-    ensures device { IfErr result (λ fault. HasFailed fault.kind (R.failures reader.old) (R.failures reader.new)) }
+    ensures holds { IfOk result (HoldsAll C.format C.Makes R.remaining reader.old reader.new) }
+    ensures fault { IfErr result (StopsFrom C.format R.remaining reader.old reader.new) }
+    ensures device { IfErr result (FailsFrom R.failures reader.old reader.new) }
 {
     let pieces = rayon::current_num_threads(rt).clamp(1, PIECES);
     let Ok(mut room) = room_for(alloc, pieces * PIECE) else {
@@ -112,16 +113,17 @@ pub fn read_history<R: CountedRead>(
     alloc: Global,
     reader: &mut R,
 ) -> Result<History, FileFault>
-    ensures read { IfOk result (λ history. Delivers (R.remaining reader.old) (R.remaining reader.new) (ReadsAll history_format MakesHistory (R.remaining reader.new) history)) }
-    ensures fault { IfErr result (λ fault. Delivers (R.remaining reader.old) (R.remaining reader.new) (StopsAt history_format (R.remaining reader.new) fault)) }
-    ensures device { IfErr result (λ fault. HasFailed fault.kind (R.failures reader.old) (R.failures reader.new)) }
+    ensures read { IfOk result
+        (ReadsFrom history_format MakesHistory R.remaining reader.old reader.new) }
+    ensures fault { IfErr result (StopsFrom history_format R.remaining reader.old reader.new) }
+    ensures device { IfErr result (FailsFrom R.failures reader.old reader.new) }
 {
     let feed = feed_all::<History, R>(rt, alloc, reader)?;
     feed.finish(rt)
 }
 
-/// The histories by hall that the reader's bytes are, all of them up to its end: of version 2, or of
-/// version 1, which is one hall without quorums.
+/// The histories by hall that the reader's bytes are, all of them up to its end: of version 2, or
+/// of version 1, which is one hall without quorums.
 ///
 /// A file with a fault is refused as by `read_history`.
 pub fn read_histories<R: CountedRead>(
@@ -129,9 +131,10 @@ pub fn read_histories<R: CountedRead>(
     alloc: Global,
     reader: &mut R,
 ) -> Result<Histories, FileFault>
-    ensures read { IfOk result (λ histories. Delivers (R.remaining reader.old) (R.remaining reader.new) (ReadsAll histories_format MakesHistories (R.remaining reader.new) histories)) }
-    ensures fault { IfErr result (λ fault. Delivers (R.remaining reader.old) (R.remaining reader.new) (StopsAt histories_format (R.remaining reader.new) fault)) }
-    ensures device { IfErr result (λ fault. HasFailed fault.kind (R.failures reader.old) (R.failures reader.new)) }
+    ensures read { IfOk result
+        (ReadsFrom histories_format MakesHistories R.remaining reader.old reader.new) }
+    ensures fault { IfErr result (StopsFrom histories_format R.remaining reader.old reader.new) }
+    ensures device { IfErr result (FailsFrom R.failures reader.old reader.new) }
 {
     let feed = feed_all::<Option<HallHistories>, R>(rt, alloc, reader)?;
     finish_histories(rt, feed)
@@ -146,9 +149,10 @@ pub fn read_orders<R: CountedRead>(
     alloc: Global,
     reader: &mut R,
 ) -> Result<Vec<KeyOrder>, FileFault>
-    ensures read { IfOk result (λ orders. Delivers (R.remaining reader.old) (R.remaining reader.new) (ReadsAll order_format MakesJoined (R.remaining reader.new) orders.items)) }
-    ensures fault { IfErr result (λ fault. Delivers (R.remaining reader.old) (R.remaining reader.new) (StopsAt order_format (R.remaining reader.new) fault)) }
-    ensures device { IfErr result (λ fault. HasFailed fault.kind (R.failures reader.old) (R.failures reader.new)) }
+    ensures read { IfOk result (λ orders.
+        ReadsFrom order_format MakesJoined R.remaining reader.old reader.new orders.items) }
+    ensures fault { IfErr result (StopsFrom order_format R.remaining reader.old reader.new) }
+    ensures device { IfErr result (FailsFrom R.failures reader.old reader.new) }
 {
     let feed = feed_all::<Orders, R>(rt, alloc, reader)?;
     finish_orders(rt, feed)

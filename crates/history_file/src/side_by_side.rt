@@ -21,7 +21,8 @@ pub(crate) fn judge_parts<T: LineItem + Send, R: Threads + Sync>(
 where
     T::Header: Send + Sync,
     requires { IsSync R.row }
-    ensures { IfOk result (λ judgements. ShowParts (T.meaning header) (map (λ part. part.now) parts.now) judgements) }
+    ensures { IfOk result (λ judgements. ShowParts (T.meaning header)
+        (map (λ part. part.now) parts.now) judgements) }
 {
     let runs: Result<Vec<Vec<Judgement<T>>>, Memory> = parts
         .par_iter()
@@ -29,7 +30,8 @@ where
         .map_init(
             || Box::new(alloc, Scratch::new(alloc)).ok(),
             |scratch: &mut Option<Box<Scratch>>, part: &&[u8]| -> Result<Vec<Judgement<T>>, Memory>
-                ensures { IfOk result (λ run. ShowParts (T.meaning header) (part.now.now ∷ []) run.items) }
+                ensures { IfOk result (λ run. ShowParts (T.meaning header)
+                    (part.now.now ∷ []) run.items) }
             {
                 match scratch {
                     Some(scratch) => judge_part::<T>(alloc, header, scratch, part),

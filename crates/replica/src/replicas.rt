@@ -32,7 +32,9 @@ impl Model for Replica {
 
     ghost Value = { Replica };
 
-    ghost coded = { code_by (ℕ × Pairs) (coded× coded_ℕ (finite.code (coded_list coded_ℕ) pair.the_row.coded)) (λ r. (r.number, r.pairs)) (λ p. record { number = p.0; pairs = p.1 }) (λ _. refl) };
+    ghost coded = { code_by (ℕ × Pairs)
+        (coded× coded_ℕ (finite.code (coded_list coded_ℕ) pair.the_row.coded))
+        (λ r. (r.number, r.pairs)) (λ p. record { number = p.0; pairs = p.1 }) (λ _. refl) };
 
     ghost view = { λ r. record { number = r.number; pairs = finite.from_entries r.pairs.entries } };
 }
@@ -102,8 +104,11 @@ impl Replica {
     }
 
     fn adopt(&mut self, key: &Key, tag: Tag, value: Option<&Value>) -> Result<(), Memory>
-        ensures ok { OnOk result (self.new ≡ record self.old { pairs = adopt self.old.pairs key.now (record { tag = tag; value = option_copied value.entry }) }) }
-        ensures spare { is_lt (tag_cmp (pair_of self.old.pairs key.now).tag tag) ≡ false → IsOk result }
+        ensures ok { OnOk result (self.new
+            ≡ record self.old { pairs = adopt self.old.pairs key.now
+            (record { tag = tag; value = option_copied value.entry }) }) }
+        ensures spare { is_lt (tag_cmp (pair_of self.old.pairs key.now).tag tag) ≡ false
+            → IsOk result }
         ensures err { OnErr result (self.new ≡ self.old) }
     {
         if self.held(key).0 >= tag {

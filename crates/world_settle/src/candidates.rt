@@ -12,7 +12,8 @@ use world_steps::World;
 
 /// The least replica that is up and that the set lacks.
 pub(crate) fn first_candidate(world: &World, set: ReplicaSet) -> Option<ReplicaId>
-    ensures { MatchOption result (candidates world.now set ≡ []) (λ replica. (others : List ℕ) × (candidates world.now set ≡ replica ∷ others)) }
+    ensures { MatchOption result (candidates world.now set ≡ [])
+        (λ replica. (others : List ℕ) × (candidates world.now set ≡ replica ∷ others)) }
 {
     for number in 0..world.config().replicas() {
         let replica = ReplicaId::new(number).unwrap();

@@ -13,19 +13,25 @@ ghost use Rattle.world_settle.specs.Settling.{Settles};
 /// Where a pending call can be completed, there are steps that complete it, none of them is refused,
 /// and they are at most three for each replica that is needed, and one.
 pub fn a_pending_call_has_steps()
-    ensures { (s : System) (name : ℕ) → IsSound s → MaySettle s name → (steps : List Step) × Settles name s steps × AreAccepted s steps × IsWithin s name (length steps) }
+    ensures { (s : System) (name : ℕ) → IsSound s → MaySettle s name
+        → (steps : List Step) × Settles name s steps × AreAccepted s steps
+        × IsWithin s name (length steps) }
 {}
 
 /// The steps that complete a pending call are one list.
 pub fn the_steps_are_one_list()
-    ensures { (s : System) (name : ℕ) (steps other : List Step) → Settles name s steps → Settles name s other → steps ≡ other }
+    ensures { (s : System) (name : ℕ) (steps other : List Step) → Settles name s steps
+        → Settles name s other → steps ≡ other }
 {}
 
 /// A call needs no more replicas than the quorums have votes. With majorities of n replicas it then takes
 /// at most 6 (n / 2 + 1) + 1 steps, where all divisions round down.
 pub fn a_call_needs_few_replicas()
-    ensures quorums { (s : System) (name a b : ℕ) → IsSound s → NeedsAt s name a b → (a ≤ s.config.quorums.ask) × (b ≤ s.config.quorums.put) }
-    ensures majorities { (s : System) (n name a b : ℕ) → IsSound s → s.config.quorums ≡ majority_of n → NeedsAt s name a b → 3 * (a + b) + 1 ≤ 6 * (n / 2 + 1) + 1 }
+    ensures quorums { (s : System) (name a b : ℕ) → IsSound s → NeedsAt s name a b
+        → (a ≤ s.config.quorums.ask) × (b ≤ s.config.quorums.put) }
+    ensures majorities { (s : System) (n name a b : ℕ) → IsSound s
+        → s.config.quorums ≡ majority_of n → NeedsAt s name a b
+        → 3 * (a + b) + 1 ≤ 6 * (n / 2 + 1) + 1 }
 {}
 
 /// A short read whose replies agree skips its write-back: it takes at most three steps for each replica

@@ -14,7 +14,9 @@ use world_steps::World;
 /// its pair counted apart; none where no call is pending.
 fn replicas_needed(world: &World, client: ClientId) -> Option<u32>
     requires { HasMajority world.now }
-    ensures { MatchOption result (IsNotPending world.now client) (λ count. IsPending world.now client × (a : ℕ) × (b : ℕ) × NeedsAt world.now client a b × (count ≡ a + b) × (count ≤ 30)) }
+    ensures { MatchOption result (IsNotPending world.now client)
+        (λ count. IsPending world.now client × (a : ℕ) × (b : ℕ) × NeedsAt world.now client a b
+        × (count ≡ a + b) × (count ≤ 30)) }
 {
     let quorums = world.config().quorums();
     let counted = counted_at(world, client);
@@ -32,7 +34,8 @@ fn replicas_needed(world: &World, client: ClientId) -> Option<u32>
 
 /// Whether the client's pending call can be completed, and if not, why.
 pub(crate) fn refuse(world: &World, client: ClientId) -> Result<(), SettleError>
-    ensures settles { MatchResult result (λ _. MaySettle world.now client) (λ why. IsUnsettled world.now client why) }
+    ensures settles { MatchResult result (λ _. MaySettle world.now client)
+        (λ why. IsUnsettled world.now client why) }
     ensures sound { IsSound world.now }
 {
     let quorums = world.config().quorums();

@@ -1,5 +1,4 @@
-use Rattle.std.proofs.Common.{ℕ, ◌≡◌, ◌<◌, List, [], ◌∷◌, length, arith, inl, inr, refl}
-use Rattle.std.proofs.lemmas.Result.{err_from_is_err_and}
+use Rattle.std.proofs.Common.{◌<◌, [], ◌∷◌, length, arith}
 use Rattle.counted_devices.proofs.Cutting.{one_line}
 use Rattle.history_file.proofs.Taking.{line_taken}
 use Rattle.history_file.proofs.progress.Progress.take_line.Goals as goal

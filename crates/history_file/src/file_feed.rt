@@ -1,0 +1,65 @@
+//! Files that come in pieces, as their callers see them.
+ghost use Rattle.std.specs.Prelude.{ℕ, ◌≡◌, ◌≤◌, ◌+◌, ◌^◌, ◌++◌, List, [], None, Some, length, IfErr, MatchResult};
+ghost use Rattle.history_file.specs.Feeds.{Stands, Fed};
+
+use crate::feed::Feed;
+use crate::format::Contents;
+use file_format::FileFault;
+use std::alloc::Global;
+use std::marker::Model;
+use std::thread::Threads;
+
+/// A file that comes in pieces of any size: what its lines so far make.
+#[derive(Drop)]
+pub struct FileFeed<C> {
+    pub(crate) feed: Feed<C>,
+}
+
+impl<C> Model for FileFeed<C> {
+    ghost use Rattle.history_file.specs.declared.feed.Feed.{Feed};
+
+    ghost Value = { Feed C };
+
+    ghost view = { λ whole. whole.feed };
+}
+
+impl<C: Contents> FileFeed<C> {
+    /// No byte yet.
+    pub fn new(alloc: Global) -> FileFeed<C>
+        ensures { Stands C.format C.Makes [] result }
+    {
+        FileFeed {
+            feed: Feed::new(alloc),
+        }
+    }
+
+    /// How many bytes the pieces had that were taken.
+    pub fn fed(&self) -> u64
+        ensures fed { result ≡ self.now.fed }
+        ensures most { result ≤ 2 ^ 62 }
+    {
+        self.feed.fed
+    }
+
+    /// The number of the line that is under way.
+    pub fn line(&self) -> u64
+        ensures { self.now.fault ≡ None → result ≡ self.now.progress.lines + 1 }
+    {
+        self.feed.line()
+    }
+
+    /// Takes the next piece, however the file was cut. The first fault of the bytes so far is
+    /// answered, and then by each later call; `Memory` comes only where a growth was refused.
+    pub fn feed(&mut self, rt: &(impl Threads + Sync), piece: &[u8]) -> Result<(), FileFault>
+        requires { self.old.fed + length piece.now ≤ 2 ^ 62 }
+        ensures fed { (bytes : List ℕ) → Stands C.format C.Makes bytes self.old
+            → Fed C.format C.Makes (bytes ++ piece.now) result self.new }
+        ensures count { MatchResult result (λ _. self.new.fed ≡ self.old.fed + length piece.now)
+            (λ _. self.new.fed ≡ self.old.fed) }
+        ensures kept { IfErr result (λ fault. self.new.fault ≡ Some fault) }
+        ensures stays { (fault : _) → self.old.fault ≡ Some fault
+            → (result ≡ Err fault) × (self.new ≡ self.old) }
+    {
+        self.feed.feed(rt, piece)
+    }
+}
