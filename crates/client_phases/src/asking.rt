@@ -1,8 +1,13 @@
 //! The asking phase.
 ghost use Rattle.std.specs.Prelude.{◌≡◌, Option, List, ℕ, IfOk, if◌then◌else◌};
 ghost use Rattle.std.specs.FinSet as finite;
-ghost use Rattle.std.specs.Ordering.{is_lt};
+ghost use Rattle.std.specs.Cmp.{and_per, on_per};
+ghost use Rattle.std.specs.Ordering.{eq_of_both, is_lt, on};
 ghost use Rattle.tag.specs.Tags.{tag_cmp};
+ghost use Rattle.tag.specs.contracts.tags.TagPartialEq.TheImpl.Laws as tag;
+ghost use Rattle.quorum.specs.contracts.sets.ReplicaSetPartialEq.TheImpl.Laws as set;
+ghost use Rattle.replica.specs.contracts.pairs.PairPartialEq.TheImpl.Laws as pair;
+ghost use Rattle.client_phases.specs.contracts.calls.CallPartialEq.TheImpl.Laws as call;
 ghost use Rattle.client_phases.specs.Asking.{LeavesRoom, opening_of, asking_with, asking_from, query_of};
 ghost use Rattle.client_phases.specs.declared.calls.Call.{Call};
 
@@ -21,7 +26,7 @@ pub(crate) fn with_replica(mut counted: ReplicaSet, replica: ReplicaId) -> Repli
 }
 
 /// The replicas that an asking has counted, and the greatest and the least tag that they told.
-#[derive(Clone, Copy, Debug)]
+#[derive(Clone, Copy, Debug, PartialEq, Eq)]
 pub struct Tally {
     pub counted: ReplicaSet,
     pub best: Tag,
@@ -64,6 +69,19 @@ impl Model for Asking {
     ghost view = { λ a. asking_from a.call a.tally a.found };
 
     ghost invariant = { λ a. LeavesRoom a.call.action a.tally.best };
+}
+
+impl PartialEq for Asking {
+    ghost eq = { eq_of_both (on (λ a. a.call) ⟦<Call as PartialEq>⟧.eq) (eq_of_both (on (λ a. a.counted) ⟦<ReplicaSet as PartialEq>⟧.eq) (eq_of_both (on (λ a. a.best) ⟦<Pair as PartialEq>⟧.eq) (on (λ a. a.least) ⟦<Tag as PartialEq>⟧.eq))) };
+
+    ghost laws = { and_per (on_per (λ a. a.call) call.laws-law) (and_per (on_per (λ a. a.counted) set.laws-law) (and_per (on_per (λ a. a.best) pair.laws-law) (on_per (λ a. a.least) tag.laws-law))) };
+
+    fn eq(&self, other: &Asking) -> bool {
+        self.call == other.call
+            && self.tally.counted == other.tally.counted
+            && (self.tally.best == other.tally.best && self.found == other.found)
+            && self.tally.least == other.tally.least
+    }
 }
 
 impl Asking {

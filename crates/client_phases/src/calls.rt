@@ -1,13 +1,18 @@
 //! Calls, and calls with the pair that they put.
 ghost use Rattle.std.specs.Prelude.{◌≡◌, IfOk};
+ghost use Rattle.std.specs.Cmp.{and_per, on_per};
+ghost use Rattle.std.specs.Option.{option_copied};
+ghost use Rattle.std.specs.Ordering.{eq_of_both, on};
+ghost use Rattle.replica.specs.contracts.pairs.PairPartialEq.TheImpl.Laws as pair;
 ghost use Rattle.client_phases.specs.Calls.{answer_from, put_of};
+ghost use Rattle.client_phases.specs.contracts.calls.CallPartialEq.TheImpl.Laws as call;
 
-use replica::Request;
+use replica::{Pair, Request};
 use std::marker::Model;
 use tag::{Action, Key, Memory, OpId, Returned, Tag, Value};
 
 /// A pending call.
-#[derive(Debug, Drop)]
+#[derive(Debug, Drop, PartialEq, Eq)]
 pub struct Call {
     pub op: OpId,
     pub key: Key,
@@ -30,20 +35,47 @@ impl Model for Chosen {
     ghost view = { λ c. record { call = c.call; pair = record { tag = c.tag; value = value_to_put c.call.action c.found } } };
 }
 
+impl PartialEq for Chosen {
+    ghost eq = { eq_of_both (on (λ c. c.call) ⟦<Call as PartialEq>⟧.eq) (on (λ c. c.pair) ⟦<Pair as PartialEq>⟧.eq) };
+
+    ghost laws = { and_per (on_per (λ c. c.call) call.laws-law) (on_per (λ c. c.pair) pair.laws-law) };
+
+    fn eq(&self, other: &Chosen) -> bool {
+        self.call == other.call && (self.tag == other.tag && has_same_value(self.value(), other.value()))
+    }
+}
+
+/// Whether both values are equal, or both are absent.
+fn has_same_value(a: Option<&Value>, b: Option<&Value>) -> bool
+    ensures { result ≡ ⟦<Option<Value> as PartialEq>⟧.eq (option_copied a.entry) (option_copied b.entry) }
+{
+    match (a, b) {
+        (Some(a), Some(b)) => a == b,
+        (None, None) => true,
+        _ => false,
+    }
+}
+
 impl Chosen {
+    /// The value that it puts.
+    fn value(&self) -> Option<&Value>
+        ensures { option_copied result ≡ self.now.pair.value }
+    {
+        match &self.call.action {
+            Action::Read => self.found.as_ref(),
+            Action::Write(value) => Some(value),
+        }
+    }
+
     /// What it asks of replicas.
     pub(crate) fn request(&self) -> Result<Request, Memory>
         ensures { IfOk result (λ request. request ≡ put_of self.now) }
     {
-        let value = match &self.call.action {
-            Action::Read => self.found.as_ref(),
-            Action::Write(value) => Some(value),
-        };
         Ok(Request::Put {
             op: self.call.op,
             key: self.call.key.copy()?,
             tag: self.tag,
-            value: Value::copy_of(value)?,
+            value: Value::copy_of(self.value())?,
         })
     }
 

@@ -13,7 +13,7 @@ use std::mem;
 use tag::{Action, ClientId, Key, Memory, OpId, Returned};
 
 /// A client: its name, the quorums, how it reads, and where it stands with its call.
-#[derive(Debug, Drop)]
+#[derive(Debug, Drop, PartialEq)]
 pub struct Client {
     rules: Rules,
     state: State,

@@ -19,7 +19,7 @@ pub enum ReadMode {
 }
 
 /// A client's name, the quorums, and how it reads.
-#[derive(Clone, Copy, Debug)]
+#[derive(Clone, Copy, Debug, PartialEq, Eq)]
 pub struct Rules {
     pub name: ClientId,
     pub quorums: Quorums,

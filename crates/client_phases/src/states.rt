@@ -11,7 +11,7 @@ use quorum::ReplicaSet;
 use replica::{Pair, Reply};
 
 /// Where a client stands, with all that belongs to it.
-#[derive(Debug, Drop)]
+#[derive(Debug, Drop, PartialEq)]
 pub enum State {
     Idle,
     Ask(Asking),

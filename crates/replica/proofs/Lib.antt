@@ -1,3 +1,2 @@
-pub mod Maps
 mod Adopting
 pub mod Rising

@@ -1,8 +1,12 @@
 //! A replica: a pair for each key.
-ghost use Rattle.std.specs.Prelude.{◌≡◌, false, IfOk, IsOk, OnOk, OnErr};
+ghost use Rattle.std.specs.Prelude.{◌≡◌, ◌==◌, false, IfOk, IsOk, OnOk, OnErr};
 ghost use Rattle.std.specs.Option.{option_copied};
 ghost use Rattle.std.specs.FinMap as finite;
-ghost use Rattle.std.specs.Ordering.{is_lt};
+ghost use Rattle.std.specs.Cmp.{and_per, nat_eq_equiv, on_per, partial_equiv_from_equiv};
+ghost use Rattle.std.specs.Cmp.Lexicographic.{lists_per, pointwise};
+ghost use Rattle.std.specs.Ordering.{eq_of_both, is_lt, on};
+ghost use Rattle.tag.specs.contracts.names.KeyPartialEq.TheImpl.Laws as key;
+ghost use Rattle.replica.specs.contracts.pairs.PairPartialEq.TheImpl.Laws as pair;
 ghost use Rattle.tag.specs.Tags.{tag_cmp};
 ghost use Rattle.replica.specs.Pairs.{pair_of, adopt};
 ghost use Rattle.replica.specs.Replicas.{TakesNoMemory, replica_after, reply_of};
@@ -37,6 +41,19 @@ impl Model for Replica {
         (λ r. (r.number, r.pairs)) (λ p. record { number = p.0; pairs = p.1 }) (λ _. refl) };
 
     ghost view = { λ r. record { number = r.number; pairs = finite.from_entries r.pairs.entries } };
+}
+
+impl PartialEq for Replica {
+    ghost eq = { eq_of_both (on (λ r. r.number) ◌==◌) (on (λ r. finite.entries r.pairs) (pointwise (eq_of_both (on (λ p. p.0) ⟦<Key as PartialEq>⟧.eq) (on (λ p. p.1) ⟦<Pair as PartialEq>⟧.eq)))) };
+
+    ghost laws = { and_per (on_per (λ r. r.number) (partial_equiv_from_equiv nat_eq_equiv)) (on_per (λ r. finite.entries r.pairs) (lists_per (and_per (on_per (λ p. p.0) key.laws-law) (on_per (λ p. p.1) pair.laws-law)))) };
+
+    fn eq(&self, other: &Replica) -> bool {
+        if self.number != other.number || self.pairs.len() != other.pairs.len() {
+            return false;
+        }
+        self.pairs == other.pairs
+    }
 }
 
 impl Replica {

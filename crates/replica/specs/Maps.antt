@@ -1,16 +1,23 @@
 -- A tree map, seen as the finite map of its entries.
-use Rattle.std.proofs.Common.{◌≡◌, ◌+◌, List, [], ◌∷◌, Option, Some, None, IsSome, cond, is_some, length, ap, sym, ◌∙◌, refl, add-one}
+use Rattle.std.proofs.Common.{◌≡◌, ◌+◌, Bool, true, false, ◌&&◌, suc, List, [], ◌∷◌, Option, Some, None, IsSome, cond, is_some, length, ap, sym, ◌∙◌, refl, add-one}
 use Rattle.std.specs.declared.cmp.Ordering.{Ordering}
 use Rattle.std.specs.declared.cmp.Ordering.TheVariants.{Less}
 use Rattle.std.specs.Ordering.{is_eq, eq_by_cmp}
 use Rattle.std.specs.List.{AllByRecursion}
 use Rattle.std.specs.List.Sorted.{IsStrictlySortedBy}
+use Rattle.std.proofs.lemmas.List.{nil_from_length}
 use Rattle.std.proofs.lemmas.Map.Keys.{sorted_head, sorted_tail}
 use Rattle.std.specs.Cmp.{IsTotalOrder, eq_by_cmp_equiv}
 use Rattle.std.specs.Map.{lookup, keys_of}
 use Rattle.std.specs.BTreeMap.{BTreeMap, IsOrdered, Updates, WritesThrough, is_at, get}
+use Rattle.std.specs.Cmp.Lexicographic.{pointwise}
 use Rattle.std.specs.FinMap as finite
-use Rattle.std.specs.FinMap.{IsAntisymmetric, find}
+use Rattle.std.specs.FinMap.{IsAntisymmetric, find, put}
+use Rattle.std.specs.FinMap.Entries.{by_order}
+
+pub and-false : (b : Bool) → (b && false) ≡ false
+and-false true = refl
+and-false false = refl
 
 module _ {K X : Type 0} {R : K → K → Ordering} (total : IsTotalOrder R) where
   -- both look along the entries for the first that the order ties with the key
@@ -56,3 +63,36 @@ module _ {K X : Type 0} {R : K → K → Ordering} (total : IsTotalOrder R) wher
   -- both have as many entries
   pub from_tree-len : (m : BTreeMap K X) → IsOrdered R m → finite.len (finite.from_entries {R = R} m.entries) ≡ length m.entries
   from_tree-len m ordered = len-from_sorted m.entries ordered
+
+  -- a key below all others comes first
+  put-below : (k : K) (v : X) (es : List (K × X)) → AllByRecursion (λ q. R k q ≡ Less) (keys_of es) → put R k v es ≡ (k, v) ∷ es
+  put-below k v [] below = refl
+  put-below k v (e ∷ es) below = ap (λ o. by_order o ((k, v) ∷ e ∷ es) ((e.0, v) ∷ es) (e ∷ put R k v es)) below.0
+
+  entries-from_list : (es : List (K × X)) → IsStrictlySortedBy R (keys_of es) → finite.entries (finite.from_entries {R = R} es) ≡ es
+  entries-from_list [] sorted = nil_from_length (finite.entries (finite.empty {X = X} {R = R})) (sym (finite.len-entries (finite.empty {X = X} {R = R})) ∙ finite.len-empty R X)
+  entries-from_list (e ∷ es) sorted =
+      finite.entries-insert total (finite.from_entries es) e.0 e.1
+      ∙ ap (put R e.0 e.1) (entries-from_list es (sorted_tail R e.0 (keys_of es) sorted))
+      ∙ put-below e.0 e.1 es (sorted_head R e.0 (keys_of es) sorted)
+
+  -- both have the same entries, in the keys' order
+  pub entries-from_tree : (m : BTreeMap K X) → IsOrdered R m → finite.entries (finite.from_entries {R = R} m.entries) ≡ m.entries
+  entries-from_tree m ordered = entries-from_list m.entries ordered
+
+  -- entries compared in the trees are those compared in the maps
+  pub pointwise-trees : (E : K × X → K × X → Bool) (m n : BTreeMap K X) → IsOrdered R m → IsOrdered R n
+      → pointwise E (finite.entries (finite.from_entries {R = R} m.entries)) (finite.entries (finite.from_entries {R = R} n.entries)) ≡ pointwise E m.entries n.entries
+  pointwise-trees E m n m_ordered n_ordered = λ i. pointwise E (entries-from_tree m m_ordered i) (entries-from_tree n n_ordered i)
+
+-- lists of two lengths differ
+length-pointwise : {A : Type 0} (E : A → A → Bool) (xs ys : List A) → (length xs ≡ length ys → ⊥) → pointwise E xs ys ≡ false
+length-pointwise E [] [] apart = absurd (apart refl)
+length-pointwise E [] (y ∷ ys) apart = refl
+length-pointwise E (x ∷ xs) [] apart = refl
+length-pointwise E (x ∷ xs) (y ∷ ys) apart = ap (λ b. E x y && b) (length-pointwise E xs ys (λ e. apart (ap suc e))) ∙ and-false (E x y)
+
+-- so do trees of two sizes
+pub apart-trees : {K X : Type 0} {R : K → K → Ordering} (total : IsTotalOrder R) (E : K × X → K × X → Bool) (m n : BTreeMap K X) → IsOrdered R m → IsOrdered R n → (length m.entries ≡ length n.entries → ⊥)
+    → pointwise E (finite.entries (finite.from_entries {R = R} m.entries)) (finite.entries (finite.from_entries {R = R} n.entries)) ≡ false
+apart-trees total E m n m_ordered n_ordered apart = pointwise-trees total E m n m_ordered n_ordered ∙ length-pointwise E m.entries n.entries apart
