@@ -1,5 +1,11 @@
 //! Halls.
 ghost use Rattle.std.specs.Prelude.{◌≡◌, ◌≤◌, ◌+◌, IfOk, OnOk, OnErr, vec_capacity, vec_len};
+ghost use Rattle.std.specs.Cmp.{and_per, on_per};
+ghost use Rattle.std.specs.Cmp.Lexicographic.{lists_per, pointwise};
+ghost use Rattle.std.specs.Ordering.{eq_of_both, on};
+ghost use Rattle.world_steps.specs.contracts.config.ConfigPartialEq.TheImpl.Laws as config;
+ghost use Rattle.world_steps.specs.contracts.step.StepPartialEq.TheImpl.Laws as step;
+ghost use Rattle.world_steps.specs.contracts.world.WorldPartialEq.TheImpl.Laws as world;
 ghost use Rattle.world_steps.specs.Runs.{join_count, stop_count};
 ghost use Rattle.world_steps.specs.SoundSystems.{IsSound};
 ghost use Rattle.hall_journal.specs.Halls.{IsReplay, MayWantMemory, Takes, opening_hall};
@@ -41,6 +47,16 @@ impl Model for Hall {
     ghost view = { λ h. record { config = h.config; world = h.world.value; journal = h.journal.items } };
 
     ghost invariant = { λ h. IsReplay (record { config = h.config; world = h.world.value; journal = h.journal.items }) × IsSound h.world.value × HasPlaces h.world.value.members h.running (vec_len h.journal) (vec_capacity h.journal) };
+}
+
+impl PartialEq for Hall {
+    ghost eq = { eq_of_both (on (λ h. h.config) ⟦<Config as PartialEq>⟧.eq) (eq_of_both (on (λ h. h.world) ⟦<World as PartialEq>⟧.eq) (on (λ h. h.journal) (pointwise ⟦<Step as PartialEq>⟧.eq))) };
+
+    ghost laws = { and_per (on_per (λ h. h.config) config.laws-law) (and_per (on_per (λ h. h.world) world.laws-law) (on_per (λ h. h.journal) (lists_per step.laws-law))) };
+
+    fn eq(&self, other: &Hall) -> bool {
+        self.config == other.config && *self.world == *other.world && self.journal == other.journal
+    }
 }
 
 impl Hall {

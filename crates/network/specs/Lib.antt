@@ -1,3 +1,4 @@
+pub mod Equality
 pub mod Flights
 pub mod Refusals
 pub mod Pools

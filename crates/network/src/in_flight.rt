@@ -2,6 +2,7 @@
 ghost use Rattle.std.specs.Prelude.{◌≡◌, ◌^◌, ◌<◌, Some, IsSome, OnOk, OnErr};
 ghost use Rattle.std.specs.Option.{option_copied};
 ghost use Rattle.std.specs.FinMap as finite;
+ghost use Rattle.network.specs.Equality.{agree_below};
 ghost use Rattle.network.specs.Flights.{Flight, with_copies};
 
 use crate::Flight;
@@ -29,6 +30,17 @@ impl Model for InFlight {
     ghost view = { λ f. finite.from_entries f.by_number.entries };
 }
 
+/// Whether both flights are equal, or neither is there.
+fn is_same(a: Option<&Flight>, b: Option<&Flight>) -> bool
+    ensures { result ≡ ⟦<Option<Flight> as PartialEq>⟧.eq (option_copied a.entry) (option_copied b.entry) }
+{
+    match (a, b) {
+        (Some(a), Some(b)) => a == b,
+        (None, None) => true,
+        _ => false,
+    }
+}
+
 impl InFlight {
     pub(crate) fn new(alloc: Global) -> InFlight
         ensures { result ≡ finite.empty }
@@ -48,6 +60,18 @@ impl InFlight {
         ensures { option_copied result ≡ finite.get self.now number }
     {
         self.by_number.get(&number)
+    }
+
+    /// Whether each number below that one names an equal flight of both, or none of either.
+    pub(crate) fn agrees_below(&self, other: &InFlight, count: u32) -> bool
+        ensures { result ≡ agree_below ⟦<Flight as PartialEq>⟧.eq self.now other.now count }
+    {
+        for number in 0..count {
+            if !is_same(self.get(number), other.get(number)) {
+                return false;
+            }
+        }
+        true
     }
 
     pub(crate) fn insert(&mut self, number: u32, flight: Flight) -> Result<(), Memory>

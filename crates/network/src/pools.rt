@@ -2,6 +2,8 @@
 ghost use Rattle.std.specs.Prelude.{◌≡◌, ◌<◌, ◌≤◌, ◌-◌, ◌↔◌, Err, IfOk, IfErr, IsOk, OnOk, OnErr, IsSome, IfSome, OnSome, IfNone, IsTrue};
 ghost use Rattle.std.specs.Option.{option_copied};
 ghost use Rattle.std.specs.FinMap as finite;
+ghost use Rattle.network.specs.contracts.flights.FlightPartialEq.TheImpl.Laws as flight;
+ghost use Rattle.network.specs.Equality.{pools_per, same_pools};
 ghost use Rattle.network.specs.Flights.{copies_of, message_of, IsGone, IsMessageOf};
 ghost use Rattle.network.specs.Refusals.{IsEither};
 ghost use Rattle.network.specs.Pools.{IsBag, silent, with_one_less, with_one_more, with_sent, without_last};
@@ -41,6 +43,19 @@ impl Model for Pool {
     ghost view = { λ p. record { sent = p.sent; limit = p.limit; flights = p.flights } };
 
     ghost invariant = { λ p. IsBag (record { sent = p.sent; limit = p.limit; flights = p.flights }) };
+}
+
+impl PartialEq for Pool {
+    ghost eq = { same_pools ⟦<Flight as PartialEq>⟧.eq };
+
+    ghost laws = { pools_per ⟦<Flight as PartialEq>⟧.eq flight.laws-law };
+
+    /// Takes a time that grows with how many messages were sent.
+    fn eq(&self, other: &Pool) -> bool {
+        self.sent == other.sent
+            && self.limit == other.limit
+            && self.flights.agrees_below(&other.flights, self.sent)
+    }
 }
 
 impl Pool {

@@ -1,7 +1,11 @@
 //! The clients that joined.
-ghost use Rattle.std.specs.Prelude.{◌≡◌, [], OnOk, OnErr, Some};
+ghost use Rattle.std.specs.Prelude.{◌≡◌, ◌==◌, [], OnOk, OnErr, Some};
 ghost use Rattle.std.specs.Option.{option_copied};
 ghost use Rattle.std.specs.FinMap as finite;
+ghost use Rattle.std.specs.Cmp.{and_per, nat_eq_equiv, on_per, partial_equiv_from_equiv};
+ghost use Rattle.std.specs.Cmp.Lexicographic.{lists_per, pointwise};
+ghost use Rattle.std.specs.Ordering.{eq_of_both, on};
+ghost use Rattle.client_phases.specs.contracts.clients.ClientPartialEq.TheImpl.Laws as client;
 ghost use Rattle.client_phases.specs.Clients.{MayTake, client_after, invoked, phase_of, responded, stopped, taken};
 ghost use Rattle.client_phases.specs.declared.clients.Client.{Client};
 ghost use Rattle.client_phases.specs.declared.outcomes.Phase.{Phase};
@@ -33,6 +37,19 @@ impl Model for Members {
     ghost coded = { code_by (List ℕ × Clients) (coded× (coded_list coded_ℕ) (finite.code coded_ℕ client.the_row.coded)) (λ m. (m.joined, m.clients)) (λ p. record { joined = p.0; clients = p.1 }) (λ _. refl) };
 
     ghost view = { λ m. record { joined = m.joined.items; clients = finite.from_entries m.clients.entries } };
+}
+
+impl PartialEq for Members {
+    ghost eq = { eq_of_both (on (λ m. m.joined) (pointwise ◌==◌)) (on (λ m. finite.entries m.clients) (pointwise (eq_of_both (on (λ p. p.0) ◌==◌) (on (λ p. p.1) ⟦<Client as PartialEq>⟧.eq)))) };
+
+    ghost laws = { and_per (on_per (λ m. m.joined) (lists_per (partial_equiv_from_equiv nat_eq_equiv))) (on_per (λ m. finite.entries m.clients) (lists_per (and_per (on_per (λ p. p.0) (partial_equiv_from_equiv nat_eq_equiv)) (on_per (λ p. p.1) client.laws-law)))) };
+
+    fn eq(&self, other: &Members) -> bool {
+        if self.joined != other.joined || self.clients.len() != other.clients.len() {
+            return false;
+        }
+        self.clients == other.clients
+    }
 }
 
 impl Members {

@@ -1,7 +1,9 @@
 //! The replicas, each up or down.
 ghost use Rattle.std.specs.Prelude.{◌≡◌, ◌<◌, ◌≤◌, ◌++◌, ◌∷◌, IfOk, OnOk, OnErr, length, slice_get, slice_set, Some};
 ghost use Rattle.std.specs.Option.{option_copied};
+ghost use Rattle.std.specs.Cmp.Lexicographic.{lists_per, pointwise};
 ghost use Rattle.replica.specs.Replicas.{TakesNoMemory, replica_after, reply_of};
+ghost use Rattle.world_steps.specs.contracts.nodes.NodePartialEq.TheImpl.Laws as node;
 ghost use Rattle.world_steps.specs.declared.nodes.Node.{Node};
 ghost use Rattle.world_steps.specs.Nodes.{nodes_below};
 
@@ -11,7 +13,7 @@ use std::marker::Model;
 use tag::{Memory, ReplicaId};
 
 /// A replica that is up or down. A replica that is down keeps what it stored.
-#[derive(Debug, Drop)]
+#[derive(Debug, Drop, PartialEq)]
 pub struct Node {
     pub replica: Replica,
     pub is_up: bool,
@@ -34,6 +36,16 @@ impl Model for Nodes {
     ghost coded = { coded_list node.the_row.coded };
 
     ghost view = { λ n. n.list.items };
+}
+
+impl PartialEq for Nodes {
+    ghost eq = { pointwise ⟦<Node as PartialEq>⟧.eq };
+
+    ghost laws = { lists_per node.laws-law };
+
+    fn eq(&self, other: &Nodes) -> bool {
+        self.list == other.list
+    }
 }
 
 impl Nodes {

@@ -12,7 +12,7 @@ use std::alloc::Global;
 use tag::Memory;
 
 /// The configuration, the clients that joined, the replicas by number, the network, and the record.
-#[derive(Debug, Drop)]
+#[derive(Debug, Drop, PartialEq)]
 pub struct System {
     pub(crate) config: Config,
     pub(crate) members: Members,

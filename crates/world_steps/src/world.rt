@@ -9,6 +9,7 @@ ghost use Rattle.world_steps.specs.Refusals.{refusal_of};
 ghost use Rattle.world_steps.specs.Runs.{Steps};
 ghost use Rattle.world_steps.specs.SoundSystems.{IsSound};
 ghost use Rattle.world_steps.specs.Systems.{opening};
+ghost use Rattle.world_steps.specs.contracts.system.SystemPartialEq.TheImpl.Laws as system;
 
 use crate::system::System;
 use crate::{Config, Effect, Refusal, Step};
@@ -42,6 +43,16 @@ impl Model for World {
     ghost view = { λ w. w.system };
 
     ghost invariant = { λ w. IsSound w.system };
+}
+
+impl PartialEq for World {
+    ghost eq = { ⟦<System as PartialEq>⟧.eq };
+
+    ghost laws = { system.laws-law };
+
+    fn eq(&self, other: &World) -> bool {
+        self.system == other.system
+    }
 }
 
 impl World {
