@@ -3,7 +3,8 @@ use Rattle.std.specs.Prelude.{ℕ, zero, suc, ◌≡◌, ◌&&◌, ◌==◌, Boo
 use Rattle.std.specs.Option.{option_eq}
 use Rattle.std.specs.FinMap as finite
 use Rattle.std.specs.Cmp.{IsPartialEquivalence, first_so, nat_eq_equiv, partial_equiv_from_equiv, second_so}
-use Rattle.std.proofs.Common.{ap, sym, subst, ◌∙◌, eqb-true, refl}
+use Rattle.std.proofs.lemmas.Bool.{false≢true}
+use Rattle.std.proofs.Common.{ap, sym, ◌∙◌, eqb-true, refl}
 use Rattle.network.specs.Flights.{Flight, Flights}
 use Rattle.network.specs.Pools.{Pool}
 
@@ -24,13 +25,6 @@ and-false false = refl
 both : (a b : Bool) → a ≡ true → b ≡ true → (a && b) ≡ true
 both a b p q = ap (λ x. x && b) p ∙ q
 
-false-true : {A : Type 0} → false ≡ true → A
-false-true {A} e = absurd (subst (λ b. holds b) (sym e) tt)
-  where
-    holds : Bool → Type 0
-    holds true = Unit {0}
-    holds false = ⊥
-
 module _ (same : Flight → Flight → Bool) (is : IsPartialEquivalence same) where
   option_symm : (p q : Option Flight) → option_eq same p q ≡ option_eq same q p
   option_symm None None = refl
@@ -40,9 +34,9 @@ module _ (same : Flight → Flight → Bool) (is : IsPartialEquivalence same) wh
 
   option_trans : (p q r : Option Flight) → option_eq same p q ≡ true → option_eq same q r ≡ true → option_eq same p r ≡ true
   option_trans None None r a b = b
-  option_trans None (Some y) r a b = false-true a
-  option_trans (Some x) None r a b = false-true a
-  option_trans (Some x) (Some y) None a b = false-true b
+  option_trans None (Some y) r a b = absurd (false≢true a)
+  option_trans (Some x) None r a b = absurd (false≢true a)
+  option_trans (Some x) (Some y) None a b = absurd (false≢true b)
   option_trans (Some x) (Some y) (Some z) a b = is.trans x y z a b
 
   agree_symm : (m n : Flights) (k : ℕ) → agree_below same m n k ≡ agree_below same n m k

@@ -1,3 +1,4 @@
+pub mod Equality
 pub mod Parts
 pub mod Orders
 pub mod Histories

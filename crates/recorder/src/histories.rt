@@ -2,10 +2,10 @@
 ghost use Rattle.std.specs.Prelude.{◌≡◌, ◌<◌, ◌≤◌, ◌↔◌, length, IsSome, IfSome, IsTrue, Option, is_some};
 ghost use Rattle.std.specs.Cmp.{and_per, on_per};
 ghost use Rattle.std.specs.Cmp.Lexicographic.{lists_per, pointwise};
-ghost use Rattle.std.specs.Cmp.Rules.{comparing};
 ghost use Rattle.std.specs.Ordering.{eq_of_both, on};
-ghost use Rattle.std.proofs.Common.{rules};
 ghost use Rattle.quorum.specs.Quorums.{Quorums};
+ghost use Rattle.quorum.specs.contracts.quorums.QuorumsPartialEq.TheImpl.Laws as quorums;
+ghost use Rattle.recorder.specs.Equality.{option_per};
 ghost use Rattle.recorder.specs.contracts.history.equal.HistoryPartialEq.TheImpl.Laws as history;
 ghost use Rattle.recorder.specs.Halls.{AreHalls, AreOfTheirHalls, IsCount, IsHallOf, FallsTo, hall_calls};
 
@@ -41,7 +41,7 @@ impl Model for Histories {
 impl PartialEq for Histories {
     ghost eq = { eq_of_both (on (λ h. h.quorums) ⟦<Option<Quorums> as PartialEq>⟧.eq) (on (λ h. h.halls) (pointwise ⟦<History as PartialEq>⟧.eq)) };
 
-    ghost laws = { and_per (on_per (λ h. h.quorums) (Prim.search (comparing, rules))) (on_per (λ h. h.halls) (lists_per history.laws-law)) };
+    ghost laws = { and_per (on_per (λ h. h.quorums) (option_per ⟦<Quorums as PartialEq>⟧.eq quorums.laws-law)) (on_per (λ h. h.halls) (lists_per history.laws-law)) };
 
     fn eq(&self, other: &Histories) -> bool {
         self.quorums == other.quorums && self.halls == other.halls
