@@ -19,3 +19,23 @@ Begins old new text = (rest : List ℕ) × Leaves old new text rest
 abbrev pub HasFailedBy : WriteFault → ℕ → ℕ → Type 0
 HasFailedBy fault.Device old new = IsOneMore old new
 HasFailedBy fault.Memory old new = Unit {0}
+
+-- between two states of a writer the text went out, and nothing else
+abbrev pub Sends : {W : Type 0} → (W → Option (List ℕ)) → W → W → List ℕ → Type 0
+Sends contents old new text = Appends (contents old) (contents new) text
+
+-- between two states of a writer a beginning of the text went out
+abbrev pub SendsStart : {W : Type 0} → (W → Option (List ℕ)) → W → W → List ℕ → Type 0
+SendsStart contents old new text = Begins (contents old) (contents new) text
+
+-- between two states of a writer a beginning of the text went out, and that rest waits
+abbrev pub SendsBut : {W : Type 0} → (W → Option (List ℕ)) → W → W → List ℕ → List ℕ → Type 0
+SendsBut contents old new text rest = Leaves (contents old) (contents new) text rest
+
+-- a device's fault comes only where the writer's count of failures grew
+abbrev pub FailsBy : {W : Type 0} → (W → ℕ) → W → W → WriteFault → Type 0
+FailsBy failures old new fault = HasFailedBy fault (failures old) (failures new)
+
+-- the fault is the device's, and the writer's count of failures grew
+abbrev pub FailsByDevice : {W : Type 0} → (W → ℕ) → W → W → WriteFault → Type 0
+FailsByDevice failures old new why = (why ≡ fault.Device) × IsOneMore (failures old) (failures new)

@@ -1,8 +1,8 @@
 //! Devices with the count of their failures.
-ghost use Rattle.std.specs.Prelude.{ℕ, ◌≡◌, ◌≤◌, ◌+◌, ◌^◌, MatchResult};
+ghost use Rattle.std.specs.Prelude.{ℕ, ◌≡◌, ◌≤◌, ◌^◌};
 ghost use Rattle.std.specs.Io.{ReadsAtMost, WritesAtMost};
 ghost use Rattle.std.specs.Io.KnownBytes.{ReadConsumes, WriteAppends, Keeps};
-ghost use Rattle.counted_devices.specs.Counts.{IsOneMore, CountsTaken};
+ghost use Rattle.counted_devices.specs.Counts.{CountsBytes, CountsErrors, CountsWrite};
 
 use std::io::{Read, Result, Write};
 
@@ -30,9 +30,10 @@ pub trait CountedRead: Read + Counted {
     /// a reader that gave all the bytes that it may.
     fn read_counted(&mut self, piece: &mut [u8]) -> Result<usize>
         ensures bound { ReadsAtMost result piece.new }
-        ensures bytes { ReadConsumes (Self.remaining self.old) (Self.remaining self.new) result piece.new }
-        ensures given { MatchResult result (λ n. Self.given self.new ≡ Self.given self.old + n) (λ _. Self.given self.new ≡ Self.given self.old) }
-        ensures counted { MatchResult result (λ _. Self.failures self.new ≡ Self.failures self.old) (λ _. IsOneMore (Self.failures self.old) (Self.failures self.new)) };
+        ensures bytes { ReadConsumes (Self.remaining self.old)
+            (Self.remaining self.new) result piece.new }
+        ensures given { CountsBytes Self.given self.old self.new result }
+        ensures counted { CountsErrors Self.failures self.old self.new result };
 }
 
 /// A writer that counts.
@@ -41,13 +42,14 @@ pub trait CountedWrite: Write + Counted {
     /// text that isn't empty.
     fn write_counted(&mut self, text: &[u8]) -> Result<usize>
         ensures bound { WritesAtMost result text.now }
-        ensures bytes { WriteAppends (Self.contents self.old) (Self.contents self.new) result text.now }
+        ensures bytes { WriteAppends (Self.contents self.old)
+            (Self.contents self.new) result text.now }
         ensures given { Self.given self.new ≡ Self.given self.old }
-        ensures counted { MatchResult result (λ n. CountsTaken n text.now (Self.failures self.old) (Self.failures self.new)) (λ _. IsOneMore (Self.failures self.old) (Self.failures self.new)) };
+        ensures counted { CountsWrite Self.failures self.old self.new text.now result };
 
     /// Passes on what was written. An error is counted.
     fn flush_counted(&mut self) -> Result<()>
         ensures bytes { Keeps (Self.contents self.old) (Self.contents self.new) }
         ensures given { Self.given self.new ≡ Self.given self.old }
-        ensures counted { MatchResult result (λ _. Self.failures self.new ≡ Self.failures self.old) (λ _. IsOneMore (Self.failures self.old) (Self.failures self.new)) };
+        ensures counted { CountsErrors Self.failures self.old self.new result };
 }

@@ -1,8 +1,6 @@
 //! Texts on their way to a writer.
 ghost use Rattle.std.specs.Prelude.{◌≡◌, [], OnOk, OnErr, IfErr};
-ghost use Rattle.std.specs.Io.KnownBytes.{Appends};
-ghost use Rattle.counted_devices.specs.Counts.{IsOneMore};
-ghost use Rattle.counted_devices.specs.Sendings.{Leaves, Begins, HasFailedBy};
+ghost use Rattle.counted_devices.specs.Sendings.{FailsBy, FailsByDevice, Sends, SendsBut, SendsStart};
 
 use crate::{CountedWrite, WriteFault};
 
@@ -12,9 +10,9 @@ const BATCH: usize = 262_144;
 /// Writes all of the bytes. A writer that takes none of them has failed, as one that answers an
 /// error.
 fn write_all<W: CountedWrite>(writer: &mut W, bytes: &[u8]) -> Result<(), WriteFault>
-    ensures sent { OnOk result (Appends (W.contents writer.old) (W.contents writer.new) bytes.now) }
-    ensures begun { OnErr result (Begins (W.contents writer.old) (W.contents writer.new) bytes.now) }
-    ensures device { IfErr result (λ fault. (fault ≡ WriteFault.Device) × IsOneMore (W.failures writer.old) (W.failures writer.new)) }
+    ensures sent { OnOk result (Sends W.contents writer.old writer.new bytes.now) }
+    ensures begun { OnErr result (SendsStart W.contents writer.old writer.new bytes.now) }
+    ensures device { IfErr result (FailsByDevice W.failures writer.old writer.new) }
     ensures counted { OnOk result (W.failures writer.new ≡ W.failures writer.old) }
 {
     let mut rest = bytes;
@@ -29,9 +27,10 @@ fn write_all<W: CountedWrite>(writer: &mut W, bytes: &[u8]) -> Result<(), WriteF
 
 /// Writes what waits, once it is enough.
 pub fn relieve<W: CountedWrite>(batch: &mut Vec<u8>, writer: &mut W) -> Result<(), WriteFault>
-    ensures sent { OnOk result (Leaves (W.contents writer.old) (W.contents writer.new) batch.old.items batch.new.items) }
-    ensures begun { OnErr result (Begins (W.contents writer.old) (W.contents writer.new) batch.old.items) }
-    ensures device { IfErr result (λ fault. HasFailedBy fault (W.failures writer.old) (W.failures writer.new)) }
+    ensures sent { OnOk result
+        (SendsBut W.contents writer.old writer.new batch.old.items batch.new.items) }
+    ensures begun { OnErr result (SendsStart W.contents writer.old writer.new batch.old.items) }
+    ensures device { IfErr result (FailsBy W.failures writer.old writer.new) }
     ensures counted { OnOk result (W.failures writer.new ≡ W.failures writer.old) }
 {
     if batch.len() < BATCH {
@@ -46,9 +45,9 @@ pub fn relieve<W: CountedWrite>(batch: &mut Vec<u8>, writer: &mut W) -> Result<(
 ///
 /// What went out is the text or, after a fault, a beginning of it. `Memory` doesn't come.
 pub fn write_text<W: CountedWrite>(text: &[u8], writer: &mut W) -> Result<(), WriteFault>
-    ensures written { OnOk result (Appends (W.contents writer.old) (W.contents writer.new) text.now) }
-    ensures begun { OnErr result (Begins (W.contents writer.old) (W.contents writer.new) text.now) }
-    ensures device { IfErr result (λ fault. (fault ≡ WriteFault.Device) × IsOneMore (W.failures writer.old) (W.failures writer.new)) }
+    ensures written { OnOk result (Sends W.contents writer.old writer.new text.now) }
+    ensures begun { OnErr result (SendsStart W.contents writer.old writer.new text.now) }
+    ensures device { IfErr result (FailsByDevice W.failures writer.old writer.new) }
     ensures counted { OnOk result (W.failures writer.new ≡ W.failures writer.old) }
 {
     write_all(writer, text)?;

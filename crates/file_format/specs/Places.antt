@@ -65,5 +65,10 @@ FollowsBehind calls old row (Ok done) new = (new ≡ with_row old row) × (IsOne
 FollowsBehind calls old row (Err (stop.Fault fault)) new = IsMisplacedBehind calls old.rows row fault × (new ≡ old)
 FollowsBehind calls old row (Err stop.Memory) new = IsPlacedBehind calls old.rows row × (new ≡ old)
 
+-- the same of a hall's history that may have 1,000,000 calls, and no more than began in all halls
+abbrev pub FollowsInHall : ℕ → Recorded → Row → Result (Unit {0}) Stop → Recorded → Type 0
+FollowsInHall calls old row result new = old.limit ≡ 1000000 → call_count old.rows ≤ calls → FollowsBehind calls old row result new
+
+-- the same of one hall alone
 abbrev pub FollowsRow : Recorded → Row → Result (Unit {0}) Stop → Recorded → Type 0
 FollowsRow old row result new = FollowsBehind (call_count old.rows) old row result new

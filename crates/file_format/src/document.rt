@@ -98,7 +98,8 @@ impl<'a> Document<'a> {
     /// The numbers that are the items of the member of that name; without an array of numbers the
     /// line has the fault `Member`.
     pub(crate) fn needed_numbers(&self, alloc: Global, name: &str) -> Result<Vec<u64>, Stop>
-        ensures { Gives (λ numbers. numbers.items) result (needed (numbers_at name.now (data_in self.now))) }
+        ensures { Gives (λ numbers. numbers.items) result
+            (needed (numbers_at name.now (data_in self.now))) }
     {
         let Some(value) = self.value.get(name) else {
             return Err(Stop::Fault(LineFault::Member));
@@ -130,7 +131,8 @@ fn number_in(value: &Json<'_>) -> Option<u64>
 
 /// The numbers that all the items are.
 fn numbers_in(alloc: Global, items: &[Json<'_>]) -> Result<Vec<u64>, Stop>
-    ensures { Gives (λ numbers. numbers.items) result (needed (all_unsigned (items_view items.now))) }
+    ensures { Gives (λ numbers. numbers.items) result
+        (needed (all_unsigned (items_view items.now))) }
 {
     let mut numbers = Vec::new(alloc);
     for item in items {

@@ -6,7 +6,8 @@ use counted_devices::{FaultNumbers, ReadFault};
 use thiserror::Error;
 
 /// What is wrong with a line. Of several the first that is tested is named: `TooLong`, then
-/// `NotJson`, then the others in this order, `KeyInAnotherHall` behind `Range` and `TooManyCalls` last.
+/// `NotJson`, then the others in this order, `KeyInAnotherHall` behind `Range` and `TooManyCalls`
+/// last.
 #[derive(Clone, Copy, Debug, PartialEq, Eq, Error)]
 pub enum LineFault {
     /// The line is no JSON text, or isn't UTF-8.

@@ -19,7 +19,8 @@ pub enum FileHeader {
 }
 
 impl FileHeader {
-    /// The header of the histories' file: of version 2 where the quorums are known, else of version 1.
+    /// The header of the histories' file: of version 2 where the quorums are known, else of version
+    /// 1.
     pub(crate) fn of(histories: &Histories) -> FileHeader
         ensures header { result ≡ header_of histories.now }
         ensures lawful { HasLawful histories.now.quorums }

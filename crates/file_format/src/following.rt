@@ -1,7 +1,7 @@
 //! Rows that follow one another.
 ghost use Rattle.std.specs.Prelude.{ℕ, ◌≡◌, ◌≤◌};
 ghost use Rattle.recorder.specs.Histories.{IsWellFormed, call_count};
-ghost use Rattle.file_format.specs.Places.{FollowsBehind, FollowsRow};
+ghost use Rattle.file_format.specs.Places.{FollowsBehind, FollowsInHall, FollowsRow};
 
 use crate::LineFault;
 use crate::fault::Stop;
@@ -19,7 +19,8 @@ fn follow_invoke(
     key: Key,
     action: Action,
 ) -> Result<(), Stop>
-    ensures { history.old.limit ≡ 1000000 → call_count history.old.rows ≤ earlier → FollowsBehind earlier history.old (Row.Invoke op client key action) result history.new }
+    ensures { FollowsInHall earlier history.old
+        (Row.Invoke op client key action) result history.new }
 {
     if op.0 as usize != history.calls() {
         return Err(Stop::Fault(LineFault::CallOutOfTurn));
@@ -37,7 +38,8 @@ fn follow_invoke(
 }
 
 fn follow_note(history: &mut History, op: OpId, tag: Tag) -> Result<(), Stop>
-    ensures { (earlier : ℕ) → FollowsBehind earlier history.old (Row.Note op tag) result history.new }
+    ensures { (earlier : ℕ) → FollowsBehind earlier history.old
+        (Row.Note op tag) result history.new }
 {
     match history.note(op, tag) {
         Ok(()) => Ok(()),
@@ -48,7 +50,8 @@ fn follow_note(history: &mut History, op: OpId, tag: Tag) -> Result<(), Stop>
 }
 
 fn follow_respond(history: &mut History, op: OpId, returned: Returned) -> Result<(), Stop>
-    ensures { (earlier : ℕ) → FollowsBehind earlier history.old (Row.Respond op returned) result history.new }
+    ensures { (earlier : ℕ) → FollowsBehind earlier history.old
+        (Row.Respond op returned) result history.new }
 {
     match history.respond(op, returned) {
         Ok(()) => Ok(()),
@@ -59,7 +62,7 @@ fn follow_respond(history: &mut History, op: OpId, returned: Returned) -> Result
 }
 
 fn follow_row(history: &mut History, earlier: usize, row: Row) -> Result<(), Stop>
-    ensures { history.old.limit ≡ 1000000 → call_count history.old.rows ≤ earlier → FollowsBehind earlier history.old row result history.new }
+    ensures { FollowsInHall earlier history.old row result history.new }
 {
     match row {
         Row::Invoke {
@@ -73,10 +76,10 @@ fn follow_row(history: &mut History, earlier: usize, row: Row) -> Result<(), Sto
     }
 }
 
-/// Adds the row at the end of its hall's history, where so many calls began in all halls, or says which
-/// fault it has there.
+/// Adds the row at the end of its hall's history, where so many calls began in all halls, or says
+/// which fault it has there.
 pub(crate) fn follow_in_hall(history: &mut History, earlier: usize, row: Row) -> Result<(), Stop>
-    ensures follows { history.old.limit ≡ 1000000 → call_count history.old.rows ≤ earlier → FollowsBehind earlier history.old row result history.new }
+    ensures follows { FollowsInHall earlier history.old row result history.new }
     ensures formed { IsWellFormed history.new.rows }
     ensures few { call_count history.new.rows ≤ history.new.limit }
 {

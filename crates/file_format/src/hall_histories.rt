@@ -64,7 +64,9 @@ impl HallHistories {
 
     /// Adds the row at the end of its hall's rows, or says which fault it has there.
     pub fn follow(&mut self, item: HallRow) -> Result<(), Stop>
-        ensures follows { (header : FileHeader) (items : List HallRow) → MakesHistories header items self.old → AreHistories header items → Follows histories_format MakesHistories header items item result self.new }
+        ensures follows { (header : FileHeader) (items : List HallRow)
+            → MakesHistories header items self.old → AreHistories header items
+            → Follows histories_format MakesHistories header items item result self.new }
         ensures unchanged { OnErr result (self.new ≡ self.old) }
     {
         let HallRow { hall, row } = item;

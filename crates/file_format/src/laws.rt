@@ -40,8 +40,8 @@ pub fn a_piece_is_read_where_its_members_say_it()
     ensures { (d : Data) (piece : KeyOrder) → (piece_in d ≡ Ok piece) ↔ SaysPiece d piece }
 {}
 
-/// The fault of a value that is no row is the one that its members have: `Member` where one is missing
-/// or of the wrong kind, `Range` where none is and one is outside its range, and no other.
+/// The fault of a value that is no row is the one that its members have: `Member` where one is
+/// missing or of the wrong kind, `Range` where none is and one is outside its range, and no other.
 pub fn a_row_has_the_fault_of_its_members()
     ensures { (d : Data) → FaultsAre (row_in d) (HasRowFault d) }
 {}
@@ -51,21 +51,23 @@ pub fn a_piece_has_the_fault_of_its_members()
     ensures { (d : Data) → FaultsAre (piece_in d) (HasPieceFault d) }
 {}
 
-/// The fault of a value that is no header: `NoHeader` where it isn't of such a file, `Version` where it
-/// is and the version isn't 1, and no other.
+/// The fault of a value that is no header: `NoHeader` where it isn't of such a file, `Version`
+/// where it is and the version isn't 1, and no other.
 pub fn a_header_has_the_fault_of_its_members()
     ensures { (name : List ℕ) (d : Data) → FaultsAre (header_in name d) (HasHeaderFault name d) }
 {}
 
-/// A JSON value is read as the header of a history file of either version exactly where its members say
-/// so.
+/// A JSON value is read as the header of a history file of either version exactly where its members
+/// say so.
 pub fn a_file_header_is_read_where_its_members_say_it()
-    ensures { (d : Data) (header : FileHeader) → (file_header_in d ≡ Ok header) ↔ SaysFileHeader d header }
+    ensures { (d : Data) (header : FileHeader) → (file_header_in d ≡ Ok header)
+        ↔ SaysFileHeader d header }
 {}
 
 /// Behind a header, a JSON value is read as a row of a hall exactly where its members say it.
 pub fn a_row_of_a_hall_is_read_where_its_members_say_it()
-    ensures { (header : FileHeader) (d : Data) (item : HallRow) → (hall_row_in header d ≡ Ok item) ↔ SaysHallRow header d item }
+    ensures { (header : FileHeader) (d : Data) (item : HallRow) → (hall_row_in header d ≡ Ok item)
+        ↔ SaysHallRow header d item }
 {}
 
 /// The fault of a value that is no header of a history file of either version is the one that its
@@ -76,91 +78,122 @@ pub fn a_file_header_has_the_fault_of_its_members()
 
 /// The same of a value that is no row of a hall.
 pub fn a_row_of_a_hall_has_the_fault_of_its_members()
-    ensures { (header : FileHeader) (d : Data) → FaultsAre (hall_row_in header d) (HasHallRowFault header d) }
+    ensures { (header : FileHeader) (d : Data)
+        → FaultsAre (hall_row_in header d) (HasHallRowFault header d) }
 {}
 
 /// A line of a history file shows one row, or one fault.
 pub fn a_line_shows_one_row_or_fault()
-    ensures { (line : List ℕ) (a b : Result Row LineFault) → Shows row_in line a → Shows row_in line b → a ≡ b }
+    ensures { (line : List ℕ) (a b : Result Row LineFault) → Shows row_in line a
+        → Shows row_in line b → a ≡ b }
 {}
 
 /// Bytes are read as one history.
 pub fn bytes_are_read_as_one_history()
-    ensures { (bytes : List ℕ) (a b : Recorded) → Reads history_format MakesHistory bytes a → Reads history_format MakesHistory bytes b → a ≡ b }
+    ensures { (bytes : List ℕ) (a b : Recorded) → Reads history_format MakesHistory bytes a
+        → Reads history_format MakesHistory bytes b → a ≡ b }
 {}
 
 /// What is written of a history is read as that history.
 pub fn a_history_is_read_from_its_text()
-    ensures { (rows : List Row) → IsHistory rows → AreInRange rows → Reads history_format MakesHistory (history_text rows) (record { rows = rows; limit = 1000000 }) }
+    ensures { (rows : List Row) → IsHistory rows → AreInRange rows
+        → Reads history_format MakesHistory (history_text rows)
+        (record { rows = rows; limit = 1000000 }) }
 {}
 
 /// What is written of a history is read as no other one.
 pub fn a_text_is_read_as_its_history_alone()
-    ensures { (rows : List Row) (history : Recorded) → IsHistory rows → AreInRange rows → Reads history_format MakesHistory (history_text rows) history → history.rows ≡ rows }
+    ensures { (rows : List Row) (history : Recorded) → IsHistory rows → AreInRange rows
+        → Reads history_format MakesHistory (history_text rows) history → history.rows ≡ rows }
 {}
 
 /// Bytes are read as one row of histories.
 pub fn bytes_are_read_as_the_same_histories()
-    ensures { (bytes : List ℕ) (a b : RecordedHalls) → Reads histories_format MakesHistories bytes a → Reads histories_format MakesHistories bytes b → a ≡ b }
+    ensures { (bytes : List ℕ) (a b : RecordedHalls)
+        → Reads histories_format MakesHistories bytes a
+        → Reads histories_format MakesHistories bytes b → a ≡ b }
 {}
 
 /// A history file of version 1 is read as one hall, without quorums.
 pub fn a_history_is_read_as_one_hall()
-    ensures { (bytes : List ℕ) (history : Recorded) → Reads history_format MakesHistory bytes history → Reads histories_format MakesHistories bytes (record { halls = history ∷ []; quorums = None }) }
+    ensures { (bytes : List ℕ) (history : Recorded)
+        → Reads history_format MakesHistory bytes history
+        → Reads histories_format MakesHistories bytes
+        (record { halls = history ∷ []; quorums = None }) }
 {}
 
-/// What is written of histories is read as their rows by hall and their quorums, and as nothing else.
+/// What is written of histories is read as their rows by hall and their quorums, and as nothing
+/// else.
 pub fn histories_are_read_from_their_text()
-    ensures { (histories : RecordedHalls) → AreHalls histories → HasLawful histories.quorums → HaveFormed histories.halls → HasRowsInRange histories.halls → IsTextOfHistories (histories_text histories) histories }
+    ensures { (histories : RecordedHalls) → AreHalls histories → HasLawful histories.quorums
+        → HaveFormed histories.halls → HasRowsInRange histories.halls
+        → IsTextOfHistories (histories_text histories) histories }
 {}
 
 /// A history file of either version has one first fault.
 pub fn a_file_of_histories_has_one_first_fault()
-    ensures { (bytes : List ℕ) (m n : ℕ) (a b : LineFault) → FirstFaultInAll histories_format bytes m a → FirstFaultInAll histories_format bytes n b → (m ≡ n) × (a ≡ b) }
+    ensures { (bytes : List ℕ) (m n : ℕ) (a b : LineFault)
+        → FirstFaultInAll histories_format bytes m a → FirstFaultInAll histories_format bytes n b
+        → (m ≡ n) × (a ≡ b) }
 {}
 
-/// The first fault of a history file of version 1 is its first fault as histories too, where it isn't
-/// that of its version.
+/// The first fault of a history file of version 1 is its first fault as histories too, where it
+/// isn't that of its version.
 pub fn a_fault_of_a_history_is_one_of_histories()
-    ensures { (bytes : List ℕ) (n : ℕ) (fault : LineFault) → fault ≢ Version → FirstFaultInAll history_format bytes n fault → FirstFaultInAll histories_format bytes n fault }
+    ensures { (bytes : List ℕ) (n : ℕ) (fault : LineFault) → fault ≢ Version
+        → FirstFaultInAll history_format bytes n fault
+        → FirstFaultInAll histories_format bytes n fault }
 {}
 
 /// Bytes that are read as histories have no fault.
 pub fn histories_have_no_fault()
-    ensures { (bytes : List ℕ) (histories : RecordedHalls) (n : ℕ) (fault : LineFault) → Reads histories_format MakesHistories bytes histories → FirstFaultInAll histories_format bytes n fault → ⊥ }
+    ensures { (bytes : List ℕ) (histories : RecordedHalls) (n : ℕ) (fault : LineFault)
+        → Reads histories_format MakesHistories bytes histories
+        → FirstFaultInAll histories_format bytes n fault → ⊥ }
 {}
 
 /// Bytes are read as one list of orders.
 pub fn bytes_are_read_as_one_list_of_orders()
-    ensures { (bytes : List ℕ) (a b : List KeyOrder) → Reads order_format MakesJoined bytes a → Reads order_format MakesJoined bytes b → a ≡ b }
+    ensures { (bytes : List ℕ) (a b : List KeyOrder) → Reads order_format MakesJoined bytes a
+        → Reads order_format MakesJoined bytes b → a ≡ b }
 {}
 
 /// What is written of orders of distinct keys is read as those orders.
 pub fn orders_are_read_from_their_text()
-    ensures { (orders : List KeyOrder) → AreOrdersInRange orders → HaveDistinctKeys orders → AreFew orders → Reads order_format MakesJoined (orders_text orders) orders }
+    ensures { (orders : List KeyOrder) → AreOrdersInRange orders → HaveDistinctKeys orders
+        → AreFew orders → Reads order_format MakesJoined (orders_text orders) orders }
 {}
 
 /// What is written of orders of distinct keys is read as no others.
 pub fn a_text_is_read_as_its_orders_alone()
-    ensures { (orders others : List KeyOrder) → AreOrdersInRange orders → HaveDistinctKeys orders → AreFew orders → Reads order_format MakesJoined (orders_text orders) others → others ≡ orders }
+    ensures { (orders others : List KeyOrder) → AreOrdersInRange orders → HaveDistinctKeys orders
+        → AreFew orders → Reads order_format MakesJoined (orders_text orders) others
+        → others ≡ orders }
 {}
 
 /// A history file has one first fault.
 pub fn a_history_file_has_one_first_fault()
-    ensures { (bytes : List ℕ) (m n : ℕ) (a b : LineFault) → FirstFaultInAll history_format bytes m a → FirstFaultInAll history_format bytes n b → (m ≡ n) × (a ≡ b) }
+    ensures { (bytes : List ℕ) (m n : ℕ) (a b : LineFault)
+        → FirstFaultInAll history_format bytes m a → FirstFaultInAll history_format bytes n b
+        → (m ≡ n) × (a ≡ b) }
 {}
 
 /// An order file has one first fault.
 pub fn an_order_file_has_one_first_fault()
-    ensures { (bytes : List ℕ) (m n : ℕ) (a b : LineFault) → FirstFaultInAll order_format bytes m a → FirstFaultInAll order_format bytes n b → (m ≡ n) × (a ≡ b) }
+    ensures { (bytes : List ℕ) (m n : ℕ) (a b : LineFault) → FirstFaultInAll order_format bytes m a
+        → FirstFaultInAll order_format bytes n b → (m ≡ n) × (a ≡ b) }
 {}
 
 /// Bytes that are read as a history have no fault.
 pub fn a_history_has_no_fault()
-    ensures { (bytes : List ℕ) (history : Recorded) (n : ℕ) (fault : LineFault) → Reads history_format MakesHistory bytes history → FirstFaultInAll history_format bytes n fault → ⊥ }
+    ensures { (bytes : List ℕ) (history : Recorded) (n : ℕ) (fault : LineFault)
+        → Reads history_format MakesHistory bytes history
+        → FirstFaultInAll history_format bytes n fault → ⊥ }
 {}
 
 /// Bytes that are read as orders have no fault.
 pub fn orders_have_no_fault()
-    ensures { (bytes : List ℕ) (orders : List KeyOrder) (n : ℕ) (fault : LineFault) → Reads order_format MakesJoined bytes orders → FirstFaultInAll order_format bytes n fault → ⊥ }
+    ensures { (bytes : List ℕ) (orders : List KeyOrder) (n : ℕ) (fault : LineFault)
+        → Reads order_format MakesJoined bytes orders → FirstFaultInAll order_format bytes n fault
+        → ⊥ }
 {}

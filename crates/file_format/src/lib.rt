@@ -1,5 +1,5 @@
-//! The texts of histories and of orders: what a line says, what it shows by itself and behind others,
-//! and what is written.
+//! The texts of histories and of orders: what a line says, what it shows by itself and behind
+//! others, and what is written.
 //!
 //! A JSON value is read as a row, or as a piece of an order, exactly where its members say it. What
 //! is written of a history, or of orders of distinct keys, is read as that and nothing else.

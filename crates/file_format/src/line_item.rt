@@ -28,15 +28,16 @@ pub trait LineItem: Drop + Sized {
 
     ghost meaning: { Self.Header → Data → Result Self LineFault };
 
-    /// The item that the line, without its end, is written for behind that header, where `text` is lent
-    /// room for a line. `None` says nothing; `Memory` comes only where a growth was refused.
+    /// The item that the line, without its end, is written for behind that header, where `text` is
+    /// lent room for a line. `None` says nothing; `Memory` comes only where a growth was refused.
     fn written_on(
         alloc: Global,
         header: Self::Header,
         text: &mut Vec<u8>,
         line: &[u8],
     ) -> Result<Option<Self>, Memory>
-        ensures { IfOk result (λ found. IfSome found (λ item. Shows (meaning header) line.now (Ok item))) };
+        ensures { IfOk result (λ found. IfSome found
+            (λ item. Shows (meaning header) line.now (Ok item))) };
 
     /// The item that the value says behind that header.
     fn item_in(alloc: Global, header: Self::Header, document: &Document<'_>) -> Result<Self, Stop>

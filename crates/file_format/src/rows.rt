@@ -84,7 +84,8 @@ fn answer_of(alloc: Global, text: &str) -> Result<Returned, Stop>
 
 #[tactic(auto, unfolding(crate::specs::Rows::returned_of, crate::specs::Rows::answer_of))]
 fn returned_in(alloc: Global, document: &Document<'_>) -> Result<Returned, Stop>
-    ensures { Gives (λ returned. returned) result (returned_of (get (codes "value") (data_in document.now))) }
+    ensures { Gives (λ returned. returned) result
+        (returned_of (get (codes "value") (data_in document.now))) }
 {
     match document.member("value") {
         Member::Missing => Ok(Returned::Written),

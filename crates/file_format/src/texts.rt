@@ -99,7 +99,8 @@ fn vote_of(quorums: &Quorums, replica: ReplicaId) -> u8
 
 /// Adds the votes of the replicas, a comma between two, and the bracket behind them.
 fn append_votes(out: &mut Vec<u8>, quorums: &Quorums) -> Result<(), Memory>
-    ensures { OnOk result (out.new.items ≡ out.old.items ++ items_text false (numbers_data quorums.now.votes)) }
+    ensures { OnOk result (out.new.items
+        ≡ out.old.items ++ items_text false (numbers_data quorums.now.votes)) }
 {
     for number in 0..quorums.replicas() {
         if let Some(replica) = ReplicaId::new(number) {
@@ -116,7 +117,8 @@ fn append_votes(out: &mut Vec<u8>, quorums: &Quorums) -> Result<(), Memory>
 
 /// Adds the header of a history file of version 2.
 fn append_quorums(out: &mut Vec<u8>, halls: Halls, quorums: &Quorums) -> Result<(), Memory>
-    ensures { OnOk result (out.new.items ≡ out.old.items ++ line_text (file_header_data (FileHeader.Version2 halls quorums.now))) }
+    ensures { OnOk result (out.new.items
+        ≡ out.old.items ++ line_text (file_header_data (FileHeader.Version2 halls quorums.now))) }
 {
     append_number(
         out,
@@ -133,7 +135,8 @@ fn append_quorums(out: &mut Vec<u8>, halls: Halls, quorums: &Quorums) -> Result<
 /// Adds the header of a history file of either version.
 #[tactic(auto, unfolding(crate::specs::Texts::file_header_data))]
 pub(crate) fn append_file_header(out: &mut Vec<u8>, header: &FileHeader) -> Result<(), Memory>
-    ensures { OnOk result (out.new.items ≡ out.old.items ++ line_text (file_header_data header.now)) }
+    ensures { OnOk result (out.new.items
+        ≡ out.old.items ++ line_text (file_header_data header.now)) }
 {
     match header {
         FileHeader::Version1 => append_header(out, "history"),
@@ -160,7 +163,8 @@ fn append_invoke(
     key: &Key,
     action: &Action,
 ) -> Result<(), Memory>
-    ensures text { OnOk result (out.new.items ≡ out.old.items ++ placed_text hall (Row.Invoke op client key.now action.now)) }
+    ensures text { OnOk result (out.new.items
+        ≡ out.old.items ++ placed_text hall (Row.Invoke op client key.now action.now)) }
     ensures range { OnOk result (IsInvocation op client key.now action.now) }
 {
     append_number(out, b"{\"call\":", op.0)?;
@@ -181,7 +185,8 @@ fn append_invoke(
 }
 
 fn append_note(out: &mut Vec<u8>, hall: Option<u8>, op: OpId, tag: Tag) -> Result<(), Memory>
-    ensures text { OnOk result (out.new.items ≡ out.old.items ++ placed_text hall (Row.Note op tag)) }
+    ensures text { OnOk result (out.new.items
+        ≡ out.old.items ++ placed_text hall (Row.Note op tag)) }
     ensures range { OnOk result (IsNote op tag) }
 {
     append_number(out, b"{\"call\":", op.0)?;
@@ -193,7 +198,10 @@ fn append_note(out: &mut Vec<u8>, hall: Option<u8>, op: OpId, tag: Tag) -> Resul
 
 /// Adds what a read's response has behind its call and its hall.
 fn append_answer(out: &mut Vec<u8>, answer: &Option<Value>) -> Result<(), Memory>
-    ensures text { OnOk result (out.new.items ≡ out.old.items ++ ended (members_text true (member (codes "row") (string (codes "respond")) (answered_value (Returned.Value answer.now))))) }
+    ensures text { OnOk result (out.new.items
+        ≡ out.old.items ++ ended
+        (members_text true (member (codes "row") (string (codes "respond"))
+        (answered_value (Returned.Value answer.now))))) }
     ensures range { OnOk result (HasAnswerIn (Returned.Value answer.now)) }
 {
     match answer {
@@ -211,7 +219,8 @@ fn append_respond(
     op: OpId,
     returned: &Returned,
 ) -> Result<(), Memory>
-    ensures text { OnOk result (out.new.items ≡ out.old.items ++ placed_text hall (Row.Respond op returned.now)) }
+    ensures text { OnOk result (out.new.items
+        ≡ out.old.items ++ placed_text hall (Row.Respond op returned.now)) }
     ensures range { OnOk result (IsResponse op returned.now) }
 {
     append_number(out, b"{\"call\":", op.0)?;
@@ -241,7 +250,8 @@ pub(crate) fn append_row(out: &mut Vec<u8>, hall: Option<u8>, row: &Row) -> Resu
 
 /// Adds the calls' numbers, a comma between two, and the bracket behind them.
 fn append_calls(out: &mut Vec<u8>, calls: &[OpId]) -> Result<(), Memory>
-    ensures text { OnOk result (out.new.items ≡ out.old.items ++ items_text false (calls_data calls.now)) }
+    ensures text { OnOk result (out.new.items
+        ≡ out.old.items ++ items_text false (calls_data calls.now)) }
     ensures range { OnOk result (AreOps calls.now) }
 {
     for (place, call) in calls.iter().enumerate() {
@@ -256,7 +266,8 @@ fn append_calls(out: &mut Vec<u8>, calls: &[OpId]) -> Result<(), Memory>
 
 /// Adds the line of a piece of the key's order.
 pub(crate) fn append_piece(out: &mut Vec<u8>, key: &Key, calls: &[OpId]) -> Result<(), Memory>
-    ensures text { OnOk result (out.new.items ≡ out.old.items ++ piece_text (record { key = key.now; order = calls.now })) }
+    ensures text { OnOk result (out.new.items
+        ≡ out.old.items ++ piece_text (record { key = key.now; order = calls.now })) }
     ensures range { OnOk result (IsOrderInRange (record { key = key.now; order = calls.now })) }
 {
     append_quoted(out, b"{\"key\":", key.as_str())?;

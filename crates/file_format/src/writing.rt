@@ -1,8 +1,7 @@
 //! Files to writers.
 ghost use Rattle.std.specs.Prelude.{◌≡◌, ◌++◌, OnOk, OnErr, IfOk, IfErr};
 ghost use Rattle.std.specs.List.{flat_map};
-ghost use Rattle.std.specs.Io.KnownBytes.{Appends};
-ghost use Rattle.counted_devices.specs.Sendings.{Leaves, Begins, HasFailedBy};
+ghost use Rattle.counted_devices.specs.Sendings.{FailsBy, Sends, SendsBut, SendsStart};
 ghost use Rattle.file_format.specs.HistoryFormat.{IsHistory};
 ghost use Rattle.file_format.specs.OrderFormat.{AreFew};
 ghost use Rattle.file_format.specs.Ranges.{IsInRange, IsWritten, IsOrderInRange, HaveDistinctKeys};
@@ -41,16 +40,19 @@ pub fn history_text(alloc: Global, history: &History) -> Result<Vec<u8>, Memory>
     Ok(text)
 }
 
-/// The row's line, with its hall where that is a member, comes behind what waits, which goes out once it is enough.
+/// The row's line, with its hall where that is a member, comes behind what waits, which goes out
+/// once it is enough.
 fn write_row<W: CountedWrite>(
     hall: Option<u8>,
     row: &Row,
     batch: &mut Vec<u8>,
     writer: &mut W,
 ) -> Result<(), WriteFault>
-    ensures sent { OnOk result (Leaves (W.contents writer.old) (W.contents writer.new) (batch.old.items ++ placed_text hall row.now) batch.new.items) }
-    ensures begun { OnErr result (Begins (W.contents writer.old) (W.contents writer.new) (batch.old.items ++ placed_text hall row.now)) }
-    ensures device { IfErr result (λ fault. HasFailedBy fault (W.failures writer.old) (W.failures writer.new)) }
+    ensures sent { OnOk result (SendsBut W.contents writer.old writer.new
+        (batch.old.items ++ placed_text hall row.now) batch.new.items) }
+    ensures begun { OnErr result (SendsStart W.contents writer.old writer.new
+        (batch.old.items ++ placed_text hall row.now)) }
+    ensures device { IfErr result (FailsBy W.failures writer.old writer.new) }
     ensures counted { OnOk result (W.failures writer.new ≡ W.failures writer.old) }
     ensures range { OnOk result (IsInRange row.now) }
 {
@@ -68,9 +70,11 @@ pub fn write_history<W: CountedWrite>(
     history: &History,
     writer: &mut W,
 ) -> Result<(), WriteFault>
-    ensures written { OnOk result (Appends (W.contents writer.old) (W.contents writer.new) (history_text history.now.rows)) }
-    ensures begun { OnErr result (Begins (W.contents writer.old) (W.contents writer.new) (history_text history.now.rows)) }
-    ensures device { IfErr result (λ fault. HasFailedBy fault (W.failures writer.old) (W.failures writer.new)) }
+    ensures written { OnOk result (Sends W.contents writer.old writer.new
+        (history_text history.now.rows)) }
+    ensures begun { OnErr result (SendsStart W.contents writer.old writer.new
+        (history_text history.now.rows)) }
+    ensures device { IfErr result (FailsBy W.failures writer.old writer.new) }
     ensures counted { OnOk result (W.failures writer.new ≡ W.failures writer.old) }
     ensures read { OnOk result (IsTextOf (history_text history.now.rows) history.now.rows) }
 {
@@ -89,9 +93,11 @@ fn write_hall<W: CountedWrite>(
     batch: &mut Vec<u8>,
     writer: &mut W,
 ) -> Result<(), WriteFault>
-    ensures sent { OnOk result (Leaves (W.contents writer.old) (W.contents writer.new) (batch.old.items ++ flat_map (placed_text hall) history.now.rows) batch.new.items) }
-    ensures begun { OnErr result (Begins (W.contents writer.old) (W.contents writer.new) (batch.old.items ++ flat_map (placed_text hall) history.now.rows)) }
-    ensures device { IfErr result (λ fault. HasFailedBy fault (W.failures writer.old) (W.failures writer.new)) }
+    ensures sent { OnOk result (SendsBut W.contents writer.old writer.new
+        (batch.old.items ++ flat_map (placed_text hall) history.now.rows) batch.new.items) }
+    ensures begun { OnErr result (SendsStart W.contents writer.old writer.new
+        (batch.old.items ++ flat_map (placed_text hall) history.now.rows)) }
+    ensures device { IfErr result (FailsBy W.failures writer.old writer.new) }
     ensures counted { OnOk result (W.failures writer.new ≡ W.failures writer.old) }
     ensures range { OnOk result (IsWritten history.now) }
 {
@@ -111,9 +117,11 @@ pub fn write_histories<W: CountedWrite>(
     histories: &Histories,
     writer: &mut W,
 ) -> Result<(), WriteFault>
-    ensures written { OnOk result (Appends (W.contents writer.old) (W.contents writer.new) (histories_text histories.now)) }
-    ensures begun { OnErr result (Begins (W.contents writer.old) (W.contents writer.new) (histories_text histories.now)) }
-    ensures device { IfErr result (λ fault. HasFailedBy fault (W.failures writer.old) (W.failures writer.new)) }
+    ensures written { OnOk result (Sends W.contents writer.old writer.new
+        (histories_text histories.now)) }
+    ensures begun { OnErr result (SendsStart W.contents writer.old writer.new
+        (histories_text histories.now)) }
+    ensures device { IfErr result (FailsBy W.failures writer.old writer.new) }
     ensures counted { OnOk result (W.failures writer.new ≡ W.failures writer.old) }
     ensures read { OnOk result (IsTextOfHistories (histories_text histories.now) histories.now) }
 {
@@ -134,9 +142,12 @@ fn write_piece<W: CountedWrite>(
     batch: &mut Vec<u8>,
     writer: &mut W,
 ) -> Result<(), WriteFault>
-    ensures sent { OnOk result (Leaves (W.contents writer.old) (W.contents writer.new) (batch.old.items ++ piece_text (record { key = key.now; order = calls.now })) batch.new.items) }
-    ensures begun { OnErr result (Begins (W.contents writer.old) (W.contents writer.new) (batch.old.items ++ piece_text (record { key = key.now; order = calls.now }))) }
-    ensures device { IfErr result (λ fault. HasFailedBy fault (W.failures writer.old) (W.failures writer.new)) }
+    ensures sent { OnOk result (SendsBut W.contents writer.old writer.new
+        (batch.old.items ++ piece_text
+        (record { key = key.now; order = calls.now })) batch.new.items) }
+    ensures begun { OnErr result (SendsStart W.contents writer.old writer.new
+        (batch.old.items ++ piece_text (record { key = key.now; order = calls.now }))) }
+    ensures device { IfErr result (FailsBy W.failures writer.old writer.new) }
     ensures counted { OnOk result (W.failures writer.new ≡ W.failures writer.old) }
     ensures range { OnOk result (IsOrderInRange (record { key = key.now; order = calls.now })) }
 {
@@ -150,9 +161,11 @@ fn write_order<W: CountedWrite>(
     batch: &mut Vec<u8>,
     writer: &mut W,
 ) -> Result<(), WriteFault>
-    ensures sent { OnOk result (Leaves (W.contents writer.old) (W.contents writer.new) (batch.old.items ++ order_text order.now) batch.new.items) }
-    ensures begun { OnErr result (Begins (W.contents writer.old) (W.contents writer.new) (batch.old.items ++ order_text order.now)) }
-    ensures device { IfErr result (λ fault. HasFailedBy fault (W.failures writer.old) (W.failures writer.new)) }
+    ensures sent { OnOk result (SendsBut W.contents writer.old writer.new
+        (batch.old.items ++ order_text order.now) batch.new.items) }
+    ensures begun { OnErr result (SendsStart W.contents writer.old writer.new
+        (batch.old.items ++ order_text order.now)) }
+    ensures device { IfErr result (FailsBy W.failures writer.old writer.new) }
     ensures counted { OnOk result (W.failures writer.new ≡ W.failures writer.old) }
     ensures range { OnOk result (IsOrderInRange order.now) }
 {
@@ -174,11 +187,14 @@ pub fn write_orders<W: CountedWrite>(
     orders: &[KeyOrder],
     writer: &mut W,
 ) -> Result<(), WriteFault>
-    ensures written { OnOk result (Appends (W.contents writer.old) (W.contents writer.new) (orders_text orders.now)) }
-    ensures begun { OnErr result (Begins (W.contents writer.old) (W.contents writer.new) (orders_text orders.now)) }
-    ensures device { IfErr result (λ fault. HasFailedBy fault (W.failures writer.old) (W.failures writer.new)) }
+    ensures written { OnOk result (Sends W.contents writer.old writer.new
+        (orders_text orders.now)) }
+    ensures begun { OnErr result (SendsStart W.contents writer.old writer.new
+        (orders_text orders.now)) }
+    ensures device { IfErr result (FailsBy W.failures writer.old writer.new) }
     ensures counted { OnOk result (W.failures writer.new ≡ W.failures writer.old) }
-    ensures read { OnOk result (HaveDistinctKeys orders.now → AreFew orders.now → IsTextOfOrders (orders_text orders.now) orders.now) }
+    ensures read { OnOk result (HaveDistinctKeys orders.now → AreFew orders.now
+        → IsTextOfOrders (orders_text orders.now) orders.now) }
 {
     let mut batch = Vec::new(alloc);
     append_header(&mut batch, "orders")?;

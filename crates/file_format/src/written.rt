@@ -1,7 +1,7 @@
 //! Lines as this crate writes them, read without JSON.
 //!
-//! What a line may be is guessed from its bytes in one pass, and taken only where the line that is written for
-//! it is the very same. So nothing rests on the guess but the time that it takes.
+//! What a line may be is guessed from its bytes in one pass, and taken only where the line that is
+//! written for it is the very same. So nothing rests on the guess but the time that it takes.
 ghost use Rattle.std.specs.Prelude.{◌≡◌, Ok, IfOk, IfSome, IsTrue};
 ghost use Rattle.counted_devices.specs.Cuts.{ended};
 ghost use Rattle.file_format.specs.HallRows.{hall_row_in};
@@ -180,8 +180,8 @@ fn is_line(text: &mut Vec<u8>, line: &[u8]) -> bool
     text.pop() == Some(b'\n') && text.as_slice() == line
 }
 
-/// The row that the line, without its end, is written for, where `text` is lent room for a line. `None`
-/// says nothing; `Memory` comes only where a growth was refused.
+/// The row that the line, without its end, is written for, where `text` is lent room for a line.
+/// `None` says nothing; `Memory` comes only where a growth was refused.
 pub(crate) fn written_row(
     alloc: Global,
     text: &mut Vec<u8>,
@@ -208,7 +208,8 @@ pub(crate) fn written_hall_row(
     text: &mut Vec<u8>,
     line: &[u8],
 ) -> Result<Option<HallRow>, Memory>
-    ensures { IfOk result (λ found. IfSome found (λ item. Shows (hall_row_in header) line.now (Ok item))) }
+    ensures { IfOk result (λ found. IfSome found
+        (λ item. Shows (hall_row_in header) line.now (Ok item))) }
 {
     let Some(item) = guessed_row(alloc, line)? else {
         return Ok(None);
@@ -259,8 +260,8 @@ fn guessed_piece(alloc: Global, line: &[u8]) -> Result<Option<KeyOrder>, Memory>
     }
 }
 
-/// The piece of an order that the line, without its end, is written for, where `text` is lent room for a
-/// line. `None` says nothing; `Memory` comes only where a growth was refused.
+/// The piece of an order that the line, without its end, is written for, where `text` is lent room
+/// for a line. `None` says nothing; `Memory` comes only where a growth was refused.
 pub(crate) fn written_piece(
     alloc: Global,
     text: &mut Vec<u8>,
