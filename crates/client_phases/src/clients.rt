@@ -68,8 +68,8 @@ impl Client {
         }
     }
 
-    /// What `take` would make of the reply. As there, a pair that a write counts has to have a number
-    /// below 1,000,000.
+    /// What `take` would make of the reply. As there, a pair that a write counts has to have a
+    /// number below 1,000,000.
     pub fn foresee(&self, reply: &Reply) -> Taken
         requires { MayTake self.now reply.now }
         ensures { result ≡ taken self.now reply.now }
@@ -79,8 +79,8 @@ impl Client {
 
     /// Takes a reply. A stale one changes nothing; one that counts may end the phase.
     ///
-    /// A reply counts where it names the pending call, is `Held` while the client asks or `Kept` while
-    /// it puts, and comes from a replica below the count that this phase hasn't counted.
+    /// A reply counts where it names the pending call, is `Held` while the client asks or `Kept`
+    /// while it puts, and comes from a replica below the count that this phase hasn't counted.
     pub fn take(&mut self, reply: Reply) -> Taken
         requires { MayTake self.old reply }
         ensures answer { result ≡ taken self.old reply }
@@ -93,8 +93,8 @@ impl Client {
         taken
     }
 
-    /// A copy of the answer, which is there exactly when the client is ready. `Memory` comes only where
-    /// the copy was refused.
+    /// A copy of the answer, which is there exactly when the client is ready. `Memory` comes only
+    /// where the copy was refused.
     pub fn answer(&self) -> Result<Option<Returned>, Memory>
         ensures value { IfOk result (λ answer. answer ≡ answer_of self.now) }
         ensures nothing { answer_of self.now ≡ None → result ≡ Ok None }

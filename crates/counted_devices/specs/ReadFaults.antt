@@ -2,6 +2,7 @@
 use Rattle.std.specs.Prelude.{ℕ}
 use Rattle.counted_devices.specs.declared.read_fault.FaultKind.{FaultKind}
 use Rattle.counted_devices.specs.declared.read_fault.FaultKind.TheVariants as kind
+use Rattle.counted_devices.specs.declared.read_fault.ReadFault.{ReadFault}
 use Rattle.counted_devices.specs.declared.read_fault.Stop.{Stop}
 use Rattle.counted_devices.specs.declared.read_fault.Stop.TheVariants as stop
 use Rattle.counted_devices.specs.Counts.{IsOneMore}
@@ -21,3 +22,7 @@ IsFaultBy OfLine OfDevice kind.Memory = Unit {0}
 abbrev pub HasFailed : {L : Type 0} → FaultKind L → ℕ → ℕ → Type 0
 HasFailed kind.Device old new = IsOneMore old new
 HasFailed k old new = Unit {0}
+
+-- the same of a fault between two states of a reader
+abbrev pub FailsFrom : {L R : Type 0} → (R → ℕ) → R → R → ReadFault L → Type 0
+FailsFrom failures old new fault = HasFailed fault.kind (failures old) (failures new)

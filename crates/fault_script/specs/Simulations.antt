@@ -1,6 +1,8 @@
 -- What a simulation reads and writes.
-use Rattle.std.specs.Prelude.{ℕ, List, Option}
+use Rattle.std.specs.Prelude.{ℕ, ◌≡◌, List, Option}
+use Rattle.counted_devices.specs.Counts.{IsOneMore}
 use Rattle.counted_devices.specs.Deliveries.{Delivers}
+use Rattle.counted_devices.specs.Sendings.{Sends, SendsStart}
 use Rattle.file_format.specs.ReadAgain.{IsTextOf}
 use Rattle.file_format.specs.Texts.{history_text}
 use Rattle.recorder.specs.Records.{IsPart}
@@ -35,3 +37,19 @@ abbrev pub IfScript : SimulateError → (ScriptError → Type 0) → Type 0
 IfScript (error.Script why) P = P why
 IfScript error.Memory P = Unit {0}
 IfScript error.Device P = Unit {0}
+
+-- the text is that of the record of a run of the script that says those notes
+abbrev pub AreTextsOf : Script → List ℕ → List ℕ → Type 0
+AreTextsOf script notes history = (rows : List Row) × IsSoundRun script rows notes × (history ≡ history_text rows)
+
+-- two writers took a text each, all of it
+abbrev pub SendsBoth : {N W : Type 0} → (N → Option (List ℕ)) → N → N → (W → Option (List ℕ)) → W → W → List ℕ → List ℕ → Type 0
+SendsBoth said_by notes_old notes_new written_by old new notes text = Sends said_by notes_old notes_new notes × Sends written_by old new text
+
+-- the first of two writers failed behind a beginning of its text, and the second took nothing
+abbrev pub FailsFirst : {N W : Type 0} → (N → Option (List ℕ)) → (N → ℕ) → N → N → W → W → List ℕ → Type 0
+FailsFirst said_by failures notes_old notes_new old new notes = SendsStart said_by notes_old notes_new notes × IsOneMore (failures notes_old) (failures notes_new) × (new ≡ old)
+
+-- the writer failed behind a beginning of its text
+abbrev pub FailsBehind : {W : Type 0} → (W → Option (List ℕ)) → (W → ℕ) → W → W → List ℕ → Type 0
+FailsBehind written_by failures old new text = SendsStart written_by old new text × IsOneMore (failures old) (failures new)

@@ -26,6 +26,10 @@ without_spaces text = drop (position_or_len (λ b. not (is_space b)) text) text
 unfoldable pub behind_word : List ℕ → List ℕ
 behind_word text = after_first is_space (without_spaces text)
 
+-- what stands behind the first three words
+abbrev pub behind_three : List ℕ → List ℕ
+behind_three text = behind_word (behind_word (behind_word text))
+
 -- the line without a final byte 13
 abbrev pub without_return : List ℕ → List ℕ
 without_return line = if slice_index line (length line - 1) == 13 then take (length line - 1) line else line

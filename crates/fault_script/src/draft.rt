@@ -49,7 +49,8 @@ impl Draft {
     /// Sets the configuration, as a line of whatever number says.
     fn open(&mut self, opened: Opened)
         requires { self.old.count < 1000000 }
-        ensures { (saids : List Placed) (line : ℕ) → IsDraft saids self.old → IsDraft (saids ++ record { line = line; said = Said.Opens opened } ∷ []) self.new }
+        ensures { (saids : List Placed) (line : ℕ) → IsDraft saids self.old
+            → IsDraft (saids ++ record { line = line; said = Said.Opens opened } ∷ []) self.new }
     {
         self.opened = Some(opened);
         self.count += 1;
@@ -58,7 +59,8 @@ impl Draft {
     /// Adds the command of the line of that number.
     fn run(&mut self, line: u64, command: Command) -> Result<(), Memory>
         requires { self.old.count < 1000000 }
-        ensures { OnOk result ((saids : List Placed) → IsDraft saids self.old → IsDraft (saids ++ record { line = line; said = Said.Runs command } ∷ []) self.new) }
+        ensures { OnOk result ((saids : List Placed) → IsDraft saids self.old
+            → IsDraft (saids ++ record { line = line; said = Said.Runs command } ∷ []) self.new) }
     {
         self.commands.push(Numbered { line, command })?;
         self.opened = behind_command(self.opened);

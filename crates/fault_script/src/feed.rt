@@ -47,9 +47,11 @@ impl Feed {
     /// Keeps bytes of the line that is under way.
     fn keep(&mut self, part: &[u8]) -> Result<(), ScriptError>
         requires { self.old.progress.lines < 2 ^ 63 }
-        ensures fed { (bytes : List ℕ) → Stands bytes self.old → HasNoEnd part.now → Fed (bytes ++ part.now) result self.new }
+        ensures fed { (bytes : List ℕ) → Stands bytes self.old → HasNoEnd part.now
+            → Fed (bytes ++ part.now) result self.new }
         ensures lines { OnOk result (self.new.progress.lines ≡ self.old.progress.lines) }
-        ensures rest { OnOk result (length self.new.rest.items ≡ length self.old.rest.items + length part.now) }
+        ensures rest { OnOk result (length self.new.rest.items
+            ≡ length self.old.rest.items + length part.now) }
     {
         if self.rest.len().saturating_add(part.len()) > LONGEST {
             return Err(ScriptError::at(self.line(), Stop::Fault(LineFault::TooLong)));
@@ -63,7 +65,8 @@ impl Feed {
     /// Ends the line that is under way, of which these are the last bytes.
     fn end_line(&mut self, part: &[u8]) -> Result<(), ScriptError>
         requires { self.old.progress.lines < 2 ^ 63 }
-        ensures ended { (bytes : List ℕ) → Stands bytes self.old → HasNoEnd part.now → Ended (bytes ++ ended part.now) result self.new }
+        ensures ended { (bytes : List ℕ) → Stands bytes self.old → HasNoEnd part.now
+            → Ended (bytes ++ ended part.now) result self.new }
         ensures lines { OnOk result (self.new.progress.lines ≡ self.old.progress.lines + 1) }
         ensures rest { OnOk result (length self.new.rest.items ≡ 0) }
     {
@@ -78,9 +81,12 @@ impl Feed {
 
     /// Takes the next piece.
     pub(crate) fn feed(&mut self, piece: &[u8]) -> Result<(), ScriptError>
-        requires { self.old.progress.lines + length self.old.rest.items + length piece.now < 2 ^ 63 }
-        ensures fed { (bytes : List ℕ) → Stands bytes self.old → Fed (bytes ++ piece.now) result self.new }
-        ensures room { OnOk result (self.new.progress.lines + length self.new.rest.items ≤ self.old.progress.lines + length self.old.rest.items + length piece.now) }
+        requires { self.old.progress.lines + length self.old.rest.items
+            + length piece.now < 2 ^ 63 }
+        ensures fed { (bytes : List ℕ) → Stands bytes self.old
+            → Fed (bytes ++ piece.now) result self.new }
+        ensures room { OnOk result (self.new.progress.lines + length self.new.rest.items
+            ≤ self.old.progress.lines + length self.old.rest.items + length piece.now) }
     {
         let mut left = piece;
         while let Some(end) = first_end(left) {

@@ -9,11 +9,12 @@ use tag::Memory;
 use witness_order::justified_orders;
 use world_steps::{Config, Step, run};
 
-/// The record of the world after these steps, with an order of each key's calls, the keys as the record
-/// first sees them.
+/// The record of the world after these steps, with an order of each key's calls, the keys as the
+/// record first sees them.
 ///
-/// For every configuration and every list of steps the record is atomic: each order is one of its key's
-/// part. Steps that are refused are passed over; `Memory` comes only where a growth was refused.
+/// For every configuration and every list of steps the record is atomic: each order is one of its
+/// key's part. Steps that are refused are passed over; `Memory` comes only where a growth was
+/// refused.
 pub fn justified_run(
     alloc: Global,
     config: Config,

@@ -13,7 +13,7 @@ ghost use Rattle.fault_script.specs.declared.command.Command.{Command};
 ghost use Rattle.fault_script.specs.declared.command.Script.{Script};
 ghost use Rattle.fault_script.specs.Scripts.{Commands};
 ghost use Rattle.fault_script.specs.ScriptRuns.{RunsAll, IsRunOf};
-ghost use Rattle.fault_script.specs.Words.{words, behind_word};
+ghost use Rattle.fault_script.specs.Words.{words, behind_three};
 ghost use Rattle.fault_script.specs.Commands.{command_in};
 ghost use Rattle.fault_script.specs.declared.fault.LineFault.TheVariants.{UnknownCommand, Range};
 ghost use Rattle.fault_script.specs.Forms.{SaysCommand, HasForm};
@@ -26,23 +26,29 @@ ghost use Rattle.file_format.specs.LineFaults.{FaultsAre};
 
 /// A line is read as a command exactly where its words say the command.
 pub fn a_command_is_read_where_its_words_say_it()
-    ensures { (verb args : List ℕ) (command : Command) → (command_in verb args ≡ Ok command) ↔ SaysCommand verb (words args) (behind_word (behind_word (behind_word args))) command }
+    ensures { (verb args : List ℕ) (command : Command) → (command_in verb args ≡ Ok command)
+        ↔ SaysCommand verb (words args) (behind_three args) command }
 {}
 
 /// A line's words are read, behind the lines before it, exactly where they say that there.
 pub fn a_line_is_read_where_its_words_say_it()
-    ensures { (before : Option Opened) (verb args : List ℕ) (said : Said) → (said_in before verb args ≡ Ok said) ↔ SaysBehind verb (words args) (behind_word (behind_word (behind_word args))) before said }
+    ensures { (before : Option Opened) (verb args : List ℕ) (said : Said)
+        → (said_in before verb args ≡ Ok said)
+        ↔ SaysBehind verb (words args) (behind_three args) before said }
 {}
 
 /// A command without a form is unknown; one that has a form and isn't read is out of range.
 pub fn a_command_without_a_form_is_unknown()
-    ensures unknown { (verb args : List ℕ) → (command_in verb args ≡ Err UnknownCommand) ↔ (HasForm verb (words args) (behind_word (behind_word (behind_word args))) → ⊥) }
-    ensures range { (verb args : List ℕ) → HasForm verb (words args) (behind_word (behind_word (behind_word args))) → ((command : Command) → SaysCommand verb (words args) (behind_word (behind_word (behind_word args))) command → ⊥) → command_in verb args ≡ Err Range }
+    ensures unknown { (verb args : List ℕ) → (command_in verb args ≡ Err UnknownCommand)
+        ↔ (HasForm verb (words args) (behind_three args) → ⊥) }
+    ensures range { (verb args : List ℕ) → HasForm verb (words args) (behind_three args)
+        → ((command : Command) → SaysCommand verb (words args) (behind_three args) command → ⊥)
+        → command_in verb args ≡ Err Range }
 {}
 
 /// A line's words that are not read have, behind the lines before it, the fault that is there:
-/// `NoReplicas` where the first command isn't `replicas`, else `UnknownCommand` where they have no form
-/// of a line that may stand there, else `Range`, and no other.
+/// `NoReplicas` where the first command isn't `replicas`, else `UnknownCommand` where they have no
+/// form of a line that may stand there, else `Range`, and no other.
 pub fn a_line_has_the_fault_of_its_words()
     ensures { (before : Option Opened) (verb args : List ℕ) →
         FaultsAre (said_in before verb args) (HasWordFault before verb args) }
@@ -50,21 +56,28 @@ pub fn a_line_has_the_fault_of_its_words()
 
 /// Bytes are read as one script.
 pub fn bytes_are_read_as_one_script()
-    ensures { (bytes : List ℕ) (a b : Script) → Commands bytes a → Commands bytes b → (a.config ≡ b.config) × (a.commands.items ≡ b.commands.items) }
+    ensures { (bytes : List ℕ) (a b : Script) → Commands bytes a → Commands bytes b
+        → (a.config ≡ b.config) × (a.commands.items ≡ b.commands.items) }
 {}
 
 /// What a script leaves is what some list of steps leaves.
 pub fn every_script_run_is_one_of_steps()
-    ensures { (script : Script) (last : System) (notes : List ℕ) → RunsAll (opening script.config) script.commands.items last notes → (steps : List Step) × (last ≡ after script.config steps) }
+    ensures { (script : Script) (last : System) (notes : List ℕ)
+        → RunsAll (opening script.config) script.commands.items last notes
+        → (steps : List Step) × (last ≡ after script.config steps) }
 {}
 
-/// In each run of every script each key's part of the record has sound tags, so that its calls sorted
-/// by tag are an order of it.
+/// In each run of every script each key's part of the record has sound tags, so that its calls
+/// sorted by tag are an order of it.
 pub fn every_script_run_has_sound_tags()
-    ensures { (script : Script) (rows : List Row) (notes : List ℕ) (key : List ℕ) (part : List Call) → IsLawful script.config.quorums → script.config.calls ≤ 1000000 → IsRunOf script rows notes → IsPart rows key part → TagSound part }
+    ensures { (script : Script) (rows : List Row) (notes : List ℕ) (key : List ℕ)
+        (part : List Call) → IsLawful script.config.quorums → script.config.calls ≤ 1000000
+        → IsRunOf script rows notes → IsPart rows key part → TagSound part }
 {}
 
 /// A script has one run: what its record is, and what is said of its commands.
 pub fn a_script_has_one_run()
-    ensures { (script : Script) (rows others : List Row) (notes said : List ℕ) → IsRunOf script rows notes → IsRunOf script others said → (rows ≡ others) × (notes ≡ said) }
+    ensures { (script : Script) (rows others : List Row) (notes said : List ℕ)
+        → IsRunOf script rows notes → IsRunOf script others said
+        → (rows ≡ others) × (notes ≡ said) }
 {}

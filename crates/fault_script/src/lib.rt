@@ -2,9 +2,9 @@
 //!
 //! A script comes from a reader and is read line by line, each where it lies; only what a command
 //! keeps is copied. What was read is what the lines say one for one, to the reader's end; a script
-//! with a fault is refused with its first one. A script's run is simulated to the text of its record, with
-//! a note for each command that is refused; a run of steps comes with the orders that show its record
-//! atomic.
+//! with a fault is refused with its first one. A script's run is simulated to the text of its
+//! record, with a note for each command that is refused; a run of steps comes with the orders that
+//! show its record atomic.
 #![tactic(auto)]
 
 mod command;

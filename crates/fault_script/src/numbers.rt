@@ -56,7 +56,8 @@ pub(crate) fn number_of(word: &[u8]) -> Result<Option<u64>, Stop>
 /// The next word, which must be a number.
 #[tactic(auto, unfolding(crate::specs::Says::needed_number))]
 pub(crate) fn needed_number(text: &[u8]) -> Result<(Option<u64>, &[u8]), Stop>
-    ensures number { Gives (λ found. (found.0, words found.1.now)) result (needed_number (words text.now)) }
+    ensures number { Gives (λ found. (found.0, words found.1.now)) result
+        (needed_number (words text.now)) }
     ensures behind { IfOk result (λ found. found.1.now ≡ behind_word text.now) }
     ensures text { IsUtf8 text.now → IfOk result (λ found. IsUtf8 found.1.now) }
 {
@@ -68,7 +69,8 @@ pub(crate) fn needed_number(text: &[u8]) -> Result<(Option<u64>, &[u8]), Stop>
 /// The next word, which must be a number; where there is none, that number.
 #[tactic(auto, unfolding(crate::specs::Says::number_or))]
 pub(crate) fn number_or(default: u64, text: &[u8]) -> Result<(Option<u64>, &[u8]), Stop>
-    ensures { Gives (λ found. (found.0, words found.1.now)) result (number_or default (words text.now)) }
+    ensures { Gives (λ found. (found.0, words found.1.now)) result
+        (number_or default (words text.now)) }
 {
     if next_word(text).is_none() {
         return Ok((Some(default), text));

@@ -19,7 +19,8 @@ impl Progress {
     /// Takes the next line.
     pub(crate) fn take(&mut self, line: &[u8]) -> Result<(), ScriptError>
         requires { self.old.lines < 2 ^ 63 }
-        ensures taken { (before : List (List ℕ)) → IsAt before self.old → Takes before line.now result self.new }
+        ensures taken { (before : List (List ℕ)) → IsAt before self.old
+            → Takes before line.now result self.new }
         ensures lines { OnOk result (self.new.lines ≡ self.old.lines + 1) }
     {
         let number = self.lines + 1;

@@ -1,9 +1,8 @@
 //! Scripts from readers.
-ghost use Rattle.std.specs.Prelude.{ℕ, ◌≡◌, ◌<◌, ◌≤◌, ◌+◌, ◌^◌, List, Option, length, true, false, IfOk, IfErr, MatchResult};
+ghost use Rattle.std.specs.Prelude.{ℕ, ◌≡◌, ◌<◌, ◌≤◌, ◌+◌, ◌^◌, List, Option, length, true, false, IfOk, IfErr};
 ghost use Rattle.std.specs.Io.KnownBytes.{IsAtEnd};
-ghost use Rattle.counted_devices.specs.Deliveries.{Delivers};
-ghost use Rattle.counted_devices.specs.ReadFaults.{HasFailed};
-ghost use Rattle.fault_script.specs.Deliveries.{Holds, ReadsAll, StopsAt};
+ghost use Rattle.counted_devices.specs.ReadFaults.{FailsFrom};
+ghost use Rattle.fault_script.specs.Deliveries.{GoesOn, Holds, HoldsAll, ReadsFrom, StopsFrom};
 
 use crate::command::Script;
 use crate::feed::Feed;
@@ -29,8 +28,10 @@ fn feed_next<R: CountedRead>(
 ) -> Result<bool, ScriptError>
     requires some { 0 < length room.old }
     requires fed { feed.old.progress.lines + length feed.old.rest.items ≤ R.given reader.old }
-    ensures goes { (start : Option (List ℕ)) → Holds start (R.remaining reader.old) feed.old → MatchResult result (λ _. Holds start (R.remaining reader.new) feed.new) (λ error. Delivers start (R.remaining reader.new) (StopsAt (R.remaining reader.new) error) × HasFailed error.kind (R.failures reader.old) (R.failures reader.new)) }
-    ensures fed { IfOk result (λ _. feed.new.progress.lines + length feed.new.rest.items ≤ R.given reader.new) }
+    ensures goes { (start : Option (List ℕ)) → Holds start (R.remaining reader.old) feed.old
+        → GoesOn R.remaining R.failures start reader.old reader.new result feed.new }
+    ensures fed { IfOk result (λ _. feed.new.progress.lines + length feed.new.rest.items
+        ≤ R.given reader.new) }
     ensures end { IfOk result (λ more. more ≡ false → IsAtEnd (R.remaining reader.new)) }
     ensures more { IfOk result (λ more. more ≡ true → R.given reader.old < R.given reader.new) }
     ensures counted { IfOk result (λ _. R.failures reader.new ≡ R.failures reader.old) }
@@ -56,8 +57,9 @@ fn feed_in_pieces<R: CountedRead>(
     room: &mut [u8],
 ) -> Result<Feed, ScriptError>
     requires { 0 < length room.old }
-    ensures holds { IfOk result (λ feed. Holds (R.remaining reader.old) (R.remaining reader.new) feed × IsAtEnd (R.remaining reader.new)) }
-    ensures error { IfErr result (λ error. Delivers (R.remaining reader.old) (R.remaining reader.new) (StopsAt (R.remaining reader.new) error) × HasFailed error.kind (R.failures reader.old) (R.failures reader.new)) }
+    ensures holds { IfOk result (HoldsAll R.remaining reader.old reader.new) }
+    ensures error { IfErr result (λ error. StopsFrom R.remaining reader.old reader.new error
+        × FailsFrom R.failures reader.old reader.new error) }
     ensures room { IfOk result (λ feed. feed.progress.lines < 2 ^ 63) }
 {
     let mut feed = Feed::new(alloc);
@@ -72,9 +74,9 @@ fn feed_in_pieces<R: CountedRead>(
 /// a fault, then `Device` at the line under way where the reader failed. `Memory` comes only where
 /// a growth was refused. The reader keeps what follows the bytes that were read.
 pub fn parse<R: CountedRead>(alloc: Global, reader: &mut R) -> Result<Script, ScriptError>
-    ensures read { IfOk result (λ script. Delivers (R.remaining reader.old) (R.remaining reader.new) (ReadsAll (R.remaining reader.new) script)) }
-    ensures fault { IfErr result (λ error. Delivers (R.remaining reader.old) (R.remaining reader.new) (StopsAt (R.remaining reader.new) error)) }
-    ensures device { IfErr result (λ error. HasFailed error.kind (R.failures reader.old) (R.failures reader.new)) }
+    ensures read { IfOk result (ReadsFrom R.remaining reader.old reader.new) }
+    ensures fault { IfErr result (StopsFrom R.remaining reader.old reader.new) }
+    ensures device { IfErr result (FailsFrom R.failures reader.old reader.new) }
 {
     let Ok(mut room) = room_for(alloc, PIECE) else {
         return Err(ScriptError {

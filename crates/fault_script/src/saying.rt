@@ -41,7 +41,8 @@ pub enum Said {
 
 #[tactic(auto, unfolding(crate::specs::Saying::reads_behind))]
 fn reads_behind(opened: Opened, args: &[u8]) -> Result<Opened, Stop>
-    ensures { Gives (λ opened. opened) result (reads_behind opened.config opened.last (words args.now)) }
+    ensures { Gives (λ opened. opened) result
+        (reads_behind opened.config opened.last (words args.now)) }
 {
     match opened.last {
         Last::Replicas => {
@@ -71,7 +72,8 @@ fn votes_set(config: Config, args: &[u8]) -> Result<Opened, Stop>
 
 #[tactic(auto, unfolding(crate::specs::Saying::votes_behind))]
 fn votes_behind(opened: Opened, args: &[u8]) -> Result<Opened, Stop>
-    ensures { Gives (λ opened. opened) result (votes_behind opened.config opened.last (words args.now)) }
+    ensures { Gives (λ opened. opened) result
+        (votes_behind opened.config opened.last (words args.now)) }
 {
     match opened.last {
         Last::Replicas | Last::Reads => votes_set(opened.config, args),

@@ -25,7 +25,8 @@ pub struct ScriptRun {
 fn stride(alloc: Global, world: &mut World, steps: &mut RandomSteps) -> Result<bool, Memory>
     ensures system { OnOk result (world.new ≡ next world.old (step_of world.old (draw steps.old))) }
     ensures generator { OnOk result (steps.new ≡ (draw steps.old).rest) }
-    ensures taken { IfOk result (λ taken. taken ≡ is_none (refusal_of world.old (step_of world.old (draw steps.old)))) }
+    ensures taken { IfOk result (λ taken. taken
+        ≡ is_none (refusal_of world.old (step_of world.old (draw steps.old)))) }
 {
     let step = steps.next(alloc, world)?;
     match world.step(step) {
@@ -105,7 +106,8 @@ impl ScriptRun {
 
     /// Runs all commands of the script, from the opening world of its configuration.
     pub(crate) fn of(alloc: Global, script: Script) -> Result<ScriptRun, Memory>
-        ensures { IfOk result (λ run. IsRunSoFar (opening script.config) script.commands.items run) }
+        ensures { IfOk result (λ run. IsRunSoFar
+            (opening script.config) script.commands.items run) }
     {
         let Script { config, commands } = script;
         let mut run = ScriptRun::new(alloc, config)?;

@@ -83,7 +83,8 @@ fn capped(number: Option<u64>) -> u8
 /// So many numbers of votes, in a row of 15, and what stands behind them.
 fn numbers_in(count: u8, args: &[u8]) -> Result<([u8; 15], &[u8]), Stop>
     requires { count ≤ 15 }
-    ensures { Gives (λ found. (take count found.0, words found.1.now)) result (numbers_in count (words args.now)) }
+    ensures { Gives (λ found. (take count found.0, words found.1.now)) result
+        (numbers_in count (words args.now)) }
 {
     let mut votes = [0; 15];
     let mut behind = args;

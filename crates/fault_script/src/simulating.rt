@@ -1,14 +1,9 @@
 //! Scripts from readers, and the records of their runs to writers.
-ghost use Rattle.std.specs.Prelude.{◌≡◌, ◌⊎◌, IfErr, IfOk, IsErrOf, List, ℕ, OnOk};
-ghost use Rattle.std.specs.Io.KnownBytes.{Appends};
-ghost use Rattle.counted_devices.specs.Counts.{IsOneMore};
-ghost use Rattle.counted_devices.specs.Deliveries.{Delivers};
-ghost use Rattle.counted_devices.specs.Sendings.{Begins};
-ghost use Rattle.file_format.specs.Texts.{history_text};
-ghost use Rattle.recorder.specs.declared.row.Row.{Row};
-ghost use Rattle.counted_devices.specs.ReadFaults.{HasFailed};
-ghost use Rattle.fault_script.specs.Deliveries.{StopsAt};
-ghost use Rattle.fault_script.specs.Simulations.{IfScript, IsSoundRun, Simulates};
+ghost use Rattle.std.specs.Prelude.{◌≡◌, ◌⊎◌, IfErr, IfOk, IsErrOf, OnOk};
+ghost use Rattle.counted_devices.specs.ReadFaults.{FailsFrom};
+ghost use Rattle.counted_devices.specs.Sendings.{Sends};
+ghost use Rattle.fault_script.specs.Deliveries.{StopsFrom};
+ghost use Rattle.fault_script.specs.Simulations.{AreTextsOf, FailsBehind, FailsFirst, IfScript, SendsBoth, Simulates};
 
 use crate::command::Script;
 use crate::script_run::ScriptRun;
@@ -53,7 +48,7 @@ struct Texts {
 
 /// The texts of the script's run.
 fn texts_of(alloc: Global, script: Script) -> Result<Texts, Memory>
-    ensures { IfOk result (λ texts. (rows : List Row) × IsSoundRun script rows texts.notes.items × (texts.history.items ≡ history_text rows)) }
+    ensures { IfOk result (λ texts. AreTextsOf script texts.notes.items texts.history.items) }
 {
     let ScriptRun { world, notes } = ScriptRun::of(alloc, script)?;
     let history = history_text(alloc, &world.into_history())?;
@@ -66,8 +61,12 @@ fn write_texts<W: CountedWrite, N: CountedWrite>(
     out: &mut W,
     notes: &mut N,
 ) -> Result<(), SimulateError>
-    ensures written { OnOk result (Appends (N.contents notes.old) (N.contents notes.new) texts.now.notes.items × Appends (W.contents out.old) (W.contents out.new) texts.now.history.items) }
-    ensures begun { IfErr result (λ error. (Begins (N.contents notes.old) (N.contents notes.new) texts.now.notes.items × IsOneMore (N.failures notes.old) (N.failures notes.new) × (out.new ≡ out.old)) ⊎ (Appends (N.contents notes.old) (N.contents notes.new) texts.now.notes.items × Begins (W.contents out.old) (W.contents out.new) texts.now.history.items × IsOneMore (W.failures out.old) (W.failures out.new))) }
+    ensures written { OnOk result (SendsBoth N.contents notes.old notes.new
+        W.contents out.old out.new texts.now.notes.items texts.now.history.items) }
+    ensures begun { IfErr result (λ error.
+        FailsFirst N.contents N.failures notes.old notes.new out.old out.new texts.now.notes.items
+        ⊎ (Sends N.contents notes.old notes.new texts.now.notes.items
+        × FailsBehind W.contents W.failures out.old out.new texts.now.history.items)) }
     ensures device { IfErr result (λ error. error ≡ SimulateError.Device) }
 {
     if write_text(texts.notes.as_slice(), notes).is_err() {
@@ -79,26 +78,35 @@ fn write_texts<W: CountedWrite, N: CountedWrite>(
     }
 }
 
-/// Reads a script to its reader's end, runs it, and writes what is said of its commands to `notes` and
-/// then the text of its record to `out`.
+/// Reads a script to its reader's end, runs it, and writes what is said of its commands to `notes`
+/// and then the text of its record to `out`.
 ///
 /// A step that is refused has a note and changes nothing, and so has a call that can't be finished;
 /// random steps have one note together, which tells how many of them were taken. What is written to
-/// `out` is the history of a run whose parts have sound tags, so that the calls of a key sorted by tag
-/// are an order of it. Both texts are made before the first byte of either goes out: a script that
-/// can't be read, or a growth that is refused, leaves both writers as they were. `Device` comes only
-/// where a writer failed; a beginning of the notes may then have gone out, or the notes and a
-/// beginning of the history.
+/// `out` is the history of a run whose parts have sound tags, so that the calls of a key sorted by
+/// tag are an order of it. Both texts are made before the first byte of either goes out: a script
+/// that can't be read, or a growth that is refused, leaves both writers as they were. `Device`
+/// comes only where a writer failed; a beginning of the notes may then have gone out, or the notes
+/// and a beginning of the history.
 pub fn simulate<R: CountedRead, W: CountedWrite, N: CountedWrite>(
     alloc: Global,
     reader: &mut R,
     out: &mut W,
     notes: &mut N,
 ) -> Result<(), SimulateError>
-    ensures written { OnOk result (Simulates (R.remaining reader.old) (R.remaining reader.new) (λ said text. Appends (N.contents notes.old) (N.contents notes.new) said × Appends (W.contents out.old) (W.contents out.new) text)) }
-    ensures begun { IsErrOf result SimulateError.Device → Simulates (R.remaining reader.old) (R.remaining reader.new) (λ said text. (Begins (N.contents notes.old) (N.contents notes.new) said × IsOneMore (N.failures notes.old) (N.failures notes.new) × (out.new ≡ out.old)) ⊎ (Appends (N.contents notes.old) (N.contents notes.new) said × Begins (W.contents out.old) (W.contents out.new) text × IsOneMore (W.failures out.old) (W.failures out.new))) }
-    ensures fault { IfErr result (λ error. IfScript error (λ why. Delivers (R.remaining reader.old) (R.remaining reader.new) (StopsAt (R.remaining reader.new) why) × HasFailed why.kind (R.failures reader.old) (R.failures reader.new) × (out.new ≡ out.old) × (notes.new ≡ notes.old))) }
-    ensures memory { IsErrOf result SimulateError.Memory → (out.new ≡ out.old) × (notes.new ≡ notes.old) }
+    ensures written { OnOk result (Simulates (R.remaining reader.old) (R.remaining reader.new)
+        (SendsBoth N.contents notes.old notes.new W.contents out.old out.new)) }
+    ensures begun { IsErrOf result SimulateError.Device
+        → Simulates (R.remaining reader.old) (R.remaining reader.new) (λ said text.
+        FailsFirst N.contents N.failures notes.old notes.new out.old out.new said
+        ⊎ (Sends N.contents notes.old notes.new said
+        × FailsBehind W.contents W.failures out.old out.new text)) }
+    ensures fault { IfErr result (λ error. IfScript error (λ why.
+        StopsFrom R.remaining reader.old reader.new why
+        × FailsFrom R.failures reader.old reader.new why
+        × (out.new ≡ out.old) × (notes.new ≡ notes.old))) }
+    ensures memory { IsErrOf result SimulateError.Memory
+        → (out.new ≡ out.old) × (notes.new ≡ notes.old) }
 {
     let script = parse(alloc, reader).map_err(SimulateError::Script)?;
     let texts = texts_of(alloc, script)?;

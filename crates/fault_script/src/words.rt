@@ -62,7 +62,8 @@ fn cut_at_space(text: &[u8]) -> (&[u8], &[u8])
 
 /// The first word, and what stands behind the one space or tab that ends it.
 pub(crate) fn next_word(text: &[u8]) -> Option<(&[u8], &[u8])>
-    ensures words { MatchOption result (words text.now ≡ []) (λ found. words text.now ≡ found.0.now ∷ words found.1.now) }
+    ensures words { MatchOption result (words text.now ≡ [])
+        (λ found. words text.now ≡ found.0.now ∷ words found.1.now) }
     ensures behind { IfSome result (λ found. found.1.now ≡ behind_word text.now) }
     ensures text { IsUtf8 text.now → IfSome result (λ found. IsUtf8 found.1.now) }
 {
@@ -75,7 +76,8 @@ pub(crate) fn next_word(text: &[u8]) -> Option<(&[u8], &[u8])>
 
 /// The next word, which must be there.
 pub(crate) fn needed_word(text: &[u8]) -> Result<(&[u8], &[u8]), Stop>
-    ensures word { Gives (λ found. (found.0.now, words found.1.now)) result (needed_word (words text.now)) }
+    ensures word { Gives (λ found. (found.0.now, words found.1.now)) result
+        (needed_word (words text.now)) }
     ensures behind { IfOk result (λ found. found.1.now ≡ behind_word text.now) }
     ensures text { IsUtf8 text.now → IfOk result (λ found. IsUtf8 found.1.now) }
 {

@@ -54,10 +54,6 @@ ReadsFrom format Makes remaining old new contents = Delivers (remaining old) (re
 abbrev pub StopsFrom : {Header Item R : Type 0} → Format Header Item → (R → Option (List ℕ)) → R → R → FileFault → Type 0
 StopsFrom format remaining old new fault = Delivers (remaining old) (remaining new) (StopsAt format (remaining new) fault)
 
--- a device's fault comes only where the reader's count of failures grew
-abbrev pub FailsFrom : {R : Type 0} → (R → ℕ) → R → R → FileFault → Type 0
-FailsFrom failures old new fault = HasFailed fault.kind (failures old) (failures new)
-
 -- the feed stands for all bytes that the reader gave, and the reader is at its end
 abbrev pub HoldsAll : {Header Item Contents R : Type 0} → Format Header Item → (Header → List Item → Contents → Type 0) → (R → Option (List ℕ)) → R → R → Feed Contents → Type 0
 HoldsAll format Makes remaining old new feed = Holds format Makes (remaining old) (remaining new) feed × IsAtEnd (remaining new)

@@ -1,7 +1,8 @@
 //! Files from readers.
 ghost use Rattle.std.specs.Prelude.{ℕ, ◌≡◌, ◌<◌, ◌≤◌, List, Option, length, true, false, IfOk, IfErr, MatchResult};
 ghost use Rattle.std.specs.Io.KnownBytes.{IsAtEnd};
-ghost use Rattle.history_file.specs.Deliveries.{FailsFrom, GoesOn, HoldsAhead, HoldsAll, ReadsFrom, StopsFrom};
+ghost use Rattle.counted_devices.specs.ReadFaults.{FailsFrom};
+ghost use Rattle.history_file.specs.Deliveries.{GoesOn, HoldsAhead, HoldsAll, ReadsFrom, StopsFrom};
 ghost use Rattle.file_format.specs.HistoryFormat.{history_format, MakesHistory};
 ghost use Rattle.file_format.specs.HistoriesFormat.{histories_format, MakesHistories};
 ghost use Rattle.file_format.specs.OrderFormat.{order_format, MakesJoined};
@@ -70,7 +71,8 @@ fn feed_in_pieces<C: Contents, R: CountedRead, T: Threads + Sync>(
 ) -> Result<Feed<C>, FileFault>
     requires { 0 < length room.old }
     ensures holds { IfOk result (HoldsAll C.format C.Makes R.remaining reader.old reader.new) }
-    ensures fault { IfErr result (λ fault. StopsFrom C.format R.remaining reader.old reader.new fault
+    ensures fault { IfErr result (λ fault.
+        StopsFrom C.format R.remaining reader.old reader.new fault
         × FailsFrom R.failures reader.old reader.new fault) }
 {
     let mut ahead = Ahead::<C, C::Item>::new(alloc);

@@ -57,7 +57,8 @@ fn kind_of(word: u32) -> Kind
     Kind::Deliver
 }
 
-/// The client of that number among those that joined, modulo their count; name 1 where nobody joined.
+/// The client of that number among those that joined, modulo their count; name 1 where nobody
+/// joined.
 fn client_at(world: &World, word: u32) -> ClientId
     ensures { result ≡ client_at world.now word }
 {

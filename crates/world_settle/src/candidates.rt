@@ -35,8 +35,8 @@ pub(crate) fn replicas_up(world: &World) -> ReplicaSet
     set
 }
 
-/// How many candidates, the least first, bring the set to so many votes. The replicas that are up have
-/// to have them.
+/// How many candidates, the least first, bring the set to so many votes. The replicas that are up
+/// have to have them.
 pub(crate) fn candidates_needed(world: &World, counted: ReplicaSet, votes: u8) -> u32
     requires { votes ≤ votes_of world.now.config.quorums.votes (replicas_up world.now) }
     ensures least { IsLeastCount (λ quorum. votes ≤ votes_of world.now.config.quorums.votes quorum) counted (candidates world.now counted) result }

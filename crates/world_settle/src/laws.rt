@@ -10,8 +10,8 @@ ghost use Rattle.world_settle.specs.Refusing.{MaySettle, NeedsAt};
 ghost use Rattle.world_settle.specs.Settled.{IsWithin};
 ghost use Rattle.world_settle.specs.Settling.{Settles};
 
-/// Where a pending call can be completed, there are steps that complete it, none of them is refused,
-/// and they are at most three for each replica that is needed, and one.
+/// Where a pending call can be completed, there are steps that complete it, none of them is
+/// refused, and they are at most three for each replica that is needed, and one.
 pub fn a_pending_call_has_steps()
     ensures { (s : System) (name : ℕ) → IsSound s → MaySettle s name
         → (steps : List Step) × Settles name s steps × AreAccepted s steps
@@ -24,8 +24,8 @@ pub fn the_steps_are_one_list()
         → Settles name s other → steps ≡ other }
 {}
 
-/// A call needs no more replicas than the quorums have votes. With majorities of n replicas it then takes
-/// at most 6 (n / 2 + 1) + 1 steps, where all divisions round down.
+/// A call needs no more replicas than the quorums have votes. With majorities of n replicas it then
+/// takes at most 6 (n / 2 + 1) + 1 steps, where all divisions round down.
 pub fn a_call_needs_few_replicas()
     ensures quorums { (s : System) (name a b : ℕ) → IsSound s → NeedsAt s name a b
         → (a ≤ s.config.quorums.ask) × (b ≤ s.config.quorums.put) }
@@ -34,8 +34,8 @@ pub fn a_call_needs_few_replicas()
         → 3 * (a + b) + 1 ≤ 6 * (n / 2 + 1) + 1 }
 {}
 
-/// A short read whose replies agree skips its write-back: it takes at most three steps for each replica
-/// that it still asks, and one.
+/// A short read whose replies agree skips its write-back: it takes at most three steps for each
+/// replica that it still asks, and one.
 pub fn a_short_read_that_agrees_takes_few_steps()
     ensures { (s : System) (name a : ℕ) (steps : List Step)
         → IsSound s → MaySettle s name → RepliesAgree s name a → Settles name s steps

@@ -10,8 +10,8 @@ use quorum::ReplicaSet;
 use tag::ClientId;
 use world_steps::World;
 
-/// How many replicas the client's pending call needs, those that are asked and those that are to keep
-/// its pair counted apart; none where no call is pending.
+/// How many replicas the client's pending call needs, those that are asked and those that are to
+/// keep its pair counted apart; none where no call is pending.
 fn replicas_needed(world: &World, client: ClientId) -> Option<u32>
     requires { HasMajority world.now }
     ensures { MatchOption result (IsNotPending world.now client)

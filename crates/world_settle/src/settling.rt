@@ -29,8 +29,8 @@ fn take(world: &mut World, step: Step, count: u32) -> Result<u32, SettleError>
     }
 }
 
-/// Has the client's request go to the replica and its reply come back, and answers how many steps were
-/// taken with these three.
+/// Has the client's request go to the replica and its reply come back, and answers how many steps
+/// were taken with these three.
 fn round(
     world: &mut World,
     client: ClientId,
@@ -71,8 +71,8 @@ fn complete(world: &mut World, client: ClientId) -> Result<u32, SettleError>
 /// world equal to what it was; `Memory` with the steps that were taken before a growth was refused,
 /// with the world as those left it.
 ///
-/// With majorities of n replicas it takes at most 6 (n / 2 + 1) + 1 steps, the division rounded down;
-/// for a short read whose replies agree 3 for each replica that it still asks, and one.
+/// With majorities of n replicas it takes at most 6 (n / 2 + 1) + 1 steps, the division rounded
+/// down; for a short read whose replies agree 3 for each replica that it still asks, and one.
 pub fn settle(world: &mut World, client: ClientId) -> Result<u32, SettleError>
     ensures settles { SettlesBy world.old client result world.new }
     ensures sound { IsSound world.new }
