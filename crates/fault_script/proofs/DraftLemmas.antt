@@ -3,13 +3,13 @@ use Rattle.std.proofs.Common.{ℕ, ◌≡◌, ◌==◌, ◌+◌, List, [], ◌�
 use Rattle.std.proofs.lemmas.List.Sums.{fold-append}
 use Rattle.std.proofs.lemmas.List.Elements.{filter_map-append}
 use Rattle.fault_script.specs.declared.draft.Draft.{Draft}
-use Rattle.fault_script.specs.declared.saying.Opened.{Opened}
-use Rattle.fault_script.specs.declared.saying.Said.{Said}
-use Rattle.fault_script.specs.declared.saying.Said.TheVariants.{Opens, Runs}
+use Rattle.fault_script.specs.declared.parse_line.Opened.{Opened}
+use Rattle.fault_script.specs.declared.parse_line.Said.{Said}
+use Rattle.fault_script.specs.declared.parse_line.Said.TheVariants.{Opens, Runs}
 use Rattle.fault_script.specs.declared.fault.LineFault.{LineFault}
 use Rattle.fault_script.specs.declared.fault.LineFault.TheVariants.{NoReplicas, TooManyCommands}
 use Rattle.world_steps.specs.Configs.{Config}
-use Rattle.fault_script.specs.declared.saying.Last.TheVariants.{Replicas}
+use Rattle.fault_script.specs.declared.parse_line.Last.TheVariants.{Replicas}
 use Rattle.fault_script.specs.Words.{words, behind_word, without_return}
 use Rattle.fault_script.specs.Says.{◌>>=◌}
 use Rattle.fault_script.specs.Settings.{replicas_in}

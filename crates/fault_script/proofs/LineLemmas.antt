@@ -2,8 +2,8 @@
 use Rattle.std.proofs.Common.{ℕ, ◌≡◌, ◌≤◌, ◌<◌, ◌-◌, ◌==◌, List, [], ◌∷◌, length, get_or, take, Bool, true, false, cond, Option, Result, Ok, Err, refl, arith, eqb-true}
 use Rattle.std.specs.Prelude.{IsUtf8}
 use Rattle.std.proofs.lemmas.Str.{IsUtf8-take, IsCharBoundary-before_ascii}
-use Rattle.fault_script.specs.declared.saying.Opened.{Opened}
-use Rattle.fault_script.specs.declared.saying.Said.{Said}
+use Rattle.fault_script.specs.declared.parse_line.Opened.{Opened}
+use Rattle.fault_script.specs.declared.parse_line.Said.{Said}
 use Rattle.fault_script.specs.Faults.{Stop}
 use Rattle.counted_devices.specs.declared.read_fault.Stop.TheVariants as stop
 use Rattle.fault_script.specs.Words.{without_return}

@@ -4,8 +4,8 @@ use Rattle.std.specs.Prelude.{option_map}
 use Rattle.counted_devices.specs.Cuts.{last_lines}
 use Rattle.counted_devices.proofs.CutOnce.{splits_once}
 use Rattle.fault_script.specs.declared.command.Script.{Script}
-use Rattle.fault_script.specs.declared.saying.Opened.{Opened}
-use Rattle.fault_script.specs.declared.saying.Said.{Said}
+use Rattle.fault_script.specs.declared.parse_line.Opened.{Opened}
+use Rattle.fault_script.specs.declared.parse_line.Said.{Said}
 use Rattle.fault_script.specs.declared.fault.LineFault.{LineFault}
 use Rattle.fault_script.specs.Lines.{Shows, is_long, is_no_text, says}
 use Rattle.fault_script.specs.Scripts.{Placed, opened_of, commands_of, AreRead, no_line, blank_line, command_line, Commands}

@@ -7,11 +7,11 @@ use Rattle.world_steps.specs.declared.step.Step.{Step}
 use Rattle.world_steps.specs.declared.step.Step.TheVariants as step
 use Rattle.fault_script.specs.declared.command.Command.{Command}
 use Rattle.fault_script.specs.declared.command.Command.TheVariants as command
-use Rattle.fault_script.specs.declared.saying.Last.{Last}
-use Rattle.fault_script.specs.declared.saying.Last.TheVariants as last
-use Rattle.fault_script.specs.declared.saying.Opened.{Opened}
-use Rattle.fault_script.specs.declared.saying.Said.{Said}
-use Rattle.fault_script.specs.declared.saying.Said.TheVariants.{Opens, Runs}
+use Rattle.fault_script.specs.declared.parse_line.Last.{Last}
+use Rattle.fault_script.specs.declared.parse_line.Last.TheVariants as last
+use Rattle.fault_script.specs.declared.parse_line.Opened.{Opened}
+use Rattle.fault_script.specs.declared.parse_line.Said.{Said}
+use Rattle.fault_script.specs.declared.parse_line.Said.TheVariants.{Opens, Runs}
 use Rattle.fault_script.specs.Words.{words}
 use Rattle.fault_script.specs.Says.{◌>>=◌}
 use Rattle.fault_script.specs.Settings.{replicas_in, reads_in, votes_in}

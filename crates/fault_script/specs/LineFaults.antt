@@ -3,9 +3,9 @@ use Rattle.std.specs.Prelude.{ℕ, ◌≡◌, ◌≢◌, ◌≤◌, List, [], �
 use Rattle.client_phases.specs.declared.rules.ReadMode.{ReadMode}
 use Rattle.fault_script.specs.declared.fault.LineFault.{LineFault}
 use Rattle.fault_script.specs.declared.fault.LineFault.TheVariants.{NoReplicas, UnknownCommand, Range}
-use Rattle.fault_script.specs.declared.saying.Last.TheVariants as last
-use Rattle.fault_script.specs.declared.saying.Opened.{Opened}
-use Rattle.fault_script.specs.declared.saying.Said.{Said}
+use Rattle.fault_script.specs.declared.parse_line.Last.TheVariants as last
+use Rattle.fault_script.specs.declared.parse_line.Opened.{Opened}
+use Rattle.fault_script.specs.declared.parse_line.Said.{Said}
 use Rattle.fault_script.specs.Words.{words, behind_word, is_numeral}
 use Rattle.fault_script.specs.Forms.{HasForm}
 use Rattle.fault_script.specs.SettingForms.{SaysReads, MayVote, SaysBehind}

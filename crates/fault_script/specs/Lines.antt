@@ -1,7 +1,7 @@
 -- What a line shows behind the lines before it.
 use Rattle.std.specs.Prelude.{ℕ, ◌≡◌, ◌≤◌, ◌<◌, List, length, Option, Result, Ok, Err, IsUtf8}
-use Rattle.fault_script.specs.declared.saying.Opened.{Opened}
-use Rattle.fault_script.specs.declared.saying.Said.{Said}
+use Rattle.fault_script.specs.declared.parse_line.Opened.{Opened}
+use Rattle.fault_script.specs.declared.parse_line.Said.{Said}
 use Rattle.fault_script.specs.declared.fault.LineFault.{LineFault}
 use Rattle.fault_script.specs.declared.fault.LineFault.TheVariants.{NotUtf8, TooLong}
 use Rattle.fault_script.specs.Faults.{Stop}

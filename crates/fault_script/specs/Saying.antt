@@ -1,11 +1,11 @@
 -- What a line's text says behind the lines before it.
 use Rattle.std.specs.Prelude.{ℕ, ◌==◌, List, [], ◌∷◌, Option, Some, None, Result, Ok, Err, codes, bytes_eq, length, nat_le, slice_index, if◌then◌else◌}
 use Rattle.world_steps.specs.Configs.{Config}
-use Rattle.fault_script.specs.declared.saying.Last.{Last}
-use Rattle.fault_script.specs.declared.saying.Last.TheVariants as last
-use Rattle.fault_script.specs.declared.saying.Opened.{Opened}
-use Rattle.fault_script.specs.declared.saying.Said.{Said}
-use Rattle.fault_script.specs.declared.saying.Said.TheVariants.{Opens, Runs}
+use Rattle.fault_script.specs.declared.parse_line.Last.{Last}
+use Rattle.fault_script.specs.declared.parse_line.Last.TheVariants as last
+use Rattle.fault_script.specs.declared.parse_line.Opened.{Opened}
+use Rattle.fault_script.specs.declared.parse_line.Said.{Said}
+use Rattle.fault_script.specs.declared.parse_line.Said.TheVariants.{Opens, Runs}
 use Rattle.fault_script.specs.declared.fault.LineFault.{LineFault}
 use Rattle.fault_script.specs.declared.fault.LineFault.TheVariants.{NoReplicas, UnknownCommand, TooManyCommands}
 use Rattle.fault_script.specs.Words.{words, behind_word}

@@ -6,11 +6,11 @@ use Rattle.client_phases.specs.declared.rules.ReadMode.TheVariants.{Full, Short}
 use Rattle.quorum.specs.Quorums.{Quorums, IsLawful}
 use Rattle.world_steps.specs.Configs.{Config, config_of}
 use Rattle.fault_script.specs.declared.command.Command.{Command}
-use Rattle.fault_script.specs.declared.saying.Last.{Last}
-use Rattle.fault_script.specs.declared.saying.Last.TheVariants as last
-use Rattle.fault_script.specs.declared.saying.Opened.{Opened}
-use Rattle.fault_script.specs.declared.saying.Said.{Said}
-use Rattle.fault_script.specs.declared.saying.Said.TheVariants.{Opens, Runs}
+use Rattle.fault_script.specs.declared.parse_line.Last.{Last}
+use Rattle.fault_script.specs.declared.parse_line.Last.TheVariants as last
+use Rattle.fault_script.specs.declared.parse_line.Opened.{Opened}
+use Rattle.fault_script.specs.declared.parse_line.Said.{Said}
+use Rattle.fault_script.specs.declared.parse_line.Said.TheVariants.{Opens, Runs}
 use Rattle.fault_script.specs.Forms.{IsNumber, IsValue, One, Two, SaysCommand}
 
 -- three words

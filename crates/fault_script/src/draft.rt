@@ -6,7 +6,7 @@ ghost use Rattle.fault_script.specs.declared.command.Command.{Command};
 use crate::command::{Command, Numbered};
 use crate::fault::Stop;
 use crate::lines::shown_by;
-use crate::saying::{Last, Opened, Said};
+use crate::parse_line::{Last, Opened, Said};
 use std::alloc::Global;
 use tag::Memory;
 

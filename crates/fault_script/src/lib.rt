@@ -16,13 +16,13 @@ pub mod laws;
 mod lines;
 mod notes;
 mod numbers;
+mod parse_command;
+mod parse_line;
+mod parse_setting;
 mod progress;
 mod reading;
-mod saying;
 mod script_run;
-mod settings;
 mod simulating;
-mod steps;
 mod words;
 
 pub use command::{Command, Numbered, Script};

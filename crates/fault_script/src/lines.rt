@@ -4,7 +4,7 @@ ghost use Rattle.fault_script.specs.Lines.{ShowsBy};
 
 use crate::LineFault;
 use crate::fault::Stop;
-use crate::saying::{Opened, Said, text_says};
+use crate::parse_line::{Opened, Said, text_says};
 use crate::words::without_return;
 use std::alloc::Global;
 

@@ -5,6 +5,7 @@
 //! is written of a history, or of orders of distinct keys, is read as that and nothing else.
 #![tactic(auto)]
 
+mod compact_lines;
 mod document;
 mod fault;
 mod file_header;
@@ -24,7 +25,6 @@ mod rows;
 mod texts;
 mod tree;
 mod writing;
-mod written;
 
 pub use document::Document;
 pub use fault::{FaultKind, FileFault, LineFault, Stop};

@@ -10,13 +10,13 @@ ghost use Rattle.file_format.specs.OrderLines.{piece_in};
 ghost use Rattle.file_format.specs.Formats.{IsFine};
 ghost use Rattle.file_format.specs.Lines.{Shows};
 
+use crate::compact_lines::{written_hall_row, written_piece, written_row};
 use crate::document::Document;
 use crate::fault::Stop;
 use crate::file_header::FileHeader;
 use crate::hall_row::{HallRow, hall_row_in};
 use crate::order_lines::piece_in;
 use crate::rows::row_in;
-use crate::written::{written_hall_row, written_piece, written_row};
 use recorder::{KeyOrder, Row};
 use std::alloc::Global;
 use tag::Memory;

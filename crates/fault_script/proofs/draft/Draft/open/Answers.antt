@@ -1,5 +1,5 @@
 use Rattle.std.proofs.Common.{◌+◌, Some, refl, sym, append-nil}
-use Rattle.fault_script.specs.declared.saying.Said.TheVariants.{Opens}
+use Rattle.fault_script.specs.declared.parse_line.Said.TheVariants.{Opens}
 use Rattle.fault_script.proofs.DraftLemmas.{drafted_more}
 use Rattle.fault_script.proofs.draft.Draft.open.Goals as goal
 

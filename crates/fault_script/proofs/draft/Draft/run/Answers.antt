@@ -1,5 +1,5 @@
 use Rattle.std.proofs.Common.{◌+◌, refl}
-use Rattle.fault_script.specs.declared.saying.Said.TheVariants.{Runs}
+use Rattle.fault_script.specs.declared.parse_line.Said.TheVariants.{Runs}
 use Rattle.fault_script.proofs.DraftLemmas.{drafted_more}
 use Rattle.fault_script.proofs.draft.Draft.run.Goals as goal
 

@@ -1,6 +1,6 @@
 use Rattle.std.proofs.Common.{◌≡◌, Option, Some, Ok, ap, ◌∙◌, subst}
-use Rattle.fault_script.specs.declared.saying.Said.{Said}
-use Rattle.fault_script.specs.declared.saying.Said.TheVariants.{Opens, Runs}
+use Rattle.fault_script.specs.declared.parse_line.Said.{Said}
+use Rattle.fault_script.specs.declared.parse_line.Said.TheVariants.{Opens, Runs}
 use Rattle.fault_script.specs.Lines.{Shows}
 use Rattle.fault_script.proofs.DraftLemmas.{drawn_blank, drawn_command}
 use Rattle.fault_script.proofs.draft.Draft.take.Goals as goal

@@ -1,6 +1,6 @@
 use Rattle.std.proofs.Common.{List, sym, ap, ◌∙◌, subst}
 use Rattle.std.specs.Prelude.{option_map}
-use Rattle.fault_script.specs.declared.saying.Opened.{Opened}
+use Rattle.fault_script.specs.declared.parse_line.Opened.{Opened}
 use Rattle.fault_script.specs.Scripts.{Placed, AreRead}
 use Rattle.fault_script.proofs.DraftLemmas.{no_command}
 use Rattle.fault_script.proofs.progress.Progress.finish.Goals as goal

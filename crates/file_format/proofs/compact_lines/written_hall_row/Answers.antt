@@ -1,7 +1,7 @@
 use Rattle.std.proofs.Common.{◌++◌, ap, sym, ◌∙◌, refl, arith}
 use Rattle.file_format.specs.Texts.{placed_text}
 use Rattle.file_format.proofs.TakenLines.{hall_row_taken}
-use Rattle.file_format.proofs.written.written_hall_row.Goals as goal
+use Rattle.file_format.proofs.compact_lines.written_hall_row.Goals as goal
 
 pub returns-then-is_line : goal.returns-then-is_line
 returns-then-is_line c =

@@ -5,7 +5,7 @@ use Rattle.std.proofs.Math.ListN.{length-set}
 use Rattle.fault_script.specs.Words.{words}
 use Rattle.fault_script.specs.Settings.{capped, numbers_in}
 use Rattle.fault_script.proofs.VoteRows.{numbers-zero, numbers_more, numbers_stop}
-use Rattle.fault_script.proofs.settings.numbers_in.Goals as goal
+use Rattle.fault_script.proofs.parse_setting.numbers_in.Goals as goal
 
 pub loop-place-init : goal.loop-place-init
 loop-place-init c = record { read = numbers-zero (words c.args.args.now); room = refl }

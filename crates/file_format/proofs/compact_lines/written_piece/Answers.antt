@@ -5,7 +5,7 @@ use Rattle.file_format.specs.Lines.{Shows}
 use Rattle.file_format.specs.OrderLines.{piece_in}
 use Rattle.file_format.specs.Texts.{piece_text}
 use Rattle.file_format.proofs.TakenLines.{piece_taken}
-use Rattle.file_format.proofs.written.written_piece.Goals as goal
+use Rattle.file_format.proofs.compact_lines.written_piece.Goals as goal
 
 pub returns-then-is_line : goal.returns-then-is_line
 returns-then-is_line c =

@@ -1,7 +1,7 @@
 use Rattle.std.proofs.Common.{◌≡◌, take, length, Ok}
 use Rattle.fault_script.specs.Words.{words}
 use Rattle.fault_script.specs.Settings.{numbers_in}
-use Rattle.fault_script.proofs.settings.numbers_in.Given as goal
+use Rattle.fault_script.proofs.parse_setting.numbers_in.Given as goal
 
 abbrev pub invariant-loop-place : goal.invariant-loop-place
 invariant-loop-place l = record { read : numbers_in l.place (words l.args) ≡ Ok (take l.place l.votes, words l.behind); room : length l.votes ≡ 15 }

@@ -7,8 +7,8 @@ ghost use Rattle.fault_script.specs.Saying.{reads_behind, votes_set, votes_behin
 use crate::LineFault;
 use crate::command::Command;
 use crate::fault::Stop;
-use crate::settings::{reads_in, replicas_in, votes_in};
-use crate::steps::command_in;
+use crate::parse_command::command_in;
+use crate::parse_setting::{reads_in, replicas_in, votes_in};
 use crate::words::{is, next_word};
 use std::alloc::Global;
 use world_steps::Config;

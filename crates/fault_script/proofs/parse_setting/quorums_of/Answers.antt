@@ -4,7 +4,7 @@ use Rattle.fault_script.specs.declared.fault.LineFault.{LineFault}
 use Rattle.fault_script.specs.declared.fault.LineFault.TheVariants.{Range}
 use Rattle.fault_script.specs.Settings.{is_lawful, quorums_of}
 use Rattle.fault_script.proofs.VoteLemmas.{lawful_decides}
-use Rattle.fault_script.proofs.settings.quorums_of.Goals as goal
+use Rattle.fault_script.proofs.parse_setting.quorums_of.Goals as goal
 
 when : (q : Quorums) (b : Bool) → is_lawful q ≡ b → quorums_of q.votes q.ask q.put ≡ cond b (Ok q) (Err Range)
 when q b e = ap (λ (t : Bool). cond {A = Result Quorums LineFault} t (Ok q) (Err Range)) e
