@@ -1,7 +1,8 @@
 -- The keys that have their orders so far.
-use Rattle.std.proofs.Common.{ℕ, ◌≡◌, ◌<◌, ◌+◌, List, [], ◌∷◌, ◌++◌, length, map, take, drop, get_or, inl, inr, refl, sym, ap, subst, ◌∙◌, append_assoc, append-nil, arith, length-append}
+use Rattle.std.proofs.Common.{ℕ, zero, suc, ap₂, add-one, ◌≡◌, ◌<◌, ◌+◌, List, [], ◌∷◌, ◌++◌, length, map, take, drop, get_or, inl, inr, refl, sym, ap, subst, ◌∙◌, append_assoc, append-nil, arith, length-append}
 use Rattle.std.proofs.lemmas.List.{map-append, take-append-drop}
 use Rattle.std.proofs.lemmas.Option.{slice_get_within}
+use Rattle.std.proofs.Math.Seq.{drop-cons}
 use Rattle.recorder.specs.declared.order.KeyOrder.{KeyOrder}
 use Rattle.recorder.proofs.Lists.{push_cases}
 use Rattle.parallel_keys.specs.Pairings.{KeyParts, all_parts}
@@ -21,6 +22,17 @@ justified_none before parts left orders same justified = record {
   split = sym same;
   justified = subst (λ (l : List KeyPart). AreJustified l orders) (sym (append-nil before)) justified;
 }
+
+-- of what is left, the next is the entry at that place
+pub dropped_more : (parts : List KeyPart) (i : ℕ) (entry : KeyPart) → i < length parts → entry ≡ get_or parts i entry → drop i parts ≡ entry ∷ drop (i + 1) parts
+dropped_more parts i entry below is = drop-cons parts i entry below ∙ ap₂ (λ (e : KeyPart) (n : ℕ). e ∷ drop n parts) (sym is) (sym (add-one i))
+
+-- behind the last none is left
+pub none_left : {X : Type 0} (xs : List X) (i : ℕ) → (i < length xs → ⊥) → drop i xs ≡ []
+none_left [] zero h = refl
+none_left [] (suc i) h = refl
+none_left (x ∷ xs) zero h = absurd (h (omega arith))
+none_left (x ∷ xs) (suc i) h = none_left xs i (λ below. h (omega (arith, below)))
 
 -- no key has no order
 pub justified_nothing : AreJustified [] []

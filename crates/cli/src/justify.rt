@@ -10,12 +10,11 @@ use crate::justifying::{Unjustified, justified_orders};
 use crate::status::{Failure, Status};
 use counted_devices::{CountedRead, CountedWrite, Counting, write_text};
 use file_format::write_orders;
-use indexmap::IndexMap;
 use parallel_keys::hall_parts;
-use recorder::{Histories, KeyOrder, Part};
+use recorder::{Histories, KeyOrder, Parts};
 use std::alloc::Global;
 use std::thread::Threads;
-use tag::{Key, Memory};
+use tag::Memory;
 
 /// The text of the order file of the orders.
 fn order_file(alloc: Global, orders: &[KeyOrder]) -> Result<Vec<u8>, Memory>
@@ -73,7 +72,7 @@ fn refuse<E: CountedWrite>(alloc: Global, refusal: Unjustified<'_>, errors: &mut
 /// Makes each key's order from the notes of its part, checks it, and writes the order file.
 fn justify_parts<W: CountedWrite, E: CountedWrite>(
     alloc: Global,
-    parts: &[IndexMap<Key, Part>],
+    parts: &[Parts],
     out: &mut W,
     errors: &mut E,
 ) -> Status

@@ -6,8 +6,7 @@ ghost use Rattle.cli.specs.Justified.{AreJustified, KeyPart, IsJustifiedOrder, I
 use crate::status::Status;
 use crate::verdict_lines::{append, append_fault, append_number};
 use certificate_check::{Fault, Verdict, check_part};
-use indexmap::IndexMap;
-use recorder::{KeyOrder, Part};
+use recorder::{KeyOrder, Part, Parts};
 use std::alloc::{AllocFailed, Global};
 use tag::{Key, Memory, OpId};
 use witness_order::{WitnessError, order_of};
@@ -98,32 +97,32 @@ fn key_order<'k>(alloc: Global, key: &'k Key, part: &Part) -> Result<KeyOrder, U
     }
 }
 
-/// Adds the tag order of each key of a map, the keys in their order there.
+/// Adds the tag order of each key, the keys in their order there.
 fn add_orders<'k>(
     alloc: Global,
     orders: &mut Vec<KeyOrder>,
-    parts: &'k IndexMap<Key, Part>,
+    parts: &'k [(Key, Part)],
 ) -> Result<(), Unjustified<'k>>
     ensures orders { OnOk result ((before : List KeyPart) → AreJustified before orders.old.items
-        → AreJustified (before ++ parts.now.entries) orders.new.items) }
+        → AreJustified (before ++ parts.now) orders.new.items) }
     ensures refused { IfErr result (λ refusal. (before behind : List KeyPart)
         → AreJustified before orders.old.items
-        → IsFirstUnjustified (before ++ (parts.now.entries ++ behind)) refusal) }
+        → IsFirstUnjustified (before ++ (parts.now ++ behind)) refusal) }
 {
-    for (key, part) in parts {
-        orders.push(key_order(alloc, key, part)?)?;
+    for entry in parts {
+        orders.push(key_order(alloc, &entry.0, &entry.1)?)?;
     }
     Ok(())
 }
 
-/// The tag order of each key of the maps, the maps one after another and the keys in their order
+/// The tag order of each key of the parts, the halls one after another and the keys in their order
 /// there.
 ///
 /// It ends at the first key that has none, or whose tag order is no order of its calls; `Memory`
 /// comes only where a growth was refused.
 pub fn justified_orders<'k>(
     alloc: Global,
-    parts: &'k [IndexMap<Key, Part>],
+    parts: &'k [Parts],
 ) -> Result<Vec<KeyOrder>, Unjustified<'k>>
     ensures orders { IfOk result (λ orders.
         AreJustified (all_parts (map (λ p. p.entries) parts.now)) orders.items) }
@@ -132,7 +131,7 @@ pub fn justified_orders<'k>(
 {
     let mut orders = Vec::new(alloc);
     for own in parts {
-        add_orders(alloc, &mut orders, own)?;
+        add_orders(alloc, &mut orders, own.entries())?;
     }
     Ok(orders)
 }

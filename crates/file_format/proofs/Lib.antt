@@ -12,7 +12,7 @@ pub mod Looking
 pub mod OrderPieces
 pub mod Showing
 pub mod Parting
-pub mod ListedOrders
+mod OrderEntries
 pub mod Joining
 pub mod Saying
 pub mod SayingPieces

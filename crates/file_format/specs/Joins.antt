@@ -3,6 +3,10 @@ use Rattle.std.specs.Prelude.{ℕ, ◌≡◌, ◌⊎◌, List, [], ◌∷◌, �
 use Rattle.tag.specs.declared.numbers.OpId.{OpId}
 use Rattle.recorder.specs.declared.order.KeyOrder.{KeyOrder}
 
+-- what contracts see of orders by key: each key with its order
+pub record JoinedEntries : Type 0 where
+  pub entries : List (List ℕ × List OpId)
+
 -- an entry of the orders by key
 abbrev pub order_of : List ℕ × List OpId → KeyOrder
 order_of entry = record { key = entry.0; order = entry.1 }

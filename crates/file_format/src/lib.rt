@@ -34,5 +34,5 @@ pub use hall_histories::HallHistories;
 pub use hall_row::HallRow;
 pub use judging::{Judgement, LONGEST, judge_file_header, judge_header, judge_part};
 pub use line_item::LineItem;
-pub use orders::{join, listed};
+pub use orders::{JoinedOrders, join, listed};
 pub use writing::{history_text, write_histories, write_history, write_orders};

@@ -83,8 +83,8 @@ fn is_parted(alloc: Global, history: &History) -> Result<bool, Memory> {
         Err(Memory) => history.parts()?,
     };
     let first = key(alloc, 0)?;
-    match parts.get(&first) {
-        Some(part) => Ok(parts.len() == 15 && is_justified(alloc, part, 3)?),
+    match parts.get(&first)? {
+        Some(part) => Ok(parts.entries().len() == 15 && is_justified(alloc, part, 3)?),
         None => Ok(false),
     }
 }

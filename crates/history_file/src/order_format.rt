@@ -5,18 +5,17 @@ ghost use Rattle.file_format.specs.OrderFormat.{order_format};
 use crate::format::Contents;
 use crate::judgements::Judgements;
 use crate::side_by_side::judge_parts;
-use file_format::{LineFault, MOST_CALLS, Stop, join, judge_header};
-use indexmap::IndexMap;
-use recorder::{KeyOrder, Order};
+use file_format::{JoinedOrders, LineFault, MOST_CALLS, Stop, join, judge_header};
+use recorder::KeyOrder;
 use std::alloc::Global;
 use std::marker::Model;
 use std::thread::Threads;
-use tag::{Key, Memory};
+use tag::Memory;
 
 /// The orders that the pieces so far make, and how many calls they have together.
 #[derive(Drop)]
 pub struct Orders {
-    pub orders: IndexMap<Key, Order>,
+    pub orders: JoinedOrders,
     pub calls: usize,
 }
 
@@ -37,13 +36,13 @@ impl Orders {
         ensures { result ≡ record { entries = []; calls = 0 } }
     {
         Orders {
-            orders: IndexMap::new(alloc),
+            orders: JoinedOrders::new(alloc),
             calls: 0,
         }
     }
 
     /// The orders by key.
-    pub(crate) fn into_map(self) -> IndexMap<Key, Order>
+    pub(crate) fn into_map(self) -> JoinedOrders
         ensures { result.entries ≡ self.entries }
     {
         self.orders

@@ -11,8 +11,7 @@ use crate::gate::CheckGate;
 use crate::pairing::{Pair, paired};
 use crate::workers::Workers;
 use certificate_check::Verdict;
-use indexmap::IndexMap;
-use recorder::{Histories, History, KeyOrder, Part};
+use recorder::{Histories, History, KeyOrder, Part, Parts};
 use std::alloc::Global;
 use std::sync::Wait;
 use std::thread::Threads;
@@ -79,7 +78,7 @@ fn check_pairs<R: Threads + Wait, G: CheckGate + Sync>(
 fn check_parts<R: Threads + Wait, G: CheckGate + Sync>(
     rt: &R,
     alloc: Global,
-    parts: &[IndexMap<Key, Part>],
+    parts: &[Parts],
     orders: &[KeyOrder],
     workers: Workers,
     gate: &G,
@@ -115,7 +114,7 @@ pub fn check_history<R: Threads + Wait, G: CheckGate + Sync>(
 }
 
 /// The parts of each history's keys, the histories in their order, in each the keys first seen first.
-pub fn hall_parts(alloc: Global, histories: &[History]) -> Result<Vec<IndexMap<Key, Part>>, Memory>
+pub fn hall_parts(alloc: Global, histories: &[History]) -> Result<Vec<Parts>, Memory>
     ensures { IfOk result (λ parts. AreHallParts histories.now (map (λ p. p.entries) parts.items)) }
 {
     let mut parts = Vec::with_capacity(alloc, histories.len())?;

@@ -4,9 +4,8 @@ ghost use Rattle.parallel_keys.specs.Pairings.{AreDistinct, KeyParts, all_parts,
 ghost use Rattle.parallel_keys.specs.Pairings.{is_other, judged_keys, other_key, recorded_key};
 ghost use Rattle.parallel_keys.specs.Pairs.{HasKeys, key_of, what_of};
 
-use indexmap::IndexMap;
 use key_numbers::KeyNumbers;
-use recorder::{KeyOrder, Part};
+use recorder::{KeyOrder, Part, Parts};
 use std::alloc::Global;
 use tag::{Key, Memory, OpId};
 
@@ -55,11 +54,11 @@ impl<'a> Orders<'a> {
 /// Adds keys that have parts, each with the order that is given for it.
 fn add_recorded<'a>(
     pairs: &mut Vec<Pair<'a>>,
-    parts: &'a IndexMap<Key, Part>,
+    parts: &'a [(Key, Part)],
     orders: &Orders<'a>,
 ) -> Result<(), Memory>
     ensures { OnOk result (map what_of pairs.new.items ≡ map what_of pairs.old.items
-        ++ map (recorded_key orders.now.list.now) parts.now.entries) }
+        ++ map (recorded_key orders.now.list.now) parts.now) }
 {
     for (key, part) in parts {
         let order = orders.of(key)?;
@@ -125,7 +124,7 @@ fn add_others<'a>(
 /// only the orders have, whose part is `nothing`.
 pub(crate) fn paired<'a>(
     alloc: Global,
-    parts: &'a [IndexMap<Key, Part>],
+    parts: &'a [Parts],
     orders: &'a [KeyOrder],
     nothing: &'a Part,
 ) -> Result<Vec<Pair<'a>>, Memory>
@@ -142,7 +141,7 @@ pub(crate) fn paired<'a>(
 /// The keys that have parts, in order, each with the order that is given for it.
 fn recorded_pairs<'a>(
     alloc: Global,
-    parts: &'a [IndexMap<Key, Part>],
+    parts: &'a [Parts],
     orders: &'a [KeyOrder],
 ) -> Result<Vec<Pair<'a>>, Memory>
     requires { AreDistinct orders.now }
@@ -152,7 +151,7 @@ fn recorded_pairs<'a>(
     let by_key = Orders::new(alloc, orders)?;
     let mut pairs = Vec::new(alloc);
     for own in parts {
-        add_recorded(&mut pairs, own, &by_key)?;
+        add_recorded(&mut pairs, own.entries(), &by_key)?;
     }
     Ok(pairs)
 }

@@ -141,7 +141,8 @@ fn said_call(alloc: Global, call: &Call) -> Result<String, AllocError> {
 /// The keys of the parts in their order, each with its calls.
 fn parts(alloc: Global, history: &History) -> Result<String, Memory> {
     let mut text = String::new(alloc);
-    for (key, part) in history.parts()?.iter() {
+    let parts = history.parts()?;
+    for (key, part) in parts.entries() {
         text.push_str(key.as_str())?;
         text.push('\n')?;
         for call in part.calls() {
@@ -180,7 +181,7 @@ fn tag_order(alloc: Global, history: &History, key: &str) -> Result<String, Memo
         return Ok(String::from_str(alloc, "no key\n")?);
     };
     let parts = history.parts()?;
-    let Some(part) = parts.get(&key) else {
+    let Some(part) = parts.get(&key)? else {
         return Ok(String::from_str(alloc, "no part\n")?);
     };
     match order_of(alloc, part) {

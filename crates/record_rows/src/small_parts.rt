@@ -88,8 +88,8 @@ fn small_part(alloc: Global, number: u32, count: usize) -> Option<Part> {
         history.invoke(client, key, action).ok()?;
         respond(alloc, &mut history, choices.as_slice(), i)?;
     }
-    let mut parts = history.parts().ok()?;
-    match parts.shift_remove_index(0) {
+    let mut parts = history.parts().ok()?.into_entries();
+    match parts.pop() {
         Some((_, part)) => Some(part),
         None => Some(Part::empty(alloc)),
     }

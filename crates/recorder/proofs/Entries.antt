@@ -1,43 +1,48 @@
--- Entries of a map whose keys are texts, by place.
-use Rattle.std.proofs.Common.{ℕ, zero, suc, ◌≡◌, List, [], ◌∷◌, Option, Some, is_some, Bool, true, false, cond, set, get_or, position, sym, ◌∙◌, ap, subst}
+-- Entries by key, whose keys have numbers.
+use Rattle.std.proofs.Common.{ℕ, zero, suc, ◌≡◌, ◌<◌, List, [], ◌∷◌, ◌++◌, Option, Some, None, set, map, length, sym, ◌∙◌, ap, subst, refl, arith}
 use Rattle.std.specs.List.{slice_get, Contains}
 use Rattle.std.specs.Option.{option_map}
-use Rattle.std.specs.Str.{bytes_eq}
-use Rattle.std.specs.Map.{keys_of, lookup}
-use Rattle.std.specs.Cmp.Lexicographic.{bytes_decides}
-use Rattle.std.proofs.lemmas.Option.{slice_get-map, get_or_from_slice_get}
-use Rattle.std.proofs.lemmas.List.Quantifiers.{position-Some}
-use Rattle.indexmap.specs.IndexMap.{set_value_at}
-use Rattle.recorder.proofs.Lists.{place_of}
+use Rattle.std.proofs.lemmas.List.{length-map}
+use Rattle.std.proofs.lemmas.Option.{slice_get-map, slice_get_within}
+use Rattle.key_numbers.specs.Numbers.{Numbers}
+use Rattle.key_numbers.specs.Numbers.Numbers.{known, first}
+use Rattle.recorder.proofs.Lists.{place_of, Contains-slice_get}
 
--- the key at the place that a look-up answers is the key looked up
-pub found_key : {X : Type 0} (es : List (List ℕ × X)) (key : List ℕ) (i : ℕ) (k : List ℕ) (x : X) → position (bytes_eq key) (keys_of es) ≡ Some i → slice_get es i ≡ Some (k, x) → key ≡ k
-found_key {X} es key i k x at here =
-    let p = position-Some (bytes_eq key) (keys_of es) i key at in
-    let stored : get_or (keys_of es) i key ≡ k = get_or_from_slice_get (keys_of es) i k key (slice_get-map (λ (e : List ℕ × X). e.0) es i ∙ ap (option_map (λ (e : List ℕ × X). e.0)) here) in
-    (bytes_decides key k).0 (subst (λ (y : List ℕ). bytes_eq key y ≡ true) stored p.1)
+-- an entry's key stands at its place
+pub key_at : {X : Type 0} (es : List (List ℕ × X)) (slot : ℕ) (e : List ℕ × X) → slice_get es slot ≡ Some e → slice_get (map (λ e. e.0) es) slot ≡ Some e.0
+key_at {X} es slot e at = slice_get-map (λ (e : List ℕ × X). e.0) es slot ∙ ap (option_map (λ (e : List ℕ × X). e.0)) at
 
--- a key that a look-up doesn't find has no entry
-pub absent_key : {X : Type 0} (es : List (List ℕ × X)) (key : List ℕ) → is_some (lookup (bytes_eq key) es) ≡ false → (x : X) → Contains es (key, x) → ⊥
-absent_key es key none x h = let k = place_of es (key, x) h in none_at es key none x k.0 k.1
-  where
-    later : {X : Type 0} (b : Bool) (y : X) (o : Option X) → is_some (cond b (Some y) o) ≡ false → is_some o ≡ false
-    later true y o h = absurd (cc)
-    later false y o h = h
+-- at the place of a key stands its entry
+pub entry_at : {X : Type 0} (es : List (List ℕ × X)) (slot : ℕ) (key : List ℕ) → slice_get (map (λ e. e.0) es) slot ≡ Some key → (x : X) × (slice_get es slot ≡ Some (key, x))
+entry_at [] slot key at = absurd (cc)
+entry_at {X} (e ∷ es) zero key at =
+    let same : e.0 ≡ key = cc in
+    (e.1, subst (λ (k : List ℕ). Some e ≡ Some (k, e.1)) same refl)
+entry_at (e ∷ es) (suc slot) key at = entry_at es slot key at
 
-    none_at : {X : Type 0} (es : List (List ℕ × X)) (key : List ℕ) → is_some (lookup (bytes_eq key) es) ≡ false → (x : X) (j : ℕ) → slice_get es j ≡ Some (key, x) → ⊥
-    none_at [] key none x j h = cc
-    none_at {X} (e ∷ es) key none x zero h =
-        let same : e ≡ (key, x) = cc in
-        let equal : bytes_eq key e.0 ≡ true = (bytes_decides key e.0).1 (sym (ap (λ (p : List ℕ × X). p.0) same)) in
-        let found : true ≡ false = subst (λ (b : Bool). is_some (cond b (Some e.1) (lookup (bytes_eq key) es)) ≡ false) equal none in
-        cc
-    none_at (e ∷ es) key none x (suc j) h = none_at es key (later (bytes_eq key e.0) e.1 (lookup (bytes_eq key) es) none) x j h
+-- a key with an entry is one of the keys
+pub key_of_entry : {X : Type 0} (es : List (List ℕ × X)) (key : List ℕ) (x : X) → Contains es (key, x) → Contains (map (λ e. e.0) es) key
+key_of_entry es key x h = let k = place_of es (key, x) h in Contains-slice_get (map (λ e. e.0) es) k.0 key (key_at es k.0 (key, x) k.1)
 
--- a value written at a place
-pub set_value_at-set : {X : Type 0} (es : List (List ℕ × X)) (i : ℕ) (key : List ℕ) (old new : X) → slice_get es i ≡ Some (key, old) → set_value_at es i new ≡ set es i (key, new)
-set_value_at-set [] i key old new h = absurd (cc)
-set_value_at-set {X} (e ∷ es) zero key old new h =
-    let same : e ≡ (key, old) = cc in
-    ap (λ (p : List ℕ × X). (p.0, new) ∷ es) same
-set_value_at-set {X} (e ∷ es) (suc i) key old new h = ap (λ (l : List (List ℕ × X)). e ∷ l) (set_value_at-set es i key old new h)
+-- a value that is written leaves the keys
+pub keys_set : {X : Type 0} (es : List (List ℕ × X)) (slot : ℕ) (key : List ℕ) (x y : X) → slice_get es slot ≡ Some (key, x) → map (λ e. e.0) (set es slot (key, y)) ≡ map (λ e. e.0) es
+keys_set [] slot key x y at = absurd (cc)
+keys_set {X} (e ∷ es) zero key x y at = let same : e ≡ (key, x) = cc in ap (λ (p : List ℕ × X). p.0 ∷ map (λ e. e.0) es) (sym same)
+keys_set (e ∷ es) (suc slot) key x y at = ap (λ (l : List (List ℕ)). e.0 ∷ l) (keys_set es slot key x y at)
+
+-- an entry that comes to the end brings its key there
+pub keys_push : {X : Type 0} (es : List (List ℕ × X)) (key : List ℕ) (x : X) → map (λ e. e.0) (es ++ (key, x) ∷ []) ≡ map (λ e. e.0) es ++ key ∷ []
+keys_push [] key x = refl
+keys_push (e ∷ es) key x = ap (λ (l : List (List ℕ)). e.0 ∷ l) (keys_push es key x)
+
+-- the entry at a key's number is the key's
+pub own_entry : {X : Type 0} (es : List (List ℕ × X)) (key : List ℕ) (slot : ℕ) (keys : List (List ℕ)) (e : List ℕ × X) → Numbers (map (λ e. e.0) es) key slot keys → slice_get es slot ≡ Some e → e.0 ≡ key
+own_entry {X} es key slot keys e (known here same) at = let both : Some e.0 ≡ Some key = sym (key_at es slot e at) ∙ here in cc
+own_entry {X} es key slot keys e (first none is same) at = absurd (omega (arith, is, length-map es (λ (e : List ℕ × X). e.0), slice_get_within es slot e at))
+
+-- where none stands there, the key has none
+pub no_entry : {X : Type 0} (es : List (List ℕ × X)) (key : List ℕ) (slot : ℕ) (keys : List (List ℕ)) → Numbers (map (λ e. e.0) es) key slot keys → (slot < length es → ⊥) → (x : X) → Contains es (key, x) → ⊥
+no_entry {X} es key slot keys (known here same) none x h =
+    let e = entry_at es slot key here in
+    none (slice_get_within es slot (key, e.0) e.1)
+no_entry {X} es key slot keys (first unseen is same) none x h = unseen (key_of_entry es key x h)

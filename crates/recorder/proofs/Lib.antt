@@ -5,7 +5,7 @@ mod States
 mod Busy
 mod Answering
 mod Keeps
-mod Entries
+pub mod Entries
 mod Recorded
 mod PartBelow
 mod PartsBelow

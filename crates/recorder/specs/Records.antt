@@ -36,3 +36,7 @@ pub record AreParts (rows : List Row) (parts : List (List ℕ × List Call)) : T
   pub all : (key : List ℕ) (place : ℕ) → BeginsAt rows key place → (part : List Call) × Contains parts (key, part)
   pub seen : (key : List ℕ) (part : List Call) → Contains parts (key, part) → (place : ℕ) × IsFirstSeen rows key place
   pub ordered : (i j : ℕ) (k l : List ℕ) (p q : List Call) (m n : ℕ) → i < j → slice_get parts i ≡ Some (k, p) → slice_get parts j ≡ Some (l, q) → IsFirstSeen rows k m → IsFirstSeen rows l n → m < n
+
+-- what contracts see of parts by key: each key with its part
+pub record KeyedParts : Type 0 where
+  pub entries : List (List ℕ × List Call)

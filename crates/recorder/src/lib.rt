@@ -11,6 +11,7 @@ mod history;
 pub mod laws;
 mod order;
 mod part;
+mod parts;
 mod row;
 
 pub use halls::Halls;
@@ -18,4 +19,5 @@ pub use histories::Histories;
 pub use history::History;
 pub use order::{KeyOrder, Order};
 pub use part::{Call, Part, Response};
+pub use parts::Parts;
 pub use row::{Row, RowRefusal};

@@ -144,7 +144,8 @@ fn verdicts(alloc: Global, hall: &ClosedHall) -> Option<String> {
     let mut lines = String::new(alloc);
     for key_order in &hall.orders {
         let order = key_order.order.as_slice();
-        let verdict = check_part(alloc, parts.get(&key_order.key)?, order).ok()?;
+        let part = parts.get(&key_order.key).ok()??;
+        let verdict = check_part(alloc, part, order).ok()?;
         let (name, count) = (key_order.key.as_str(), order.len());
         let line = format!(in alloc; "{name}, an order of {count} calls: {verdict}\n").ok()?;
         lines.push_str(line.as_str()).ok()?;

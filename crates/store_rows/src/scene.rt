@@ -132,13 +132,13 @@ pub fn are_atomic(alloc: Global, closed: &Closed) -> bool {
 fn is_atomic(alloc: Global, hall: &ClosedHall) -> Option<bool> {
     let parts = hall.history.parts().ok()?;
     for key_order in &hall.orders {
-        let part = parts.get(&key_order.key)?;
+        let part = parts.get(&key_order.key).ok()??;
         let verdict = check_part(alloc, part, key_order.order.as_slice()).ok()?;
         if verdict != Verdict::Yes {
             return Some(false);
         }
     }
-    Some(parts.len() == hall.orders.len())
+    Some(parts.entries().len() == hall.orders.len())
 }
 
 /// What a row says.

@@ -6,7 +6,6 @@ ghost use Rattle.recorder.specs.declared.part.Call.{Call};
 ghost use Rattle.witness_order.specs.Justified.{AreOrdersOf, HaveSoundTags, Justify};
 
 use crate::{WitnessError, order_of};
-use indexmap::IndexMap;
 use recorder::{History, KeyOrder, Part};
 use std::alloc::Global;
 use tag::{Key, Memory};
@@ -27,16 +26,13 @@ fn key_order(alloc: Global, key: &Key, part: &Part) -> Result<KeyOrder, Memory>
 }
 
 /// For each part the order that its tags make.
-fn key_orders(alloc: Global, parts: &IndexMap<Key, Part>) -> Result<Vec<KeyOrder>, Memory>
-    requires { (key : List ℕ) (part : List Call) → Contains parts.now.entries (key, part) → TagSound part }
-    ensures { IfOk result (λ orders. AreOrdersOf parts.now.entries orders.items) }
+fn key_orders(alloc: Global, parts: &[(Key, Part)]) -> Result<Vec<KeyOrder>, Memory>
+    requires { (key : List ℕ) (part : List Call) → Contains parts.now (key, part) → TagSound part }
+    ensures { IfOk result (λ orders. AreOrdersOf parts.now orders.items) }
 {
     let mut orders = Vec::with_capacity(alloc, parts.len())?;
-    for index in 0..parts.len() {
-        let Some((key, part)) = parts.get_index(index) else {
-            unreachable!()
-        };
-        orders.push(key_order(alloc, key, part)?)?;
+    for entry in parts {
+        orders.push(key_order(alloc, &entry.0, &entry.1)?)?;
     }
     Ok(orders)
 }
@@ -48,5 +44,5 @@ pub fn justified_orders(alloc: Global, history: &History) -> Result<Vec<KeyOrder
     ensures { IfOk result (λ orders. Justify history.now.rows orders.items) }
 {
     let parts = history.parts()?;
-    key_orders(alloc, &parts)
+    key_orders(alloc, parts.entries())
 }

@@ -1,5 +1,5 @@
 //! The parts of a history.
-ghost use Rattle.std.specs.Prelude.{ℕ, ◌≡◌, List, [], ◌∷◌, ◌++◌, IfOk, OnOk, Some, slice_get, Contains};
+ghost use Rattle.std.specs.Prelude.{ℕ, ◌≡◌, List, [], ◌∷◌, ◌++◌, map, IfOk, OnOk, Some, slice_get, Contains};
 ghost use Rattle.std.specs.Option.{ForSome};
 ghost use Rattle.recorder.specs.declared.part.Call.{Call};
 ghost use Rattle.tag.specs.declared.numbers.OpId.{OpId};
@@ -7,11 +7,13 @@ ghost use Rattle.recorder.specs.Parts.{IsSequence};
 ghost use Rattle.recorder.specs.States.{RespondsAt, IsResponseAt};
 ghost use Rattle.recorder.specs.Adding.{AddsCall, IsBegunAt};
 ghost use Rattle.recorder.specs.declared.row.Row.{Row};
+ghost use Rattle.key_numbers.specs.Numbers.{Numbers};
 
 use super::History;
 use crate::part::{Call, Part, Response};
+use crate::parts::Parts;
 use crate::row::Row;
-use indexmap::IndexMap;
+use key_numbers::KeyNumbers;
 use tag::{Action, ClientId, Key, Memory, OpId};
 
 impl History {
@@ -19,10 +21,12 @@ impl History {
 
     /// The calls of each key as the rows record them, in one pass; the keys in the order in which
     /// they are first seen. `Memory` comes only where a growth was refused.
-    pub fn parts(&self) -> Result<IndexMap<Key, Part>, Memory>
+    pub fn parts(&self) -> Result<Parts, Memory>
         ensures { IfOk result (λ parts. AreParts self.now.rows parts.entries) }
     {
-        let mut parts = IndexMap::new(*self.rows.allocator());
+        let alloc = *self.rows.allocator();
+        let mut entries = Vec::new(alloc);
+        let mut places = KeyNumbers::new(alloc);
         for (place, row) in self.rows.iter().enumerate() {
             if let Row::Invoke {
                 op,
@@ -32,10 +36,11 @@ impl History {
             } = row
             {
                 let call = self.call_at(place, *op, *client, action)?;
-                add_call(&mut parts, key, call)?;
+                let slot = places.number(key)?;
+                add_call(&mut entries, slot, key, call)?;
             }
         }
-        Ok(parts)
+        Ok(Parts::new(entries, places))
     }
 
     /// The call that the row at that place begins, as the rows record it.
@@ -79,23 +84,25 @@ fn response_at(rows: &[Row], place: Option<usize>) -> Result<Option<Response>, M
     }
 }
 
-/// Adds a call behind all others on its key.
-fn add_call(parts: &mut IndexMap<Key, Part>, key: &Key, call: Call) -> Result<(), Memory>
+/// Adds a call behind all others on its key, whose number among the keys is `slot`.
+fn add_call(
+    entries: &mut Vec<(Key, Part)>,
+    slot: usize,
+    key: &Key,
+    call: Call,
+) -> Result<(), Memory>
+    requires slot { (keys : List (List ℕ)) × Numbers (map (λ e. e.0) entries.old.items) key.now slot keys }
     requires first { IsSequence (call ∷ []) }
-    requires later { (part : List Call) → Contains parts.old.entries (key.now, part) → IsSequence (part ++ call ∷ []) }
-    ensures { OnOk result (AddsCall parts.old.entries key.now call parts.new.entries) }
+    requires later { (part : List Call) → Contains entries.old.items (key.now, part) → IsSequence (part ++ call ∷ []) }
+    ensures { OnOk result (AddsCall entries.old.items key.now call entries.new.items) }
 {
-    match parts.get_index_of(key) {
-        Some(slot) => {
-            let (_, part) = parts.pair_mut(slot);
-            part.push(call)?;
-        }
-        None => {
-            let alloc = *parts.allocator();
-            let mut part = Part::empty(alloc);
-            part.push(call)?;
-            parts.insert(key.copy()?, part)?;
-        }
+    if slot < entries.len() {
+        entries[slot].1.push(call)?;
+    } else {
+        let alloc = *entries.allocator();
+        let mut part = Part::empty(alloc);
+        part.push(call)?;
+        entries.push((key.copy()?, part))?;
     }
     Ok(())
 }

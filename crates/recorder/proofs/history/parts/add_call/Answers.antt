@@ -1,38 +1,37 @@
-use Rattle.std.proofs.Common.{◌≡◌, inl, inr, refl, sym, ◌∙◌, ap, List, [], ◌∷◌, ◌++◌, is_some, false}
-use Rattle.std.specs.Str.{bytes_eq}
-use Rattle.std.specs.Map.{lookup}
+use Rattle.std.proofs.Common.{◌≡◌, inl, inr, refl, sym, ◌∙◌, ap, ap₂, subst, List, ℕ, [], ◌∷◌, ◌++◌, set, Some, arith, length}
+use Rattle.std.specs.List.{slice_get}
+use Rattle.std.proofs.lemmas.Option.{slice_get_read}
 use Rattle.recorder.specs.declared.part.Call.{Call}
-use Rattle.indexmap.proofs.CallerLemmas.{insert_entry-new}
-use Rattle.recorder.proofs.Lists.{Contains-slice_get, None-from_test}
-use Rattle.recorder.proofs.Entries.{found_key, absent_key, set_value_at-set}
+use Rattle.recorder.proofs.Lists.{Contains-slice_get}
+use Rattle.recorder.proofs.Entries.{own_entry, no_entry}
 use Rattle.recorder.proofs.history.parts.add_call.Goals as goal
 
 pub push-requires : goal.push-requires
 push-requires c =
-    let es = c.args.parts.now.entries in
-    let stored = c.pair_mut-part.ensures.value in
-    let same = found_key es c.args.key.now c.in-Some.slot _ _ (sym c.in-Some.ensures.index) stored in
-    c.requires.later c.pair_mut-part.result.1.now (rw same (Contains-slice_get es c.in-Some.slot _ stored))
+    let es = c.args.entries.now.items in
+    let e = c.index_mut.result.now in
+    let stored = slice_get_read es (length es) c.args.slot e refl (omega (arith, c.if-slot-len.true, c.len.ensures)) c.index_mut.ensures.value in
+    let same = own_entry es c.args.key.now c.args.slot c.requires.slot.0 e c.requires.slot.1 stored in
+    c.requires.later e.1 (Contains-slice_get es c.args.slot (c.args.key.now, e.1) (subst (λ (k : List ℕ). slice_get es c.args.slot ≡ Some (k, e.1)) same stored))
 
-pub returns-in_ok-push-in-Some : goal.returns-in_ok-push-in-Some
-returns-in_ok-push-in-Some c =
-    let es = c.args.parts.now.entries in
-    let stored = c.pair_mut-part.ensures.value in
-    let same = found_key es c.args.key.now c.in-Some.slot _ _ (sym c.in-Some.ensures.index) stored in
+pub returns-in_ok-push : goal.returns-in_ok-push
+returns-in_ok-push c =
+    let es = c.args.entries.now.items in
+    let e = c.index_mut.result.now in
+    let stored = slice_get_read es (length es) c.args.slot e refl (omega (arith, c.if-slot-len.true, c.len.ensures)) c.index_mut.ensures.value in
+    let same = own_entry es c.args.key.now c.args.slot c.requires.slot.0 e c.requires.slot.1 stored in
     inl (record {
-      slot = c.in-Some.slot;
-      part = c.pair_mut-part.result.1.now;
-      had = rw same stored;
-      has = rw (set_value_at-set es c.in-Some.slot _ _ c.push.new.self stored, c.in_ok-push-in-Some.ensures.ok, same) refl;
+      slot = c.args.slot;
+      part = e.1;
+      had = subst (λ (k : List ℕ). slice_get es c.args.slot ≡ Some (k, e.1)) same stored;
+      has = ap₂ (λ (k : List ℕ) (p : List Call). set es c.args.slot (k, p)) same c.in_ok-push.ensures.ok;
     })
 
-pub returns-in_ok-insert-in-None : goal.returns-in_ok-insert-in-None
-returns-in_ok-insert-in-None c =
-    let m = c.args.parts.now in
-    let key = c.args.key.now in
-    let absent : is_some (lookup (bytes_eq key) m.entries) ≡ false = sym c.in-None.ensures.found in
-    let new : c.push-in-None.new.self ≡ c.args.call ∷ [] = c.in_ok-push-in-None.ensures.ok ∙ ap (λ (l : List Call). l ++ c.args.call ∷ []) c.empty-part.ensures in
+pub returns-in_ok-push-3 : goal.returns-in_ok-push-3
+returns-in_ok-push-3 c =
+    let es = c.args.entries.now.items in
+    let new : c.push-else-slot-len.new.self ≡ c.args.call ∷ [] = c.in_ok-push-2.ensures.ok ∙ ap (λ (l : List Call). l ++ c.args.call ∷ []) c.empty-part.ensures in
     inr (record {
-      absent = absent_key m.entries key absent;
-      has = rw c.in_ok-insert-in-None.ensures.entries (rw (c.in_ok-copy-in-None.ensures, new) (insert_entry-new bytes_eq m key (c.args.call ∷ []) (None-from_test _ absent)));
+      absent = no_entry es c.args.key.now c.args.slot c.requires.slot.0 c.requires.slot.1 (λ below. omega (arith, below, c.if-slot-len.false, c.len.ensures));
+      has = c.in_ok-push-3.ensures.items ∙ ap₂ (λ (k : List ℕ) (p : List Call). es ++ (k, p) ∷ []) c.in_ok-copy.ensures new;
     })
