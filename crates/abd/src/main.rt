@@ -6,11 +6,13 @@ use cli::{
     simulate_command,
 };
 use parallel_keys::Workers;
+use run_words::RunAsked;
 use std::io::ErrorKind;
 use std::process::ExitCode;
 use std::sync::Wait;
 use std::thread::Threads;
 use std::{env, fs};
+use store_run::run_command;
 
 /// Shows the help or the version that was asked for.
 fn show(rt: &HostRuntime, text: &str) -> Status {
@@ -83,8 +85,21 @@ fn simulate(rt: &HostRuntime, script: &str) -> Status {
     simulate_command(rt.alloc(), &mut script, &mut out, &mut errors)
 }
 
+/// Runs a store under a load.
+fn run<R>(rt: &HostRuntime, threads: &R, asked: RunAsked) -> Status
+where
+    R: Threads + Wait + Copy + Send + Sync + 'static,
+{
+    let mut errors = rt.stderr();
+    let mut out = Counting::new(rt.stdout());
+    run_command(threads, rt.alloc(), asked, &mut out, &mut errors)
+}
+
 /// Does what was asked for.
-fn obey(rt: &HostRuntime, threads: &(impl Threads + Wait + Sync), asked: Command<'_>) -> Status {
+fn obey<R>(rt: &HostRuntime, threads: &R, asked: Command<'_>) -> Status
+where
+    R: Threads + Wait + Copy + Send + Sync + 'static,
+{
     match asked {
         Command::Check {
             history,
@@ -93,10 +108,15 @@ fn obey(rt: &HostRuntime, threads: &(impl Threads + Wait + Sync), asked: Command
         } => check(rt, threads, history, orders, workers),
         Command::Justify { history } => justify(rt, threads, history),
         Command::Simulate { script } => simulate(rt, script),
+        Command::Run(asked) => run(rt, threads, asked),
     }
 }
 
-fn run(rt: &HostRuntime, threads: &(impl Threads + Wait + Sync)) -> Status {
+/// Does what the program's words ask for.
+fn answer<R>(rt: &HostRuntime, threads: &R) -> Status
+where
+    R: Threads + Wait + Copy + Send + Sync + 'static,
+{
     let words = match env::args(rt) {
         Ok(words) => words,
         Err(error) if error.kind() == ErrorKind::OutOfMemory => {
@@ -118,5 +138,5 @@ fn run(rt: &HostRuntime, threads: &(impl Threads + Wait + Sync)) -> Status {
 }
 
 fn main(rt: HostRuntime) -> ExitCode {
-    ExitCode::from(run(&rt, &rt).code())
+    ExitCode::from(answer(&rt, &rt).code())
 }

@@ -9,3 +9,12 @@ check_is_not_simulate same = let heads : ◌≡◌ {A = ℕ} 99 115 = ap (λ (na
 
 pub justify_is_not_simulate : codes "justify" ≡ codes "simulate" → ⊥
 justify_is_not_simulate same = let heads : ◌≡◌ {A = ℕ} 106 115 = ap (λ (name : List ℕ). slice_index name 0) same in omega arith
+
+pub check_is_not_run : codes "check" ≡ codes "run" → ⊥
+check_is_not_run same = let heads : ◌≡◌ {A = ℕ} 99 114 = ap (λ (name : List ℕ). slice_index name 0) same in omega arith
+
+pub justify_is_not_run : codes "justify" ≡ codes "run" → ⊥
+justify_is_not_run same = let heads : ◌≡◌ {A = ℕ} 106 114 = ap (λ (name : List ℕ). slice_index name 0) same in omega arith
+
+pub simulate_is_not_run : codes "simulate" ≡ codes "run" → ⊥
+simulate_is_not_run same = let heads : ◌≡◌ {A = ℕ} 115 114 = ap (λ (name : List ℕ). slice_index name 0) same in omega arith

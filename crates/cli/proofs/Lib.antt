@@ -8,6 +8,7 @@ pub mod HistoryEndings
 pub mod Judged
 mod LineSpelling
 pub mod Told
+pub mod Unmade
 pub mod Noted
 pub mod Prefixes
 pub mod Reading

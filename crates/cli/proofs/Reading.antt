@@ -1,5 +1,5 @@
 -- What was read, and how it was judged.
-use Rattle.std.proofs.Common.{◌≡◌, ℕ, List, Option, inl, inr, refl, subst}
+use Rattle.std.proofs.Common.{List, inr, refl}
 use Rattle.std.specs.Io.KnownBytes.{Appends}
 use Rattle.recorder.specs.declared.order.KeyOrder.{KeyOrder}
 use Rattle.recorder.specs.Halls.{RecordedHalls}

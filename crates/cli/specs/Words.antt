@@ -6,8 +6,10 @@ use Rattle.clap.specs.declared.builder.value_parser.ValueParser.TheVariants as p
 use Rattle.clap.specs.declared.error.kind.ErrorKind.{ErrorKind}
 use Rattle.clap.specs.declared.error.kind.ErrorKind.TheVariants.{DisplayHelp, DisplayVersion, OutOfMemory}
 use Rattle.parallel_keys.specs.Workers.{IsCount}
+use Rattle.run_words.specs.Asking.{AsksRun}
+use Rattle.run_words.specs.Options.{run_app}
 use Rattle.cli.specs.declared.asked.Command.{Command}
-use Rattle.cli.specs.declared.asked.Command.TheVariants.{Check, Justify, Simulate}
+use Rattle.cli.specs.declared.asked.Command.TheVariants.{Check, Justify, Run, Simulate}
 use Rattle.cli.specs.declared.asked.Usage.{Usage}
 use Rattle.cli.specs.declared.asked.Usage.TheVariants as usage
 
@@ -44,7 +46,7 @@ bare_app =
 
 -- abd with its commands
 abbrev pub abd_app : App
-abd_app = with_subcommand (with_subcommand (with_subcommand bare_app check_app.top) justify_app.top) simulate_app.top
+abd_app = with_subcommand (with_subcommand (with_subcommand (with_subcommand bare_app check_app.top) justify_app.top) simulate_app.top) run_app.top
 
 -- the files that the words behind `check` name
 pub record NamesFiles (rows : List Row) (history orders : Text) : Type 0 where
@@ -64,12 +66,14 @@ abbrev pub Makes : List Row → Command → Type 0
 Makes rows (Check history orders workers) = NamesFiles rows history.now orders.now × AsksWorkers rows workers
 Makes rows (Justify history) = first_of (codes "HISTORY") rows ≡ Some history.now
 Makes rows (Simulate script) = first_of (codes "SCRIPT") rows ≡ Some script.now
+Makes rows (Run asked) = AsksRun rows asked
 
 -- the command's name
 abbrev pub name_of : Command → Text
 name_of (Check history orders workers) = codes "check"
 name_of (Justify history) = codes "justify"
 name_of (Simulate script) = codes "simulate"
+name_of (Run asked) = codes "run"
 
 -- the command has that name, and the words behind it make the command
 abbrev pub MakesAs : Text → List Row → Command → Type 0
@@ -110,3 +114,10 @@ Says kind (usage.Help text) = kind ≡ DisplayHelp
 Says kind (usage.Version text) = kind ≡ DisplayVersion
 Says kind (usage.Fault text) = IsMistake kind
 Says kind usage.Memory = Unit {0}
+
+-- the answer says that no command is made, where none is, or that memory ran out
+abbrev pub MakesNothing : Type 0 → Usage → Type 0
+MakesNothing none (usage.Help text) = ⊥
+MakesNothing none (usage.Version text) = ⊥
+MakesNothing none (usage.Fault text) = none
+MakesNothing none usage.Memory = Unit {0}

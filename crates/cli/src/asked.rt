@@ -1,5 +1,6 @@
 //! What a command line asks for.
 use parallel_keys::Workers;
+use run_words::RunAsked;
 
 /// What a command line asks for.
 #[derive(Clone, Copy, Debug, PartialEq, Eq)]
@@ -18,6 +19,8 @@ pub enum Command<'a> {
     Simulate {
         script: &'a str,
     },
+    /// To run a store under a load and write its history.
+    Run(RunAsked),
 }
 
 /// Why a command line asks for no command.

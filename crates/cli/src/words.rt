@@ -1,8 +1,8 @@
 //! The words of a command line.
-ghost use Rattle.std.specs.Prelude.{◌≡◌, false, codes, IfOk, IfErr, MatchOption, map, string_bytes};
+ghost use Rattle.std.specs.Prelude.{◌≡◌, false, codes, IfOk, IfErr, MatchOption, MatchResult, map, string_bytes};
 ghost use Rattle.clap.specs.Words.{app_of, found_of, kind_of, rows_of, rule_of, subcommand_rows_of};
 ghost use Rattle.clap.specs.declared.builder.command.Command.TheViews.{out-Command as fields_of};
-ghost use Rattle.cli.specs.Words.{abd_app, bare_app, check_app, justify_app, needed_word, simulate_app, workers_option, Asks, AsksNothing, MakesAs, MakesOf, Says};
+ghost use Rattle.cli.specs.Words.{abd_app, bare_app, check_app, justify_app, needed_word, simulate_app, workers_option, Asks, AsksNothing, MakesAs, MakesNothing, MakesOf, Says};
 ghost use Rattle.cli.specs.declared.asked.Command.{Command};
 
 use crate::asked::{Command, Usage};
@@ -10,6 +10,7 @@ use crate::help;
 use clap::error::ErrorKind;
 use clap::{Arg, ArgMatches, Error, value_parser};
 use parallel_keys::Workers;
+use run_words::{RunFault, run_in, run_words};
 use std::alloc::{AllocError, Global};
 
 /// A word that has to be there, with what help says of it.
@@ -102,10 +103,12 @@ fn abd_words<'a>(alloc: Global) -> Result<clap::Command<'a>, AllocError>
     let check = check_words(alloc)?;
     let justify = justify_words(alloc)?;
     let simulate = simulate_words(alloc)?;
+    let running = run_words(alloc)?;
     bare_words(alloc)
         .subcommand(check)?
         .subcommand(justify)?
-        .subcommand(simulate)
+        .subcommand(simulate)?
+        .subcommand(running)
 }
 
 /// What an error of clap's says.
@@ -160,21 +163,60 @@ fn simulate_in<'a>(matches: &ArgMatches<'a>) -> Option<Command<'a>>
     Some(Command::Simulate { script })
 }
 
-/// The command that was met.
-fn command_in<'a>(matches: &ArgMatches<'a>) -> Option<Command<'a>>
-    ensures { MatchOption result
-        ((command : Command) → MakesOf (subcommand_rows_of matches.now) command → ⊥)
-        (MakesOf (subcommand_rows_of matches.now)) }
+/// `run`, of the words behind its name.
+fn asked_run<'a>(alloc: Global, matches: &ArgMatches<'a>) -> Result<Command<'a>, Usage>
+    ensures { MatchResult result (MakesAs (codes "run") (rows_of (found_of matches.now)))
+        (MakesNothing ((command : Command) → MakesAs (codes "run") (rows_of (found_of matches.now)) command → ⊥)) }
 {
-    let (name, found) = matches.subcommand()?;
+    match run_in(alloc, matches) {
+        Ok(asked) => Ok(Command::Run(asked)),
+        Err(RunFault::Memory) => Err(Usage::Memory),
+        Err(fault) => Err(fault_of(alloc, fault)),
+    }
+}
+
+/// Says why the words behind `run` ask for no load.
+fn fault_of(alloc: Global, fault: RunFault) -> Usage
+    ensures { Says ErrorKind.MissingSubcommand result }
+{
+    match format!(in alloc; "abd: {fault}; see abd run --help\n") {
+        Ok(text) => Usage::Fault(text),
+        Err(_) => Usage::Memory,
+    }
+}
+
+/// The command of that name, where it is one that reads files.
+fn made_in<'a>(name: &str, matches: &ArgMatches<'a>) -> Option<Command<'a>>
+    requires { name.now ≡ codes "run" → ⊥ }
+    ensures { MatchOption result
+        ((command : Command) → MakesAs name.now (rows_of (found_of matches.now)) command → ⊥)
+        (MakesAs name.now (rows_of (found_of matches.now))) }
+{
     if name == "check" {
-        check_in(found)
+        check_in(matches)
     } else if name == "justify" {
-        justify_in(found)
+        justify_in(matches)
     } else if name == "simulate" {
-        simulate_in(found)
+        simulate_in(matches)
     } else {
         None
+    }
+}
+
+/// The command that was met.
+fn command_in<'a>(alloc: Global, matches: &ArgMatches<'a>) -> Result<Command<'a>, Usage>
+    ensures { MatchResult result (MakesOf (subcommand_rows_of matches.now))
+        (MakesNothing ((command : Command) → MakesOf (subcommand_rows_of matches.now) command → ⊥)) }
+{
+    let Some((name, found)) = matches.subcommand() else {
+        return Err(no_command(alloc));
+    };
+    if name == "run" {
+        return asked_run(alloc, found);
+    }
+    match made_in(name, found) {
+        Some(command) => Ok(command),
+        None => Err(no_command(alloc)),
     }
 }
 
@@ -200,10 +242,7 @@ pub fn command<'a>(alloc: Global, words: &'a [String]) -> Result<Command<'a>, Us
         return Err(Usage::Memory);
     };
     match abd.try_get_matches_from(words) {
-        Ok(matches) => match command_in(&matches) {
-            Some(command) => Ok(command),
-            None => Err(no_command(alloc)),
-        },
+        Ok(matches) => command_in(alloc, &matches),
         Err(error) => Err(usage_of(alloc, &error)),
     }
 }

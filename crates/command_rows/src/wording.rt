@@ -32,6 +32,7 @@ fn asked_said(alloc: Global, asked: Command<'_>) -> Result<String, AllocError> {
         }
         Command::Justify { history } => format!(in alloc; "justify of [{history}]\n"),
         Command::Simulate { script } => format!(in alloc; "simulate of [{script}]\n"),
+        Command::Run(_) => String::from_str(alloc, "run\n"),
     }
 }
 

@@ -1,5 +1,5 @@
 use Rattle.std.proofs.lemmas.Result.{err_from_is_err_and}
-use Rattle.cli.proofs.Prefixes.{hall_justified, hall_unjustified, justified_nothing}
+use Rattle.cli.proofs.Prefixes.{hall_justified, hall_unjustified}
 use Rattle.cli.proofs.justifying.justified_orders.Goals as goal
 
 pub loop-own-preserved : goal.loop-own-preserved

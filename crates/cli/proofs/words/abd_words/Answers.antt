@@ -3,7 +3,8 @@ use Rattle.std.proofs.Common.{◌≡◌, ap, ap₂, ◌∙◌, false}
 use Rattle.std.proofs.lemmas.Result.{IfOk-weaker}
 use Rattle.clap.specs.Words.{App, app_of, with_subcommand}
 use Rattle.clap.specs.declared.builder.command.Command.TheViews.{out-Command as fields_of}
-use Rattle.cli.specs.Words.{bare_app, check_app, justify_app, simulate_app}
+use Rattle.run_words.specs.Options.{run_app}
+use Rattle.cli.specs.Words.{check_app, justify_app, simulate_app}
 use Rattle.cli.proofs.words.abd_words.Goals as goal
 
 pub returns : goal.returns
@@ -16,4 +17,7 @@ returns c =
     let simulate_is : app_of c.in_ok-simulate.simulate ≡ simulate_app = c.in_ok-simulate.ensures.app in
     let simulate_local : (fields_of c.in_ok-simulate.simulate).has_globals ≡ false = c.in_ok-simulate.ensures.local in
     let with_justify = c.in_ok-subcommand-2.ensures.shape justify_local ∙ ap₂ with_subcommand with_check (ap (λ (a : App). a.top) justify_is) in
-    IfOk-weaker c.subcommand-3.result _ _ (λ r h. h.shape simulate_local ∙ ap₂ with_subcommand with_justify (ap (λ (a : App). a.top) simulate_is)) c.subcommand-3.ensures
+    let run_is : app_of c.in_ok-running.running ≡ run_app = c.in_ok-running.ensures.app in
+    let run_local : (fields_of c.in_ok-running.running).has_globals ≡ false = c.in_ok-running.ensures.local in
+    let with_simulate = c.in_ok-subcommand-3.ensures.shape simulate_local ∙ ap₂ with_subcommand with_justify (ap (λ (a : App). a.top) simulate_is) in
+    IfOk-weaker c.subcommand-4.result _ _ (λ r h. h.shape run_local ∙ ap₂ with_subcommand with_simulate (ap (λ (a : App). a.top) run_is)) c.subcommand-4.ensures

@@ -1,13 +1,13 @@
 -- The rows of the matches are what `get_str` and `get_one` read.
-use Rattle.std.proofs.Common.{ℕ, ◌≡◌, ◌<◌, ◌^◌, Option, Some, None, Result, Ok, codes, List, refl, sym, ap, subst, ◌∙◌, arith}
-use Rattle.std.specs.Str.Parse.{IsNumeral, ParsesUnsigned, digits_value, without_leading_plus}
+use Rattle.std.proofs.Common.{ℕ, ◌≡◌, ◌<◌, ◌^◌, Option, Some, None, codes, List, refl, sym, subst, ◌∙◌, arith}
+use Rattle.std.specs.Str.Parse.{IsNumeral, digits_value, without_leading_plus}
 use Rattle.clap.specs.Words.{Row, Text, first_of, found_of, one_of, rows_of}
 use Rattle.clap.proofs.WalkLemmas.{first_value-rows, one_text-rows}
 use Rattle.parallel_keys.specs.Workers.{IsCount}
 use Rattle.cli.specs.Words.{AsksWorkers, MakesAs}
 use Rattle.cli.specs.declared.asked.Command.{Command}
-use Rattle.cli.specs.declared.asked.Command.TheVariants.{Check, Justify, Simulate}
-use Rattle.cli.proofs.CommandNames.{check_is_not_justify, check_is_not_simulate}
+use Rattle.cli.specs.declared.asked.Command.TheVariants.{Check, Justify, Run, Simulate}
+use Rattle.cli.proofs.CommandNames.{check_is_not_justify, check_is_not_simulate, check_is_not_run}
 use Rattle.cli.proofs.words.check_in.Goals as goal
 
 -- without the one file or the other, the rows make no command of that name
@@ -15,17 +15,20 @@ no_history : (rows : List Row) → first_of (codes "HISTORY") rows ≡ None → 
 no_history rows none (Check history orders workers) makes = let h = makes.1.0.history_named in cc
 no_history rows none (Justify history) makes = check_is_not_justify (sym makes.0)
 no_history rows none (Simulate script) makes = check_is_not_simulate (sym makes.0)
+no_history rows none (Run asked) makes = check_is_not_run (sym makes.0)
 
 no_orders : (rows : List Row) → first_of (codes "ORDERS") rows ≡ None → (command : Command) → MakesAs (codes "check") rows command → ⊥
 no_orders rows none (Check history orders workers) makes = let h = makes.1.0.orders_named in cc
 no_orders rows none (Justify history) makes = check_is_not_justify (sym makes.0)
 no_orders rows none (Simulate script) makes = check_is_not_simulate (sym makes.0)
+no_orders rows none (Run asked) makes = check_is_not_run (sym makes.0)
 
 -- and without a number of workers, or with another
 no_workers : (rows : List Row) → ((workers : ℕ) → AsksWorkers rows workers → ⊥) → (command : Command) → MakesAs (codes "check") rows command → ⊥
 no_workers rows none (Check history orders workers) makes = none workers makes.1.1
 no_workers rows none (Justify history) makes = check_is_not_justify (sym makes.0)
 no_workers rows none (Simulate script) makes = check_is_not_simulate (sym makes.0)
+no_workers rows none (Run asked) makes = check_is_not_run (sym makes.0)
 
 -- the text is a number of 8 bits
 abbrev IsByte : Text → Type 0

@@ -1,27 +1,19 @@
 -- What clap answers to the words is what the definition says of them.
-use Rattle.std.proofs.Common.{◌≡◌, ◌⊎◌, inl, inr, true, List, [], Option, ap, refl, sym, subst, ◌∙◌, map, string_bytes}
-use Rattle.clap.specs.Words.{App, IsAmong, Row, Text, app_of, fault_of, is_simple, is_simple_and_free, kind_of, subcommand_of, subcommand_rows_of}
+use Rattle.std.proofs.Common.{◌≡◌, ◌⊎◌, inl, inr, true, List, [], ap, refl, sym, subst, ◌∙◌, map, string_bytes}
+use Rattle.clap.specs.Words.{App, IsAmong, Text, app_of, fault_of, is_simple, is_simple_and_free, kind_of, subcommand_of, subcommand_rows_of}
 use Rattle.clap.specs.declared.error.kind.ErrorKind.{ErrorKind}
-use Rattle.clap.specs.declared.error.kind.ErrorKind.TheVariants.{DisplayHelp, DisplayVersion, MissingSubcommand, OutOfMemory}
+use Rattle.clap.specs.declared.error.kind.ErrorKind.TheVariants.{OutOfMemory}
 use Rattle.clap.proofs.OnLiterals.{clap_on_literals}
-use Rattle.cli.specs.Words.{abd_app, AreTaken, Asks, AsksNothing, MakesOf, Says}
-use Rattle.cli.specs.declared.asked.Command.{Command}
+use Rattle.cli.specs.Words.{abd_app, AsksNothing, Says}
 use Rattle.cli.specs.declared.asked.Usage.{Usage}
 use Rattle.cli.specs.declared.asked.Usage.TheVariants as usage
+use Rattle.cli.proofs.Unmade.{asked, not_asked}
 use Rattle.cli.proofs.words.command.Goals as goal
 
 -- `abd` is a command of which clap gives the kinds of its errors
 is_free : is_simple_and_free abd_app ≡ true
 unfolding clap_on_literals
 is_free = refl
-
--- the words are taken, and make no command
-unmade : (words : List Text) (answer : Usage) → Says MissingSubcommand answer → AreTaken words
-    → ((command : Command) → MakesOf (subcommand_of abd_app words) command → ⊥) → AsksNothing words answer
-unmade words (usage.Help text) says taken none = absurd (cc)
-unmade words (usage.Version text) says taken none = absurd (cc)
-unmade words (usage.Fault text) says taken none = inr (taken, none)
-unmade words usage.Memory says taken none = tt
 
 -- the words aren't taken, for the kind of the error
 refused : (words : List Text) (answer : Usage) (kind : ErrorKind) → Says kind answer → (kind ≡ OutOfMemory) ⊎ IsAmong kind (fault_of abd_app words) → AsksNothing words answer
@@ -33,15 +25,13 @@ refused words (usage.Fault text) kind says (inl memory) = absurd (says.2 memory)
 refused words (usage.Fault text) kind says (inr among) = inl (kind, among, says)
 refused words usage.Memory kind says h = tt
 
-pub returns-in-Some-clause-asked : goal.returns-in-Some-clause-asked
-returns-in-Some-clause-asked c =
+pub returns-in-Ok-try_get_matches_from-clause-asked : goal.returns-in-Ok-try_get_matches_from-clause-asked
+returns-in-Ok-try_get_matches_from-clause-asked c =
     let words = map string_bytes c.args.words.now in
     let abd_is : app_of c.in-Ok.abd ≡ abd_app = c.in-Ok.ensures in
     let taken : fault_of (app_of c.in-Ok.abd) words ≡ [] = c.in-Ok-try_get_matches_from.ensures.kinds (ap is_simple_and_free abd_is ∙ is_free) in
-    let met : subcommand_rows_of c.in-Ok-try_get_matches_from.matches ≡ subcommand_of abd_app words = (c.in-Ok-try_get_matches_from.ensures.matches (ap is_simple abd_is)).1 ∙ ap (λ (a : App). subcommand_of a words) abd_is in (
-      sym (ap (λ (a : App). fault_of a words) abd_is) ∙ taken,
-      subst (λ (found : Option (Text × List Row)). MakesOf found c.in-Some.command) met c.in-Some.ensures,
-    )
+    let met : subcommand_rows_of c.in-Ok-try_get_matches_from.matches ≡ subcommand_of abd_app words = (c.in-Ok-try_get_matches_from.ensures.matches (ap is_simple abd_is)).1 ∙ ap (λ (a : App). subcommand_of a words) abd_is in
+    asked words (subcommand_rows_of c.in-Ok-try_get_matches_from.matches) c.command_in.result (sym (ap (λ (a : App). fault_of a words) abd_is) ∙ taken) met c.command_in.ensures
 
 pub returns-in-Ok-try_get_matches_from-clause-not_asked : goal.returns-in-Ok-try_get_matches_from-clause-not_asked
 returns-in-Ok-try_get_matches_from-clause-not_asked c =
@@ -49,11 +39,10 @@ returns-in-Ok-try_get_matches_from-clause-not_asked c =
     let abd_is : app_of c.in-Ok.abd ≡ abd_app = c.in-Ok.ensures in
     let taken : fault_of (app_of c.in-Ok.abd) words ≡ [] = c.in-Ok-try_get_matches_from.ensures.kinds (ap is_simple_and_free abd_is ∙ is_free) in
     let met : subcommand_rows_of c.in-Ok-try_get_matches_from.matches ≡ subcommand_of abd_app words = (c.in-Ok-try_get_matches_from.ensures.matches (ap is_simple abd_is)).1 ∙ ap (λ (a : App). subcommand_of a words) abd_is in
-    unmade words c.no_command.result c.no_command.ensures (sym (ap (λ (a : App). fault_of a words) abd_is) ∙ taken)
-    (λ command makes. c.in-None.ensures command (subst (λ (found : Option (Text × List Row)). MakesOf found command) (sym met) makes))
+    not_asked words (subcommand_rows_of c.in-Ok-try_get_matches_from.matches) c.command_in.result (sym (ap (λ (a : App). fault_of a words) abd_is) ∙ taken) met c.command_in.ensures
 
-pub returns-clause-not_asked : goal.returns-clause-not_asked
-returns-clause-not_asked c =
+pub returns-in-Err-clause-not_asked : goal.returns-in-Err-clause-not_asked
+returns-in-Err-clause-not_asked c =
     let words = map string_bytes c.args.words.now in
     let abd_is : app_of c.in-Ok.abd ≡ abd_app = c.in-Ok.ensures in
     let kind = kind_of c.in-Err.error in

@@ -1,0 +1,4 @@
+pub mod Distinct
+pub mod Ending
+pub mod Verdicts
+pub mod Lists

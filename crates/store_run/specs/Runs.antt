@@ -1,0 +1,63 @@
+-- What a run of a store comes to.
+use Rattle.std.specs.Prelude.{ℕ, ◌≡◌, ◌⊎◌, List, Option, Some, None, Ok, Err}
+use Rattle.std.specs.Io.KnownBytes.{Appends}
+use Rattle.counted_devices.specs.Sendings.{Begins}
+use Rattle.cli.specs.Passages.{Passage}
+use Rattle.cli.specs.declared.status.Status.{Status}
+use Rattle.cli.specs.declared.status.Status.TheVariants as status
+use Rattle.node_threads.specs.declared.closing.Closed.{Closed}
+use Rattle.node_threads.specs.declared.closing.ClosedHall.{ClosedHall}
+use Rattle.node_threads.specs.declared.errors.CloseError.{CloseError}
+use Rattle.node_threads.specs.declared.errors.CloseError.TheVariants as close
+use Rattle.run_words.specs.declared.asked.RunAsked.{RunAsked}
+use Rattle.store_load.specs.Loads.{IsLoaded}
+use Rattle.store_load.specs.declared.loaded.Loaded.{Loaded}
+use Rattle.store_run.specs.Judged.{AreAllYes, IsFirstRefused}
+use Rattle.store_run.specs.Shown.{IsShownText}
+use Rattle.store_run.specs.declared.judging.RefusedKey.{RefusedKey}
+
+-- the status where the store wasn't closed
+abbrev pub status_of_close : CloseError → Status
+status_of_close close.SeatMismatch = status.Refused
+status_of_close close.Memory = status.Failed
+
+-- the status where it was
+abbrev pub status_of_judging : Option RefusedKey → Status
+status_of_judging None = status.Good
+status_of_judging (Some refused) = status.Refused
+
+-- that holds of the text of what is shown of the halls
+abbrev pub Sends : RunAsked → List ClosedHall → (List ℕ → Type 0) → Type 0
+Sends asked halls P = (text : List ℕ) × IsShownText halls asked.shown asked.load.quorums text × P text
+
+-- what the status says of closed halls: the text of what is shown went out, and each key of every hall is judged yes, or
+-- a key is refused; or nothing went out, or a beginning of that text
+abbrev pub Ends : RunAsked → List ClosedHall → Passage → Status → Type 0
+Ends asked halls out status.Good = AreAllYes halls × Sends asked halls (Appends out.old out.new)
+Ends asked halls out status.Refused = ((refused : RefusedKey) × IsFirstRefused halls refused) × Sends asked halls (Appends out.old out.new)
+Ends asked halls out status.Usage = ⊥
+Ends asked halls out status.Format = ⊥
+Ends asked halls out status.Failed = (out.new ≡ out.old) ⊎ Sends asked halls (Begins out.old out.new)
+
+-- the load was run to its end, and its store was closed; it ends as the status says
+pub record EndsClosed (asked : RunAsked) (out : Passage) (s : Status) : Type 0 where
+  pub loaded : Loaded
+  pub run : IsLoaded asked.load loaded
+  pub closed : Closed
+  pub is : loaded.closed ≡ Ok closed
+  pub ends : Ends asked closed.halls.items out s
+
+-- the load was run to its end, and its store wasn't closed: a seat's calls aren't those of the records
+pub record IsMismatched (asked : RunAsked) (out : Passage) : Type 0 where
+  pub loaded : Loaded
+  pub run : IsLoaded asked.load loaded
+  pub refused : loaded.closed ≡ Err close.SeatMismatch
+  pub quiet : out.new ≡ out.old
+
+-- what the status of a run says
+abbrev pub EndsRun : RunAsked → Passage → Status → Type 0
+EndsRun asked out status.Good = EndsClosed asked out status.Good
+EndsRun asked out status.Refused = EndsClosed asked out status.Refused ⊎ IsMismatched asked out
+EndsRun asked out status.Usage = ⊥
+EndsRun asked out status.Format = ⊥
+EndsRun asked out status.Failed = (out.new ≡ out.old) ⊎ EndsClosed asked out status.Failed

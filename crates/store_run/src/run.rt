@@ -1,0 +1,85 @@
+//! `abd run`.
+ghost use Rattle.std.specs.Prelude.{◌≡◌, ◌⊎◌};
+ghost use Rattle.cli.specs.Passages.{Passage};
+ghost use Rattle.counted_devices.specs.Counts.{IsOneMore};
+ghost use Rattle.node_threads.specs.Closings.{AreClosed};
+ghost use Rattle.store_run.specs.Runs.{Ends, EndsRun};
+
+use crate::judging::first_refused;
+use crate::shown::shown_text;
+use crate::telling::{tell_check, tell_close, tell_judged, tell_load, tell_no_text, tell_refusals};
+use cli::{Failure, Status};
+use counted_devices::{CountedWrite, write_text};
+use node_threads::ClosedHall;
+use run_words::RunAsked;
+use std::alloc::Global;
+use std::io::Write;
+use std::sync::Wait;
+use std::thread::Threads;
+use store_load::{Loaded, run_load};
+
+/// Judges the keys of the closed halls, and writes what is shown of their histories.
+#[tactic(auto, using(crate::proofs::Distinct::closed_distinct, crate::proofs::Ending::ends_judged))]
+fn finish<R: Threads + Wait, W: CountedWrite, E: Write>(
+    rt: &R,
+    alloc: Global,
+    asked: RunAsked,
+    halls: Vec<ClosedHall>,
+    out: &mut W,
+    errors: &mut E,
+) -> Status
+    requires { AreClosed halls.items }
+    ensures ends { Ends asked halls.items
+        (record { old = W.contents out.old; new = W.contents out.new }) result }
+    ensures failed { result ≡ Status.Failed
+        → (out.new ≡ out.old) ⊎ IsOneMore (W.failures out.old) (W.failures out.new) }
+{
+    let first = match first_refused(rt, alloc, halls.as_slice()) {
+        Ok(first) => first,
+        Err(error) => return tell_check(error, errors),
+    };
+    let status = tell_judged(first, errors);
+    let quorums = asked.load.options().quorums;
+    let text = match shown_text(alloc, halls, asked.shown, quorums) {
+        Ok(text) => text,
+        Err(error) => return tell_no_text(error, errors),
+    };
+    match write_text(text.as_slice(), out) {
+        Ok(()) => status,
+        Err(_) => Failure::Output.report(errors),
+    }
+}
+
+/// Runs a store under the load, closes it, judges each key of each hall, and writes the history of the
+/// hall that is shown, or the histories of all halls, by hall.
+///
+/// `Good` where every key is judged yes. The history is written also where a key is refused; nothing is
+/// where the load wasn't run to its end, the store wasn't closed, or memory ran out. On `errors` is said,
+/// in this order: which callers' calls were refused, why the store wasn't closed, the first key that is
+/// refused, a failure.
+#[tactic(auto, using(crate::proofs::Ending::ends_closed, crate::proofs::Ending::ends_open))]
+pub fn run_command<R, W: CountedWrite, E: Write>(
+    rt: &R,
+    alloc: Global,
+    asked: RunAsked,
+    out: &mut W,
+    errors: &mut E,
+) -> Status
+where
+    R: Threads + Wait + Copy + Send + Sync + 'static,
+    ensures ends { EndsRun asked
+        (record { old = W.contents out.old; new = W.contents out.new }) result }
+    ensures failed { result ≡ Status.Failed
+        → (out.new ≡ out.old) ⊎ IsOneMore (W.failures out.old) (W.failures out.new) }
+{
+    let loaded = match run_load(rt, alloc, asked.load) {
+        Ok(loaded) => loaded,
+        Err(error) => return tell_load(error, errors),
+    };
+    let Loaded { refusals, closed } = loaded;
+    tell_refusals(refusals.as_slice(), errors);
+    match closed {
+        Ok(closed) => finish(rt, alloc, asked, closed.halls, out, errors),
+        Err(error) => tell_close(error, errors),
+    }
+}

@@ -1,0 +1,46 @@
+#!/usr/bin/env bash
+# Loads of random options: each run's history is justified and checked, and every key has to be yes. Then 16 callers
+# of 10,000 calls each, with parcels lost and doubled: its time and its memory.
+#
+#   scripts/load.sh [SEED [RUNS]]     with the built program, crates/abd/out/abd; by hand, not in the gate
+set -euo pipefail
+cd "$(dirname "$0")/.."
+abd=crates/abd/out/abd
+seed=${1:-1} runs=${2:-100}
+work=$(mktemp -d)
+trap 'rm -rf "$work"' EXIT
+
+options() {
+    python3 - "$seed" "$1" <<'PY'
+import random, sys
+r = random.Random(f"{sys.argv[1]} {sys.argv[2]}")
+replicas = r.randint(1, 15)
+halls = r.choice([1, 1, 2, 3, 4, 64])
+words = ["--replicas", replicas, "--callers", r.randint(1, 16), "--calls", r.randint(1, 60), "--keys", r.randint(1, 8)]
+words += ["--drop", r.choice([0, 2, 3, 5, 11]), "--double", r.choice([0, 1, 2, 7]), "--halls", halls]
+words += ["--reads", r.choice(["full", "short"]), "--rounds", r.choice([2, 20, 1000])]
+if r.random() < 0.3:
+    words += ["--show", r.randrange(halls)]
+if r.random() < 0.4:
+    votes = [r.randint(1, 9) for _ in range(replicas)]
+    ask = r.randint(1, sum(votes))
+    words += ["--votes", "".join(map(str, votes)), "--ask", ask, "--put", r.randint(sum(votes) + 1 - ask, sum(votes))]
+print(*words)
+PY
+}
+
+for ((run = 1; run <= runs; run++)); do
+    words=$(options "$run")
+    if ! timeout 120 $abd run $words > "$work/h" 2> "$work/told" ||
+        ! $abd justify "$work/h" > "$work/o" || ! $abd check "$work/h" "$work/o" > "$work/lines" ||
+        grep -v ': yes$' "$work/lines"; then
+        echo "not all yes: abd run $words"
+        cat "$work/told"
+        exit 1
+    fi
+done
+echo "$runs loads of seed $seed: all yes"
+
+/usr/bin/time -f "%e s, %M KiB" $abd run --callers 16 --calls 10000 --drop 5 --double 7 > "$work/h"
+$abd justify "$work/h" > "$work/o"
+$abd check "$work/h" "$work/o"
