@@ -96,7 +96,7 @@ where
 }
 
 /// Does what was asked for.
-fn obey<R>(rt: &HostRuntime, threads: &R, asked: Command<'_>) -> Status
+fn obey<R>(rt: &HostRuntime, threads: &R, asked: &Command<'_>) -> Status
 where
     R: Threads + Wait + Copy + Send + Sync + 'static,
 {
@@ -105,10 +105,10 @@ where
             history,
             orders,
             workers,
-        } => check(rt, threads, history, orders, workers),
+        } => check(rt, threads, history, orders, *workers),
         Command::Justify { history } => justify(rt, threads, history),
         Command::Simulate { script } => simulate(rt, script),
-        Command::Run(asked) => run(rt, threads, asked),
+        Command::Run(asked) => run(rt, threads, *asked),
     }
 }
 
@@ -132,7 +132,7 @@ where
         Err(_) => return Failure::Memory.report(&mut rt.stderr()),
     };
     match command(rt.alloc(), words.as_slice()) {
-        Ok(asked) => obey(rt, threads, asked),
+        Ok(asked) => obey(rt, threads, &asked),
         Err(usage) => refuse(rt, usage),
     }
 }

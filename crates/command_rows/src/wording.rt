@@ -20,7 +20,7 @@ fn text_said(alloc: Global, name: &str, text: &str, word: &str) -> Result<String
     format!(in alloc; "{name} that {says} {word}\n")
 }
 
-fn asked_said(alloc: Global, asked: Command<'_>) -> Result<String, AllocError> {
+fn asked_said(alloc: Global, asked: &Command<'_>) -> Result<String, AllocError> {
     match asked {
         Command::Check {
             history,
@@ -41,7 +41,7 @@ fn line_said(alloc: Global, line: &str) -> Result<String, AllocError> {
     let (words, word) = line.split_once(" says ").unwrap_or((line, ""));
     let words = words_of(alloc, words)?;
     match command(alloc, words.as_slice()) {
-        Ok(asked) => asked_said(alloc, asked),
+        Ok(asked) => asked_said(alloc, &asked),
         Err(Usage::Help(text)) => text_said(alloc, "help", text.as_str(), word),
         Err(Usage::Version(text)) => text_said(alloc, "version", text.as_str(), word),
         Err(Usage::Fault(text)) => text_said(alloc, "fault", text.as_str(), word),

@@ -46,38 +46,72 @@ where
     Ok(text)
 }
 
-/// Whether each read of `k0` by client 1 gave what it wrote there last, and there is such a read.
-fn reads_own_writes(rows: &[Row]) -> bool {
-    let mut written = "";
-    let mut pending = None;
-    let mut found = false;
+/// What the call writes, or else the empty text.
+fn written_by(rows: &[Row], call: OpId) -> &str {
     for row in rows {
         match row {
             Row::Invoke {
                 op,
-                client,
-                key,
-                action,
-            } if client.get() == 1 && key.as_str() == "k0" => {
-                pending = Some(*op);
-                if let Action::Write(value) = action {
-                    written = value.as_str();
-                }
-            }
-            Row::Respond {
-                op,
-                returned: Returned::Value(value),
-            } if pending == Some(*op) => {
-                let read = match value {
-                    Some(value) => value.as_str(),
-                    None => "",
-                };
-                if read != written {
-                    return false;
-                }
-                found = true;
-            }
+                action: Action::Write(value),
+                ..
+            } if *op == call => return value.as_str(),
             _ => {}
+        }
+    }
+    ""
+}
+
+/// The call of client 1 on `k0` that the row begins, and whether it writes.
+fn begun_by_one(row: &Row) -> Option<(OpId, bool)> {
+    match row {
+        Row::Invoke {
+            op,
+            client,
+            key,
+            action,
+        } if client.get() == 1 && key.as_str() == "k0" => {
+            Some((*op, matches!(action, Action::Write(_))))
+        }
+        _ => None,
+    }
+}
+
+/// What the call reads, where the row answers it.
+fn read_by(row: &Row, call: OpId) -> Option<&str> {
+    match row {
+        Row::Respond {
+            op,
+            returned: Returned::Value(value),
+        } if *op == call => match value {
+            Some(value) => Some(value.as_str()),
+            None => Some(""),
+        },
+        _ => None,
+    }
+}
+
+/// Whether the row gives the call what the other wrote, where it answers the call.
+fn reads_of(rows: &[Row], row: &Row, call: Option<OpId>, write: Option<OpId>) -> Option<bool> {
+    let read = read_by(row, call?)?;
+    Some(read == written_by(rows, write?))
+}
+
+/// Whether each read of `k0` by client 1 gave what it wrote there last, and there is such a read.
+fn reads_own_writes(rows: &[Row]) -> bool {
+    let mut pending = None;
+    let mut written = None;
+    let mut found = false;
+    for row in rows {
+        if let Some((call, writes)) = begun_by_one(row) {
+            pending = Some(call);
+            if writes {
+                written = Some(call);
+            }
+        }
+        match reads_of(rows, row, pending, written) {
+            Some(true) => found = true,
+            Some(false) => return false,
+            None => {}
         }
     }
     found
@@ -94,13 +128,18 @@ fn histories_said(
         return String::from_str(alloc, "NO HISTORY");
     };
     let mut calls = 0;
-    let mut own = "caller 1 reads no write of its own";
+    let mut own = false;
     for history in histories.halls() {
         calls = usize::saturating_add(calls, history.calls());
         if reads_own_writes(history.rows()) {
-            own = "caller 1 reads its own writes";
+            own = true;
         }
     }
+    let own = if own {
+        "caller 1 reads its own writes"
+    } else {
+        "caller 1 reads no write of its own"
+    };
     let halls = histories.halls().len();
     format!(in alloc; "{halls} halls, {calls} calls, {own}")
 }
