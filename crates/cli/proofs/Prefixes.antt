@@ -1,5 +1,5 @@
 -- The keys that have their orders so far.
-use Rattle.std.proofs.Common.{ℕ, zero, suc, ap₂, add-one, ◌≡◌, ◌<◌, ◌+◌, List, [], ◌∷◌, ◌++◌, length, map, take, drop, get_or, inl, inr, refl, sym, ap, subst, ◌∙◌, append_assoc, append-nil, arith, length-append}
+use Rattle.std.proofs.Common.{ℕ, zero, suc, ap₂, add-one, ◌≡◌, ◌<◌, ◌≤◌, ◌+◌, List, [], ◌∷◌, ◌++◌, length, map, take, drop, get_or, inl, inr, refl, sym, ap, subst, ◌∙◌, append_assoc, append-nil, arith, length-append}
 use Rattle.std.proofs.lemmas.List.{map-append, take-append-drop}
 use Rattle.std.proofs.lemmas.Option.{slice_get_within}
 use Rattle.std.proofs.Math.Seq.{drop-cons}
@@ -28,11 +28,11 @@ pub dropped_more : (parts : List KeyPart) (i : ℕ) (entry : KeyPart) → i < le
 dropped_more parts i entry below is = drop-cons parts i entry below ∙ ap₂ (λ (e : KeyPart) (n : ℕ). e ∷ drop n parts) (sym is) (sym (add-one i))
 
 -- behind the last none is left
-pub none_left : {X : Type 0} (xs : List X) (i : ℕ) → (i < length xs → ⊥) → drop i xs ≡ []
+pub none_left : {X : Type 0} (xs : List X) (i : ℕ) → length xs ≤ i → drop i xs ≡ []
 none_left [] zero h = refl
 none_left [] (suc i) h = refl
-none_left (x ∷ xs) zero h = absurd (h (omega arith))
-none_left (x ∷ xs) (suc i) h = none_left xs i (λ below. h (omega (arith, below)))
+none_left (x ∷ xs) zero h = absurd (omega (arith, h))
+none_left (x ∷ xs) (suc i) h = none_left xs i (omega (arith, h))
 
 -- no key has no order
 pub justified_nothing : AreJustified [] []
