@@ -163,6 +163,9 @@ fn guessed_later(alloc: Global, op: OpId, bytes: &[u8]) -> Result<Option<HallRow
 
 /// The row that the line may be, and its hall.
 fn guessed_row(alloc: Global, line: &[u8]) -> Result<Option<HallRow>, Memory> {
+    if !line.ends_with(b"}".as_slice()) {
+        return Ok(None);
+    }
     let Some(rest) = line.strip_prefix(b"{\"call\":".as_slice()) else {
         return Ok(None);
     };

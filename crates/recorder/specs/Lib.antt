@@ -9,3 +9,4 @@ pub mod Records
 pub mod Sound
 pub mod Adding
 pub mod Halls
+pub mod Clients

@@ -8,10 +8,10 @@ ghost use Rattle.recorder.specs.States.{is_write};
 mod equal;
 mod parts;
 
+use crate::clients::ClientSet;
 use crate::row::{Row, RowRefusal};
 use key_numbers::KeyNumbers;
 use std::alloc::Global;
-use std::collections::BTreeSet;
 use std::marker::Model;
 use tag::{Action, ClientId, Key, Memory, OpId, Returned, Tag};
 
@@ -35,7 +35,8 @@ struct CallState {
 pub struct History {
     rows: Vec<Row>,
     states: Vec<CallState>,
-    busy: BTreeSet<u32>,
+    /// The clients that have a pending call.
+    busy: ClientSet,
     /// The keys of the calls, whose texts the rows share.
     keys: KeyNumbers,
     limit: u32,
@@ -62,7 +63,7 @@ impl History {
         History {
             rows: Vec::new(alloc),
             states: Vec::new(alloc),
-            busy: BTreeSet::new(alloc),
+            busy: ClientSet::new(alloc),
             keys: KeyNumbers::new(alloc),
             limit,
         }
@@ -102,7 +103,7 @@ impl History {
         Ok(History {
             rows: copied_rows(alloc, &self.rows)?,
             states: Vec::from_slice(alloc, &self.states)?,
-            busy: self.busy.clone()?,
+            busy: self.busy.copy()?,
             keys: KeyNumbers::new(alloc),
             limit: self.limit,
         })
@@ -113,7 +114,7 @@ impl History {
         ensures busy { IsTrue result → IsBusy self.now.rows client }
         ensures idle { (result ≡ false) → IsBusy self.now.rows client → ⊥ }
     {
-        self.busy.contains(&client.get())
+        self.busy.contains(client)
     }
 
     /// The client that began the call, if it was begun.
@@ -173,7 +174,7 @@ impl History {
         };
         // Whatever can be refused comes first.
         make_room(&mut self.rows, &mut self.states)?;
-        self.busy.insert(client.get())?;
+        self.busy.insert(client)?;
         self.states.push(state)?;
         self.rows.push(Row::Invoke {
             op,
@@ -216,7 +217,7 @@ impl History {
         let place = self.rows.len();
         self.rows.push(Row::Respond { op, returned })?;
         self.states[op.0 as usize].response = Some(place);
-        self.busy.remove(&state.client.get());
+        self.busy.remove(state.client);
         Ok(())
     }
 }

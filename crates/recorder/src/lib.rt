@@ -5,6 +5,7 @@
 //! the calls of each key as the rows record them, in one pass.
 #![tactic(auto)]
 
+mod clients;
 mod halls;
 mod histories;
 mod history;

@@ -35,8 +35,10 @@ loop-place-preserved c =
           let begun = here ∙ ap Some w.in-Invoke.is in
           let l = c.loop-place in
           let numbered = rw l.invariant.1 at w.in_ok-slot.ensures.ok in
-          rw (w.entries-is, w.places-is) (ArePartsBelow-add c.args.self.now.rows l.place l.entries.items _ l.invariant.0 w.in-Invoke.key w.in_ok-call.call (w.in_ok-call.ensures.call w.in-Invoke.key begun) w.in_ok-call.ensures.invoked w.in_ok-add_call.ensures,
-          keys_added l.entries.items _ w.in-Invoke.key w.in_ok-call.call _ _ numbered w.in_ok-add_call.ensures)
+          rw (w.entries-is, w.places-is) (
+            ArePartsBelow-add c.args.self.now.rows l.place l.entries.items _ l.invariant.0 w.in-Invoke.key w.in_ok-call.call (w.in_ok-call.ensures.call w.in-Invoke.key begun) w.in_ok-call.ensures.invoked w.in_ok-add_call.ensures,
+            keys_added l.entries.items _ w.in-Invoke.key w.in_ok-call.call _ _ numbered w.in_ok-add_call.ensures,
+          )
       | in_default w ↦ rw (w.entries-is, w.places-is) (ArePartsBelow-skip c.args.self.now.rows c.loop-place.place c.loop-place.entries.items (λ key b. w.in_default.not-Invoke b.0 b.1 key b.2 (same_Some c.row-item.result (Invoke b.0 b.1 key b.2) (sym here ∙ b.3))) c.loop-place.invariant.0, c.loop-place.invariant.1)
     ]
 

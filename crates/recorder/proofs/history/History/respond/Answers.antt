@@ -1,6 +1,5 @@
 use Rattle.std.proofs.Common.{arith, ◌≡◌, Some, ap, sym, ◌∙◌, refl, length, ℕ}
 use Rattle.std.specs.List.{slice_get}
-use Rattle.std.specs.Cmp.{unsigned_ties}
 use Rattle.std.proofs.lemmas.Option.{slice_get_within, slice_get-get_or}
 use Rattle.recorder.specs.declared.history.CallState.{CallState}
 use Rattle.std.proofs.lemmas.Result.{err_from_is_err_and}
@@ -53,8 +52,8 @@ invariant_of-self-2 c =
     record {
       formed = rw c.in_ok-push.ensures.items (IsWellFormed-push rows (Respond c.args.op c.args.returned) c.self.invariant.formed may);
       states = rw c.in_ok-push.ensures.items (states_respond rows c.args.op c.args.returned h.states.items c.index_mut.result.now _ c.self.invariant.states at (ap (λ (x : CallState). x.response) same ∙ some.1) (let place : c.len-place.result ≡ length rows = omega (arith, c.len-place.ensures, h.rows.ok.0) in ap (λ (k : ℕ). record c.index_mut.result.now { response = Some k }) place));
-      busy = λ client b. rw c.in_ok-push.ensures.items (busy_respond rows c.self.invariant.formed c.args.op c.args.returned c.in-Some.state.client d.action pending client _ _ _ (unsigned_ties c.in-Some.state.client client) (rw c.get.ensures.name at (c.remove.ensures.updates.0 client)) (c.self.invariant.busy client) b);
-      not_busy = λ client b busy. not_busy_respond rows c.self.invariant.formed c.args.op c.args.returned c.in-Some.state.client d.action pending client _ _ _ (unsigned_ties c.in-Some.state.client client) (rw c.get.ensures.name at (c.remove.ensures.updates.0 client)) (c.self.invariant.not_busy client) b (rw c.in_ok-push.ensures.items at busy);
+      busy = λ client b. rw c.in_ok-push.ensures.items (busy_respond rows c.self.invariant.formed c.args.op c.args.returned c.in-Some.state.client d.action pending client _ _ _ refl (c.remove.ensures client) (c.self.invariant.busy client) b);
+      not_busy = λ client b busy. not_busy_respond rows c.self.invariant.formed c.args.op c.args.returned c.in-Some.state.client d.action pending client _ _ _ refl (c.remove.ensures client) (c.self.invariant.not_busy client) b (rw c.in_ok-push.ensures.items at busy);
       room = rw c.in_ok-push.ensures.items (omega (arith, count_push rows (Respond c.args.op c.args.returned), c.self.invariant.room));
       limit = c.self.invariant.limit;
     }

@@ -1,4 +1,4 @@
-use Rattle.std.proofs.Common.{◌≡◌, inl, inr, refl, sym, ◌∙◌, ap, ap₂, subst, List, ℕ, [], ◌∷◌, ◌++◌, set, Some, arith, length}
+use Rattle.std.proofs.Common.{◌≡◌, inl, inr, refl, ◌∙◌, ap, ap₂, subst, List, ℕ, [], ◌∷◌, ◌++◌, set, Some, arith, length}
 use Rattle.std.specs.List.{slice_get}
 use Rattle.std.proofs.lemmas.Option.{slice_get_read}
 use Rattle.recorder.specs.declared.part.Call.{Call}
