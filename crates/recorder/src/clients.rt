@@ -9,7 +9,7 @@ use tag::{ClientId, Memory};
 /// A set of clients: a mark for each name up to the greatest that was ever put in.
 ///
 /// A look-up takes the same time however many there are. There are 65,535 names at most.
-#[derive(Drop)]
+#[derive(Debug, Drop)]
 pub(crate) struct ClientSet {
     marks: Vec<bool>,
 }
