@@ -1,9 +1,8 @@
 //! `abd check`: the verdict on each key's order.
 ghost use Rattle.std.specs.Prelude.{◌≡◌, ◌⊎◌, IfOk, IfErr};
 ghost use Rattle.counted_devices.specs.Counts.{IsOneMore};
-ghost use Rattle.counted_devices.specs.Deliveries.{Delivers};
-ghost use Rattle.counted_devices.specs.ReadFaults.{HasFailed};
-ghost use Rattle.history_file.specs.Deliveries.{ReadsAll};
+ghost use Rattle.counted_devices.specs.ReadFaults.{FailsFrom};
+ghost use Rattle.history_file.specs.Deliveries.{ReadsFrom};
 ghost use Rattle.file_format.specs.HistoriesFormat.{histories_format, MakesHistories};
 ghost use Rattle.file_format.specs.OrderFormat.{order_format, MakesJoined};
 ghost use Rattle.cli.specs.Checks.{Ends, Stops, TellsFault};
@@ -43,9 +42,12 @@ pub(crate) fn histories_in<'a, R: CountedRead>(
     alloc: Global,
     source: &mut Source<'a, R>,
 ) -> Result<Histories, Failure<'a>>
-    ensures read { IfOk result (λ histories. Delivers (R.remaining source.old.reader) (R.remaining source.new.reader) (ReadsAll histories_format MakesHistories (R.remaining source.new.reader) histories)) }
-    ensures fault { IfErr result (λ failure. Stops histories_format (R.remaining source.old.reader) (R.remaining source.new.reader) (status_of failure)) }
-    ensures told { IfErr result (λ failure. TellsFault source.old.name.now (λ fault. HasFailed fault.kind (R.failures source.old.reader) (R.failures source.new.reader)) failure) }
+    ensures read { IfOk result (ReadsFrom histories_format MakesHistories
+        R.remaining source.old.reader source.new.reader) }
+    ensures fault { IfErr result (λ failure. Stops histories_format (R.remaining source.old.reader)
+        (R.remaining source.new.reader) (status_of failure)) }
+    ensures told { IfErr result (λ failure. TellsFault source.old.name.now
+        (FailsFrom R.failures source.old.reader source.new.reader) failure) }
 {
     match read_histories(rt, alloc, &mut source.reader) {
         Ok(histories) => Ok(histories),
@@ -62,9 +64,12 @@ fn orders_in<'a, R: CountedRead>(
     alloc: Global,
     source: &mut Source<'a, R>,
 ) -> Result<Vec<KeyOrder>, Failure<'a>>
-    ensures read { IfOk result (λ orders. Delivers (R.remaining source.old.reader) (R.remaining source.new.reader) (ReadsAll order_format MakesJoined (R.remaining source.new.reader) orders.items)) }
-    ensures fault { IfErr result (λ failure. Stops order_format (R.remaining source.old.reader) (R.remaining source.new.reader) (status_of failure)) }
-    ensures told { IfErr result (λ failure. TellsFault source.old.name.now (λ fault. HasFailed fault.kind (R.failures source.old.reader) (R.failures source.new.reader)) failure) }
+    ensures read { IfOk result (λ orders. ReadsFrom order_format MakesJoined
+        R.remaining source.old.reader source.new.reader orders.items) }
+    ensures fault { IfErr result (λ failure. Stops order_format (R.remaining source.old.reader)
+        (R.remaining source.new.reader) (status_of failure)) }
+    ensures told { IfErr result (λ failure. TellsFault source.old.name.now
+        (FailsFrom R.failures source.old.reader source.new.reader) failure) }
 {
     match read_orders(rt, alloc, &mut source.reader) {
         Ok(orders) => Ok(orders),
@@ -75,15 +80,15 @@ fn orders_in<'a, R: CountedRead>(
     }
 }
 
-/// Reads the history, of version 1 or 2, and then the orders, and prints a line for each key: the keys
-/// of the history hall by hall, in each in the order in which it first sees them, then those that only
-/// the orders have.
+/// Reads the history, of version 1 or 2, and then the orders, and prints a line for each key: the
+/// keys of the history hall by hall, in each in the order in which it first sees them, then those
+/// that only the orders have.
 ///
 /// What goes to `out` is those lines, once all keys are judged, or after a failure of `out` a
 /// beginning of them; nothing where either file has a fault. A fault of the orders is answered only
-/// where the history was read whole. A failure is said on `errors`. `Good` where every line says yes,
-/// `Refused` where one says no. The lines and the status are the same for every number of workers,
-/// each of which judges its share of the keys.
+/// where the history was read whole. A failure is said on `errors`. `Good` where every line says
+/// yes, `Refused` where one says no. The lines and the status are the same for every number of
+/// workers, each of which judges its share of the keys.
 pub fn check_command<'a, H: CountedRead, O: CountedRead, W: CountedWrite, E: Write>(
     rt: &(impl Threads + Wait + Sync),
     alloc: Global,
@@ -99,7 +104,8 @@ pub fn check_command<'a, H: CountedRead, O: CountedRead, W: CountedWrite, E: Wri
         (record { old = W.contents out.old; new = W.contents out.new })
         result }
     ensures quiet { result ≡ Status.Format → out.new ≡ out.old }
-    ensures failed { result ≡ Status.Failed → (out.new ≡ out.old) ⊎ IsOneMore (W.failures out.old) (W.failures out.new) }
+    ensures failed { result ≡ Status.Failed
+        → (out.new ≡ out.old) ⊎ IsOneMore (W.failures out.old) (W.failures out.new) }
 {
     let histories = match histories_in(rt, alloc, history) {
         Ok(histories) => histories,
