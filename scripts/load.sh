@@ -1,6 +1,7 @@
 #!/usr/bin/env bash
-# Loads of random options: each run's history is justified and checked, and every key has to be yes. Then 16 callers
-# of 10,000 calls each, with parcels lost and doubled: its time and its memory.
+# Loads of random options: each run's history is justified and checked, every key has to be yes, and each read of k0 by
+# caller 1 has to give what caller 1 wrote there last. Then 16 callers of 10,000 calls each, with parcels lost and doubled:
+# its time and its memory.
 #
 #   scripts/load.sh [SEED [RUNS]]     with the built program, crates/abd/out/abd; by hand, not in the gate
 set -euo pipefail
@@ -29,11 +30,25 @@ print(*words)
 PY
 }
 
+own_reads() {
+    python3 - "$1" <<'PY'
+import json, sys
+written, pending = None, None
+for line in open(sys.argv[1], encoding="utf-8"):
+    row = json.loads(line)
+    of = (row.get("hall"), row.get("call"))
+    if row.get("row") == "invoke" and row["client"] == 1 and row["key"] == "k0":
+        written, pending = row.get("value", written), of if row["do"] == "read" else None
+    elif row.get("row") == "respond" and of == pending and row.get("value") != written:
+        sys.exit(f"caller 1 read {row.get('value')} and had written {written}")
+PY
+}
+
 for ((run = 1; run <= runs; run++)); do
     words=$(options "$run")
     if ! timeout 120 $abd run $words > "$work/h" 2> "$work/told" ||
         ! $abd justify "$work/h" > "$work/o" || ! $abd check "$work/h" "$work/o" > "$work/lines" ||
-        grep -v ': yes$' "$work/lines"; then
+        grep -v ': yes$' "$work/lines" || ! own_reads "$work/h"; then
         echo "not all yes: abd run $words"
         cat "$work/told"
         exit 1
