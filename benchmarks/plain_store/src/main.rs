@@ -1,6 +1,7 @@
-//! What the running store does, in plain Rust: the yardstick of the benchmark. Halls are worlds behind std's Mutex, each with its record and
-//! its journal; each replica has a thread of its own and serves all halls; parcels and reports go by crossbeam's channels; a call takes its
-//! hall's lock for each step; a caller keeps a log of its calls. It asks no gate, and has no limits, so it refuses nothing.
+//! What the running store does, in plain Rust: the yardstick of the benchmark. Halls are worlds behind std's Mutex, each with its record
+//! and its journal; each replica has a thread of its own and serves all halls; parcels and reports go by crossbeam's channels; a call takes
+//! its hall's lock for each step, and once more before a round that isn't a phase's first; a caller keeps a log of its calls. It asks no
+//! gate, and has no limits, so it refuses nothing.
 //!
 //!     plain_store CALLERS CALLS HALLS
 use crossbeam_channel::{unbounded, Receiver, Sender};
@@ -124,18 +125,18 @@ impl Hall {
         Some(self.fly(reply))
     }
 
-    /// Delivers a reply.
-    fn hear(&mut self, flight: u32) {
-        let Some(message) = self.flights.remove(&flight) else { return };
+    /// Delivers a reply; whether the client's phase is over.
+    fn hear(&mut self, flight: u32) -> bool {
+        let Some(message) = self.flights.remove(&flight) else { return false };
         self.journal.push(Step::Deliver { flight });
         let majority = REPLICAS as u32 / 2 + 1;
         match message {
             Message::Held { op, client, replica, pair } => {
                 let one = self.clients.get_mut(&client).expect("a client");
                 if one.op != op || one.counted >> replica & 1 == 1 {
-                    return;
+                    return false;
                 }
-                let Phase::Ask { best } = &mut one.phase else { return };
+                let Phase::Ask { best } = &mut one.phase else { return false };
                 one.counted |= 1 << replica;
                 if pair.0 > best.0 {
                     *best = pair;
@@ -149,22 +150,25 @@ impl Hall {
                     self.rows.push(Row::Note { op, tag: pair.0 });
                     one.counted = 0;
                     one.phase = Phase::Put { pair };
+                    return true;
                 }
             }
             Message::Kept { op, client, replica } => {
                 let one = self.clients.get_mut(&client).expect("a client");
                 if one.op != op || one.counted >> replica & 1 == 1 {
-                    return;
+                    return false;
                 }
-                let Phase::Put { pair } = &mut one.phase else { return };
+                let Phase::Put { pair } = &mut one.phase else { return false };
                 one.counted |= 1 << replica;
                 if one.counted.count_ones() >= majority {
                     let value = pair.1.take();
                     one.phase = Phase::Ready { value };
+                    return true;
                 }
             }
             _ => {}
         }
+        false
     }
 
     /// The place of the response, and the answer.
@@ -181,15 +185,9 @@ impl Hall {
         Some((place, returned))
     }
 
-    /// Where the client stands: its phase, and what it counted.
-    fn standing(&self, client: u32) -> (u8, u16) {
-        let one = &self.clients[&client];
-        match one.phase {
-            Phase::Idle => (0, 0),
-            Phase::Ask { .. } => (1, one.counted),
-            Phase::Put { .. } => (2, one.counted),
-            Phase::Ready { .. } => (3, 0),
-        }
+    /// Which replicas the client counted in its phase.
+    fn counted(&self, client: u32) -> u16 {
+        self.clients[&client].counted
     }
 }
 
@@ -217,32 +215,59 @@ struct Entry {
     response: (usize, Option<Option<String>>),
 }
 
-fn call(halls: &[Mutex<Hall>], ways: &[Sender<Parcel>], client: u32, key: &str, action: &Action, log: &mut Vec<Entry>) -> Option<Option<String>> {
+/// What a caller needs on its way.
+struct Errand<'a> {
+    hall: &'a Mutex<Hall>,
+    at: usize,
+    ways: &'a [Sender<Parcel>],
+    client: u32,
+    reports: Sender<Option<u32>>,
+    inbox: Receiver<Option<u32>>,
+    awaited: u64,
+}
+
+impl Errand<'_> {
+    /// Makes rounds until the phase is over, which has just begun.
+    fn leave(&mut self) {
+        let mut counted = 0;
+        loop {
+            for replica in (0..REPLICAS).filter(|replica| counted >> replica & 1 == 0) {
+                let Some(flight) = self.hall.lock().unwrap().send(self.client, replica) else { break };
+                let _ = self.ways[replica as usize].send(Parcel { hall: self.at, flight, reports: self.reports.clone() });
+                self.awaited += 1;
+            }
+            while self.awaited > 0 {
+                self.awaited -= 1;
+                if let Ok(Some(reply)) = self.inbox.recv() {
+                    if self.hall.lock().unwrap().hear(reply) {
+                        return;
+                    }
+                }
+            }
+            counted = self.hall.lock().unwrap().counted(self.client);
+        }
+    }
+}
+
+fn call(
+    halls: &[Mutex<Hall>],
+    ways: &[Sender<Parcel>],
+    client: u32,
+    key: &str,
+    action: &Action,
+    log: &mut Vec<Entry>,
+) -> Option<Option<String>> {
     let at = key.bytes().map(usize::from).sum::<usize>() % halls.len();
     let hall = &halls[at];
     let (reports, inbox) = unbounded();
     let (op, invoked) = hall.lock().unwrap().invoke(client, key, action);
-    loop {
-        let (phase, counted) = hall.lock().unwrap().standing(client);
-        if phase == 3 {
-            let (place, returned) = hall.lock().unwrap().respond(client)?;
-            let response = (place, returned.clone());
-            log.push(Entry { hall: at, op, key: key.into(), action: action.clone(), invoked, response });
-            return returned;
-        }
-        let mut awaited = 0;
-        for replica in (0..REPLICAS).filter(|replica| counted >> replica & 1 == 0) {
-            let Some(flight) = hall.lock().unwrap().send(client, replica) else { break };
-            let _ = ways[replica as usize].send(Parcel { hall: at, flight, reports: reports.clone() });
-            awaited += 1;
-        }
-        while awaited > 0 && hall.lock().unwrap().standing(client).0 == phase {
-            awaited -= 1;
-            if let Ok(Some(reply)) = inbox.recv() {
-                hall.lock().unwrap().hear(reply);
-            }
-        }
-    }
+    let mut errand = Errand { hall, at, ways, client, reports, inbox, awaited: 0 };
+    errand.leave();
+    errand.leave();
+    let (place, returned) = hall.lock().unwrap().respond(client)?;
+    let response = (place, returned.clone());
+    log.push(Entry { hall: at, op, key: key.into(), action: action.clone(), invoked, response });
+    returned
 }
 
 fn caller(halls: &[Mutex<Hall>], ways: &[Sender<Parcel>], client: u32, calls: u32) -> u64 {
