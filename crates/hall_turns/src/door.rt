@@ -9,6 +9,7 @@ use crate::rule::{Enter, Guest, OneHall, Receive, Return, View};
 use crossbeam_channel::{Pass, RuledReceiver, RuledSender, bounded_with};
 use hall_journal::Hall;
 use std::alloc::Global;
+use std::hint::spin_loop;
 use std::marker::Model;
 use std::sync::Wait;
 use std::thread;
@@ -16,7 +17,13 @@ use tag::{ClientId, Memory};
 use world_steps::{Effect, Refusal, Step, laws};
 
 /// How often a thread looks for the hall before it sleeps.
-const LOOKS: u32 = 8;
+const LOOKS: u32 = 12;
+
+/// After how many of these looks it only pauses, and keeps its processor.
+const PAUSED: u32 = 4;
+
+/// How long such a pause is, in the processor's pauses.
+const PAUSES: u32 = 4;
 
 /// The way to one hall. A contract sees what its pass knows.
 #[derive(Drop)]
@@ -81,11 +88,15 @@ impl Door {
     pub(crate) fn receive(&mut self, rt: &impl Wait) -> Hall
         ensures { Receives self.old result self.new }
     {
-        for _ in 0..LOOKS {
+        for looks in 0..LOOKS {
             if let Some(hall) = self.look(rt) {
                 return hall;
             }
-            thread::yield_now();
+            if looks < PAUSED {
+                pause();
+            } else {
+                thread::yield_now();
+            }
         }
         self.wait(rt)
     }
@@ -160,6 +171,13 @@ impl Door {
         known(&hall);
         self.give_back(rt, hall);
         taken
+    }
+}
+
+/// Lets a moment pass, about as long as a turn.
+fn pause() {
+    for _ in 0..PAUSES {
+        spin_loop();
     }
 }
 
