@@ -89,12 +89,12 @@ impl<R: Clock> Gate for HoldsAnswer<R> {
     }
 }
 
-/// What two replicas tell each other: that each came, and that each saw the other come.
+/// What two replicas tell each other: that each came, and that one waited for the other in vain.
 #[derive(Drop)]
 pub struct Meeting {
     pub zero: Signal,
     pub one: Signal,
-    pub met: AtomicU64,
+    pub missed: Signal,
 }
 
 /// Holds each of replicas 0 and 1 at its reply until the other has come there.
@@ -113,8 +113,8 @@ impl<R: Clock> Gate for MeetsAtReplies<R> {
                 (&self.meeting.one, &self.meeting.zero)
             };
             own.give();
-            if other.wait(&self.rt) {
-                self.meeting.met.fetch_add(1, Ordering::SeqCst);
+            if !other.wait(&self.rt) {
+                self.meeting.missed.give();
             }
         }
         Passage::Go

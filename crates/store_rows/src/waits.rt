@@ -4,7 +4,7 @@ use crate::scene::{both, closes, config_of, gave_a, read, seat_of, word, write};
 use crate::signals::{Signal, Signals};
 use node_threads::{Answer, CallError, Gate, Seat, Store};
 use std::alloc::Global;
-use std::sync::atomic::{AtomicU64, Ordering};
+use std::sync::atomic::AtomicU64;
 use std::sync::{Arc, Wait};
 use std::thread;
 use std::thread::Threads;
@@ -155,7 +155,7 @@ where
     let meeting = Meeting {
         zero: Signal::new(),
         one: Signal::new(),
-        met: AtomicU64::new(0),
+        missed: Signal::new(),
     };
     let meeting = Arc::new(alloc, meeting).ok()?;
     let gate = MeetsAtReplies {
@@ -165,7 +165,8 @@ where
     let store = Store::start(rt, alloc, config_of(2, 1000, 1)?, gate).ok()?;
     let mut seat = seat_of(rt, alloc, &store, 1)?;
     let written = write(rt, alloc, &store, &mut seat);
-    Some(word(written.is_ok() && meeting.met.load(Ordering::SeqCst) >= 2))
+    let met = meeting.zero.is_given() && meeting.one.is_given() && !meeting.missed.is_given();
+    Some(word(written.is_ok() && met))
 }
 
 /// Looks on in a hall until a call in another one is answered. Whether it was.
