@@ -1,5 +1,4 @@
 mod Bags
 mod Hashed
-pub mod Unsending
 mod Writing
 pub mod Agreement

@@ -2,3 +2,4 @@ pub mod Equality
 pub mod Flights
 pub mod Refusals
 pub mod Pools
+pub mod Unsending

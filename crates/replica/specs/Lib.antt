@@ -1,3 +1,4 @@
+pub mod Insertions
 pub mod Maps
 pub mod Pairs
 pub mod Replicas

@@ -19,6 +19,7 @@ use Rattle.client_phases.specs.declared.outcomes.Taken.TheVariants.{Counted, Not
 use Rattle.client_phases.specs.declared.rules.Rules.{Rules}
 use Rattle.client_phases.specs.declared.states.State.{State}
 use Rattle.client_phases.specs.declared.states.State.TheVariants.{Ask, Put, Ready}
+use Rattle.world_steps.specs.Sound.{tags_of}
 use Rattle.world_steps.specs.Moves.{IsClient}
 use Rattle.world_steps.specs.Refusals.{is_ready, phase_at}
 use Rattle.world_steps.specs.Runs.{after_from}
@@ -26,9 +27,8 @@ use Rattle.world_steps.specs.SoundSystems.{IsSound, held_in}
 use Rattle.world_steps.specs.declared.nodes.Node.{Node}
 use Rattle.world_steps.specs.declared.step.Step.{Step}
 use Rattle.world_steps.specs.declared.system.System.{System}
-use Rattle.world_steps.proofs.Frames.{tags_of}
-use Rattle.world_steps.proofs.Lookups.{slice_cases}
-use Rattle.world_steps.proofs.Passed.{phase_is}
+use Rattle.world_settle.proofs.Lookups.{slice_cases}
+use Rattle.world_steps.specs.Passed.{phase_is}
 use Rattle.world_steps.proofs.StepsSound.{after_from_sound}
 use Rattle.world_settle.specs.Agreeing.{RepliesAgree, asking_by, pair_at}
 use Rattle.world_settle.specs.Refusing.{IsLeastCount, MaySettle, Needs, NeedsAt}

@@ -12,7 +12,7 @@ use Rattle.world_steps.specs.Systems.{send}
 use Rattle.world_steps.specs.declared.step.Step.{Step}
 use Rattle.world_steps.specs.declared.step.Step.TheVariants as step
 use Rattle.world_steps.specs.declared.system.System.{System}
-use Rattle.world_steps.proofs.Passed.{passed, client_there, request_there}
+use Rattle.world_steps.specs.Passed.{passed, client_there, request_there}
 use Rattle.world_settle.specs.Settling.{Settles, candidates, counted_at, round}
 use Rattle.world_settle.specs.Settling.Settles.{answers, asks}
 use Rattle.world_settle.specs.Refusing.{MaySettle, Needs, NeedsAt}

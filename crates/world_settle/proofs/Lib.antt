@@ -1,3 +1,4 @@
+pub mod Lookups
 pub mod CandidateLemmas
 pub mod Counts
 pub mod Counting

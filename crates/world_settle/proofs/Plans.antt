@@ -28,7 +28,7 @@ use Rattle.recorder.specs.declared.row.Row.TheVariants.{Respond}
 use Rattle.world_steps.specs.Moves.{IsClient}
 use Rattle.world_steps.specs.Refusals.{refusal_of, phase_at, is_stopped, is_ready, has_request, no_such_client}
 use Rattle.world_steps.specs.Runs.{AreAccepted, next, after_from}
-use Rattle.world_steps.specs.Sound.{Pending, StateSound}
+use Rattle.world_steps.specs.Sound.{Pending, StateSound, Tags, tags_of}
 use Rattle.world_steps.specs.Sound.StateSound.{SoundAsking, SoundPutting}
 use Rattle.world_steps.specs.SoundSystems.{IsSound, held_in}
 use Rattle.world_steps.specs.Systems.{respond}
@@ -37,10 +37,9 @@ use Rattle.world_steps.specs.declared.refusal.Refusal.TheVariants as refusal
 use Rattle.world_steps.specs.declared.step.Step.{Step}
 use Rattle.world_steps.specs.declared.step.Step.TheVariants as step
 use Rattle.world_steps.specs.declared.system.System.{System}
-use Rattle.world_steps.proofs.Callers.{caller_found}
-use Rattle.world_steps.proofs.Frames.{Tags, tags_of}
-use Rattle.world_steps.proofs.Lookups.{slice_cases}
-use Rattle.world_steps.proofs.Passed.{phase_is}
+use Rattle.world_steps.specs.Callers.{caller_found}
+use Rattle.world_settle.proofs.Lookups.{slice_cases}
+use Rattle.world_steps.specs.Passed.{phase_is}
 use Rattle.world_steps.proofs.StepsSound.{after_from_sound}
 use Rattle.world_settle.specs.Settling.{Settles, candidates, counted_at, is_up, round}
 use Rattle.world_settle.specs.Settling.Settles.{answers, asks}

@@ -30,8 +30,8 @@ use Rattle.world_steps.specs.declared.refusal.Refusal.TheVariants as refusal
 use Rattle.world_steps.specs.declared.step.Step.{Step}
 use Rattle.world_steps.specs.declared.step.Step.TheVariants as step
 use Rattle.world_steps.specs.declared.system.System.{System}
-use Rattle.world_steps.proofs.Lookups.{get_cases}
-use Rattle.world_steps.proofs.Passed.{phase_is}
+use Rattle.world_settle.proofs.Lookups.{get_cases}
+use Rattle.world_steps.specs.Passed.{phase_is}
 use Rattle.world_settle.specs.Settling.{round}
 
 -- ---- maps by number

@@ -31,7 +31,7 @@ use Rattle.world_steps.specs.Lasting.AddsRowOf.{NoRow, OneRow}
 use Rattle.world_steps.specs.Moves.{IsClient}
 use Rattle.world_steps.specs.Refusals.{refusal_of}
 use Rattle.world_steps.specs.Runs.{next}
-use Rattle.world_steps.specs.Sound.{Pending, StateSound}
+use Rattle.world_steps.specs.Sound.{Pending, StateSound, tags_of}
 use Rattle.world_steps.specs.Sound.StateSound.{SoundAsking, SoundReady}
 use Rattle.world_steps.specs.SoundSystems.{IsSound, held_in}
 use Rattle.world_steps.specs.Systems.{answered_op, deliver, handle, invoke, moved, next_call, op_of, respond, send, set_up, stop, take, with_note}
@@ -40,7 +40,6 @@ use Rattle.world_steps.specs.declared.step.Step.{Step}
 use Rattle.world_steps.specs.declared.step.Step.TheVariants as step
 use Rattle.world_steps.specs.declared.system.System.{System}
 use Rattle.world_steps.proofs.Following.{counts_op}
-use Rattle.world_steps.proofs.Frames.{tags_of}
 
 module _ (s : System) where
   abbrev Adds : Option ℕ → System → Type 0

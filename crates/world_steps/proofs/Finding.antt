@@ -20,7 +20,7 @@ use Rattle.recorder.specs.Histories.{call_count}
 use Rattle.recorder.specs.declared.row.Row.{Row}
 use Rattle.world_steps.specs.Moves.{IsClient, MayInvoke, MaySend, MayHandle, MayHear, MayArrive, MayDeliver, MayRepeat, MayRespond, MayStop, MayMove}
 use Rattle.world_steps.specs.Refusals.{refusal_of, arrival_refusals, first_of}
-use Rattle.world_steps.specs.Sound.{Invoked, StateSound, MessageSound}
+use Rattle.world_steps.specs.Sound.{Invoked, StateSound, MessageSound, Tags, tags_of}
 use Rattle.world_steps.specs.Sound.MessageSound.{SoundQuery, SoundPut}
 use Rattle.world_steps.specs.SoundSystems.{Flies, IsIn, IsSound, held_in}
 use Rattle.world_steps.specs.Systems.{op_of}
@@ -28,12 +28,11 @@ use Rattle.world_steps.specs.declared.step.Step.{Step}
 use Rattle.world_steps.specs.declared.step.Step.TheVariants as step
 use Rattle.world_steps.specs.declared.system.System.{System}
 use Rattle.world_steps.proofs.Answering.{response_fits}
-use Rattle.world_steps.proofs.Callers.{caller_found}
+use Rattle.world_steps.specs.Callers.{caller_found}
 use Rattle.world_steps.proofs.Following.{not_busy, response_follows, heard_notes}
-use Rattle.world_steps.proofs.Frames.{Tags, tags_of}
 use Rattle.world_steps.proofs.Heard.{hears}
 use Rattle.world_steps.proofs.Lookups.{there_below}
-use Rattle.world_steps.proofs.Passed.{passed, client_there, idle_there, ready_there, request_there, replica_there, room_for_call, room_for_flight}
+use Rattle.world_steps.specs.Passed.{passed, client_there, idle_there, ready_there, request_there, replica_there, room_for_call, room_for_flight}
 
 -- the message of a flight flies
 pub flies : (s : System) (flight : ℕ) (message : Message) → message_of s.pool.flights flight ≡ Some message → Flies s.pool.flights message

@@ -24,11 +24,10 @@ use Rattle.recorder.specs.Histories.{Fits, IsBusy, IsPendingCall, MayFollow}
 use Rattle.recorder.specs.declared.row.Row.{Row}
 use Rattle.recorder.specs.declared.row.Row.TheVariants.{Invoke, Note, Respond}
 use Rattle.world_steps.specs.Moves.{MayNote}
-use Rattle.world_steps.specs.Sound.{Completed, Pending, StateSound}
+use Rattle.world_steps.specs.Sound.{Completed, Pending, StateSound, Tags}
 use Rattle.world_steps.specs.Sound.StateSound.{SoundIdle, SoundAsking, SoundReady}
 use Rattle.world_steps.specs.Systems.{answered_op}
 use Rattle.world_steps.specs.declared.system.System.{System}
-use Rattle.world_steps.proofs.Frames.{Tags}
 use Rattle.world_steps.proofs.Replies.{both_true}
 use Rattle.world_steps.proofs.RowLaws.{same_op}
 use Rattle.world_steps.proofs.Lookups.{place_of, contained}

@@ -13,19 +13,12 @@ use Rattle.replica.specs.declared.pairs.Pair.{Pair}
 use Rattle.network.specs.declared.messages.Message.{Message}
 use Rattle.client_phases.specs.declared.calls.Call.{Call}
 use Rattle.client_phases.specs.declared.states.State.{State}
-use Rattle.world_steps.specs.Sound.{At, IsAtMost, Invoked, Noted, Completed, IsGood, Answered, MessageSound, AllHold, Pending, QuorumHolds, StateSound, Told, QuorumTells}
+use Rattle.world_steps.specs.Sound.{Tags, tags_of, At, IsAtMost, Invoked, Noted, Completed, IsGood, Answered, MessageSound, AllHold, Pending, QuorumHolds, StateSound, Told, QuorumTells}
 use Rattle.world_steps.specs.Sound.IsGood.{Unwritten, Wrote}
 use Rattle.world_steps.specs.Sound.MessageSound.{SoundQuery, SoundPut, SoundHeld, SoundKept}
 use Rattle.world_steps.specs.Sound.StateSound.{SoundIdle, SoundAsking, SoundPutting, SoundReady, SoundStopped}
 use Rattle.world_steps.proofs.TagLaws.{at_most_trans}
 use Rattle.world_steps.proofs.RowLaws.{Extends}
-
--- which tag a replica holds for a key
-abbrev pub Tags : Type 0
-Tags = ℕ → List ℕ → Tag
-
-abbrev pub tags_of : (ℕ → List ℕ → Pair) → Tags
-tags_of P r k = (P r k).tag
 
 -- replica tags never fall
 abbrev pub Rises : Tags → Tags → Type 0

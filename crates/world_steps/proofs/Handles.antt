@@ -14,7 +14,7 @@ use Rattle.network.specs.Flights.{copies_of}
 use Rattle.network.specs.declared.flights.Flight.{Flight}
 use Rattle.network.specs.Pools.{IsBag, Pool, with_sent, without_last}
 use Rattle.network.specs.declared.messages.Message.{Message}
-use Rattle.network.proofs.Unsending.{unsent-sent}
+use Rattle.network.specs.Unsending.{unsent-sent}
 use Rattle.world_steps.specs.Systems.{set_up}
 use Rattle.world_steps.specs.declared.nodes.Node.{Node}
 use Rattle.world_steps.specs.declared.system.System.{System}

@@ -11,7 +11,7 @@ use Rattle.replica.specs.declared.replies.Reply.{Reply}
 use Rattle.replica.specs.declared.replies.Reply.TheVariants.{Held, Kept}
 use Rattle.replica.specs.declared.requests.Request.{Request}
 use Rattle.replica.specs.declared.requests.Request.TheVariants.{Query, Put}
-use Rattle.replica.proofs.Rising.{pair_of-adopt_other}
+use Rattle.replica.specs.Insertions.{pair_of-adopt_other}
 use Rattle.client_phases.specs.Asking.{newer}
 use Rattle.client_phases.specs.declared.clients.Client.{Client}
 use Rattle.client_phases.specs.declared.states.State.{State}
@@ -20,15 +20,14 @@ use Rattle.network.specs.declared.messages.Message.{Message}
 use Rattle.network.specs.declared.messages.Message.TheVariants.{ToReplica, ToClient}
 use Rattle.recorder.specs.Histories.{caller_of}
 use Rattle.recorder.specs.declared.row.Row.{Row}
-use Rattle.world_steps.specs.Sound.{Invoked, MessageSound, Sound}
+use Rattle.world_steps.specs.Sound.{Invoked, MessageSound, Sound, tags_of}
 use Rattle.world_steps.specs.Sound.MessageSound.{SoundQuery, SoundPut}
 use Rattle.world_steps.specs.SoundSystems.{Flies, IsIn, IsSound, held_in, pair_in}
 use Rattle.world_steps.specs.Systems.{handle, op_of, set_up}
 use Rattle.world_steps.specs.declared.nodes.Node.{Node}
 use Rattle.world_steps.specs.declared.system.System.{System}
-use Rattle.world_steps.proofs.Callers.{caller_found}
+use Rattle.world_steps.specs.Callers.{caller_found}
 use Rattle.world_steps.proofs.Flying.{flies_sent}
-use Rattle.world_steps.proofs.Frames.{tags_of}
 use Rattle.world_steps.proofs.Lookups.{slice_cases, same_key_or_not}
 use Rattle.world_steps.proofs.SameRows.{queried, adopting, Adopted, pair_of-adopt}
 use Rattle.world_steps.proofs.SameRows.Adopted.{Same, Changed}

@@ -25,11 +25,10 @@ use Rattle.client_phases.specs.Asking.{Asking, counts, asking_with, is_agreed, L
 use Rattle.client_phases.specs.States.{asked, kept, heard, MayHear}
 use Rattle.client_phases.specs.declared.states.State.{State}
 use Rattle.client_phases.specs.declared.states.State.TheVariants.{Idle, Ask, Put, Ready, Stopped}
-use Rattle.world_steps.specs.Sound.{IsGood, Pending, Sound}
+use Rattle.world_steps.specs.Sound.{IsGood, Pending, Sound, tags_of}
 use Rattle.world_steps.specs.Sound.Told.{InAsking}
 use Rattle.world_steps.proofs.TagLaws.{at_most_itself}
 use Rattle.world_steps.proofs.RowLaws.{same_op, more}
-use Rattle.world_steps.proofs.Frames.{tags_of}
 use Rattle.world_steps.proofs.Frames.Older.{Heard}
 use Rattle.world_steps.proofs.SameRows.{Turned, CountsAnswers, turning}
 use Rattle.world_steps.proofs.RowSteps.{asking_pending, asking_small}

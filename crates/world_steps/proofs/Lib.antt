@@ -11,8 +11,6 @@ pub mod Replies
 pub mod Heard
 pub mod Justified
 pub mod Lookups
-pub mod Callers
-pub mod Passed
 pub mod Answering
 pub mod Following
 pub mod Finding

@@ -13,13 +13,7 @@ use Rattle.world_steps.proofs.RowLaws.{more, extends, before, after_push, within
 use Rattle.world_steps.proofs.Counts.{noted_below_push, noted_below_note, noted_below_wider, not_noted}
 use Rattle.world_steps.proofs.WriteCounts.{from_more, write_count_note, write_count_rises}
 use Rattle.world_steps.proofs.Frames.{answered_more}
-
--- a call has one key
-same_key : (R : List Row) → RowsSound R → (p q : ℕ) (o : OpId) (c d : ℕ) (k l : List ℕ) (a b : Action) → At R p (Invoke o c k a) → At R q (Invoke o d l b) → k ≡ l
-same_key R rows p q o c d k l a b i j =
-    let places : p ≡ q = rows.once p q o c d k l a b i j in
-    let h : At R q (Invoke o c k a) = subst (λ w. At R w (Invoke o c k a)) places i in
-    cc
+use Rattle.world_steps.proofs.SameRows.{same_key}
 
 -- the count of noted calls never falls
 noted_rises : (R : List Row) (x : Row) (k : ℕ) → call_count (more R x) ≡ call_count R + k → noted_below R (call_count R) ≤ noted_below (more R x) (call_count (more R x))

@@ -2,23 +2,14 @@
 use Rattle.std.proofs.Common.{◌≡◌, ℕ, zero, suc, ◌+◌, List, [], ◌∷◌, ◌++◌, Option, None, Some, is_some, Result, Ok, Err, inl, inr, cond, take, slice_get, sym, ap, ◌∙◌, refl, arith}
 use Rattle.world_steps.specs.Configs.{Config}
 use Rattle.world_steps.specs.Refusals.{refusal_of}
-use Rattle.world_steps.specs.Runs.{AreAccepted, next, after, after_from, Steps}
+use Rattle.world_steps.specs.Runs.{AreAccepted, next, after, after_from}
 use Rattle.world_steps.specs.Systems.{moved, opening}
+use Rattle.world_steps.specs.Taken.{next_by}
 use Rattle.world_steps.specs.declared.effect.Effect.{Effect}
 use Rattle.world_steps.specs.declared.refusal.Refusal.{Refusal}
 use Rattle.world_steps.specs.declared.refusal.Refusal.TheVariants as refusal
 use Rattle.world_steps.specs.declared.step.Step.{Step}
 use Rattle.world_steps.specs.declared.system.System.{System}
-
--- the next system, by whether the step is refused
-next_by : (s : System) (step : Step) (found : Option Refusal) → refusal_of s step ≡ found → next s step ≡ cond (is_some found) s (moved s step)
-next_by s step found e = ap (λ o. cond (is_some o) s (moved s step)) e
-
--- a step that isn't refused for memory leaves the next system
-pub next_is : (s : System) (step : Step) (result : Result Effect Refusal) (new : System) → Steps s step result new → (result ≡ Err refusal.Memory → ⊥) → new ≡ next s step
-next_is s step (Ok effect) new (none, answered, is) fine = is ∙ sym (next_by s step None none)
-next_is s step (Err why) new (inl refused, same) fine = same ∙ sym (next_by s step (Some why) refused)
-next_is s step (Err why) new (inr (none, memory, grows), same) fine = absurd (fine (ap Err memory))
 
 -- a run with one step more
 after_push : (s : System) (steps : List Step) (step : Step) → after_from s (steps ++ step ∷ []) ≡ next (after_from s steps) step

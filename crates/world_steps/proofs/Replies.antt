@@ -22,14 +22,14 @@ use Rattle.client_phases.specs.Calls.{Chosen, pair_to_put}
 use Rattle.client_phases.specs.Asking.{Asking, newer, asking_with, is_agreed}
 use Rattle.client_phases.specs.declared.states.State.{State}
 use Rattle.client_phases.specs.declared.states.State.TheVariants.{Ask, Put, Ready}
-use Rattle.world_steps.specs.Sound.{At, IsAtMost, Noted, Pending, IsGood, RowsSound, AllHold, MessageSound, StateSound, Sound}
+use Rattle.world_steps.specs.Sound.{At, IsAtMost, Noted, Pending, IsGood, RowsSound, AllHold, MessageSound, StateSound, Sound, Tags, tags_of}
 use Rattle.world_steps.specs.Sound.MessageSound.{SoundHeld, SoundKept}
 use Rattle.world_steps.specs.Sound.StateSound.{SoundAsking, SoundPutting, SoundReady}
 use Rattle.world_steps.specs.Sound.Told.{InReply, InAsking}
 use Rattle.world_steps.proofs.TagLaws.{at_most_trans, at_most_below, less_is_below, not_less_at_most, equal_is, newer_than_old, newer_than_new}
 use Rattle.world_steps.proofs.RowLaws.{more}
 use Rattle.world_steps.proofs.Quorums.{in_nobody, in_insert, none_counted}
-use Rattle.world_steps.proofs.Frames.{Tags, tags_of, Older}
+use Rattle.world_steps.proofs.Frames.{Older}
 use Rattle.world_steps.proofs.Frames.Older.{Heard}
 use Rattle.world_steps.proofs.SameRows.{same_key, newer_good, Turned, CountsAnswers, turning}
 use Rattle.world_steps.proofs.RowSteps.{asking_pending, noting}

@@ -21,7 +21,7 @@ use Rattle.client_phases.specs.Calls.{Chosen, answer_from, pair_to_put}
 use Rattle.client_phases.specs.Asking.{Asking, opening_of}
 use Rattle.client_phases.specs.declared.states.State.{State}
 use Rattle.client_phases.specs.declared.states.State.TheVariants.{Idle, Ask, Ready}
-use Rattle.world_steps.specs.Sound.{At, IsAtMost, Invoked, Noted, Completed, NotNoted, NotCompleted, OthersCompleted, Pending, IsGood, Answered, noted_below, write_count, RowsSound, QuorumHolds, MessageSound, StateSound, Told, QuorumTells, Sound}
+use Rattle.world_steps.specs.Sound.{At, IsAtMost, Invoked, Noted, Completed, NotNoted, NotCompleted, OthersCompleted, Pending, IsGood, Answered, noted_below, write_count, RowsSound, QuorumHolds, MessageSound, StateSound, Told, QuorumTells, Sound, Tags, tags_of}
 use Rattle.world_steps.specs.Sound.IsGood.{Unwritten, Wrote}
 use Rattle.world_steps.specs.Sound.MessageSound.{SoundHeld}
 use Rattle.world_steps.specs.Sound.StateSound.{SoundIdle, SoundAsking, SoundReady}
@@ -31,7 +31,7 @@ use Rattle.world_steps.proofs.RowLaws.{same_op, after_push, pushed, within, more
 use Rattle.world_steps.proofs.Counts.{noted_below_all, not_noted}
 use Rattle.world_steps.proofs.WriteCounts.{from_counted, good_from}
 use Rattle.world_steps.proofs.Quorums.{in_nobody, quorums_meet}
-use Rattle.world_steps.proofs.Frames.{Tags, tags_of, completed_more, good_more, message_more, state_more, tells_more, Older, NoneInvoked, NoneNoted, NoneDone, told_older}
+use Rattle.world_steps.proofs.Frames.{completed_more, good_more, message_more, state_more, tells_more, Older, NoneInvoked, NoneNoted, NoneDone, told_older}
 use Rattle.world_steps.proofs.SameRows.{same_client, same_key, Turned, CountsAnswers, turned_older, tags_stay}
 use Rattle.world_steps.proofs.SameRows.Turned.{Other, This}
 use Rattle.world_steps.proofs.MoreRows.{rows_respond, rows_invoke, rows_note, AboveDone, IsOwn}

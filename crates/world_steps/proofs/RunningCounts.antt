@@ -25,7 +25,7 @@ use Rattle.world_steps.specs.declared.step.Step.TheVariants as step
 use Rattle.world_steps.specs.declared.system.System.{System}
 use Rattle.world_steps.proofs.Lookups.{get_cases, none_of}
 use Rattle.world_steps.proofs.Named.{not_joined}
-use Rattle.world_steps.proofs.Passed.{passed, not_not, client_there, phase_is}
+use Rattle.world_steps.specs.Passed.{passed, not_not, client_there, phase_is}
 
 -- one more, or none
 abbrev one : Bool → ℕ

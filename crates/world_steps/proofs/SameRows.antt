@@ -13,18 +13,18 @@ use Rattle.replica.specs.Pairs.{Pairs, pair_of, adopt}
 use Rattle.replica.specs.declared.pairs.Pair.{Pair}
 use Rattle.replica.specs.declared.requests.Request.{Request}
 use Rattle.replica.specs.declared.replies.Reply.TheVariants.{Held, Kept}
-use Rattle.replica.proofs.Rising.{pair_of-insert_same}
+use Rattle.replica.specs.Insertions.{pair_of-insert_same}
 use Rattle.network.specs.declared.messages.Message.{Message}
 use Rattle.network.specs.declared.messages.Message.TheVariants.{ToReplica, ToClient}
 use Rattle.client_phases.specs.Asking.{Asking, newer}
 use Rattle.client_phases.specs.declared.states.State.{State}
 use Rattle.client_phases.specs.declared.states.State.TheVariants.{Ask}
-use Rattle.world_steps.specs.Sound.{At, IsAtMost, Invoked, Noted, IsGood, RowsSound, MessageSound, StateSound, Told, Sound}
+use Rattle.world_steps.specs.Sound.{At, IsAtMost, Invoked, Noted, IsGood, RowsSound, MessageSound, StateSound, Told, Sound, Tags, tags_of}
 use Rattle.world_steps.specs.Sound.MessageSound.{SoundHeld, SoundKept}
 use Rattle.world_steps.specs.Sound.Told.{InReply, InAsking}
 use Rattle.world_steps.proofs.TagLaws.{at_most_itself, equal_at_most, newer_than_old, newer_than_new, newer_is}
 use Rattle.world_steps.proofs.RowLaws.{Extends}
-use Rattle.world_steps.proofs.Frames.{Tags, tags_of, Rises, message_more, state_more, tells_more, Older}
+use Rattle.world_steps.proofs.Frames.{Rises, message_more, state_more, tells_more, Older}
 use Rattle.world_steps.proofs.Frames.Older.{Heard, Present}
 
 itself : (R : List Row) → Extends R R

@@ -10,14 +10,13 @@ use Rattle.client_phases.specs.declared.states.State.{State}
 use Rattle.network.specs.Pools.{Pool, with_sent, with_one_less, with_one_more}
 use Rattle.network.specs.declared.messages.Message.{Message}
 use Rattle.network.specs.declared.messages.Message.TheVariants.{ToReplica, ToClient}
-use Rattle.world_steps.specs.Sound.{MessageSound, StateSound}
+use Rattle.world_steps.specs.Sound.{MessageSound, StateSound, tags_of}
 use Rattle.world_steps.specs.Sound.MessageSound.{SoundQuery, SoundPut}
 use Rattle.world_steps.specs.Sound.StateSound.{SoundIdle, SoundAsking, SoundPutting, SoundReady, SoundStopped}
 use Rattle.world_steps.specs.SoundSystems.{Flies, IsIn, IsSound, held_in}
 use Rattle.world_steps.specs.Systems.{lose, repeat, send}
 use Rattle.world_steps.specs.declared.system.System.{System}
 use Rattle.world_steps.proofs.Flying.{flies_sent, flies_less, flies_more}
-use Rattle.world_steps.proofs.Frames.{tags_of}
 use Rattle.world_steps.proofs.SameRows.{thinned, requested}
 
 module _ (s : System) (sound : IsSound s) where

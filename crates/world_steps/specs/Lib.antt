@@ -10,3 +10,6 @@ pub mod Sources
 pub mod Moves
 pub mod Lasting
 pub mod Numbers
+pub mod Callers
+pub mod Passed
+pub mod Taken

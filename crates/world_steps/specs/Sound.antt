@@ -189,19 +189,27 @@ pub record RowsSound (rows : List Row) : Type 0 where
 
 -- ---- kept means stored
 
--- each of these replicas holds at least that tag for the key; tags says which tag a replica holds
-abbrev pub AllHold : (tags : ℕ → List ℕ → Tag) → Replicas → List ℕ → Tag → Type 0
+-- which tag a replica holds for a key
+abbrev pub Tags : Type 0
+Tags = ℕ → List ℕ → Tag
+
+-- that of the pair which it holds
+abbrev pub tags_of : (ℕ → List ℕ → Pair) → Tags
+tags_of pairs replica key = (pairs replica key).tag
+
+-- each of these replicas holds at least that tag for the key
+abbrev pub AllHold : Tags → Replicas → List ℕ → Tag → Type 0
 AllHold tags set key tag = (replica : ℕ) → finite.contains set replica ≡ true → IsAtMost tag (tags replica key)
 
 -- a put quorum holds at least that tag for the key
-pub record QuorumHolds (quorums : Quorums) (tags : ℕ → List ℕ → Tag) (key : List ℕ) (tag : Tag) : Type 0 where
+pub record QuorumHolds (quorums : Quorums) (tags : Tags) (key : List ℕ) (tag : Tag) : Type 0 where
   pub quorum : Replicas
   pub is_quorum : is_put_quorum quorums quorum ≡ true
   pub hold : AllHold tags quorum key tag
 
 -- a message in flight: a query and a put name a call that is begun, and a put carries a good pair with that call's
 -- noted tag; a replica that told its pair, or that it keeps one, still holds at least that tag
-pub data MessageSound (rows : List Row) (tags : ℕ → List ℕ → Tag) : Message → Type 0 where
+pub data MessageSound (rows : List Row) (tags : Tags) : Message → Type 0 where
   SoundQuery : {replica : ℕ} {op : OpId} {key : List ℕ} → Invoked rows op key → MessageSound rows tags (ToReplica replica (request.Query op key))
   SoundPut : {replica : ℕ} {op : OpId} {key : List ℕ} {tag : Tag} {value : Option (List ℕ)}
       → Invoked rows op key → Noted rows op tag → IsGood rows key (record { tag = tag; value = value })
@@ -216,7 +224,7 @@ pub data MessageSound (rows : List Row) (tags : ℕ → List ℕ → Tag) : Mess
 -- a client's state: an idle one has completed its calls; one that asks has counted replicas that hold at least the
 -- least tag that they told; one that puts has counted replicas that hold at least the tag that it puts; where the
 -- answer is there, a put quorum holds the tag
-pub data StateSound (quorums : Quorums) (rows : List Row) (tags : ℕ → List ℕ → Tag) (client : ℕ) : State → Type 0 where
+pub data StateSound (quorums : Quorums) (rows : List Row) (tags : Tags) (client : ℕ) : State → Type 0 where
   SoundIdle : ((place : ℕ) (op : OpId) (key : List ℕ) (action : Action) → At rows place (Invoke op client key action) → Completed rows op)
       → StateSound quorums rows tags client Idle
   SoundAsking : {asking : Asking}
@@ -239,7 +247,7 @@ pub data Told (Flies : Message → Type 0) (IsIn : ℕ → State → Type 0) (op
       → Told Flies IsIn op replica tag
 
 -- a put quorum holds at least that tag for the key, and tells no lesser one to a call on it that begins behind the place
-pub record QuorumTells (quorums : Quorums) (rows : List Row) (tags : ℕ → List ℕ → Tag) (Flies : Message → Type 0) (IsIn : ℕ → State → Type 0) (place : ℕ) (key : List ℕ) (tag : Tag) : Type 0 where
+pub record QuorumTells (quorums : Quorums) (rows : List Row) (tags : Tags) (Flies : Message → Type 0) (IsIn : ℕ → State → Type 0) (place : ℕ) (key : List ℕ) (tag : Tag) : Type 0 where
   pub quorum : Replicas
   pub is_quorum : is_put_quorum quorums quorum ≡ true
   pub hold : AllHold tags quorum key tag
@@ -252,11 +260,11 @@ pub record Sound (quorums : Quorums) (rows : List Row) (held : ℕ → List ℕ 
   pub lawful : IsLawful quorums
   pub recorded : RowsSound rows
   pub pairs : (replica : ℕ) (key : List ℕ) → IsGood rows key (held replica key)
-  pub messages : (message : Message) → Flies message → MessageSound rows (λ r k. (held r k).tag) message
-  pub states : (client : ℕ) (state : State) → IsIn client state → StateSound quorums rows (λ r k. (held r k).tag) client state
+  pub messages : (message : Message) → Flies message → MessageSound rows (tags_of held) message
+  pub states : (client : ℕ) (state : State) → IsIn client state → StateSound quorums rows (tags_of held) client state
   -- a client that began a call is in some state
   pub joined : (p : ℕ) (op : OpId) (client : ℕ) (key : List ℕ) (action : Action) → At rows p (Invoke op client key action) → (state : State) × IsIn client state
   -- a put quorum holds the tag of each completed call, and tells no lesser one to a call on its key that begins later
   pub completed : (s p n : ℕ) (op : OpId) (client : ℕ) (returned : Returned) (key : List ℕ) (action : Action) (tag : Tag)
       → At rows s (Respond op returned) → At rows p (Invoke op client key action) → At rows n (Note op tag)
-      → QuorumTells quorums rows (λ r k. (held r k).tag) Flies IsIn s key tag
+      → QuorumTells quorums rows (tags_of held) Flies IsIn s key tag

@@ -1,5 +1,5 @@
 //! Laws of the definitions, each the contract of a function that does nothing.
-ghost use Rattle.std.specs.Prelude.{◌≡◌, ◌≤◌, ◌+◌, ◌++◌, ◌∷◌, [], List, None, ℕ};
+ghost use Rattle.std.specs.Prelude.{◌≡◌, ◌≤◌, ◌+◌, ◌++◌, ◌∷◌, [], Err, List, None, Result, ℕ};
 ghost use Rattle.quorum.specs.Quorums.{IsLawful};
 ghost use Rattle.recorder.specs.Records.{IsPart};
 ghost use Rattle.recorder.specs.Sound.{TagSound};
@@ -8,11 +8,13 @@ ghost use Rattle.world_steps.specs.Clients.{running_count};
 ghost use Rattle.world_steps.specs.Configs.{Config};
 ghost use Rattle.world_steps.specs.Lasting.{AddsRowOf, Grows, HasJoined, client_in};
 ghost use Rattle.world_steps.specs.Refusals.{refusal_of};
-ghost use Rattle.world_steps.specs.Runs.{AreAccepted, after, join_count, next, stop_count};
+ghost use Rattle.world_steps.specs.Runs.{AreAccepted, Steps, after, after_from, join_count, next, stop_count};
 ghost use Rattle.world_steps.specs.Sound.{IsAtMost};
 ghost use Rattle.world_steps.specs.SoundSystems.{IsSound, held_in};
 ghost use Rattle.world_steps.specs.Sources.{HeldComeFromWrites, NotesComeFromWrites, PutsComeFromWrites, RepliesComeFromWrites};
 ghost use Rattle.world_steps.specs.Systems.{moved, opening};
+ghost use Rattle.world_steps.specs.declared.effect.Effect.{Effect};
+ghost use Rattle.world_steps.specs.declared.refusal.Refusal.{Refusal};
 ghost use Rattle.world_steps.specs.declared.step.Step.{Step};
 ghost use Rattle.world_steps.specs.declared.system.System.{System};
 
@@ -43,6 +45,18 @@ pub fn a_list_may_have_one_more_step()
     ensures accepted { (config : Config) (steps : List Step) (step : Step)
         → AreAccepted (opening config) steps → refusal_of (after config steps) step ≡ None
         → (after config (steps ++ step ∷ []) ≡ moved (after config steps) step) × AreAccepted (opening config) (steps ++ step ∷ []) }
+{}
+
+/// What a step answers is the next system, but where it was refused for memory.
+pub fn a_step_leaves_the_next_system()
+    ensures { (s : System) (step : Step) (result : Result Effect Refusal) (new : System)
+        → Steps s step result new → (result ≡ Err Refusal.Memory → ⊥) → new ≡ next s step }
+{}
+
+/// From a sound system steps lead to a sound one, and the tags of each part of its record are sound.
+pub fn steps_keep_a_system_sound()
+    ensures steps { (s : System) (steps : List Step) → IsSound s → IsSound (after_from s steps) }
+    ensures parts { (s : System) (key : List ℕ) (part : List Call) → IsSound s → IsPart s.history.rows key part → TagSound part }
 {}
 
 /// With a client that joins at most one more runs, with one that stops one less does, and no other step

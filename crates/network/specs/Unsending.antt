@@ -1,13 +1,28 @@
 -- A send that is taken back leaves nothing.
-use Rattle.std.proofs.Common.{◌≡◌, ℕ, ◌+◌, ◌-◌, ◌<◌, Bool, true, false, Some, None, cond, ap, sym, ◌∙◌, refl, arith}
-use Rattle.std.specs.Ordering.{nat_cmp, eq_by_cmp}
+use Rattle.std.proofs.Common.{◌≡◌, ℕ, ◌+◌, ◌-◌, ◌<◌, Bool, true, false, Option, Some, None, cond, ap, sym, ◌∙◌, refl}
+use Rattle.std.proofs.Math.Nat.{add-sub_cancel, lt_irrefl}
+use Rattle.std.proofs.lemmas.Bool.{false≢true}
+use Rattle.std.specs.declared.cmp.Ordering.{Ordering}
+use Rattle.std.specs.declared.cmp.Ordering.TheVariants.{Less, Equal, Greater}
+use Rattle.std.specs.Ordering.{nat_cmp, eq_by_cmp, is_eq}
 use Rattle.std.specs.Cmp.{nat_cmp_total}
 use Rattle.std.specs.FinMap as finite
 use Rattle.std.specs.FinMap.{nat_cmp-IsAntisymmetric}
 use Rattle.network.specs.Flights.{Flight, Flights}
 use Rattle.network.specs.Pools.{IsBag, Pool, with_sent, without_last}
 use Rattle.network.specs.declared.messages.Message.{Message}
-use Rattle.network.proofs.Bags.{same_number, none_of}
+
+equal : (o : Ordering) → is_eq o ≡ true → o ≡ Equal
+equal Less e = absurd (false≢true e)
+equal Equal e = refl
+equal Greater e = absurd (false≢true e)
+
+same_number : (q k : ℕ) → eq_by_cmp nat_cmp q k ≡ true → q ≡ k
+same_number q k e = nat_cmp-IsAntisymmetric q k (equal _ e)
+
+none_of : {X : Type 0} (o : Option X) → ((x : X) → o ≡ Some x → ⊥) → o ≡ None
+none_of None h = refl
+none_of (Some x) h = absurd (h x refl)
 
 back : (flights : Flights) (k q : ℕ) (flight : Flight) (b : Bool) → eq_by_cmp nat_cmp q k ≡ b → finite.get flights k ≡ None → cond b None (cond b (Some flight) (finite.get flights q)) ≡ finite.get flights q
 back flights k q flight true e new = sym (ap (finite.get flights) (same_number q k e) ∙ new)
@@ -23,8 +38,8 @@ remove-insert flights k flight new =
 
 pub unsent-sent : (pool : Pool) (message : Message) → IsBag pool → without_last (with_sent pool message) ≡ pool
 unsent-sent pool message bag =
-    let last : (pool.sent + 1) - 1 ≡ pool.sent = omega arith in
-    let new : finite.get pool.flights pool.sent ≡ None = none_of (finite.get pool.flights pool.sent) (λ flight h. let l : pool.sent < pool.sent = bag.given pool.sent flight h in absurd (omega arith)) in
+    let last : (pool.sent + 1) - 1 ≡ pool.sent = add-sub_cancel pool.sent 1 in
+    let new : finite.get pool.flights pool.sent ≡ None = none_of (finite.get pool.flights pool.sent) (λ flight h. lt_irrefl pool.sent (bag.given pool.sent flight h)) in
     let one : Flight = record { message = message; copies = 1 } in
     let flights : finite.remove (finite.insert pool.flights pool.sent one) ((pool.sent + 1) - 1) ≡ pool.flights = ap (finite.remove (finite.insert pool.flights pool.sent one)) last ∙ remove-insert pool.flights pool.sent one new in
     λ i. record { sent = last i; limit = pool.limit; flights = flights i }
