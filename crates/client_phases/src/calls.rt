@@ -41,7 +41,8 @@ impl PartialEq for Chosen {
     ghost laws = { and_per (on_per (λ c. c.call) call.laws-law) (on_per (λ c. c.pair) pair.laws-law) };
 
     fn eq(&self, other: &Chosen) -> bool {
-        self.call == other.call && (self.tag == other.tag && has_same_value(self.value(), other.value()))
+        self.call == other.call
+            && (self.tag == other.tag && has_same_value(self.value(), other.value()))
     }
 }
 

@@ -302,8 +302,8 @@ noting quorums R P F C D c asking counted best new sound is full answers good ar
     record {
       lawful = sound.lawful;
       recorded = rows_note R call.op c w.place call.key call.action pair.tag sound.recorded w.is quiet above (own_put c call.action best) (small_put c call.action best (noted_below R (call_count R)) (good_bounded R call.key best sound.recorded good))
-      (good_from (more R x) call.key pair (good_put R w.place call.op c call.key call.action best w.is good))
-      (small_put c call.action best (write_count R call.key) (from_counted R sound.recorded call.key best.tag (good_from R call.key best good)));
+          (good_from (more R x) call.key pair (good_put R w.place call.op c call.key call.action best w.is good))
+          (small_put c call.action best (write_count R call.key) (from_counted R sound.recorded call.key best.tag (good_from R call.key best good)));
       pairs = λ r k. good_more R (more R x) (extends R x) k (P r k) (sound.pairs r k);
       messages = λ m f. message_more R (more R x) (tags_of P) (tags_of P) (extends R x) (tags_stay P) m (sound.messages m f);
       states = λ d y z. turned_more quorums R (more R x) (tags_of P) C c new (extends R x) (λ e ne p o k a i. invokes p o e k a i) others_quiet (λ e ne p q o k a r i j. responds p o r j) sound.states here d y (turned d y z);
