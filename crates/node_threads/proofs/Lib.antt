@@ -6,3 +6,4 @@ mod Leaving
 mod Keeping
 mod Answering
 mod Seating
+mod OwnSeats
