@@ -51,7 +51,7 @@ pub enum Failure<'a> {
     Output,
     #[error("no memory")]
     Memory,
-    #[error("no thread could be started")]
+    #[error("no thread")]
     Thread,
 }
 
