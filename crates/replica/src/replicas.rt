@@ -122,8 +122,10 @@ impl Replica {
 
     fn adopt(&mut self, key: &Key, tag: Tag, value: Option<&Value>) -> Result<(), Memory>
         ensures ok { OnOk result (self.new
-            ≡ record self.old { pairs = adopt self.old.pairs key.now
-            (record { tag = tag; value = option_copied value.entry }) }) }
+            ≡ record self.old {
+              pairs = adopt self.old.pairs key.now
+                  (record { tag = tag; value = option_copied value.entry });
+            }) }
         ensures spare { is_lt (tag_cmp (pair_of self.old.pairs key.now).tag tag) ≡ false
             → IsOk result }
         ensures err { OnErr result (self.new ≡ self.old) }
