@@ -1,18 +1,21 @@
 //! The program `abd`: it opens files, hands them to the commands, and ends with their status.
 #![tactic(auto)]
 
+mod progress;
+
+use crate::progress::Progress;
 use cli::{
     Command, Counting, Failure, Source, Status, Usage, check_command, command, justify_command,
     simulate_command,
 };
 use parallel_keys::Workers;
 use run_words::RunAsked;
-use std::io::ErrorKind;
+use std::io::{ErrorKind, IsTerminal};
 use std::process::ExitCode;
 use std::sync::Wait;
 use std::thread::Threads;
 use std::{env, fs};
-use store_run::run_command;
+use store_run::{NoWatch, Watch, run_command};
 
 /// Shows the help or the version that was asked for.
 fn show(rt: &HostRuntime, text: &str) -> Status {
@@ -85,14 +88,31 @@ fn simulate(rt: &HostRuntime, script: &str) -> Status {
     simulate_command(rt.alloc(), &mut script, &mut out, &mut errors)
 }
 
-/// Runs a store under a load.
+/// Runs a store under a load that is watched.
+fn run_watched<R, L>(rt: &HostRuntime, threads: &R, asked: RunAsked, watch: L) -> Status
+where
+    R: Threads + Wait + Copy + Send + Sync + 'static,
+    L: Watch + Send + Sync + Drop + 'static,
+{
+    let mut errors = rt.stderr();
+    let mut out = Counting::new(rt.stdout());
+    run_command(threads, rt.alloc(), asked, watch, &mut out, &mut errors)
+}
+
+/// Runs a store under a load. Where standard error is a terminal, it is said there how far the load is.
 fn run<R>(rt: &HostRuntime, threads: &R, asked: RunAsked) -> Status
 where
     R: Threads + Wait + Copy + Send + Sync + 'static,
 {
-    let mut errors = rt.stderr();
-    let mut out = Counting::new(rt.stdout());
-    run_command(threads, rt.alloc(), asked, &mut out, &mut errors)
+    if !rt.stderr().is_terminal() {
+        return run_watched(rt, threads, asked, NoWatch);
+    }
+    let load = asked.load.options();
+    let calls = u32::from(load.callers) * u32::from(load.calls);
+    match Progress::new(*rt, calls) {
+        Ok(progress) => run_watched(rt, threads, asked, progress),
+        Err(_) => run_watched(rt, threads, asked, NoWatch),
+    }
 }
 
 /// Does what was asked for.

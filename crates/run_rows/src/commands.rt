@@ -6,7 +6,7 @@ use run_words::RunAsked;
 use std::alloc::{AllocError, Global};
 use std::sync::Wait;
 use std::thread::Threads;
-use store_run::run_command;
+use store_run::{NoWatch, run_command};
 
 /// What comes of a command.
 #[derive(Drop)]
@@ -42,7 +42,7 @@ where
 {
     let mut out = Counting::new(Bounded::new(alloc, room));
     let mut errors = Bounded::new(alloc, AMPLE);
-    let status = run_command(rt, alloc, asked, &mut out, &mut errors);
+    let status = run_command(rt, alloc, asked, NoWatch, &mut out, &mut errors);
     Said {
         status,
         out: out.into_inner().taken,

@@ -11,5 +11,5 @@ mod loaded;
 
 pub use callers::Called;
 pub use error::LoadError;
-pub use gate::{CountingGate, passage};
+pub use gate::{CountingGate, NoWatch, Watch, passage};
 pub use loaded::{Loaded, Refused, run_load};

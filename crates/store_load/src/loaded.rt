@@ -5,7 +5,7 @@ ghost use Rattle.workload.specs.Loads.{IsInRange};
 
 use crate::callers::{Called, call_together, join_all};
 use crate::error::LoadError;
-use crate::gate::CountingGate;
+use crate::gate::{CountingGate, Watch};
 use node_threads::{CallError, CloseError, Closed, Seat, Store, StoreConfig};
 use std::alloc::Global;
 use std::sync::Wait;
@@ -46,9 +46,15 @@ fn world_of(load: &LoadOptions) -> Config
 }
 
 /// Starts the store of a load.
-fn start<R>(rt: &R, alloc: Global, load: &LoadOptions) -> Result<Store<CountingGate>, LoadError>
+fn start<R, L>(
+    rt: &R,
+    alloc: Global,
+    load: &LoadOptions,
+    watch: L,
+) -> Result<Store<CountingGate<L>>, LoadError>
 where
     R: Threads + Wait + Copy + Send + 'static,
+    L: Watch + Send + Sync + Drop + 'static,
     requires { IsInRange load.now }
     ensures { IfOk result (λ store. store ≡ store_of load.now) }
 {
@@ -58,7 +64,7 @@ where
         rounds: load.rounds,
         halls: load.halls,
     };
-    let gate = CountingGate::new(u64::from(load.drop), u64::from(load.double));
+    let gate = CountingGate::new(u64::from(load.drop), u64::from(load.double), watch);
     Ok(Store::start(rt, alloc, config, gate)?)
 }
 
@@ -97,15 +103,16 @@ fn parted(alloc: Global, callers: Vec<Called>) -> Result<(Vec<Seat>, Vec<Refused
 ///
 /// A caller ends early at its first call that is refused. `Memory` comes only where a growth was refused,
 /// `Thread` only where a thread couldn't be started; no store stands then, and the callers' threads have
-/// ended.
-pub fn run_load<R>(rt: &R, alloc: Global, load: Load) -> Result<Loaded, LoadError>
+/// ended. The watch is told of each call that is about to be answered, on its caller's thread.
+pub fn run_load<R, L>(rt: &R, alloc: Global, load: Load, watch: L) -> Result<Loaded, LoadError>
 where
     R: Threads + Wait + Copy + Send + Sync + 'static,
+    L: Watch + Send + Sync + Drop + 'static,
     ensures { IfOk result (λ loaded. IsLoaded load loaded) }
 {
     let options = load.options();
     let (count, keys, calls) = (options.callers, options.keys, options.calls);
-    let store = start(rt, alloc, &options)?;
+    let store = start(rt, alloc, &options, watch)?;
     let seats = join_all(rt, alloc, &store, count)?;
     let callers = call_together(rt, alloc, &store, seats, keys, calls)?;
     let (seats, refusals) = parted(alloc, callers)?;

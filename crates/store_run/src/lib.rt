@@ -11,3 +11,4 @@ mod telling;
 
 pub use judging::{RefusedKey, first_refused};
 pub use run::run_command;
+pub use store_load::{NoWatch, Watch};

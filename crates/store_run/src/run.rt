@@ -16,7 +16,7 @@ use std::alloc::Global;
 use std::io::Write;
 use std::sync::Wait;
 use std::thread::Threads;
-use store_load::{Loaded, run_load};
+use store_load::{Loaded, Watch, run_load};
 
 /// Judges the keys of the closed halls, and writes what is shown of their histories.
 #[tactic(auto, using(crate::proofs::Distinct::closed_distinct, crate::proofs::Ending::ends_judged))]
@@ -56,23 +56,26 @@ fn finish<R: Threads + Wait, W: CountedWrite, E: Write>(
 /// `Good` where every key is judged yes. The history is written also where a key is refused; nothing is
 /// where the load wasn't run to its end, the store wasn't closed, or memory ran out. On `errors` is said,
 /// in this order: which callers' calls were refused, why the store wasn't closed, the first key that is
-/// refused, a failure.
+/// refused, a failure. The watch is told of each call that is about to be answered, on its caller's
+/// thread, and of none once any of this is said.
 #[tactic(auto, using(crate::proofs::Ending::ends_closed, crate::proofs::Ending::ends_open))]
-pub fn run_command<R, W: CountedWrite, E: Write>(
+pub fn run_command<R, L, W: CountedWrite, E: Write>(
     rt: &R,
     alloc: Global,
     asked: RunAsked,
+    watch: L,
     out: &mut W,
     errors: &mut E,
 ) -> Status
 where
     R: Threads + Wait + Copy + Send + Sync + 'static,
+    L: Watch + Send + Sync + Drop + 'static,
     ensures ends { EndsRun asked
         (record { old = W.contents out.old; new = W.contents out.new }) result }
     ensures failed { result ≡ Status.Failed
         → (out.new ≡ out.old) ⊎ IsOneMore (W.failures out.old) (W.failures out.new) }
 {
-    let loaded = match run_load(rt, alloc, asked.load) {
+    let loaded = match run_load(rt, alloc, asked.load, watch) {
         Ok(loaded) => loaded,
         Err(error) => return tell_load(error, errors),
     };
