@@ -11,17 +11,17 @@ use Rattle.recorder.specs.Histories.{Recorded}
 use Rattle.recorder.specs.declared.part.Call.{Call}
 use Rattle.recorder.specs.declared.order.KeyOrder.{KeyOrder}
 use Rattle.recorder.specs.Orders.{IsOrder}
-use Rattle.recorder.proofs.Lists.{Contains-slice_get, get_at, place_of}
+use Rattle.recorder.specs.Lists.{Contains-slice_get, get_at, place_of}
 use Rattle.certificate_check.specs.Verdicts.{IsVerdict}
 use Rattle.certificate_check.specs.declared.verdict.Verdict.{Verdict}
 use Rattle.certificate_check.specs.declared.verdict.Verdict.TheVariants.{No}
 use Rattle.certificate_check.specs.declared.verdict.Fault.{Fault}
-use Rattle.certificate_check.proofs.Faults.{refuted}
+use Rattle.certificate_check.specs.Faults.{refuted}
 use Rattle.file_format.specs.OrderFormat.{AreJoined, key_in, order_in, order_on}
 use Rattle.parallel_keys.specs.Histories.{AreOn, KeyVerdicts}
 use Rattle.parallel_keys.specs.Pairings.{AreDistinct, Judged, KeyParts, given_order, is_other, judged_keys}
-use Rattle.parallel_keys.proofs.Fronts.{place_before}
-use Rattle.parallel_keys.proofs.Given.{given_at}
+use Rattle.parallel_keys.specs.Fronts.{place_before}
+use Rattle.parallel_keys.specs.Given.{given_at}
 use Rattle.cli.specs.Checks.{IsYes, IsNo, Judges}
 use Rattle.cli.specs.Judging.{SaysAll}
 use Rattle.cli.specs.declared.status.Status.{Status}

@@ -12,7 +12,7 @@ use Rattle.recorder.specs.declared.part.Call.{Call}
 use Rattle.recorder.specs.Histories.{Recorded}
 use Rattle.recorder.specs.Halls.{AreOfTheirHalls, FallsTo, hall_of}
 use Rattle.recorder.specs.Records.{AreParts, IsPart}
-use Rattle.recorder.proofs.Lists.{get_at}
+use Rattle.recorder.specs.Lists.{get_at}
 use Rattle.parallel_keys.specs.Histories.{AreHallParts}
 use Rattle.parallel_keys.specs.Pairings.{KeyParts, all_parts}
 use Rattle.cli.specs.Checks.{IsHallPart}

@@ -4,9 +4,9 @@ use Rattle.std.proofs.lemmas.List.{map-append, take-append-drop}
 use Rattle.std.proofs.lemmas.Option.{slice_get_within}
 use Rattle.std.proofs.Math.Seq.{drop-cons}
 use Rattle.recorder.specs.declared.order.KeyOrder.{KeyOrder}
-use Rattle.recorder.proofs.Lists.{push_cases}
+use Rattle.recorder.specs.Lists.{push_cases}
 use Rattle.parallel_keys.specs.Pairings.{KeyParts, all_parts}
-use Rattle.parallel_keys.proofs.Fronts.{front_more}
+use Rattle.parallel_keys.specs.Fronts.{front_more}
 use Rattle.cli.specs.declared.justifying.Unjustified.{Unjustified}
 use Rattle.cli.specs.Justified.{KeyPart, AreJustified, IsFirstUnjustified, IsJustifiedOrder, IsUnjustified}
 

@@ -12,7 +12,7 @@ use Rattle.certificate_check.specs.declared.verdict.Verdict.TheVariants.{Yes, No
 use Rattle.file_format.specs.OrderFormat.{AreJoined}
 use Rattle.parallel_keys.specs.Pairings.{Judged}
 use Rattle.parallel_keys.specs.Histories.{AreOn, JudgesHistories, KeyVerdicts}
-use Rattle.parallel_keys.proofs.Fronts.{front_more}
+use Rattle.parallel_keys.specs.Fronts.{front_more}
 use Rattle.cli.specs.Judging.{SaysAll}
 use Rattle.cli.specs.VerdictLines.{AreLines, AreLinesOf, line_text, lines_text}
 use Rattle.cli.specs.declared.status.Status.TheVariants.{Refused}

@@ -5,3 +5,7 @@ pub mod Devices
 pub mod Deliveries
 pub mod ReadFaults
 pub mod Sendings
+pub mod Leaving
+pub mod Cutting
+pub mod Consuming
+pub mod CutOnce

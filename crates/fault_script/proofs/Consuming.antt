@@ -4,8 +4,8 @@ use Rattle.std.specs.Prelude.{IfOk, IfErr}
 use Rattle.std.specs.Io.KnownBytes.{Consumes, IsAtEnd}
 use Rattle.counted_devices.specs.Deliveries.{Delivers}
 use Rattle.counted_devices.specs.ReadFaults.{HasFailed}
-use Rattle.counted_devices.proofs.Consuming.{Consumes-join}
-use Rattle.counted_devices.proofs.ReadFaults.{of_line, no_device}
+use Rattle.counted_devices.specs.Consuming.{Consumes-join}
+use Rattle.counted_devices.specs.ReadFaults.{of_line, no_device}
 use Rattle.fault_script.specs.declared.command.Script.{Script}
 use Rattle.fault_script.specs.declared.feed.Feed.{Feed}
 use Rattle.fault_script.specs.Faults.{ScriptError, ErrorKind}

@@ -2,7 +2,7 @@
 use Rattle.std.proofs.Common.{ℕ, ◌≡◌, ◌+◌, List, [], ◌∷◌, ◌++◌, length, Option, Some, None, Result, Ok, refl, sym, ap, ◌∙◌, subst, arith, length-append}
 use Rattle.std.specs.Prelude.{option_map}
 use Rattle.counted_devices.specs.Cuts.{last_lines}
-use Rattle.counted_devices.proofs.CutOnce.{splits_once}
+use Rattle.counted_devices.specs.CutOnce.{splits_once}
 use Rattle.fault_script.specs.declared.command.Script.{Script}
 use Rattle.fault_script.specs.declared.parse_line.Opened.{Opened}
 use Rattle.fault_script.specs.declared.parse_line.Said.{Said}

@@ -5,7 +5,7 @@ use Rattle.recorder.specs.declared.row.Row.{Row}
 use Rattle.world_settle.specs.Refusing.{IsUnsettled, MaySettle, pending_at}
 use Rattle.world_settle.specs.declared.errors.SettleError.{SettleError}
 use Rattle.world_settle.specs.declared.errors.SettleError.TheVariants as settle
-use Rattle.world_settle.proofs.Counts.{needs_once}
+use Rattle.world_settle.specs.Counts.{needs_once}
 use Rattle.world_settle.proofs.Plans.{steps_once}
 use Rattle.world_steps.specs.Runs.{after_from}
 use Rattle.world_steps.specs.Systems.{opening}

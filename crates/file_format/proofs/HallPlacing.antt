@@ -11,7 +11,7 @@ use Rattle.recorder.specs.declared.row.Row.TheVariants.{Invoke, Note, Respond}
 use Rattle.recorder.specs.Answers.{with_row}
 use Rattle.recorder.specs.Halls.{RecordedHalls, FallsTo, hall_calls}
 use Rattle.recorder.specs.Histories.{Recorded, IsWellFormed, is_invoke, call_count}
-use Rattle.recorder.proofs.Lists.{slice_get-set, push_cases}
+use Rattle.recorder.specs.Lists.{slice_get-set, push_cases}
 use Rattle.file_format.specs.declared.fault.LineFault.{LineFault}
 use Rattle.file_format.specs.declared.fault.LineFault.TheVariants.{Range, KeyInAnotherHall}
 use Rattle.file_format.specs.declared.file_header.FileHeader.{FileHeader}

@@ -11,7 +11,7 @@ use Rattle.recorder.specs.declared.row.Row.{Row}
 use Rattle.recorder.specs.Answers.{with_row}
 use Rattle.recorder.specs.Halls.{RecordedHalls, AreHalls, IsHallOf, FallsTo, hall_calls}
 use Rattle.recorder.specs.Histories.{Recorded, IsWellFormed, call_count}
-use Rattle.recorder.proofs.Lists.{push_cases, slice_get-set}
+use Rattle.recorder.specs.Lists.{push_cases, slice_get-set}
 use Rattle.counted_devices.specs.declared.read_fault.Stop.TheVariants as stop
 use Rattle.file_format.specs.declared.file_header.FileHeader.{FileHeader}
 use Rattle.file_format.specs.declared.file_header.FileHeader.TheVariants.{Version1, Version2}

@@ -6,7 +6,7 @@ use Rattle.std.proofs.lemmas.List.{drop_more}
 use Rattle.recorder.specs.declared.row.Row.{Row}
 use Rattle.recorder.specs.Histories.{Recorded}
 use Rattle.counted_devices.specs.Sendings.{Leaves, Begins}
-use Rattle.counted_devices.proofs.Leaving.{Leaves-more, Begins-more}
+use Rattle.counted_devices.specs.Leaving.{Leaves-more, Begins-more}
 use Rattle.file_format.specs.declared.file_header.FileHeader.{FileHeader}
 use Rattle.file_format.specs.declared.hall_row.HallRow.{HallRow}
 use Rattle.file_format.specs.FileHeaders.{place_in}

@@ -1,4 +1,3 @@
-pub mod Zips
 pub mod Spelling
 pub mod Compact
 pub mod WrittenLines
@@ -11,9 +10,7 @@ pub mod Converting
 pub mod Looking
 pub mod OrderPieces
 pub mod Showing
-pub mod Parting
 mod OrderEntries
-pub mod Joining
 pub mod Saying
 pub mod SayingPieces
 pub mod QuorumRules

@@ -3,7 +3,7 @@ use Rattle.std.proofs.Common.{ℕ, ◌≡◌, ◌≤◌, ◌<◌, ◌⊎◌, inl
 use Rattle.std.specs.List.{AllZip}
 use Rattle.serde_json.specs.Data.{Data}
 use Rattle.counted_devices.specs.Cuts.{last_lines}
-use Rattle.counted_devices.proofs.CutOnce.{splits_once}
+use Rattle.counted_devices.specs.CutOnce.{splits_once}
 use Rattle.file_format.specs.declared.fault.LineFault.{LineFault}
 use Rattle.file_format.specs.declared.fault.LineFault.TheVariants.{NotJson, TooLong}
 use Rattle.file_format.specs.Documents.{IsJson}

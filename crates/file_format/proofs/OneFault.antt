@@ -7,7 +7,7 @@ use Rattle.file_format.specs.Formats.{Format}
 use Rattle.file_format.specs.Files.{IsLineOf, AreSpelled, AreLinesOf, HasFault, IsFirstFault}
 use Rattle.counted_devices.specs.Cuts.{last_lines}
 use Rattle.file_format.specs.Readings.{Reads, FirstFaultInAll}
-use Rattle.counted_devices.proofs.CutOnce.{splits_once}
+use Rattle.counted_devices.specs.CutOnce.{splits_once}
 use Rattle.file_format.proofs.Once.{shows_once, header_once, spelled_once}
 use Rattle.file_format.proofs.Saying.{inside}
 

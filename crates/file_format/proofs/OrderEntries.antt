@@ -7,8 +7,8 @@ use Rattle.key_numbers.specs.Numbers.{Numbers}
 use Rattle.key_numbers.specs.Numbers.Numbers.{known, first}
 use Rattle.tag.specs.declared.numbers.OpId.{OpId}
 use Rattle.recorder.specs.declared.order.KeyOrder.{KeyOrder}
-use Rattle.recorder.proofs.Lists.{Contains-slice_get}
-use Rattle.recorder.proofs.Entries.{entry_at, keys_push, keys_set, no_entry, own_entry}
+use Rattle.recorder.specs.Lists.{Contains-slice_get}
+use Rattle.recorder.specs.Entries.{entry_at, keys_push, keys_set, no_entry, own_entry}
 use Rattle.file_format.specs.Joins.{Begins, Extends}
 
 abbrev Entry : Type 0

@@ -5,7 +5,7 @@ use Rattle.tag.specs.declared.numbers.OpId.{OpId}
 use Rattle.recorder.specs.declared.order.KeyOrder.{KeyOrder}
 use Rattle.counted_devices.specs.Sendings.{Leaves, Begins}
 use Rattle.file_format.specs.Texts.{cut_behind, pieces_of, piece_text, order_text}
-use Rattle.counted_devices.proofs.Leaving.{Leaves-more, Begins-more}
+use Rattle.counted_devices.specs.Leaving.{Leaves-more, Begins-more}
 
 abbrev pub piece_at : List ℕ → List OpId → KeyOrder
 piece_at key calls = record { key = key; order = calls }

@@ -8,7 +8,7 @@ use Rattle.std.proofs.lemmas.Option.{slice_get_within, get_or_from_slice_get}
 use Rattle.recorder.specs.declared.row.Row.{Row}
 use Rattle.recorder.specs.Halls.{RecordedHalls, AreHalls, IsHallOf, FallsTo, hall_calls}
 use Rattle.recorder.specs.Histories.{Recorded, IsWellFormed, call_count}
-use Rattle.recorder.proofs.Lists.{get_at}
+use Rattle.recorder.specs.Lists.{get_at}
 use Rattle.file_format.specs.declared.file_header.FileHeader.{FileHeader}
 use Rattle.file_format.specs.declared.hall_row.HallRow.{HallRow}
 use Rattle.file_format.specs.FileHeaders.{halls_in, quorums_in, header_with}

@@ -4,7 +4,7 @@ use Rattle.std.specs.FinSet as finite
 use Rattle.std.specs.Ordering.{nat_cmp}
 use Rattle.quorum.specs.Quorums.{votes_below, votes_of}
 use Rattle.quorum.specs.Sets.{Replicas}
-use Rattle.quorum.proofs.Votes.{votes_of-insert}
+use Rattle.quorum.specs.Votes.{votes_of-insert}
 
 abbrev none : Replicas
 none = finite.empty

@@ -13,7 +13,7 @@ use Rattle.serde_json.specs.Written.{outline, items_outline, items_text, comma_i
 use Rattle.serde_json.proofs.Numbers.{number_of-decimal}
 use Rattle.tag.specs.declared.numbers.OpId.{OpId}
 use Rattle.recorder.specs.declared.order.KeyOrder.{KeyOrder}
-use Rattle.recorder.proofs.Lists.{slice_get-push_last}
+use Rattle.recorder.specs.Lists.{slice_get-push_last}
 use Rattle.file_format.specs.Readings.{Reads}
 use Rattle.file_format.specs.Members.{numbers_in}
 use Rattle.file_format.specs.OrderFormat.{key_in, order_format, call_total, AreFew, AreJoined, MakesJoined}
@@ -23,7 +23,7 @@ use Rattle.file_format.specs.Ranges.{AreOps, IsOrderInRange, AreOrdersInRange, H
 use Rattle.file_format.specs.Says.{SaysPiece}
 use Rattle.file_format.specs.Texts.{calls_data, piece_data, cut_behind, pieces_of, line_text, piece_text, order_text, orders_text, header_data}
 use Rattle.file_format.proofs.Compact.{IsSimple, AreSimple, read-compact_text, length-quoted, length-digits}
-use Rattle.file_format.proofs.Joining.{joined_begun, joined_extended, mapped_at}
+use Rattle.file_format.specs.Joining.{joined_begun, joined_extended, mapped_at}
 use Rattle.file_format.proofs.Once.{reads_once}
 use Rattle.file_format.proofs.OneOrder.{joined_once}
 use Rattle.file_format.proofs.OrderPieces.{piece_at}

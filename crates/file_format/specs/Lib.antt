@@ -25,3 +25,6 @@ pub mod Texts
 pub mod PlainTexts
 pub mod Ranges
 pub mod ReadAgain
+pub mod Zips
+pub mod Parting
+pub mod Joining

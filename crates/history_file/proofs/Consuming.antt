@@ -13,8 +13,8 @@ use Rattle.history_file.proofs.Advancing.{stays_now}
 use Rattle.counted_devices.specs.Deliveries.{Delivers}
 use Rattle.counted_devices.specs.ReadFaults.{HasFailed}
 use Rattle.history_file.specs.Deliveries.{Holds, StopsAt, StopsWith, IsUnderWay}
-use Rattle.counted_devices.proofs.Consuming.{Consumes-none, Consumes-join}
-use Rattle.counted_devices.proofs.ReadFaults.{of_line, no_device}
+use Rattle.counted_devices.specs.Consuming.{Consumes-none, Consumes-join}
+use Rattle.counted_devices.specs.ReadFaults.{of_line, no_device}
 
 module _ {Header Item Contents : Type 0} (format : Format Header Item) (Makes : Header → List Item → Contents → Type 0) where
   pub Holds-start : (a : Option (List ℕ)) (feed : Feed Contents) → Stands format Makes [] feed → Holds format Makes a a feed

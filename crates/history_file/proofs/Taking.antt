@@ -10,7 +10,7 @@ use Rattle.file_format.specs.Lines.{Shows, ShowsItem}
 use Rattle.file_format.specs.Formats.{Format}
 use Rattle.file_format.specs.Files.{IsHeader, IsLineOf, AreSpelled, AreLinesOf, HasFault, IsFirstFault}
 use Rattle.history_file.specs.Takings.{IsFirstOfKind, IsAt, AreTaken, Takes, TakesJudged, TakesLine}
-use Rattle.file_format.proofs.Zips.{AllZip-push_both, parted}
+use Rattle.file_format.specs.Zips.{AllZip-push_both, parted}
 
 module _ {Header Item Contents : Type 0} (format : Format Header Item) (Makes : Header → List Item → Contents → Type 0) where
   AreSpelled-push : (before : List (List ℕ)) (header : Header) (items : List Item) (line : List ℕ) (item : Item) → 0 < length before → AreSpelled format before header items → IsLineOf format header line item → AreSpelled format (before ++ line ∷ []) header (items ++ item ∷ [])

@@ -5,11 +5,11 @@ use Rattle.std.specs.Option.{option_map}
 use Rattle.std.proofs.lemmas.List.{length-map}
 use Rattle.std.proofs.lemmas.Option.{slice_get-map, slice_get_within, slice_get_read}
 use Rattle.recorder.specs.declared.order.KeyOrder.{KeyOrder}
-use Rattle.recorder.proofs.Lists.{Contains-slice_get, push_cases, slice_get-take}
+use Rattle.recorder.specs.Lists.{Contains-slice_get, push_cases, slice_get-take}
 use Rattle.key_numbers.specs.Numbers.{Numbers, known, first}
 use Rattle.parallel_keys.specs.Pairings.{AreDistinct}
-use Rattle.parallel_keys.proofs.Fronts.{front_more, mapped_more, place_before}
-use Rattle.parallel_keys.proofs.Given.{key_in}
+use Rattle.parallel_keys.specs.Fronts.{front_more, mapped_more, place_before}
+use Rattle.parallel_keys.specs.Given.{key_in}
 
 -- the orders so far are of different keys, which are numbered
 pub record ApartSoFar (orders : List KeyOrder) (place : ℕ) (keys : List (List ℕ)) : Type 0 where

@@ -9,12 +9,12 @@ use Rattle.std.proofs.lemmas.List.Elements.{filter-append, Contains-append_left,
 use Rattle.tag.specs.declared.numbers.OpId.{OpId}
 use Rattle.recorder.specs.declared.part.Call.{Call}
 use Rattle.recorder.specs.declared.order.KeyOrder.{KeyOrder}
-use Rattle.recorder.proofs.Lists.{Contains-slice_get}
+use Rattle.recorder.specs.Lists.{Contains-slice_get}
 use Rattle.key_numbers.specs.Numbers.{Numbers, IsPlace, known, first}
 use Rattle.parallel_keys.specs.declared.pairing.Pair.{Pair}
 use Rattle.parallel_keys.specs.Pairings.{Judged, KeyParts, all_parts, is_other, keys_in, other_key, recorded_key}
 use Rattle.parallel_keys.specs.Pairs.{HasKeys, key_of, what_of}
-use Rattle.parallel_keys.proofs.Fronts.{front_more, mapped_more}
+use Rattle.parallel_keys.specs.Fronts.{front_more, mapped_more}
 
 -- a key more
 pub has_more : (old new others : List (List ℕ)) (key : List ℕ) (number : ℕ) → HasKeys old others → Numbers old key number new → HasKeys new (others ++ key ∷ [])

@@ -5,3 +5,5 @@ pub mod Shares
 pub mod Pairings
 pub mod Pairs
 pub mod Histories
+pub mod Fronts
+pub mod Given

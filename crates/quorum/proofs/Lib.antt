@@ -1,4 +1,2 @@
 pub mod BitLemmas
 pub mod Majorities
-pub mod Meet
-pub mod Votes

@@ -2,3 +2,5 @@ pub mod Bits
 pub mod Padding
 pub mod Quorums
 pub mod Sets
+pub mod Votes
+pub mod Meet

@@ -9,7 +9,7 @@ use Rattle.recorder.specs.declared.row.Row.TheVariants.{Invoke, Note, Respond}
 use Rattle.recorder.specs.declared.history.CallState.{CallState}
 use Rattle.recorder.specs.Histories.{IsWellFormed, call_count, caller_of}
 use Rattle.recorder.specs.States.{AreStates}
-use Rattle.recorder.proofs.Lists.{place_of, Contains-slice_get}
+use Rattle.recorder.specs.Lists.{place_of, Contains-slice_get}
 use Rattle.recorder.proofs.Numbers.{number_below, same_client}
 use Rattle.recorder.proofs.States.{same_op}
 

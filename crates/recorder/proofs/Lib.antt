@@ -1,11 +1,9 @@
-pub mod Lists
 mod Numbers
 mod OneMore
 mod States
 mod Busy
 mod Answering
 mod Keeps
-pub mod Entries
 mod Recorded
 mod PartBelow
 mod PartsBelow

@@ -10,7 +10,7 @@ use Rattle.recorder.specs.declared.row.Row.{Row}
 use Rattle.recorder.specs.declared.row.Row.TheVariants.{Invoke}
 use Rattle.recorder.specs.declared.part.Call.{Call}
 use Rattle.recorder.specs.Records.{IsRecorded, IsPart, BeginsAt}
-use Rattle.recorder.proofs.Lists.{push_cases, Contains-slice_get}
+use Rattle.recorder.specs.Lists.{push_cases, Contains-slice_get}
 
 -- the calls on the key that are begun before place n
 pub record IsPartBelow (rows : List Row) (n : ℕ) (key : List ℕ) (part : List Call) : Type 0 where

@@ -11,8 +11,8 @@ use Rattle.key_numbers.specs.Numbers.{Numbers}
 use Rattle.key_numbers.specs.Numbers.Numbers.{known, first}
 use Rattle.recorder.specs.Records.{IsRecorded, BeginsAt, IsFirstSeen, AreParts}
 use Rattle.recorder.specs.Adding.{AddsCall, Extends, Begins}
-use Rattle.recorder.proofs.Lists.{place_of, push_cases, slice_get-set, Contains-slice_get}
-use Rattle.recorder.proofs.Entries.{entry_at, key_of_entry, keys_set, keys_push}
+use Rattle.recorder.specs.Lists.{place_of, push_cases, slice_get-set, Contains-slice_get}
+use Rattle.recorder.specs.Entries.{entry_at, key_of_entry, keys_set, keys_push}
 use Rattle.recorder.specs.Histories.{IsWellFormed}
 use Rattle.recorder.specs.Parts.{IsSequence}
 use Rattle.recorder.proofs.Recorded.{IsSequence-recorded}

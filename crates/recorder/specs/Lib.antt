@@ -10,3 +10,5 @@ pub mod Sound
 pub mod Adding
 pub mod Halls
 pub mod Clients
+pub mod Lists
+pub mod Entries

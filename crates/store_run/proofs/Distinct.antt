@@ -5,7 +5,7 @@ use Rattle.recorder.specs.Records.{IsFirstSeen}
 use Rattle.recorder.specs.declared.order.KeyOrder.{KeyOrder}
 use Rattle.recorder.specs.declared.part.Call.{Call}
 use Rattle.recorder.specs.declared.row.Row.{Row}
-use Rattle.recorder.proofs.Lists.{Contains-slice_get}
+use Rattle.recorder.specs.Lists.{Contains-slice_get}
 use Rattle.witness_order.specs.Justified.{AreOrdersOf, Justify}
 use Rattle.node_threads.specs.declared.closing.ClosedHall.{ClosedHall}
 use Rattle.node_threads.specs.Closings.{AreClosed}

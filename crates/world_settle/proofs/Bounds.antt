@@ -38,7 +38,7 @@ use Rattle.world_settle.specs.Settled.{IsWithinForMajorities, IsWithinIfAgreed, 
 use Rattle.world_settle.specs.declared.errors.SettleError.{SettleError}
 use Rattle.world_settle.proofs.Brings.{majorities_most}
 use Rattle.world_settle.proofs.CandidateLemmas.{Candidate, candidate_first, candidates_rest}
-use Rattle.world_settle.proofs.Counts.{fewer_needed, least_once, some_candidate}
+use Rattle.world_settle.specs.Counts.{fewer_needed, least_once, some_candidate}
 use Rattle.world_settle.proofs.Forward.{Ahead, ahead, settled_within}
 use Rattle.world_settle.proofs.Plans.{asking_row, made_by, ready_or_asking, up_after}
 use Rattle.world_settle.proofs.Replies.{held_counts, not_ask}

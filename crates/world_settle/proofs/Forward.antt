@@ -19,7 +19,7 @@ use Rattle.world_settle.specs.Refusing.{MaySettle, Needs, NeedsAt}
 use Rattle.world_settle.specs.Settled.{Completes, IsWithin, KeepsEarlier, SettlesBy, Takes, TakesAll, TakesSome}
 use Rattle.world_settle.specs.declared.errors.SettleError.{SettleError}
 use Rattle.world_settle.specs.declared.errors.SettleError.TheVariants as error
-use Rattle.world_settle.proofs.Counts.{few_candidates, least_within}
+use Rattle.world_settle.specs.Counts.{few_candidates, least_within}
 use Rattle.world_settle.proofs.Earlier.{keeps_earlier}
 use Rattle.world_settle.proofs.Plans.{Plan, plan_of, ready_or_asking, steps_once, within_of}
 use Rattle.world_settle.proofs.Rounds.{next_moved, sent_by}

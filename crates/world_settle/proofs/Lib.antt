@@ -1,6 +1,5 @@
 pub mod Lookups
 pub mod CandidateLemmas
-pub mod Counts
 pub mod Counting
 pub mod Standing
 pub mod Brings

@@ -46,7 +46,7 @@ use Rattle.world_settle.specs.Settling.Settles.{answers, asks}
 use Rattle.world_settle.specs.Refusing.{MaySettle, Needs, NeedsAt, pending_at}
 use Rattle.world_settle.specs.Settled.{Completes, IsWithin}
 use Rattle.world_settle.proofs.CandidateLemmas.{Candidate, candidate_first}
-use Rattle.world_settle.proofs.Counts.{needs_once, some_candidate}
+use Rattle.world_settle.specs.Counts.{needs_once, some_candidate}
 use Rattle.world_settle.proofs.Replies.{Fewer, fewer_asked, fewer_kept, heard_pending, not_ask, not_put}
 use Rattle.world_settle.proofs.Rounds.{MayRound, get_same, handled_nodes, next_moved, pass, round_is, round_taken, asking_or_putting, third_system}
 

@@ -3,3 +3,4 @@ pub mod Settling
 pub mod Refusing
 pub mod Settled
 pub mod Numbers
+pub mod Counts

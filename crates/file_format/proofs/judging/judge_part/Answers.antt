@@ -1,8 +1,8 @@
 use Rattle.std.proofs.Common.{List, [], ◌∷◌, take, sym, subst}
 use Rattle.file_format.specs.declared.judging.Judgement.{Judgement}
 use Rattle.file_format.specs.Lines.{ShowParts}
-use Rattle.counted_devices.proofs.Cutting.{behind, cut_at}
-use Rattle.file_format.proofs.Parting.{Shown, Shown-line, Shown-last}
+use Rattle.counted_devices.specs.Cutting.{behind, cut_at}
+use Rattle.file_format.specs.Parting.{Shown, Shown-line, Shown-last}
 use Rattle.file_format.proofs.judging.judge_part.Goals as goal
 
 pub loop-end-preserved : goal.loop-end-preserved

@@ -1,5 +1,5 @@
 use Rattle.std.proofs.Common.{length}
-use Rattle.file_format.proofs.Parting.{Shown}
+use Rattle.file_format.specs.Parting.{Shown}
 use Rattle.file_format.proofs.judging.judge_part.Given as goal
 
 abbrev pub invariant-loop-end : goal.invariant-loop-end

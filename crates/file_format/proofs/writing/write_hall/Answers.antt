@@ -4,7 +4,7 @@ use Rattle.recorder.specs.declared.row.Row.{Row}
 use Rattle.counted_devices.specs.Sendings.{Leaves}
 use Rattle.file_format.specs.Ranges.{IsInRange, AreInRange}
 use Rattle.file_format.specs.Texts.{placed_text}
-use Rattle.counted_devices.proofs.Leaving.{Leaves-next, Begins-next, none_ahead, on_err}
+use Rattle.counted_devices.specs.Leaving.{Leaves-next, Begins-next, none_ahead, on_err}
 use Rattle.file_format.proofs.Ranging.{before_more, before_all}
 use Rattle.file_format.proofs.writing.write_hall.Goals as goal
 

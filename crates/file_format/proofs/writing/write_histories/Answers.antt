@@ -5,7 +5,7 @@ use Rattle.recorder.specs.Histories.{Recorded}
 use Rattle.counted_devices.specs.Sendings.{Leaves, Begins}
 use Rattle.file_format.specs.Ranges.{IsWritten, HaveFormed, HasRowsInRange}
 use Rattle.file_format.specs.Texts.{placed_text, histories_text}
-use Rattle.counted_devices.proofs.Leaving.{Begins-nothing, on_err}
+use Rattle.counted_devices.specs.Leaving.{Begins-nothing, on_err}
 use Rattle.file_format.proofs.HallTexts.{Leaves-hall, Begins-hall, Begins-none-left}
 use Rattle.file_format.proofs.Ranging.{on_ok, before_more, before_all}
 use Rattle.file_format.proofs.WrittenHalls.{histories_text_of}

@@ -1,4 +1,4 @@
-use Rattle.counted_devices.proofs.Leaving.{Begins-nothing, on_err}
+use Rattle.counted_devices.specs.Leaving.{Begins-nothing, on_err}
 use Rattle.file_format.proofs.writing.write_row.Goals as goal
 
 pub returns-in_err-append_row-clause-begun : goal.returns-in_err-append_row-clause-begun

@@ -4,7 +4,7 @@ use Rattle.history_file.specs.declared.judged.Judged.{Judged}
 use Rattle.counted_devices.specs.Cuts.{HasNoEnd, Divides}
 use Rattle.history_file.specs.Ahead.{IsJudged}
 use Rattle.file_format.specs.Lines.{ShowParts}
-use Rattle.counted_devices.proofs.Cutting.{behind, cut_at}
+use Rattle.counted_devices.specs.Cutting.{behind, cut_at}
 use Rattle.history_file.proofs.Advancing.{judged_none, judged_parts, judged_room}
 use Rattle.history_file.proofs.judged.judge_piece.Goals as goal
 

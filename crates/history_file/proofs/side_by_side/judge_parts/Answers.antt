@@ -7,7 +7,7 @@ use Rattle.file_format.specs.declared.judging.Judgement.{Judgement}
 use Rattle.file_format.specs.Lines.{ShowParts}
 use Rattle.rayon.proofs.ListFacts.{AllZip-weaken}
 use Rattle.rayon.proofs.ToStd.{slice-AllZip}
-use Rattle.file_format.proofs.Parting.{show_all}
+use Rattle.file_format.specs.Parting.{show_all}
 use Rattle.history_file.proofs.SideBySide.{collected}
 use Rattle.history_file.proofs.side_by_side.judge_parts.Goals as goal
 

@@ -1,6 +1,6 @@
 use Rattle.std.proofs.Common.{List, ℕ, sym, subst}
 use Rattle.parallel_keys.specs.Pairs.{HasKeys, key_of}
-use Rattle.parallel_keys.proofs.Fronts.{mapped_more}
+use Rattle.parallel_keys.specs.Fronts.{mapped_more}
 use Rattle.parallel_keys.proofs.Recorded.{has_more}
 use Rattle.parallel_keys.proofs.pairing.keys_of.Goals as goal
 

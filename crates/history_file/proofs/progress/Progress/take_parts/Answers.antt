@@ -4,8 +4,8 @@ use Rattle.std.proofs.lemmas.Slice.Zip.{AllZip-long}
 use Rattle.std.proofs.lemmas.Result.{on_ok_weaker}
 use Rattle.counted_devices.specs.Cuts.{ended}
 use Rattle.file_format.specs.Lines.{ShowsItem, ShowParts}
-use Rattle.counted_devices.proofs.Cutting.{Splits-room}
-use Rattle.counted_devices.proofs.CutOnce.{splits_once}
+use Rattle.counted_devices.specs.Cutting.{Splits-room}
+use Rattle.counted_devices.specs.CutOnce.{splits_once}
 use Rattle.history_file.proofs.progress.Progress.take_parts.Goals as goal
 
 pub record-requires-after_bounds : goal.record-requires-after_bounds

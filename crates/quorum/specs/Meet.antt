@@ -6,7 +6,7 @@ use Rattle.std.proofs.lemmas.List.Folds.{sum_by-replicate}
 use Rattle.std.specs.FinSet as finite
 use Rattle.quorum.specs.Sets.{Replicas, IsAmong, IsMajority}
 use Rattle.quorum.specs.Quorums.{Quorums, IsLawful, IsAskQuorum, IsPutQuorum, Share, majority_of, votes_below, votes_of}
-use Rattle.quorum.proofs.Votes.{votes_of-ones}
+use Rattle.quorum.specs.Votes.{votes_of-ones}
 
 -- the two share a replica below a number
 record ShareBelow (n : ℕ) (some other : Replicas) : Type 0 where

@@ -8,8 +8,8 @@ use Rattle.file_format.specs.declared.fault.LineFault.{LineFault}
 use Rattle.file_format.specs.declared.judging.Judgement.{Judgement}
 use Rattle.counted_devices.specs.Cuts.{ended, HasNoEnd}
 use Rattle.file_format.specs.Lines.{ShowsItem, ShowParts}
-use Rattle.file_format.proofs.Zips.{AllZip-push_both, AllZip-append}
-use Rattle.counted_devices.proofs.Cutting.{ended_part, no_parts, more_lines}
+use Rattle.file_format.specs.Zips.{AllZip-push_both, AllZip-append}
+use Rattle.counted_devices.specs.Cutting.{ended_part, no_parts, more_lines}
 
 module _ {Item : Type 0} (meaning : Data → Result Item LineFault) where
   -- of a part's lines the first show that, and that rest is left

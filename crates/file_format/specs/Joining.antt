@@ -11,7 +11,7 @@ use Rattle.tag.specs.declared.numbers.OpId.{OpId}
 use Rattle.recorder.specs.declared.order.KeyOrder.{KeyOrder}
 use Rattle.file_format.specs.OrderFormat.{key_in, order_in, order_on, IsFirstAt, AreFirsts, AreJoined}
 use Rattle.file_format.specs.Joins.{order_of, Joins}
-use Rattle.recorder.proofs.Lists.{slice_get-push_left, slice_get-push_last, push_cases, slice_get-set}
+use Rattle.recorder.specs.Lists.{slice_get-push_left, slice_get-push_last, push_cases, slice_get-set}
 
 wide : (names : List (List ℕ)) (more name : List ℕ) (place : ℕ) → IsFirstAt names name place → IsFirstAt (names ++ more ∷ []) name place
 wide names more name place h = record {

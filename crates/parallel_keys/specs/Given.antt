@@ -6,10 +6,10 @@ use Rattle.std.specs.Cmp.Lexicographic.{bytes_decides}
 use Rattle.std.proofs.lemmas.Option.{slice_get_within, slice_get_read}
 use Rattle.std.proofs.lemmas.List.Elements.{Contains-append_left, Contains-append_right, Contains-push}
 use Rattle.recorder.specs.declared.order.KeyOrder.{KeyOrder}
-use Rattle.recorder.proofs.Lists.{slice_get-take}
+use Rattle.recorder.specs.Lists.{slice_get-take}
 use Rattle.key_numbers.specs.Numbers.{Numbers, known, first}
 use Rattle.parallel_keys.specs.Pairings.{AreDistinct, given_order}
-use Rattle.parallel_keys.proofs.Fronts.{mapped_more, place_before}
+use Rattle.parallel_keys.specs.Fronts.{mapped_more, place_before}
 
 abbrev pub key_in : KeyOrder → List ℕ
 key_in one = one.key
