@@ -9,10 +9,12 @@ ghost use Rattle.certificate_check.specs.Verdicts.{IsVerdict};
 
 /// Where the verdict is yes, the part is linearizable.
 pub fn yes_is_linearizable()
-    ensures { (part : List Call) (order : List OpId) → IsVerdict part order verdict.Yes → IsLinearizable part }
+    ensures { (part : List Call) (order : List OpId) → IsVerdict part order verdict.Yes
+        → IsLinearizable part }
 {}
 
 /// Where it is no, the list isn't an order of the part.
 pub fn no_is_no_order()
-    ensures { (part : List Call) (order : List OpId) (fault : Fault) → IsVerdict part order (verdict.No fault) → IsOrder part order → ⊥ }
+    ensures { (part : List Call) (order : List OpId) (fault : Fault)
+        → IsVerdict part order (verdict.No fault) → IsOrder part order → ⊥ }
 {}

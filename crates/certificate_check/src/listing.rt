@@ -42,7 +42,10 @@ impl<'a> Listing<'a> {
         order: &'a [OpId],
     ) -> Result<Result<Listing<'a>, usize>, Memory>
         requires { IsSequence calls.now }
-        ensures { IfOk result (λ answer. MatchResult answer (λ listing. (listing.calls.now ≡ calls.now) × (listing.order.now ≡ order.now)) (λ i. IsLeast (IsUnknown calls.now order.now) i)) }
+        ensures { IfOk result
+            (λ answer. MatchResult answer
+            (λ listing. (listing.calls.now ≡ calls.now) × (listing.order.now ≡ order.now))
+            (λ i. IsLeast (IsUnknown calls.now order.now) i)) }
     {
         let mut indexes = Vec::with_capacity(alloc, order.len())?;
         for (i, op) in order.iter().enumerate() {
@@ -92,7 +95,11 @@ impl<'a> Listing<'a> {
 
     /// A mark for each call that is listed, or the first place whose call stands earlier too.
     fn marks(&self, alloc: Global) -> Result<Result<Vec<bool>, usize>, Memory>
-        ensures { IfOk result (λ answer. MatchResult answer (λ marks. HasNone (IsRepeated self.now.order.now) × Marks self.now.calls.now self.now.order.now marks.items) (λ i. IsLeast (IsRepeated self.now.order.now) i)) }
+        ensures { IfOk result
+            (λ answer. MatchResult answer
+            (λ marks. HasNone (IsRepeated self.now.order.now)
+            × Marks self.now.calls.now self.now.order.now marks.items)
+            (λ i. IsLeast (IsRepeated self.now.order.now) i)) }
     {
         let mut marks = vec![in alloc; false; self.calls.len()]?;
         for (i, index) in self.indexes.iter().enumerate() {
@@ -107,7 +114,8 @@ impl<'a> Listing<'a> {
     /// The first completed call without a mark.
     fn first_missing(&self, marks: &[bool]) -> Option<OpId>
         requires { Marks self.now.calls.now self.now.order.now marks.now }
-        ensures { MatchOption result (IsComplete self.now.calls.now self.now.order.now) (λ op. IsLeast (IsMissing self.now.calls.now self.now.order.now) op.0) }
+        ensures { MatchOption result (IsComplete self.now.calls.now self.now.order.now)
+            (λ op. IsLeast (IsMissing self.now.calls.now self.now.order.now) op.0) }
     {
         for (k, call) in self.calls.iter().enumerate() {
             if call.response.is_some() && !marks[k] {
@@ -131,7 +139,8 @@ impl<'a> Listing<'a> {
 
     /// The first place of a read that answers another value than the last write before it wrote.
     fn first_wrong_answer(&self) -> Option<usize>
-        ensures { MatchOption result (IsLegal self.now.calls.now self.now.order.now) (λ i. IsLeast (IsWrongAnswer self.now.calls.now self.now.order.now) i) }
+        ensures { MatchOption result (IsLegal self.now.calls.now self.now.order.now)
+            (λ i. IsLeast (IsWrongAnswer self.now.calls.now self.now.order.now) i) }
     {
         let mut current: Option<&Value> = None;
         for i in 0..self.order.len() {
@@ -152,7 +161,9 @@ impl<'a> Listing<'a> {
 
     /// The first place of a call that was invoked after that place of the history.
     fn first_invoked_after(&self, place: usize) -> Option<usize>
-        ensures { IsFirst (λ i. (call : Call) × StandsAt self.now.calls.now self.now.order.now i call × (place < call.invoked)) result }
+        ensures { IsFirst (λ i. (call : Call)
+            × StandsAt self.now.calls.now self.now.order.now i call
+            × (place < call.invoked)) result }
     {
         for i in 0..self.order.len() {
             if place < self.call_at(i).invoked {
@@ -165,7 +176,9 @@ impl<'a> Listing<'a> {
     /// The first place of a call with its response before the invocation of an earlier one, behind
     /// the first such earlier place.
     fn first_broken(&self) -> Option<(usize, usize)>
-        ensures { MatchOption result (HasNone (IsBrokenAt self.now.calls.now self.now.order.now)) (λ places. IsLeast (IsBrokenAt self.now.calls.now self.now.order.now) places.1 × IsLeast (IsBroken self.now.calls.now self.now.order.now places.1) places.0) }
+        ensures { MatchOption result (HasNone (IsBrokenAt self.now.calls.now self.now.order.now))
+            (λ places. IsLeast (IsBrokenAt self.now.calls.now self.now.order.now) places.1
+            × IsLeast (IsBroken self.now.calls.now self.now.order.now places.1) places.0) }
     {
         let mut latest = 0;
         for j in 0..self.order.len() {

@@ -19,7 +19,7 @@ use Rattle.client_phases.specs.declared.states.State.TheVariants.{Idle, Ask, Put
 use Rattle.client_phases.specs.declared.clients.Client.{Client}
 use Rattle.client_phases.specs.Calls.{Call, Chosen, pair_to_put}
 use Rattle.client_phases.specs.Asking.{Asking, is_agreed, asking_with, counts}
-use Rattle.client_phases.specs.States.{asked, kept, heard}
+use Rattle.client_phases.specs.States.{asking_outcome, putting_outcome, reply_outcome}
 use Rattle.client_phases.specs.Clients.{client_after, taken}
 
 and_false : (b : Bool) → (b && false) ≡ false
@@ -35,40 +35,40 @@ counted_once rules call counted op replica =
 -- an asking that is over takes no pair, and one that goes on has counted the replica
 after_asked : (rules : Rules) (further : Asking) (op : OpId) (replica : ℕ) (tag : Tag) (value : Option (List ℕ)) (a b : Bool) (r p : Chosen) (x y : Tag)
     → counts rules further.call further.counted op replica ≡ false
-    → (heard rules (cond {A = State × Taken} a (cond {A = State × Taken} b (Ready r, Agreed x) (Put p finite.empty, Noted y)) (Ask further, Counted)).0 (Held op replica tag value)).1 ≡ Stale
+    → (reply_outcome rules (cond {A = State × Taken} a (cond {A = State × Taken} b (Ready r, Agreed x) (Put p finite.empty, Noted y)) (Ask further, Counted)).0 (Held op replica tag value)).1 ≡ Stale
 after_asked rules further op replica tag value true true r p x y out = refl
 after_asked rules further op replica tag value true false r p x y out = refl
 after_asked rules further op replica tag value false b r p x y out = rw out refl
 
 after_kept : (rules : Rules) (chosen : Chosen) (further : Replicas) (op : OpId) (replica : ℕ) (a : Bool)
     → counts rules chosen.call further op replica ≡ false
-    → (heard rules (cond {A = State × Taken} a (Ready chosen, outcome.Ready) (Put chosen further, Counted)).0 (Kept op replica)).1 ≡ Stale
+    → (reply_outcome rules (cond {A = State × Taken} a (Ready chosen, outcome.Ready) (Put chosen further, Counted)).0 (Kept op replica)).1 ≡ Stale
 after_kept rules chosen further op replica true out = refl
 after_kept rules chosen further op replica false out = rw out refl
 
 -- a reply that didn't count doesn't count again
-after_either : (rules : Rules) (state : State) (reply : Reply) (b : Bool) (r : State × Taken) → (b ≡ false → (heard rules state reply).1 ≡ Stale) → (heard rules r.0 reply).1 ≡ Stale
-    → (heard rules (cond {A = State × Taken} b r (state, Stale)).0 reply).1 ≡ Stale
+after_either : (rules : Rules) (state : State) (reply : Reply) (b : Bool) (r : State × Taken) → (b ≡ false → (reply_outcome rules state reply).1 ≡ Stale) → (reply_outcome rules r.0 reply).1 ≡ Stale
+    → (reply_outcome rules (cond {A = State × Taken} b r (state, Stale)).0 reply).1 ≡ Stale
 after_either rules state reply true r stale again = again
 after_either rules state reply false r stale again = stale refl
 
 not_counted : (rules : Rules) (asking : Asking) (op : OpId) (replica : ℕ) (tag : Tag) (value : Option (List ℕ)) → counts rules asking.call asking.counted op replica ≡ false
-    → (heard rules (Ask asking) (Held op replica tag value)).1 ≡ Stale
+    → (reply_outcome rules (Ask asking) (Held op replica tag value)).1 ≡ Stale
 not_counted rules asking op replica tag value out = rw out refl
 
 not_kept : (rules : Rules) (chosen : Chosen) (counted : Replicas) (op : OpId) (replica : ℕ) → counts rules chosen.call counted op replica ≡ false
-    → (heard rules (Put chosen counted) (Kept op replica)).1 ≡ Stale
+    → (reply_outcome rules (Put chosen counted) (Kept op replica)).1 ≡ Stale
 not_kept rules chosen counted op replica out = rw out refl
 
-again : (rules : Rules) (state : State) (reply : Reply) → (heard rules (heard rules state reply).0 reply).1 ≡ Stale
+again : (rules : Rules) (state : State) (reply : Reply) → (reply_outcome rules (reply_outcome rules state reply).0 reply).1 ≡ Stale
 again rules (Ask asking) (Held op replica tag value) =
     let further = asking_with asking replica (record { tag = tag; value = value }) in
     let pair = pair_to_put rules.name further.call.action further.best in
-    after_either rules (Ask asking) (Held op replica tag value) (counts rules asking.call asking.counted op replica) (asked rules further) (not_counted rules asking op replica tag value)
+    after_either rules (Ask asking) (Held op replica tag value) (counts rules asking.call asking.counted op replica) (asking_outcome rules further) (not_counted rules asking op replica tag value)
     (after_asked rules further op replica tag value (is_ask_quorum rules.quorums further.counted) (is_agreed rules further) (record { call = further.call; pair = further.best }) (record { call = further.call; pair = pair }) further.best.tag pair.tag (counted_once rules asking.call asking.counted op replica))
 again rules (Put chosen counted) (Kept op replica) =
     let further = finite.insert counted replica in
-    after_either rules (Put chosen counted) (Kept op replica) (counts rules chosen.call counted op replica) (kept rules chosen further) (not_kept rules chosen counted op replica)
+    after_either rules (Put chosen counted) (Kept op replica) (counts rules chosen.call counted op replica) (putting_outcome rules chosen further) (not_kept rules chosen counted op replica)
     (after_kept rules chosen further op replica (is_put_quorum rules.quorums further) (counted_once rules chosen.call counted op replica))
 again rules (Ask asking) (Kept op replica) = refl
 again rules (Put chosen counted) (Held op replica tag value) = refl

@@ -19,25 +19,25 @@ use Rattle.client_phases.specs.declared.states.State.{State}
 use Rattle.client_phases.specs.declared.states.State.TheVariants.{Ask, Put, Ready}
 use Rattle.client_phases.specs.Calls.{Call, pair_to_put}
 use Rattle.client_phases.specs.Asking.{Asking, asking_from, is_agreed, LeavesRoom, asking_with, counts}
-use Rattle.client_phases.specs.States.{asked, heard, kept, MayHear}
+use Rattle.client_phases.specs.States.{asking_outcome, reply_outcome, putting_outcome, MayHear}
 
 pub asked-agreed : (rules : Rules) (asking : Asking) → is_ask_quorum rules.quorums asking.counted ≡ true → is_agreed rules asking ≡ true
-    → asked rules asking ≡ (Ready (record { call = asking.call; pair = asking.best }), Agreed asking.best.tag)
+    → asking_outcome rules asking ≡ (Ready (record { call = asking.call; pair = asking.best }), Agreed asking.best.tag)
 asked-agreed rules asking p q = rw (p, q) refl
 
 pub asked-noted : (rules : Rules) (asking : Asking) → is_ask_quorum rules.quorums asking.counted ≡ true → is_agreed rules asking ≡ false
-    → asked rules asking ≡ (Put (record { call = asking.call; pair = pair_to_put rules.name asking.call.action asking.best }) finite.empty, Noted (pair_to_put rules.name asking.call.action asking.best).tag)
+    → asking_outcome rules asking ≡ (Put (record { call = asking.call; pair = pair_to_put rules.name asking.call.action asking.best }) finite.empty, Noted (pair_to_put rules.name asking.call.action asking.best).tag)
 asked-noted rules asking p q = rw (p, q) refl
 
 pub outcome-agreed : (rules : Rules) (call : Call) (tally : Tally) (found : Option (List ℕ)) → is_ask_quorum rules.quorums tally.counted ≡ true → is_agreed rules (asking_from call tally found) ≡ true
-    → Agreed tally.best ≡ (asked rules (asking_from call tally found)).1
+    → Agreed tally.best ≡ (asking_outcome rules (asking_from call tally found)).1
 outcome-agreed rules call tally found p q = sym (ap (λ (r : State × Taken). r.1) (asked-agreed rules (asking_from call tally found) p q))
 
 tag-read : (name : ℕ) (action : Action) (pair : Pair) → action ≡ Read → (pair_to_put name action pair).tag ≡ pair.tag
 tag-read name action pair e = rw e refl
 
 pub outcome-read : (rules : Rules) (call : Call) (tally : Tally) (found : Option (List ℕ)) → call.action ≡ Read → is_ask_quorum rules.quorums tally.counted ≡ true → is_agreed rules (asking_from call tally found) ≡ false
-    → Noted tally.best ≡ (asked rules (asking_from call tally found)).1
+    → Noted tally.best ≡ (asking_outcome rules (asking_from call tally found)).1
 outcome-read rules call tally found e p q =
     let asking = asking_from call tally found in
     ap (λ t. Noted t) (sym (tag-read rules.name call.action asking.best e)) ∙ sym (ap (λ (r : State × Taken). r.1) (asked-noted rules asking p q))
@@ -64,7 +64,7 @@ may_count rules state reply asking op replica tag value p q may counted = (rw (p
 
 pub heard-held : (rules : Rules) (state : State) (reply : Reply) (asking : Asking) (op : OpId) (replica : ℕ) (tag : Tag) (value : Option (List ℕ))
     → state ≡ Ask asking → reply ≡ Held op replica tag value → counts rules asking.call asking.counted op replica ≡ true
-    → heard rules state reply ≡ asked rules (asking_with asking replica (record { tag = tag; value = value }))
+    → reply_outcome rules state reply ≡ asking_outcome rules (asking_with asking replica (record { tag = tag; value = value }))
 heard-held rules state reply asking op replica tag value p q counted = rw (p, q, counted) refl
 
 pub counts-shown : (rules : Rules) (shown asking : Asking) (op : OpId) (replica : ℕ) → shown ≡ asking
@@ -85,14 +85,14 @@ same_where_stale true r s no_stale h = absurd (no_stale h)
 same_where_stale false r s no_stale h = refl
 
 -- a stale reply changes nothing
-pub stale_same : (rules : Rules) (state : State) (reply : Reply) → (heard rules state reply).1 ≡ Stale → (heard rules state reply).0 ≡ state
+pub stale_same : (rules : Rules) (state : State) (reply : Reply) → (reply_outcome rules state reply).1 ≡ Stale → (reply_outcome rules state reply).0 ≡ state
 stale_same rules (Ask asking) (Held op replica tag value) h =
     let further = asking_with asking replica (record { tag = tag; value = value }) in
     let pair = pair_to_put rules.name further.call.action further.best in
-    same_where_stale (counts rules asking.call asking.counted op replica) (asked rules further) (Ask asking)
+    same_where_stale (counts rules asking.call asking.counted op replica) (asking_outcome rules further) (Ask asking)
     (λ stale. never (is_ask_quorum rules.quorums further.counted) (is_agreed rules further) (Ready (record { call = further.call; pair = further.best })) (Put (record { call = further.call; pair = pair }) finite.empty) (Ask further) further.best.tag pair.tag stale) h
 stale_same rules (Put chosen counted) (Kept op replica) h =
     let further = finite.insert counted replica in
-    same_where_stale (counts rules chosen.call counted op replica) (kept rules chosen further) (Put chosen counted)
+    same_where_stale (counts rules chosen.call counted op replica) (putting_outcome rules chosen further) (Put chosen counted)
     (λ stale. never_kept (is_put_quorum rules.quorums further) (Ready chosen) (Put chosen further) stale) h
 stale_same rules state reply h = refl

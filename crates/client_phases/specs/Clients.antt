@@ -16,7 +16,7 @@ use Rattle.client_phases.specs.declared.states.State.{State}
 use Rattle.client_phases.specs.declared.states.State.TheVariants.{Idle, Ask, Put, Ready, Stopped}
 use Rattle.client_phases.specs.Calls.{put_of, answer_from}
 use Rattle.client_phases.specs.Asking.{opening_of, query_of}
-use Rattle.client_phases.specs.States.{heard, MayHear}
+use Rattle.client_phases.specs.States.{reply_outcome, MayHear}
 -- a client: its rules and its state
 pub use Rattle.client_phases.specs.declared.clients.Client.{Client}
 
@@ -36,8 +36,8 @@ abbrev pub phase_of : Client → Phase
 phase_of client = phase_in client.state
 
 -- the client that begins to ask for a call
-abbrev pub invoked : Client → OpId → List ℕ → Action → Client
-invoked client op key action = record client { state = Ask (opening_of (record { op = op; key = key; action = action })) }
+abbrev pub client_after_invoke : Client → OpId → List ℕ → Action → Client
+client_after_invoke client op key action = record client { state = Ask (opening_of (record { op = op; key = key; action = action })) }
 
 abbrev request_in : State → Option Request
 request_in (Ask asking) = Some (query_of asking)
@@ -54,11 +54,11 @@ MayTake client reply = MayHear client.rules client.state reply
 
 -- what a client makes of a reply
 abbrev pub taken : Client → Reply → Taken
-taken client reply = (heard client.rules client.state reply).1
+taken client reply = (reply_outcome client.rules client.state reply).1
 
 -- the client after a reply
 abbrev pub client_after : Client → Reply → Client
-client_after client reply = record client { state = (heard client.rules client.state reply).0 }
+client_after client reply = record client { state = (reply_outcome client.rules client.state reply).0 }
 
 abbrev answer_in : State → Option Returned
 answer_in (Ready chosen) = Some (answer_from chosen)
@@ -69,12 +69,12 @@ abbrev pub answer_of : Client → Option Returned
 answer_of client = answer_in client.state
 
 -- the client that answered
-abbrev pub responded : Client → Client
-responded client = record client { state = Idle }
+abbrev pub client_after_respond : Client → Client
+client_after_respond client = record client { state = Idle }
 
 -- the client that stopped
-abbrev pub stopped : Client → Client
-stopped client = record client { state = Stopped }
+abbrev pub client_after_stop : Client → Client
+client_after_stop client = record client { state = Stopped }
 
 abbrev pending_in : State → Option OpId
 pending_in (Ask asking) = Some asking.call.op

@@ -15,8 +15,8 @@ use Rattle.client_phases.specs.Calls.{Chosen, pair_to_put}
 use Rattle.client_phases.specs.Asking.{Asking, counts, asking_with, is_agreed, LeavesRoom}
 
 -- an asking is over with an ask quorum: a read that agreed answers, every other call puts its pair, and the tag is noted
-abbrev pub asked : Rules → Asking → State × Taken
-asked rules asking =
+abbrev pub asking_outcome : Rules → Asking → State × Taken
+asking_outcome rules asking =
     let pair = pair_to_put rules.name asking.call.action asking.best in
     if is_ask_quorum rules.quorums asking.counted
     then (if is_agreed rules asking
@@ -25,23 +25,23 @@ asked rules asking =
     else (Ask asking, Counted)
 
 -- a putting is over with a put quorum
-abbrev pub kept : Rules → Chosen → Replicas → State × Taken
-kept rules chosen counted =
+abbrev pub putting_outcome : Rules → Chosen → Replicas → State × Taken
+putting_outcome rules chosen counted =
     if is_put_quorum rules.quorums counted
     then (Ready chosen, outcome.Ready)
     else (Put chosen counted, Counted)
 
 -- the state after a reply, and what came of it: an asking counts pairs that are held, a putting counts that its pair is kept
-abbrev pub heard : Rules → State → Reply → State × Taken
-heard rules (Ask asking) (Held op replica tag value) =
+abbrev pub reply_outcome : Rules → State → Reply → State × Taken
+reply_outcome rules (Ask asking) (Held op replica tag value) =
     if counts rules asking.call asking.counted op replica
-    then asked rules (asking_with asking replica (record { tag = tag; value = value }))
+    then asking_outcome rules (asking_with asking replica (record { tag = tag; value = value }))
     else (Ask asking, Stale)
-heard rules (Put chosen counted) (Kept op replica) =
+reply_outcome rules (Put chosen counted) (Kept op replica) =
     if counts rules chosen.call counted op replica
-    then kept rules chosen (finite.insert counted replica)
+    then putting_outcome rules chosen (finite.insert counted replica)
     else (Put chosen counted, Stale)
-heard rules state reply = (state, Stale)
+reply_outcome rules state reply = (state, Stale)
 
 -- a reply that may come: a pair that a write counts leaves room for a greater number
 abbrev pub MayHear : Rules → State → Reply → Type 0

@@ -48,7 +48,8 @@ impl PartialEq for Chosen {
 
 /// Whether both values are equal, or both are absent.
 fn has_same_value(a: Option<&Value>, b: Option<&Value>) -> bool
-    ensures { result ≡ ⟦<Option<Value> as PartialEq>⟧.eq (option_copied a.entry) (option_copied b.entry) }
+    ensures { result ≡ ⟦<Option<Value> as PartialEq>⟧.eq (option_copied a.entry)
+        (option_copied b.entry) }
 {
     match (a, b) {
         (Some(a), Some(b)) => a == b,

@@ -1,6 +1,6 @@
 //! Clients.
 ghost use Rattle.std.specs.Prelude.{◌≡◌, IfOk, None, Ok, Some};
-ghost use Rattle.client_phases.specs.Clients.{MayTake, answer_of, client_after, client_of, counted_by, invoked, pending_of, phase_of, request_of, responded, stopped, taken};
+ghost use Rattle.client_phases.specs.Clients.{MayTake, answer_of, client_after, client_of, counted_by, client_after_invoke, pending_of, phase_of, request_of, client_after_respond, client_after_stop, taken};
 
 use crate::asking::Asking;
 use crate::calls::Call;
@@ -50,7 +50,7 @@ impl Client {
     /// Begins to ask for the call, with nobody counted. It has to be idle.
     pub fn invoke(&mut self, op: OpId, key: Key, action: Action)
         requires { phase_of self.old ≡ Phase.Idle }
-        ensures { self.new ≡ invoked self.old op key action }
+        ensures { self.new ≡ client_after_invoke self.old op key action }
     {
         self.state = State::Ask(Asking::new(Call { op, key, action }));
     }
@@ -109,7 +109,7 @@ impl Client {
     pub fn respond(&mut self) -> Returned
         requires { phase_of self.old ≡ Phase.Ready }
         ensures answer { Some result ≡ answer_of self.old }
-        ensures after { self.new ≡ responded self.old }
+        ensures after { self.new ≡ client_after_respond self.old }
     {
         match mem::replace(&mut self.state, State::Idle) {
             State::Ready(chosen) => chosen.into_answer(),
@@ -119,7 +119,7 @@ impl Client {
 
     /// Stops for good. A pending call has no answer then.
     pub fn stop(&mut self)
-        ensures { self.new ≡ stopped self.old }
+        ensures { self.new ≡ client_after_stop self.old }
     {
         self.state = State::Stopped;
     }

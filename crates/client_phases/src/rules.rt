@@ -1,7 +1,7 @@
 //! What a client keeps for good.
 ghost use Rattle.std.specs.Prelude.{◌≡◌, Option, List, ℕ};
 ghost use Rattle.client_phases.specs.Asking.{LeavesRoom, counts, asking_from, is_agreed};
-ghost use Rattle.client_phases.specs.States.{asked};
+ghost use Rattle.client_phases.specs.States.{asking_outcome};
 
 use crate::Taken;
 use crate::asking::Tally;
@@ -56,7 +56,7 @@ impl Rules {
     pub(crate) fn outcome(&self, call: &Call, tally: &Tally) -> Taken
         requires { LeavesRoom call.now.action tally.now.best }
         ensures { (found : Option (List ℕ))
-            → result ≡ (asked self.now (asking_from call.now tally.now found)).1 }
+            → result ≡ (asking_outcome self.now (asking_from call.now tally.now found)).1 }
     {
         if !self.quorums.is_ask(&tally.counted) {
             return Taken::Counted;

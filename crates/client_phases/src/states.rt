@@ -1,7 +1,7 @@
 //! A client's state, and how a reply changes it.
 ghost use Rattle.std.specs.Prelude.{◌≡◌, true};
 ghost use Rattle.client_phases.specs.Asking.{counts, asking_with};
-ghost use Rattle.client_phases.specs.States.{asked, heard, kept, MayHear};
+ghost use Rattle.client_phases.specs.States.{asking_outcome, reply_outcome, putting_outcome, MayHear};
 
 use crate::Taken;
 use crate::asking::{Asking, with_replica};
@@ -23,7 +23,7 @@ pub enum State {
 impl Rules {
     /// What an asking comes to.
     pub(crate) fn asked(&self, asking: Asking) -> (State, Taken)
-        ensures { result ≡ asked self.now asking }
+        ensures { result ≡ asking_outcome self.now asking }
     {
         let taken = self.outcome(&asking.call, &asking.tally);
         let state = match taken {
@@ -47,7 +47,7 @@ impl Rules {
 
     /// What a putting comes to.
     pub(crate) fn kept(&self, chosen: Chosen, counted: ReplicaSet) -> (State, Taken)
-        ensures { result ≡ kept self.now chosen counted }
+        ensures { result ≡ putting_outcome self.now chosen counted }
     {
         if self.quorums.is_put(&counted) {
             (State::Ready(chosen), Taken::Ready)
@@ -59,7 +59,7 @@ impl Rules {
     /// The state after a reply, and what came of it.
     pub(crate) fn heard(&self, state: State, reply: Reply) -> (State, Taken)
         requires { MayHear self.now state reply }
-        ensures { result ≡ heard self.now state reply }
+        ensures { result ≡ reply_outcome self.now state reply }
     {
         match (state, reply) {
             (
@@ -91,7 +91,7 @@ impl Rules {
     /// What would come of a reply.
     pub(crate) fn foreseen(&self, state: &State, reply: &Reply) -> Taken
         requires { MayHear self.now state.now reply.now }
-        ensures { result ≡ (heard self.now state.now reply.now).1 }
+        ensures { result ≡ (reply_outcome self.now state.now reply.now).1 }
     {
         match (state, reply) {
             (

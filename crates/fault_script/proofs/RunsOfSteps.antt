@@ -8,7 +8,7 @@ use Rattle.recorder.specs.declared.part.Call.{Call}
 use Rattle.recorder.specs.declared.row.Row.{Row}
 use Rattle.world_steps.specs.Refusals.{refusal_of}
 use Rattle.world_steps.specs.Runs.{after_from, next}
-use Rattle.world_steps.specs.Systems.{moved, opening}
+use Rattle.world_steps.specs.Systems.{system_after, opening}
 use Rattle.world_steps.specs.declared.refusal.Refusal.{Refusal}
 use Rattle.world_steps.specs.declared.step.Step.{Step}
 use Rattle.world_steps.specs.declared.system.System.{System}
@@ -19,8 +19,8 @@ use Rattle.fault_script.specs.declared.command.Script.{Script}
 use Rattle.fault_script.specs.ScriptRuns.{Walk, stride, walked, Runs, takes, refuses, finishes, stays, randomly, RunsAll, done, goes, IsRunOf}
 
 -- a step that isn't refused is the next one
-next_moved : (s : System) (step : Step) (found : Option Refusal) → refusal_of s step ≡ found → found ≡ None → moved s step ≡ next s step
-next_moved s step found is none = sym (ap (λ (o : Option Refusal). cond (is_some o) s (moved s step)) (is ∙ none))
+next_moved : (s : System) (step : Step) (found : Option Refusal) → refusal_of s step ≡ found → found ≡ None → system_after s step ≡ next s step
+next_moved s step found is none = sym (ap (λ (o : Option Refusal). cond (is_some o) s (system_after s step)) (is ∙ none))
 
 -- steps and then others
 after_append : (s : System) (xs ys : List Step) → after_from s (xs ++ ys) ≡ after_from (after_from s xs) ys

@@ -8,7 +8,7 @@ use Rattle.world_settle.specs.Settling.{Settles}
 use Rattle.world_settle.specs.declared.errors.SettleError.{SettleError}
 use Rattle.world_steps.specs.Refusals.{refusal_of}
 use Rattle.world_steps.specs.Runs.{after_from, next}
-use Rattle.world_steps.specs.Systems.{moved, opening}
+use Rattle.world_steps.specs.Systems.{system_after, opening}
 use Rattle.world_steps.specs.declared.refusal.Refusal.{Refusal}
 use Rattle.world_steps.specs.declared.step.Step.{Step}
 use Rattle.world_steps.specs.declared.system.System.{System}
@@ -44,7 +44,7 @@ random_walk s seed count = walked (record { system = s; generator = generator_of
 
 -- what the command of a line makes of the system, and what is said of it
 pub data Runs (line : ℕ) : System → Command → System → List ℕ → Type 0 where
-  takes : (s : System) (step : Step) → refusal_of s step ≡ None → Runs line s (command.Step step) (moved s step) []
+  takes : (s : System) (step : Step) → refusal_of s step ≡ None → Runs line s (command.Step step) (system_after s step) []
   refuses : (s : System) (step : Step) (why : Refusal) → refusal_of s step ≡ Some why → Runs line s (command.Step step) s (refused_note line why)
   finishes : (s : System) (name : ℕ) (steps : List Step) → MaySettle s name → Settles name s steps → Runs line s (command.Finish name) (after_from s steps) []
   stays : (s : System) (name : ℕ) (why : SettleError) → IsUnsettled s name why → Runs line s (command.Finish name) s (unfinished_note line why)

@@ -4,7 +4,7 @@ use Rattle.world_steps.specs.Clients.{Members, running_count}
 use Rattle.world_steps.specs.Configs.{Config}
 use Rattle.world_steps.specs.Refusals.{refusal_of}
 use Rattle.world_steps.specs.Runs.{AreAccepted, after}
-use Rattle.world_steps.specs.Systems.{effect_of, moved, opening}
+use Rattle.world_steps.specs.Systems.{effect_of, system_after, opening}
 use Rattle.world_steps.specs.declared.effect.Effect.{Effect}
 use Rattle.world_steps.specs.declared.refusal.Refusal.{Refusal}
 use Rattle.world_steps.specs.declared.refusal.Refusal.TheVariants as refusal
@@ -29,7 +29,7 @@ pub record IsReplay (hall : Hall) : Type 0 where
 
 -- the hall that took a step more
 abbrev pub with_step : Hall → Step → Hall
-with_step hall step = record hall { world = moved hall.world step; journal = hall.journal ++ step ∷ [] }
+with_step hall step = record hall { world = system_after hall.world step; journal = hall.journal ++ step ∷ [] }
 
 -- a step that the hall may refuse for memory: the place of a client's stop is free since the client joined
 abbrev pub MayWantMemory : Step → Type 0

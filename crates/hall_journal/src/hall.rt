@@ -145,7 +145,8 @@ fn make_room(journal: &mut Vec<Step>, running: usize, step: &Step) -> Result<(),
     ensures items { journal.new.items ≡ journal.old.items }
     ensures len { vec_len journal.new ≡ vec_len journal.old }
     ensures capacity { vec_capacity journal.old ≤ vec_capacity journal.new }
-    ensures ok { OnOk result (vec_len journal.new + 1 + (running + join_count step.now) ≤ vec_capacity journal.new + stop_count step.now) }
+    ensures ok { OnOk result (vec_len journal.new + 1 + (running + join_count step.now)
+        ≤ vec_capacity journal.new + stop_count step.now) }
     ensures err { OnErr result (MayWantMemory step.now) }
 {
     match step {

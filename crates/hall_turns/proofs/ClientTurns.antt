@@ -22,7 +22,7 @@ use Rattle.recorder.specs.declared.row.Row.{Row}
 use Rattle.recorder.specs.declared.row.Row.TheVariants.{Invoke, Note, Respond}
 use Rattle.world_steps.specs.Lasting.{AddsRowOf, HasJoined, IsRowOf, client_in, receiver}
 use Rattle.world_steps.specs.Lasting.AddsRowOf.{NoRow, OneRow}
-use Rattle.world_steps.specs.Systems.{answered_op, deliver, effect_of, invoke, moved, next_call, respond, send, stop, take, with_note}
+use Rattle.world_steps.specs.Systems.{answered_op, deliver, effect_of, invoke, system_after, next_call, respond, send, stop, take, with_note}
 use Rattle.world_steps.specs.Refusals.{refusal_of}
 use Rattle.world_steps.specs.SoundSystems.{IsSound}
 use Rattle.world_steps.specs.declared.effect.Effect.{Effect}
@@ -56,7 +56,7 @@ stopped_rows s name None = refl
 stopped_rows s name (Some client) = refl
 
 -- a quiet step adds no row
-quiet_rows : (s : System) (step : Step) → IsQuiet step → (moved s step).history.rows ≡ s.history.rows
+quiet_rows : (s : System) (step : Step) → IsQuiet step → (system_after s step).history.rows ≡ s.history.rows
 quiet_rows s (step.Join name) quiet = absurd quiet
 quiet_rows s (step.Invoke name key action) quiet = absurd quiet
 quiet_rows s (step.Send name replica) quiet = sent_rows s replica (finite.get s.members.clients name)

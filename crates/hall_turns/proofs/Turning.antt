@@ -10,7 +10,7 @@ use Rattle.world_steps.specs.Refusals.{refusal_of}
 use Rattle.world_steps.specs.Runs.{after, next}
 use Rattle.world_steps.specs.Sound.{At}
 use Rattle.world_steps.specs.SoundSystems.{IsSound}
-use Rattle.world_steps.specs.Systems.{moved}
+use Rattle.world_steps.specs.Systems.{system_after}
 use Rattle.world_steps.specs.declared.effect.Effect.{Effect}
 use Rattle.world_steps.specs.declared.refusal.Refusal.{Refusal}
 use Rattle.world_steps.specs.declared.step.Step.{Step}
@@ -65,8 +65,8 @@ own_added : (v : View) (found : Option ℕ) (old new : List Row) → ((name : �
 own_added v found old new owns (NoRow same) = none_own v old new same
 own_added v found old new owns (OneRow name row is of same) = one_own v old new name row (owns name is) of same
 
-pub same_next : (s : System) (step : Step) → refusal_of s step ≡ None → next s step ≡ moved s step
-same_next s step none = ap (λ o. if is_some o then s else moved s step) none
+pub same_next : (s : System) (step : Step) → refusal_of s step ≡ None → next s step ≡ system_after s step
+same_next s step none = ap (λ o. if is_some o then s else system_after s step) none
 
 pub joined_on : (old new : Hall) (step : Step) → IsReplay old → IsReplay new → new ≡ with_step old step → StayJoined → (name : ℕ) → HasJoined old.world name → HasJoined new.world name
 joined_on old new step before after_it same stay name joined =

@@ -32,7 +32,8 @@ impl Model for InFlight {
 
 /// Whether both flights are equal, or neither is there.
 fn is_same(a: Option<&Flight>, b: Option<&Flight>) -> bool
-    ensures { result ≡ ⟦<Option<Flight> as PartialEq>⟧.eq (option_copied a.entry) (option_copied b.entry) }
+    ensures { result ≡ ⟦<Option<Flight> as PartialEq>⟧.eq (option_copied a.entry)
+        (option_copied b.entry) }
 {
     match (a, b) {
         (Some(a), Some(b)) => a == b,

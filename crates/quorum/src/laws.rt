@@ -21,8 +21,10 @@ pub fn majorities_share_a_replica()
 /// the majorities.
 pub fn majorities_are_quorums()
     ensures lawful { (n : ℕ) → 1 ≤ n → n ≤ 15 → IsLawful (majority_of n) }
-    ensures ask { (n : ℕ) (set : Replicas) → IsAmong n set → IsMajority n set ↔ IsAskQuorum (majority_of n) set }
-    ensures put { (n : ℕ) (set : Replicas) → IsAmong n set → IsMajority n set ↔ IsPutQuorum (majority_of n) set }
+    ensures ask { (n : ℕ) (set : Replicas) → IsAmong n set
+        → IsMajority n set ↔ IsAskQuorum (majority_of n) set }
+    ensures put { (n : ℕ) (set : Replicas) → IsAmong n set
+        → IsMajority n set ↔ IsPutQuorum (majority_of n) set }
 {}
 
 /// A replica that comes to a set brings its votes.

@@ -86,8 +86,10 @@ impl Quorums {
     /// 15 replicas, 1 to 9 votes each, `ask` and `put` at least 1 and at most all votes, and more
     /// than all votes together.
     pub fn new(votes: &[u8], ask: u8, put: u8) -> Option<Quorums>
-        ensures some { IsSome result ↔ IsLawful (record { votes = votes.now; ask = ask; put = put }) }
-        ensures value { IfSome result (λ quorums. quorums ≡ record { votes = votes.now; ask = ask; put = put }) }
+        ensures some { IsSome result
+            ↔ IsLawful (record { votes = votes.now; ask = ask; put = put }) }
+        ensures value { IfSome result
+            (λ quorums. quorums ≡ record { votes = votes.now; ask = ask; put = put }) }
     {
         if is_lawful(votes, ask, put) {
             Some(Quorums {

@@ -52,8 +52,10 @@ impl ClientSet {
 
     /// Puts the client in. On `Memory` nothing changed.
     pub(crate) fn insert(&mut self, client: ClientId) -> Result<(), Memory>
-        ensures ok { OnOk result ((other : ℕ) → is_marked self.new other ≡ cond (nat_eq client other) true (is_marked self.old other)) }
-        ensures err { OnErr result ((other : ℕ) → is_marked self.new other ≡ is_marked self.old other) }
+        ensures ok { OnOk result ((other : ℕ) → is_marked self.new other
+            ≡ cond (nat_eq client other) true (is_marked self.old other)) }
+        ensures err { OnErr result ((other : ℕ)
+            → is_marked self.new other ≡ is_marked self.old other) }
     {
         let place = client.get() as usize;
         if place >= self.marks.len() {
@@ -65,7 +67,8 @@ impl ClientSet {
 
     /// Takes the client out.
     pub(crate) fn remove(&mut self, client: ClientId)
-        ensures { (other : ℕ) → is_marked self.new other ≡ cond (nat_eq client other) false (is_marked self.old other) }
+        ensures { (other : ℕ) → is_marked self.new other
+            ≡ cond (nat_eq client other) false (is_marked self.old other) }
     {
         let place = client.get() as usize;
         if place < self.marks.len() {

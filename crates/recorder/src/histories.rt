@@ -53,8 +53,10 @@ impl Histories {
     /// more than 1,000,000 calls together, one has a call on another hall's key, or there are
     /// several and no quorums; the list is dropped then.
     pub fn new(halls: Vec<History>, quorums: Option<Quorums>) -> Option<Histories>
-        ensures some { IsSome result ↔ AreHalls (record { halls = halls.items; quorums = quorums }) }
-        ensures value { IfSome result (λ histories. histories ≡ record { halls = halls.items; quorums = quorums }) }
+        ensures some { IsSome result
+            ↔ AreHalls (record { halls = halls.items; quorums = quorums }) }
+        ensures value { IfSome result
+            (λ histories. histories ≡ record { halls = halls.items; quorums = quorums }) }
     {
         if are_halls(halls.as_slice(), quorums.is_some()) {
             Some(Histories { halls, quorums })
@@ -81,7 +83,8 @@ impl Histories {
 
 /// Whether the histories are those of a row of halls.
 fn are_halls(histories: &[History], is_known: bool) -> bool
-    ensures { (quorums : Option Quorums) → is_some quorums ≡ is_known → IsTrue result ↔ AreHalls (record { halls = histories.now; quorums = quorums }) }
+    ensures { (quorums : Option Quorums) → is_some quorums ≡ is_known → IsTrue result
+        ↔ AreHalls (record { halls = histories.now; quorums = quorums }) }
 {
     let count = histories.len();
     if count < 1 || count > 64 || count > 1 && !is_known {

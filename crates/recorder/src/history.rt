@@ -131,7 +131,8 @@ impl History {
     /// that it may have, else `ClientBusy` where the client has a pending call, else `Memory` only
     /// where a growth was refused; each leaves the history as it was.
     pub fn invoke(&mut self, client: ClientId, key: Key, action: Action) -> Result<OpId, RowRefusal>
-        ensures row { Adds self.old (Row.Invoke (record { 0 = call_count self.old.rows }) client key action) result self.new }
+        ensures row { Adds self.old (Row.Invoke
+            (record { 0 = call_count self.old.rows }) client key action) result self.new }
         ensures number { IfOk result (λ op. op.0 ≡ call_count self.old.rows) }
         ensures may { OnOk result (MayBegin self.old client) }
         ensures err { OnErr result (self.new ≡ self.old) }
@@ -147,7 +148,9 @@ impl History {
 
     /// Why the client can't begin a call, if it can't.
     fn invoke_refusal(&self, client: ClientId) -> Option<RowRefusal>
-        ensures some { IfSome result (λ refusal. (op : OpId) (key : List ℕ) (action : Action) → IsRefused self.now (Row.Invoke op client key action) refusal) }
+        ensures some { IfSome result
+            (λ refusal. (op : OpId) (key : List ℕ) (action : Action)
+            → IsRefused self.now (Row.Invoke op client key action) refusal) }
         ensures none { IfNone result (MayBegin self.now client) }
     {
         if self.calls() >= self.limit as usize {
@@ -269,8 +272,10 @@ fn is_done(returned: &Returned) -> bool
 
 /// The state of a call, where it is pending.
 fn pending_state(states: &[CallState], op: OpId) -> Option<CallState>
-    ensures some { IfSome result (λ state. (slice_get states.now op.0 ≡ Some state) × (state.response ≡ None)) }
-    ensures none { IfNone result ((state : CallState) → slice_get states.now op.0 ≡ Some state → IsSome state.response) }
+    ensures some { IfSome result
+        (λ state. (slice_get states.now op.0 ≡ Some state) × (state.response ≡ None)) }
+    ensures none { IfNone result ((state : CallState) → slice_get states.now op.0 ≡ Some state
+        → IsSome state.response) }
 {
     match states.get(op.0 as usize) {
         Some(state) if state.response.is_none() => Some(*state),

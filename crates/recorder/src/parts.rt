@@ -54,8 +54,11 @@ impl Parts {
 
     /// The key's part, if it has one. `Memory` comes only where a growth was refused.
     pub fn get(&self, key: &Key) -> Result<Option<&Part>, Memory>
-        ensures some { IfOk result (λ found. IfSome found (λ part. Contains self.now.entries (key.now, part.now))) }
-        ensures none { IfOk result (λ found. IfNone found ((part : List Call) → Contains self.now.entries (key.now, part) → ⊥)) }
+        ensures some { IfOk result
+            (λ found. IfSome found (λ part. Contains self.now.entries (key.now, part.now))) }
+        ensures none { IfOk result
+            (λ found. IfNone found ((part : List Call) → Contains self.now.entries (key.now, part)
+            → ⊥)) }
     {
         match self.places.find(key)? {
             Some(place) => Ok(Some(&self.entries[place].1)),

@@ -16,7 +16,9 @@ impl<'a> Row<'a> {
     ///
     /// The first line `---` below the name divides; the input is empty where it stands right there.
     pub fn read(block: &'a str) -> Option<Row<'a>>
-        ensures { MatchOption result ((name input expected : List ℕ) → IsWritten block.now name input expected → ⊥) (λ row. IsWritten block.now row.name.now row.input.now row.expected.now) }
+        ensures { MatchOption result ((name input expected : List ℕ)
+            → IsWritten block.now name input expected → ⊥)
+            (λ row. IsWritten block.now row.name.now row.input.now row.expected.now) }
     {
         let Some((name, body)) = block.split_once('\n') else {
             return None;
@@ -34,7 +36,8 @@ impl<'a> Row<'a> {
 
 /// The lines before the first line `---`, and what comes after it.
 fn divided(text: &str) -> Option<(&str, &str)>
-    ensures { MatchOption result ((input expected : List ℕ) → IsDivided text.now input expected → ⊥) (λ parts. IsDivided text.now parts.0.now parts.1.now) }
+    ensures { MatchOption result ((input expected : List ℕ) → IsDivided text.now input expected → ⊥)
+        (λ parts. IsDivided text.now parts.0.now parts.1.now) }
 {
     if let Some(expected) = text.strip_prefix("---\n") {
         return Some(("", expected));

@@ -8,7 +8,8 @@ use std::alloc::{AllocError, Global};
 /// The row's name, what was found, and the line `NOT AS EXPECTED` where that is not what is
 /// expected.
 pub fn report(alloc: Global, row: &Row<'_>, found: &str) -> Result<String, AllocError>
-    ensures { IfOk result (λ text. string_bytes text ≡ told row.now.name.now row.now.expected.now found.now) }
+    ensures { IfOk result
+        (λ text. string_bytes text ≡ told row.now.name.now row.now.expected.now found.now) }
 {
     let name = row.name;
     let note = if found == row.expected {

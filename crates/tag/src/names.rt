@@ -83,7 +83,8 @@ impl Key {
     pub fn new(alloc: Global, text: &str) -> Result<Key, NameError>
         ensures value { IfOk result (λ key. (key ≡ text.now) × (is_key text.now ≡ true)) }
         ensures bad { (result ≡ Err NameError.BadKey) ↔ (is_key text.now ≡ false) }
-        ensures only { IfErr result (λ error. (error ≡ NameError.BadKey) ⊎ (error ≡ NameError.Memory)) }
+        ensures only { IfErr result
+            (λ error. (error ≡ NameError.BadKey) ⊎ (error ≡ NameError.Memory)) }
     {
         if !is_key(text) {
             return Err(NameError::BadKey);
@@ -186,7 +187,8 @@ impl Value {
     pub fn new(alloc: Global, text: &str) -> Result<Value, NameError>
         ensures value { IfOk result (λ value. (value ≡ text.now) × (is_value text.now ≡ true)) }
         ensures bad { (result ≡ Err NameError.BadValue) ↔ (is_value text.now ≡ false) }
-        ensures only { IfErr result (λ error. (error ≡ NameError.BadValue) ⊎ (error ≡ NameError.Memory)) }
+        ensures only { IfErr result
+            (λ error. (error ≡ NameError.BadValue) ⊎ (error ≡ NameError.Memory)) }
     {
         if !is_value(text) {
             return Err(NameError::BadValue);

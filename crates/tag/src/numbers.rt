@@ -25,7 +25,8 @@ impl Model for ClientId {
 impl ClientId {
     /// The client of that name; `BadClient` comes exactly outside 1 to 65,535.
     pub fn new(number: u32) -> Result<ClientId, NameError>
-        ensures { MatchResult result (λ client. (client ≡ number) × (1 ≤ number) × (number ≤ 65535)) (λ error. (error ≡ NameError.BadClient) × ((number ≡ 0) ⊎ (65535 < number))) }
+        ensures { MatchResult result (λ client. (client ≡ number) × (1 ≤ number) × (number ≤ 65535))
+            (λ error. (error ≡ NameError.BadClient) × ((number ≡ 0) ⊎ (65535 < number))) }
     {
         if number >= 1 && number <= 65535 {
             Ok(ClientId { number })

@@ -19,7 +19,8 @@ use tag::OpId;
 /// `Memory` only where each has one and a growth was refused.
 pub fn order_of(alloc: Global, part: &Part) -> Result<Order, WitnessError>
     ensures order { IfOk result (λ order. IsByTag part.now order) }
-    ensures no_note { (op : OpId) → (result ≡ Err (WitnessError.NoNote op)) ↔ IsLeastUnnoted part.now op }
+    ensures no_note { (op : OpId) → (result ≡ Err (WitnessError.NoNote op))
+        ↔ IsLeastUnnoted part.now op }
     ensures memory { (result ≡ Err WitnessError.Memory) → AllNoted part.now }
     ensures sequence { IsSequence part.now }
 {

@@ -12,7 +12,7 @@ use Rattle.replica.specs.declared.replies.Reply.TheVariants.{Held}
 use Rattle.client_phases.specs.Asking.{Asking, asking_with, is_agreed, query_of}
 use Rattle.client_phases.specs.Calls.{Chosen, pair_to_put}
 use Rattle.client_phases.specs.Clients.{client_after, counted_by}
-use Rattle.client_phases.specs.States.{asked, heard}
+use Rattle.client_phases.specs.States.{asking_outcome, reply_outcome}
 use Rattle.client_phases.specs.declared.clients.Client.{Client}
 use Rattle.client_phases.specs.declared.outcomes.Taken.{Taken}
 use Rattle.client_phases.specs.declared.outcomes.Taken.TheVariants.{Counted, Noted, Agreed}
@@ -121,9 +121,9 @@ rounds s sound name a agree room further steps settles =
     let told : pair_at s replica key ≡ pair = ap (λ o. option_map_or (λ (n : Node). pair_of n.replica.pairs key) o no_pair) up.is in
     let quorums : rules.quorums ≡ s.config.quorums = ap (λ (r : Rules). r.quorums) (sound.ruled name client agree.is) in
     let left : candidates t more.counted ≡ others = candidates_rest s t asking.counted replica others (up_after s replica (query_of asking) node up.is) refl found in
-    let here : IsClient t name (record { rules = rules; state = (asked rules more).0 }) =
+    let here : IsClient t name (record { rules = rules; state = (asking_outcome rules more).0 }) =
     get_same s.members.clients name (client_after client (reply_of node.replica (query_of asking)))
-    ∙ ap (λ n. Some (let c : Client = record { rules = rules; state = (heard rules (Ask asking) (Held asking.call.op n pair.tag pair.value)).0 } in c)) (sound.numbered replica node up.is)
+    ∙ ap (λ n. Some (let c : Client = record { rules = rules; state = (reply_outcome rules (Ask asking) (Held asking.call.op n pair.tag pair.value)).0 } in c)) (sound.numbered replica node up.is)
     ∙ ap (λ (x : State × Taken). Some (let c : Client = record { rules = rules; state = x.0 } in c))
     (held_counts rules asking replica pair.tag pair.value up.lacked (subst (λ (q : Quorums). replica < length q.votes) (sym quorums) up.below)) in
     let agreed : is_agreed rules (asking_by t more (take m (candidates t more.counted))) ≡ true =

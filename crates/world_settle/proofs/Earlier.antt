@@ -15,7 +15,7 @@ use Rattle.network.specs.declared.messages.Message.{Message}
 use Rattle.network.specs.declared.messages.Message.TheVariants.{ToReplica, ToClient}
 use Rattle.world_steps.specs.Refusals.{refusal_of}
 use Rattle.world_steps.specs.Runs.{next, after_from}
-use Rattle.world_steps.specs.Systems.{moved, send, deliver, arrive, handle, take, respond}
+use Rattle.world_steps.specs.Systems.{system_after, send, deliver, arrive, handle, take, respond}
 use Rattle.world_steps.specs.declared.nodes.Node.{Node}
 use Rattle.world_steps.specs.declared.refusal.Refusal.{Refusal}
 use Rattle.world_steps.specs.declared.step.Step.{Step}
@@ -107,7 +107,7 @@ responded_found : (n : ℕ) (s : System) (name : ℕ) (found : Option Client) �
 responded_found n s name None = keeps_itself n s.pool
 responded_found n s name (Some client) = responded_by n s name client.rules client.state
 
-keeps_moved : (n : ℕ) (s : System) (step : Step) → IsLater n step → n ≤ s.pool.sent → Keeps n s.pool (moved s step).pool
+keeps_moved : (n : ℕ) (s : System) (step : Step) → IsLater n step → n ≤ s.pool.sent → Keeps n s.pool (system_after s step).pool
 keeps_moved n s (step.Send name replica) later h = sent_found n s replica (finite.get s.members.clients name) h
 keeps_moved n s (step.Deliver flight) later h = delivered_found n s flight (message_of s.pool.flights flight) h later
 keeps_moved n s (step.Respond name) later h = responded_found n s name (finite.get s.members.clients name)
@@ -116,7 +116,7 @@ keeps_moved n s other later h = absurd later
 keeps_next : (n : ℕ) (s : System) (step : Step) → IsLater n step → n ≤ s.pool.sent → Keeps n s.pool (next s step).pool
 keeps_next n s step later h = by (refusal_of s step)
   where
-    by : (found : Option Refusal) → Keeps n s.pool (cond (is_some found) s (moved s step)).pool
+    by : (found : Option Refusal) → Keeps n s.pool (cond (is_some found) s (system_after s step)).pool
     by None = keeps_moved n s step later h
     by (Some why) = keeps_itself n s.pool
 

@@ -15,7 +15,7 @@ use Rattle.client_phases.specs.Asking.{Asking, query_of}
 use Rattle.client_phases.specs.Calls.{Chosen, answer_from, put_of}
 use Rattle.client_phases.specs.declared.calls.Call.{Call}
 use Rattle.client_phases.specs.Clients.{client_after, counted_by, pending_of, phase_of}
-use Rattle.client_phases.specs.States.{heard}
+use Rattle.client_phases.specs.States.{reply_outcome}
 use Rattle.client_phases.specs.declared.clients.Client.{Client}
 use Rattle.client_phases.specs.declared.outcomes.Phase.{Phase}
 use Rattle.client_phases.specs.declared.outcomes.Phase.TheVariants as phase
@@ -163,8 +163,8 @@ module _ (s : System) (sound : IsSound s) (name a b : ℕ) (room : s.pool.sent +
       let up : Candidate s asking.counted replica = candidate_first s asking.counted replica others found in
       let t : System = third_system s name replica client (query_of asking) up.node in
       let pair = pair_of up.node.replica.pairs asking.call.key in
-      let less : Fewer t (heard rules (Ask asking) (Held asking.call.op up.node.replica.number pair.tag pair.value)).0 a b =
-      subst (λ n. Fewer t (heard rules (Ask asking) (Held asking.call.op n pair.tag pair.value)).0 a b) (sym (sound.numbered replica up.node up.is))
+      let less : Fewer t (reply_outcome rules (Ask asking) (Held asking.call.op up.node.replica.number pair.tag pair.value)).0 a b =
+      subst (λ n. Fewer t (reply_outcome rules (Ask asking) (Held asking.call.op n pair.tag pair.value)).0 a b) (sym (sound.numbered replica up.node up.is))
       (fewer_asked s t.members t.nodes t.pool t.history (up_after s replica (query_of asking) up.node up.is) rules (ap (λ (r : Rules). r.quorums) (sound.ruled name client is))
       asking replica pair.tag pair.value others a b waits up found needs) in
       let fewer = less.fewer in
@@ -179,8 +179,8 @@ module _ (s : System) (sound : IsSound s) (name a b : ℕ) (room : s.pool.sent +
       let (replica, others, found) = some_candidate (IsPutQuorum s.config.quorums) counted (candidates s counted) b (not_put s.config.quorums counted waits) needs.1 in
       let up : Candidate s counted replica = candidate_first s counted replica others found in
       let t : System = third_system s name replica client (put_of chosen) up.node in
-      let less : Fewer t (heard rules (Put chosen counted) (Kept chosen.call.op up.node.replica.number)).0 a b =
-      subst (λ n. Fewer t (heard rules (Put chosen counted) (Kept chosen.call.op n)).0 a b) (sym (sound.numbered replica up.node up.is))
+      let less : Fewer t (reply_outcome rules (Put chosen counted) (Kept chosen.call.op up.node.replica.number)).0 a b =
+      subst (λ n. Fewer t (reply_outcome rules (Put chosen counted) (Kept chosen.call.op n)).0 a b) (sym (sound.numbered replica up.node up.is))
       (fewer_kept s t.members t.nodes t.pool t.history (up_after s replica (put_of chosen) up.node up.is) rules (ap (λ (r : Rules). r.quorums) (sound.ruled name client is))
       chosen counted replica others a b waits up found needs) in
       let fewer = less.fewer in

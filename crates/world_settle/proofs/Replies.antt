@@ -11,7 +11,7 @@ use Rattle.client_phases.specs.Asking.{Asking, asking_with, counts, is_agreed}
 use Rattle.client_phases.specs.Calls.{Chosen, pair_to_put}
 use Rattle.client_phases.specs.declared.calls.Call.{Call}
 use Rattle.client_phases.specs.Clients.{pending_of}
-use Rattle.client_phases.specs.States.{asked, heard, kept}
+use Rattle.client_phases.specs.States.{asking_outcome, reply_outcome, putting_outcome}
 use Rattle.client_phases.specs.declared.outcomes.Taken.{Taken}
 use Rattle.client_phases.specs.declared.outcomes.Taken.TheVariants.{Stale, Counted, Noted, Agreed}
 use Rattle.client_phases.specs.declared.outcomes.Taken.TheVariants as outcome
@@ -36,14 +36,14 @@ counts_now rules call counted replica lacked below =
     ∙ lt-ltb replica (length rules.quorums.votes) below
 
 pub held_counts : (rules : Rules) (asking : Asking) (replica : ℕ) (tag : Tag) (value : Option (List ℕ)) → finite.contains asking.counted replica ≡ false → replica < length rules.quorums.votes
-    → heard rules (Ask asking) (Held asking.call.op replica tag value) ≡ asked rules (asking_with asking replica (record { tag = tag; value = value }))
+    → reply_outcome rules (Ask asking) (Held asking.call.op replica tag value) ≡ asking_outcome rules (asking_with asking replica (record { tag = tag; value = value }))
 held_counts rules asking replica tag value lacked below =
-    ap (λ b. cond {A = State × Taken} b (asked rules (asking_with asking replica (record { tag = tag; value = value }))) (Ask asking, Stale)) (counts_now rules asking.call asking.counted replica lacked below)
+    ap (λ b. cond {A = State × Taken} b (asking_outcome rules (asking_with asking replica (record { tag = tag; value = value }))) (Ask asking, Stale)) (counts_now rules asking.call asking.counted replica lacked below)
 
 kept_counts : (rules : Rules) (chosen : Chosen) (counted : Replicas) (replica : ℕ) → finite.contains counted replica ≡ false → replica < length rules.quorums.votes
-    → heard rules (Put chosen counted) (Kept chosen.call.op replica) ≡ kept rules chosen (finite.insert counted replica)
+    → reply_outcome rules (Put chosen counted) (Kept chosen.call.op replica) ≡ putting_outcome rules chosen (finite.insert counted replica)
 kept_counts rules chosen counted replica lacked below =
-    ap (λ b. cond {A = State × Taken} b (kept rules chosen (finite.insert counted replica)) (Put chosen counted, Stale)) (counts_now rules chosen.call counted replica lacked below)
+    ap (λ b. cond {A = State × Taken} b (putting_outcome rules chosen (finite.insert counted replica)) (Put chosen counted, Stale)) (counts_now rules chosen.call counted replica lacked below)
 
 -- ---- what isn't a quorum yet
 pub not_ask : (quorums : Quorums) (set : Replicas) → is_ask_quorum quorums set ≡ false → IsAskQuorum quorums set → ⊥
@@ -82,13 +82,13 @@ module _ (s : System) (members : Members) (nodes : List Node) (pool : Pool) (his
 
   pub fewer_asked : (asking : Asking) (replica : ℕ) (tag : Tag) (value : Option (List ℕ)) (others : List ℕ) (a b : ℕ)
       → is_ask_quorum s.config.quorums asking.counted ≡ false → Candidate s asking.counted replica → candidates s asking.counted ≡ replica ∷ others → Needs s (Ask asking) a b
-      → Fewer (with_parts s members nodes pool history) (heard rules (Ask asking) (Held asking.call.op replica tag value)).0 a b
+      → Fewer (with_parts s members nodes pool history) (reply_outcome rules (Ask asking) (Held asking.call.op replica tag value)).0 a b
   fewer_asked asking replica tag value others a b waits found e needs =
       let t : System = with_parts s members nodes pool history in
       let further : Asking = asking_with asking replica (record { tag = tag; value = value }) in
       let (m, is, rest) = fewer_needed (IsAskQuorum s.config.quorums) asking.counted replica others a (not_ask s.config.quorums asking.counted waits)
       (subst (λ cs. IsLeastCount (IsAskQuorum s.config.quorums) asking.counted cs a) e needs.0) in
-      subst (λ n. Fewer t (heard rules (Ask asking) (Held asking.call.op replica tag value)).0 n b) (sym is)
+      subst (λ n. Fewer t (reply_outcome rules (Ask asking) (Held asking.call.op replica tag value)).0 n b) (sym is)
       (subst (λ (x : State × Taken). Fewer t x.0 (suc m) b) (sym (held_counts rules asking replica tag value found.lacked (below_all replica found.below)))
       (ask_by t further (record { call = asking.call; pair = further.best }) (record { call = asking.call; pair = pair_to_put rules.name asking.call.action further.best }) m b
       (is_ask_quorum rules.quorums further.counted) (is_agreed rules further) (Agreed further.best.tag) (Noted (pair_to_put rules.name asking.call.action further.best).tag)
@@ -97,12 +97,12 @@ module _ (s : System) (members : Members) (nodes : List Node) (pool : Pool) (his
 
   pub fewer_kept : (chosen : Chosen) (counted : Replicas) (replica : ℕ) (others : List ℕ) (a b : ℕ)
       → is_put_quorum s.config.quorums counted ≡ false → Candidate s counted replica → candidates s counted ≡ replica ∷ others → Needs s (Put chosen counted) a b
-      → Fewer (with_parts s members nodes pool history) (heard rules (Put chosen counted) (Kept chosen.call.op replica)).0 a b
+      → Fewer (with_parts s members nodes pool history) (reply_outcome rules (Put chosen counted) (Kept chosen.call.op replica)).0 a b
   fewer_kept chosen counted replica others a b waits found e needs =
       let t : System = with_parts s members nodes pool history in
       let (m, is, rest) = fewer_needed (IsPutQuorum s.config.quorums) counted replica others b (not_put s.config.quorums counted waits)
       (subst (λ cs. IsLeastCount (IsPutQuorum s.config.quorums) counted cs b) e needs.1) in
-      let goal : ℕ → ℕ → Type 0 = λ c d. Fewer t (heard rules (Put chosen counted) (Kept chosen.call.op replica)).0 c d in
+      let goal : ℕ → ℕ → Type 0 = λ c d. Fewer t (reply_outcome rules (Put chosen counted) (Kept chosen.call.op replica)).0 c d in
       subst (λ c. goal c b) (sym needs.0)
       (subst (λ d. goal 0 d) (sym is)
       (subst (λ (x : State × Taken). Fewer t x.0 0 (suc m)) (sym (kept_counts rules chosen counted replica found.lacked (below_all replica found.below)))
@@ -116,14 +116,14 @@ pick : (rules : Rules) (state : State) (b : Bool) (x y : State × Taken) → pen
 pick rules state true x y p q = p
 pick rules state false x y p q = q
 
-pub heard_pending : (rules : Rules) (state : State) (reply : Reply) → pending_of (record { rules = rules; state = (heard rules state reply).0 }) ≡ pending_of (record { rules = rules; state = state })
+pub heard_pending : (rules : Rules) (state : State) (reply : Reply) → pending_of (record { rules = rules; state = (reply_outcome rules state reply).0 }) ≡ pending_of (record { rules = rules; state = state })
 heard_pending rules (Ask asking) (Held op replica tag value) =
     let further : Asking = asking_with asking replica (record { tag = tag; value = value }) in
-    pick rules (Ask asking) (counts rules asking.call asking.counted op replica) (asked rules further) (Ask asking, Stale)
+    pick rules (Ask asking) (counts rules asking.call asking.counted op replica) (asking_outcome rules further) (Ask asking, Stale)
     (pick rules (Ask asking) (is_ask_quorum rules.quorums further.counted) _ (Ask further, Counted) (pick rules (Ask asking) (is_agreed rules further) _ _ refl refl) refl)
     refl
 heard_pending rules (Put chosen counted) (Kept op replica) =
-    pick rules (Put chosen counted) (counts rules chosen.call counted op replica) (kept rules chosen (finite.insert counted replica)) (Put chosen counted, Stale)
+    pick rules (Put chosen counted) (counts rules chosen.call counted op replica) (putting_outcome rules chosen (finite.insert counted replica)) (Put chosen counted, Stale)
     (pick rules (Put chosen counted) (is_put_quorum rules.quorums (finite.insert counted replica)) _ _ refl refl)
     refl
 heard_pending rules (Ask asking) (Kept op replica) = refl

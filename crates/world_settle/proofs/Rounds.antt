@@ -23,7 +23,7 @@ use Rattle.world_steps.specs.Clients.{with_client}
 use Rattle.world_steps.specs.Moves.{IsClient}
 use Rattle.world_steps.specs.Refusals.{refusal_of, arrival_refusals, first_of, phase_at, is_stopped, has_request, is_down, no_such_client, no_such_replica, flights_full}
 use Rattle.world_steps.specs.Runs.{AreAccepted, next, after_from}
-use Rattle.world_steps.specs.Systems.{moved, send, deliver, handle, lose, take, op_of, answered_op, with_note}
+use Rattle.world_steps.specs.Systems.{system_after, send, deliver, handle, lose, take, op_of, answered_op, with_note}
 use Rattle.world_steps.specs.declared.nodes.Node.{Node}
 use Rattle.world_steps.specs.declared.refusal.Refusal.{Refusal}
 use Rattle.world_steps.specs.declared.refusal.Refusal.TheVariants as refusal
@@ -50,8 +50,8 @@ pub pass : (why : Refusal) (test : Bool) (rest : Option Refusal) → test ≡ fa
 pass why true rest e r = absurd cc
 pass why false rest e r = r
 
-pub next_moved : (s : System) (step : Step) → refusal_of s step ≡ None → next s step ≡ moved s step
-next_moved s step e = ap (λ o. cond (is_some o) s (moved s step)) e
+pub next_moved : (s : System) (step : Step) → refusal_of s step ≡ None → next s step ≡ system_after s step
+next_moved s step e = ap (λ o. cond (is_some o) s (system_after s step)) e
 
 -- ---- a client with a request
 not_stopped : (rules : Rules) (state : State) (request : Request) → request_of (record { rules = rules; state = state }) ≡ Some request → is_stopped (Some (phase_of (record { rules = rules; state = state }))) ≡ false

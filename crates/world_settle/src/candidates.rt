@@ -39,7 +39,9 @@ pub(crate) fn replicas_up(world: &World) -> ReplicaSet
 /// have to have them.
 pub(crate) fn candidates_needed(world: &World, counted: ReplicaSet, votes: u8) -> u32
     requires { votes ≤ votes_of world.now.config.quorums.votes (replicas_up world.now) }
-    ensures least { IsLeastCount (λ quorum. votes ≤ votes_of world.now.config.quorums.votes quorum) counted (candidates world.now counted) result }
+    ensures least { IsLeastCount
+        (λ quorum. votes ≤ votes_of world.now.config.quorums.votes quorum) counted
+        (candidates world.now counted) result }
     ensures few { result ≤ 15 }
 {
     let quorums = world.config().quorums();

@@ -12,7 +12,7 @@ use Rattle.replica.specs.declared.replies.Reply.TheVariants.{Held, Kept}
 use Rattle.replica.specs.declared.requests.Request.{Request}
 use Rattle.client_phases.specs.Asking.{Asking, counts, asking_with}
 use Rattle.client_phases.specs.Calls.{Chosen, answer_from}
-use Rattle.client_phases.specs.States.{asked, kept, heard}
+use Rattle.client_phases.specs.States.{asking_outcome, putting_outcome, reply_outcome}
 use Rattle.client_phases.specs.declared.calls.Call.{Call}
 use Rattle.client_phases.specs.declared.clients.Client.{Client}
 use Rattle.client_phases.specs.declared.outcomes.Taken.{Taken}
@@ -34,7 +34,7 @@ use Rattle.world_steps.specs.Runs.{next}
 use Rattle.world_steps.specs.Sound.{Pending, StateSound, tags_of}
 use Rattle.world_steps.specs.Sound.StateSound.{SoundAsking, SoundReady}
 use Rattle.world_steps.specs.SoundSystems.{IsSound, held_in}
-use Rattle.world_steps.specs.Systems.{answered_op, deliver, handle, invoke, moved, next_call, op_of, respond, send, set_up, stop, take, with_note}
+use Rattle.world_steps.specs.Systems.{answered_op, deliver, handle, invoke, system_after, next_call, op_of, respond, send, set_up, stop, take, with_note}
 use Rattle.world_steps.specs.declared.nodes.Node.{Node}
 use Rattle.world_steps.specs.declared.step.Step.{Step}
 use Rattle.world_steps.specs.declared.step.Step.TheVariants as step
@@ -61,10 +61,10 @@ module _ (s : System) where
 
   by_asking : (name : ℕ) (rules : Rules) (asking : Asking) (op : OpId) (replica : ℕ) (pair : Pair) (b : Bool) → counts rules asking.call asking.counted op replica ≡ b
       → Began s.history.rows name asking.call.op
-      → AddsRowOf (Some name) s.history.rows (with_note s.history op (cond {A = State × Taken} b (asked rules (asking_with asking replica pair)) (Ask asking, Stale)).1).rows
+      → AddsRowOf (Some name) s.history.rows (with_note s.history op (cond {A = State × Taken} b (asking_outcome rules (asking_with asking replica pair)) (Ask asking, Stale)).1).rows
   by_asking name rules asking op replica pair true e began =
       let same : op ≡ asking.call.op = counts_op rules asking.call asking.counted op replica e in
-      noted name op (subst (Began s.history.rows name) (sym same) began) (asked rules (asking_with asking replica pair)).1
+      noted name op (subst (Began s.history.rows name) (sym same) began) (asking_outcome rules (asking_with asking replica pair)).1
   by_asking name rules asking op replica pair false e began = NoRow refl
 
   by_kept : (name : ℕ) (op : OpId) (chosen : Chosen) (counted : Replicas) (b : Bool)
@@ -73,12 +73,12 @@ module _ (s : System) where
   by_kept name op chosen counted false = NoRow refl
 
   by_put : (name : ℕ) (rules : Rules) (op : OpId) (chosen : Chosen) (old new : Replicas) (b : Bool)
-      → AddsRowOf (Some name) s.history.rows (with_note s.history op (cond {A = State × Taken} b (kept rules chosen new) (Put chosen old, Stale)).1).rows
+      → AddsRowOf (Some name) s.history.rows (with_note s.history op (cond {A = State × Taken} b (putting_outcome rules chosen new) (Put chosen old, Stale)).1).rows
   by_put name rules op chosen old new true = by_kept name op chosen new (is_put_quorum rules.quorums new)
   by_put name rules op chosen old new false = NoRow refl
 
   heard_row : (name : ℕ) (rules : Rules) (state : State) (reply : Reply) → StateSound s.config.quorums s.history.rows (tags_of (held_in s.nodes)) name state
-      → AddsRowOf (Some name) s.history.rows (with_note s.history (answered_op reply) (heard rules state reply).1).rows
+      → AddsRowOf (Some name) s.history.rows (with_note s.history (answered_op reply) (reply_outcome rules state reply).1).rows
   heard_row name rules (Ask asking) (Held op replica tag value) (SoundAsking w n g h) =
       by_asking name rules asking op replica (record { tag = tag; value = value }) (counts rules asking.call asking.counted op replica) refl (pending name asking.call w)
   heard_row name rules (Ask asking) (Kept op replica) good = NoRow refl
@@ -146,7 +146,7 @@ module _ (s : System) where
     set_row number is_up None = NoRow refl
     set_row number is_up (Some node) = NoRow refl
 
-moved_row : (s : System) → IsSound s → (step : Step) → AddsRowOf (client_in s step) s.history.rows (moved s step).history.rows
+moved_row : (s : System) → IsSound s → (step : Step) → AddsRowOf (client_in s step) s.history.rows (system_after s step).history.rows
 moved_row s sound (step.Join name) = NoRow refl
 moved_row s sound (step.Invoke name key action) = invoked_row s sound name key action (finite.get s.members.clients name)
 moved_row s sound (step.Send name replica) = sent_row s sound (Some name) replica (finite.get s.members.clients name)
@@ -158,7 +158,7 @@ moved_row s sound (step.StopClient name) = stopped_row s sound name (finite.get 
 moved_row s sound (step.StopReplica number) = set_row s sound number false (slice_get s.nodes number)
 moved_row s sound (step.StartReplica number) = set_row s sound number true (slice_get s.nodes number)
 
-next_by : (s : System) → IsSound s → (step : Step) (b : Bool) → AddsRowOf (client_in s step) s.history.rows (cond b s (moved s step)).history.rows
+next_by : (s : System) → IsSound s → (step : Step) (b : Bool) → AddsRowOf (client_in s step) s.history.rows (cond b s (system_after s step)).history.rows
 next_by s sound step true = NoRow refl
 next_by s sound step false = moved_row s sound step
 

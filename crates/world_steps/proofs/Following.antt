@@ -12,7 +12,7 @@ use Rattle.replica.specs.declared.replies.Reply.{Reply}
 use Rattle.replica.specs.declared.replies.Reply.TheVariants.{Held, Kept}
 use Rattle.client_phases.specs.Asking.{Asking, counts, asking_with}
 use Rattle.client_phases.specs.Calls.{Chosen, answer_from}
-use Rattle.client_phases.specs.States.{asked, kept, heard}
+use Rattle.client_phases.specs.States.{asking_outcome, putting_outcome, reply_outcome}
 use Rattle.client_phases.specs.declared.calls.Call.{Call}
 use Rattle.client_phases.specs.declared.outcomes.Taken.{Taken}
 use Rattle.client_phases.specs.declared.outcomes.Taken.TheVariants.{Stale, Counted, Noted, Agreed}
@@ -73,22 +73,22 @@ pub counts_op : (rules : Rules) (call : Call) (counted : Replicas) (op : OpId) (
 counts_op rules call counted op replica e = same_op op call.op (eqb-true op.0 call.op.0 (both_true (nat_eq op.0 call.op.0) _ e).0)
 
 asked_notes : (s : System) (rules : Rules) (asking : Asking) (op : OpId) (replica : ℕ) (pair : Pair) (b : Bool) → counts rules asking.call asking.counted op replica ≡ b
-    → ((tag : Tag) → MayFollow s.history.rows (Note asking.call.op tag)) → MayNote s op (cond {A = State × Taken} b (asked rules (asking_with asking replica pair)) (Ask asking, Stale)).1
+    → ((tag : Tag) → MayFollow s.history.rows (Note asking.call.op tag)) → MayNote s op (cond {A = State × Taken} b (asking_outcome rules (asking_with asking replica pair)) (Ask asking, Stale)).1
 asked_notes s rules asking op replica pair true e follows =
     let same : op ≡ asking.call.op = counts_op rules asking.call asking.counted op replica e in
-    noted_after s op (λ tag. subst (λ o. MayFollow s.history.rows (Note o tag)) (sym same) (follows tag)) (asked rules (asking_with asking replica pair)).1
+    noted_after s op (λ tag. subst (λ o. MayFollow s.history.rows (Note o tag)) (sym same) (follows tag)) (asking_outcome rules (asking_with asking replica pair)).1
 asked_notes s rules asking op replica pair false e follows = tt
 
 put_notes : (s : System) (op : OpId) (chosen : Chosen) (counted : Replicas) (b : Bool) → MayNote s op (cond {A = State × Taken} b (Ready chosen, outcome.Ready) (Put chosen counted, Counted)).1
 put_notes s op chosen counted true = tt
 put_notes s op chosen counted false = tt
 
-kept_notes : (s : System) (rules : Rules) (op : OpId) (chosen : Chosen) (old new : Replicas) (b : Bool) → MayNote s op (cond {A = State × Taken} b (kept rules chosen new) (Put chosen old, Stale)).1
+kept_notes : (s : System) (rules : Rules) (op : OpId) (chosen : Chosen) (old new : Replicas) (b : Bool) → MayNote s op (cond {A = State × Taken} b (putting_outcome rules chosen new) (Put chosen old, Stale)).1
 kept_notes s rules op chosen old new true = put_notes s op chosen new (is_put_quorum rules.quorums new)
 kept_notes s rules op chosen old new false = tt
 
 pub heard_notes : (s : System) (quorums : Quorums) (tags : Tags) (c : ℕ) (rules : Rules) (state : State) (reply : Reply) → StateSound quorums s.history.rows tags c state
-    → MayNote s (answered_op reply) (heard rules state reply).1
+    → MayNote s (answered_op reply) (reply_outcome rules state reply).1
 heard_notes s quorums tags c rules (Ask asking) (Held op replica tag value) sound =
     asked_notes s rules asking op replica (record { tag = tag; value = value }) (counts rules asking.call asking.counted op replica) refl (note_follows quorums s.history.rows tags c asking sound)
 heard_notes s quorums tags c rules (Ask asking) (Kept op replica) sound = tt

@@ -22,7 +22,7 @@ use Rattle.client_phases.specs.declared.outcomes.Taken.TheVariants.{Stale, Count
 use Rattle.client_phases.specs.declared.outcomes.Taken.TheVariants as outcome
 use Rattle.client_phases.specs.Calls.{Chosen, pair_to_put}
 use Rattle.client_phases.specs.Asking.{Asking, counts, asking_with, is_agreed, LeavesRoom}
-use Rattle.client_phases.specs.States.{asked, kept, heard, MayHear}
+use Rattle.client_phases.specs.States.{asking_outcome, putting_outcome, reply_outcome, MayHear}
 use Rattle.client_phases.specs.declared.states.State.{State}
 use Rattle.client_phases.specs.declared.states.State.TheVariants.{Idle, Ask, Put, Ready, Stopped}
 use Rattle.world_steps.specs.Sound.{IsGood, Pending, Sound, tags_of}
@@ -47,8 +47,8 @@ rows_after R op outcome = R
 
 -- with that state of the client, and that outcome, the world is sound
 abbrev pub StaysSound : (quorums : Quorums) (R : List Row) (P : ℕ → List ℕ → Pair) (F : Message → Type 0) (C D : ℕ → State → Type 0) (c : ℕ) → OpId → State × Taken → Type 0
-StaysSound quorums R P F C D c op heard =
-    ((e : ℕ) (y : State) → D e y → Turned C c heard.0 e y) → ((e : ℕ) (y : State) → C e y → (z : State) × D e z) → Sound quorums (rows_after R op heard.1) P F D
+StaysSound quorums R P F C D c op reply_outcome =
+    ((e : ℕ) (y : State) → D e y → Turned C c reply_outcome.0 e y) → ((e : ℕ) (y : State) → C e y → (z : State) × D e z) → Sound quorums (rows_after R op reply_outcome.1) P F D
 
 -- a reply counts where it names the pending call
 counts_op : (rules : Rules) (call : Call) (counted : Replicas) (op : OpId) (at : ℕ) → counts rules call counted op at ≡ true → op ≡ call.op
@@ -82,11 +82,11 @@ module _ (rules : Rules) (R : List Row) (P : ℕ → List ℕ → Pair) (F : Mes
   asked_sound asking op at tag value false b is f e p q turned there = counting rules.quorums R P F C D rules.name d asking op at tag value sound is f e turned there
 
   held_sound : (asking : Asking) (op : OpId) (at : ℕ) (tag : Tag) (value : Option (List ℕ)) (b : Bool) → C rules.name (Ask asking) → F (ToClient d (Held op at tag value)) → counts rules asking.call asking.counted op at ≡ b
-      → StaysSound rules.quorums R P F C D rules.name op (cond {A = State × Taken} b (asked rules (asking_with asking at (told tag value))) (Ask asking, Stale))
+      → StaysSound rules.quorums R P F C D rules.name op (cond {A = State × Taken} b (asking_outcome rules (asking_with asking at (told tag value))) (Ask asking, Stale))
   held_sound asking op at tag value true is f e =
       let same : op ≡ asking.call.op = counts_op rules asking.call asking.counted op at e in
       let further : Asking = asking_with asking at (told tag value) in
-      subst (λ o. StaysSound rules.quorums R P F C D rules.name o (asked rules further)) (sym same)
+      subst (λ o. StaysSound rules.quorums R P F C D rules.name o (asking_outcome rules further)) (sym same)
       (asked_sound asking op at tag value (is_ask_quorum rules.quorums further.counted) (is_agreed rules further) is f same refl refl)
   held_sound asking op at tag value false is f e = stale_sound (Ask asking) op is
 
@@ -98,12 +98,12 @@ module _ (rules : Rules) (R : List Row) (P : ℕ → List ℕ → Pair) (F : Mes
   kept_sound_by chosen counted op at false is f e p turned there = keeping rules.quorums R P F C D rules.name d op at chosen counted sound is f e turned there
 
   kept_sound : (chosen : Chosen) (counted : Replicas) (op : OpId) (at : ℕ) (b : Bool) → C rules.name (Put chosen counted) → F (ToClient d (Kept op at)) → counts rules chosen.call counted op at ≡ b
-      → StaysSound rules.quorums R P F C D rules.name op (cond {A = State × Taken} b (kept rules chosen (finite.insert counted at)) (Put chosen counted, Stale))
+      → StaysSound rules.quorums R P F C D rules.name op (cond {A = State × Taken} b (putting_outcome rules chosen (finite.insert counted at)) (Put chosen counted, Stale))
   kept_sound chosen counted op at true is f e =
       kept_sound_by chosen counted op at (is_put_quorum rules.quorums (finite.insert counted at)) is f (counts_op rules chosen.call counted op at e) refl
   kept_sound chosen counted op at false is f e = stale_sound (Put chosen counted) op is
 
-  heard_sound : (x : State) (reply : Reply) → C rules.name x → F (ToClient d reply) → StaysSound rules.quorums R P F C D rules.name (op_in reply) (heard rules x reply)
+  heard_sound : (x : State) (reply : Reply) → C rules.name x → F (ToClient d reply) → StaysSound rules.quorums R P F C D rules.name (op_in reply) (reply_outcome rules x reply)
   heard_sound (Ask asking) (Held op at tag value) is f = held_sound asking op at tag value (counts rules asking.call asking.counted op at) is f refl
   heard_sound (Put chosen counted) (Kept op at) is f = kept_sound chosen counted op at (counts rules chosen.call counted op at) is f refl
   heard_sound (Ask asking) (Kept op at) is f = stale_sound (Ask asking) op is
@@ -135,12 +135,12 @@ module _ (rules : Rules) (R : List Row) (P : ℕ → List ℕ → Pair) (F : Mes
 -- whatever comes of it, the world stays sound
 pub hearing : (quorums : Quorums) (R : List Row) (P : ℕ → List ℕ → Pair) (F : Message → Type 0) (C D : ℕ → State → Type 0) (c d : ℕ) (rules : Rules) (x : State) (reply : Reply)
     → rules.name ≡ c → rules.quorums ≡ quorums → Sound quorums R P F C → C c x → F (ToClient d reply)
-    → ((e : ℕ) (y : State) → D e y → Turned C c (heard rules x reply).0 e y)
+    → ((e : ℕ) (y : State) → D e y → Turned C c (reply_outcome rules x reply).0 e y)
     → ((e : ℕ) (y : State) → C e y → (z : State) × D e z)
-    → Sound quorums (rows_after R (op_in reply) (heard rules x reply).1) P F D
+    → Sound quorums (rows_after R (op_in reply) (reply_outcome rules x reply).1) P F D
 hearing quorums R P F C D c d rules x reply name same =
-    subst (λ n. Sound quorums R P F C → C n x → F (ToClient d reply) → StaysSound quorums R P F C D n (op_in reply) (heard rules x reply)) name
-    (subst (λ q. Sound q R P F C → C rules.name x → F (ToClient d reply) → StaysSound q R P F C D rules.name (op_in reply) (heard rules x reply)) same
+    subst (λ n. Sound quorums R P F C → C n x → F (ToClient d reply) → StaysSound quorums R P F C D n (op_in reply) (reply_outcome rules x reply)) name
+    (subst (λ q. Sound q R P F C → C rules.name x → F (ToClient d reply) → StaysSound q R P F C D rules.name (op_in reply) (reply_outcome rules x reply)) same
     (λ sound is f. heard_sound rules R P F C D d sound x reply is f))
 
 -- and the reply may come, where no more calls are begun than there are tag numbers

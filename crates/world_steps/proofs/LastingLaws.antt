@@ -9,7 +9,7 @@ use Rattle.replica.specs.declared.replies.Reply.{Reply}
 use Rattle.replica.specs.declared.requests.Request.{Request}
 use Rattle.replica.specs.declared.requests.Request.TheVariants.{Query, Put}
 use Rattle.client_phases.specs.Calls.{answer_from}
-use Rattle.client_phases.specs.Clients.{client_after, client_of, invoked, responded, stopped, taken}
+use Rattle.client_phases.specs.Clients.{client_after, client_of, client_after_invoke, client_after_respond, client_after_stop, taken}
 use Rattle.client_phases.specs.declared.clients.Client.{Client}
 use Rattle.client_phases.specs.declared.outcomes.Taken.{Taken}
 use Rattle.client_phases.specs.declared.outcomes.Taken.TheVariants.{Stale, Counted, Noted, Agreed}
@@ -31,7 +31,7 @@ use Rattle.world_steps.specs.Refusals.{refusal_of}
 use Rattle.world_steps.specs.Runs.{after, after_from, next}
 use Rattle.world_steps.specs.Sound.{IsAtMost}
 use Rattle.world_steps.specs.SoundSystems.{held_in}
-use Rattle.world_steps.specs.Systems.{answered_op, deliver, handle, invoke, moved, next_call, op_of, opening, respond, send, set_up, stop, take, with_note}
+use Rattle.world_steps.specs.Systems.{answered_op, deliver, handle, invoke, system_after, next_call, op_of, opening, respond, send, set_up, stop, take, with_note}
 use Rattle.world_steps.specs.declared.nodes.Node.{Node}
 use Rattle.world_steps.specs.declared.step.Step.{Step}
 use Rattle.world_steps.specs.declared.step.Step.TheVariants as step
@@ -93,7 +93,7 @@ module _ (s : System) where
   -- ---- steps of clients
   asked : (name : ℕ) (key : List ℕ) (action : Action) (found : Option Client) → Lasts s (invoke s name key action found)
   asked name key action None = still
-  asked name key action (Some client) = record { joined = there s.members.clients name (invoked client (next_call s) key action); held = level; rows = a_row (Invoke (next_call s) name key action) }
+  asked name key action (Some client) = record { joined = there s.members.clients name (client_after_invoke client (next_call s) key action); held = level; rows = a_row (Invoke (next_call s) name key action) }
 
   sent : (replica : ℕ) (found : Option Client) → Lasts s (send s replica found)
   sent replica None = still
@@ -114,12 +114,12 @@ module _ (s : System) where
       by_state rules Idle = still
       by_state rules (Ask asking) = still
       by_state rules (Putting chosen counted) = still
-      by_state rules (Ready chosen) = record { joined = there s.members.clients name (responded (record { rules = rules; state = Ready chosen })); held = level; rows = a_row (Respond chosen.call.op (answer_from chosen)) }
+      by_state rules (Ready chosen) = record { joined = there s.members.clients name (client_after_respond (record { rules = rules; state = Ready chosen })); held = level; rows = a_row (Respond chosen.call.op (answer_from chosen)) }
       by_state rules Stopped = still
 
   stops : (name : ℕ) (found : Option Client) → Lasts s (stop s name found)
   stops name None = still
-  stops name (Some client) = record { joined = there s.members.clients name (stopped client); held = level; rows = same_rows }
+  stops name (Some client) = record { joined = there s.members.clients name (client_after_stop client); held = level; rows = same_rows }
 
   heard : (name : ℕ) (reply : Reply) (found : Option Client) → Lasts s (take s name reply found)
   heard name reply None = still
@@ -150,7 +150,7 @@ module _ (s : System) where
       record { joined = there.joined; held = there.held; rows = there.rows }
   delivered flight (Some (ToClient name reply)) = let there = heard name reply (finite.get s.members.clients name) in record { joined = there.joined; held = there.held; rows = there.rows }
 
-lasts_moved : (s : System) (step : Step) → Lasts s (moved s step)
+lasts_moved : (s : System) (step : Step) → Lasts s (system_after s step)
 lasts_moved s (step.Join name) = record { joined = there s.members.clients name (client_of name s.config.quorums s.config.reads); held = level s; rows = same_rows s }
 lasts_moved s (step.Invoke name key action) = asked s name key action (finite.get s.members.clients name)
 lasts_moved s (step.Send name replica) = sent s replica (finite.get s.members.clients name)
@@ -162,7 +162,7 @@ lasts_moved s (step.StopClient name) = stops s name (finite.get s.members.client
 lasts_moved s (step.StopReplica number) = set s number false (slice_get s.nodes number) refl
 lasts_moved s (step.StartReplica number) = set s number true (slice_get s.nodes number) refl
 
-lasts_by : (s : System) (step : Step) (b : Bool) → Lasts s (cond b s (moved s step))
+lasts_by : (s : System) (step : Step) (b : Bool) → Lasts s (cond b s (system_after s step))
 lasts_by s step true = still s
 lasts_by s step false = lasts_moved s step
 

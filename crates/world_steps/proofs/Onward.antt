@@ -3,7 +3,7 @@ use Rattle.std.proofs.Common.{◌≡◌, ℕ, zero, suc, ◌+◌, List, [], ◌�
 use Rattle.world_steps.specs.Configs.{Config}
 use Rattle.world_steps.specs.Refusals.{refusal_of}
 use Rattle.world_steps.specs.Runs.{AreAccepted, next, after, after_from}
-use Rattle.world_steps.specs.Systems.{moved, opening}
+use Rattle.world_steps.specs.Systems.{system_after, opening}
 use Rattle.world_steps.specs.Taken.{next_by}
 use Rattle.world_steps.specs.declared.effect.Effect.{Effect}
 use Rattle.world_steps.specs.declared.refusal.Refusal.{Refusal}
@@ -25,7 +25,7 @@ accepted_push s [] step are none = (none, tt)
 accepted_push s (first ∷ steps) step are none = (are.0, accepted_push (next s first) steps step are.1 none)
 
 pub accepted_step : (config : Config) (steps : List Step) (step : Step) → AreAccepted (opening config) steps → refusal_of (after config steps) step ≡ None
-    → (after config (steps ++ step ∷ []) ≡ moved (after config steps) step) × AreAccepted (opening config) (steps ++ step ∷ [])
+    → (after config (steps ++ step ∷ []) ≡ system_after (after config steps) step) × AreAccepted (opening config) (steps ++ step ∷ [])
 accepted_step config steps step are none = (after_step config steps step ∙ next_by (after config steps) step None none, accepted_push (opening config) steps step are none)
 
 -- the first steps, with the one behind them

@@ -4,7 +4,7 @@ use Rattle.std.specs.FinMap as finite
 use Rattle.tag.specs.declared.actions.Action.{Action}
 use Rattle.replica.specs.declared.replies.Reply.{Reply}
 use Rattle.replica.specs.declared.requests.Request.{Request}
-use Rattle.client_phases.specs.Clients.{client_after, client_of, invoked, phase_of, responded, stopped}
+use Rattle.client_phases.specs.Clients.{client_after, client_of, client_after_invoke, phase_of, client_after_respond, client_after_stop}
 use Rattle.client_phases.specs.declared.clients.Client.{Client}
 use Rattle.client_phases.specs.declared.rules.Rules.{Rules}
 use Rattle.client_phases.specs.declared.states.State.{State}
@@ -18,7 +18,7 @@ use Rattle.world_steps.specs.Moves.{IsClient}
 use Rattle.world_steps.specs.Refusals.{arrival_refusals, first_of, is_stopped, no_such_client, phase_at, refusal_of}
 use Rattle.world_steps.specs.Runs.{join_count, stop_count}
 use Rattle.world_steps.specs.SoundSystems.{IsSound}
-use Rattle.world_steps.specs.Systems.{deliver, handle, invoke, moved, next_call, op_of, respond, send, set_up, stop, take}
+use Rattle.world_steps.specs.Systems.{deliver, handle, invoke, system_after, next_call, op_of, respond, send, set_up, stop, take}
 use Rattle.world_steps.specs.declared.nodes.Node.{Node}
 use Rattle.world_steps.specs.declared.step.Step.{Step}
 use Rattle.world_steps.specs.declared.step.Step.TheVariants as step
@@ -141,22 +141,22 @@ module _ (s : System) where
       heard name reply (finite.get s.members.clients name) refl (passed _ _ _ (subst (λ found. first_of (arrival_refusals s found) ≡ None) is none)).0
 
   -- ---- a client invokes a call
-  asked : (name : ℕ) (key : List ℕ) (action : Action) → refusal_of s (step.Invoke name key action) ≡ None → NoneMore (moved s (step.Invoke name key action))
+  asked : (name : ℕ) (key : List ℕ) (action : Action) → refusal_of s (step.Invoke name key action) ≡ None → NoneMore (system_after s (step.Invoke name key action))
   asked name key action none =
       let first = passed _ _ _ none in
       let second = passed _ _ _ first.1 in
       let (client, is) = client_there s name first.0 in
-      subst (λ found. NoneMore (invoke s name key action found)) (sym is) (turned name (invoked client (next_call s) key action) (runs name client is second.0))
+      subst (λ found. NoneMore (invoke s name key action found)) (sym is) (turned name (client_after_invoke client (next_call s) key action) (runs name client is second.0))
 
   -- ---- a client answers
   responded_by : (name : ℕ) (rules : Rules) (state : State) → is_running (finite.get s.members.clients name) ≡ true → NoneMore (respond s name (Some (record { rules = rules; state = state })))
   responded_by name rules Idle ran = still
   responded_by name rules (Ask asking) ran = still
   responded_by name rules (Put chosen counted) ran = still
-  responded_by name rules (Ready chosen) ran = turned name (responded (record { rules = rules; state = Ready chosen })) ran
+  responded_by name rules (Ready chosen) ran = turned name (client_after_respond (record { rules = rules; state = Ready chosen })) ran
   responded_by name rules Stopped ran = still
 
-  answered : (name : ℕ) → refusal_of s (step.Respond name) ≡ None → NoneMore (moved s (step.Respond name))
+  answered : (name : ℕ) → refusal_of s (step.Respond name) ≡ None → NoneMore (system_after s (step.Respond name))
   answered name none =
       let first = passed _ _ _ none in
       let second = passed _ _ _ first.1 in
@@ -164,25 +164,25 @@ module _ (s : System) where
       subst (λ found. NoneMore (respond s name found)) (sym is) (responded_by name client.rules client.state (runs name client is second.0))
 
   -- ---- a client stops
-  stops : (name : ℕ) → IsSound s → refusal_of s (step.StopClient name) ≡ None → running_count (moved s (step.StopClient name)).members + 1 ≤ running_count s.members + 0
+  stops : (name : ℕ) → IsSound s → refusal_of s (step.StopClient name) ≡ None → running_count (system_after s (step.StopClient name)).members + 1 ≤ running_count s.members + 0
   stops name sound none =
       let first = passed _ _ _ none in
       let second = passed _ _ _ first.1 in
       let (client, is) = client_there s name first.0 in
       let (place, at) = sound.named.listed name client is in
-      let less : running_among (finite.insert s.members.clients name (stopped client)) s.members.joined + 1 ≤ running_count s.members =
-      one_stops s.members.clients name (stopped client) s.members.joined place at (runs name client is second.0) refl in
+      let less : running_among (finite.insert s.members.clients name (client_after_stop client)) s.members.joined + 1 ≤ running_count s.members =
+      one_stops s.members.clients name (client_after_stop client) s.members.joined place at (runs name client is second.0) refl in
       subst (λ found. running_count (stop s name found).members + 1 ≤ running_count s.members + 0) (sym is) (omega (arith, less))
 
   -- ---- a client joins
-  joins : (name : ℕ) → IsSound s → refusal_of s (step.Join name) ≡ None → running_count (moved s (step.Join name)).members + 0 ≤ running_count s.members + 1
+  joins : (name : ℕ) → IsSound s → refusal_of s (step.Join name) ≡ None → running_count (system_after s (step.Join name)).members + 0 ≤ running_count s.members + 1
   joins name sound none =
       let away = none_of (finite.get s.members.clients name) (not_not (no_such_client s name) (passed _ _ _ none).0) in
       let more = one_joins s.members.clients name (client_of name s.config.quorums s.config.reads) s.members.joined (not_joined s.members sound.named name away) in
       omega (arith, more)
 
 -- ---- every step that isn't refused
-pub running_moved : (s : System) (step : Step) → IsSound s → refusal_of s step ≡ None → running_count (moved s step).members + stop_count step ≤ running_count s.members + join_count step
+pub running_moved : (s : System) (step : Step) → IsSound s → refusal_of s step ≡ None → running_count (system_after s step).members + stop_count step ≤ running_count s.members + join_count step
 running_moved s (step.Join name) sound none = joins s name sound none
 running_moved s (step.Invoke name key action) sound none = asked s name key action none
 running_moved s (step.Send name replica) sound none = sent s replica (finite.get s.members.clients name)

@@ -10,7 +10,7 @@ use Rattle.world_steps.specs.Configs.{Config}
 use Rattle.world_steps.specs.Refusals.{refusal_of, no_such_client}
 use Rattle.world_steps.specs.Runs.{next, after_from, after}
 use Rattle.world_steps.specs.SoundSystems.{Flies, IsSound}
-use Rattle.world_steps.specs.Systems.{opening, arrive, deliver, join, invoke, respond, moved}
+use Rattle.world_steps.specs.Systems.{opening, arrive, deliver, join, invoke, respond, system_after}
 use Rattle.world_steps.specs.declared.refusal.Refusal.{Refusal}
 use Rattle.world_steps.specs.declared.step.Step.{Step}
 use Rattle.world_steps.specs.declared.step.Step.TheVariants as step
@@ -56,7 +56,7 @@ module _ (s : System) (sound : IsSound s) where
   delivered_sound flight (Some message) is = lose_sound (arrive s message) (arrive_sound message (flies s flight message is)) flight
 
 -- ---- every step that isn't refused
-pub moved_sound : (s : System) (step : Step) → IsSound s → refusal_of s step ≡ None → IsSound (moved s step)
+pub moved_sound : (s : System) (step : Step) → IsSound s → refusal_of s step ≡ None → IsSound (system_after s step)
 moved_sound s (step.Join name) sound none = joined_sound s sound name none
 moved_sound s (step.Invoke name key action) sound none = asked_sound s sound name key action none
 moved_sound s (step.Send name replica) sound none = send_sound s sound name replica (replica_there s replica (passed _ _ _ none).0)
@@ -69,7 +69,7 @@ moved_sound s (step.StopReplica number) sound none = set_up_sound s sound number
 moved_sound s (step.StartReplica number) sound none = set_up_sound s sound number true
 
 -- ---- every step, and every list of steps
-next_by : (s : System) (step : Step) (found : Option Refusal) → IsSound s → refusal_of s step ≡ found → IsSound (cond (is_some found) s (moved s step))
+next_by : (s : System) (step : Step) (found : Option Refusal) → IsSound s → refusal_of s step ≡ found → IsSound (cond (is_some found) s (system_after s step))
 next_by s step (Some why) sound is = sound
 next_by s step None sound is = moved_sound s step sound is
 

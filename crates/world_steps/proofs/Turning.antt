@@ -3,7 +3,7 @@ use Rattle.std.proofs.Common.{◌≡◌, ℕ, ◌<◌, ◌≤◌, List, ◌∷�
 use Rattle.std.specs.FinMap as finite
 use Rattle.tag.specs.declared.actions.Action.{Action}
 use Rattle.client_phases.specs.Calls.{Chosen, answer_from}
-use Rattle.client_phases.specs.Clients.{client_of, invoked, stopped}
+use Rattle.client_phases.specs.Clients.{client_of, client_after_invoke, client_after_stop}
 use Rattle.client_phases.specs.declared.calls.Call.{Call}
 use Rattle.client_phases.specs.declared.clients.Client.{Client}
 use Rattle.client_phases.specs.declared.states.State.{State}
@@ -93,7 +93,7 @@ module _ (s : System) (sound : IsSound s) where
       → IsSound (invoke s name key action (Some client))
   invoked_sound name key action client is idle room =
       let call : Call = record { op = next_call s; key = key; action = action } in
-      let new : Client = invoked client call.op key action in
+      let new : Client = client_after_invoke client call.op key action in
       let counted = count_push s.history.rows (Invoke call.op name key action) in
       turned_system s sound s.members.joined name new (with_row s.history (Invoke call.op name key action)) (named_insert s.members sound.named name client new is) (sound.ruled name client is) (nobody_asked s.config.quorums sound.sound.lawful) (omega (arith, counted, room)) refl
       (invoking s.config.quorums s.history.rows (held_in s.nodes) (Flies s.pool.flights) (IsIn s.members.clients) (IsIn (finite.insert s.members.clients name new)) name call sound.sound
@@ -125,7 +125,7 @@ module _ (s : System) (sound : IsSound s) where
   stopped_sound : (name : ℕ) (found : Option Client) → finite.get s.members.clients name ≡ found → IsSound (stop s name found)
   stopped_sound name None is = sound
   stopped_sound name (Some client) is =
-      let new : Client = stopped client in
+      let new : Client = client_after_stop client in
       turned_system s sound s.members.joined name new s.history (named_insert s.members sound.named name client new is) (sound.ruled name client is) tt sound.calls refl
       (turning s.config.quorums s.history.rows (held_in s.nodes) (Flies s.pool.flights) (IsIn s.members.clients) (IsIn (finite.insert s.members.clients name new)) name Stopped sound.sound
       SoundStopped tt (turned_insert s.members.clients name new) (there_insert s.members.clients name new))

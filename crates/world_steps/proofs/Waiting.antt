@@ -9,7 +9,7 @@ use Rattle.replica.specs.declared.replies.Reply.{Reply}
 use Rattle.replica.specs.declared.replies.Reply.TheVariants.{Held, Kept}
 use Rattle.client_phases.specs.Asking.{Asking, asking_with, counts, is_agreed}
 use Rattle.client_phases.specs.Calls.{Chosen, pair_to_put}
-use Rattle.client_phases.specs.States.{asked, heard, kept}
+use Rattle.client_phases.specs.States.{asking_outcome, reply_outcome, putting_outcome}
 use Rattle.client_phases.specs.declared.outcomes.Taken.{Taken}
 use Rattle.client_phases.specs.declared.outcomes.Taken.TheVariants.{Stale, Counted, Noted, Agreed}
 use Rattle.client_phases.specs.declared.outcomes.Taken.TheVariants as outcome
@@ -44,7 +44,7 @@ module _ (rules : Rules) (lawful : IsLawful rules.quorums) where
   asked_by asking pair found true false some other e = nobody_put rules.quorums lawful
   asked_by asking pair found false b some other e = e
 
-  asked_waits : (asking : Asking) → IsWaiting rules.quorums (asked rules asking).0
+  asked_waits : (asking : Asking) → IsWaiting rules.quorums (asking_outcome rules asking).0
   asked_waits asking =
       asked_by asking (record { call = asking.call; pair = pair_to_put rules.name asking.call.action asking.best }) (record { call = asking.call; pair = asking.best })
       (is_ask_quorum rules.quorums asking.counted) (is_agreed rules asking) _ _ refl
@@ -59,12 +59,12 @@ module _ (rules : Rules) (lawful : IsLawful rules.quorums) where
   pick false x y p q = q
 
   -- a reply that is taken leaves a client that waits
-  pub heard_waits : (state : State) (reply : Reply) → IsWaiting rules.quorums state → IsWaiting rules.quorums (heard rules state reply).0
+  pub heard_waits : (state : State) (reply : Reply) → IsWaiting rules.quorums state → IsWaiting rules.quorums (reply_outcome rules state reply).0
   heard_waits (Ask asking) (Held op replica tag value) waits =
-      pick (counts rules asking.call asking.counted op replica) (asked rules (asking_with asking replica (record { tag = tag; value = value }))) (Ask asking, Stale)
+      pick (counts rules asking.call asking.counted op replica) (asking_outcome rules (asking_with asking replica (record { tag = tag; value = value }))) (Ask asking, Stale)
       (asked_waits (asking_with asking replica (record { tag = tag; value = value }))) waits
   heard_waits (Put chosen counted) (Kept op replica) waits =
-      pick (counts rules chosen.call counted op replica) (kept rules chosen (finite.insert counted replica)) (Put chosen counted, Stale)
+      pick (counts rules chosen.call counted op replica) (putting_outcome rules chosen (finite.insert counted replica)) (Put chosen counted, Stale)
       (kept_by chosen (finite.insert counted replica) (is_put_quorum rules.quorums (finite.insert counted replica)) refl) waits
   heard_waits (Ask asking) (Kept op replica) waits = waits
   heard_waits (Put chosen counted) (Held op replica tag value) waits = waits

@@ -20,7 +20,7 @@ use Rattle.network.specs.declared.messages.Message.TheVariants.{ToReplica, ToCli
 use Rattle.recorder.specs.Histories.{Fits, IsBusy, IsPendingCall, MayFollow, call_count, caller_of}
 use Rattle.recorder.specs.declared.row.Row.TheVariants.{Note, Respond}
 use Rattle.world_steps.specs.Runs.{MayGrow}
-use Rattle.world_steps.specs.Systems.{moved, effect_of, op_of, answered_op}
+use Rattle.world_steps.specs.Systems.{system_after, effect_of, op_of, answered_op}
 use Rattle.world_steps.specs.declared.nodes.Node.{Node}
 use Rattle.world_steps.specs.declared.step.Step.{Step}
 use Rattle.world_steps.specs.declared.step.Step.TheVariants as step
@@ -116,5 +116,5 @@ MayMove s (step.StartReplica number) = number < length s.nodes
 
 -- the system moved, or memory was refused where something may grow, and nothing changed
 abbrev pub Moves : System → Step → Result Effect Memory → System → Type 0
-Moves old step (Ok effect) new = (effect_of old step ≡ Some effect) × (new ≡ moved old step)
+Moves old step (Ok effect) new = (effect_of old step ≡ Some effect) × (new ≡ system_after old step)
 Moves old step (Err why) new = MayGrow step × (new ≡ old)

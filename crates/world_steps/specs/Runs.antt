@@ -1,7 +1,7 @@
 -- Steps and runs.
 use Rattle.std.specs.Prelude.{ℕ, ◌≡◌, ◌⊎◌, List, [], ◌∷◌, None, Some, Result, Ok, Err, is_some, if◌then◌else◌}
 use Rattle.world_steps.specs.Configs.{Config}
-use Rattle.world_steps.specs.Systems.{opening, moved, effect_of}
+use Rattle.world_steps.specs.Systems.{opening, system_after, effect_of}
 use Rattle.world_steps.specs.declared.system.System.{System}
 use Rattle.world_steps.specs.Refusals.{refusal_of}
 use Rattle.world_steps.specs.declared.step.Step.{Step}
@@ -12,7 +12,7 @@ use Rattle.world_steps.specs.declared.refusal.Refusal.TheVariants as refusal
 
 -- a step is refused and changes nothing, or the system moves
 abbrev pub next : System → Step → System
-next s step = if is_some (refusal_of s step) then s else moved s step
+next s step = if is_some (refusal_of s step) then s else system_after s step
 
 -- the system after a list of steps
 abbrev pub after_from : System → List Step → System
@@ -56,5 +56,5 @@ IsRefused s step why = (refusal_of s step ≡ Some why) ⊎ ((refusal_of s step 
 
 -- what a step answers, and what it leaves
 abbrev pub Steps : System → Step → Result Effect Refusal → System → Type 0
-Steps old step (Ok effect) new = (refusal_of old step ≡ None) × (effect_of old step ≡ Some effect) × (new ≡ moved old step)
+Steps old step (Ok effect) new = (refusal_of old step ≡ None) × (effect_of old step ≡ Some effect) × (new ≡ system_after old step)
 Steps old step (Err why) new = IsRefused old step why × (new ≡ old)

@@ -11,7 +11,7 @@ use Rattle.replica.specs.declared.replies.Reply.{Reply}
 use Rattle.replica.specs.declared.replies.Reply.TheVariants.{Held, Kept}
 use Rattle.client_phases.specs.Calls.{answer_from}
 use Rattle.client_phases.specs.declared.clients.Client.{Client}
-use Rattle.client_phases.specs.Clients.{client_of, client_after, invoked, request_of, responded, stopped, taken}
+use Rattle.client_phases.specs.Clients.{client_of, client_after, client_after_invoke, request_of, client_after_respond, client_after_stop, taken}
 use Rattle.client_phases.specs.declared.outcomes.Taken.{Taken}
 use Rattle.client_phases.specs.declared.outcomes.Taken.TheVariants.{Noted, Agreed}
 use Rattle.client_phases.specs.declared.states.State.{State}
@@ -61,7 +61,7 @@ next_call s = record { 0 = call_count s.history.rows }
 -- a client asks for a further call, which is recorded
 abbrev pub invoke : System → ℕ → List ℕ → Action → Option Client → System
 invoke s name key action (Some client) =
-    record (turn s name (invoked client (next_call s) key action)) { history = with_row s.history (Invoke (next_call s) name key action) }
+    record (turn s name (client_after_invoke client (next_call s) key action)) { history = with_row s.history (Invoke (next_call s) name key action) }
 invoke s name key action None = s
 
 abbrev send_to : System → ℕ → Option Request → System
@@ -120,7 +120,7 @@ deliver s flight (Some message) = lose (arrive s message) flight
 deliver s flight None = s
 
 abbrev respond_in : System → ℕ → Client → State → System
-respond_in s name client (Ready chosen) = record (turn s name (responded client)) { history = with_row s.history (Respond chosen.call.op (answer_from chosen)) }
+respond_in s name client (Ready chosen) = record (turn s name (client_after_respond client)) { history = with_row s.history (Respond chosen.call.op (answer_from chosen)) }
 respond_in s name client state = s
 
 -- a client that is ready answers, which is recorded
@@ -130,7 +130,7 @@ respond s name None = s
 
 -- a client stops for good
 abbrev pub stop : System → ℕ → Option Client → System
-stop s name (Some client) = turn s name (stopped client)
+stop s name (Some client) = turn s name (client_after_stop client)
 stop s name None = s
 
 -- a replica goes up or down with what it stored
@@ -139,17 +139,17 @@ set_up s number is_up (Some node) = record s { nodes = slice_set s.nodes number 
 set_up s number is_up None = s
 
 -- what a step makes of the system
-abbrev pub moved : System → Step → System
-moved s (step.Join name) = join s name
-moved s (step.Invoke name key action) = invoke s name key action (finite.get s.members.clients name)
-moved s (step.Send name replica) = send s replica (finite.get s.members.clients name)
-moved s (step.Deliver flight) = deliver s flight (message_of s.pool.flights flight)
-moved s (step.Lose flight) = lose s flight
-moved s (step.Repeat flight) = repeat s flight
-moved s (step.Respond name) = respond s name (finite.get s.members.clients name)
-moved s (step.StopClient name) = stop s name (finite.get s.members.clients name)
-moved s (step.StopReplica number) = set_up s number false (slice_get s.nodes number)
-moved s (step.StartReplica number) = set_up s number true (slice_get s.nodes number)
+abbrev pub system_after : System → Step → System
+system_after s (step.Join name) = join s name
+system_after s (step.Invoke name key action) = invoke s name key action (finite.get s.members.clients name)
+system_after s (step.Send name replica) = send s replica (finite.get s.members.clients name)
+system_after s (step.Deliver flight) = deliver s flight (message_of s.pool.flights flight)
+system_after s (step.Lose flight) = lose s flight
+system_after s (step.Repeat flight) = repeat s flight
+system_after s (step.Respond name) = respond s name (finite.get s.members.clients name)
+system_after s (step.StopClient name) = stop s name (finite.get s.members.clients name)
+system_after s (step.StopReplica number) = set_up s number false (slice_get s.nodes number)
+system_after s (step.StartReplica number) = set_up s number true (slice_get s.nodes number)
 
 -- ---- what a step answers, where nothing refuses it
 

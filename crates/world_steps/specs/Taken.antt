@@ -2,7 +2,7 @@
 use Rattle.std.proofs.Common.{◌≡◌, Option, None, Some, is_some, Result, Ok, Err, inl, inr, cond, sym, ap, ◌∙◌}
 use Rattle.world_steps.specs.Refusals.{refusal_of}
 use Rattle.world_steps.specs.Runs.{Steps, next}
-use Rattle.world_steps.specs.Systems.{moved}
+use Rattle.world_steps.specs.Systems.{system_after}
 use Rattle.world_steps.specs.declared.effect.Effect.{Effect}
 use Rattle.world_steps.specs.declared.refusal.Refusal.{Refusal}
 use Rattle.world_steps.specs.declared.refusal.Refusal.TheVariants as refusal
@@ -10,8 +10,8 @@ use Rattle.world_steps.specs.declared.step.Step.{Step}
 use Rattle.world_steps.specs.declared.system.System.{System}
 
 -- the next system, by whether the step is refused
-pub next_by : (s : System) (step : Step) (found : Option Refusal) → refusal_of s step ≡ found → next s step ≡ cond (is_some found) s (moved s step)
-next_by s step found e = ap (λ o. cond (is_some o) s (moved s step)) e
+pub next_by : (s : System) (step : Step) (found : Option Refusal) → refusal_of s step ≡ found → next s step ≡ cond (is_some found) s (system_after s step)
+next_by s step found e = ap (λ o. cond (is_some o) s (system_after s step)) e
 
 -- a step that isn't refused for memory leaves the next system
 pub next_is : (s : System) (step : Step) (result : Result Effect Refusal) (new : System) → Steps s step result new → (result ≡ Err refusal.Memory → ⊥) → new ≡ next s step

@@ -6,7 +6,7 @@ ghost use Rattle.std.specs.Cmp.{and_per, nat_eq_equiv, on_per, partial_equiv_fro
 ghost use Rattle.std.specs.Cmp.Lexicographic.{lists_per, pointwise};
 ghost use Rattle.std.specs.Ordering.{eq_of_both, on};
 ghost use Rattle.client_phases.specs.contracts.clients.ClientPartialEq.TheImpl.Laws as client;
-ghost use Rattle.client_phases.specs.Clients.{MayTake, client_after, invoked, phase_of, responded, stopped, taken};
+ghost use Rattle.client_phases.specs.Clients.{MayTake, client_after, client_after_invoke, phase_of, client_after_respond, client_after_stop, taken};
 ghost use Rattle.client_phases.specs.declared.clients.Client.{Client};
 ghost use Rattle.client_phases.specs.declared.outcomes.Phase.{Phase};
 ghost use Rattle.world_steps.specs.Clients.{with_client, with_member};
@@ -87,8 +87,10 @@ impl Members {
 
     /// Has an idle client begin to ask for a call.
     pub(crate) fn invoke(&mut self, name: ClientId, op: OpId, key: Key, action: Action)
-        requires { (client : Client) → finite.get self.old.clients name ≡ Some client → phase_of client ≡ Phase.Idle }
-        ensures { (client : Client) → finite.get self.old.clients name ≡ Some client → self.new ≡ with_client self.old name (invoked client op key action) }
+        requires { (client : Client) → finite.get self.old.clients name ≡ Some client
+            → phase_of client ≡ Phase.Idle }
+        ensures { (client : Client) → finite.get self.old.clients name ≡ Some client
+            → self.new ≡ with_client self.old name (client_after_invoke client op key action) }
     {
         if let Some(client) = self.clients.get_mut(&name.get()) {
             client.invoke(op, key, action);
@@ -97,8 +99,10 @@ impl Members {
 
     /// Has a client take a reply.
     pub(crate) fn take(&mut self, name: ClientId, reply: Reply)
-        requires { (client : Client) → finite.get self.old.clients name ≡ Some client → MayTake client reply }
-        ensures { (client : Client) → finite.get self.old.clients name ≡ Some client → self.new ≡ with_client self.old name (client_after client reply) }
+        requires { (client : Client) → finite.get self.old.clients name ≡ Some client
+            → MayTake client reply }
+        ensures { (client : Client) → finite.get self.old.clients name ≡ Some client
+            → self.new ≡ with_client self.old name (client_after client reply) }
     {
         if let Some(client) = self.clients.get_mut(&name.get()) {
             client.take(reply);
@@ -107,8 +111,10 @@ impl Members {
 
     /// Has a client that is ready be idle again.
     pub(crate) fn respond(&mut self, name: ClientId)
-        requires { (client : Client) → finite.get self.old.clients name ≡ Some client → phase_of client ≡ Phase.Ready }
-        ensures { (client : Client) → finite.get self.old.clients name ≡ Some client → self.new ≡ with_client self.old name (responded client) }
+        requires { (client : Client) → finite.get self.old.clients name ≡ Some client
+            → phase_of client ≡ Phase.Ready }
+        ensures { (client : Client) → finite.get self.old.clients name ≡ Some client
+            → self.new ≡ with_client self.old name (client_after_respond client) }
     {
         if let Some(client) = self.clients.get_mut(&name.get()) {
             client.respond();
@@ -117,7 +123,8 @@ impl Members {
 
     /// Has a client stop.
     pub(crate) fn stop(&mut self, name: ClientId)
-        ensures { (client : Client) → finite.get self.old.clients name ≡ Some client → self.new ≡ with_client self.old name (stopped client) }
+        ensures { (client : Client) → finite.get self.old.clients name ≡ Some client
+            → self.new ≡ with_client self.old name (client_after_stop client) }
     {
         if let Some(client) = self.clients.get_mut(&name.get()) {
             client.stop();

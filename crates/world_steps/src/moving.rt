@@ -63,7 +63,8 @@ impl System {
     fn post(&mut self, message: Message) -> Result<u32, Memory>
         requires { self.old.pool.sent < self.old.pool.limit }
         ensures number { IfOk result (λ number. number ≡ self.old.pool.sent) }
-        ensures ok { OnOk result (self.new ≡ record self.old { pool = with_sent self.old.pool message }) }
+        ensures ok { OnOk result (self.new
+            ≡ record self.old { pool = with_sent self.old.pool message }) }
         ensures bag { IsBag self.old.pool }
         ensures err { OnErr result (self.new ≡ self.old) }
     {
@@ -93,7 +94,8 @@ impl System {
     /// Records a call's note.
     fn note(&mut self, op: OpId, tag: Tag) -> Result<(), Memory>
         requires { MayFollow self.old.history.rows (Row.Note op tag) }
-        ensures ok { OnOk result (self.new ≡ record self.old { history = with_row self.old.history (Row.Note op tag) }) }
+        ensures ok { OnOk result (self.new
+            ≡ record self.old { history = with_row self.old.history (Row.Note op tag) }) }
         ensures err { OnErr result (self.new ≡ self.old) }
     {
         match self.history.note(op, tag) {
@@ -107,7 +109,8 @@ impl System {
     #[tactic(auto, using(crate::proofs::Refused::respond_not_refused))]
     fn answer(&mut self, op: OpId, returned: Returned) -> Result<(), Memory>
         requires { MayAnswer self.old op returned }
-        ensures ok { OnOk result (self.new ≡ record self.old { history = with_row self.old.history (Row.Respond op returned) }) }
+        ensures ok { OnOk result (self.new
+            ≡ record self.old { history = with_row self.old.history (Row.Respond op returned) }) }
         ensures err { OnErr result (self.new ≡ self.old) }
     {
         match self.history.respond(op, returned) {
@@ -122,7 +125,8 @@ impl System {
     fn handle(&mut self, number: ReplicaId, request: &Request) -> Result<Effect, Memory>
         requires { MayHandle self.old number request.now }
         ensures effect { IfOk result (λ effect. effect ≡ Effect.Answered self.old.pool.sent) }
-        ensures ok { OnOk result (self.new ≡ arrive self.old (Message.ToReplica number request.now)) }
+        ensures ok { OnOk result (self.new ≡ arrive self.old
+            (Message.ToReplica number request.now)) }
         ensures err { OnErr result (self.new ≡ self.old) }
     {
         let Some(client) = self.history.caller(op_of(request)) else {
@@ -152,7 +156,8 @@ impl System {
     /// Records the note of a call, where what its client takes settles the call's tag.
     fn note_settled(&mut self, op: OpId, taken: &Taken) -> Result<(), Memory>
         requires { MayNote self.old op taken.now }
-        ensures ok { OnOk result (self.new ≡ record self.old { history = with_note self.old.history op taken.now }) }
+        ensures ok { OnOk result (self.new
+            ≡ record self.old { history = with_note self.old.history op taken.now }) }
         ensures err { OnErr result (self.new ≡ self.old) }
     {
         match taken {
@@ -164,7 +169,9 @@ impl System {
     /// Has a client take a reply, and records the note that it may make.
     fn hear(&mut self, name: ClientId, reply: Reply) -> Result<Effect, Memory>
         requires { MayHear self.old name reply }
-        ensures effect { IfOk result (λ effect. (client : Client) → IsClient self.old name client → effect ≡ Effect.Taken (taken client reply)) }
+        ensures effect { IfOk result
+            (λ effect. (client : Client) → IsClient self.old name client
+            → effect ≡ Effect.Taken (taken client reply)) }
         ensures ok { OnOk result (self.new ≡ arrive self.old (Message.ToClient name reply)) }
         ensures err { OnErr result (self.new ≡ self.old) }
     {

@@ -80,8 +80,12 @@ impl Nodes {
     /// Has a replica handle a request. On `Memory` nothing changed.
     pub(crate) fn handle(&mut self, number: ReplicaId, request: &Request) -> Result<Reply, Memory>
         requires { number < length self.old }
-        ensures answer { IfOk result (λ reply. (node : Node) → slice_get self.old number ≡ Some node → reply ≡ reply_of node.replica request.now) }
-        ensures after { OnOk result ((node : Node) → slice_get self.old number ≡ Some node → self.new ≡ slice_set self.old number (record node { replica = replica_after node.replica request.now })) }
+        ensures answer { IfOk result
+            (λ reply. (node : Node) → slice_get self.old number ≡ Some node
+            → reply ≡ reply_of node.replica request.now) }
+        ensures after { OnOk result ((node : Node) → slice_get self.old number ≡ Some node
+            → self.new ≡ slice_set self.old number
+            (record node { replica = replica_after node.replica request.now })) }
         ensures err { OnErr result (self.new ≡ self.old) }
     {
         let node = &mut self.list[usize::from(number.get())];
@@ -91,7 +95,8 @@ impl Nodes {
     /// Has a replica go up or down.
     pub(crate) fn set_up(&mut self, number: ReplicaId, is_up: bool)
         requires { number < length self.old }
-        ensures { (node : Node) → slice_get self.old number ≡ Some node → self.new ≡ slice_set self.old number (record node { is_up = is_up }) }
+        ensures { (node : Node) → slice_get self.old number ≡ Some node
+            → self.new ≡ slice_set self.old number (record node { is_up = is_up }) }
     {
         let node = &mut self.list[usize::from(number.get())];
         node.is_up = is_up;

@@ -33,7 +33,8 @@ impl System {
     }
 
     fn invoke_refusal(&self, name: ClientId) -> Option<Refusal>
-        ensures { (key : List ℕ) (action : Action) → result ≡ refusal_of self.now (Step.Invoke name key action) }
+        ensures { (key : List ℕ) (action : Action)
+            → result ≡ refusal_of self.now (Step.Invoke name key action) }
     {
         match self.phase(name) {
             None => Some(Refusal::NoSuchClient),
@@ -95,7 +96,9 @@ impl System {
     }
 
     fn request_refusal(&self, number: ReplicaId) -> Option<Refusal>
-        ensures { (request : Request) → result ≡ first_of (arrival_refusals self.now (Some (Message.ToReplica number request))) }
+        ensures { (request : Request)
+            → result ≡ first_of (arrival_refusals self.now
+            (Some (Message.ToReplica number request))) }
     {
         match self.nodes.get(number) {
             Some(node) if !node.is_up => Some(Refusal::ReplicaDown),

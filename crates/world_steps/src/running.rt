@@ -29,7 +29,9 @@ fn advance(world: &mut World, step: &Step) -> Result<(), Memory>
 /// by tag are an order of them: the record is atomic.
 pub fn run(alloc: Global, config: Config, steps: &[Step]) -> Result<World, Memory>
     ensures after { IfOk result (λ world. world ≡ after config steps.now) }
-    ensures sound { IfOk result (λ world. (key : List ℕ) (part : List Call) → IsPart world.history.rows key part → TagSound part) }
+    ensures sound { IfOk result
+        (λ world. (key : List ℕ) (part : List Call) → IsPart world.history.rows key part
+        → TagSound part) }
 {
     let mut world = World::new(alloc, config)?;
     for step in steps {

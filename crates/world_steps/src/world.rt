@@ -100,7 +100,8 @@ impl World {
     pub fn history(&self) -> &History
         ensures history { result.now ≡ self.now.history }
         ensures world { IsSound self.now }
-        ensures parts { (key : List ℕ) (part : List Call) → IsPart self.now.history.rows key part → TagSound part }
+        ensures parts { (key : List ℕ) (part : List Call) → IsPart self.now.history.rows key part
+            → TagSound part }
     {
         &self.system.history
     }
@@ -108,7 +109,8 @@ impl World {
     /// The record, of a world that isn't needed any more. The tags of each of its parts are sound.
     pub fn into_history(self) -> History
         ensures history { result ≡ self.history }
-        ensures parts { (key : List ℕ) (part : List Call) → IsPart self.history.rows key part → TagSound part }
+        ensures parts { (key : List ℕ) (part : List Call) → IsPart self.history.rows key part
+            → TagSound part }
     {
         let World { system } = self;
         system.history
@@ -116,7 +118,8 @@ impl World {
 
     /// The replica of that number, if there is one.
     pub fn replica(&self, number: ReplicaId) -> Option<&Replica>
-        ensures { option_copied result ≡ option_map (λ node. node.replica) (slice_get self.now.nodes number) }
+        ensures { option_copied result ≡ option_map
+            (λ node. node.replica) (slice_get self.now.nodes number) }
     {
         match self.system.nodes.get(number) {
             Some(node) => Some(&node.replica),
@@ -126,7 +129,8 @@ impl World {
 
     /// Whether the replica of that number is up; a replica that isn't there is not.
     pub fn is_up(&self, number: ReplicaId) -> bool
-        ensures { result ≡ option_map_or (λ node. node.is_up) (slice_get self.now.nodes number) false }
+        ensures { result ≡ option_map_or
+            (λ node. node.is_up) (slice_get self.now.nodes number) false }
     {
         match self.system.nodes.get(number) {
             Some(node) => node.is_up,

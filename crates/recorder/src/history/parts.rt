@@ -53,7 +53,10 @@ impl History {
     ) -> Result<Call, Memory>
         requires { IsBegunAt self.now.rows place op client action.now }
         ensures invoked { IfOk result (λ call. call.invoked ≡ place) }
-        ensures call { IfOk result (λ call. (key : List ℕ) → slice_get self.now.rows place ≡ Some (Row.Invoke op client key action.now) → IsRecorded self.now.rows key call) }
+        ensures call { IfOk result
+            (λ call. (key : List ℕ)
+            → slice_get self.now.rows place ≡ Some (Row.Invoke op client key action.now)
+            → IsRecorded self.now.rows key call) }
     {
         let state = self.states[op.0 as usize];
         Ok(Call {
@@ -91,9 +94,11 @@ fn add_call(
     key: &Key,
     call: Call,
 ) -> Result<(), Memory>
-    requires slot { (keys : List (List ℕ)) × Numbers (map (λ e. e.0) entries.old.items) key.now slot keys }
+    requires slot { (keys : List (List ℕ))
+        × Numbers (map (λ e. e.0) entries.old.items) key.now slot keys }
     requires first { IsSequence (call ∷ []) }
-    requires later { (part : List Call) → Contains entries.old.items (key.now, part) → IsSequence (part ++ call ∷ []) }
+    requires later { (part : List Call) → Contains entries.old.items (key.now, part)
+        → IsSequence (part ++ call ∷ []) }
     ensures { OnOk result (AddsCall entries.old.items key.now call entries.new.items) }
 {
     if slot < entries.len() {

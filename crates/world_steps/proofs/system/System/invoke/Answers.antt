@@ -2,7 +2,7 @@ use Rattle.std.proofs.Common.{◌≡◌, sym, ◌∙◌, ap, Some, Option}
 use Rattle.tag.specs.declared.numbers.OpId.{OpId}
 use Rattle.tag.specs.declared.actions.Action.{Action}
 use Rattle.client_phases.specs.declared.clients.Client.{Client}
-use Rattle.client_phases.specs.Clients.{invoked}
+use Rattle.client_phases.specs.Clients.{client_after_invoke}
 use Rattle.recorder.specs.Answers.{with_row}
 use Rattle.recorder.specs.declared.row.Row.TheVariants.{Invoke}
 use Rattle.world_steps.specs.Clients.{with_client}
@@ -18,8 +18,8 @@ returns-in-Ok c =
     let row : c.invoke.new.self ≡ with_row s.history (Invoke (next_call s) c.args.name c.in_ok-copy.field-0 c.in_ok-copy-2.field-0) = (rw c.in-Ok.is at c.invoke.ensures.row).1 in
     let same : c.invoke.new.self ≡ with_row s.history (Invoke (next_call s) c.args.name c.args.key c.args.action) =
     row ∙ ap (λ k. with_row s.history (Invoke (next_call s) c.args.name k c.in_ok-copy-2.field-0)) c.in_ok-copy.ensures ∙ ap (λ (a : Action). with_row s.history (Invoke (next_call s) c.args.name c.args.key a)) c.in_ok-copy-2.ensures in
-    let turned : c.invoke-in-Ok.new.self ≡ with_client s.members c.args.name (invoked client (next_call s) c.args.key c.args.action) =
-    c.invoke-in-Ok.ensures client c.requires.is ∙ ap (λ o. with_client s.members c.args.name (invoked client o c.args.key c.args.action)) op_is in (
+    let turned : c.invoke-in-Ok.new.self ≡ with_client s.members c.args.name (client_after_invoke client (next_call s) c.args.key c.args.action) =
+    c.invoke-in-Ok.ensures client c.requires.is ∙ ap (λ o. with_client s.members c.args.name (client_after_invoke client o c.args.key c.args.action)) op_is in (
       ap (λ o. Some (Invoked o)) (sym op_is),
       (λ i. record { config = s.config; members = turned i; nodes = s.nodes; pool = s.pool; history = same i })
           ∙ ap (λ (o : Option Client). invoke s c.args.name c.args.key c.args.action o) (sym c.requires.is),
