@@ -1,2 +1,4 @@
 pub mod BitLemmas
 pub mod Majorities
+pub mod Meet
+pub mod Votes

@@ -1,26 +1,21 @@
--- The votes of a set, one member at a time.
-use Rattle.std.proofs.Common.{◌≡◌, ℕ, zero, suc, ◌+◌, ◌-◌, ◌*◌, ◌/◌, ◌<◌, ◌≤◌, ◌≢◌, Bool, true, false, cond, List, length, slice_index, replicate, refl, sym, ap, subst, ◌∙◌, arith}
-use Rattle.std.specs.Prelude.{◌||◌, ◌&&◌, not, nat_eq, ◌↔◌}
+-- The votes of a set with one member more.
+use Rattle.std.proofs.Common.{◌≡◌, ℕ, zero, suc, ◌+◌, ◌<◌, ◌≢◌, inl, inr, true, false, cond, List, length, slice_index, refl, sym, ap, subst, ◌∙◌}
+use Rattle.std.specs.Prelude.{◌||◌}
 use Rattle.std.specs.FinSet as finite
-use Rattle.std.specs.Ordering.{nat_cmp}
-use Rattle.std.specs.Cmp.{nat_cmp_total, unsigned_tied}
-use Rattle.std.proofs.lemmas.Bool.{eq-eqb, ne_eqb, false≢true, and_parts, false_from_ne_true, not-true, eqb-false}
-use Rattle.std.proofs.lemmas.List.{length-replicate, get_or-replicate}
-use Rattle.quorum.specs.Sets.{Replicas, IsAmong, IsMajority}
+use Rattle.std.proofs.Math.Nat.{add_right_comm, add-zero, eq-or-lt_of_le, le-suc, le_of_suc-le-suc, lt-suc_self, lt_of_lt_of_le, ne_of_lt, not-suc-le-zero}
+use Rattle.std.proofs.lemmas.Bool.{eq-eqb, ne_eqb}
+use Rattle.quorum.specs.Sets.{Replicas}
 use Rattle.quorum.specs.Bits.{contains-insert}
-use Rattle.quorum.specs.Quorums.{IsAskQuorum, IsPutQuorum, majority_of, votes_below, votes_of}
-
--- one replica more
-pub votes_below-suc : (votes : List ℕ) (n : ℕ) (set : Replicas) → votes_below votes (n + 1) set ≡ votes_below votes n set + cond (finite.contains set n) (slice_index votes n) 0
-votes_below-suc votes n set = let e : n + 1 ≡ suc n = omega arith in ap (λ k. votes_below votes k set) e
+use Rattle.quorum.specs.Quorums.{votes_below, votes_of}
 
 -- sets that agree below a number have the same votes there
-votes_below-same : (votes : List ℕ) (n : ℕ) (s t : Replicas) → ((k : ℕ) → k < n → finite.contains s k ≡ finite.contains t k) → votes_below votes n s ≡ votes_below votes n t
+pub votes_below-same : (votes : List ℕ) (n : ℕ) (s t : Replicas) → ((k : ℕ) → k < n → finite.contains s k ≡ finite.contains t k)
+    → votes_below votes n s ≡ votes_below votes n t
 votes_below-same votes zero s t same = refl
 votes_below-same votes (suc n) s t same =
-    let below = votes_below-same votes n s t (λ k h. same k (omega arith)) in
+    let below = votes_below-same votes n s t (λ k h. same k (lt_of_lt_of_le h (le-suc n))) in
     ap (λ v. v + cond (finite.contains s n) (slice_index votes n) 0) below
-    ∙ ap (λ b. votes_below votes n t + cond b (slice_index votes n) 0) (same n (omega arith))
+    ∙ ap (λ b. votes_below votes n t + cond b (slice_index votes n) 0) (same n (lt-suc_self n))
 
 insert-other : (set : Replicas) (r k : ℕ) → k ≢ r → finite.contains (finite.insert set r) k ≡ finite.contains set k
 insert-other set r k ne = contains-insert set r k ∙ ap (λ b. b || finite.contains set k) (ne_eqb k r ne)
@@ -28,105 +23,36 @@ insert-other set r k ne = contains-insert set r k ∙ ap (λ b. b || finite.cont
 insert-same : (set : Replicas) (r : ℕ) → finite.contains (finite.insert set r) r ≡ true
 insert-same set r = contains-insert set r r ∙ ap (λ b. b || finite.contains set r) (eq-eqb r r refl)
 
--- the votes with a further member at the top, and above it
-brings_at : (votes : List ℕ) (r : ℕ) (set : Replicas) → finite.contains set r ≡ false → votes_below votes (suc r) (finite.insert set r) ≡ votes_below votes (suc r) set + slice_index votes r
+-- the votes with a further member at the top
+brings_at : (votes : List ℕ) (r : ℕ) (set : Replicas) → finite.contains set r ≡ false
+    → votes_below votes (suc r) (finite.insert set r) ≡ votes_below votes (suc r) set + slice_index votes r
 brings_at votes r set out =
     let more = finite.insert set r in
     let v = slice_index votes r in
-    let below : votes_below votes r more ≡ votes_below votes r set = votes_below-same votes r more set (λ k h. insert-other set r k (λ e. omega arith)) in
-    let with_it : cond (finite.contains more r) v 0 ≡ v = ap (λ b. cond b v 0) (insert-same set r) in
-    let without : cond (finite.contains set r) v 0 ≡ 0 = ap (λ b. cond b v 0) out in
-    omega (arith, below, with_it, without)
+    let old = votes_below votes r set in
+    let below : votes_below votes r more ≡ old = votes_below-same votes r more set (λ k h. insert-other set r k (ne_of_lt h)) in
+    let none : old + cond (finite.contains set r) v 0 ≡ old = ap (λ b. old + cond b v 0) out ∙ add-zero old in
+    ap (λ x. x + cond (finite.contains more r) v 0) below
+    ∙ ap (λ b. old + cond b v 0) (insert-same set r)
+    ∙ ap (λ x. x + v) (sym none)
 
-brings_above : (votes : List ℕ) (r d : ℕ) (set : Replicas) → finite.contains set r ≡ false
-    → votes_below votes (d + suc r) (finite.insert set r) ≡ votes_below votes (d + suc r) set + slice_index votes r
-brings_above votes r zero set out =
-    let e : zero + suc r ≡ suc r = omega arith in
-    subst (λ n. votes_below votes n (finite.insert set r) ≡ votes_below votes n set + slice_index votes r) (sym e) (brings_at votes r set out)
-brings_above votes r (suc d) set out =
-    let n = d + suc r in
-    let e : suc d + suc r ≡ suc n = omega arith in
-    let v = slice_index votes n in
+-- the votes with a further member anywhere
+brings_below : (votes : List ℕ) (n r : ℕ) (set : Replicas) → r < n → finite.contains set r ≡ false
+    → votes_below votes n (finite.insert set r) ≡ votes_below votes n set + slice_index votes r
+brings_below votes zero r set h out = absurd (not-suc-le-zero h)
+brings_below votes (suc n) r set h out =
     let more = finite.insert set r in
-    let below : votes_below votes n more ≡ votes_below votes n set + slice_index votes r = brings_above votes r d set out in
-    let here : cond (finite.contains more n) v 0 ≡ cond (finite.contains set n) v 0 = ap (λ b. cond b v 0) (insert-other set r n (λ q. omega arith)) in
-    let step : votes_below votes n more + cond (finite.contains more n) v 0 ≡ (votes_below votes n set + cond (finite.contains set n) v 0) + slice_index votes r = omega (arith, below, here) in
-    subst (λ k. votes_below votes k more ≡ votes_below votes k set + slice_index votes r) (sym e) step
+    let v = slice_index votes r in
+    let w = slice_index votes n in
+    elim (eq-or-lt_of_le (le_of_suc-le-suc h)) [
+      | inl e ↦ subst (λ k. votes_below votes (suc k) more ≡ votes_below votes (suc k) set + v) e (brings_at votes r set out)
+      | inr less ↦
+          ap (λ x. x + cond (finite.contains more n) w 0) (brings_below votes n r set less out)
+          ∙ ap (λ b. votes_below votes n set + v + cond b w 0) (insert-other set r n (λ e. ne_of_lt less (sym e)))
+          ∙ add_right_comm (votes_below votes n set) v (cond (finite.contains set n) w 0)
+    ]
 
-pub votes_of-insert : (votes : List ℕ) (set : Replicas) (r : ℕ) → r < length votes → finite.contains set r ≡ false → votes_of votes (finite.insert set r) ≡ votes_of votes set + slice_index votes r
-votes_of-insert votes set r h out =
-    let e : (length votes - suc r) + suc r ≡ length votes = omega arith in
-    subst (λ n. votes_below votes n (finite.insert set r) ≡ votes_below votes n set + slice_index votes r) e (brings_above votes r (length votes - suc r) set out)
-
--- ---- where each has one vote, a set has as many votes as members
-
-none-in : (set : Replicas) → IsAmong 0 set → finite.len set ≡ 0
-none-in set among =
-    let is_empty = finite.same_set nat_cmp_total finite.nat_cmp-IsAntisymmetric set finite.empty (λ q. false_from_ne_true (finite.contains set q) (λ h. let below = among q h in omega arith) ∙ sym (finite.contains-empty nat_cmp q)) in
-    ap finite.len is_empty ∙ finite.len-empty nat_cmp
-
-contains-remove : (set : Replicas) (n q : ℕ) → finite.contains (finite.remove set n) q ≡ (not (nat_eq q n) && finite.contains set q)
-contains-remove set n q = finite.contains-remove nat_cmp_total set n q ∙ ap (λ b. not b && finite.contains set q) (unsigned_tied q n)
-
-remove-other : (set : Replicas) (n q : ℕ) → q ≢ n → finite.contains (finite.remove set n) q ≡ finite.contains set q
-remove-other set n q ne = contains-remove set n q ∙ ap (λ b. not b && finite.contains set q) (ne_eqb q n ne)
-
-some_if : (n : ℕ) → (n ≡ 0 → ⊥) → 1 ≤ n
-some_if zero h = absurd (h refl)
-some_if (suc n) h = omega arith
-
-has_some : (set : Replicas) (n : ℕ) → finite.contains set n ≡ true → 1 ≤ finite.len set
-has_some set n h = some_if (finite.len set) (λ e. false≢true (sym (ap (λ s. finite.contains s n) (finite.empty_of_len set e) ∙ finite.contains-empty nat_cmp n) ∙ h))
-
-among_rest : (set : Replicas) (n : ℕ) → IsAmong (suc n) set → IsAmong n (finite.remove set n)
-among_rest set n among q h =
-    let parts = and_parts (not (nat_eq q n)) (finite.contains set q) (sym (contains-remove set n q) ∙ h) in
-    let below : q < suc n = among q parts.1 in
-    let ne : q ≢ n = eqb-false q n (not-true (nat_eq q n) parts.0) in
-    omega arith
-
-among_less : (set : Replicas) (n : ℕ) → IsAmong (suc n) set → finite.contains set n ≡ false → IsAmong n set
-among_less set n among out q h =
-    let below : q < suc n = among q h in
-    let ne : q ≢ n = λ e. false≢true (sym out ∙ ap (finite.contains set) (sym e) ∙ h) in
-    omega arith
-
-one_vote : (count n : ℕ) → n < count → slice_index (replicate count 1) n ≡ 1
-one_vote count n h = get_or-replicate count n 1 0 h
-
-members_step : (count n : ℕ) (set : Replicas) (b : Bool) → suc n ≤ count → IsAmong (suc n) set → finite.contains set n ≡ b
-    → ((rest : Replicas) → IsAmong n rest → votes_below (replicate count 1) n rest ≡ finite.len rest)
-    → votes_below (replicate count 1) n set + cond b (slice_index (replicate count 1) n) 0 ≡ finite.len set
-members_step count n set true fits among is each =
-    let votes = replicate count 1 in
-    let rest = finite.remove set n in
-    let same : votes_below votes n rest ≡ votes_below votes n set = votes_below-same votes n rest set (λ k h. remove-other set n k (λ e. omega arith)) in
-    let rest_is : votes_below votes n rest ≡ finite.len rest = each rest (among_rest set n among) in
-    let fewer : finite.len rest ≡ finite.len set - 1 = finite.len-remove nat_cmp_total set n ∙ ap (λ b. cond b (finite.len set - 1) (finite.len set)) is in
-    let some : 1 ≤ finite.len set = has_some set n is in
-    let vote : slice_index votes n ≡ 1 = one_vote count n (omega arith) in
-    let e : votes_below votes n set + slice_index votes n ≡ finite.len set = omega (arith, same, rest_is, fewer, some, vote) in
-    e
-members_step count n set false fits among out each =
-    let votes = replicate count 1 in
-    let rest_is : votes_below votes n set ≡ finite.len set = each set (among_less set n among out) in
-    let e : votes_below votes n set + 0 ≡ finite.len set = omega (arith, rest_is) in
-    e
-
-members_below : (count n : ℕ) (set : Replicas) → n ≤ count → IsAmong n set → votes_below (replicate count 1) n set ≡ finite.len set
-members_below count zero set fits among = sym (none-in set among)
-members_below count (suc n) set fits among =
-    members_step count n set (finite.contains set n) fits among refl (λ rest h. members_below count n rest (omega arith) h)
-
-pub votes_of-ones : (n : ℕ) (set : Replicas) → IsAmong n set → votes_of (replicate n 1) set ≡ finite.len set
-votes_of-ones n set among =
-    ap (λ k. votes_below (replicate n 1) k set) (length-replicate n 1) ∙ members_below n n set (omega arith) among
-
-more_than_half : (n m votes : ℕ) → votes ≡ m → (n < 2 * m) ↔ (n / 2 + 1 ≤ votes)
-more_than_half n m votes e = (λ h. omega arith, λ h. omega arith)
-
-pub majority_ask : (n : ℕ) (set : Replicas) → IsAmong n set → IsMajority n set ↔ IsAskQuorum (majority_of n) set
-majority_ask n set among = more_than_half n (finite.len set) (votes_of (replicate n 1) set) (votes_of-ones n set among)
-
-pub majority_put : (n : ℕ) (set : Replicas) → IsAmong n set → IsMajority n set ↔ IsPutQuorum (majority_of n) set
-majority_put n set among = more_than_half n (finite.len set) (votes_of (replicate n 1) set) (votes_of-ones n set among)
+-- a member more brings its votes
+pub votes_of-insert : (votes : List ℕ) (set : Replicas) (r : ℕ) → r < length votes → finite.contains set r ≡ false
+    → votes_of votes (finite.insert set r) ≡ votes_of votes set + slice_index votes r
+votes_of-insert votes set r h out = brings_below votes (length votes) r set h out

@@ -1,5 +1,5 @@
 use Rattle.quorum.proofs.Majorities.{lawful}
-use Rattle.quorum.specs.Votes.{majority_ask, majority_put}
+use Rattle.quorum.proofs.Votes.{majority_ask, majority_put}
 use Rattle.quorum.proofs.laws.majorities_are_quorums.Goals as goal
 
 pub returns : goal.returns
