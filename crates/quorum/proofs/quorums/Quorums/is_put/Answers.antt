@@ -1,0 +1,5 @@
+use Rattle.std.proofs.Common.{rules}
+use Rattle.quorum.proofs.quorums.Quorums.is_put.Goals as goal
+
+pub returns : goal.returns
+returns c = search rules
