@@ -1,3 +1,4 @@
+mod Lists
 mod Numbers
 mod OneMore
 mod States

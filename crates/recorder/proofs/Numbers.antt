@@ -10,7 +10,8 @@ use Rattle.tag.specs.declared.numbers.OpId.{OpId}
 use Rattle.recorder.specs.declared.row.Row.{Row}
 use Rattle.recorder.specs.declared.row.Row.TheVariants.{Invoke, Note, Respond}
 use Rattle.recorder.specs.Histories.{is_invoke, call_count, HasNote, HasResponse, IsPendingCall, MayFollow, IsWellFormed}
-use Rattle.recorder.specs.Lists.{place_of, push_cases, slice_get-take, place_of-take, Contains-front, Contains-take}
+use Rattle.recorder.specs.Lists.{place_of, push_cases, slice_get-take}
+use Rattle.recorder.proofs.Lists.{place_of-take, Contains-front, Contains-take}
 
 -- how many calls the rows begin, with one row more, and before a row that begins one
 pub count_push : (rows : List Row) (row : Row) → call_count (rows ++ row ∷ []) ≡ call_count rows + cond (is_invoke row) 1 0

@@ -5,7 +5,7 @@ use Rattle.recorder.specs.declared.history.CallState.{CallState}
 use Rattle.std.proofs.lemmas.Result.{err_from_is_err_and}
 use Rattle.recorder.specs.Histories.{MayFollow}
 use Rattle.recorder.specs.declared.row.Row.TheVariants.{Note}
-use Rattle.recorder.specs.Lists.{None-from_test}
+use Rattle.recorder.proofs.Lists.{None-from_test}
 use Rattle.recorder.proofs.Numbers.{count_push, IsWellFormed-push}
 use Rattle.recorder.proofs.States.{not_pending, pending_from, has_note, not_noted, states_note}
 use Rattle.recorder.proofs.Busy.{busy_note, busy_note_back}
