@@ -1,5 +1,6 @@
 -- Bytes cut into lines and a rest.
-use Rattle.std.proofs.Common.{ℕ, ◌≡◌, ◌≢◌, ◌<◌, ◌≤◌, ◌+◌, ◌-◌, take, drop, slice_index, eqb, eqb-true, List, [], ◌∷◌, ◌++◌, length, Bool, true, false, refl, sym, ap, ◌∙◌, append_assoc, append-nil, length-append, arith, subst}
+use Rattle.std.proofs.Common.{ℕ, zero, suc, ◌≡◌, ◌≢◌, ◌<◌, ◌≤◌, ◌+◌, ◌-◌, take, drop, slice_index, eqb, eqb-true, List, [], ◌∷◌, ◌++◌, length, Bool, true, false, refl, sym, ap, ◌∙◌, append_assoc, append-nil, length-append, subst, lt_irrefl, le_refl, le_trans, add-le-add, suc-le-suc, suc-ne-zero}
+use Rattle.std.proofs.Math.Nat.{le_step}
 use Rattle.std.specs.List.{flat_map}
 use Rattle.std.proofs.lemmas.Grind.{flat_map-append}
 use Rattle.std.proofs.lemmas.List.{drop_more, take_rest, take-append-drop}
@@ -14,13 +15,19 @@ Splits-join bytes piece lines more rest last a b = record {
   partial = b.partial;
 }
 
+line_long : (line bytes : List ℕ) → suc (length bytes) ≤ length (ended line ++ bytes)
+line_long [] bytes = le_refl (suc (length bytes))
+line_long (b ∷ line) bytes = le_step (line_long line bytes)
+
 ends_long : (lines : List (List ℕ)) → length lines ≤ length (flat_map ended lines)
-ends_long [] = omega arith
-ends_long (line ∷ lines) = omega (arith, ends_long lines, length-append (line ++ 10 ∷ []) (flat_map ended lines), length-append line (10 ∷ []))
+ends_long [] = le_refl zero
+ends_long (line ∷ lines) = le_trans (suc-le-suc (ends_long lines)) (line_long line (flat_map ended lines))
 
 -- each line and its end is a byte at least
 pub Splits-room : (bytes : List ℕ) (lines : List (List ℕ)) (rest : List ℕ) → Splits bytes lines rest → length lines + length rest ≤ length bytes
-Splits-room bytes lines rest s = omega (arith, ends_long lines, ap length s.whole, length-append (flat_map ended lines) rest)
+Splits-room bytes lines rest s =
+    let whole : length bytes ≡ length (flat_map ended lines) + length rest = ap length s.whole ∙ length-append (flat_map ended lines) rest in
+    subst (λ (n : ℕ). length lines + length rest ≤ n) (sym whole) (add-le-add (ends_long lines) (le_refl (length rest)))
 
 -- bytes without an end are no line
 pub Splits-none : (bytes : List ℕ) → HasNoEnd bytes → Splits bytes [] bytes
@@ -82,12 +89,12 @@ cut_of [] = record { lines = []; rest = []; splits = Splits-none [] (All-nil (λ
 cut_of (b ∷ bytes) = cut_more b bytes (eqb b 10) refl (cut_of bytes)
 
 pub last_some : (lines : List (List ℕ)) (rest : List ℕ) → 0 < length rest → last_lines lines rest ≡ lines ++ rest ∷ []
-last_some lines [] some = absurd (omega arith)
+last_some lines [] some = absurd (lt_irrefl zero some)
 last_some lines (b ∷ rest) some = refl
 
 pub last_none : (lines : List (List ℕ)) (rest : List ℕ) → length rest ≡ 0 → last_lines lines rest ≡ lines
 last_none lines [] none = refl
-last_none lines (b ∷ rest) none = absurd (omega arith)
+last_none lines (b ∷ rest) none = absurd (suc-ne-zero (length rest) none)
 
 -- a rest behind whole lines
 pub Splits-rest : (bytes rest : List ℕ) (lines : List (List ℕ)) → Splits bytes lines [] → HasNoEnd rest → Splits (bytes ++ rest) lines rest

@@ -43,9 +43,6 @@ Leaves-kept a b c text rest h kept = record {
 pub Leaves-none : (a b : Option (List ℕ)) (text : List ℕ) → Appends a b text → Leaves a b text []
 Leaves-none a b text h = record { out = text; sent = h; whole = sym (append-nil text) }
 
-pub sent_whole : (a b : Option (List ℕ)) (text : List ℕ) → Leaves a b text [] → Appends a b text
-sent_whole a b text h = let same : h.out ≡ text = sym (h.whole ∙ append-nil h.out) in rw (← same) h.sent
-
 -- of the rest's front some went out
 pub Leaves-more : (a b c : Option (List ℕ)) (text front behind rest : List ℕ) → Leaves a b text (front ++ behind) → Leaves b c front rest → Leaves a c text (rest ++ behind)
 Leaves-more a b c text front behind rest h k = record {
