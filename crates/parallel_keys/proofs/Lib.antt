@@ -4,4 +4,5 @@ pub mod Woven
 pub mod Keyed
 pub mod Recorded
 pub mod Halls
+pub mod Given
 pub mod Apart

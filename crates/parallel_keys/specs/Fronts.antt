@@ -3,7 +3,7 @@ use Rattle.std.proofs.Common.{ℕ, ◌≡◌, ◌<◌, ◌+◌, List, [], ◌∷
 use Rattle.std.specs.List.{slice_get}
 use Rattle.std.specs.Option.{option_map}
 use Rattle.std.proofs.lemmas.List.{map-append}
-use Rattle.std.proofs.lemmas.Option.{slice_get-map}
+use Rattle.std.proofs.lemmas.Option.{none-some, same_Some, slice_get-map}
 use Rattle.std.proofs.Math.Seq.{take-suc}
 
 -- a front with one element more
@@ -18,5 +18,5 @@ pub place_before : {A B : Type 0} (f : A → B) (xs : List A) (i : ℕ) (y : B) 
 place_before {A} {B} f xs i y h = by (slice_get xs i) refl (sym (slice_get-map f xs i) ∙ h)
   where
     by : (o : Option A) → slice_get xs i ≡ o → option_map f o ≡ Some y → (x : A) × (slice_get xs i ≡ Some x) × (f x ≡ y)
-    by None is e = absurd (cc)
-    by (Some x) is e = (x, is, cc)
+    by None is e = absurd (none-some y e)
+    by (Some x) is e = (x, is, same_Some (f x) y e)

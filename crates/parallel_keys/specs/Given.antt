@@ -1,51 +1,25 @@
--- The orders that are given for keys.
-use Rattle.std.proofs.Common.{ℕ, zero, suc, ◌≡◌, ◌<◌, ◌+◌, Bool, true, false, cond, List, [], ◌∷◌, ◌++◌, Some, length, map, take, get_or, subst, refl, sym, ap, ◌∙◌, arith, length-take}
-use Rattle.std.specs.List.{slice_get, Contains}
+-- The order that is given for the key of one of the orders.
+use Rattle.std.proofs.Common.{ℕ, zero, suc, ◌≡◌, Bool, true, false, cond, List, [], ◌∷◌, Some, refl, sym, ap, ◌∙◌, suc-le-suc, zero-lt-suc}
+use Rattle.std.specs.List.{slice_get}
 use Rattle.std.specs.Str.{bytes_eq}
 use Rattle.std.specs.Cmp.Lexicographic.{bytes_decides}
-use Rattle.std.proofs.lemmas.Option.{slice_get_within, slice_get_read}
-use Rattle.std.proofs.lemmas.List.Elements.{Contains-append_left, Contains-append_right, Contains-push}
+use Rattle.std.proofs.lemmas.Option.{none-some, same_Some}
 use Rattle.recorder.specs.declared.order.KeyOrder.{KeyOrder}
-use Rattle.recorder.specs.Lists.{slice_get-take}
-use Rattle.key_numbers.specs.Numbers.{Numbers, known, first}
 use Rattle.parallel_keys.specs.Pairings.{AreDistinct, given_order}
-use Rattle.parallel_keys.specs.Fronts.{mapped_more, place_before}
-
-abbrev pub key_in : KeyOrder → List ℕ
-key_in one = one.key
-
--- each order's place is its key's number
-pub placed_more : (orders : List KeyOrder) (i : ℕ) (one : KeyOrder) (old new : List (List ℕ)) (number : ℕ) → AreDistinct orders → i < length orders → one ≡ get_or orders i one → old ≡ map key_in (take i orders) → Numbers old one.key number new → new ≡ map key_in (take (i + 1) orders)
-placed_more orders i one old new number distinct below is old_is (known at same) =
-    let a = place_before key_in (take i orders) number one.key (subst (λ (l : List (List ℕ)). slice_get l number ≡ Some one.key) old_is at) in
-    let within = slice_get_within (take i orders) number a.0 a.1 in
-    let earlier : number < i = omega (arith, within, length-take i orders) in
-    absurd (distinct number i a.0 one earlier (sym (slice_get-take orders i number earlier) ∙ a.1) (slice_get_read orders (length orders) i one refl below is) a.2)
-placed_more orders i one old new number distinct below is old_is (first unseen place grown) =
-    grown ∙ ap (λ (l : List (List ℕ)). l ++ one.key ∷ []) old_is ∙ sym (mapped_more key_in orders i one below is)
 
 -- the orders behind the first
 rest_distinct : (o : KeyOrder) (os : List KeyOrder) → AreDistinct (o ∷ os) → AreDistinct os
-rest_distinct o os distinct i j a b lt at_i at_j = distinct (suc i) (suc j) a b (omega arith) at_i at_j
+rest_distinct o os distinct i j a b lt at_i at_j = distinct (suc i) (suc j) a b (suc-le-suc lt) at_i at_j
 
 -- what is given for the key of the order at a place
 pub given_at : (orders : List KeyOrder) (place : ℕ) (one : KeyOrder) (key : List ℕ) → AreDistinct orders → slice_get orders place ≡ Some one → one.key ≡ key → one.order ≡ given_order orders key
-given_at [] place one key distinct at same = absurd (cc)
+given_at [] place one key distinct at same = absurd (none-some one at)
 given_at (o ∷ os) zero one key distinct at same =
-    let is : o ≡ one = cc in
-    let hit : bytes_eq o.key key ≡ true = (bytes_decides o.key key).1 (ap key_in is ∙ same) in
+    let is : o ≡ one = same_Some o one at in
+    let hit : bytes_eq o.key key ≡ true = (bytes_decides o.key key).1 (ap (λ (k : KeyOrder). k.key) is ∙ same) in
     sym (ap (λ (b : Bool). cond b o.order (given_order os key)) hit ∙ ap (λ (k : KeyOrder). k.order) is)
 given_at (o ∷ os) (suc place) one key distinct at same = by (bytes_eq o.key key) refl (given_at os place one key (rest_distinct o os distinct) at same)
   where
     by : (b : Bool) → bytes_eq o.key key ≡ b → one.order ≡ given_order os key → one.order ≡ cond (bytes_eq o.key key) o.order (given_order os key)
-    by true hit later = absurd (distinct 0 (suc place) o one (omega arith) refl at ((bytes_decides o.key key).0 hit ∙ sym same))
-    by false missed later = later ∙ sym (ap (λ (b : Bool). cond b o.order (given_order os key)) missed)
-
--- what is given for a key that none of the orders has
-pub given_none : (orders : List KeyOrder) (key : List ℕ) → (Contains (map key_in orders) key → ⊥) → [] ≡ given_order orders key
-given_none [] key none = refl
-given_none (o ∷ os) key none = by (bytes_eq o.key key) refl (given_none os key (λ h. none (Contains-append_right (o.key ∷ []) (map key_in os) key h)))
-  where
-    by : (b : Bool) → bytes_eq o.key key ≡ b → [] ≡ given_order os key → [] ≡ cond (bytes_eq o.key key) o.order (given_order os key)
-    by true hit later = absurd (none (Contains-append_left (o.key ∷ []) (map key_in os) key (subst (λ (k : List ℕ). Contains (o.key ∷ []) k) ((bytes_decides o.key key).0 hit) (Contains-push [] o.key))))
+    by true hit later = absurd (distinct 0 (suc place) o one (zero-lt-suc place) refl at ((bytes_decides o.key key).0 hit ∙ sym same))
     by false missed later = later ∙ sym (ap (λ (b : Bool). cond b o.order (given_order os key)) missed)

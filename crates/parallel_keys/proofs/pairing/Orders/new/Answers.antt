@@ -1,4 +1,4 @@
-use Rattle.parallel_keys.specs.Given.{placed_more}
+use Rattle.parallel_keys.proofs.Given.{placed_more}
 use Rattle.parallel_keys.proofs.pairing.Orders.new.Goals as goal
 
 pub loop-one-preserved : goal.loop-one-preserved

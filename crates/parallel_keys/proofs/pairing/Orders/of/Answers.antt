@@ -3,7 +3,8 @@ use Rattle.std.specs.List.{slice_get, Contains}
 use Rattle.std.proofs.lemmas.Option.{get_or_from_slice_get}
 use Rattle.recorder.specs.declared.order.KeyOrder.{KeyOrder}
 use Rattle.parallel_keys.specs.Fronts.{place_before}
-use Rattle.parallel_keys.specs.Given.{key_in, given_at, given_none}
+use Rattle.parallel_keys.specs.Given.{given_at}
+use Rattle.parallel_keys.proofs.Given.{key_in, given_none}
 use Rattle.parallel_keys.proofs.pairing.Orders.of.Goals as goal
 
 pub returns-in-Some : goal.returns-in-Some
