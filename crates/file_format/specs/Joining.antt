@@ -1,9 +1,10 @@
 -- Pieces that are joined one after another.
-use Rattle.std.proofs.Common.{ℕ, zero, suc, ◌≡◌, inl, inr, List, [], ◌∷◌, ◌++◌, Option, Some, Bool, true, false, cond, length, map, filter, set, sym, ◌∙◌, ap, subst, refl, arith, append-nil, bytes_eq}
+use Rattle.std.proofs.Common.{ℕ, zero, suc, ◌≡◌, ◌<◌, inl, inr, List, [], ◌∷◌, ◌++◌, Option, Some, Bool, true, false, cond, length, map, filter, set, sym, ◌∙◌, ap, subst, refl, append-nil, bytes_eq, lt_irrefl, lt_trans, le_antisymm, ne_of_lt}
 use Rattle.std.specs.List.{slice_get, flat_map}
+use Rattle.std.specs.Option.{option_map}
 use Rattle.std.specs.Cmp.Lexicographic.{bytes_decides}
-use Rattle.std.proofs.lemmas.Bool.{cases_lt}
-use Rattle.std.proofs.lemmas.Option.{slice_get_within}
+use Rattle.std.proofs.lemmas.Bool.{cases_lt, true≢false}
+use Rattle.std.proofs.lemmas.Option.{none-some, same_Some, slice_get_within}
 use Rattle.std.proofs.lemmas.List.{map-set, map-append}
 use Rattle.std.proofs.lemmas.List.Elements.{filter-append}
 use Rattle.std.proofs.lemmas.Grind.{flat_map-append}
@@ -16,7 +17,10 @@ use Rattle.recorder.specs.Lists.{slice_get-push_left, slice_get-push_last, push_
 wide : (names : List (List ℕ)) (more name : List ℕ) (place : ℕ) → IsFirstAt names name place → IsFirstAt (names ++ more ∷ []) name place
 wide names more name place h = record {
   here = slice_get-push_left names more place name h.here;
-  before = λ earlier lt e. elim (push_cases names more earlier name e) [ inl w ↦ h.before earlier lt w | inr w ↦ omega (arith, w.0, slice_get_within names place name h.here) ];
+  before = λ earlier lt e. elim (push_cases names more earlier name e) [
+    | inl w ↦ h.before earlier lt w
+    | inr w ↦ ne_of_lt (lt_trans lt (slice_get_within names place name h.here)) w.0
+  ];
 }
 
 -- a name has one first place
@@ -25,8 +29,12 @@ first_same names more name m n h k =
     let w = wide names more name m h in
     elim (cases_lt m n) [
       | inl lt ↦ absurd (k.before m lt w.here)
-      | inr ge ↦ elim (cases_lt n m) [ inl lt ↦ absurd (w.before n lt k.here) | inr le ↦ omega arith ]
+      | inr ge ↦ elim (cases_lt n m) [ inl lt ↦ absurd (w.before n lt k.here) | inr le ↦ le_antisymm ge le ]
     ]
+
+-- numbers that are the same are in the same order
+lt_same : {a b c d : ℕ} → a ≡ c → b ≡ d → c < d → a < b
+lt_same {b = b} {c = c} first last lt = subst (λ (n : ℕ). n < b) (sym first) (subst (λ (n : ℕ). c < n) (sym last) lt)
 
 -- a name that was met before
 firsts_same : (names keys : List (List ℕ)) (key : List ℕ) (slot : ℕ) → AreFirsts names keys → slice_get keys slot ≡ Some key → AreFirsts (names ++ key ∷ []) keys
@@ -36,13 +44,13 @@ firsts_same names keys key slot h at = record {
   ordered = λ i j a b m n lt ea eb fa fb.
       let p = h.each i a ea in
       let q = h.each j b eb in
-      omega (arith, first_same names key a p.0 m p.1 fa, first_same names key b q.0 n q.1 fb, h.ordered i j a b p.0 q.0 lt ea eb p.1 q.1);
+      lt_same (first_same names key a p.0 m p.1 fa) (first_same names key b q.0 n q.1 fb) (h.ordered i j a b p.0 q.0 lt ea eb p.1 q.1);
 }
 
 first_here : (names keys : List (List ℕ)) (key : List ℕ) → AreFirsts names keys → ((i : ℕ) → slice_get keys i ≡ Some key → ⊥) → IsFirstAt (names ++ key ∷ []) key (length names)
 first_here names keys key h none = record {
   here = slice_get-push_last names key;
-  before = λ earlier lt e. elim (push_cases names key earlier key e) [ inl w ↦ let f = h.all earlier key w in none f.0 f.1 | inr w ↦ omega (arith, w.0) ];
+  before = λ earlier lt e. elim (push_cases names key earlier key e) [ inl w ↦ let f = h.all earlier key w in none f.0 f.1 | inr w ↦ ne_of_lt lt w.0 ];
 }
 
 -- a name that is met for the first time
@@ -58,17 +66,20 @@ firsts_new names keys key h none = record {
   ];
   ordered = λ i j a b m n lt ea eb fa fb.
       elim (push_cases keys key i a ea) [
-        | inr w ↦ elim (push_cases keys key j b eb) [ inl v ↦ omega (arith, w.0, slice_get_within keys j b v) | inr v ↦ omega (arith, w.0, v.0) ]
+        | inr w ↦ elim (push_cases keys key j b eb) [
+          | inl v ↦ absurd (ne_of_lt (lt_trans lt (slice_get_within keys j b v)) w.0)
+          | inr v ↦ absurd (ne_of_lt lt (w.0 ∙ sym v.0))
+        ]
         | inl w ↦
             let p = h.each i a w in
             let same = first_same names key a p.0 m p.1 fa in
             let below = slice_get_within names p.0 a p.1.here in
             elim (push_cases keys key j b eb) [
-              | inl v ↦ let q = h.each j b v in omega (arith, same, first_same names key b q.0 n q.1 fb, h.ordered i j a b p.0 q.0 lt w v p.1 q.1)
+              | inl v ↦ let q = h.each j b v in lt_same same (first_same names key b q.0 n q.1 fb) (h.ordered i j a b p.0 q.0 lt w v p.1 q.1)
               | inr v ↦
                   let P : List ℕ → Type 0 = λ x. IsFirstAt (names ++ key ∷ []) x n in
                   let last : IsFirstAt (names ++ key ∷ []) key n = subst P (sym v.1) fb in
-                  elim (push_cases names key n key last.here) [ inl u ↦ let f = h.all n key u in absurd (none f.0 f.1) | inr u ↦ omega (arith, same, below, u.0) ]
+                  elim (push_cases names key n key last.here) [ inl u ↦ let f = h.all n key u in absurd (none f.0 f.1) | inr u ↦ lt_same same u.0 below ]
             ]
       ];
 }
@@ -99,22 +110,22 @@ order_on-none key [] none = refl
 order_on-none key (piece ∷ pieces) none = step (bytes_eq piece.key key) (not_equal (bytes_eq piece.key key) piece.key key refl (none 0 piece refl)) (order_on-none key pieces (λ place p e. none (suc place) p e))
   where
     step : (b : Bool) → b ≡ false → flat_map order_in (filter (λ (p : KeyOrder). bytes_eq p.key key) pieces) ≡ [] → flat_map order_in (cond b (piece ∷ filter (λ (p : KeyOrder). bytes_eq p.key key) pieces) (filter (λ (p : KeyOrder). bytes_eq p.key key) pieces)) ≡ []
-    step true e h = absurd (cc)
+    step true e h = absurd (true≢false e)
     step false e h = h
 
 pub mapped_at : {X Y : Type 0} (f : X → Y) (xs : List X) (i : ℕ) (y : Y) → slice_get (map f xs) i ≡ Some y → (x : X) × (slice_get xs i ≡ Some x) × (f x ≡ y)
-mapped_at f [] i y h = absurd (cc)
-mapped_at f (x ∷ xs) zero y h = (x, refl, cc)
+mapped_at f [] i y h = absurd (none-some y h)
+mapped_at f (x ∷ xs) zero y h = (x, refl, same_Some (f x) y h)
 mapped_at f (x ∷ xs) (suc i) y h = mapped_at f xs i y h
 
 pub map_at : {X Y : Type 0} (f : X → Y) (xs : List X) (i : ℕ) (x : X) → slice_get xs i ≡ Some x → slice_get (map f xs) i ≡ Some (f x)
-map_at f [] i x h = absurd (cc)
-map_at f (y ∷ xs) zero x h = cc
+map_at f [] i x h = absurd (none-some x h)
+map_at f (y ∷ xs) zero x h = ap (option_map f) h
 map_at f (y ∷ xs) (suc i) x h = map_at f xs i x h
 
 set_there : {X : Type 0} (xs : List X) (i : ℕ) (x : X) → slice_get xs i ≡ Some x → set xs i x ≡ xs
 set_there [] i x h = refl
-set_there (y ∷ xs) zero x h = cc
+set_there {X} (y ∷ xs) zero x h = ap (λ (z : X). z ∷ xs) (sym (same_Some y x h))
 set_there {X} (y ∷ xs) (suc i) x h = ap (λ (l : List X). y ∷ l) (set_there xs i x h)
 
 -- each key stands once
@@ -122,8 +133,8 @@ key_once : (names keys : List (List ℕ)) (key : List ℕ) (i j : ℕ) → AreFi
 key_once names keys key i j h ei ej =
     let f = h.each i key ei in
     elim (cases_lt i j) [
-      | inl lt ↦ omega (arith, h.ordered i j key key f.0 f.0 lt ei ej f.1 f.1)
-      | inr ge ↦ elim (cases_lt j i) [ inl lt ↦ omega (arith, h.ordered j i key key f.0 f.0 lt ej ei f.1 f.1) | inr le ↦ omega arith ]
+      | inl lt ↦ absurd (lt_irrefl f.0 (h.ordered i j key key f.0 f.0 lt ei ej f.1 f.1))
+      | inr ge ↦ elim (cases_lt j i) [ inl lt ↦ absurd (lt_irrefl f.0 (h.ordered j i key key f.0 f.0 lt ej ei f.1 f.1)) | inr le ↦ le_antisymm le ge ]
     ]
 
 keys_push : (pieces : List KeyOrder) (piece : KeyOrder) → map key_in (pieces ++ piece ∷ []) ≡ map key_in pieces ++ piece.key ∷ []
@@ -140,16 +151,13 @@ joined_extended pieces orders piece slot order h at =
     record {
       keys = subst Keys (sym same) (subst Names (sym (keys_push pieces piece)) (firsts_same (map key_in pieces) (map key_in orders) piece.key slot h.keys here));
       each = λ i o e. elim (slice_get-set orders slot i made (slice_get_within orders slot _ at)) [
-        | inl w ↦ extended_here pieces piece order o (h.each slot (record { key = piece.key; order = order }) at) (some_same made o (sym w.1 ∙ e))
+        | inl w ↦ extended_here pieces piece order o (h.each slot (record { key = piece.key; order = order }) at) (same_Some made o (sym w.1 ∙ e))
         | inr w ↦
             let old : slice_get orders i ≡ Some o = sym w.1 ∙ e in
             h.each i o old ∙ sym (order_on-other o.key pieces piece (λ equal. w.0 (key_once (map key_in pieces) (map key_in orders) o.key i slot h.keys (map_at key_in orders i o old) (here ∙ ap Some equal))))
       ];
     }
   where
-    some_same : (a b : KeyOrder) → Some a ≡ Some b → a ≡ b
-    some_same a b e = cc
-
     extended_here : (pieces : List KeyOrder) (piece : KeyOrder) (order : List OpId) (o : KeyOrder) → order ≡ order_on piece.key pieces → record { key = piece.key; order = order ++ piece.order } ≡ o → o.order ≡ order_on o.key (pieces ++ piece ∷ [])
     extended_here pieces piece order o had made =
         let P : KeyOrder → Type 0 = λ x. x.order ≡ order_on x.key (pieces ++ piece ∷ []) in
