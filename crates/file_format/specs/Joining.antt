@@ -32,7 +32,7 @@ first_same names more name m n h k =
       | inr ge ↦ elim (cases_lt n m) [ inl lt ↦ absurd (w.before n lt k.here) | inr le ↦ le_antisymm ge le ]
     ]
 
--- numbers that are the same are in the same order
+-- what holds of two numbers in order holds of those that are the same
 lt_same : {a b c d : ℕ} → a ≡ c → b ≡ d → c < d → a < b
 lt_same {b = b} {c = c} first last lt = subst (λ (n : ℕ). n < b) (sym first) (subst (λ (n : ℕ). c < n) (sym last) lt)
 
@@ -50,7 +50,10 @@ firsts_same names keys key slot h at = record {
 first_here : (names keys : List (List ℕ)) (key : List ℕ) → AreFirsts names keys → ((i : ℕ) → slice_get keys i ≡ Some key → ⊥) → IsFirstAt (names ++ key ∷ []) key (length names)
 first_here names keys key h none = record {
   here = slice_get-push_last names key;
-  before = λ earlier lt e. elim (push_cases names key earlier key e) [ inl w ↦ let f = h.all earlier key w in none f.0 f.1 | inr w ↦ ne_of_lt lt w.0 ];
+  before = λ earlier lt e. elim (push_cases names key earlier key e) [
+    | inl w ↦ let f = h.all earlier key w in none f.0 f.1
+    | inr w ↦ ne_of_lt lt w.0
+  ];
 }
 
 -- a name that is met for the first time
@@ -79,7 +82,10 @@ firsts_new names keys key h none = record {
               | inr v ↦
                   let P : List ℕ → Type 0 = λ x. IsFirstAt (names ++ key ∷ []) x n in
                   let last : IsFirstAt (names ++ key ∷ []) key n = subst P (sym v.1) fb in
-                  elim (push_cases names key n key last.here) [ inl u ↦ let f = h.all n key u in absurd (none f.0 f.1) | inr u ↦ lt_same same u.0 below ]
+                  elim (push_cases names key n key last.here) [
+                    | inl u ↦ let f = h.all n key u in absurd (none f.0 f.1)
+                    | inr u ↦ lt_same same u.0 below
+                  ]
             ]
       ];
 }
@@ -134,7 +140,10 @@ key_once names keys key i j h ei ej =
     let f = h.each i key ei in
     elim (cases_lt i j) [
       | inl lt ↦ absurd (lt_irrefl f.0 (h.ordered i j key key f.0 f.0 lt ei ej f.1 f.1))
-      | inr ge ↦ elim (cases_lt j i) [ inl lt ↦ absurd (lt_irrefl f.0 (h.ordered j i key key f.0 f.0 lt ej ei f.1 f.1)) | inr le ↦ le_antisymm le ge ]
+      | inr ge ↦ elim (cases_lt j i) [
+        | inl lt ↦ absurd (lt_irrefl f.0 (h.ordered j i key key f.0 f.0 lt ej ei f.1 f.1))
+        | inr le ↦ le_antisymm le ge
+      ]
     ]
 
 keys_push : (pieces : List KeyOrder) (piece : KeyOrder) → map key_in (pieces ++ piece ∷ []) ≡ map key_in pieces ++ piece.key ∷ []

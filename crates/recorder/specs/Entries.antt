@@ -27,7 +27,7 @@ key_of_entry es key x h = let k = place_of es (key, x) h in Contains-slice_get (
 -- a value that is written leaves the keys
 pub keys_set : {X : Type 0} (es : List (List ℕ × X)) (slot : ℕ) (key : List ℕ) (x y : X) → slice_get es slot ≡ Some (key, x) → map (λ e. e.0) (set es slot (key, y)) ≡ map (λ e. e.0) es
 keys_set [] slot key x y at = absurd (none-some (key, x) at)
-keys_set {X} (e ∷ es) zero key x y at = let same : e ≡ (key, x) = same_Some e (key, x) at in ap (λ (p : List ℕ × X). p.0 ∷ map (λ e. e.0) es) (sym same)
+keys_set {X} (e ∷ es) zero key x y at = ap (λ (p : List ℕ × X). p.0 ∷ map (λ e. e.0) es) (sym (same_Some e (key, x) at))
 keys_set (e ∷ es) (suc slot) key x y at = ap (λ (l : List (List ℕ)). e.0 ∷ l) (keys_set es slot key x y at)
 
 -- an entry that comes to the end brings its key there
