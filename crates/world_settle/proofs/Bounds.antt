@@ -29,7 +29,6 @@ use Rattle.world_steps.specs.declared.step.Step.{Step}
 use Rattle.world_steps.specs.declared.system.System.{System}
 use Rattle.world_settle.proofs.Lookups.{slice_cases}
 use Rattle.world_steps.specs.Passed.{phase_is}
-use Rattle.world_steps.proofs.StepsSound.{after_from_sound}
 use Rattle.world_settle.specs.Agreeing.{RepliesAgree, asking_by, pair_at}
 use Rattle.world_settle.specs.Refusing.{IsLeastCount, MaySettle, Needs, NeedsAt}
 use Rattle.world_settle.specs.Settling.{Settles, candidates, round}
@@ -40,7 +39,7 @@ use Rattle.world_settle.proofs.Brings.{majorities_most}
 use Rattle.world_settle.proofs.CandidateLemmas.{Candidate, candidate_first, candidates_rest}
 use Rattle.world_settle.specs.Counts.{fewer_needed, least_once, some_candidate}
 use Rattle.world_settle.proofs.Forward.{Ahead, ahead, settled_within}
-use Rattle.world_settle.proofs.Plans.{asking_row, made_by, ready_or_asking, up_after}
+use Rattle.world_settle.proofs.Plans.{StepsKeepSound, asking_row, made_by, ready_or_asking, up_after}
 use Rattle.world_settle.proofs.Replies.{held_counts, not_ask}
 use Rattle.world_settle.proofs.Rounds.{MayRound, asking_or_putting, get_same, handled_nodes, round_is, third_system}
 
@@ -99,8 +98,8 @@ module _ (t : System) (sound : IsSound t) (name a m : ℕ) (rules : Rules) (rule
       absurd cc
 
 -- ---- a round
-rounds : (s : System) → IsSound s → (name a : ℕ) (agree : RepliesAgree s name a) → s.pool.sent + 2 * a ≤ s.pool.limit → Further a → Few s name a
-rounds s sound name a agree room further steps settles =
+rounds : StepsKeepSound → (s : System) → IsSound s → (name a : ℕ) (agree : RepliesAgree s name a) → s.pool.sent + 2 * a ≤ s.pool.limit → Further a → Few s name a
+rounds keeps s sound name a agree room further steps settles =
     let rules : Rules = agree.rules in
     let asking : Asking = agree.asking in
     let key = asking.call.key in
@@ -138,7 +137,7 @@ rounds s sound name a agree room further steps settles =
     let sent : t.pool.sent ≡ s.pool.sent + 1 + 1 = refl in
     let limit : t.pool.limit ≡ s.pool.limit = refl in
     let few : Few t name m =
-    behind t (subst IsSound after (after_from_sound s (round s name replica) sound)) name a m rules quorums more
+    behind t (subst IsSound after (keeps s (round s name replica) sound)) name a m rules quorums more
     (record { call = asking.call; pair = more.best }) (record { call = asking.call; pair = pair_to_put rules.name asking.call.action more.best })
     (Agreed more.best.tag) (Noted (pair_to_put rules.name asking.call.action more.best).tag)
     (subst (λ cs. IsLeastCount (IsAskQuorum s.config.quorums) more.counted cs m) (sym left) rest) agreed further (omega (arith, is)) (omega (arith, room, is, sent, limit))
@@ -147,10 +146,10 @@ rounds s sound name a agree room further steps settles =
     let long : length steps ≡ suc (suc (suc (length going.steps))) = ap length going.splits in
     omega (arith, fewer, long, is)
 
-agreed_within : (n : ℕ) (s : System) → IsSound s → (name a : ℕ) → RepliesAgree s name a → a ≤ n → s.pool.sent + 2 * a ≤ s.pool.limit → Few s name a
-agreed_within zero s sound name a agree within room = rounds s sound name a agree room (λ t good other c more fewer left. absurd (omega (arith, fewer, within)))
-agreed_within (suc n) s sound name a agree within room =
-    rounds s sound name a agree room (λ t good other c more fewer left. agreed_within n t good other c more (omega (arith, fewer, within)) left)
+agreed_within : StepsKeepSound → (n : ℕ) (s : System) → IsSound s → (name a : ℕ) → RepliesAgree s name a → a ≤ n → s.pool.sent + 2 * a ≤ s.pool.limit → Few s name a
+agreed_within keeps zero s sound name a agree within room = rounds keeps s sound name a agree room (λ t good other c more fewer left. absurd (omega (arith, fewer, within)))
+agreed_within keeps (suc n) s sound name a agree within room =
+    rounds keeps s sound name a agree room (λ t good other c more fewer left. agreed_within keeps n t good other c more (omega (arith, fewer, within)) left)
 
 -- what the call needs is what the read still asks
 needs_asked : (s : System) (name a c d : ℕ) → RepliesAgree s name a → NeedsAt s name c d → a ≡ c
@@ -160,24 +159,24 @@ needs_asked s name a c d agree needs =
     let needed : Needs s (Ask agree.asking) c d = subst (λ (x : Client). Needs s x.state c d) same needs.needs in
     least_once (IsAskQuorum s.config.quorums) agree.asking.counted (candidates s agree.asking.counted) a c agree.asks needed.0
 
-pub short_steps : (s : System) (name a : ℕ) (steps : List Step) → IsSound s → MaySettle s name → RepliesAgree s name a → Settles name s steps → length steps ≤ 3 * a + 1
-short_steps s name a steps sound may agree settles =
+pub short_steps : StepsKeepSound → (s : System) (name a : ℕ) (steps : List Step) → IsSound s → MaySettle s name → RepliesAgree s name a → Settles name s steps → length steps ≤ 3 * a + 1
+short_steps keeps s name a steps sound may agree settles =
     let same = needs_asked s name a may.room.asked may.room.kept agree may.room.needs in
     let left = may.room.left in
-    agreed_within a s sound name a agree (omega arith) (omega (arith, same, left)) steps settles
+    agreed_within keeps a s sound name a agree (omega arith) (omega (arith, same, left)) steps settles
 
 -- ---- what is answered
-pub settled_agreed : (old : System) (name : ℕ) (result : Result ℕ SettleError) (new : System) → IsSound old → SettlesBy old name result new → IfOk result (λ count. IsWithinIfAgreed old name count)
-settled_agreed old name (Ok count) new sound h = λ a agree.
-    let short = short_steps old name a h.steps sound h.may agree h.settles in
+pub settled_agreed : StepsKeepSound → (old : System) (name : ℕ) (result : Result ℕ SettleError) (new : System) → IsSound old → SettlesBy old name result new → IfOk result (λ count. IsWithinIfAgreed old name count)
+settled_agreed keeps old name (Ok count) new sound h = λ a agree.
+    let short = short_steps keeps old name a h.steps sound h.may agree h.settles in
     let counted = h.counted in
     omega (arith, short, counted)
-settled_agreed old name (Err why) new sound h = tt
+settled_agreed keeps old name (Err why) new sound h = tt
 
-pub settled_majorities : (old : System) (name : ℕ) (result : Result ℕ SettleError) (new : System) → IsSound old → SettlesBy old name result new → IfOk result (λ count. IsWithinForMajorities old count)
-settled_majorities old name (Ok count) new sound h = λ n is.
+pub settled_majorities : StepsKeepSound → (old : System) (name : ℕ) (result : Result ℕ SettleError) (new : System) → IsSound old → SettlesBy old name result new → IfOk result (λ count. IsWithinForMajorities old count)
+settled_majorities keeps old name (Ok count) new sound h = λ n is.
     let needs = h.may.room.needs in
-    let within = settled_within old name (Ok count) new sound h h.may.room.asked h.may.room.kept needs in
+    let within = settled_within keeps old name (Ok count) new sound h h.may.room.asked h.may.room.kept needs in
     let most = majorities_most old sound.sound.lawful n name h.may.room.asked h.may.room.kept is needs in
     omega (arith, within, most)
-settled_majorities old name (Err why) new sound h = tt
+settled_majorities keeps old name (Err why) new sound h = tt

@@ -21,7 +21,7 @@ use Rattle.world_settle.specs.declared.errors.SettleError.{SettleError}
 use Rattle.world_settle.specs.declared.errors.SettleError.TheVariants as error
 use Rattle.world_settle.specs.Counts.{few_candidates, least_within}
 use Rattle.world_settle.proofs.Earlier.{keeps_earlier}
-use Rattle.world_settle.proofs.Plans.{Plan, plan_of, ready_or_asking, steps_once, within_of}
+use Rattle.world_settle.proofs.Plans.{Plan, StepsKeepSound, plan_of, ready_or_asking, steps_once, within_of}
 use Rattle.world_settle.proofs.Rounds.{next_moved, sent_by}
 
 -- ---- a round
@@ -99,9 +99,9 @@ needs_few s name a b lawful needs = by needs.client.state needs.needs
     by Idle n = absurd n
     by Stopped n = absurd n
 
-pub going_none : (s : System) (name : ℕ) → IsSound s → MaySettle s name → Going s name s 0
-going_none s name sound may =
-    let plan : Plan s name may.room.asked may.room.kept = plan_of s sound name may in
+pub going_none : StepsKeepSound → (s : System) (name : ℕ) → IsSound s → MaySettle s name → Going s name s 0
+going_none keeps s name sound may =
+    let plan : Plan s name may.room.asked may.room.kept = plan_of keeps s sound name may in
     let few = plan.few in
     let most = needs_few s name may.room.asked may.room.kept sound.sound.lawful may.room.needs in
     record { taken = []; rest = plan.steps; settles = plan.settles; there = refl; counted = refl; onward = plan.settles; accepted = plan.taken; sound = sound; few = omega (arith, few, most) }
@@ -239,19 +239,19 @@ settled_earlier old name (Err error.NoMajority) new h = subst (KeepsEarlier old)
 settled_earlier old name (Err error.NotPending) new h = subst (KeepsEarlier old) (sym h.1) (λ flight less. refl)
 settled_earlier old name (Err error.Room) new h = subst (KeepsEarlier old) (sym h.1) (λ flight less. refl)
 
-pub settled_completes : (old : System) (name : ℕ) (result : Result ℕ SettleError) (new : System) → IsSound old → SettlesBy old name result new → OnOk result (Completes old name new)
-settled_completes old name (Ok count) new sound h =
-    let plan : Plan old name h.may.room.asked h.may.room.kept = plan_of old sound name h.may in
+pub settled_completes : StepsKeepSound → (old : System) (name : ℕ) (result : Result ℕ SettleError) (new : System) → IsSound old → SettlesBy old name result new → OnOk result (Completes old name new)
+settled_completes keeps old name (Ok count) new sound h =
+    let plan : Plan old name h.may.room.asked h.may.room.kept = plan_of keeps old sound name h.may in
     let same : plan.steps ≡ h.steps = steps_once name old plan.steps h.steps plan.settles h.settles in
     subst (Completes old name) (ap (after_from old) same ∙ sym h.after) plan.completes
-settled_completes old name (Err why) new sound h = tt
+settled_completes keeps old name (Err why) new sound h = tt
 
-pub settled_within : (old : System) (name : ℕ) (result : Result ℕ SettleError) (new : System) → IsSound old → SettlesBy old name result new → IfOk result (λ count. IsWithin old name count)
-settled_within old name (Ok count) new sound h =
-    let plan : Plan old name h.may.room.asked h.may.room.kept = plan_of old sound name h.may in
+pub settled_within : StepsKeepSound → (old : System) (name : ℕ) (result : Result ℕ SettleError) (new : System) → IsSound old → SettlesBy old name result new → IfOk result (λ count. IsWithin old name count)
+settled_within keeps old name (Ok count) new sound h =
+    let plan : Plan old name h.may.room.asked h.may.room.kept = plan_of keeps old sound name h.may in
     let same : plan.steps ≡ h.steps = steps_once name old plan.steps h.steps plan.settles h.settles in
     let few = plan.few in
     let long : length plan.steps ≡ length h.steps = ap length same in
     let counted = h.counted in
     within_of old name h.may.room.asked h.may.room.kept count h.may.room.needs (omega (arith, few, long, counted))
-settled_within old name (Err why) new sound h = tt
+settled_within keeps old name (Err why) new sound h = tt

@@ -40,7 +40,6 @@ use Rattle.world_steps.specs.declared.system.System.{System}
 use Rattle.world_steps.specs.Callers.{caller_found}
 use Rattle.world_settle.proofs.Lookups.{slice_cases}
 use Rattle.world_steps.specs.Passed.{phase_is}
-use Rattle.world_steps.proofs.StepsSound.{after_from_sound}
 use Rattle.world_settle.specs.Settling.{Settles, candidates, counted_at, is_up, round}
 use Rattle.world_settle.specs.Settling.Settles.{answers, asks}
 use Rattle.world_settle.specs.Refusing.{MaySettle, Needs, NeedsAt, pending_at}
@@ -49,6 +48,10 @@ use Rattle.world_settle.proofs.CandidateLemmas.{Candidate, candidate_first}
 use Rattle.world_settle.specs.Counts.{needs_once, some_candidate}
 use Rattle.world_settle.proofs.Replies.{Fewer, fewer_asked, fewer_kept, heard_pending, not_ask, not_put}
 use Rattle.world_settle.proofs.Rounds.{MayRound, get_same, handled_nodes, next_moved, pass, round_is, round_taken, asking_or_putting, third_system}
+
+-- from a sound system steps lead to a sound one, as the law of the steps says
+abbrev pub StepsKeepSound : Type 0
+StepsKeepSound = (s : System) (steps : List Step) → IsSound s → IsSound (after_from s steps)
 
 -- steps that complete the call, none of which is refused
 pub record Plan (s : System) (name a b : ℕ) : Type 0 where
@@ -135,7 +138,7 @@ up_after s replica request node is m =
 abbrev Further : System → ℕ → ℕ → ℕ → Type 0
 Further s name a b = (t : System) → IsSound t → (c d : ℕ) → NeedsAt t name c d → suc (c + d) ≤ a + b → t.pool.sent + 2 * (c + d) ≤ t.pool.limit → Plan t name c d
 
-module _ (s : System) (sound : IsSound s) (name a b : ℕ) (room : s.pool.sent + 2 * (a + b) ≤ s.pool.limit) (further : Further s name a b) where
+module _ (keeps : StepsKeepSound) (s : System) (sound : IsSound s) (name a b : ℕ) (room : s.pool.sent + 2 * (a + b) ≤ s.pool.limit) (further : Further s name a b) where
   -- a round to a candidate, behind which the call needs fewer replicas
   round_plan : (replica : ℕ) (others : List ℕ) (client : Client) (request : Request) (node : Node) (c d : ℕ) → MayRound s name replica client request node
       → candidates s (counted_by client) ≡ replica ∷ others
@@ -149,7 +152,7 @@ module _ (s : System) (sound : IsSound s) (name a b : ℕ) (room : s.pool.sent +
       let sent : t.pool.sent ≡ s.pool.sent + 1 + 1 = refl in
       let limit : t.pool.limit ≡ s.pool.limit = refl in
       let all : Plan t name c d =
-      further t (subst IsSound is (after_from_sound s (round s name replica) sound)) c d (record { client = client_after client reply; is = here; needs = needs }) fewer (omega (arith, room, fewer, sent, limit)) in
+      further t (subst IsSound is (keeps s (round s name replica) sound)) c d (record { client = client_after client reply; is = here; needs = needs }) fewer (omega (arith, room, fewer, sent, limit)) in
       joined s t name a b c d replica others is (round_taken s name replica client request node may) (asking_or_putting s name replica client request node may)
       (ap (λ o. candidates s (option_map_or counted_by o finite.empty)) may.is ∙ found)
       (ap (option_and_then pending_of) here ∙ heard_pending client.rules client.state reply ∙ sym (ap (option_and_then pending_of) may.is))
@@ -195,15 +198,15 @@ module _ (s : System) (sound : IsSound s) (name a b : ℕ) (room : s.pool.sent +
   plan_by rules Idle is needs = absurd needs
   plan_by rules Stopped is needs = absurd needs
 
-plan_within : (n : ℕ) (s : System) → IsSound s → (name a b : ℕ) → NeedsAt s name a b → a + b ≤ n → s.pool.sent + 2 * (a + b) ≤ s.pool.limit → Plan s name a b
-plan_within zero s sound name a b needs within room =
-    plan_by s sound name a b room (λ t good c d more fewer left. absurd (omega (arith, fewer, within))) needs.client.rules needs.client.state needs.is needs.needs
-plan_within (suc n) s sound name a b needs within room =
-    plan_by s sound name a b room (λ t good c d more fewer left. plan_within n t good name c d more (omega (arith, fewer, within)) left) needs.client.rules needs.client.state needs.is needs.needs
+plan_within : StepsKeepSound → (n : ℕ) (s : System) → IsSound s → (name a b : ℕ) → NeedsAt s name a b → a + b ≤ n → s.pool.sent + 2 * (a + b) ≤ s.pool.limit → Plan s name a b
+plan_within keeps zero s sound name a b needs within room =
+    plan_by keeps s sound name a b room (λ t good c d more fewer left. absurd (omega (arith, fewer, within))) needs.client.rules needs.client.state needs.is needs.needs
+plan_within keeps (suc n) s sound name a b needs within room =
+    plan_by keeps s sound name a b room (λ t good c d more fewer left. plan_within keeps n t good name c d more (omega (arith, fewer, within)) left) needs.client.rules needs.client.state needs.is needs.needs
 
 -- where a call can be completed, there are steps that do
-pub plan_of : (s : System) → IsSound s → (name : ℕ) (may : MaySettle s name) → Plan s name may.room.asked may.room.kept
-plan_of s sound name may = plan_within (may.room.asked + may.room.kept) s sound name may.room.asked may.room.kept may.room.needs (omega arith) may.room.left
+pub plan_of : StepsKeepSound → (s : System) → IsSound s → (name : ℕ) (may : MaySettle s name) → Plan s name may.room.asked may.room.kept
+plan_of keeps s sound name may = plan_within keeps (may.room.asked + may.room.kept) s sound name may.room.asked may.room.kept may.room.needs (omega arith) may.room.left
 
 pub within_of : (s : System) (name a b count : ℕ) → NeedsAt s name a b → count ≤ 3 * (a + b) + 1 → IsWithin s name count
 within_of s name a b count needs few c d other =

@@ -80,8 +80,10 @@ pub(crate) fn counted_at(world: &World, client: ClientId) -> ReplicaSet
 /// The replica that the client's next request goes to; none where it neither asks nor puts.
 pub(crate) fn next_replica(world: &World, client: ClientId) -> Option<ReplicaId>
     ensures { MatchOption result
-        ((replica : ℕ) (others : List ℕ) → has_request (phase_at world.now client) ≡ true → candidates world.now (counted_at world.now client) ≡ replica ∷ others → ⊥)
-        (λ replica. (has_request (phase_at world.now client) ≡ true) × (others : List ℕ) × (candidates world.now (counted_at world.now client) ≡ replica ∷ others)) }
+        ((replica : ℕ) (others : List ℕ) → has_request (phase_at world.now client) ≡ true
+        → candidates world.now (counted_at world.now client) ≡ replica ∷ others → ⊥)
+        (λ replica. (has_request (phase_at world.now client) ≡ true) × (others : List ℕ)
+        × (candidates world.now (counted_at world.now client) ≡ replica ∷ others)) }
 {
     match phase_at(world, client) {
         Some(Phase::Ask | Phase::Put) => first_candidate(world, counted_at(world, client)),

@@ -10,13 +10,17 @@ ghost use Rattle.world_settle.specs.Refusing.{MaySettle, NeedsAt};
 ghost use Rattle.world_settle.specs.Settled.{IsWithin};
 ghost use Rattle.world_settle.specs.Settling.{Settles};
 
+use world_steps::laws::steps_keep_a_system_sound;
+
 /// Where a pending call can be completed, there are steps that complete it, none of them is
 /// refused, and they are at most three for each replica that is needed, and one.
 pub fn a_pending_call_has_steps()
     ensures { (s : System) (name : ℕ) → IsSound s → MaySettle s name
         → (steps : List Step) × Settles name s steps × AreAccepted s steps
         × IsWithin s name (length steps) }
-{}
+{
+    steps_keep_a_system_sound();
+}
 
 /// The steps that complete a pending call are one list.
 pub fn the_steps_are_one_list()
@@ -40,4 +44,6 @@ pub fn a_short_read_that_agrees_takes_few_steps()
     ensures { (s : System) (name a : ℕ) (steps : List Step)
         → IsSound s → MaySettle s name → RepliesAgree s name a → Settles name s steps
         → length steps ≤ 3 * a + 1 }
-{}
+{
+    steps_keep_a_system_sound();
+}

@@ -11,7 +11,7 @@ use crate::SettleError;
 use crate::candidates::next_replica;
 use crate::refusing::refuse;
 use tag::{ClientId, ReplicaId};
-use world_steps::{Step, World};
+use world_steps::{Step, World, laws};
 
 /// Takes a step that isn't refused, and answers how many were taken with it.
 fn take(world: &mut World, step: Step, count: u32) -> Result<u32, SettleError>
@@ -56,6 +56,7 @@ fn complete(world: &mut World, client: ClientId) -> Result<u32, SettleError>
     ensures settles { SettlesBy world.old client result world.new }
     ensures sound { IsSound world.new }
 {
+    laws::steps_keep_a_system_sound();
     let mut count = 0;
     while let Some(replica) = next_replica(world, client) {
         count = round(world, client, replica, count)?;
@@ -82,6 +83,7 @@ pub fn settle(world: &mut World, client: ClientId) -> Result<u32, SettleError>
     ensures majorities { IfOk result (λ count. IsWithinForMajorities world.old count) }
     ensures agreed { IfOk result (λ count. IsWithinIfAgreed world.old client count) }
 {
+    laws::steps_keep_a_system_sound();
     refuse(world, client)?;
     complete(world, client)
 }

@@ -3,7 +3,7 @@ use Rattle.world_settle.proofs.Forward.{going_none, going_taken, going_on, going
 use Rattle.world_settle.proofs.settling.complete.Goals as goal
 
 pub loop-replica-init : goal.loop-replica-init
-loop-replica-init c = going_none c.args.world.now c.args.client c.requires.sound c.requires.may
+loop-replica-init c = going_none c.steps_keep_a_system_sound.ensures.steps c.args.world.now c.args.client c.requires.sound c.requires.may
 
 pub round-requires-clause-taken : goal.round-requires-clause-taken
 round-requires-clause-taken c =

@@ -12,13 +12,13 @@ pub returns-clause-earlier : goal.returns-clause-earlier
 returns-clause-earlier c = settled_earlier c.args.world.now c.args.client c.complete.result c.complete.new.world c.complete.ensures.settles
 
 pub returns-clause-completes : goal.returns-clause-completes
-returns-clause-completes c = settled_completes c.args.world.now c.args.client c.complete.result c.complete.new.world c.refuse.ensures.sound c.complete.ensures.settles
+returns-clause-completes c = settled_completes c.steps_keep_a_system_sound.ensures.steps c.args.world.now c.args.client c.complete.result c.complete.new.world c.refuse.ensures.sound c.complete.ensures.settles
 
 pub returns-clause-within : goal.returns-clause-within
-returns-clause-within c = settled_within c.args.world.now c.args.client c.complete.result c.complete.new.world c.refuse.ensures.sound c.complete.ensures.settles
+returns-clause-within c = settled_within c.steps_keep_a_system_sound.ensures.steps c.args.world.now c.args.client c.complete.result c.complete.new.world c.refuse.ensures.sound c.complete.ensures.settles
 
 pub returns-clause-majorities : goal.returns-clause-majorities
-returns-clause-majorities c = settled_majorities c.args.world.now c.args.client c.complete.result c.complete.new.world c.refuse.ensures.sound c.complete.ensures.settles
+returns-clause-majorities c = settled_majorities c.steps_keep_a_system_sound.ensures.steps c.args.world.now c.args.client c.complete.result c.complete.new.world c.refuse.ensures.sound c.complete.ensures.settles
 
 pub returns-clause-agreed : goal.returns-clause-agreed
-returns-clause-agreed c = settled_agreed c.args.world.now c.args.client c.complete.result c.complete.new.world c.refuse.ensures.sound c.complete.ensures.settles
+returns-clause-agreed c = settled_agreed c.steps_keep_a_system_sound.ensures.steps c.args.world.now c.args.client c.complete.result c.complete.new.world c.refuse.ensures.sound c.complete.ensures.settles
