@@ -9,8 +9,8 @@ use Rattle.fault_script.specs.declared.command.Command.{Command}
 use Rattle.fault_script.specs.declared.command.Command.TheVariants as command
 use Rattle.fault_script.specs.declared.fault.LineFault.{LineFault}
 use Rattle.fault_script.specs.declared.fault.LineFault.TheVariants.{UnknownCommand, Range}
-use Rattle.fault_script.specs.Words.{words, is_numeral, decimal_value, bounded, number_of}
-use Rattle.fault_script.specs.Says.{◌>>=◌, needed_word, needed_number, needed_text, nothing_more, one_number, ranged, within, client_of, key_of, value_of}
+use Rattle.fault_script.specs.Words.{words, is_numeral, decimal_value, u64_of, number_of}
+use Rattle.fault_script.specs.Says.{◌>>=◌, needed_word, needed_number, needed_text, nothing_more, one_number, in_range, within, client_of, key_of, value_of}
 use Rattle.fault_script.specs.Commands.{client_in, replica_in, flight_in, action_in, invoke_in, send_in, stopped_in, stop_in, start_in, random_in, client_step_in, step_in, command_in}
 use Rattle.fault_script.specs.Forms.{IsNumber, IsValue, in_ranges, of_any_size, One, Named, Two, SaysInvoke, SpellsStep, Spells, HasForm}
 use Rattle.fault_script.proofs.Chains.{after, done}
@@ -49,7 +49,7 @@ unfolding needed_number number_of
 number_err ws e h = elim (err_after (needed_word ws) _ e h) [
   | inl k ↦ word_err ws e k
   | inr k ↦ elim (err_after (number_of k.0.0) _ e k.2) [
-    | inl m ↦ numeral_err (is_numeral k.0.0) (bounded (decimal_value k.0.0)) e m
+    | inl m ↦ numeral_err (is_numeral k.0.0) (u64_of (decimal_value k.0.0)) e m
     | inr m ↦ let f = m.2 in absurd (cc)
   ]
 ]
@@ -64,22 +64,22 @@ text_err text ws e h = elim (err_after (needed_word ws) _ e h) [
   ]
 ]
 
-pub ranged_err : {X : Type 0} (b : Bool) (x : X) (e : LineFault) → ranged b x ≡ Err e → e ≡ Range
-ranged_err true x e h = absurd (cc)
-ranged_err false x e h = cc
+pub range_err : {X : Type 0} (b : Bool) (x : X) (e : LineFault) → in_range b x ≡ Err e → e ≡ Range
+range_err true x e h = absurd (cc)
+range_err false x e h = cc
 
 pub within_err : (least most : ℕ) (o : Option ℕ) (e : LineFault) → within least most o ≡ Err e → e ≡ Range
 unfolding within
 within_err least most None e h = cc
-within_err least most (Some n) e h = ranged_err (nat_le least n && nat_le n most) n e h
+within_err least most (Some n) e h = range_err (nat_le least n && nat_le n most) n e h
 
 value_of_word : (word : List ℕ) (o : Option ℕ) → number_of word ≡ Ok o → IsValue word (decimal_value word)
 unfolding number_of
 value_of_word word o e = record { digits = (number_by word (is_numeral word) o e).0; value = refl }
 
-number_at : (word : List ℕ) (n : ℕ) → IsValue word n → number_of word ≡ Ok (bounded (decimal_value word))
+number_at : (word : List ℕ) (n : ℕ) → IsValue word n → number_of word ≡ Ok (u64_of (decimal_value word))
 unfolding number_of
-number_at word n is = ap (λ (b : Bool). cond {A = Result (Option ℕ) LineFault} b (Ok (bounded (decimal_value word))) (Err UnknownCommand)) is.digits
+number_at word n is = ap (λ (b : Bool). cond {A = Result (Option ℕ) LineFault} b (Ok (u64_of (decimal_value word))) (Err UnknownCommand)) is.digits
 
 -- the fault is that of no form, or the fault of a range, and there is a form
 unfoldable pub Either : LineFault → Type 0 → Type 0
@@ -128,7 +128,7 @@ one_err least most ws e h = elim (err_after (one_number ws) (within least most) 
 one_known : (least most : ℕ) (ws : List (List ℕ)) (n : ℕ) → One IsValue ws n → (one_number ws >>= within least most) ≡ Err UnknownCommand → ⊥
 unfolding one_number nothing_more
 one_known least most ws n one h =
-    let o = bounded (decimal_value one.word) in
+    let o = u64_of (decimal_value one.word) in
     let read : one_number ws ≡ Ok o = ap one_number one.all ∙ ap (λ r. r >>= (λ (number : Found). nothing_more number.1 >>= (λ nothing. done number.0))) (number_first one.word [] o (number_at one.word n one.is)) in
     let e : within least most o ≡ Err UnknownCommand = sym (ap (λ r. r >>= within least most) read) ∙ h in
     let clash : UnknownCommand ≡ Range = within_err least most o UnknownCommand e in
@@ -174,8 +174,8 @@ two_err l m l' m' f ws e h = elim (err_after (needed_number ws) _ e h) [
 two_known : {X : Type 0} (l m l' m' : ℕ) (f : ℕ → ℕ → X) (ws : List (List ℕ)) (x y : ℕ) → Two IsValue IsValue ws x y → two_read l m l' m' f ws ≡ Err UnknownCommand → ⊥
 unfolding two_read nothing_more
 two_known l m l' m' f ws x y two h =
-    let o = bounded (decimal_value two.first) in
-    let p = bounded (decimal_value two.second) in
+    let o = u64_of (decimal_value two.first) in
+    let p = u64_of (decimal_value two.second) in
     let read : two_read l m l' m' f ws ≡ (within l m o >>= (λ x. within l' m' p >>= (λ y. done (f x y)))) =
     ap (two_read l m l' m' f) two.all
     ∙ ap (λ r. r >>= (λ (a : Found). needed_number a.1 >>= (λ (b : Found). nothing_more b.1 >>= (λ nothing. within l m a.0 >>= (λ x. within l' m' b.0 >>= (λ y. done (f x y))))))) (number_first two.first (two.second ∷ []) o (number_at two.first x two.is))
@@ -257,7 +257,7 @@ action_err word behind e h = elim (err_picked (bytes_eq word (codes "read")) (no
     | inr k ↦ let f = k.2 in absurd (cc)
   ]
   | inr k ↦ elim (err_picked (bytes_eq word (codes "write")) (value_of behind >>= (λ value. done (Write value))) (Err UnknownCommand) e k) [
-    | inl w ↦ out_of_range e _ (ranged_err (is_value behind) behind e (err_mapped (value_of behind) Write e w.1)) (inr (word_is word (codes "write") w.0))
+    | inl w ↦ out_of_range e _ (range_err (is_value behind) behind e (err_mapped (value_of behind) Write e w.1)) (inr (word_is word (codes "write") w.0))
     | inr k2 ↦ unknown e _ (cc)
   ]
 ]
@@ -293,7 +293,7 @@ invoke_err args e h = elim (err_after (needed_number (words args)) _ e h) [
                 elim (err_after (client_of a.0.0) _ e t.2) [
                   | inl q ↦ out_of_range e _ (within_err 1 65535 a.0.0 e q) made
                   | inr n ↦ elim (err_after (key_of k.0.0) _ e n.2) [
-                    | inl q ↦ out_of_range e _ (ranged_err (is_key k.0.0) k.0.0 e q) made
+                    | inl q ↦ out_of_range e _ (range_err (is_key k.0.0) k.0.0 e q) made
                     | inr x ↦ let g = x.2 in absurd (cc)
                   ]
                 ]
@@ -408,7 +408,7 @@ asked_known behind key word o asks h = elim (err_after (action_in word behind) _
   | inr t ↦ elim (err_after (client_of o) _ UnknownCommand t.2) [
     | inl k ↦ let clash : UnknownCommand ≡ Range = within_err 1 65535 o UnknownCommand k in absurd (cc)
     | inr n ↦ elim (err_after (key_of key) _ UnknownCommand n.2) [
-      | inl k ↦ let clash : UnknownCommand ≡ Range = ranged_err (is_key key) key UnknownCommand k in absurd (cc)
+      | inl k ↦ let clash : UnknownCommand ≡ Range = range_err (is_key key) key UnknownCommand k in absurd (cc)
       | inr x ↦ let g = x.2 in absurd (cc)
     ]
   ]
@@ -417,7 +417,7 @@ asked_known behind key word o asks h = elim (err_after (action_in word behind) _
 invoked_known : (behind caller word key : List ℕ) (others : List (List ℕ)) (client : ℕ) → IsValue caller client → (action_in word behind ≡ Err UnknownCommand → ⊥) → invoked (caller ∷ word ∷ key ∷ others) behind ≡ Err UnknownCommand → ⊥
 unfolding invoked needed_word
 invoked_known behind caller word key others client is asks h =
-    let o = bounded (decimal_value caller) in
+    let o = u64_of (decimal_value caller) in
     asked_known behind key word o asks (sym (ap (λ r. r >>= (λ (client : Found). needed_word client.1 >>= (λ action. needed_word action.1 >>= (λ key. action_in action.0 behind >>= (λ asked. client_of client.0 >>= (λ name. key_of key.0 >>= (λ text. done (step.Invoke name text asked)))))))) (number_first caller (word ∷ key ∷ others) o (number_at caller client is))) ∙ h)
 
 read_known : (behind : List ℕ) → words behind ≡ [] → action_in (codes "read") behind ≡ Err UnknownCommand → ⊥
@@ -426,7 +426,7 @@ read_known behind none h = let e = read_asked behind none in cc
 write_known : (behind : List ℕ) → action_in (codes "write") behind ≡ Err UnknownCommand → ⊥
 unfolding action_in
 write_known behind h =
-    let clash : UnknownCommand ≡ Range = ranged_err (is_value behind) behind UnknownCommand (err_mapped (value_of behind) Write UnknownCommand h) in
+    let clash : UnknownCommand ≡ Range = range_err (is_value behind) behind UnknownCommand (err_mapped (value_of behind) Write UnknownCommand h) in
     absurd (cc)
 
 invoke_known : (args : List ℕ) (client : ℕ) (key : List ℕ) (action : Action) → SaysInvoke of_any_size (words args) (third args) client key action → invoke_in args ≡ Err UnknownCommand → ⊥

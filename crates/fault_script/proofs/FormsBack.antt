@@ -15,7 +15,7 @@ use Rattle.fault_script.specs.Commands.{client_in, replica_in, flight_in, action
 use Rattle.fault_script.specs.Forms.{in_ranges, IsNumber, IsClient, IsReplica, IsFlight, One, Named, Two, SaysInvoke, SaysStep, SaysCommand}
 use Rattle.fault_script.proofs.WordLemmas.{words-behind}
 use Rattle.fault_script.proofs.Chains.{after, done, inside, picked, mapped, mapped_there}
-use Rattle.fault_script.proofs.ReadingBack.{text_back, word_is, ranged_back, ranged_there, number_back, number_there, in_range, nothing_back, word_back, Found, number_next, number_first, one_back, one_there}
+use Rattle.fault_script.proofs.ReadingBack.{text_back, word_is, range_back, range_there, number_back, number_there, number_in_range, nothing_back, word_back, Found, number_next, number_first, one_back, one_there}
 
 client_back : (ws : List (List ℕ)) (n : ℕ) → client_in ws ≡ Ok n → One IsClient ws n
 unfolding client_in
@@ -31,15 +31,15 @@ flight_back ws n e = let a = after (one_number ws) _ n e in one_back 0 429496729
 
 client_there : (ws : List (List ℕ)) (n : ℕ) → One IsClient ws n → client_in ws ≡ Ok n
 unfolding client_in
-client_there ws n h = ap (λ r. r >>= within 1 65535) (one_there 1 65535 ws n (omega arith) h) ∙ in_range 1 65535 h.word n h.is
+client_there ws n h = ap (λ r. r >>= within 1 65535) (one_there 1 65535 ws n (omega arith) h) ∙ number_in_range 1 65535 h.word n h.is
 
 replica_there : (ws : List (List ℕ)) (n : ℕ) → One IsReplica ws n → replica_in ws ≡ Ok n
 unfolding replica_in
-replica_there ws n h = ap (λ r. r >>= within 0 14) (one_there 0 14 ws n (omega arith) h) ∙ in_range 0 14 h.word n h.is
+replica_there ws n h = ap (λ r. r >>= within 0 14) (one_there 0 14 ws n (omega arith) h) ∙ number_in_range 0 14 h.word n h.is
 
 flight_there : (ws : List (List ℕ)) (n : ℕ) → One IsFlight ws n → flight_in ws ≡ Ok n
 unfolding flight_in
-flight_there ws n h = ap (λ r. r >>= within 0 4294967295) (one_there 0 4294967295 ws n (omega arith) h) ∙ in_range 0 4294967295 h.word n h.is
+flight_there ws n h = ap (λ r. r >>= within 0 4294967295) (one_there 0 4294967295 ws n (omega arith) h) ∙ number_in_range 0 4294967295 h.word n h.is
 
 -- two numbers
 unfoldable pub two_read : {X : Type 0} → ℕ → ℕ → ℕ → ℕ → (ℕ → ℕ → X) → List (List ℕ) → Result X LineFault
@@ -74,8 +74,8 @@ two_there l m l' m' f ws x y fits fits' h =
     ap (two_read l m l' m' f) h.all
     ∙ ap (λ r. r >>= (λ (a : Found). needed_number a.1 >>= (λ (b : Found). nothing_more b.1 >>= (λ nothing. within l m a.0 >>= (λ x. within l' m' b.0 >>= (λ y. done (f x y))))))) (number_first h.first (h.second ∷ []) (Some x) (number_there l m h.first x fits h.is))
     ∙ ap (λ r. r >>= (λ (b : Found). nothing_more b.1 >>= (λ nothing. within l m (Some x) >>= (λ x. within l' m' b.0 >>= (λ y. done (f x y)))))) (number_first h.second [] (Some y) (number_there l' m' h.second y fits' h.are))
-    ∙ ap (λ r. r >>= (λ x. within l' m' (Some y) >>= (λ y. done (f x y)))) (in_range l m h.first x h.is)
-    ∙ ap (λ r. r >>= (λ y. done (f x y))) (in_range l' m' h.second y h.are)
+    ∙ ap (λ r. r >>= (λ x. within l' m' (Some y) >>= (λ y. done (f x y)))) (number_in_range l m h.first x h.is)
+    ∙ ap (λ r. r >>= (λ y. done (f x y))) (number_in_range l' m' h.second y h.are)
 
 -- what a call asks
 abbrev pub Asks : List ℕ → List ℕ → Action → Type 0
@@ -93,7 +93,7 @@ action_back word behind action e =
       | inr e2 ↦ elim (picked (bytes_eq word (codes "write")) (value_of behind >>= (λ value. done (Write value))) (Err UnknownCommand) action e2) [
         | inl w ↦
             let a = mapped (value_of behind) Write action w.1 in
-            let v = ranged_back (is_value behind) behind a.0 a.1 in
+            let v = range_back (is_value behind) behind a.0 a.1 in
             subst P a.2 (word_is word (codes "write") w.0, v.1, subst (λ (t : List ℕ). is_value t ≡ true) v.1 v.0)
         | inr e3 ↦ absurd (cc)
       ]
@@ -136,7 +136,7 @@ invoke_back args s e =
     let second = word_back a.0.1 b.0 b.1 in
     let last = word_back b.0.1 k.0 k.1 in
     let all : words args ≡ v.0 ∷ b.0.0 ∷ k.0.0 ∷ k.0.1 = v.1 ∙ ap (λ (l : List (List ℕ)). v.0 ∷ l) (second ∙ ap (λ (l : List (List ℕ)). b.0.0 ∷ l) last) in
-    let key = ranged_back (is_key k.0.0) k.0.0 x.0 x.1 in
+    let key = range_back (is_key k.0.0) k.0.0 x.0 x.1 in
     let P : List ℕ → Type 0 = λ l. words args ≡ v.0 ∷ b.0.0 ∷ l ∷ k.0.1 in
     (n.0, x.0, t.0, says_invoke (words args) (third args) v.0 b.0.0 x.0 k.0.1 n.0 t.0 (subst P key.1 all) (behind_three args v.0 b.0.0 k.0.0 k.0.1 all) (number_back 1 65535 v.0 a.0.0 n.0 v.2 n.1) (subst (λ (l : List ℕ). is_key l ≡ true) key.1 key.0) (action_back b.0.0 (third args) t.0 t.1), inside (step.Invoke n.0 x.0 t.0) s x.2)
 
@@ -279,7 +279,7 @@ read_asked behind none = ap (λ ws. nothing_more ws >>= (λ nothing. done Read))
 write_asked : (behind value : List ℕ) → behind ≡ value → is_value value ≡ true → action_in (codes "write") behind ≡ Ok (Write value)
 unfolding action_in
 write_asked behind value e short =
-    mapped_there (value_of behind) Write value (ap value_of e ∙ ranged_there (is_value value) value short)
+    mapped_there (value_of behind) Write value (ap value_of e ∙ range_there (is_value value) value short)
 
 -- the words of an invocation, and what stands behind the key
 unfoldable pub invoked : List (List ℕ) → List ℕ → Result Step LineFault
@@ -290,8 +290,8 @@ unfolding invoked needed_word
 invoked_there behind caller word key others client action is named asks =
     ap (λ r. r >>= (λ (client : Found). needed_word client.1 >>= (λ action. needed_word action.1 >>= (λ key. action_in action.0 behind >>= (λ asked. client_of client.0 >>= (λ name. key_of key.0 >>= (λ text. done (step.Invoke name text asked)))))))) (number_first caller (word ∷ key ∷ others) (Some client) (number_there 1 65535 caller client (omega arith) is))
     ∙ ap (λ r. r >>= (λ asked. client_of (Some client) >>= (λ name. key_of key >>= (λ text. done (step.Invoke name text asked))))) asks
-    ∙ ap (λ r. r >>= (λ name. key_of key >>= (λ text. done (step.Invoke name text action)))) (in_range 1 65535 caller client is)
-    ∙ ap (λ r. r >>= (λ text. done (step.Invoke client text action))) (ranged_there (is_key key) key named)
+    ∙ ap (λ r. r >>= (λ name. key_of key >>= (λ text. done (step.Invoke name text action)))) (number_in_range 1 65535 caller client is)
+    ∙ ap (λ r. r >>= (λ text. done (step.Invoke client text action))) (range_there (is_key key) key named)
 
 invoke_there : (args : List ℕ) (client : ℕ) (key : List ℕ) (action : Action) → SaysInvoke in_ranges (words args) (third args) client key action → invoke_in args ≡ Ok (step.Invoke client key action)
 unfolding invoke_in invoked

@@ -13,9 +13,9 @@ use Rattle.fault_script.specs.declared.parse_line.Said.{Said}
 use Rattle.fault_script.specs.declared.parse_line.Said.TheVariants.{Opens, Runs}
 use Rattle.fault_script.specs.declared.fault.LineFault.{LineFault}
 use Rattle.fault_script.specs.declared.fault.LineFault.TheVariants.{NoReplicas, UnknownCommand, Range}
-use Rattle.fault_script.specs.Words.{words, is_numeral, decimal_value, bounded, number_of}
-use Rattle.fault_script.specs.Says.{◌>>=◌, needed_word, needed_number, needed_text, nothing_more, number_or, ranged, within}
-use Rattle.fault_script.specs.Settings.{config_in, replicas_in, mode_of, reads_in, capped, numbers_in, is_lawful, quorums_of, votes_in}
+use Rattle.fault_script.specs.Words.{words, is_numeral, decimal_value, u64_of, number_of}
+use Rattle.fault_script.specs.Says.{◌>>=◌, needed_word, needed_number, needed_text, nothing_more, number_or, in_range, within}
+use Rattle.fault_script.specs.Settings.{config_in, replicas_in, mode_of, reads_in, vote_count, numbers_in, is_lawful, quorums_of, votes_in}
 use Rattle.fault_script.specs.Commands.{command_in}
 use Rattle.fault_script.specs.Saying.{reads_behind, votes_set, votes_behind, first_said, said_in}
 use Rattle.fault_script.specs.Forms.{IsValue, of_any_size, HasForm}
@@ -26,7 +26,7 @@ use Rattle.fault_script.proofs.ReadingBack.{Found, word_is, number_next, number_
 use Rattle.fault_script.proofs.FormsBack.{third}
 use Rattle.fault_script.proofs.SettingsBack.{Counts, Rows, row_back, row_words, behind_put, behind_ask, behind_votes}
 use Rattle.fault_script.proofs.SaidBack.{IsPlain, command_plain, said_back, said_there}
-use Rattle.fault_script.proofs.FormFaults.{Either, unknown, out_of_range, err_after, number_err, nothing_err, text_err, ranged_err, command_err, command_known, form_of_said}
+use Rattle.fault_script.proofs.FormFaults.{Either, unknown, out_of_range, err_after, number_err, nothing_err, text_err, range_err, command_err, command_known, form_of_said}
 
 -- ---- what a step tells
 
@@ -46,11 +46,11 @@ module _ (Form : Type 0) where
   bind (Err e) f h k = h
 
   -- the next word is a number or not
-  number_then : {X : Type 0} (w : List ℕ) (rest : List (List ℕ)) (k : Found → Result X LineFault) → (Form → is_numeral w ≡ true) → (is_numeral w ≡ true → Told Form (k (bounded (decimal_value w), rest))) → Told Form (needed_number (w ∷ rest) >>= k)
+  number_then : {X : Type 0} (w : List ℕ) (rest : List (List ℕ)) (k : Found → Result X LineFault) → (Form → is_numeral w ≡ true) → (is_numeral w ≡ true → Told Form (k (u64_of (decimal_value w), rest))) → Told Form (needed_number (w ∷ rest) >>= k)
   unfolding needed_number needed_word number_of
   number_then {X = X} w rest k has go = by (is_numeral w) refl
     where
-      by : (b : Bool) → is_numeral w ≡ b → Told Form ((cond {A = Result (Option ℕ) LineFault} b (Ok (bounded (decimal_value w))) (Err UnknownCommand) >>= (λ number. done (number, rest))) >>= k)
+      by : (b : Bool) → is_numeral w ≡ b → Told Form ((cond {A = Result (Option ℕ) LineFault} b (Ok (u64_of (decimal_value w))) (Err UnknownCommand) >>= (λ number. done (number, rest))) >>= k)
       by true e = go e
       by false e = λ h. let yes = has h in absurd (cc)
 
@@ -59,7 +59,7 @@ module _ (Form : Type 0) where
   within_told least most None form = form
   within_told least most (Some n) form = by (nat_le least n && nat_le n most)
     where
-      by : (b : Bool) → Told Form (ranged b n)
+      by : (b : Bool) → Told Form (in_range b n)
       by true = tt
       by false = form
 
@@ -151,9 +151,9 @@ numeral_of : (w : List ℕ) (o : Option ℕ) → number_of w ≡ Ok o → is_num
 unfolding number_of
 numeral_of w o e = (number_by w (is_numeral w) o e).0
 
-numeral_read : (w : List ℕ) → is_numeral w ≡ true → number_of w ≡ Ok (bounded (decimal_value w))
+numeral_read : (w : List ℕ) → is_numeral w ≡ true → number_of w ≡ Ok (u64_of (decimal_value w))
 unfolding number_of
-numeral_read w is = ap (λ (b : Bool). cond {A = Result (Option ℕ) LineFault} b (Ok (bounded (decimal_value w))) (Err UnknownCommand)) is
+numeral_read w is = ap (λ (b : Bool). cond {A = Result (Option ℕ) LineFault} b (Ok (u64_of (decimal_value w))) (Err UnknownCommand)) is
 
 numerals : (ws : List (List ℕ)) (ns : List ℕ) → AllZip Counts ws ns → AreNumerals ws
 unfolding Counts
@@ -196,8 +196,8 @@ votes_err n ws e h = elim (err_after (numbers_in n ws) _ e h) [
                 let r = row_back n ws v.0 v.1 in
                 let ask = number_next s.0 a.0 a.1 in
                 let put = number_next t.0 p.0 p.1 in
-                let made : Quorums = record { votes = v.0.0; ask = capped a.0.0; put = capped p.0.0 } in
-                out_of_range e _ (ranged_err (is_lawful made) made e z.2) (record {
+                let made : Quorums = record { votes = v.0.0; ask = vote_count a.0.0; put = vote_count p.0.0 } in
+                out_of_range e _ (range_err (is_lawful made) made e z.2) (record {
                   votes = r.words;
                   ask = ask.0;
                   put = put.0;
@@ -221,26 +221,26 @@ numbers_read zero [] rest h count = ([], refl)
 numbers_read zero (w ∷ ws) rest h count = absurd (omega (arith, count))
 numbers_read (suc n) [] rest h count = absurd (omega (arith, count))
 numbers_read (suc n) (w ∷ ws) rest h count =
-    let o = bounded (decimal_value w) in
+    let o = u64_of (decimal_value w) in
     let more = numbers_read n ws rest h.1 (omega (arith, count)) in (
-      capped o ∷ more.0,
-      ap (λ r. r >>= (λ (first : Found). numbers_in n first.1 >>= (λ (others : Rows). done (capped first.0 ∷ others.0, others.1)))) (number_first w (ws ++ rest) o (numeral_read w h.0))
-          ∙ ap (λ r. r >>= (λ (others : Rows). done (capped o ∷ others.0, others.1))) more.1,
+      vote_count o ∷ more.0,
+      ap (λ r. r >>= (λ (first : Found). numbers_in n first.1 >>= (λ (others : Rows). done (vote_count first.0 ∷ others.0, others.1)))) (number_first w (ws ++ rest) o (numeral_read w h.0))
+          ∙ ap (λ r. r >>= (λ (others : Rows). done (vote_count o ∷ others.0, others.1))) more.1,
     )
 
 votes_known : (n : ℕ) (ws : List (List ℕ)) → HasVotesForm n ws → votes_in n ws ≡ Err UnknownCommand → ⊥
 unfolding votes_in needed_text needed_word nothing_more
 votes_known n ws h e =
-    let a = bounded (decimal_value h.ask) in
-    let p = bounded (decimal_value h.put) in
+    let a = u64_of (decimal_value h.ask) in
+    let p = u64_of (decimal_value h.put) in
     let row = numbers_read n h.votes (codes "ask" ∷ h.ask ∷ codes "put" ∷ h.put ∷ []) h.numbers h.count_is in
-    let read : votes_in n ws ≡ quorums_of row.0 (capped a) (capped p) =
+    let read : votes_in n ws ≡ quorums_of row.0 (vote_count a) (vote_count p) =
     ap (votes_in n) h.all
     ∙ ap (λ r. r >>= behind_votes) row.1
     ∙ ap (λ r. r >>= behind_ask row.0) (number_first h.ask (codes "put" ∷ h.put ∷ []) a (numeral_read h.ask h.asks))
-    ∙ ap (λ r. r >>= behind_put row.0 (capped a)) (number_first h.put [] p (numeral_read h.put h.puts)) in
-    let made : Quorums = record { votes = row.0; ask = capped a; put = capped p } in
-    let clash : UnknownCommand ≡ Range = ranged_err (is_lawful made) made UnknownCommand (sym read ∙ e) in
+    ∙ ap (λ r. r >>= behind_put row.0 (vote_count a)) (number_first h.put [] p (numeral_read h.put h.puts)) in
+    let made : Quorums = record { votes = row.0; ask = vote_count a; put = vote_count p } in
+    let clash : UnknownCommand ≡ Range = range_err (is_lawful made) made UnknownCommand (sym read ∙ e) in
     cc
 
 votes_told : (n : ℕ) (ws : List (List ℕ)) → Told (HasVotesForm n ws) (votes_in n ws)

@@ -4,23 +4,23 @@ use Rattle.std.specs.Cmp.Lexicographic.{bytes_decides}
 use Rattle.std.proofs.lemmas.Bool.{leb-true, le-leb}
 use Rattle.fault_script.specs.declared.fault.LineFault.{LineFault}
 use Rattle.fault_script.specs.declared.fault.LineFault.TheVariants.{UnknownCommand}
-use Rattle.fault_script.specs.Words.{is_numeral, decimal_value, bounded, number_of}
-use Rattle.fault_script.specs.Says.{◌>>=◌, needed_text, needed_word, nothing_more, needed_number, one_number, ranged, within}
+use Rattle.fault_script.specs.Words.{is_numeral, decimal_value, u64_of, number_of}
+use Rattle.fault_script.specs.Says.{◌>>=◌, needed_text, needed_word, nothing_more, needed_number, one_number, in_range, within}
 use Rattle.fault_script.specs.Forms.{IsNumber, One}
-use Rattle.fault_script.proofs.NumberLemmas.{small-bounded, bounded-small}
+use Rattle.fault_script.proofs.NumberLemmas.{small-u64_of, u64_of-small}
 use Rattle.fault_script.proofs.Chains.{after, done, inside, picked}
 
 -- a test of a word, and the word
 pub word_is : (word text : List ℕ) → bytes_eq word text ≡ true → word ≡ text
 word_is word text e = (bytes_decides word text).0 e
 
-pub ranged_back : {X : Type 0} (b : Bool) (x y : X) → ranged b x ≡ Ok y → (b ≡ true) × (x ≡ y)
-ranged_back true x y e = (refl, cc)
-ranged_back false x y e = absurd (cc)
+pub range_back : {X : Type 0} (b : Bool) (x y : X) → in_range b x ≡ Ok y → (b ≡ true) × (x ≡ y)
+range_back true x y e = (refl, cc)
+range_back false x y e = absurd (cc)
 
-pub ranged_there : {X : Type 0} (b : Bool) (x : X) → b ≡ true → ranged b x ≡ Ok x
-ranged_there true x e = refl
-ranged_there false x e = absurd (cc)
+pub range_there : {X : Type 0} (b : Bool) (x : X) → b ≡ true → in_range b x ≡ Ok x
+range_there true x e = refl
+range_there false x e = absurd (cc)
 
 both : (a b : Bool) → (a && b) ≡ true → (a ≡ true) × (b ≡ true)
 both true true e = (refl, refl)
@@ -31,16 +31,16 @@ within_back : (least most : ℕ) (o : Option ℕ) (n : ℕ) → within least mos
 unfolding within
 within_back least most None n e = absurd (cc)
 within_back least most (Some m) n e =
-    let w = ranged_back (nat_le least m && nat_le m most) m n e in
+    let w = range_back (nat_le least m && nat_le m most) m n e in
     let t = both (nat_le least m) (nat_le m most) w.0 in
     (ap Some w.1, omega (arith, w.1, leb-true least m t.0), omega (arith, w.1, leb-true m most t.1))
 
 within_there : (least most n : ℕ) → least ≤ n → n ≤ most → within least most (Some n) ≡ Ok n
 unfolding within
-within_there least most n low high = ranged_there (nat_le least n && nat_le n most) n (ap (λ (b : Bool). b && nat_le n most) (le-leb least n low) ∙ le-leb n most high)
+within_there least most n low high = range_there (nat_le least n && nat_le n most) n (ap (λ (b : Bool). b && nat_le n most) (le-leb least n low) ∙ le-leb n most high)
 
-pub number_by : (word : List ℕ) (b : Bool) (o : Option ℕ) → cond b (Ok (bounded (decimal_value word))) (Err UnknownCommand) ≡ done o → (b ≡ true) × (bounded (decimal_value word) ≡ o)
-number_by word true o e = (refl, inside (bounded (decimal_value word)) o e)
+pub number_by : (word : List ℕ) (b : Bool) (o : Option ℕ) → cond b (Ok (u64_of (decimal_value word))) (Err UnknownCommand) ≡ done o → (b ≡ true) × (u64_of (decimal_value word) ≡ o)
+number_by word true o e = (refl, inside (u64_of (decimal_value word)) o e)
 number_by word false o e = absurd (cc)
 
 pub number_back : (least most : ℕ) (word : List ℕ) (o : Option ℕ) (n : ℕ) → number_of word ≡ Ok o → within least most o ≡ Ok n → IsNumber least most word n
@@ -48,17 +48,17 @@ unfolding number_of
 number_back least most word o n e h =
     let w = number_by word (is_numeral word) o e in
     let t = within_back least most o n h in
-    let s = small-bounded (decimal_value word) n (w.1 ∙ t.0) in
+    let s = small-u64_of (decimal_value word) n (w.1 ∙ t.0) in
     record { digits = w.0; value = s.1; low = t.1; high = t.2 }
 
 pub number_there : (least most : ℕ) (word : List ℕ) (n : ℕ) → most < 2 ^ 64 → IsNumber least most word n → number_of word ≡ Ok (Some n)
 unfolding number_of
 number_there least most word n fits is =
-    ap (λ (b : Bool). cond {A = Result (Option ℕ) LineFault} b (Ok (bounded (decimal_value word))) (Err UnknownCommand)) is.digits
-    ∙ ap (λ (o : Option ℕ). done o) (ap bounded is.value ∙ bounded-small n (omega (arith, is.high)))
+    ap (λ (b : Bool). cond {A = Result (Option ℕ) LineFault} b (Ok (u64_of (decimal_value word))) (Err UnknownCommand)) is.digits
+    ∙ ap (λ (o : Option ℕ). done o) (ap u64_of is.value ∙ u64_of-small n (omega (arith, is.high)))
 
-pub in_range : (least most : ℕ) (word : List ℕ) (n : ℕ) → IsNumber least most word n → within least most (Some n) ≡ Ok n
-in_range least most word n is = within_there least most n is.low is.high
+pub number_in_range : (least most : ℕ) (word : List ℕ) (n : ℕ) → IsNumber least most word n → within least most (Some n) ≡ Ok n
+number_in_range least most word n is = within_there least most n is.low is.high
 
 pub nothing_back : (ws : List (List ℕ)) (u : Unit {0}) → nothing_more ws ≡ Ok u → ws ≡ []
 unfolding nothing_more

@@ -7,16 +7,16 @@ use Rattle.recorder.specs.Sound.{TagSound}
 use Rattle.recorder.specs.declared.part.Call.{Call}
 use Rattle.recorder.specs.declared.row.Row.{Row}
 use Rattle.world_steps.specs.Refusals.{refusal_of}
-use Rattle.world_steps.specs.Runs.{after_from, next}
+use Rattle.world_steps.specs.Configs.{Config}
+use Rattle.world_steps.specs.Runs.{after, after_from, next}
 use Rattle.world_steps.specs.Systems.{system_after, opening}
 use Rattle.world_steps.specs.declared.refusal.Refusal.{Refusal}
 use Rattle.world_steps.specs.declared.step.Step.{Step}
 use Rattle.world_steps.specs.declared.system.System.{System}
-use Rattle.world_steps.proofs.Headline.{headline}
 use Rattle.fault_script.specs.declared.command.Command.{Command}
 use Rattle.fault_script.specs.declared.command.Numbered.{Numbered}
 use Rattle.fault_script.specs.declared.command.Script.{Script}
-use Rattle.fault_script.specs.ScriptRuns.{Walk, stride, walked, Runs, takes, refuses, finishes, stays, randomly, RunsAll, done, goes, IsRunOf}
+use Rattle.fault_script.specs.ScriptRuns.{Walk, stride, walk_after, Runs, takes, refuses, finishes, stays, randomly, RunsAll, done, goes, IsRunOf}
 
 -- a step that isn't refused is the next one
 next_moved : (s : System) (step : Step) (found : Option Refusal) → refusal_of s step ≡ found → found ≡ None → system_after s step ≡ next s step
@@ -48,9 +48,9 @@ stride_leads : (walk : Walk) → Leads walk.system (stride walk).system
 unfolding stride
 stride_leads walk = one_step walk.system (step_of walk.system (draw walk.generator))
 
-walk_leads : (walk : Walk) (count : ℕ) → Leads walk.system (walked walk count).system
+walk_leads : (walk : Walk) (count : ℕ) → Leads walk.system (walk_after walk count).system
 walk_leads walk zero = no_step walk.system
-walk_leads walk (suc count) = leads_on walk.system (walked walk count).system (stride (walked walk count)).system (walk_leads walk count) (stride_leads (walked walk count))
+walk_leads walk (suc count) = leads_on walk.system (walk_after walk count).system (stride (walk_after walk count)).system (walk_leads walk count) (stride_leads (walk_after walk count))
 
 one_leads : (line : ℕ) (a b : System) (command : Command) (note : List ℕ) → Runs line a command b note → Leads a b
 one_leads line a b command note (takes s step none) = record { steps = step ∷ []; is = next_moved s step (refusal_of s step) refl none }
@@ -64,9 +64,14 @@ all_lead a b commands notes (done s) = no_step s
 all_lead a b commands notes (goes s mid last numbered others first rest one all) =
     leads_on s mid last (one_leads numbered.line s mid numbered.command first one) (all_lead mid last others rest all)
 
+-- each part of what steps leave has sound tags, as the law of the steps says
+abbrev pub StepsLeaveSoundTags : Type 0
+StepsLeaveSoundTags = (config : Config) (steps : List Step) (key : List ℕ) (part : List Call) → IsLawful config.quorums → config.calls ≤ 1000000
+    → IsPart (after config steps).history.rows key part → TagSound part
+
 -- so it is sound
-pub run_sound : (script : Script) (rows : List Row) (notes key : List ℕ) (part : List Call) → IsLawful script.config.quorums → script.config.calls ≤ 1000000 → IsRunOf script rows notes → IsPart rows key part → TagSound part
-run_sound script rows notes key part lawful calls run is =
+pub run_sound : StepsLeaveSoundTags → (script : Script) (rows : List Row) (notes key : List ℕ) (part : List Call) → IsLawful script.config.quorums → script.config.calls ≤ 1000000 → IsRunOf script rows notes → IsPart rows key part → TagSound part
+run_sound tags script rows notes key part lawful calls run is =
     let led = all_lead (opening script.config) run.last script.commands.items notes run.runs in
     let P : List Row → Type 0 = λ r. IsPart r key part in
-    headline script.config led.steps key part lawful calls (subst P (sym run.recorded ∙ ap (λ (s : System). s.history.rows) led.is) is)
+    tags script.config led.steps key part lawful calls (subst P (sym run.recorded ∙ ap (λ (s : System). s.history.rows) led.is) is)

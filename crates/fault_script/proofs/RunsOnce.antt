@@ -6,9 +6,10 @@ use Rattle.world_settle.specs.Refusing.{IsUnsettled, MaySettle, pending_at}
 use Rattle.world_settle.specs.declared.errors.SettleError.{SettleError}
 use Rattle.world_settle.specs.declared.errors.SettleError.TheVariants as settle
 use Rattle.world_settle.specs.Counts.{needs_once}
-use Rattle.world_settle.proofs.Plans.{steps_once}
+use Rattle.world_settle.specs.Settling.{Settles}
 use Rattle.world_steps.specs.Runs.{after_from}
 use Rattle.world_steps.specs.Systems.{opening}
+use Rattle.world_steps.specs.declared.step.Step.{Step}
 use Rattle.world_steps.specs.declared.system.System.{System}
 use Rattle.fault_script.specs.declared.command.Command.{Command}
 use Rattle.fault_script.specs.declared.command.Numbered.{Numbered}
@@ -45,30 +46,34 @@ one_reason s name settle.Room settle.Room h k = refl
 one_reason s name settle.Room (settle.Memory steps) h k = absurd k
 one_reason s name (settle.Memory steps) because h k = absurd h
 
+-- the steps that complete a call are one list, as the law of settling says
+abbrev pub StepsAreOneList : Type 0
+StepsAreOneList = (s : System) (name : ℕ) (steps other : List Step) → Settles name s steps → Settles name s other → steps ≡ other
+
 -- a command has one outcome
-runs_once : (line : ℕ) (command : Command) (s a b : System) (m n : List ℕ) → Runs line s command a m → Runs line s command b n → (a ≡ b) × (m ≡ n)
-runs_once line command s a b m n (takes t step none) (takes u other again) = (refl, refl)
-runs_once line command s a b m n (takes t step none) (refuses u other why refused) = absurd cc
-runs_once line command s a b m n (refuses t step why refused) (takes u other none) = absurd cc
-runs_once line command s a b m n (refuses t step why refused) (refuses u other because again) =
+runs_once : StepsAreOneList → (line : ℕ) (command : Command) (s a b : System) (m n : List ℕ) → Runs line s command a m → Runs line s command b n → (a ≡ b) × (m ≡ n)
+runs_once steps_once line command s a b m n (takes t step none) (takes u other again) = (refl, refl)
+runs_once steps_once line command s a b m n (takes t step none) (refuses u other why refused) = absurd cc
+runs_once steps_once line command s a b m n (refuses t step why refused) (takes u other none) = absurd cc
+runs_once steps_once line command s a b m n (refuses t step why refused) (refuses u other because again) =
     let both : Some why ≡ Some because = sym refused ∙ again in
     let same : why ≡ because = cc in
     (refl, ap (refused_note line) same)
-runs_once line command s a b m n (finishes t name steps may settles) (finishes u other others again settled) = (ap (after_from t) (steps_once name t steps others settles settled), refl)
-runs_once line command s a b m n (finishes t name steps may settles) (stays u other why holds) = absurd (may_not t name why may holds)
-runs_once line command s a b m n (stays t name why holds) (finishes u other steps may settles) = absurd (may_not t name why may holds)
-runs_once line command s a b m n (stays t name why holds) (stays u other because again) = (refl, ap (unfinished_note line) (one_reason t name why because holds again))
-runs_once line command s a b m n (randomly t seed count) (randomly u first more) = (refl, refl)
+runs_once steps_once line command s a b m n (finishes t name steps may settles) (finishes u other others again settled) = (ap (after_from t) (steps_once t name steps others settles settled), refl)
+runs_once steps_once line command s a b m n (finishes t name steps may settles) (stays u other why holds) = absurd (may_not t name why may holds)
+runs_once steps_once line command s a b m n (stays t name why holds) (finishes u other steps may settles) = absurd (may_not t name why may holds)
+runs_once steps_once line command s a b m n (stays t name why holds) (stays u other because again) = (refl, ap (unfinished_note line) (one_reason t name why because holds again))
+runs_once steps_once line command s a b m n (randomly t seed count) (randomly u first more) = (refl, refl)
 
-all_once : (a b c : System) (commands : List Numbered) (m n : List ℕ) → RunsAll a commands b m → RunsAll a commands c n → (b ≡ c) × (m ≡ n)
-all_once a b c commands m n (done s) (done t) = (refl, refl)
-all_once a b c commands m n (goes s mid last numbered others note notes one all) (goes t between end same rest told tolds two also) =
-    let w = runs_once numbered.line numbered.command s mid between note told one two in
+all_once : StepsAreOneList → (a b c : System) (commands : List Numbered) (m n : List ℕ) → RunsAll a commands b m → RunsAll a commands c n → (b ≡ c) × (m ≡ n)
+all_once steps_once a b c commands m n (done s) (done t) = (refl, refl)
+all_once steps_once a b c commands m n (goes s mid last numbered others note notes one all) (goes t between end same rest told tolds two also) =
+    let w = runs_once steps_once numbered.line numbered.command s mid between note told one two in
     let P : System → Type 0 = λ x. RunsAll x others end tolds in
-    let v = all_once mid last end others notes tolds all (subst P (sym w.0) also) in
+    let v = all_once steps_once mid last end others notes tolds all (subst P (sym w.0) also) in
     (v.0, λ i. w.1 i ++ v.1 i)
 
-pub run_once : (script : Script) (rows others : List Row) (notes told : List ℕ) → IsRunOf script rows notes → IsRunOf script others told → (rows ≡ others) × (notes ≡ told)
-run_once script rows others notes told h k =
-    let w = all_once (opening script.config) h.last k.last script.commands.items notes told h.runs k.runs in
+pub run_once : StepsAreOneList → (script : Script) (rows others : List Row) (notes told : List ℕ) → IsRunOf script rows notes → IsRunOf script others told → (rows ≡ others) × (notes ≡ told)
+run_once steps_once script rows others notes told h k =
+    let w = all_once steps_once (opening script.config) h.last k.last script.commands.items notes told h.runs k.runs in
     (sym h.recorded ∙ ap (λ (s : System). s.history.rows) w.0 ∙ k.recorded, w.1)

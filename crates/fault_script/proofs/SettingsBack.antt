@@ -9,15 +9,15 @@ use Rattle.quorum.specs.Quorums.{Quorums, IsLawful}
 use Rattle.world_steps.specs.Configs.{Config, config_of}
 use Rattle.fault_script.specs.declared.fault.LineFault.{LineFault}
 use Rattle.fault_script.specs.declared.fault.LineFault.TheVariants.{UnknownCommand}
-use Rattle.fault_script.specs.Words.{is_numeral, decimal_value, bounded, number_of}
+use Rattle.fault_script.specs.Words.{is_numeral, decimal_value, u64_of, number_of}
 use Rattle.fault_script.specs.Says.{◌>>=◌, needed_word, needed_number, needed_text, nothing_more, number_or, within}
-use Rattle.fault_script.specs.Settings.{config_in, replicas_in, mode_of, reads_in, capped, numbers_in, is_lawful, quorums_of, votes_in}
+use Rattle.fault_script.specs.Settings.{config_in, replicas_in, mode_of, reads_in, vote_count, numbers_in, is_lawful, quorums_of, votes_in}
 use Rattle.fault_script.specs.Forms.{IsNumber, IsValue}
 use Rattle.fault_script.specs.SettingForms.{SaysReplicas, alone, with_calls, with_flights, SaysReads, SaysVotes}
-use Rattle.fault_script.proofs.NumberLemmas.{small-bounded, bounded-small}
+use Rattle.fault_script.proofs.NumberLemmas.{small-u64_of, u64_of-small}
 use Rattle.fault_script.proofs.VoteLemmas.{lawful_decides}
 use Rattle.fault_script.proofs.Chains.{after, done, inside, picked}
-use Rattle.fault_script.proofs.ReadingBack.{word_is, ranged_back, ranged_there, number_back, number_there, in_range, nothing_back, word_back, Found, number_next, number_first, number_by, text_back}
+use Rattle.fault_script.proofs.ReadingBack.{word_is, range_back, range_there, number_back, number_there, number_in_range, nothing_back, word_back, Found, number_next, number_first, number_by, text_back}
 
 pub reads_back : (ws : List (List ℕ)) (mode : ReadMode) → reads_in ws ≡ Ok mode → SaysReads ws mode
 unfolding reads_in mode_of
@@ -51,7 +51,7 @@ numbers_back o p q config e =
 
 default_of : (d least most n : ℕ) → within least most (Some d) ≡ Ok n → d ≡ n
 unfolding within
-default_of d least most n e = (ranged_back _ d n e).1
+default_of d least most n e = (range_back _ d n e).1
 
 -- a number that may be missing
 data Given (d : ℕ) (ws : List (List ℕ)) (x : Found) : Type 0 where
@@ -133,22 +133,22 @@ unfolding replicas_in number_or nothing_more
 replicas_there ws config (alone n h) =
     ap replicas_in h.all
     ∙ ap (λ r. r >>= behind_first) (number_is 1 15 h.word n [] (omega arith) h.is)
-    ∙ config_there n 1000000 4000000 (in_range 1 15 h.word n h.is) calls_default flights_default
+    ∙ config_there n 1000000 4000000 (number_in_range 1 15 h.word n h.is) calls_default flights_default
 replicas_there ws config (with_calls n calls h) =
     ap replicas_in h.all
     ∙ ap (λ r. r >>= behind_first) (number_is 1 15 h.first n (h.second ∷ []) (omega arith) h.is)
     ∙ ap (λ r. r >>= behind_calls (Some n)) (number_is 1 1000000 h.second calls [] (omega arith) h.are)
-    ∙ config_there n calls 4000000 (in_range 1 15 h.first n h.is) (in_range 1 1000000 h.second calls h.are) flights_default
+    ∙ config_there n calls 4000000 (number_in_range 1 15 h.first n h.is) (number_in_range 1 1000000 h.second calls h.are) flights_default
 replicas_there ws config (with_flights n calls flights h) =
     ap replicas_in h.all
     ∙ ap (λ r. r >>= behind_first) (number_is 1 15 h.first n (h.second ∷ h.third ∷ []) (omega arith) h.is)
     ∙ ap (λ r. r >>= behind_calls (Some n)) (number_is 1 1000000 h.second calls (h.third ∷ []) (omega arith) h.are)
     ∙ ap (λ r. r >>= behind_flights (Some n) (Some calls)) (number_is 1 16000000 h.third flights [] (omega arith) h.be)
-    ∙ config_there n calls flights (in_range 1 15 h.first n h.is) (in_range 1 1000000 h.second calls h.are) (in_range 1 16000000 h.third flights h.be)
+    ∙ config_there n calls flights (number_in_range 1 15 h.first n h.is) (number_in_range 1 1000000 h.second calls h.are) (number_in_range 1 16000000 h.third flights h.be)
 
 -- votes: the words, and what they count as
 unfoldable pub Counts : List ℕ → ℕ → Type 0
-Counts word v = (o : Option ℕ) × (number_of word ≡ Ok o) × (capped o ≡ v)
+Counts word v = (o : Option ℕ) × (number_of word ≡ Ok o) × (vote_count o ≡ v)
 
 pub record Row (n : ℕ) (ws : List (List ℕ)) (votes : List ℕ) (rest : List (List ℕ)) : Type 0 where
   pub words : List (List ℕ)
@@ -168,7 +168,7 @@ row_back zero ws x e =
 row_back (suc n) ws x e =
     let a = after (needed_number ws) _ x e in
     let b = after (numbers_in n a.0.1) _ x a.2 in
-    let p = inside (capped a.0.0 ∷ b.0.0, b.0.1) x b.2 in
+    let p = inside (vote_count a.0.0 ∷ b.0.0, b.0.1) x b.2 in
     let w = number_next ws a.0 a.1 in
     let r = row_back n a.0.1 b.0 b.1 in
     let P : Rows → Type 0 = λ y. Row (suc n) ws y.0 y.1 in
@@ -179,25 +179,25 @@ row_back (suc n) ws x e =
       count = omega (arith, r.count);
     })
 
-capped_small : (o : Option ℕ) (v : ℕ) → capped o ≡ v → v < 255 → o ≡ Some v
-capped_small None v e lt = absurd (omega arith)
-capped_small (Some n) v e lt = let same : n ≡ v = omega arith in ap Some same
+vote_count_small : (o : Option ℕ) (v : ℕ) → vote_count o ≡ v → v < 255 → o ≡ Some v
+vote_count_small None v e lt = absurd (omega arith)
+vote_count_small (Some n) v e lt = let same : n ≡ v = omega arith in ap Some same
 
 value_back : (word : List ℕ) (v : ℕ) → Counts word v → v < 255 → IsValue word v
 unfolding Counts number_of
 value_back word v c lt =
     let w = number_by word (is_numeral word) c.0 c.1 in
-    let s = small-bounded (decimal_value word) v (w.1 ∙ capped_small c.0 v c.2 lt) in
+    let s = small-u64_of (decimal_value word) v (w.1 ∙ vote_count_small c.0 v c.2 lt) in
     record { digits = w.0; value = s.1 }
 
 value_there : (word : List ℕ) (v : ℕ) → v < 255 → IsValue word v → number_of word ≡ Ok (Some v)
 unfolding number_of
 value_there word v lt is =
-    ap (λ (b : Bool). cond {A = Result (Option ℕ) LineFault} b (Ok (bounded (decimal_value word))) (Err UnknownCommand)) is.digits
-    ∙ ap (λ (o : Option ℕ). done o) (ap bounded is.value ∙ bounded-small v (omega arith))
+    ap (λ (b : Bool). cond {A = Result (Option ℕ) LineFault} b (Ok (u64_of (decimal_value word))) (Err UnknownCommand)) is.digits
+    ∙ ap (λ (o : Option ℕ). done o) (ap u64_of is.value ∙ u64_of-small v (omega arith))
 
-capped_same : (v : ℕ) → v < 255 → capped (Some v) ≡ v
-capped_same v lt = omega arith
+vote_count_same : (v : ℕ) → v < 255 → vote_count (Some v) ≡ v
+vote_count_same v lt = omega arith
 
 abbrev FewEach : List ℕ → Type 0
 FewEach votes = All (λ v. (1 ≤ v) × (v ≤ 9)) votes
@@ -225,9 +225,9 @@ row_there (suc n) [] (v ∷ votes) rest few h count = absurd h
 row_there (suc n) (w ∷ ws) [] rest few h count = absurd h
 row_there (suc n) (w ∷ ws) (v ∷ votes) rest few h count =
     let lt : v < 255 = omega (arith, few_head v votes few) in
-    ap (λ r. r >>= (λ (first : Found). numbers_in n first.1 >>= (λ (others : Rows). done (capped first.0 ∷ others.0, others.1)))) (number_first w (ws ++ rest) (Some v) (value_there w v lt h.0))
-    ∙ ap (λ r. r >>= (λ (others : Rows). done (capped (Some v) ∷ others.0, others.1))) (row_there n ws votes rest (few_tail v votes few) h.1 (omega arith))
-    ∙ ap (λ (k : ℕ). done (k ∷ votes, rest)) (capped_same v lt)
+    ap (λ r. r >>= (λ (first : Found). numbers_in n first.1 >>= (λ (others : Rows). done (vote_count first.0 ∷ others.0, others.1)))) (number_first w (ws ++ rest) (Some v) (value_there w v lt h.0))
+    ∙ ap (λ r. r >>= (λ (others : Rows). done (vote_count (Some v) ∷ others.0, others.1))) (row_there n ws votes rest (few_tail v votes few) h.1 (omega arith))
+    ∙ ap (λ (k : ℕ). done (k ∷ votes, rest)) (vote_count_same v lt)
 
 each_most : (votes : List ℕ) → FewEach votes → All (λ v. v ≤ 9) votes
 each_most votes few k d lt = (few k d lt).1
@@ -257,8 +257,8 @@ votes_back n ws q e =
     let putting = text_back (codes "put") a.0.1 t.0 t.1 in
     let put = number_next t.0 p.0 p.1 in
     let none = nothing_back p.0.1 z.0 z.1 in
-    let made : Quorums = record { votes = v.0.0; ask = capped a.0.0; put = capped p.0.0 } in
-    let w = ranged_back (is_lawful made) made q z.2 in
+    let made : Quorums = record { votes = v.0.0; ask = vote_count a.0.0; put = vote_count p.0.0 } in
+    let w = range_back (is_lawful made) made q z.2 in
     let lawful = (lawful_decides made).0 w.0 in
     let small = quorum_small made lawful in
     let P : Quorums → Type 0 = λ x. SaysVotes n ws x in
@@ -269,23 +269,23 @@ votes_back n ws q e =
       all = row_words ws r.words v.0.1 s.0 a.0.1 t.0 p.0.1 ask.0 put.0 r.all asking ask.1 putting put.1 none;
       each = values_back r.words v.0.0 lawful.each_votes r.each;
       count_is = r.count;
-      asks = value_back ask.0 (capped a.0.0) (a.0.0, ask.2, refl) small.0;
-      puts = value_back put.0 (capped p.0.0) (p.0.0, put.2, refl) small.1;
+      asks = value_back ask.0 (vote_count a.0.0) (a.0.0, ask.2, refl) small.0;
+      puts = value_back put.0 (vote_count p.0.0) (p.0.0, put.2, refl) small.1;
       lawful = lawful;
     })
 
 -- what stands behind the votes
 abbrev pub behind_put : List ℕ → ℕ → Found → Result Quorums LineFault
-behind_put votes ask put = nothing_more put.1 >>= (λ nothing. quorums_of votes ask (capped put.0))
+behind_put votes ask put = nothing_more put.1 >>= (λ nothing. quorums_of votes ask (vote_count put.0))
 
 abbrev pub behind_ask : List ℕ → Found → Result Quorums LineFault
-behind_ask votes ask = needed_text (codes "put") ask.1 >>= (λ putting. needed_number putting >>= (λ put. behind_put votes (capped ask.0) put))
+behind_ask votes ask = needed_text (codes "put") ask.1 >>= (λ putting. needed_number putting >>= (λ put. behind_put votes (vote_count ask.0) put))
 
 abbrev pub behind_votes : Rows → Result Quorums LineFault
 behind_votes votes = needed_text (codes "ask") votes.1 >>= (λ asking. needed_number asking >>= (λ ask. behind_ask votes.0 ask))
 
 quorums_there : (q : Quorums) → IsLawful q → quorums_of q.votes q.ask q.put ≡ Ok q
-quorums_there q lawful = ranged_there (is_lawful q) q ((lawful_decides q).1 lawful)
+quorums_there q lawful = range_there (is_lawful q) q ((lawful_decides q).1 lawful)
 
 pub votes_there : (n : ℕ) (ws : List (List ℕ)) (q : Quorums) → SaysVotes n ws q → votes_in n ws ≡ Ok q
 unfolding votes_in needed_text needed_word nothing_more
@@ -294,6 +294,6 @@ votes_there n ws q h =
     ap (votes_in n) h.all
     ∙ ap (λ r. r >>= behind_votes) (row_there n h.votes q.votes (codes "ask" ∷ h.ask ∷ codes "put" ∷ h.put ∷ []) h.lawful.each_votes h.each h.count_is)
     ∙ ap (λ r. r >>= behind_ask q.votes) (number_first h.ask (codes "put" ∷ h.put ∷ []) (Some q.ask) (value_there h.ask q.ask small.0 h.asks))
-    ∙ ap (λ r. r >>= behind_put q.votes (capped (Some q.ask))) (number_first h.put [] (Some q.put) (value_there h.put q.put small.1 h.puts))
-    ∙ (λ i. quorums_of q.votes (capped_same q.ask small.0 i) (capped_same q.put small.1 i))
+    ∙ ap (λ r. r >>= behind_put q.votes (vote_count (Some q.ask))) (number_first h.put [] (Some q.put) (value_there h.put q.put small.1 h.puts))
+    ∙ (λ i. quorums_of q.votes (vote_count_same q.ask small.0 i) (vote_count_same q.put small.1 i))
     ∙ quorums_there q h.lawful

@@ -10,7 +10,7 @@ use Rattle.world_steps.specs.declared.refusal.Refusal.TheVariants as refusal
 use Rattle.world_steps.specs.declared.step.Step.{Step}
 use Rattle.world_steps.specs.declared.system.System.{System}
 use Rattle.world_steps.specs.Taken.{next_is}
-use Rattle.fault_script.specs.ScriptRuns.{Walk, stride, walked}
+use Rattle.fault_script.specs.ScriptRuns.{Walk, stride, walk_after}
 
 -- the steps of a step of a system: the next one, and whether it was refused
 pub is_taken : (s new : System) (step : Step) (effect : Effect) → Steps s step (Ok effect) new → true ≡ is_none (refusal_of s step)
@@ -55,9 +55,9 @@ goes_on walk s new g rest n m was at is drawn taken more =
     }
 
 -- the same, counted
-pub walk_on : (start : Walk) (turn : ℕ) (s new : System) (g rest : Lcg) (n m : ℕ) (was : Bool) → IsAt (walked start turn) s g n
-    → new ≡ next s (step_of s (draw g)) → rest ≡ (draw g).rest → was ≡ is_none (refusal_of s (step_of s (draw g))) → m ≡ counted was n → IsAt (walked start (turn + 1)) new rest m
+pub walk_on : (start : Walk) (turn : ℕ) (s new : System) (g rest : Lcg) (n m : ℕ) (was : Bool) → IsAt (walk_after start turn) s g n
+    → new ≡ next s (step_of s (draw g)) → rest ≡ (draw g).rest → was ≡ is_none (refusal_of s (step_of s (draw g))) → m ≡ counted was n → IsAt (walk_after start (turn + 1)) new rest m
 walk_on start turn s new g rest n m was at is drawn taken more =
-    let P : ℕ → Type 0 = λ k. IsAt (walked start k) new rest m in
+    let P : ℕ → Type 0 = λ k. IsAt (walk_after start k) new rest m in
     let one : suc turn ≡ turn + 1 = omega arith in
-    subst P one (goes_on (walked start turn) s new g rest n m was at is drawn taken more)
+    subst P one (goes_on (walk_after start turn) s new g rest n m was at is drawn taken more)

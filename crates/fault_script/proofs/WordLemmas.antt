@@ -1,10 +1,11 @@
 -- Words, taken from a text one after another.
-use Rattle.std.proofs.Common.{ℕ, suc, ◌≡◌, ◌<◌, ◌+◌, ◌||◌, ◌==◌, inl, inr, List, [], ◌∷◌, length, get_or, take, drop, Bool, true, false, not, cond, filter, refl, sym, ap, ◌∙◌, subst, arith, eqb-true}
+use Rattle.std.proofs.Common.{ℕ, suc, ◌≡◌, ◌<◌, ◌+◌, ◌||◌, ◌==◌, List, [], ◌∷◌, length, get_or, take, drop, Bool, true, false, not, cond, filter, Option, Some, None, nat_lt, position, unwrap_or, refl, sym, ap, ◌∙◌, subst, arith, eqb-true}
 use Rattle.std.specs.Prelude.{IsUtf8}
+use Rattle.std.specs.Str.{IsCharBoundary}
 use Rattle.std.specs.List.{slice_split, onto_first, before_first, after_first, position_or_len}
-use Rattle.std.proofs.lemmas.Str.{IsUtf8-drop, IsUtf8-nil, IsCharBoundary-after_ascii}
-use Rattle.std.proofs.lemmas.List.{drop_all}
-use Rattle.std.proofs.lemmas.Bool.{cases_lt}
+use Rattle.std.proofs.lemmas.Str.{IsUtf8-drop, IsCharBoundary-after_ascii, IsCharBoundary-before_ascii, IsCharBoundary-end, IsCharBoundary-from_drop}
+use Rattle.std.proofs.lemmas.List.Quantifiers.{position-Some}
+use Rattle.std.proofs.lemmas.List.Sums.{prefix_len-le-length}
 use Rattle.fault_script.specs.Words.{is_space, has_bytes, words, without_spaces, behind_word}
 
 one_more : (n : ℕ) → 1 + n ≡ suc n
@@ -131,30 +132,24 @@ skip_text : (text : List ℕ) → IsUtf8 text → IsUtf8 (without_spaces text)
 skip_text [] h = h
 skip_text (b ∷ bs) h = skip_text_by b bs (is_space b) refl h (skip_text bs)
 
--- the byte at the first place that passes
-at_by : (b : ℕ) (bs : List ℕ) (t : Bool) → is_space b ≡ t → position_or_len is_space (b ∷ bs) < length (b ∷ bs) → (position_or_len is_space bs < length bs → is_space (get_or bs (position_or_len is_space bs) 0) ≡ true) → is_space (get_or (b ∷ bs) (position_or_len is_space (b ∷ bs)) 0) ≡ true
-at_by b bs true e lt more = ap (λ (t : Bool). is_space (get_or (b ∷ bs) (cond (not t) (1 + position_or_len is_space bs) 0) 0)) e ∙ e
-at_by b bs false e lt more =
-    let n = position_or_len is_space bs in
-    let same : position_or_len is_space (b ∷ bs) ≡ suc n = ap (λ (t : Bool). cond (not t) (1 + n) 0) e ∙ one_more n in
-    ap (λ (k : ℕ). is_space (get_or (b ∷ bs) k 0)) same ∙ more (omega (arith, same))
+-- a text may be cut behind the spaces that it begins with
+first_boundary : (text : List ℕ) (n : ℕ) (b : Bool) → IsCharBoundary text n → IsCharBoundary text (unwrap_or (cond b (Some n) None) (length text))
+first_boundary text n true h = h
+first_boundary text n false h = IsCharBoundary-end text
 
-at_space : (text : List ℕ) → position_or_len is_space text < length text → is_space (get_or text (position_or_len is_space text) 0) ≡ true
-at_space [] lt = absurd (omega arith)
-at_space (b ∷ bs) lt = at_by b bs (is_space b) refl lt (at_space bs)
+pub start-boundary : (text : List ℕ) (found : Option ℕ) (start : ℕ) → IsUtf8 text → found ≡ position (λ b. not (is_space b)) text → start ≡ unwrap_or found (length text) → IsCharBoundary text start
+start-boundary text found start h is e =
+    let n = position_or_len (λ b. not (is_space b)) text in
+    let at : IsCharBoundary text n = IsCharBoundary-from_drop text n (prefix_len-le-length (λ b. not (not (is_space b))) text) (skip_text text h) in
+    let P : ℕ → Type 0 = λ k. IsCharBoundary text k in
+    subst P (sym (e ∙ ap (λ o. unwrap_or o (length text)) is)) (first_boundary text n (nat_lt n (length text)) at)
 
-after_text : (text : List ℕ) → IsUtf8 text → IsUtf8 (after_first is_space text)
-after_text text h =
-    let n = position_or_len is_space text in
-    elim (cases_lt n (length text)) [
-      | inl lt ↦ IsUtf8-drop text (n + 1) h (IsCharBoundary-after_ascii text n h lt (space_small (get_or text n 0) (at_space text lt)))
-      | inr le ↦ let P : List ℕ → Type 0 = λ xs. IsUtf8 xs in subst P (sym (drop_all (n + 1) text (omega arith))) IsUtf8-nil
-    ]
+-- and before a space, and behind it
+pub space-boundary : (text : List ℕ) (n : ℕ) → position is_space text ≡ Some n → IsCharBoundary text n
+space-boundary text n e = let at = position-Some is_space text n 0 e in IsCharBoundary-before_ascii text n at.0 (space_small (get_or text n 0) at.1)
 
--- what stands behind a word of a text is a text
-pub behind-text : (text : List ℕ) → IsUtf8 text → IsUtf8 (behind_word text)
-unfolding behind_word
-behind-text text h = after_text (without_spaces text) (skip_text text h)
+pub behind-boundary : (text : List ℕ) (n : ℕ) → IsUtf8 text → position is_space text ≡ Some n → IsCharBoundary text (n + 1)
+behind-boundary text n h e = let at = position-Some is_space text n 0 e in IsCharBoundary-after_ascii text n h at.0 (space_small (get_or text n 0) at.1)
 
 behind_by : (text word : List ℕ) (others : List (List ℕ)) → words text ≡ word ∷ others → Begins text → words (behind_word text) ≡ others
 unfolding behind_word

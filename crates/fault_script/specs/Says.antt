@@ -58,12 +58,12 @@ one_number words = do
   Ok number.0
 
 -- what is outside its range is a fault
-abbrev pub ranged : {X : Type 0} → Bool → X → Result X LineFault
-ranged fits x = if fits then Ok x else Err Range
+abbrev pub in_range : {X : Type 0} → Bool → X → Result X LineFault
+in_range fits x = if fits then Ok x else Err Range
 
 unfoldable pub within : ℕ → ℕ → Option ℕ → Result ℕ LineFault
 within least most None = Err Range
-within least most (Some n) = ranged (nat_le least n && nat_le n most) n
+within least most (Some n) = in_range (nat_le least n && nat_le n most) n
 
 abbrev pub client_of : Option ℕ → Result ℕ LineFault
 client_of number = within 1 65535 number
@@ -75,7 +75,7 @@ abbrev pub flight_of : Option ℕ → Result ℕ LineFault
 flight_of number = within 0 4294967295 number
 
 abbrev pub key_of : List ℕ → Result (List ℕ) LineFault
-key_of key = ranged (is_key key) key
+key_of key = in_range (is_key key) key
 
 abbrev pub value_of : List ℕ → Result (List ℕ) LineFault
-value_of value = ranged (is_value value) value
+value_of value = in_range (is_value value) value

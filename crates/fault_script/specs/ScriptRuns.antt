@@ -34,13 +34,13 @@ stride walk =
       taken = if is_some (refusal_of walk.system step) then walk.taken else walk.taken + 1;
     }
 
-abbrev pub walked : Walk → ℕ → Walk
-walked walk zero = walk
-walked walk (suc n) = stride (walked walk n)
+abbrev pub walk_after : Walk → ℕ → Walk
+walk_after walk zero = walk
+walk_after walk (suc n) = stride (walk_after walk n)
 
 -- so many random steps of a seed
 abbrev pub random_walk : System → ℕ → ℕ → Walk
-random_walk s seed count = walked (record { system = s; generator = generator_of seed; taken = 0 }) count
+random_walk s seed count = walk_after (record { system = s; generator = generator_of seed; taken = 0 }) count
 
 -- what the command of a line makes of the system, and what is said of it
 pub data Runs (line : ℕ) : System → Command → System → List ℕ → Type 0 where

@@ -7,7 +7,7 @@ use Rattle.client_phases.specs.declared.rules.ReadMode.TheVariants.{Full, Short}
 use Rattle.world_steps.specs.Configs.{Config, config_of}
 use Rattle.fault_script.specs.declared.fault.LineFault.{LineFault}
 use Rattle.fault_script.specs.declared.fault.LineFault.TheVariants.{UnknownCommand}
-use Rattle.fault_script.specs.Says.{◌>>=◌, needed_word, needed_text, needed_number, number_or, nothing_more, ranged, within}
+use Rattle.fault_script.specs.Says.{◌>>=◌, needed_word, needed_text, needed_number, number_or, nothing_more, in_range, within}
 
 -- so many replicas, calls and messages
 unfoldable pub config_in : Option ℕ → Option ℕ → Option ℕ → Result Config LineFault
@@ -37,9 +37,9 @@ reads_in words = do
   mode_of mode.0
 
 -- a number of votes; above 255 all are alike, since the rules allow none of them
-abbrev pub capped : Option ℕ → ℕ
-capped None = 255
-capped (Some n) = min n 255
+abbrev pub vote_count : Option ℕ → ℕ
+vote_count None = 255
+vote_count (Some n) = min n 255
 
 -- so many numbers of votes, and the words behind them
 unfoldable pub numbers_in : ℕ → List (List ℕ) → Result (List ℕ × List (List ℕ)) LineFault
@@ -47,7 +47,7 @@ numbers_in zero words = Ok ([], words)
 numbers_in (suc n) words = do
   first ← needed_number words
   others ← numbers_in n first.1
-  Ok (capped first.0 ∷ others.0, others.1)
+  Ok (vote_count first.0 ∷ others.0, others.1)
 
 -- the test of the rules for votes
 abbrev pub is_lawful : Quorums → Bool
@@ -62,7 +62,7 @@ is_lawful quorums =
     && nat_lt (sum quorums.votes) (quorums.ask + quorums.put)
 
 abbrev pub quorums_of : List ℕ → ℕ → ℕ → Result Quorums LineFault
-quorums_of votes ask put = ranged (is_lawful (record { votes = votes; ask = ask; put = put })) (record { votes = votes; ask = ask; put = put })
+quorums_of votes ask put = in_range (is_lawful (record { votes = votes; ask = ask; put = put })) (record { votes = votes; ask = ask; put = put })
 
 -- `V0 .. ask R put W`, a vote for each of n replicas
 unfoldable pub votes_in : ℕ → List (List ℕ) → Result Quorums LineFault
@@ -73,4 +73,4 @@ votes_in n words = do
   putting ← needed_text (codes "put") ask.1
   put ← needed_number putting
   nothing ← nothing_more put.1
-  quorums_of votes.0 (capped ask.0) (capped put.0)
+  quorums_of votes.0 (vote_count ask.0) (vote_count put.0)

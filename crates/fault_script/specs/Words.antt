@@ -43,9 +43,9 @@ abbrev pub decimal_value : List ℕ → ℕ
 decimal_value digits = fold (λ n digit. n * 10 + (digit - 48)) 0 digits
 
 -- a number below 2^64; one above is in no range
-abbrev pub bounded : ℕ → Option ℕ
-bounded n = if nat_lt n (2 ^ 64) then Some n else None
+abbrev pub u64_of : ℕ → Option ℕ
+u64_of n = if nat_lt n (2 ^ 64) then Some n else None
 
 -- the number that a word is
 unfoldable pub number_of : List ℕ → Result (Option ℕ) LineFault
-number_of word = if is_numeral word then Ok (bounded (decimal_value word)) else Err UnknownCommand
+number_of word = if is_numeral word then Ok (u64_of (decimal_value word)) else Err UnknownCommand

@@ -24,6 +24,9 @@ ghost use Rattle.fault_script.specs.SettingForms.{SaysBehind};
 ghost use Rattle.fault_script.specs.LineFaults.{HasWordFault};
 ghost use Rattle.file_format.specs.LineFaults.{FaultsAre};
 
+use world_settle::laws::the_steps_are_one_list;
+use world_steps::laws::every_run_has_sound_tags;
+
 /// A line is read as a command exactly where its words say the command.
 pub fn a_command_is_read_where_its_words_say_it()
     ensures { (verb args : List ℕ) (command : Command) → (command_in verb args ≡ Ok command)
@@ -73,11 +76,15 @@ pub fn every_script_run_has_sound_tags()
     ensures { (script : Script) (rows : List Row) (notes : List ℕ) (key : List ℕ)
         (part : List Call) → IsLawful script.config.quorums → script.config.calls ≤ 1000000
         → IsRunOf script rows notes → IsPart rows key part → TagSound part }
-{}
+{
+    every_run_has_sound_tags();
+}
 
 /// A script has one run: what its record is, and what is said of its commands.
 pub fn a_script_has_one_run()
     ensures { (script : Script) (rows others : List Row) (notes said : List ℕ)
         → IsRunOf script rows notes → IsRunOf script others said
         → (rows ≡ others) × (notes ≡ said) }
-{}
+{
+    the_steps_are_one_list();
+}

@@ -25,8 +25,8 @@ pub(crate) fn shown_by(
     if line.len() > LONGEST {
         return Err(Stop::Fault(LineFault::TooLong));
     }
-    let Ok(_) = str::from_utf8(line) else {
+    let Ok(text) = str::from_utf8(line) else {
         return Err(Stop::Fault(LineFault::NotUtf8));
     };
-    text_says(alloc, before, count, without_return(line))
+    text_says(alloc, before, count, without_return(text))
 }

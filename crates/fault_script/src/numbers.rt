@@ -1,8 +1,8 @@
 //! Numbers, and names and texts in their ranges.
-ghost use Rattle.std.specs.Prelude.{◌≡◌, ◌≤◌, ◌+◌, ◌*◌, IsUtf8, IfOk};
+ghost use Rattle.std.specs.Prelude.{◌≡◌, ◌≤◌, ◌+◌, ◌*◌, IfOk};
 ghost use Rattle.std.specs.List.{list_all};
 ghost use Rattle.std.specs.Char.{is_ascii_digit};
-ghost use Rattle.fault_script.specs.Words.{is_numeral, bounded, decimal_value, behind_word, number_of, words};
+ghost use Rattle.fault_script.specs.Words.{is_numeral, u64_of, decimal_value, behind_word, number_of, words};
 ghost use Rattle.fault_script.specs.Says.{Gives, needed_number, number_or, one_number, within, client_of, replica_of, flight_of, key_of, value_of};
 
 use crate::LineFault;
@@ -25,14 +25,14 @@ fn is_numeral(word: &[u8]) -> bool
 
 /// The number with one digit more, below 2^64.
 fn with_digit(number: u64, digit: u8) -> Option<u64>
-    ensures { result ≡ bounded (number * 10 + digit) }
+    ensures { result ≡ u64_of (number * 10 + digit) }
 {
     number.checked_mul(10)?.checked_add(u64::from(digit))
 }
 
 /// The number that the digits write, below 2^64.
 fn decimal(digits: &[u8]) -> Option<u64>
-    ensures { result ≡ bounded (decimal_value digits.now) }
+    ensures { result ≡ u64_of (decimal_value digits.now) }
 {
     let mut number = 0;
     for digit in digits {
@@ -43,11 +43,12 @@ fn decimal(digits: &[u8]) -> Option<u64>
 
 /// The number that a word is, or `None` for one of 2^64 or more, which is in no range.
 #[tactic(auto, unfolding(crate::specs::Words::number_of))]
-pub(crate) fn number_of(word: &[u8]) -> Result<Option<u64>, Stop>
+pub(crate) fn number_of(word: &str) -> Result<Option<u64>, Stop>
     ensures { Gives (λ number. number) result (number_of word.now) }
 {
-    if is_numeral(word) {
-        Ok(decimal(word))
+    let digits = word.as_bytes();
+    if is_numeral(digits) {
+        Ok(decimal(digits))
     } else {
         Err(Stop::Fault(LineFault::UnknownCommand))
     }
@@ -55,11 +56,10 @@ pub(crate) fn number_of(word: &[u8]) -> Result<Option<u64>, Stop>
 
 /// The next word, which must be a number.
 #[tactic(auto, unfolding(crate::specs::Says::needed_number))]
-pub(crate) fn needed_number(text: &[u8]) -> Result<(Option<u64>, &[u8]), Stop>
+pub(crate) fn needed_number(text: &str) -> Result<(Option<u64>, &str), Stop>
     ensures number { Gives (λ found. (found.0, words found.1.now)) result
         (needed_number (words text.now)) }
     ensures behind { IfOk result (λ found. found.1.now ≡ behind_word text.now) }
-    ensures text { IsUtf8 text.now → IfOk result (λ found. IsUtf8 found.1.now) }
 {
     let (word, behind) = needed_word(text)?;
     let number = number_of(word)?;
@@ -68,7 +68,7 @@ pub(crate) fn needed_number(text: &[u8]) -> Result<(Option<u64>, &[u8]), Stop>
 
 /// The next word, which must be a number; where there is none, that number.
 #[tactic(auto, unfolding(crate::specs::Says::number_or))]
-pub(crate) fn number_or(default: u64, text: &[u8]) -> Result<(Option<u64>, &[u8]), Stop>
+pub(crate) fn number_or(default: u64, text: &str) -> Result<(Option<u64>, &str), Stop>
     ensures { Gives (λ found. (found.0, words found.1.now)) result
         (number_or default (words text.now)) }
 {
@@ -80,7 +80,7 @@ pub(crate) fn number_or(default: u64, text: &[u8]) -> Result<(Option<u64>, &[u8]
 
 /// The one word of the text, which must be a number.
 #[tactic(auto, unfolding(crate::specs::Says::one_number))]
-pub(crate) fn one_number(text: &[u8]) -> Result<Option<u64>, Stop>
+pub(crate) fn one_number(text: &str) -> Result<Option<u64>, Stop>
     ensures { Gives (λ number. number) result (one_number (words text.now)) }
 {
     let (number, behind) = needed_number(text)?;
@@ -128,26 +128,19 @@ pub(crate) fn flight_of(number: Option<u64>) -> Result<u32, Stop>
     Ok(number as u32)
 }
 
-pub(crate) fn key_of(alloc: Global, word: &[u8]) -> Result<Key, Stop>
+pub(crate) fn key_of(alloc: Global, word: &str) -> Result<Key, Stop>
     ensures { Gives (λ key. key) result (key_of word.now) }
 {
-    let Ok(text) = str::from_utf8(word) else {
-        return Err(Stop::Fault(LineFault::Range));
-    };
-    match Key::new(alloc, text) {
+    match Key::new(alloc, word) {
         Ok(key) => Ok(key),
         Err(NameError::BadKey) => Err(Stop::Fault(LineFault::Range)),
         Err(_) => Err(Stop::Memory),
     }
 }
 
-pub(crate) fn value_of(alloc: Global, bytes: &[u8]) -> Result<Value, Stop>
-    requires { IsUtf8 bytes.now }
-    ensures { Gives (λ value. value) result (value_of bytes.now) }
+pub(crate) fn value_of(alloc: Global, text: &str) -> Result<Value, Stop>
+    ensures { Gives (λ value. value) result (value_of text.now) }
 {
-    let Ok(text) = str::from_utf8(bytes) else {
-        return Err(Stop::Fault(LineFault::Range));
-    };
     match Value::new(alloc, text) {
         Ok(value) => Ok(value),
         Err(NameError::BadValue) => Err(Stop::Fault(LineFault::Range)),

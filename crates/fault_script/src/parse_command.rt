@@ -1,5 +1,5 @@
 //! The commands behind the configuration.
-ghost use Rattle.std.specs.Prelude.{◌≡◌, ◌≤◌, IsUtf8, IfOk};
+ghost use Rattle.std.specs.Prelude.{◌≡◌, ◌≤◌, IfOk};
 ghost use Rattle.fault_script.specs.Words.{words, behind_word};
 ghost use Rattle.fault_script.specs.Says.{Gives};
 ghost use Rattle.fault_script.specs.Commands.{client_in, replica_in, flight_in, action_in, invoke_in, send_in, stopped_in, stop_in, start_in, random_in, client_step_in, step_in, command_in};
@@ -16,7 +16,7 @@ use tag::{Action, ClientId, ReplicaId};
 use world_steps::Step;
 
 #[tactic(auto, unfolding(crate::specs::Commands::client_in))]
-fn client_in(args: &[u8]) -> Result<ClientId, Stop>
+fn client_in(args: &str) -> Result<ClientId, Stop>
     ensures { Gives (λ client. client) result (client_in (words args.now)) }
 {
     let number = one_number(args)?;
@@ -24,7 +24,7 @@ fn client_in(args: &[u8]) -> Result<ClientId, Stop>
 }
 
 #[tactic(auto, unfolding(crate::specs::Commands::replica_in))]
-fn replica_in(args: &[u8]) -> Result<ReplicaId, Stop>
+fn replica_in(args: &str) -> Result<ReplicaId, Stop>
     ensures { Gives (λ replica. replica) result (replica_in (words args.now)) }
 {
     let number = one_number(args)?;
@@ -32,7 +32,7 @@ fn replica_in(args: &[u8]) -> Result<ReplicaId, Stop>
 }
 
 #[tactic(auto, unfolding(crate::specs::Commands::flight_in))]
-fn flight_in(args: &[u8]) -> Result<u32, Stop>
+fn flight_in(args: &str) -> Result<u32, Stop>
     ensures { Gives (λ flight. flight) result (flight_in (words args.now)) }
 {
     let number = one_number(args)?;
@@ -41,8 +41,7 @@ fn flight_in(args: &[u8]) -> Result<u32, Stop>
 
 /// What a call asks, by the word before its key and what stands behind the key.
 #[tactic(auto, unfolding(crate::specs::Commands::action_in))]
-fn action_in(alloc: Global, action: &[u8], behind_key: &[u8]) -> Result<Action, Stop>
-    requires { IsUtf8 behind_key.now }
+fn action_in(alloc: Global, action: &str, behind_key: &str) -> Result<Action, Stop>
     ensures { Gives (λ action. action) result (action_in action.now behind_key.now) }
 {
     if is(action, "read") {
@@ -57,8 +56,7 @@ fn action_in(alloc: Global, action: &[u8], behind_key: &[u8]) -> Result<Action, 
 }
 
 #[tactic(auto, unfolding(crate::specs::Commands::invoke_in))]
-fn invoke_in(alloc: Global, args: &[u8]) -> Result<Step, Stop>
-    requires { IsUtf8 args.now }
+fn invoke_in(alloc: Global, args: &str) -> Result<Step, Stop>
     ensures { Gives (λ step. step) result (invoke_in args.now) }
 {
     let (client, behind) = needed_number(args)?;
@@ -75,7 +73,7 @@ fn invoke_in(alloc: Global, args: &[u8]) -> Result<Step, Stop>
 }
 
 #[tactic(auto, unfolding(crate::specs::Commands::send_in))]
-fn send_in(args: &[u8]) -> Result<Step, Stop>
+fn send_in(args: &str) -> Result<Step, Stop>
     ensures { Gives (λ step. step) result (send_in (words args.now)) }
 {
     let (client, behind) = needed_number(args)?;
@@ -87,7 +85,7 @@ fn send_in(args: &[u8]) -> Result<Step, Stop>
 }
 
 #[tactic(auto, unfolding(crate::specs::Commands::stopped_in))]
-fn stopped_in(kind: &[u8], args: &[u8]) -> Result<Step, Stop>
+fn stopped_in(kind: &str, args: &str) -> Result<Step, Stop>
     ensures { Gives (λ step. step) result (stopped_in kind.now (words args.now)) }
 {
     if is(kind, "client") {
@@ -102,7 +100,7 @@ fn stopped_in(kind: &[u8], args: &[u8]) -> Result<Step, Stop>
 }
 
 #[tactic(auto, unfolding(crate::specs::Commands::stop_in))]
-fn stop_in(args: &[u8]) -> Result<Step, Stop>
+fn stop_in(args: &str) -> Result<Step, Stop>
     ensures { Gives (λ step. step) result (stop_in (words args.now)) }
 {
     let (kind, behind) = needed_word(args)?;
@@ -110,7 +108,7 @@ fn stop_in(args: &[u8]) -> Result<Step, Stop>
 }
 
 #[tactic(auto, unfolding(crate::specs::Commands::start_in))]
-fn start_in(args: &[u8]) -> Result<Step, Stop>
+fn start_in(args: &str) -> Result<Step, Stop>
     ensures { Gives (λ step. step) result (start_in (words args.now)) }
 {
     let behind = needed_text("replica", args)?;
@@ -119,7 +117,7 @@ fn start_in(args: &[u8]) -> Result<Step, Stop>
 }
 
 #[tactic(auto, unfolding(crate::specs::Commands::random_in))]
-fn random_in(args: &[u8]) -> Result<Command, Stop>
+fn random_in(args: &str) -> Result<Command, Stop>
     ensures { Gives (λ command. command) result (random_in (words args.now)) }
 {
     let (seed, behind) = needed_number(args)?;
@@ -134,7 +132,7 @@ fn random_in(args: &[u8]) -> Result<Command, Stop>
 }
 
 #[tactic(auto, unfolding(crate::specs::Commands::client_step_in))]
-fn client_step_in(verb: &[u8], args: &[u8]) -> Result<Step, Stop>
+fn client_step_in(verb: &str, args: &str) -> Result<Step, Stop>
     ensures { Gives (λ step. step) result (client_step_in verb.now (words args.now)) }
 {
     if is(verb, "join") {
@@ -151,7 +149,7 @@ fn client_step_in(verb: &[u8], args: &[u8]) -> Result<Step, Stop>
 }
 
 #[tactic(auto, unfolding(crate::specs::Commands::step_in))]
-fn step_in(verb: &[u8], args: &[u8]) -> Result<Step, Stop>
+fn step_in(verb: &str, args: &str) -> Result<Step, Stop>
     ensures { Gives (λ step. step) result (step_in verb.now (words args.now)) }
 {
     if is(verb, "deliver") {
@@ -174,8 +172,7 @@ fn step_in(verb: &[u8], args: &[u8]) -> Result<Step, Stop>
 
 /// The command of that first word, and of what stands behind it.
 #[tactic(auto, unfolding(crate::specs::Commands::command_in))]
-pub(crate) fn command_in(alloc: Global, verb: &[u8], args: &[u8]) -> Result<Command, Stop>
-    requires { IsUtf8 args.now }
+pub(crate) fn command_in(alloc: Global, verb: &str, args: &str) -> Result<Command, Stop>
     ensures { Gives (λ command. command) result (command_in verb.now args.now) }
 {
     if is(verb, "invoke") {

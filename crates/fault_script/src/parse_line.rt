@@ -1,5 +1,5 @@
 //! What a line says behind the lines before it.
-ghost use Rattle.std.specs.Prelude.{◌≡◌, ◌==◌, ◌<◌, slice_index, IsUtf8, IfOk, IsSome};
+ghost use Rattle.std.specs.Prelude.{◌≡◌, ◌==◌, ◌<◌, slice_index, IfOk, IsSome};
 ghost use Rattle.fault_script.specs.Words.{words};
 ghost use Rattle.fault_script.specs.Says.{Gives};
 ghost use Rattle.fault_script.specs.Saying.{reads_behind, votes_set, votes_behind, first_said, said_in, command_says, text_says};
@@ -40,7 +40,7 @@ pub enum Said {
 }
 
 #[tactic(auto, unfolding(crate::specs::Saying::reads_behind))]
-fn reads_behind(opened: Opened, args: &[u8]) -> Result<Opened, Stop>
+fn reads_behind(opened: Opened, args: &str) -> Result<Opened, Stop>
     ensures { Gives (λ opened. opened) result
         (reads_behind opened.config opened.last (words args.now)) }
 {
@@ -57,7 +57,7 @@ fn reads_behind(opened: Opened, args: &[u8]) -> Result<Opened, Stop>
 }
 
 #[tactic(auto, unfolding(crate::specs::Saying::votes_set))]
-fn votes_set(config: Config, args: &[u8]) -> Result<Opened, Stop>
+fn votes_set(config: Config, args: &str) -> Result<Opened, Stop>
     ensures { Gives (λ opened. opened) result (votes_set config (words args.now)) }
 {
     let quorums = votes_in(config.replicas(), args)?;
@@ -71,7 +71,7 @@ fn votes_set(config: Config, args: &[u8]) -> Result<Opened, Stop>
 }
 
 #[tactic(auto, unfolding(crate::specs::Saying::votes_behind))]
-fn votes_behind(opened: Opened, args: &[u8]) -> Result<Opened, Stop>
+fn votes_behind(opened: Opened, args: &str) -> Result<Opened, Stop>
     ensures { Gives (λ opened. opened) result
         (votes_behind opened.config opened.last (words args.now)) }
 {
@@ -83,7 +83,7 @@ fn votes_behind(opened: Opened, args: &[u8]) -> Result<Opened, Stop>
 
 /// What the first command says.
 #[tactic(auto, unfolding(crate::specs::Saying::first_said))]
-fn first_said(verb: &[u8], args: &[u8]) -> Result<Said, Stop>
+fn first_said(verb: &str, args: &str) -> Result<Said, Stop>
     ensures { Gives (λ said. said) result (first_said verb.now (words args.now)) }
 {
     if is(verb, "replicas") {
@@ -99,8 +99,7 @@ fn first_said(verb: &[u8], args: &[u8]) -> Result<Said, Stop>
 
 /// What a line of that first word says behind the lines before.
 #[tactic(auto, unfolding(crate::specs::Saying::said_in))]
-fn said_in(alloc: Global, before: Option<Opened>, verb: &[u8], args: &[u8]) -> Result<Said, Stop>
-    requires { IsUtf8 args.now }
+fn said_in(alloc: Global, before: Option<Opened>, verb: &str, args: &str) -> Result<Said, Stop>
     ensures { Gives (λ said. said) result (said_in before verb.now args.now) }
 {
     let Some(opened) = before else {
@@ -120,10 +119,10 @@ fn said_in(alloc: Global, before: Option<Opened>, verb: &[u8], args: &[u8]) -> R
     }
 }
 
-fn is_comment(word: &[u8]) -> bool
+fn is_comment(word: &str) -> bool
     ensures { result ≡ (slice_index word.now 0 == 35) }
 {
-    match word.first() {
+    match word.as_bytes().first() {
         Some(byte) => *byte == b'#',
         None => false,
     }
@@ -136,10 +135,9 @@ fn command_says(
     alloc: Global,
     before: Option<Opened>,
     count: usize,
-    verb: &[u8],
-    args: &[u8],
+    verb: &str,
+    args: &str,
 ) -> Result<Option<Said>, Stop>
-    requires { IsUtf8 args.now }
     ensures said { Gives (λ said. said) result (command_says before count verb.now args.now) }
     ensures few { IfOk result (λ said. IsSome said → count < 1000000) }
 {
@@ -159,9 +157,8 @@ pub(crate) fn text_says(
     alloc: Global,
     before: Option<Opened>,
     count: usize,
-    text: &[u8],
+    text: &str,
 ) -> Result<Option<Said>, Stop>
-    requires { IsUtf8 text.now }
     ensures said { Gives (λ said. said) result (text_says before count text.now) }
     ensures few { IfOk result (λ said. IsSome said → count < 1000000) }
 {

@@ -2,7 +2,7 @@
 ghost use Rattle.std.specs.Prelude.{◌≡◌, ◌≤◌, length, take, IfOk};
 ghost use Rattle.fault_script.specs.Words.{words};
 ghost use Rattle.fault_script.specs.Says.{Gives};
-ghost use Rattle.fault_script.specs.Settings.{capped, config_in, replicas_in, mode_of, reads_in, numbers_in, quorums_of, votes_in};
+ghost use Rattle.fault_script.specs.Settings.{vote_count, config_in, replicas_in, mode_of, reads_in, numbers_in, quorums_of, votes_in};
 
 use crate::LineFault;
 use crate::fault::Stop;
@@ -37,7 +37,7 @@ fn config_in(
 
 /// The configuration that stands behind `replicas`.
 #[tactic(auto, unfolding(crate::specs::Settings::replicas_in))]
-pub(crate) fn replicas_in(args: &[u8]) -> Result<Config, Stop>
+pub(crate) fn replicas_in(args: &str) -> Result<Config, Stop>
     ensures { Gives (λ config. config) result (replicas_in (words args.now)) }
 {
     let (replicas, behind) = needed_number(args)?;
@@ -48,7 +48,7 @@ pub(crate) fn replicas_in(args: &[u8]) -> Result<Config, Stop>
 }
 
 #[tactic(auto, unfolding(crate::specs::Settings::mode_of))]
-fn mode_of(word: &[u8]) -> Result<ReadMode, Stop>
+fn mode_of(word: &str) -> Result<ReadMode, Stop>
     ensures { Gives (λ mode. mode) result (mode_of word.now) }
 {
     if is(word, "full") {
@@ -62,7 +62,7 @@ fn mode_of(word: &[u8]) -> Result<ReadMode, Stop>
 
 /// The way of reading that stands behind `reads`.
 #[tactic(auto, unfolding(crate::specs::Settings::reads_in))]
-pub(crate) fn reads_in(args: &[u8]) -> Result<ReadMode, Stop>
+pub(crate) fn reads_in(args: &str) -> Result<ReadMode, Stop>
     ensures { Gives (λ mode. mode) result (reads_in (words args.now)) }
 {
     let (mode, behind) = needed_word(args)?;
@@ -71,8 +71,8 @@ pub(crate) fn reads_in(args: &[u8]) -> Result<ReadMode, Stop>
 }
 
 /// The number of votes; above 255 all are alike, since the rules allow none of them.
-fn capped(number: Option<u64>) -> u8
-    ensures { result ≡ capped number }
+fn vote_count(number: Option<u64>) -> u8
+    ensures { result ≡ vote_count number }
 {
     match number {
         Some(number) => number.min(255) as u8,
@@ -81,7 +81,7 @@ fn capped(number: Option<u64>) -> u8
 }
 
 /// So many numbers of votes, in a row of 15, and what stands behind them.
-fn numbers_in(count: u8, args: &[u8]) -> Result<([u8; 15], &[u8]), Stop>
+fn numbers_in(count: u8, args: &str) -> Result<([u8; 15], &str), Stop>
     requires { count ≤ 15 }
     ensures { Gives (λ found. (take count found.0, words found.1.now)) result
         (numbers_in count (words args.now)) }
@@ -90,7 +90,7 @@ fn numbers_in(count: u8, args: &[u8]) -> Result<([u8; 15], &[u8]), Stop>
     let mut behind = args;
     for place in 0..usize::from(count) {
         let (number, others) = needed_number(behind)?;
-        votes[place] = capped(number);
+        votes[place] = vote_count(number);
         behind = others;
     }
     Ok((votes, behind))
@@ -108,7 +108,7 @@ fn quorums_of(votes: &[u8], ask: u8, put: u8) -> Result<Quorums, Stop>
 
 /// The quorums that stand behind `votes`, for so many replicas.
 #[tactic(auto, unfolding(crate::specs::Settings::votes_in))]
-pub(crate) fn votes_in(replicas: u8, args: &[u8]) -> Result<Quorums, Stop>
+pub(crate) fn votes_in(replicas: u8, args: &str) -> Result<Quorums, Stop>
     requires { replicas ≤ 15 }
     ensures said { Gives (λ quorums. quorums) result (votes_in replicas (words args.now)) }
     ensures count { IfOk result (λ quorums. length quorums.votes ≡ replicas) }
@@ -119,5 +119,9 @@ pub(crate) fn votes_in(replicas: u8, args: &[u8]) -> Result<Quorums, Stop>
     let behind = needed_text("put", behind)?;
     let (put, behind) = needed_number(behind)?;
     nothing_more(behind)?;
-    quorums_of(&votes[..usize::from(replicas)], capped(ask), capped(put))
+    quorums_of(
+        &votes[..usize::from(replicas)],
+        vote_count(ask),
+        vote_count(put),
+    )
 }

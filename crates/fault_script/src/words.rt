@@ -1,5 +1,5 @@
 //! Words of a line.
-ghost use Rattle.std.specs.Prelude.{◌≡◌, ◌∷◌, [], not, position, IfSome, MatchOption, IfOk, IsUtf8, bytes_eq};
+ghost use Rattle.std.specs.Prelude.{◌≡◌, ◌∷◌, [], not, position, IfSome, MatchOption, IfOk, bytes_eq};
 ghost use Rattle.std.specs.List.{before_first, after_first};
 ghost use Rattle.fault_script.specs.Words.{is_space, words, behind_word, without_return, without_spaces};
 ghost use Rattle.fault_script.specs.Says.{Gives, needed_word, nothing_more, needed_text};
@@ -14,35 +14,35 @@ fn is_space(byte: u8) -> bool
 }
 
 /// The line without a final byte 13.
-pub(crate) fn without_return(line: &[u8]) -> &[u8]
+pub(crate) fn without_return(line: &str) -> &str
     ensures { result.now ≡ without_return line.now }
 {
-    match line.split_last() {
-        Some((b'\r', text)) => text,
+    match line.as_bytes().split_last() {
+        Some((b'\r', text)) => &line[..text.len()],
         _ => line,
     }
 }
 
 /// Whether the word is that text.
-pub(crate) fn is(word: &[u8], text: &str) -> bool
+pub(crate) fn is(word: &str, text: &str) -> bool
     ensures { result ≡ bytes_eq word.now text.now }
 {
-    word == text.as_bytes()
+    word == text
 }
 
-fn first_other(text: &[u8]) -> Option<usize>
+fn first_other(text: &str) -> Option<usize>
     ensures { result ≡ position (λ b. not (is_space b)) text.now }
 {
-    text.iter().position(|byte| !is_space(*byte))
+    text.as_bytes().iter().position(|byte| !is_space(*byte))
 }
 
-fn first_space(text: &[u8]) -> Option<usize>
+fn first_space(text: &str) -> Option<usize>
     ensures { result ≡ position is_space text.now }
 {
-    text.iter().position(|byte| is_space(*byte))
+    text.as_bytes().iter().position(|byte| is_space(*byte))
 }
 
-fn without_spaces(text: &[u8]) -> &[u8]
+fn without_spaces(text: &str) -> &str
     ensures { result.now ≡ without_spaces text.now }
 {
     let start = first_other(text).unwrap_or(text.len());
@@ -50,7 +50,7 @@ fn without_spaces(text: &[u8]) -> &[u8]
 }
 
 /// What stands before the first space or tab, and what stands behind it.
-fn cut_at_space(text: &[u8]) -> (&[u8], &[u8])
+fn cut_at_space(text: &str) -> (&str, &str)
     ensures before { result.0.now ≡ before_first is_space text.now }
     ensures after { result.1.now ≡ after_first is_space text.now }
 {
@@ -61,11 +61,10 @@ fn cut_at_space(text: &[u8]) -> (&[u8], &[u8])
 }
 
 /// The first word, and what stands behind the one space or tab that ends it.
-pub(crate) fn next_word(text: &[u8]) -> Option<(&[u8], &[u8])>
+pub(crate) fn next_word(text: &str) -> Option<(&str, &str)>
     ensures words { MatchOption result (words text.now ≡ [])
         (λ found. words text.now ≡ found.0.now ∷ words found.1.now) }
     ensures behind { IfSome result (λ found. found.1.now ≡ behind_word text.now) }
-    ensures text { IsUtf8 text.now → IfSome result (λ found. IsUtf8 found.1.now) }
 {
     let text = without_spaces(text);
     if text.is_empty() {
@@ -75,11 +74,10 @@ pub(crate) fn next_word(text: &[u8]) -> Option<(&[u8], &[u8])>
 }
 
 /// The next word, which must be there.
-pub(crate) fn needed_word(text: &[u8]) -> Result<(&[u8], &[u8]), Stop>
+pub(crate) fn needed_word(text: &str) -> Result<(&str, &str), Stop>
     ensures word { Gives (λ found. (found.0.now, words found.1.now)) result
         (needed_word (words text.now)) }
     ensures behind { IfOk result (λ found. found.1.now ≡ behind_word text.now) }
-    ensures text { IsUtf8 text.now → IfOk result (λ found. IsUtf8 found.1.now) }
 {
     match next_word(text) {
         Some((word, behind)) => Ok((word, behind)),
@@ -88,7 +86,7 @@ pub(crate) fn needed_word(text: &[u8]) -> Result<(&[u8], &[u8]), Stop>
 }
 
 /// No word is left.
-pub(crate) fn nothing_more(text: &[u8]) -> Result<(), Stop>
+pub(crate) fn nothing_more(text: &str) -> Result<(), Stop>
     ensures { Gives (λ nothing. tt) result (nothing_more (words text.now)) }
 {
     match next_word(text) {
@@ -99,7 +97,7 @@ pub(crate) fn nothing_more(text: &[u8]) -> Result<(), Stop>
 
 /// The next word, which must be that text; what stands behind it is given.
 #[tactic(auto, unfolding(crate::specs::Says::needed_text))]
-pub(crate) fn needed_text<'a>(text: &str, line: &'a [u8]) -> Result<&'a [u8], Stop>
+pub(crate) fn needed_text<'a>(text: &str, line: &'a str) -> Result<&'a str, Stop>
     ensures { Gives (λ behind. words behind.now) result (needed_text text.now (words line.now)) }
 {
     let (word, behind) = needed_word(line)?;

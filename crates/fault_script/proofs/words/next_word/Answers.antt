@@ -1,8 +1,7 @@
 use Rattle.std.proofs.Common.{ℕ, zero, suc, ◌≡◌, ◌<◌, ◌==◌, ◌∷◌, List, length, false, sym, ap, ◌∙◌, subst, arith, eqb-true}
-use Rattle.std.specs.Prelude.{IsUtf8}
 use Rattle.std.specs.List.{before_first, after_first}
 use Rattle.fault_script.specs.Words.{is_space, words, behind_word}
-use Rattle.fault_script.proofs.WordLemmas.{words-none, words-some, behind-text}
+use Rattle.fault_script.proofs.WordLemmas.{words-none, words-some}
 use Rattle.fault_script.proofs.words.next_word.Goals as goal
 
 some_of : (n : ℕ) → (n == 0) ≡ false → 0 < n
@@ -26,10 +25,3 @@ returns-clause-words c =
 pub returns-clause-behind : goal.returns-clause-behind
 unfolding behind_word
 returns-clause-behind c = c.cut_at_space.ensures.after ∙ ap (after_first is_space) c.without_spaces-text.ensures
-
-pub returns-clause-text : goal.returns-clause-text
-unfolding behind_word
-returns-clause-text c = λ text.
-    let P : List ℕ → Type 0 = λ t. IsUtf8 t in
-    let same : behind_word c.args.text.now ≡ c.cut_at_space.result.1.now = sym (c.cut_at_space.ensures.after ∙ ap (after_first is_space) c.without_spaces-text.ensures) in
-    subst P same (behind-text c.args.text.now text)
