@@ -1,12 +1,16 @@
 //! Keys and their numbers.
-ghost use Rattle.std.specs.Prelude.{◌≡◌, [], IfOk, OnErr};
+ghost use Rattle.std.specs.Prelude.{◌≡◌, [], Some, slice_get, IfOk, IfSome, OnErr};
 ghost use Rattle.key_numbers.specs.Numbers.{AreDistinct, IsPlace, Numbers};
+ghost use Rattle.key_numbers.specs.Marks.{mark_of};
 
 use crate::marks::mark_of;
 use std::alloc::Global;
 use std::collections::BTreeMap;
 use std::marker::Model;
 use tag::{Key, Memory};
+
+/// How many numbers are at hand.
+const AT_HAND: usize = 1024;
 
 /// Keys, each once, in the order in which they were first seen. A key's number is its place.
 ///
@@ -15,6 +19,9 @@ use tag::{Key, Memory};
 pub struct KeyNumbers {
     places: BTreeMap<(u64, Key), usize>,
     keys: Vec<Key>,
+    /// The number of the last key that was asked for of those whose marks leave this place. It is
+    /// compared before it is taken, so what stands here costs time and changes no answer.
+    at_hand: Vec<usize>,
 }
 
 impl Model for KeyNumbers {
@@ -37,6 +44,7 @@ impl KeyNumbers {
         KeyNumbers {
             places: BTreeMap::new(alloc),
             keys: Vec::new(alloc),
+            at_hand: Vec::new(alloc),
         }
     }
 
@@ -48,11 +56,36 @@ impl KeyNumbers {
         self.keys.as_slice()
     }
 
+    /// The number of that key, whose mark that is, where it is at hand.
+    fn at_hand(&self, mark: u64, key: &Key) -> Option<usize>
+        ensures { IfSome result (λ number. slice_get self.now number ≡ Some key.now) }
+    {
+        let number = *self.at_hand.get(place_at_hand(mark))?;
+        match self.keys.get(number) {
+            Some(known) if known == key => Some(number),
+            _ => None,
+        }
+    }
+
+    /// Has the number at hand for keys of that mark.
+    fn keep_at_hand(&mut self, mark: u64, number: usize)
+        ensures { self.new ≡ self.old }
+    {
+        let place = place_at_hand(mark);
+        if place < self.at_hand.len() {
+            self.at_hand[place] = number;
+        }
+    }
+
     /// The key's number, if it was seen.
     pub fn find(&self, key: &Key) -> Result<Option<usize>, Memory>
         ensures { IfOk result (λ found. IsPlace self.now key.now found) }
     {
-        let marked = (mark_of(key.as_str().as_bytes()), key.copy()?);
+        let mark = mark_of(key.as_str().as_bytes());
+        if let Some(number) = self.at_hand(mark, key) {
+            return Ok(Some(number));
+        }
+        let marked = (mark, key.copy()?);
         Ok(self.places.get(&marked).copied())
     }
 
@@ -62,16 +95,45 @@ impl KeyNumbers {
         ensures ok { IfOk result (λ number. Numbers self.old key.now number self.new) }
         ensures err { OnErr result (self.new ≡ self.old) }
     {
+        let mark = mark_of(key.as_str().as_bytes());
+        if let Some(number) = self.at_hand(mark, key) {
+            return Ok(number);
+        }
+        let number = self.sought(mark, key)?;
+        self.keep_at_hand(mark, number);
+        Ok(number)
+    }
+
+    /// The number of that key, whose mark that is, by the map of all.
+    fn sought(&mut self, mark: u64, key: &Key) -> Result<usize, Memory>
+        requires { mark ≡ mark_of key.now }
+        ensures ok { IfOk result (λ number. Numbers self.old key.now number self.new) }
+        ensures err { OnErr result (self.new ≡ self.old) }
+    {
         if let Some(number) = self.find(key)? {
             return Ok(number);
         }
         let number = self.keys.len();
         // Whatever can be refused comes first.
         self.keys.reserve(1)?;
+        make_room_at_hand(&mut self.at_hand)?;
         let name = key.copy()?;
-        let marked = (mark_of(key.as_str().as_bytes()), key.copy()?);
+        let marked = (mark, key.copy()?);
         self.places.insert(marked, number)?;
         self.keys.push(name)?;
         Ok(number)
     }
+}
+
+/// Makes room for numbers at hand, where there is none.
+fn make_room_at_hand(numbers: &mut Vec<usize>) -> Result<(), Memory> {
+    if numbers.is_empty() {
+        numbers.resize(AT_HAND, 0)?;
+    }
+    Ok(())
+}
+
+/// Where the number of a key of that mark is at hand.
+fn place_at_hand(mark: u64) -> usize {
+    (mark % AT_HAND as u64) as usize
 }

@@ -39,6 +39,9 @@ pub struct History {
     busy: ClientSet,
     /// The keys of the calls, whose texts the rows share.
     keys: KeyNumbers,
+    /// How many calls each key has, by number, so that `parts` makes room once. Nothing rests on
+    /// it but time and memory.
+    key_calls: Vec<u32>,
     limit: u32,
 }
 
@@ -65,6 +68,7 @@ impl History {
             states: Vec::new(alloc),
             busy: ClientSet::new(alloc),
             keys: KeyNumbers::new(alloc),
+            key_calls: Vec::new(alloc),
             limit,
         }
     }
@@ -105,6 +109,7 @@ impl History {
             states: Vec::from_slice(alloc, &self.states)?,
             busy: self.busy.copy()?,
             keys: KeyNumbers::new(alloc),
+            key_calls: Vec::new(alloc),
             limit: self.limit,
         })
     }
@@ -141,7 +146,7 @@ impl History {
             return Err(refusal);
         }
         let op = OpId(self.calls() as u32);
-        let key = shared_key(&mut self.keys, &key)?;
+        let key = shared_key(&mut self.keys, &mut self.key_calls, &key)?;
         self.begin(op, client, key, action)?;
         Ok(op)
     }
@@ -237,11 +242,22 @@ fn make_room(rows: &mut Vec<Row>, states: &mut Vec<CallState>) -> Result<(), Mem
     Ok(())
 }
 
-/// The key, its text shared with the one that is known, if any.
-fn shared_key(keys: &mut KeyNumbers, key: &Key) -> Result<Key, Memory>
+/// Counts a call more of the key that has that number, the next one where it is new.
+fn count_call(key_calls: &mut Vec<u32>, number: usize) -> Result<(), Memory> {
+    if number < key_calls.len() {
+        key_calls[number] = key_calls[number].saturating_add(1);
+    } else {
+        key_calls.push(1)?;
+    }
+    Ok(())
+}
+
+/// The key, its text shared with the one that is known, if any. Its call is counted.
+fn shared_key(keys: &mut KeyNumbers, key_calls: &mut Vec<u32>, key: &Key) -> Result<Key, Memory>
     ensures { IfOk result (λ shared. shared ≡ key.now) }
 {
     let number = keys.number(key)?;
+    count_call(key_calls, number)?;
     keys.keys()[number].copy()
 }
 

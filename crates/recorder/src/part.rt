@@ -1,9 +1,9 @@
 //! The calls on one key.
-ghost use Rattle.std.specs.Prelude.{◌≡◌, [], ◌∷◌, ◌++◌, OnOk, OnErr};
+ghost use Rattle.std.specs.Prelude.{◌≡◌, [], ◌∷◌, ◌++◌, IfOk, OnOk, OnErr};
 
 use std::alloc::{AllocFailed, Global};
 use std::marker::Model;
-use tag::{Action, ClientId, OpId, Returned, Tag};
+use tag::{Action, ClientId, Memory, OpId, Returned, Tag};
 
 /// A response: its row's place in the history, and what it answers.
 #[derive(Debug, Drop, PartialEq, Eq)]
@@ -55,6 +55,15 @@ impl Part {
         Part {
             calls: Vec::new(alloc),
         }
+    }
+
+    /// The same, with room for so many calls.
+    pub(crate) fn with_room(alloc: Global, room: usize) -> Result<Part, Memory>
+        ensures { IfOk result (λ part. part ≡ []) }
+    {
+        Ok(Part {
+            calls: Vec::with_capacity(alloc, room)?,
+        })
     }
 
     /// The calls.

@@ -37,10 +37,25 @@ impl History {
             {
                 let call = self.call_at(place, *op, *client, action)?;
                 let slot = places.number(key)?;
-                add_call(&mut entries, slot, key, call)?;
+                let room = self.room_for(key, slot < entries.len())?;
+                add_call(&mut entries, slot, key, call, room)?;
             }
         }
         Ok(Parts::new(entries, places))
+    }
+
+    /// How many calls the key's part may get, as they were counted; 0 where it has its room.
+    fn room_for(&self, key: &Key, has_room: bool) -> Result<usize, Memory> {
+        if has_room {
+            return Ok(0);
+        }
+        let Some(number) = self.keys.find(key)? else {
+            return Ok(0);
+        };
+        match self.key_calls.get(number) {
+            Some(calls) => Ok(*calls as usize),
+            None => Ok(0),
+        }
     }
 
     /// The call that the row at that place begins, as the rows record it.
@@ -87,12 +102,14 @@ fn response_at(rows: &[Row], place: Option<usize>) -> Result<Option<Response>, M
     }
 }
 
-/// Adds a call behind all others on its key, whose number among the keys is `slot`.
+/// Adds a call behind all others on its key, whose number among the keys is `slot`. A key's first
+/// call makes that room for others.
 fn add_call(
     entries: &mut Vec<(Key, Part)>,
     slot: usize,
     key: &Key,
     call: Call,
+    room: usize,
 ) -> Result<(), Memory>
     requires slot { (keys : List (List ℕ))
         × Numbers (map (λ e. e.0) entries.old.items) key.now slot keys }
@@ -105,7 +122,7 @@ fn add_call(
         entries[slot].1.push(call)?;
     } else {
         let alloc = *entries.allocator();
-        let mut part = Part::empty(alloc);
+        let mut part = Part::with_room(alloc, room)?;
         part.push(call)?;
         entries.push((key.copy()?, part))?;
     }

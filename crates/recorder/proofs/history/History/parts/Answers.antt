@@ -8,7 +8,7 @@ use Rattle.recorder.specs.Records.{KeyedParts}
 use Rattle.recorder.proofs.Recorded.{IsSequence-one}
 use Rattle.recorder.proofs.PartsBelow.{AreParts-all, ArePartsBelow-skip, ArePartsBelow-add, IsSequence-added, keys_added}
 use Rattle.recorder.proofs.history.History.parts.Goals as goal
-use Rattle.recorder.proofs.history.History.parts.Goals.{in-Invoke+in_ok-call+in_ok-slot+in_ok-add_call, in_default}
+use Rattle.recorder.proofs.history.History.parts.Goals.{in-Invoke+in_ok-call+in_ok-slot+in_ok-room+in_ok-add_call, in_default}
 
 -- the row of an iteration stands at its place
 row_at : (rows items : List Row) (n : ℕ) (row : Row) → items ≡ rows → n < length items → row ≡ get_or items n row → slice_get rows n ≡ Some row
@@ -31,7 +31,7 @@ pub loop-place-preserved : goal.loop-place-preserved
 loop-place-preserved c =
     let here = row_at c.args.self.now.rows _ c.loop-place.place c.row-item.result (c.deref-row-items.ensures.value ∙ ap (λ (h : Recorded). h.rows) c.self.view_is) c.loop-place-test.true c.row-item.is in
     elim c.match-row.branch [
-      | in-Invoke+in_ok-call+in_ok-slot+in_ok-add_call w ↦
+      | in-Invoke+in_ok-call+in_ok-slot+in_ok-room+in_ok-add_call w ↦
           let begun = here ∙ ap Some w.in-Invoke.is in
           let l = c.loop-place in
           let numbered = rw l.invariant.1 at w.in_ok-slot.ensures.ok in

@@ -30,7 +30,7 @@ returns-in_ok-push c =
 pub returns-in_ok-push-3 : goal.returns-in_ok-push-3
 returns-in_ok-push-3 c =
     let es = c.args.entries.now.items in
-    let new : c.push-else-slot-len.new.self ≡ c.args.call ∷ [] = c.in_ok-push-2.ensures.ok ∙ ap (λ (l : List Call). l ++ c.args.call ∷ []) c.empty-part.ensures in
+    let new : c.push-else-slot-len.new.self ≡ c.args.call ∷ [] = c.in_ok-push-2.ensures.ok ∙ ap (λ (l : List Call). l ++ c.args.call ∷ []) c.in_ok-part.ensures in
     inr (record {
       absent = no_entry es c.args.key.now c.args.slot c.requires.slot.0 c.requires.slot.1 (λ below. omega (arith, below, c.if-slot-len.false, c.len.ensures));
       has = c.in_ok-push-3.ensures.items ∙ ap₂ (λ (k : List ℕ) (p : List Call). es ++ (k, p) ∷ []) c.in_ok-copy.ensures new;
