@@ -11,11 +11,12 @@ ghost use Rattle.file_format.specs.Rows.{row_in};
 
 use crate::file_header::FileHeader;
 use crate::hall_row::HallRow;
+use crate::seen::SeenTexts;
 use crate::texts::{MOST_IN_PIECE, append_piece, append_row};
 use recorder::{KeyOrder, Order, Row};
 use std::alloc::Global;
 use std::str;
-use tag::{Action, ClientId, Key, Memory, NameError, OpId, Returned, Tag, Value};
+use tag::{Action, ClientId, Memory, OpId, Returned, Tag, Value};
 
 /// The decimal number that the bytes begin with, which wraps, and what is behind it.
 fn number(bytes: &[u8]) -> (u32, &[u8]) {
@@ -36,38 +37,28 @@ fn text(bytes: &[u8]) -> Option<(&str, &[u8])> {
     Some((text, &bytes[end + 1..]))
 }
 
-/// The key that the text is, if it is one.
-fn key(alloc: Global, text: &str) -> Result<Option<Key>, Memory> {
-    match Key::new(alloc, text) {
-        Ok(key) => Ok(Some(key)),
-        Err(NameError::Memory) => Err(Memory),
-        Err(_) => Ok(None),
-    }
-}
-
-/// The value that the text is, if it is one.
-fn value(alloc: Global, text: &str) -> Result<Option<Value>, Memory> {
-    match Value::new(alloc, text) {
-        Ok(value) => Ok(Some(value)),
-        Err(NameError::Memory) => Err(Memory),
-        Err(_) => Ok(None),
-    }
-}
-
 /// The value whose text the bytes begin with.
-fn guessed_value(alloc: Global, bytes: &[u8]) -> Result<Option<Value>, Memory> {
+fn guessed_value(
+    alloc: Global,
+    seen: &mut SeenTexts,
+    bytes: &[u8],
+) -> Result<Option<Value>, Memory> {
     match text(bytes) {
-        Some((text, _)) => value(alloc, text),
+        Some((text, _)) => seen.value(alloc, text),
         None => Ok(None),
     }
 }
 
 /// The write to that key, where the bytes behind the key's text are of one.
-fn guessed_write(alloc: Global, bytes: &[u8]) -> Result<Option<Action>, Memory> {
+fn guessed_write(
+    alloc: Global,
+    seen: &mut SeenTexts,
+    bytes: &[u8],
+) -> Result<Option<Action>, Memory> {
     let Some(rest) = bytes.strip_prefix(b",\"row\":\"invoke\",\"value\":\"".as_slice()) else {
         return Ok(None);
     };
-    match guessed_value(alloc, rest)? {
+    match guessed_value(alloc, seen, rest)? {
         Some(value) => Ok(Some(Action::Write(value))),
         None => Ok(None),
     }
@@ -90,7 +81,12 @@ fn guessed_key(bytes: &[u8]) -> Option<(&str, &[u8])> {
 }
 
 /// The invocation whose bytes behind `"client":` these are.
-fn guessed_invoke(alloc: Global, op: OpId, bytes: &[u8]) -> Result<Option<HallRow>, Memory> {
+fn guessed_invoke(
+    alloc: Global,
+    seen: &mut SeenTexts,
+    op: OpId,
+    bytes: &[u8],
+) -> Result<Option<HallRow>, Memory> {
     let (name, rest) = number(bytes);
     let Ok(client) = ClientId::new(name) else {
         return Ok(None);
@@ -105,10 +101,10 @@ fn guessed_invoke(alloc: Global, op: OpId, bytes: &[u8]) -> Result<Option<HallRo
         return Ok(None);
     };
     let action = match write {
-        Some(_) => guessed_write(alloc, rest)?,
+        Some(_) => guessed_write(alloc, seen, rest)?,
         None => Some(Action::Read),
     };
-    match (key(alloc, name)?, action) {
+    match (seen.key(alloc, name)?, action) {
         (Some(key), Some(action)) => {
             let row = Row::Invoke {
                 op,
@@ -131,9 +127,14 @@ fn guessed_note(op: OpId, bytes: &[u8]) -> Option<Row> {
 }
 
 /// The response whose bytes behind its kind these are.
-fn guessed_respond(alloc: Global, op: OpId, bytes: &[u8]) -> Result<Option<Row>, Memory> {
+fn guessed_respond(
+    alloc: Global,
+    seen: &mut SeenTexts,
+    op: OpId,
+    bytes: &[u8],
+) -> Result<Option<Row>, Memory> {
     let returned = if let Some(rest) = bytes.strip_prefix(b",\"value\":\"".as_slice()) {
-        match guessed_value(alloc, rest)? {
+        match guessed_value(alloc, seen, rest)? {
             Some(value) => Returned::Value(Some(value)),
             None => return Ok(None),
         }
@@ -146,12 +147,17 @@ fn guessed_respond(alloc: Global, op: OpId, bytes: &[u8]) -> Result<Option<Row>,
 }
 
 /// The note or the response whose bytes behind the call these are.
-fn guessed_later(alloc: Global, op: OpId, bytes: &[u8]) -> Result<Option<HallRow>, Memory> {
+fn guessed_later(
+    alloc: Global,
+    seen: &mut SeenTexts,
+    op: OpId,
+    bytes: &[u8],
+) -> Result<Option<HallRow>, Memory> {
     let (hall, rest) = guessed_hall(bytes);
     let row = if let Some(rest) = rest.strip_prefix(b",\"number\":".as_slice()) {
         guessed_note(op, rest)
     } else if let Some(rest) = rest.strip_prefix(b",\"row\":\"respond\"".as_slice()) {
-        guessed_respond(alloc, op, rest)?
+        guessed_respond(alloc, seen, op, rest)?
     } else {
         None
     };
@@ -162,7 +168,11 @@ fn guessed_later(alloc: Global, op: OpId, bytes: &[u8]) -> Result<Option<HallRow
 }
 
 /// The row that the line may be, and its hall.
-fn guessed_row(alloc: Global, line: &[u8]) -> Result<Option<HallRow>, Memory> {
+fn guessed_row(
+    alloc: Global,
+    seen: &mut SeenTexts,
+    line: &[u8],
+) -> Result<Option<HallRow>, Memory> {
     if !line.ends_with(b"}".as_slice()) {
         return Ok(None);
     }
@@ -171,8 +181,8 @@ fn guessed_row(alloc: Global, line: &[u8]) -> Result<Option<HallRow>, Memory> {
     };
     let (call, rest) = number(rest);
     match rest.strip_prefix(b",\"client\":".as_slice()) {
-        Some(rest) => guessed_invoke(alloc, OpId(call), rest),
-        None => guessed_later(alloc, OpId(call), rest),
+        Some(rest) => guessed_invoke(alloc, seen, OpId(call), rest),
+        None => guessed_later(alloc, seen, OpId(call), rest),
     }
 }
 
@@ -183,16 +193,17 @@ fn is_line(text: &mut Vec<u8>, line: &[u8]) -> bool
     text.pop() == Some(b'\n') && text.as_slice() == line
 }
 
-/// The row that the line, without its end, is written for, where `text` is lent room for a line.
-/// `None` says nothing; `Memory` comes only where a growth was refused.
+/// The row that the line, without its end, is written for, where `text` is lent room for a line,
+/// and `seen` texts to share. `None` says nothing; `Memory` comes only where a growth was refused.
 pub(crate) fn written_row(
     alloc: Global,
     text: &mut Vec<u8>,
+    seen: &mut SeenTexts,
     line: &[u8],
 ) -> Result<Option<Row>, Memory>
     ensures { IfOk result (λ found. IfSome found (λ row. Shows row_in line.now (Ok row))) }
 {
-    let Some(HallRow { hall: _, row }) = guessed_row(alloc, line)? else {
+    let Some(HallRow { hall: _, row }) = guessed_row(alloc, seen, line)? else {
         return Ok(None);
     };
     text.clear();
@@ -209,12 +220,13 @@ pub(crate) fn written_hall_row(
     alloc: Global,
     header: FileHeader,
     text: &mut Vec<u8>,
+    seen: &mut SeenTexts,
     line: &[u8],
 ) -> Result<Option<HallRow>, Memory>
     ensures { IfOk result (λ found. IfSome found
         (λ item. Shows (hall_row_in header) line.now (Ok item))) }
 {
-    let Some(item) = guessed_row(alloc, line)? else {
+    let Some(item) = guessed_row(alloc, seen, line)? else {
         return Ok(None);
     };
     if item.hall >= header.halls() {
@@ -245,7 +257,11 @@ fn guessed_calls(alloc: Global, bytes: &[u8]) -> Result<Vec<OpId>, Memory> {
 }
 
 /// The piece of an order that the line may be.
-fn guessed_piece(alloc: Global, line: &[u8]) -> Result<Option<KeyOrder>, Memory> {
+fn guessed_piece(
+    alloc: Global,
+    seen: &mut SeenTexts,
+    line: &[u8],
+) -> Result<Option<KeyOrder>, Memory> {
     let named = line.strip_prefix(b"{\"key\":\"".as_slice()).and_then(text);
     let Some((name, rest)) = named else {
         return Ok(None);
@@ -254,7 +270,7 @@ fn guessed_piece(alloc: Global, line: &[u8]) -> Result<Option<KeyOrder>, Memory>
         return Ok(None);
     };
     let calls = guessed_calls(alloc, rest)?;
-    match key(alloc, name)? {
+    match seen.key(alloc, name)? {
         Some(key) => Ok(Some(KeyOrder {
             key,
             order: Order::from_vec(calls),
@@ -264,15 +280,16 @@ fn guessed_piece(alloc: Global, line: &[u8]) -> Result<Option<KeyOrder>, Memory>
 }
 
 /// The piece of an order that the line, without its end, is written for, where `text` is lent room
-/// for a line. `None` says nothing; `Memory` comes only where a growth was refused.
+/// for a line, and `seen` texts to share. `None` says nothing; `Memory` comes only where a growth was refused.
 pub(crate) fn written_piece(
     alloc: Global,
     text: &mut Vec<u8>,
+    seen: &mut SeenTexts,
     line: &[u8],
 ) -> Result<Option<KeyOrder>, Memory>
     ensures { IfOk result (λ found. IfSome found (λ piece. Shows piece_in line.now (Ok piece))) }
 {
-    let Some(piece) = guessed_piece(alloc, line)? else {
+    let Some(piece) = guessed_piece(alloc, seen, line)? else {
         return Ok(None);
     };
     let calls = piece.order.as_slice();

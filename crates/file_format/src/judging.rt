@@ -11,6 +11,7 @@ use crate::file_header::FileHeader;
 use crate::header::header_in;
 use crate::line_item::LineItem;
 use crate::quorum_header::file_header_in;
+use crate::seen::SeenTexts;
 use counted_devices::first_end;
 use json::Scratch;
 use std::alloc::Global;
@@ -35,6 +36,7 @@ fn item_on<T: LineItem>(
     header: T::Header,
     scratch: &mut Scratch,
     text: &mut Vec<u8>,
+    seen: &mut SeenTexts,
     line: &[u8],
 ) -> Result<T, Stop>
     ensures { ShowsBy (T.meaning header) line.now result }
@@ -42,7 +44,7 @@ fn item_on<T: LineItem>(
     if line.len() > LONGEST {
         return Err(Stop::Fault(LineFault::TooLong));
     }
-    if let Some(item) = T::written_on(alloc, header, text, line)? {
+    if let Some(item) = T::written_on(alloc, header, text, seen, line)? {
         return Ok(item);
     }
     let document = Document::read(alloc, line, scratch)?;
@@ -55,11 +57,12 @@ fn judge<T: LineItem>(
     header: T::Header,
     scratch: &mut Scratch,
     text: &mut Vec<u8>,
+    seen: &mut SeenTexts,
     line: &[u8],
 ) -> Result<Judgement<T>, Memory>
     ensures { IfOk result (ShowsItem (T.meaning header) line.now) }
 {
-    match item_on::<T>(alloc, header, scratch, text, line) {
+    match item_on::<T>(alloc, header, scratch, text, seen, line) {
         Ok(item) => Ok(Judgement::Item(item)),
         Err(Stop::Fault(fault)) => Ok(Judgement::Fault(fault)),
         Err(Stop::Memory) => Err(Memory),
@@ -77,12 +80,13 @@ pub fn judge_part<T: LineItem>(
 {
     let mut run = Vec::with_capacity(alloc, part.len() / USUAL)?;
     let mut text = Vec::new(alloc);
+    let mut seen = SeenTexts::new(alloc)?;
     let mut rest = part;
     while let Some(end) = first_end(rest) {
-        run.push(judge::<T>(alloc, header, scratch, &mut text, &rest[..end])?)?;
+        run.push(judge::<T>(alloc, header, scratch, &mut text, &mut seen, &rest[..end])?)?;
         rest = &rest[end + 1..];
     }
-    run.push(judge::<T>(alloc, header, scratch, &mut text, rest)?)?;
+    run.push(judge::<T>(alloc, header, scratch, &mut text, &mut seen, rest)?)?;
     Ok(run)
 }
 

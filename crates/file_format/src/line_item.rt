@@ -17,6 +17,7 @@ use crate::file_header::FileHeader;
 use crate::hall_row::{HallRow, hall_row_in};
 use crate::order_lines::piece_in;
 use crate::rows::row_in;
+use crate::seen::SeenTexts;
 use recorder::{KeyOrder, Row};
 use std::alloc::Global;
 use tag::Memory;
@@ -29,11 +30,12 @@ pub trait LineItem: Drop + Sized {
     ghost meaning: { Self.Header → Data → Result Self LineFault };
 
     /// The item that the line, without its end, is written for behind that header, where `text` is
-    /// lent room for a line. `None` says nothing; `Memory` comes only where a growth was refused.
+    /// lent room for a line, and `seen` texts to share. `None` says nothing; `Memory` comes only where a growth was refused.
     fn written_on(
         alloc: Global,
         header: Self::Header,
         text: &mut Vec<u8>,
+        seen: &mut SeenTexts,
         line: &[u8],
     ) -> Result<Option<Self>, Memory>
         ensures { IfOk result (λ found. IfSome found
@@ -54,9 +56,10 @@ impl LineItem for Row {
         alloc: Global,
         _header: (),
         text: &mut Vec<u8>,
+        seen: &mut SeenTexts,
         line: &[u8],
     ) -> Result<Option<Row>, Memory> {
-        written_row(alloc, text, line)
+        written_row(alloc, text, seen, line)
     }
 
     fn item_in(alloc: Global, _header: (), document: &Document<'_>) -> Result<Row, Stop> {
@@ -73,9 +76,10 @@ impl LineItem for HallRow {
         alloc: Global,
         header: FileHeader,
         text: &mut Vec<u8>,
+        seen: &mut SeenTexts,
         line: &[u8],
     ) -> Result<Option<HallRow>, Memory> {
-        written_hall_row(alloc, header, text, line)
+        written_hall_row(alloc, header, text, seen, line)
     }
 
     fn item_in(
@@ -96,9 +100,10 @@ impl LineItem for KeyOrder {
         alloc: Global,
         _header: (),
         text: &mut Vec<u8>,
+        seen: &mut SeenTexts,
         line: &[u8],
     ) -> Result<Option<KeyOrder>, Memory> {
-        written_piece(alloc, text, line)
+        written_piece(alloc, text, seen, line)
     }
 
     fn item_in(alloc: Global, _header: (), document: &Document<'_>) -> Result<KeyOrder, Stop> {
