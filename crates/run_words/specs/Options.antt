@@ -1,5 +1,5 @@
 -- The options of `abd run`.
-use Rattle.std.specs.Prelude.{ℕ, List, [], ◌∷◌, Some, pos, codes}
+use Rattle.std.specs.Prelude.{ℕ, [], ◌∷◌, Some, pos, codes}
 use Rattle.clap.specs.Words.{App, Rule, Text, new_app, new_rule, with_rule}
 use Rattle.clap.specs.declared.builder.value_parser.ValueParser.{ValueParser}
 use Rattle.clap.specs.declared.builder.value_parser.ValueParser.TheVariants as parser

@@ -1,6 +1,7 @@
 //! The words behind `abd run`: its options, and the load that they ask for.
 //!
-//! `run_words` is the subcommand as clap takes it; `run_in` is what is asked for by words that clap took.
+//! `run_words` is the subcommand as clap takes it; `run_in` is what is asked for by words that clap
+//! took.
 #![tactic(auto)]
 
 mod asked;

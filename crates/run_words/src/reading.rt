@@ -64,9 +64,7 @@ fn hall_in<'a>(matches: &ArgMatches<'a>, halls: u16) -> Result<Shown, RunFault>
     ensures { MatchResult result (AsksShown (rows_of (found_of matches.now)) halls)
         (IsMissed (AsksShown (rows_of (found_of matches.now)) halls)) }
 {
-    let Ok(hall) = number_in(matches, "show", 0, 63) else {
-        return Err(RunFault::Number);
-    };
+    let hall = number_in(matches, "show", 0, 63)?;
     if hall >= halls {
         return Err(RunFault::Show);
     }
@@ -90,36 +88,20 @@ fn shown_in<'a>(matches: &ArgMatches<'a>, halls: u16) -> Result<Shown, RunFault>
     Ok(Shown::Hall(0))
 }
 
-/// What is asked for by the words behind `run`. Where it is nothing, why; `Memory` comes only where a
-/// growth was refused.
+/// What is asked for by the words behind `run`. Where it is nothing, why; `Memory` comes only where
+/// a growth was refused.
 pub fn run_in<'a>(alloc: Global, matches: &ArgMatches<'a>) -> Result<RunAsked, RunFault>
     ensures { MatchResult result (AsksRun (rows_of (found_of matches.now)))
         (IsMissed (AsksRun (rows_of (found_of matches.now)))) }
 {
-    let Ok(replicas) = number_in(matches, "replicas", 1, 15) else {
-        return Err(RunFault::Number);
-    };
-    let Ok(callers) = number_in(matches, "callers", 1, 16) else {
-        return Err(RunFault::Number);
-    };
-    let Ok(calls) = number_in(matches, "calls", 1, 10000) else {
-        return Err(RunFault::Number);
-    };
-    let Ok(keys) = number_in(matches, "keys", 1, 8) else {
-        return Err(RunFault::Number);
-    };
-    let Ok(rounds) = number_in(matches, "rounds", 1, 10000) else {
-        return Err(RunFault::Number);
-    };
-    let Ok(drop) = number_in(matches, "drop", 0, 1000) else {
-        return Err(RunFault::Number);
-    };
-    let Ok(double) = number_in(matches, "double", 0, 1000) else {
-        return Err(RunFault::Number);
-    };
-    let Ok(halls) = number_in(matches, "halls", 1, 64) else {
-        return Err(RunFault::Number);
-    };
+    let replicas = number_in(matches, "replicas", 1, 15)?;
+    let callers = number_in(matches, "callers", 1, 16)?;
+    let calls = number_in(matches, "calls", 1, 10000)?;
+    let keys = number_in(matches, "keys", 1, 8)?;
+    let rounds = number_in(matches, "rounds", 1, 10000)?;
+    let drop = number_in(matches, "drop", 0, 1000)?;
+    let double = number_in(matches, "double", 0, 1000)?;
+    let halls = number_in(matches, "halls", 1, 64)?;
     let reads = reads_in(matches)?;
     let shown = shown_in(matches, halls)?;
     let quorums = quorums_in(alloc, matches, replicas as u8)?;

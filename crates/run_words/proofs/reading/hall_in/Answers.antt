@@ -1,5 +1,6 @@
 -- Where a hall is named, its number alone says which is shown.
 use Rattle.std.proofs.Common.{◌≡◌, ℕ, List, None, inl, inr, codes}
+use Rattle.std.proofs.lemmas.Result.{err_from_is_err_and}
 use Rattle.clap.specs.Words.{Row, first_of, found_of, rows_of}
 use Rattle.run_words.specs.Asking.{AsksNumber, AsksShown}
 use Rattle.run_words.specs.declared.asked.Shown.{Shown}
@@ -13,5 +14,7 @@ unnamed rows halls named none (shown.Hall hall) asks = elim asks [
 ]
 unnamed rows halls named none shown.All asks = named asks.no_show
 
-pub returns-in_default : goal.returns-in_default
-returns-in_default c = λ _. unnamed (rows_of (found_of c.args.matches.now)) c.args.halls c.requires c.in_default.ensures.1
+pub returns-in_err-hall : goal.returns-in_err-hall
+returns-in_err-hall c =
+    let p = err_from_is_err_and c.from_residual.result c.from_residual.ensures.1 in
+    rw (p.1, p.2) (λ _. unnamed (rows_of (found_of c.args.matches.now)) c.args.halls c.requires c.in_err-hall.ensures.1)
