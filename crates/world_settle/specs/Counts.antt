@@ -1,6 +1,6 @@
 -- How many candidates make a quorum.
 use Rattle.std.proofs.Common.{◌≡◌, ℕ, zero, suc, ◌+◌, ◌<◌, ◌≤◌, ◌⊎◌, Bool, true, false, cond, not, ◌&&◌, ◌||◌, nat_eq, nat_le, List, [], ◌∷◌, take, length, slice_index, refl, sym, ◌∙◌, ap, subst, arith, inl, inr, leb-true, eqb-true}
-use Rattle.std.proofs.lemmas.Bool.{le-leb, cases_order}
+use Rattle.std.proofs.lemmas.Bool.{le-leb, cases_lt, cases_order}
 use Rattle.std.proofs.lemmas.List.{take_all}
 use Rattle.std.proofs.lemmas.List.FromFn.{length-range_with_len}
 use Rattle.std.specs.FinSet as finite
@@ -98,7 +98,7 @@ seek_by test k true is none later = record { count = k; holds = is; least = none
 seek_by test k false is none later = later (λ m less h. elim (lower m k less) [ inl low ↦ none m low h | inr same ↦ (let e : test k ≡ true = ap test (sym same) ∙ h in cc) ])
   where
     lower : (m k : ℕ) → m < suc k → (m < k) ⊎ (m ≡ k)
-    lower m k less = grind arith
+    lower m k less = elim (cases_lt m k) [ inl lt ↦ inl lt | inr ge ↦ inr (omega (arith, ge, less)) ]
 
 seek : (test : ℕ → Bool) (fuel k : ℕ) → ((m : ℕ) → m < k → test m ≡ true → ⊥) → test (fuel + k) ≡ true → Least test
 seek test zero k none e = let same : zero + k ≡ k = omega arith in record { count = k; holds = ap test (sym same) ∙ e; least = none }
