@@ -1,22 +1,25 @@
 -- The bytes of each kind of line.
-use Rattle.std.proofs.Common.{◌≡◌, ℕ, Bool, true, false, not, ◌&&◌, ◌==◌, nat_le, List, [], ◌∷◌, ◌++◌, Option, Some, None, decimal, refl, sym, ap, ap₂, ◌∙◌, subst, append_assoc, arith, eq-eqb}
+use Rattle.std.proofs.Common.{◌≡◌, ℕ, Bool, true, false, not, ◌&&◌, ◌==◌, nat_le, List, [], ◌∷◌, ◌++◌, Option, Some, None, decimal, refl, sym, ap, ap₂, ◌∙◌, subst, append_assoc, arith, eq-eqb, take, drop, length, ◌-◌}
 use Rattle.std.specs.Prelude.{codes}
 use Rattle.std.specs.List.{list_all}
 use Rattle.std.proofs.lemmas.Bool.{and_parts, leb-true}
 use Rattle.std.proofs.lemmas.Fmt.{decimal_digit}
+use Rattle.std.proofs.lemmas.List.{length-drop, take-append-drop}
 use Rattle.json.specs.Print.{quoted, escape, escape_byte}
 use Rattle.json.proofs.Printed.Strings.{escape_byte_plain}
 use Rattle.serde_json.specs.Data.{string, Members, no_members, member}
-use Rattle.serde_json.specs.Written.{items_text, members_text}
+use Rattle.serde_json.specs.Written.{compact_text, items_text, members_text}
 use Rattle.tag.specs.Tags.{Tag}
 use Rattle.tag.specs.declared.numbers.OpId.{OpId}
 use Rattle.tag.specs.declared.actions.Action.TheVariants.{Read, Write}
 use Rattle.tag.specs.declared.actions.Returned.TheVariants.{Value, Written}
+use Rattle.recorder.specs.declared.row.Row.{Row}
 use Rattle.recorder.specs.declared.row.Row.TheVariants.{Invoke, Note, Respond}
 use Rattle.quorum.specs.Quorums.{Quorums}
 use Rattle.counted_devices.specs.Cuts.{ended}
 use Rattle.file_format.specs.declared.file_header.FileHeader.TheVariants.{Version2}
 use Rattle.file_format.specs.PlainTexts.{is_plain}
+use Rattle.file_format.specs.RowTexts.{row_bytes}
 use Rattle.file_format.specs.Texts.{whole, header_data, file_header_data, numbers_data, row_data, hall_member, hall_text, answered_value, piece_data, calls_data, line_text, placed_text, piece_text}
 
 abbrev end : List ℕ
@@ -139,6 +142,20 @@ quorums_bytes halls quorums =
     ∙ ap (λ (s : List ℕ). member_bytes (codes ",\"halls\":") (decimal halls) s) (member_end (codes ",\"put\":") (decimal quorums.put) votes
     ∙ ap (λ (s : List ℕ). member_bytes (codes ",\"put\":") (decimal quorums.put) s) (member_end (codes ",\"version\":2,\"votes\":[") (items_text false (numbers_data quorums.votes)) (codes "}")))))
 
+-- ---- a row's line without its end
+
+abbrev behind_call : ℕ → List ℕ → List ℕ
+behind_call call rest = codes "{\"call\":" ++ (decimal call ++ rest)
+
+pub compact_row : (hall : Option ℕ) (row : Row) → compact_text (row_data hall row) ≡ row_bytes hall row
+unfolding row_data escape_byte
+compact_row hall (Invoke op client key Read) = ap (λ (s : List ℕ). begins_invoke op.0 client (codes ",\"do\":\"read\"" ++ s)) (hall_there hall (member (codes "key") (string key) (member (codes "row") (string (codes "invoke")) no_members)))
+compact_row hall (Invoke op client key (Write value)) = ap (λ (s : List ℕ). begins_invoke op.0 client (codes ",\"do\":\"write\"" ++ s)) (hall_there hall (member (codes "key") (string key) (member (codes "row") (string (codes "invoke")) (member (codes "value") (string value) no_members))))
+compact_row hall (Note op tag) = ap (λ (s : List ℕ). behind_call op.0 s) (hall_there hall (member (codes "number") (whole tag.number) (member (codes "row") (string (codes "note")) (member (codes "writer") (whole tag.writer) no_members))))
+compact_row hall (Respond op Written) = ap (λ (s : List ℕ). behind_call op.0 s) (hall_there hall (member (codes "row") (string (codes "respond")) no_members))
+compact_row hall (Respond op (Value None)) = ap (λ (s : List ℕ). behind_call op.0 s) (hall_there hall (answer_members None))
+compact_row hall (Respond op (Value (Some value))) = ap (λ (s : List ℕ). behind_call op.0 s) (hall_there hall (answer_members (Some value)))
+
 -- ---- bytes that come one after another
 
 pub then : (out mid new before middle rest : List ℕ) → mid ≡ out ++ (before ++ middle) → new ≡ mid ++ rest → new ≡ out ++ (before ++ (middle ++ rest))
@@ -184,3 +201,18 @@ quoted_whole out before first mark text last all plain p q r s =
     s ∙ ap (λ (l : List ℕ). l ++ 34 ∷ []) (r ∙ ap (λ (l : List ℕ). l ++ text) (q ∙ ap (λ (l : List ℕ). l ++ 34 ∷ []) p))
     ∙ append_assoc ((out ++ before) ++ 34 ∷ []) text (34 ∷ []) ∙ append_assoc (out ++ before) (34 ∷ []) (text ++ 34 ∷ []) ∙ append_assoc out before (34 ∷ (text ++ 34 ∷ []))
     ∙ ap (λ (l : List ℕ). out ++ (before ++ l)) (quoted_plain text plain)
+
+-- a text in quotation marks that has no escape, and what is behind it
+pub quoted_first : (bytes inside taken text left rest : List ℕ) → list_all is_plain text ≡ true → bytes ≡ 34 ∷ inside → inside ≡ taken ++ left → text ≡ taken → left ≡ 34 ∷ rest → bytes ≡ quoted text ++ rest
+quoted_first bytes inside taken text left rest plain p q r s =
+    p ∙ ap (λ (l : List ℕ). 34 ∷ l) (q ∙ ap₂ (λ (a b : List ℕ). a ++ b) (sym r) s)
+    ∙ ap (λ (l : List ℕ). 34 ∷ l) (sym (append_assoc text (34 ∷ []) rest))
+    ∙ ap (λ (l : List ℕ). l ++ rest) (quoted_plain text plain)
+
+-- a list is what comes before a place and all from it on
+take_whole : (xs : List ℕ) → take (length xs) xs ≡ xs
+take_whole [] = refl
+take_whole (x ∷ xs) = ap (λ (l : List ℕ). x ∷ l) (take_whole xs)
+
+pub cut_whole : (n : ℕ) (xs : List ℕ) → xs ≡ take n xs ++ take (length xs - n) (drop n xs)
+cut_whole n xs = sym (take-append-drop n xs) ∙ ap (λ (l : List ℕ). take n xs ++ l) (sym (ap (λ (k : ℕ). take k (drop n xs)) (sym (length-drop n xs)) ∙ take_whole (drop n xs)))

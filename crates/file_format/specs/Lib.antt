@@ -28,3 +28,4 @@ pub mod ReadAgain
 pub mod Zips
 pub mod Parting
 pub mod Joining
+pub mod RowTexts

@@ -1,25 +1,62 @@
 //! Lines as this crate writes them, read without JSON.
 //!
-//! What a line may be is guessed from its bytes in one pass, and taken only where the line that is
-//! written for it is the very same. So nothing rests on the guess but the time that it takes.
-ghost use Rattle.std.specs.Prelude.{◌≡◌, Ok, IfOk, IfSome, IsTrue};
+//! A row's line is taken in one pass, and each piece of it is compared with what is written there:
+//! a line that is written otherwise isn't taken, and is left to the JSON reader. The line of a
+//! piece of an order is guessed from its bytes, and taken only where the line that is written for
+//! the guess is the very same; so nothing rests on the guess but the time that it takes.
+ghost use Rattle.std.specs.Prelude.{◌≡◌, ◌++◌, codes, decimal, Ok, IfOk, IfSome, IsTrue};
+ghost use Rattle.json.specs.Print.{quoted};
 ghost use Rattle.counted_devices.specs.Cuts.{ended};
 ghost use Rattle.file_format.specs.HallRows.{hall_row_in};
 ghost use Rattle.file_format.specs.Lines.{Shows};
 ghost use Rattle.file_format.specs.OrderLines.{piece_in};
+ghost use Rattle.file_format.specs.Ranges.{HasAnswerIn, HasValueIn, IsInRange, IsInvocation, IsNote, IsOp, IsResponse, IsValue};
 ghost use Rattle.file_format.specs.Rows.{row_in};
+ghost use Rattle.file_format.specs.RowTexts.{asked_text, noted_text, returned_text, row_bytes};
+ghost use Rattle.file_format.specs.Texts.{hall_text};
 
 use crate::file_header::FileHeader;
 use crate::hall_row::HallRow;
 use crate::seen::SeenTexts;
-use crate::texts::{MOST_IN_PIECE, append_piece, append_row};
+use crate::texts::{MOST_IN_PIECE, append_piece, is_plain};
+use itoa::Buffer;
 use recorder::{KeyOrder, Order, Row};
 use std::alloc::Global;
 use std::str;
-use tag::{Action, ClientId, Memory, OpId, Returned, Tag, Value};
+use tag::{Action, ClientId, Key, Memory, OpId, Returned, Tag, Value};
+
+/// A row, and what its line has as its member `hall`.
+#[derive(Debug, Drop)]
+struct PlacedRow {
+    place: Option<u8>,
+    row: Row,
+}
+
+/// What an invocation's line says behind its client.
+#[derive(Debug, Drop)]
+struct Asked {
+    place: Option<u8>,
+    key: Key,
+    action: Action,
+}
+
+/// What is behind that beginning of the bytes.
+fn behind<'a>(bytes: &'a [u8], beginning: &[u8]) -> Option<&'a [u8]>
+    ensures { IfSome result (λ rest. bytes.now ≡ beginning.now ++ rest.now) }
+{
+    let rest = bytes.strip_prefix(beginning)?;
+    Some(rest)
+}
+
+/// Whether the bytes are that text.
+fn is_all(bytes: &[u8], text: &[u8]) -> bool
+    ensures { IsTrue result → bytes.now ≡ text.now }
+{
+    bytes == text
+}
 
 /// The decimal number that the bytes begin with, which wraps, and what is behind it.
-fn number(bytes: &[u8]) -> (u32, &[u8]) {
+fn guessed_number(bytes: &[u8]) -> (u32, &[u8]) {
     let mut number = 0;
     let mut count = 0;
     while count < bytes.len() && bytes[count].is_ascii_digit() {
@@ -30,188 +67,352 @@ fn number(bytes: &[u8]) -> (u32, &[u8]) {
     (number, &bytes[count..])
 }
 
-/// The text up to the next quotation mark, and what is behind that.
-fn text(bytes: &[u8]) -> Option<(&str, &[u8])> {
-    let end = bytes.iter().position(|byte| *byte == b'"')?;
-    let text = str::from_utf8(&bytes[..end]).ok()?;
-    Some((text, &bytes[end + 1..]))
+/// The number that the bytes begin with, as it is written, and what is behind it.
+fn first_number(bytes: &[u8]) -> Option<(u32, &[u8])>
+    ensures { IfSome result (λ found. bytes.now ≡ decimal found.0 ++ found.1.now) }
+{
+    let (number, _) = guessed_number(bytes);
+    let mut digits = Buffer::new();
+    let rest = behind(bytes, digits.format(number).as_bytes())?;
+    Some((number, rest))
 }
 
-/// The value whose text the bytes begin with.
-fn guessed_value(
+/// The text in quotation marks that the bytes begin with, where it has no escape, and what is
+/// behind it.
+fn first_text(bytes: &[u8]) -> Option<(&str, &[u8])>
+    ensures { IfSome result (λ found. bytes.now ≡ quoted found.0.now ++ found.1.now) }
+{
+    let inside = behind(bytes, b"\"")?;
+    let end = inside.iter().position(|byte| *byte == b'"')?;
+    let Ok(text) = str::from_utf8(&inside[..end]) else {
+        return None;
+    };
+    if !is_plain(text) {
+        return None;
+    }
+    let rest = behind(&inside[end..], b"\"")?;
+    Some((text, rest))
+}
+
+/// The number of the row's hall, where the bytes begin with it as a member, and what is behind it.
+fn first_hall(bytes: &[u8]) -> Option<(Option<u8>, &[u8])>
+    ensures { IfSome result (λ found. bytes.now ≡ hall_text found.0 ++ found.1.now) }
+{
+    let Some(rest) = behind(bytes, b",\"hall\":") else {
+        return Some((None, bytes));
+    };
+    let (hall, rest) = first_number(rest)?;
+    if hall > 255 {
+        return None;
+    }
+    Some((Some(hall as u8), rest))
+}
+
+/// The key that the bytes begin with as a member, and what is behind it.
+fn first_key<'a>(
     alloc: Global,
     seen: &mut SeenTexts,
-    bytes: &[u8],
-) -> Result<Option<Value>, Memory> {
-    match text(bytes) {
-        Some((text, _)) => seen.value(alloc, text),
+    bytes: &'a [u8],
+) -> Result<Option<(Key, &'a [u8])>, Memory>
+    ensures { IfOk result (λ found. IfSome found
+        (λ p. bytes.now ≡ codes ",\"key\":" ++ (quoted p.0 ++ p.1.now))) }
+{
+    let Some(rest) = behind(bytes, b",\"key\":") else {
+        return Ok(None);
+    };
+    let Some((name, rest)) = first_text(rest) else {
+        return Ok(None);
+    };
+    match seen.key(alloc, name)? {
+        Some(key) => Ok(Some((key, rest))),
         None => Ok(None),
     }
 }
 
-/// The write to that key, where the bytes behind the key's text are of one.
-fn guessed_write(
-    alloc: Global,
-    seen: &mut SeenTexts,
-    bytes: &[u8],
-) -> Result<Option<Action>, Memory> {
-    let Some(rest) = bytes.strip_prefix(b",\"row\":\"invoke\",\"value\":\"".as_slice()) else {
+/// The value in quotation marks that is all that the bytes have before a brace.
+fn last_value(alloc: Global, seen: &mut SeenTexts, bytes: &[u8]) -> Result<Option<Value>, Memory>
+    ensures { IfOk result (λ found. IfSome found
+        (λ value. bytes.now ≡ quoted value ++ codes "}")) }
+{
+    let Some((text, rest)) = first_text(bytes) else {
         return Ok(None);
     };
-    match guessed_value(alloc, seen, rest)? {
-        Some(value) => Ok(Some(Action::Write(value))),
-        None => Ok(None),
+    if !is_all(rest, b"}") {
+        return Ok(None);
     }
+    seen.value(alloc, text)
 }
 
-/// The number of the row's hall, 0 where the bytes don't begin with one, and what is behind it.
-fn guessed_hall(bytes: &[u8]) -> (u8, &[u8]) {
-    match bytes.strip_prefix(b",\"hall\":".as_slice()) {
-        Some(rest) => {
-            let (hall, rest) = number(rest);
-            ((hall % 256) as u8, rest)
-        }
-        None => (0, bytes),
-    }
-}
-
-/// The key's text, with which the bytes behind the hall begin.
-fn guessed_key(bytes: &[u8]) -> Option<(&str, &[u8])> {
-    text(bytes.strip_prefix(b",\"key\":\"".as_slice())?)
-}
-
-/// The invocation whose bytes behind `"client":` these are.
-fn guessed_invoke(
-    alloc: Global,
-    seen: &mut SeenTexts,
-    op: OpId,
-    bytes: &[u8],
-) -> Result<Option<HallRow>, Memory> {
-    let (name, rest) = number(bytes);
-    let Ok(client) = ClientId::new(name) else {
+/// The read, behind what says that it is one.
+fn asked_read(alloc: Global, seen: &mut SeenTexts, bytes: &[u8]) -> Result<Option<Asked>, Memory>
+    ensures { IfOk result (λ found. IfSome found
+        (λ asked. codes ",\"do\":\"read\"" ++ bytes.now
+        ≡ asked_text asked.place asked.key asked.action)) }
+{
+    let Some((place, rest)) = first_hall(bytes) else {
         return Ok(None);
     };
-    let read = rest.strip_prefix(b",\"do\":\"read\"".as_slice());
-    let write = rest.strip_prefix(b",\"do\":\"write\"".as_slice());
-    let Some(rest) = read.or(write) else {
-        return Ok(None);
-    };
-    let (hall, rest) = guessed_hall(rest);
-    let Some((name, rest)) = guessed_key(rest) else {
-        return Ok(None);
-    };
-    let action = match write {
-        Some(_) => guessed_write(alloc, seen, rest)?,
-        None => Some(Action::Read),
-    };
-    match (seen.key(alloc, name)?, action) {
-        (Some(key), Some(action)) => {
-            let row = Row::Invoke {
-                op,
-                client,
-                key,
-                action,
-            };
-            Ok(Some(HallRow { hall, row }))
-        }
+    match first_key(alloc, seen, rest)? {
+        Some((key, rest)) if is_all(rest, b",\"row\":\"invoke\"}") => Ok(Some(Asked {
+            place,
+            key,
+            action: Action::Read,
+        })),
         _ => Ok(None),
     }
 }
 
-/// The note whose bytes behind `"number":` these are.
-fn guessed_note(op: OpId, bytes: &[u8]) -> Option<Row> {
-    let (count, rest) = number(bytes);
-    let rest = rest.strip_prefix(b",\"row\":\"note\",\"writer\":".as_slice())?;
-    let tag = Tag::new(count, number(rest).0)?;
-    Some(Row::Note { op, tag })
-}
-
-/// The response whose bytes behind its kind these are.
-fn guessed_respond(
-    alloc: Global,
-    seen: &mut SeenTexts,
-    op: OpId,
-    bytes: &[u8],
-) -> Result<Option<Row>, Memory> {
-    let returned = if let Some(rest) = bytes.strip_prefix(b",\"value\":\"".as_slice()) {
-        match guessed_value(alloc, seen, rest)? {
-            Some(value) => Returned::Value(Some(value)),
-            None => return Ok(None),
-        }
-    } else if bytes.starts_with(b",\"value\":null") {
-        Returned::Value(None)
-    } else {
-        Returned::Written
+/// The write, behind what says that it is one.
+fn asked_write(alloc: Global, seen: &mut SeenTexts, bytes: &[u8]) -> Result<Option<Asked>, Memory>
+    ensures { IfOk result (λ found. IfSome found
+        (λ asked. codes ",\"do\":\"write\"" ++ bytes.now
+        ≡ asked_text asked.place asked.key asked.action)) }
+{
+    let Some((place, rest)) = first_hall(bytes) else {
+        return Ok(None);
     };
-    Ok(Some(Row::Respond { op, returned }))
-}
-
-/// The note or the response whose bytes behind the call these are.
-fn guessed_later(
-    alloc: Global,
-    seen: &mut SeenTexts,
-    op: OpId,
-    bytes: &[u8],
-) -> Result<Option<HallRow>, Memory> {
-    let (hall, rest) = guessed_hall(bytes);
-    let row = if let Some(rest) = rest.strip_prefix(b",\"number\":".as_slice()) {
-        guessed_note(op, rest)
-    } else if let Some(rest) = rest.strip_prefix(b",\"row\":\"respond\"".as_slice()) {
-        guessed_respond(alloc, seen, op, rest)?
-    } else {
-        None
+    let Some((key, rest)) = first_key(alloc, seen, rest)? else {
+        return Ok(None);
     };
-    match row {
-        Some(row) => Ok(Some(HallRow { hall, row })),
+    let Some(rest) = behind(rest, b",\"row\":\"invoke\",\"value\":") else {
+        return Ok(None);
+    };
+    match last_value(alloc, seen, rest)? {
+        Some(value) => Ok(Some(Asked {
+            place,
+            key,
+            action: Action::Write(value),
+        })),
         None => Ok(None),
     }
 }
 
-/// The row that the line may be, and its hall.
-fn guessed_row(
+/// What an invocation's line says behind its client.
+fn request(alloc: Global, seen: &mut SeenTexts, bytes: &[u8]) -> Result<Option<Asked>, Memory>
+    ensures { IfOk result (λ found. IfSome found
+        (λ asked. bytes.now ≡ asked_text asked.place asked.key asked.action)) }
+{
+    if let Some(rest) = behind(bytes, b",\"do\":\"write\"") {
+        return asked_write(alloc, seen, rest);
+    }
+    if let Some(rest) = behind(bytes, b",\"do\":\"read\"") {
+        return asked_read(alloc, seen, rest);
+    }
+    Ok(None)
+}
+
+/// The invocation whose line has these bytes behind `"client":`.
+fn invocation(
     alloc: Global,
     seen: &mut SeenTexts,
-    line: &[u8],
-) -> Result<Option<HallRow>, Memory> {
-    if !line.ends_with(b"}".as_slice()) {
-        return Ok(None);
-    }
-    let Some(rest) = line.strip_prefix(b"{\"call\":".as_slice()) else {
+    op: OpId,
+    bytes: &[u8],
+) -> Result<Option<PlacedRow>, Memory>
+    ensures { IfOk result (λ found. IfSome found
+        (λ placed. codes "{\"call\":" ++ (decimal op.0 ++ (codes ",\"client\":" ++ bytes.now))
+        ≡ row_bytes placed.place placed.row)) }
+{
+    let Some((name, rest)) = first_number(bytes) else {
         return Ok(None);
     };
-    let (call, rest) = number(rest);
-    match rest.strip_prefix(b",\"client\":".as_slice()) {
-        Some(rest) => guessed_invoke(alloc, seen, OpId(call), rest),
-        None => guessed_later(alloc, seen, OpId(call), rest),
+    let Ok(client) = ClientId::new(name) else {
+        return Ok(None);
+    };
+    let Some(Asked { place, key, action }) = request(alloc, seen, rest)? else {
+        return Ok(None);
+    };
+    let row = Row::Invoke {
+        op,
+        client,
+        key,
+        action,
+    };
+    Ok(Some(PlacedRow { place, row }))
+}
+
+/// The tag of a note whose line has these bytes behind `"number":`.
+fn note_tag(bytes: &[u8]) -> Option<Tag>
+    ensures { IfSome result (λ tag. bytes.now ≡ noted_text tag) }
+{
+    let (count, rest) = first_number(bytes)?;
+    let rest = behind(rest, b",\"row\":\"note\",\"writer\":")?;
+    let (writer, rest) = first_number(rest)?;
+    if !is_all(rest, b"}") {
+        return None;
+    }
+    let tag = Tag::new(count, writer)?;
+    Some(tag)
+}
+
+/// What a response answers whose line has these bytes behind its kind.
+fn answer(alloc: Global, seen: &mut SeenTexts, bytes: &[u8]) -> Result<Option<Returned>, Memory>
+    ensures { IfOk result (λ found. IfSome found
+        (λ returned. bytes.now ≡ returned_text returned)) }
+{
+    if is_all(bytes, b"}") {
+        return Ok(Some(Returned::Written));
+    }
+    if is_all(bytes, b",\"value\":null}") {
+        return Ok(Some(Returned::Value(None)));
+    }
+    let Some(rest) = behind(bytes, b",\"value\":") else {
+        return Ok(None);
+    };
+    match last_value(alloc, seen, rest)? {
+        Some(value) => Ok(Some(Returned::Value(Some(value)))),
+        None => Ok(None),
     }
 }
 
-/// Whether the text is the line with its end. It is spent.
-fn is_line(text: &mut Vec<u8>, line: &[u8]) -> bool
-    ensures { IsTrue result → text.old.items ≡ ended line.now }
+/// The note or the response whose line has these bytes behind its call.
+fn later(
+    alloc: Global,
+    seen: &mut SeenTexts,
+    op: OpId,
+    bytes: &[u8],
+) -> Result<Option<PlacedRow>, Memory>
+    ensures { IfOk result (λ found. IfSome found
+        (λ placed. codes "{\"call\":" ++ (decimal op.0 ++ bytes.now)
+        ≡ row_bytes placed.place placed.row)) }
 {
-    text.pop() == Some(b'\n') && text.as_slice() == line
+    let Some((place, rest)) = first_hall(bytes) else {
+        return Ok(None);
+    };
+    if let Some(rest) = behind(rest, b",\"number\":") {
+        return match note_tag(rest) {
+            Some(tag) => Ok(Some(PlacedRow {
+                place,
+                row: Row::Note { op, tag },
+            })),
+            None => Ok(None),
+        };
+    }
+    let Some(rest) = behind(rest, b",\"row\":\"respond\"") else {
+        return Ok(None);
+    };
+    match answer(alloc, seen, rest)? {
+        Some(returned) => Ok(Some(PlacedRow {
+            place,
+            row: Row::Respond { op, returned },
+        })),
+        None => Ok(None),
+    }
 }
 
-/// The row that the line, without its end, is written for, where `text` is lent room for a line,
-/// and `seen` texts to share. `None` says nothing; `Memory` comes only where a growth was refused.
+/// The row that the line is written for, and what the line has as its member `hall`.
+fn placed_row(alloc: Global, seen: &mut SeenTexts, line: &[u8]) -> Result<Option<PlacedRow>, Memory>
+    ensures { IfOk result (λ found. IfSome found
+        (λ placed. line.now ≡ row_bytes placed.place placed.row)) }
+{
+    let Some(rest) = behind(line, b"{\"call\":") else {
+        return Ok(None);
+    };
+    let Some((call, rest)) = first_number(rest) else {
+        return Ok(None);
+    };
+    match behind(rest, b",\"client\":") {
+        Some(rest) => invocation(alloc, seen, OpId(call), rest),
+        None => later(alloc, seen, OpId(call), rest),
+    }
+}
+
+// What the types of a row's parts keep, looked at for its ranges' sake.
+
+fn look_at_call(op: OpId)
+    ensures { IsOp op }
+{}
+
+fn look_at_value(value: &Value)
+    ensures { IsValue value.now }
+{
+    let _text = value.as_str();
+}
+
+fn look_at_action(action: &Action)
+    ensures { HasValueIn action.now }
+{
+    match action {
+        Action::Read => {}
+        Action::Write(value) => look_at_value(value),
+    }
+}
+
+fn look_at_answer(returned: &Returned)
+    ensures { HasAnswerIn returned.now }
+{
+    match returned {
+        Returned::Written => {}
+        Returned::Value(None) => {}
+        Returned::Value(Some(value)) => look_at_value(value),
+    }
+}
+
+fn look_at_invocation(op: OpId, client: ClientId, key: &Key, action: &Action)
+    ensures { IsInvocation op client key.now action.now }
+{
+    look_at_call(op);
+    let _name = client.get();
+    let _key = key.as_str();
+    look_at_action(action);
+}
+
+fn look_at_note(op: OpId, tag: Tag)
+    ensures { IsNote op tag }
+{
+    look_at_call(op);
+    let _number = tag.number();
+    let _writer = tag.writer();
+}
+
+fn look_at_response(op: OpId, returned: &Returned)
+    ensures { IsResponse op returned.now }
+{
+    look_at_call(op);
+    look_at_answer(returned);
+}
+
+fn look_at_row(row: &Row)
+    ensures { IsInRange row.now }
+{
+    match row {
+        Row::Invoke {
+            op,
+            client,
+            key,
+            action,
+        } => look_at_invocation(*op, *client, key, action),
+        Row::Note { op, tag } => look_at_note(*op, *tag),
+        Row::Respond { op, returned } => look_at_response(*op, returned),
+    }
+}
+
+/// The row that the line, without its end, is written for, where `seen` has texts to share. `None`
+/// says nothing; `Memory` comes only where a growth was refused.
 pub(crate) fn written_row(
     alloc: Global,
-    text: &mut Vec<u8>,
     seen: &mut SeenTexts,
     line: &[u8],
 ) -> Result<Option<Row>, Memory>
     ensures { IfOk result (λ found. IfSome found (λ row. Shows row_in line.now (Ok row))) }
 {
-    let Some(HallRow { hall: _, row }) = guessed_row(alloc, seen, line)? else {
+    let Some(PlacedRow { place, row }) = placed_row(alloc, seen, line)? else {
         return Ok(None);
     };
-    text.clear();
-    append_row(text, None, &row)?;
-    if is_line(text, line) {
-        Ok(Some(row))
-    } else {
-        Ok(None)
+    look_at_row(&row);
+    match place {
+        None => Ok(Some(row)),
+        Some(_) => Ok(None),
+    }
+}
+
+/// Whether the numbers are the same, or both are missing.
+fn is_same(one: Option<u8>, other: Option<u8>) -> bool
+    ensures { IsTrue result → one ≡ other }
+{
+    match (one, other) {
+        (None, None) => true,
+        (Some(one), Some(other)) => one == other,
+        _ => false,
     }
 }
 
@@ -219,26 +420,31 @@ pub(crate) fn written_row(
 pub(crate) fn written_hall_row(
     alloc: Global,
     header: FileHeader,
-    text: &mut Vec<u8>,
     seen: &mut SeenTexts,
     line: &[u8],
 ) -> Result<Option<HallRow>, Memory>
     ensures { IfOk result (λ found. IfSome found
         (λ item. Shows (hall_row_in header) line.now (Ok item))) }
 {
-    let Some(item) = guessed_row(alloc, seen, line)? else {
+    let Some(PlacedRow { place, row }) = placed_row(alloc, seen, line)? else {
         return Ok(None);
     };
-    if item.hall >= header.halls() {
+    let hall = place.unwrap_or(0);
+    if hall >= header.halls() {
         return Ok(None);
     }
-    text.clear();
-    append_row(text, header.place(item.hall), &item.row)?;
-    if is_line(text, line) {
-        Ok(Some(item))
-    } else {
-        Ok(None)
+    if !is_same(header.place(hall), place) {
+        return Ok(None);
     }
+    look_at_row(&row);
+    Ok(Some(HallRow { hall, row }))
+}
+
+/// Whether the text is the line with its end. It is spent.
+fn is_line(text: &mut Vec<u8>, line: &[u8]) -> bool
+    ensures { IsTrue result → text.old.items ≡ ended line.now }
+{
+    text.pop() == Some(b'\n') && text.as_slice() == line
 }
 
 /// The numbers of at most 1,000 calls that the bytes begin with, a comma between two.
@@ -249,9 +455,9 @@ fn guessed_calls(alloc: Global, bytes: &[u8]) -> Result<Vec<OpId>, Memory> {
         if rest.is_empty() || rest[0] == b']' {
             return Ok(calls);
         }
-        let (call, behind) = number(rest);
+        let (call, after) = guessed_number(rest);
         calls.push(OpId(call))?;
-        rest = behind.strip_prefix(b",".as_slice()).unwrap_or(behind);
+        rest = after.strip_prefix(b",".as_slice()).unwrap_or(after);
     }
     Ok(calls)
 }
@@ -262,7 +468,9 @@ fn guessed_piece(
     seen: &mut SeenTexts,
     line: &[u8],
 ) -> Result<Option<KeyOrder>, Memory> {
-    let named = line.strip_prefix(b"{\"key\":\"".as_slice()).and_then(text);
+    let named = line
+        .strip_prefix(b"{\"key\":".as_slice())
+        .and_then(first_text);
     let Some((name, rest)) = named else {
         return Ok(None);
     };

@@ -55,11 +55,11 @@ impl LineItem for Row {
     fn written_on(
         alloc: Global,
         _header: (),
-        text: &mut Vec<u8>,
+        _text: &mut Vec<u8>,
         seen: &mut SeenTexts,
         line: &[u8],
     ) -> Result<Option<Row>, Memory> {
-        written_row(alloc, text, seen, line)
+        written_row(alloc, seen, line)
     }
 
     fn item_in(alloc: Global, _header: (), document: &Document<'_>) -> Result<Row, Stop> {
@@ -75,11 +75,11 @@ impl LineItem for HallRow {
     fn written_on(
         alloc: Global,
         header: FileHeader,
-        text: &mut Vec<u8>,
+        _text: &mut Vec<u8>,
         seen: &mut SeenTexts,
         line: &[u8],
     ) -> Result<Option<HallRow>, Memory> {
-        written_hall_row(alloc, header, text, seen, line)
+        written_hall_row(alloc, header, seen, line)
     }
 
     fn item_in(

@@ -1,4 +1,6 @@
 //! Texts of keys and of values that earlier lines had.
+ghost use Rattle.std.specs.Prelude.{◌≡◌, IfOk, IfSome};
+
 use std::alloc::Global;
 use tag::{Key, Memory, NameError, Value};
 
@@ -39,7 +41,9 @@ fn place_of(text: &str, places: usize) -> usize {
 }
 
 /// The key that was kept at the place, where it has that text.
-fn key_at(keys: &[Option<Key>], place: usize, text: &str) -> Result<Option<Key>, Memory> {
+fn key_at(keys: &[Option<Key>], place: usize, text: &str) -> Result<Option<Key>, Memory>
+    ensures { IfOk result (λ found. IfSome found (λ key. key ≡ text.now)) }
+{
     match keys.get(place) {
         Some(Some(key)) if key.as_str() == text => Ok(Some(key.copy()?)),
         _ => Ok(None),
@@ -47,7 +51,9 @@ fn key_at(keys: &[Option<Key>], place: usize, text: &str) -> Result<Option<Key>,
 }
 
 /// The value that was kept at the place, where it has that text.
-fn value_at(values: &[Option<Value>], place: usize, text: &str) -> Result<Option<Value>, Memory> {
+fn value_at(values: &[Option<Value>], place: usize, text: &str) -> Result<Option<Value>, Memory>
+    ensures { IfOk result (λ found. IfSome found (λ value. value ≡ text.now)) }
+{
     match values.get(place) {
         Some(Some(value)) if value.as_str() == text => Ok(Some(value.copy()?)),
         _ => Ok(None),
@@ -69,7 +75,9 @@ impl SeenTexts {
     }
 
     /// The key of that text, if it is one's.
-    pub(crate) fn key(&mut self, alloc: Global, text: &str) -> Result<Option<Key>, Memory> {
+    pub(crate) fn key(&mut self, alloc: Global, text: &str) -> Result<Option<Key>, Memory>
+        ensures { IfOk result (λ found. IfSome found (λ key. key ≡ text.now)) }
+    {
         let place = place_of(text, self.keys.len());
         if let Some(key) = key_at(&self.keys, place, text)? {
             return Ok(Some(key));
@@ -86,7 +94,9 @@ impl SeenTexts {
     }
 
     /// The value of that text, if it is one's.
-    pub(crate) fn value(&mut self, alloc: Global, text: &str) -> Result<Option<Value>, Memory> {
+    pub(crate) fn value(&mut self, alloc: Global, text: &str) -> Result<Option<Value>, Memory>
+        ensures { IfOk result (λ found. IfSome found (λ value. value ≡ text.now)) }
+    {
         let place = place_of(text, self.values.len());
         if let Some(value) = value_at(&self.values, place, text)? {
             return Ok(Some(value));

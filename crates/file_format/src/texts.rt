@@ -47,7 +47,7 @@ fn is_plain_byte(byte: u8) -> bool
 }
 
 /// Whether the text stands in a JSON string without an escape.
-fn is_plain(text: &str) -> bool
+pub(crate) fn is_plain(text: &str) -> bool
     ensures { result ≡ list_all is_plain text.now }
 {
     text.as_bytes().iter().all(|byte| is_plain_byte(*byte))

@@ -1,10 +1,10 @@
-use Rattle.std.proofs.Common.{◌++◌, ap, sym, ◌∙◌, refl}
-use Rattle.file_format.specs.Texts.{row_text}
+use Rattle.std.proofs.Common.{ℕ, ◌≡◌, Option, ap, ◌∙◌}
+use Rattle.file_format.specs.RowTexts.{row_bytes}
 use Rattle.file_format.proofs.TakenLines.{row_taken}
 use Rattle.file_format.proofs.compact_lines.written_row.Goals as goal
 
-pub returns-then-is_line : goal.returns-then-is_line
-returns-then-is_line c =
-    let row = c.in-Some.field-0.row in
-    let written = c.in_ok-append_row.ensures.text ∙ ap (λ s. s ++ row_text row) c.clear.ensures.items in
-    row_taken c.args.line.now row (sym written ∙ c.if-is_line.ensures refl) c.in_ok-append_row.ensures.range
+pub returns-in-None : goal.returns-in-None
+returns-in-None c =
+    let found = c.in-Some.field-0 in
+    let text : c.args.line.now ≡ row_bytes found.place found.row = rw c.in-Some.is at c.in_ok-place.ensures in
+    row_taken c.args.line.now found.row (text ∙ ap (λ (place : Option ℕ). row_bytes place found.row) c.in-None.is) c.look_at_row.ensures

@@ -1,5 +1,5 @@
 use Rattle.std.proofs.Common.{length, ◌-◌, ◌≤◌}
-use Rattle.file_format.proofs.compact_lines.number.Given as goal
+use Rattle.file_format.proofs.compact_lines.guessed_number.Given as goal
 
 abbrev pub invariant-loop-count : goal.invariant-loop-count
 invariant-loop-count l = l.count ≤ length l.bytes

@@ -1,0 +1,32 @@
+-- The bytes of a row's line, piece by piece: numbers and texts, each behind what stands before it.
+use Rattle.std.specs.Prelude.{ℕ, List, ◌++◌, Option, Some, None, codes, decimal}
+use Rattle.json.specs.Print.{quoted}
+use Rattle.tag.specs.declared.actions.Action.{Action}
+use Rattle.tag.specs.declared.actions.Action.TheVariants.{Read, Write}
+use Rattle.tag.specs.declared.actions.Returned.{Returned}
+use Rattle.tag.specs.declared.actions.Returned.TheVariants.{Value, Written}
+use Rattle.tag.specs.Tags.{Tag}
+use Rattle.recorder.specs.declared.row.Row.{Row}
+use Rattle.recorder.specs.declared.row.Row.TheVariants.{Invoke, Note, Respond}
+use Rattle.file_format.specs.Texts.{hall_text}
+
+-- what an invocation has behind its client
+abbrev pub asked_text : Option ℕ → List ℕ → Action → List ℕ
+asked_text hall key Read = codes ",\"do\":\"read\"" ++ (hall_text hall ++ (codes ",\"key\":" ++ (quoted key ++ codes ",\"row\":\"invoke\"}")))
+asked_text hall key (Write value) = codes ",\"do\":\"write\"" ++ (hall_text hall ++ (codes ",\"key\":" ++ (quoted key ++ (codes ",\"row\":\"invoke\",\"value\":" ++ (quoted value ++ codes "}")))))
+
+-- a note's number, and all that is behind it
+abbrev pub noted_text : Tag → List ℕ
+noted_text tag = decimal tag.number ++ (codes ",\"row\":\"note\",\"writer\":" ++ (decimal tag.writer ++ codes "}"))
+
+-- what a response has behind its kind
+abbrev pub returned_text : Returned → List ℕ
+returned_text Written = codes "}"
+returned_text (Value None) = codes ",\"value\":null}"
+returned_text (Value (Some value)) = codes ",\"value\":" ++ (quoted value ++ codes "}")
+
+-- the line of a row with that hall as a member, without its end
+abbrev pub row_bytes : Option ℕ → Row → List ℕ
+row_bytes hall (Invoke op client key action) = codes "{\"call\":" ++ (decimal op.0 ++ (codes ",\"client\":" ++ (decimal client ++ asked_text hall key action)))
+row_bytes hall (Note op tag) = codes "{\"call\":" ++ (decimal op.0 ++ (hall_text hall ++ (codes ",\"number\":" ++ noted_text tag)))
+row_bytes hall (Respond op returned) = codes "{\"call\":" ++ (decimal op.0 ++ (hall_text hall ++ (codes ",\"row\":\"respond\"" ++ returned_text returned)))
