@@ -95,7 +95,8 @@ pub(crate) fn are_logged(
     halls: &[ClosedHall],
     seats: &[Seat],
 ) -> Result<bool, Memory>
-    ensures { IfOk result (λ logged. IsTrue logged → HaveLogs halls.now seats.now (length seats.now)) }
+    ensures { IfOk result (λ logged. IsTrue logged
+        → HaveLogs halls.now seats.now (length seats.now)) }
 {
     for seat in seats {
         if !is_logged(alloc, halls, seat)? {
@@ -107,7 +108,8 @@ pub(crate) fn are_logged(
 
 /// Whether the seat's entries of each hall are its client's calls in that hall's record.
 fn is_logged(alloc: Global, halls: &[ClosedHall], seat: &Seat) -> Result<bool, Memory>
-    ensures { IfOk result (λ logged. IsTrue logged → HasLogs halls.now (length halls.now) seat.now) }
+    ensures { IfOk result (λ logged. IsTrue logged
+        → HasLogs halls.now (length halls.now) seat.now) }
 {
     for hall in 0..halls.len() {
         let entries = of_this_hall(alloc, seat.log(), hall)?;

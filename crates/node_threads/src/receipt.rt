@@ -22,13 +22,27 @@ impl Model for Receipt {
 
     ghost Value = { Receipt };
 
-    ghost coded = { code_by (ℕ × (ℕ × (ℕ × ℕ))) (coded× coded_ℕ (coded× coded_ℕ (coded× coded_ℕ coded_ℕ))) (λ r. (r.store, (r.hall, (r.call.0, r.place)))) (λ p. record { store = p.0; hall = p.1.0; call = record { 0 = p.1.1.0 }; place = p.1.1.1 }) (λ _. refl) };
+    ghost coded = { code_by (ℕ × (ℕ × (ℕ × ℕ)))
+        (coded× coded_ℕ (coded× coded_ℕ (coded× coded_ℕ coded_ℕ)))
+        (λ r. (r.store, (r.hall, (r.call.0, r.place))))
+        (λ p. record {
+          store = p.0;
+          hall = p.1.0;
+          call = record { 0 = p.1.1.0 };
+          place = p.1.1.1;
+        })
+        (λ _. refl) };
 
     ghost view = { λ r. record { store = r.store; hall = r.hall; call = r.call; place = r.place } };
 
     ghost invariant = { λ r. r.place ≤ 9223372036854775807 };
 
-    ghost inverse = { λ r. record { store = r.store; hall = r.hall; call = r.call; place = r.place } };
+    ghost inverse = { λ r. record {
+      store = r.store;
+      hall = r.hall;
+      call = r.call;
+      place = r.place;
+    } };
 }
 
 impl Receipt {

@@ -8,7 +8,7 @@ use crate::errand::{Errand, Outcome};
 use crate::errors::CallError;
 use crate::gate::Gate;
 use crate::receipt::Receipt;
-use hall_turns::{ClientPass, Ended};
+use hall_turns::{Begun, ClientPass, Ended};
 use recorder::Response;
 use std::alloc::Global;
 use std::marker::Model;
@@ -176,41 +176,58 @@ impl Seat {
         match errand.drive(rt, &mut self.passes[at], key, action, seen, rounds) {
             Outcome::Refused(error) => Err(error),
             Outcome::Pending(begun, error) => {
-                self.log.push_reserved(Entry {
-                    hall,
-                    op: begun.op,
-                    key: kept_key,
-                    action: kept_action,
-                    invoked: begun.place,
-                    response: None,
-                });
+                self.log
+                    .push_reserved(entry(hall, begun, kept_key, kept_action, None));
                 self.seen[at] = begun.place + 1;
                 self.is_spent = true;
                 Err(error)
             }
             Outcome::Done(begun, ended) => {
-                let Ended {
-                    place,
-                    returned,
-                    copy,
-                    ..
-                } = ended;
-                self.log.push_reserved(Entry {
-                    hall,
-                    op: begun.op,
-                    key: kept_key,
-                    action: kept_action,
-                    invoked: begun.place,
-                    response: Some(Response { place, returned }),
-                });
+                let place = ended.place;
+                let (response, value) = told(ended);
+                self.log
+                    .push_reserved(entry(hall, begun, kept_key, kept_action, Some(response)));
                 self.seen[at] = place + 1;
-                Ok(Answer {
-                    value: value_of(copy),
-                    receipt: Receipt::new(self.store, hall, begun.op, place),
-                })
+                let receipt = Receipt::new(self.store, hall, begun.op, place);
+                Ok(Answer { value, receipt })
             }
         }
     }
+}
+
+/// The entry of a call that began in that hall.
+fn entry(hall: u8, begun: Begun, key: Key, action: Action, response: Option<Response>) -> Entry
+    ensures { result ≡ record {
+      hall = hall;
+      op = begun.op;
+      key = key;
+      action = action;
+      invoked = begun.place;
+      response = response;
+    } }
+{
+    Entry {
+        hall,
+        op: begun.op,
+        key,
+        action,
+        invoked: begun.place,
+        response,
+    }
+}
+
+/// What an answered call leaves: its log the response, its caller the value.
+fn told(ended: Ended) -> (Response, Option<Value>)
+    ensures response { result.0 ≡ record { place = ended.place; returned = ended.returned } }
+    ensures value { result.1 ≡ value_of ended.copy }
+{
+    let Ended {
+        place,
+        returned,
+        copy,
+        ..
+    } = ended;
+    (Response { place, returned }, value_of(copy))
 }
 
 /// What a read answered; a write none.

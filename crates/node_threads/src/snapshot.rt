@@ -9,6 +9,7 @@ use hall_turns::FreePass;
 use recorder::History;
 use std::alloc::Global;
 use std::sync::{Mutex, Wait};
+use world_steps::laws;
 
 /// A copy of the hall's record, where it has what the seat has seen of it, and its client's calls.
 pub(crate) fn shown<R: Wait>(
@@ -20,6 +21,7 @@ pub(crate) fn shown<R: Wait>(
 ) -> Result<History, CallError>
     ensures { IfOk result (λ history. Shows history seat.now hall) }
 {
+    laws::steps_keep_a_system_sound();
     let at = usize::from(hall);
     let history = root.lock(rt).history(rt)?;
     let entries = of_this_hall(alloc, seat.log(), at)?;

@@ -259,7 +259,8 @@ impl<G: Gate> Store<G> {
     pub fn look<R: Wait, T, F: FnOnce(&World) -> T>(&self, rt: &R, hall: u8, look: F) -> Option<T>
         requires { F.IsAlwaysCallable look }
         ensures lacks { IsNone result ↔ (self.now.halls ≤ hall) }
-        ensures told { IfSome result (λ told. IsTold [] (λ s. FnOnceReturnsAt F.FnOnce look s told)) }
+        ensures told { IfSome result (λ told.
+            IsTold [] (λ s. FnOnceReturnsAt F.FnOnce look s told)) }
     {
         match self.roots.get(usize::from(hall)) {
             Some(root) => Some(root.lock(rt).look(rt, look)),

@@ -1,9 +1,16 @@
-use Rattle.std.proofs.Common.{◌≡◌, ◌<◌, ℕ, length, refl, sym, ap, ◌∙◌, subst, slice_get, Some}
+use Rattle.std.proofs.Common.{◌≡◌, ◌<◌, ◌++◌, ◌∷◌, [], ℕ, List, length, refl, sym, ap, ◌∙◌, subst, slice_get, Some}
 use Rattle.std.proofs.lemmas.Option.{slice_get_read}
+use Rattle.tag.specs.declared.actions.Action.{Action}
+use Rattle.tag.specs.declared.numbers.OpId.{OpId}
+use Rattle.recorder.specs.declared.part.Response.{Response}
+use Rattle.node_threads.specs.declared.entry.Entry.{Entry}
 use Rattle.node_threads.specs.Seats.{Seat, value_of}
 use Rattle.node_threads.proofs.Lists.{behind}
 use Rattle.node_threads.proofs.Seating.{answered_is, answers, kept_seat, leaves_pending, pending_is, same_log}
 use Rattle.node_threads.proofs.seat.Seat.call.Goals as goal
+
+abbrev answered_entry : ℕ → OpId → List ℕ → Action → ℕ → Response → Entry
+answered_entry hall op key action invoked response = record { hall = hall; op = op; key = key; action = action; invoked = invoked; response = Some response }
 
 pub invariant_of-self-in-Refused-1 : goal.invariant_of-self-in-Refused-1
 invariant_of-self-in-Refused-1 g c =
@@ -18,9 +25,10 @@ invariant_of-self-in-Pending g c =
     let there : slice_get c.self.inside.passes.items c.from-at.result ≡ Some c.index_mut.result.now = slice_get_read c.self.inside.passes.items _ c.from-at.result c.index_mut.result.now refl lt c.index_mut.ensures.value in
     let saw : slice_get c.self.inside.seen.items c.from-at.result ≡ Some c.index-seen.result.now = slice_get_read c.self.inside.seen.items _ c.from-at.result c.index-seen.result.now refl (subst (λ n. c.from-at.result < n) (sym c.self.invariant.halls) lt) c.index-seen.ensures in
     let began = c.in-Pending.ensures.drives.1 in
+    let logged = behind c.self.inside.log.items c.reserve.new.self.items c.push_reserved.new.self.items _ c.reserve.ensures.items c.push_reserved.ensures.items ∙ ap (λ (e : Entry). c.self.inside.log.items ++ e ∷ []) c.entry.ensures in
     pending_is (record { store = c.self.inside.store; client = c.self.inside.client; is_spent = c.self.inside.is_spent; log = c.self.inside.log.items; passes = c.self.inside.passes.items; seen = c.self.inside.seen.items }) c.from-at.result c.args.errand.now.hall c.index_mut.result.now c.drive.new.pass c.args.key c.in_ok-kept_key.kept_key c.args.action c.in_ok-kept_action.kept_action c.in-Pending.begun.op c.in-Pending.begun.place c.index-seen.result.now
     c.self.invariant there saw c.from-at.ensures c.in_ok-kept_key.ensures c.in_ok-kept_action.ensures c.in-Pending.ensures.drives.0
-    c.push_reserved.new.self.items (behind c.self.inside.log.items c.reserve.new.self.items c.push_reserved.new.self.items _ c.reserve.ensures.items c.push_reserved.ensures.items) began.0 began.1 began.2
+    c.push_reserved.new.self.items logged began.0 began.1 began.2
 
 pub returns-in-Pending-clause-failed : goal.returns-in-Pending-clause-failed
 returns-in-Pending-clause-failed g c =
@@ -28,10 +36,11 @@ returns-in-Pending-clause-failed g c =
     let there : slice_get c.self.inside.passes.items c.from-at.result ≡ Some c.index_mut.result.now = slice_get_read c.self.inside.passes.items _ c.from-at.result c.index_mut.result.now refl lt c.index_mut.ensures.value in
     let saw : slice_get c.self.inside.seen.items c.from-at.result ≡ Some c.index-seen.result.now = slice_get_read c.self.inside.seen.items _ c.from-at.result c.index-seen.result.now refl (subst (λ n. c.from-at.result < n) (sym c.self.invariant.halls) lt) c.index-seen.ensures in
     let began = c.in-Pending.ensures.drives.1 in
+    let logged = behind c.self.inside.log.items c.reserve.new.self.items c.push_reserved.new.self.items _ c.reserve.ensures.items c.push_reserved.ensures.items ∙ ap (λ (e : Entry). c.self.inside.log.items ++ e ∷ []) c.entry.ensures in
     rw (← c.self.view_is)
     (leaves_pending (record { store = c.self.inside.store; client = c.self.inside.client; is_spent = c.self.inside.is_spent; log = c.self.inside.log.items; passes = c.self.inside.passes.items; seen = c.self.inside.seen.items }) c.from-at.result c.args.errand.now.hall c.index_mut.result.now c.drive.new.pass c.args.key c.in_ok-kept_key.kept_key c.args.action c.in_ok-kept_action.kept_action c.in-Pending.begun.op c.in-Pending.begun.place c.index-seen.result.now
     c.self.invariant there saw c.from-at.ensures c.in_ok-kept_key.ensures c.in_ok-kept_action.ensures c.in-Pending.ensures.drives.0
-    c.push_reserved.new.self.items (behind c.self.inside.log.items c.reserve.new.self.items c.push_reserved.new.self.items _ c.reserve.ensures.items c.push_reserved.ensures.items) began.0 began.1 began.2)
+    c.push_reserved.new.self.items logged began.0 began.1 began.2)
 
 pub invariant_of-self-in-Done : goal.invariant_of-self-in-Done
 invariant_of-self-in-Done g c =
@@ -39,9 +48,11 @@ invariant_of-self-in-Done g c =
     let there : slice_get c.self.inside.passes.items c.from-at.result ≡ Some c.index_mut.result.now = slice_get_read c.self.inside.passes.items _ c.from-at.result c.index_mut.result.now refl lt c.index_mut.ensures.value in
     let saw : slice_get c.self.inside.seen.items c.from-at.result ≡ Some c.index-seen.result.now = slice_get_read c.self.inside.seen.items _ c.from-at.result c.index-seen.result.now refl (subst (λ n. c.from-at.result < n) (sym c.self.invariant.halls) lt) c.index-seen.ensures in
     let began = c.in-Done.ensures.drives.1 in
+    let logged = behind c.self.inside.log.items c.reserve.new.self.items c.push_reserved-in-Done.new.self.items _ c.reserve.ensures.items c.push_reserved-in-Done.ensures.items
+    ∙ ap (λ (e : Entry). c.self.inside.log.items ++ e ∷ []) (c.entry-in-Done.ensures ∙ ap (answered_entry c.args.errand.now.hall c.in-Done.begun.op c.in_ok-kept_key.kept_key c.in_ok-kept_action.kept_action c.in-Done.begun.place) c.told-response.ensures.response) in
     answered_is (record { store = c.self.inside.store; client = c.self.inside.client; is_spent = c.self.inside.is_spent; log = c.self.inside.log.items; passes = c.self.inside.passes.items; seen = c.self.inside.seen.items }) c.from-at.result c.args.errand.now.hall c.index_mut.result.now c.drive.new.pass c.args.key c.in_ok-kept_key.kept_key c.args.action c.in_ok-kept_action.kept_action c.in-Done.begun.op c.in-Done.begun.place c.index-seen.result.now
     c.self.invariant there saw c.from-at.ensures c.in_ok-kept_key.ensures c.in_ok-kept_action.ensures c.in-Done.ensures.drives.0
-    c.in-Done.ended.op c.in-Done.ended.returned c.in-Done.ended.place c.push_reserved-in-Done.new.self.items (behind c.self.inside.log.items c.reserve.new.self.items c.push_reserved-in-Done.new.self.items _ c.reserve.ensures.items c.push_reserved-in-Done.ensures.items)
+    c.in-Done.ended.op c.in-Done.ended.returned c.in-Done.ended.place c.push_reserved-in-Done.new.self.items logged
     (ap (λ (s : Seat). s.is_spent) c.self.view_is ∙ c.requires.unspent) began.0 began.1 began.2
 
 pub returns-in-Done-clause-answered : goal.returns-in-Done-clause-answered
@@ -50,9 +61,11 @@ returns-in-Done-clause-answered g c =
     let there : slice_get c.self.inside.passes.items c.from-at.result ≡ Some c.index_mut.result.now = slice_get_read c.self.inside.passes.items _ c.from-at.result c.index_mut.result.now refl lt c.index_mut.ensures.value in
     let saw : slice_get c.self.inside.seen.items c.from-at.result ≡ Some c.index-seen.result.now = slice_get_read c.self.inside.seen.items _ c.from-at.result c.index-seen.result.now refl (subst (λ n. c.from-at.result < n) (sym c.self.invariant.halls) lt) c.index-seen.ensures in
     let began = c.in-Done.ensures.drives.1 in
+    let logged = behind c.self.inside.log.items c.reserve.new.self.items c.push_reserved-in-Done.new.self.items _ c.reserve.ensures.items c.push_reserved-in-Done.ensures.items
+    ∙ ap (λ (e : Entry). c.self.inside.log.items ++ e ∷ []) (c.entry-in-Done.ensures ∙ ap (answered_entry c.args.errand.now.hall c.in-Done.begun.op c.in_ok-kept_key.kept_key c.in_ok-kept_action.kept_action c.in-Done.begun.place) c.told-response.ensures.response) in
     rw (← c.self.view_is)
     (answers (record { store = c.self.inside.store; client = c.self.inside.client; is_spent = c.self.inside.is_spent; log = c.self.inside.log.items; passes = c.self.inside.passes.items; seen = c.self.inside.seen.items }) c.from-at.result c.args.errand.now.hall c.index_mut.result.now c.drive.new.pass c.args.key c.in_ok-kept_key.kept_key c.args.action c.in_ok-kept_action.kept_action c.in-Done.begun.op c.in-Done.begun.place c.index-seen.result.now
     c.self.invariant there saw c.from-at.ensures c.in_ok-kept_key.ensures c.in_ok-kept_action.ensures c.in-Done.ensures.drives.0
-    c.in-Done.ended.op c.in-Done.ended.returned c.in-Done.ended.place c.push_reserved-in-Done.new.self.items (behind c.self.inside.log.items c.reserve.new.self.items c.push_reserved-in-Done.new.self.items _ c.reserve.ensures.items c.push_reserved-in-Done.ensures.items)
+    c.in-Done.ended.op c.in-Done.ended.returned c.in-Done.ended.place c.push_reserved-in-Done.new.self.items logged
     (ap (λ (s : Seat). s.is_spent) c.self.view_is ∙ c.requires.unspent) began.0 began.1 began.2
-    (record { value = c.value_of.result; receipt = c.new.result }) (c.value_of.ensures ∙ ap value_of c.in-Done.ensures.placed.2) c.new.ensures)
+    (record { value = c.told-response.result.1; receipt = c.new-receipt.result }) (c.told-response.ensures.value ∙ ap value_of c.in-Done.ensures.placed.2) c.new-receipt.ensures)
