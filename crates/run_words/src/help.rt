@@ -10,7 +10,8 @@ pub(crate) const RUN: &str =
 writes k0 and reads it in turn; the others read it, and write and read the other keys.\n\
 Writes on standard output the history of the one hall, or of hall N with --show N, for `abd justify` and \
 `abd check`; without --show, of several halls or with --votes, the histories of all halls, by hall. Says on \
-standard error which caller's call was refused and why, and the first key whose order is refused, if one is.\n\
+standard error which caller's call was refused and why, and the first key whose order is refused, if one is. \
+Where standard error is a terminal, it also says there how many calls were answered so far, at most once a second.\n\
 Exit status: 0 all keys are yes, 1 a key is refused, 2 usage, 4 memory, a device or a thread.\n\n\
 Example: abd run --drop 5 --double 7 > run.history";
 
