@@ -1,4 +1,4 @@
--- Bytes that a reader gives, one piece after another.
+-- Bytes that a reader gives, one block after another.
 use Rattle.std.proofs.Common.{ℕ, List, [], ◌++◌, Option, Some, None, refl, sym, ap, ◌∙◌, append_assoc}
 use Rattle.std.specs.Io.KnownBytes.{Consumes, Keeps}
 

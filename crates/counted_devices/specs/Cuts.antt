@@ -23,14 +23,14 @@ pub record Splits (bytes : List ℕ) (lines : List (List ℕ)) (rest : List ℕ)
   pub each : All HasNoEnd lines
   pub partial : HasNoEnd rest
 
--- the bytes are these parts, each of one line or more and with an end behind it, and then a rest without an end
-pub record Divides (bytes : List ℕ) (parts : List (List ℕ)) (rest : List ℕ) : Type 0 where
-  pub whole : bytes ≡ flat_map ended parts ++ rest
+-- the bytes are these chunks, each of one line or more and with an end behind it, and then a rest without an end
+pub record Divides (bytes : List ℕ) (chunks : List (List ℕ)) (rest : List ℕ) : Type 0 where
+  pub whole : bytes ≡ flat_map ended chunks ++ rest
   pub partial : HasNoEnd rest
 
--- the parts, each with an end behind it, are these lines
+-- the chunks, each with an end behind it, are these lines
 abbrev pub AreLinesIn : List (List ℕ) → List (List ℕ) → Type 0
-AreLinesIn parts lines = Splits (flat_map ended parts) lines []
+AreLinesIn chunks lines = Splits (flat_map ended chunks) lines []
 
 -- the lines at the end: each that has its end, and a rest that isn't empty
 abbrev pub last_lines : List (List ℕ) → List ℕ → List (List ℕ)

@@ -8,9 +8,9 @@ use Rattle.std.proofs.lemmas.List.Elements.{All-append, All-nil, All-cons, All-h
 use Rattle.std.proofs.lemmas.Bool.{eqb-false}
 use Rattle.counted_devices.specs.Cuts.{ended, HasNoEnd, Splits, AreLinesIn, last_lines}
 
-pub Splits-join : (bytes piece : List ℕ) (lines more : List (List ℕ)) (rest last : List ℕ) → Splits bytes lines rest → Splits (rest ++ piece) more last → Splits (bytes ++ piece) (lines ++ more) last
-Splits-join bytes piece lines more rest last a b = record {
-  whole = ap (λ (xs : List ℕ). xs ++ piece) a.whole ∙ append_assoc (flat_map ended lines) rest piece ∙ ap (λ (xs : List ℕ). flat_map ended lines ++ xs) b.whole ∙ sym (append_assoc (flat_map ended lines) (flat_map ended more) last) ∙ ap (λ (xs : List ℕ). xs ++ last) (sym (flat_map-append ended lines more));
+pub Splits-join : (bytes block : List ℕ) (lines more : List (List ℕ)) (rest last : List ℕ) → Splits bytes lines rest → Splits (rest ++ block) more last → Splits (bytes ++ block) (lines ++ more) last
+Splits-join bytes block lines more rest last a b = record {
+  whole = ap (λ (xs : List ℕ). xs ++ block) a.whole ∙ append_assoc (flat_map ended lines) rest block ∙ ap (λ (xs : List ℕ). flat_map ended lines ++ xs) b.whole ∙ sym (append_assoc (flat_map ended lines) (flat_map ended more) last) ∙ ap (λ (xs : List ℕ). xs ++ last) (sym (flat_map-append ended lines more));
   each = All-append HasNoEnd lines more a.each b.each;
   partial = b.partial;
 }
@@ -43,11 +43,11 @@ Splits-line rest front tail lines last r f s = record {
 
 -- what stands behind that place
 abbrev pub behind : List ℕ → ℕ → List ℕ
-behind piece i = take (length piece - (i + 1)) (drop (i + 1) piece)
+behind block i = take (length block - (i + 1)) (drop (i + 1) block)
 
--- the piece, cut at its first end
-pub cut_at : (piece : List ℕ) (i : ℕ) → i < length piece → slice_index piece i ≡ 10 → piece ≡ take i piece ++ 10 ∷ behind piece i
-cut_at piece i inside ten = sym (take-append-drop i piece) ∙ ap (λ (xs : List ℕ). take i piece ++ xs) (drop_more piece i 0 inside ∙ ap (λ (b : ℕ). b ∷ drop (i + 1) piece) ten ∙ ap (λ (xs : List ℕ). 10 ∷ xs) (sym (take_rest piece (i + 1))))
+-- the block, cut at its first end
+pub cut_at : (block : List ℕ) (i : ℕ) → i < length block → slice_index block i ≡ 10 → block ≡ take i block ++ 10 ∷ behind block i
+cut_at block i inside ten = sym (take-append-drop i block) ∙ ap (λ (xs : List ℕ). take i block ++ xs) (drop_more block i 0 inside ∙ ap (λ (b : ℕ). b ∷ drop (i + 1) block) ten ∙ ap (λ (xs : List ℕ). 10 ∷ xs) (sym (take_rest block (i + 1))))
 
 -- the bytes' lines and their rest
 pub record Cut (bytes : List ℕ) : Type 0 where
@@ -110,33 +110,33 @@ ended_rest rest none = record {
   partial = All-nil (λ (b : ℕ). b ≢ 10);
 }
 
--- a part whose end comes behind it
-pub ended_part : (part : List ℕ) (lines : List (List ℕ)) (rest : List ℕ) → Splits part lines rest → AreLinesIn (part ∷ []) (lines ++ rest ∷ [])
-ended_part part lines rest s =
+-- a chunk whose end comes behind it
+pub ended_chunk : (chunk : List ℕ) (lines : List (List ℕ)) (rest : List ℕ) → Splits chunk lines rest → AreLinesIn (chunk ∷ []) (lines ++ rest ∷ [])
+ended_chunk chunk lines rest s =
     let P : List ℕ → Type 0 = λ xs. Splits xs (lines ++ rest ∷ []) [] in
-    subst P (sym (append-nil (ended part))) (Splits-join part (10 ∷ []) lines (rest ∷ []) rest [] s (ended_rest rest s.partial))
+    subst P (sym (append-nil (ended chunk))) (Splits-join chunk (10 ∷ []) lines (rest ∷ []) rest [] s (ended_rest rest s.partial))
 
--- a line is a part of one line
+-- a line is a chunk of one line
 pub one_line : (line : List ℕ) → HasNoEnd line → AreLinesIn (line ∷ []) (line ∷ [])
-one_line line none = ended_part line [] line (Splits-none line none)
+one_line line none = ended_chunk line [] line (Splits-none line none)
 
-pub no_parts : AreLinesIn [] []
-no_parts = Splits-none [] (All-nil (λ (b : ℕ). b ≢ 10))
+pub no_chunks : AreLinesIn [] []
+no_chunks = Splits-none [] (All-nil (λ (b : ℕ). b ≢ 10))
 
-pub more_lines : (part : List ℕ) (parts lines more : List (List ℕ)) → AreLinesIn (part ∷ []) lines → AreLinesIn parts more → AreLinesIn (part ∷ parts) (lines ++ more)
-more_lines part parts lines more a b =
+pub more_lines : (chunk : List ℕ) (chunks lines more : List (List ℕ)) → AreLinesIn (chunk ∷ []) lines → AreLinesIn chunks more → AreLinesIn (chunk ∷ chunks) (lines ++ more)
+more_lines chunk chunks lines more a b =
     let P : List ℕ → Type 0 = λ xs. Splits xs lines [] in
-    Splits-join (ended part) (flat_map ended parts) lines more [] [] (subst P (append-nil (ended part)) a) b
+    Splits-join (ended chunk) (flat_map ended chunks) lines more [] [] (subst P (append-nil (ended chunk)) a) b
 
--- the lines of parts
-pub record PartLines (parts : List (List ℕ)) : Type 0 where
+-- the lines of chunks
+pub record ChunkLines (chunks : List (List ℕ)) : Type 0 where
   pub lines : List (List ℕ)
-  pub cut : AreLinesIn parts lines
+  pub cut : AreLinesIn chunks lines
 
-pub lines_of : (parts : List (List ℕ)) → PartLines parts
-lines_of [] = record { lines = []; cut = no_parts }
-lines_of (part ∷ parts) =
-    let one = cut_of part in
-    let more = lines_of parts in
+pub lines_of : (chunks : List (List ℕ)) → ChunkLines chunks
+lines_of [] = record { lines = []; cut = no_chunks }
+lines_of (chunk ∷ chunks) =
+    let one = cut_of chunk in
+    let more = lines_of chunks in
     let lines = one.lines ++ one.rest ∷ [] in
-    record { lines = lines ++ more.lines; cut = more_lines part parts lines more.lines (ended_part part one.lines one.rest one.splits) more.cut }
+    record { lines = lines ++ more.lines; cut = more_lines chunk chunks lines more.lines (ended_chunk chunk one.lines one.rest one.splits) more.cut }

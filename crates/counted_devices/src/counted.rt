@@ -26,12 +26,12 @@ pub trait Counted {
 
 /// A reader that counts. It gives at most 2^62 bytes, and then only errors.
 pub trait CountedRead: Read + Counted {
-    /// Reads at most as many bytes as the piece has room for. Each error is counted, also that of
+    /// Reads at most as many bytes as the block has room for. Each error is counted, also that of
     /// a reader that gave all the bytes that it may.
-    fn read_counted(&mut self, piece: &mut [u8]) -> Result<usize>
-        ensures bound { ReadsAtMost result piece.new }
+    fn read_counted(&mut self, block: &mut [u8]) -> Result<usize>
+        ensures bound { ReadsAtMost result block.new }
         ensures bytes { ReadConsumes (Self.remaining self.old)
-            (Self.remaining self.new) result piece.new }
+            (Self.remaining self.new) result block.new }
         ensures given { CountsBytes Self.given self.old self.new result }
         ensures counted { CountsErrors Self.failures self.old self.new result };
 }

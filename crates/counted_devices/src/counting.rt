@@ -71,19 +71,19 @@ impl<T> Counted for Counting<T> {
 impl<R: Read> Read for Counting<R> {
     ghost remaining = { λ reader. R.remaining reader.inner };
 
-    fn read(&mut self, piece: &mut [u8]) -> Result<usize> {
-        self.read_counted(piece)
+    fn read(&mut self, block: &mut [u8]) -> Result<usize> {
+        self.read_counted(block)
     }
 }
 
 impl<R: Read> CountedRead for Counting<R> {
-    fn read_counted(&mut self, piece: &mut [u8]) -> Result<usize> {
+    fn read_counted(&mut self, block: &mut [u8]) -> Result<usize> {
         if self.given >= MOST {
             self.fail();
             return Err(Error::from(ErrorKind::FileTooLarge));
         }
-        let room = (MOST - self.given).min(piece.len() as u64) as usize;
-        match self.inner.read(&mut piece[..room]) {
+        let room = (MOST - self.given).min(block.len() as u64) as usize;
+        match self.inner.read(&mut block[..room]) {
             Ok(count) => {
                 self.given += count as u64;
                 Ok(count)

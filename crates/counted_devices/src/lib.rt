@@ -13,7 +13,7 @@ mod write_fault;
 
 pub use counted::{Counted, CountedRead, CountedWrite};
 pub use counting::Counting;
-pub use lines::{Cut, cut_parts, first_end};
+pub use lines::{Cut, cut_chunks, first_end};
 pub use read_fault::{FaultKind, FaultNumbers, ReadFault, Stop};
 pub use sending::{relieve, write_text};
 pub use write_fault::WriteFault;

@@ -9,13 +9,13 @@ use tag::Memory;
 /// The byte that ends a line.
 const END: u8 = 10;
 
-/// How many bytes of lines are worth a part of their own.
+/// How many bytes of lines are worth a chunk of their own.
 const PART: usize = 262_144;
 
-/// Bytes as parts of whole lines, each of which had its end, and a rest without one.
+/// Bytes as chunks of whole lines, each of which had its end, and a rest without one.
 #[derive(Debug, Drop)]
 pub struct Cut<'a> {
-    pub parts: Vec<&'a [u8]>,
+    pub chunks: Vec<&'a [u8]>,
     pub rest: &'a [u8],
 }
 
@@ -45,8 +45,8 @@ fn last_end(bytes: &[u8]) -> Option<usize>
     memrchr(END, bytes)
 }
 
-/// The place of the first end of a line behind a part's bytes, or else of the last end.
-fn part_end(bytes: &[u8]) -> Option<usize>
+/// The place of the first end of a line behind a chunk's bytes, or else of the last end.
+fn chunk_end(bytes: &[u8]) -> Option<usize>
     ensures { MatchOption result (HasNoEnd bytes.now)
         (λ i. (i < length bytes.now) × (slice_index bytes.now i ≡ 10)) }
 {
@@ -58,16 +58,16 @@ fn part_end(bytes: &[u8]) -> Option<usize>
     last_end(bytes)
 }
 
-/// Cuts the bytes into parts of whole lines.
-pub fn cut_parts(alloc: Global, bytes: &[u8]) -> Result<Cut<'_>, Memory>
+/// Cuts the bytes into chunks of whole lines.
+pub fn cut_chunks(alloc: Global, bytes: &[u8]) -> Result<Cut<'_>, Memory>
     ensures { IfOk result (λ found. Divides bytes.now
-        (map (λ part. part.now) found.parts.items) found.rest.now) }
+        (map (λ chunk. chunk.now) found.chunks.items) found.rest.now) }
 {
-    let mut parts = Vec::new(alloc);
+    let mut chunks = Vec::new(alloc);
     let mut rest = bytes;
-    while let Some(end) = part_end(rest) {
-        parts.push(&rest[..end])?;
+    while let Some(end) = chunk_end(rest) {
+        chunks.push(&rest[..end])?;
         rest = &rest[end + 1..];
     }
-    Ok(Cut { parts, rest })
+    Ok(Cut { chunks, rest })
 }

@@ -26,6 +26,6 @@ pub mod PlainTexts
 pub mod Ranges
 pub mod ReadAgain
 pub mod Zips
-pub mod Parting
+pub mod Chunks
 pub mod Joining
 pub mod RowTexts

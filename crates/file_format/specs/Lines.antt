@@ -36,7 +36,7 @@ ShowsItem meaning line (judgement.Item item) = Shows meaning line (Ok item)
 ShowsItem meaning line (judgement.Fault fault) = Shows meaning line (Err fault)
 
 -- what the lines of the parts show, in their order
-pub record ShowParts {Item : Type 0} (meaning : Data → Result Item LineFault) (parts : List (List ℕ)) (judgements : List (Judgement Item)) : Type 0 where
+pub record ShowChunks {Item : Type 0} (meaning : Data → Result Item LineFault) (chunks : List (List ℕ)) (judgements : List (Judgement Item)) : Type 0 where
   pub lines : List (List ℕ)
-  pub cut : AreLinesIn parts lines
+  pub cut : AreLinesIn chunks lines
   pub shown : AllZip (ShowsItem meaning) lines judgements

@@ -2,7 +2,7 @@
 ghost use Rattle.std.specs.Prelude.{◌≡◌, ◌∷◌, [], IfOk};
 ghost use Rattle.file_format.specs.FileHeaders.{file_header_in};
 ghost use Rattle.file_format.specs.Headers.{header_in};
-ghost use Rattle.file_format.specs.Lines.{ShowsBy, ShowsItem, ShowParts};
+ghost use Rattle.file_format.specs.Lines.{ShowsBy, ShowsItem, ShowChunks};
 
 use crate::LineFault;
 use crate::document::Document;
@@ -69,19 +69,19 @@ fn judge<T: LineItem>(
     }
 }
 
-/// What the lines of a part, the last of them without its end, show behind that header.
-pub fn judge_part<T: LineItem>(
+/// What the lines of a chunk, the last of them without its end, show behind that header.
+pub fn judge_chunk<T: LineItem>(
     alloc: Global,
     header: T::Header,
     scratch: &mut Scratch,
-    part: &[u8],
+    chunk: &[u8],
 ) -> Result<Vec<Judgement<T>>, Memory>
-    ensures { IfOk result (λ run. ShowParts (T.meaning header) (part.now ∷ []) run.items) }
+    ensures { IfOk result (λ run. ShowChunks (T.meaning header) (chunk.now ∷ []) run.items) }
 {
-    let mut run = Vec::with_capacity(alloc, part.len() / USUAL)?;
+    let mut run = Vec::with_capacity(alloc, chunk.len() / USUAL)?;
     let mut text = Vec::new(alloc);
     let mut seen = SeenTexts::new(alloc)?;
-    let mut rest = part;
+    let mut rest = chunk;
     while let Some(end) = first_end(rest) {
         run.push(judge::<T>(alloc, header, scratch, &mut text, &mut seen, &rest[..end])?)?;
         rest = &rest[end + 1..];

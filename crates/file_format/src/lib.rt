@@ -33,7 +33,7 @@ pub use file_header::FileHeader;
 pub use following::{MOST_CALLS, follow};
 pub use hall_histories::HallHistories;
 pub use hall_row::HallRow;
-pub use judging::{Judgement, LONGEST, judge_file_header, judge_header, judge_part};
+pub use judging::{Judgement, LONGEST, judge_chunk, judge_file_header, judge_header};
 pub use line_item::LineItem;
 pub use orders::{JoinedOrders, join, listed};
 pub use seen::SeenTexts;

@@ -13,7 +13,7 @@ use Rattle.history_file.specs.declared.feed.Feed.{Feed}
 use Rattle.history_file.specs.declared.ahead.Ahead.{Ahead}
 use Rattle.history_file.specs.declared.judged.Judged.{Judged}
 use Rattle.counted_devices.specs.Cuts.{ended, Splits, Divides, HasNoEnd}
-use Rattle.file_format.specs.Lines.{ShowsItem, ShowParts}
+use Rattle.file_format.specs.Lines.{ShowsItem, ShowChunks}
 use Rattle.file_format.specs.Formats.{Format}
 use Rattle.history_file.specs.Takings.{IsFirstOfKind, IsAt}
 use Rattle.history_file.specs.Feeds.{Stands, FaultSoFar, FirstFaultSoFar}
@@ -129,20 +129,20 @@ module _ {Header Item Contents : Type 0} (format : Format Header Item) (Makes : 
         fed = f ∙ a.fed;
       }
 
-  pub advance_fault : (bytes piece : List ℕ) (old : Ahead Contents Item) (fault : FileFault) → IsAhead format Makes bytes old → 0 < old.progress.lines → Records format Makes old.progress old.judged.judgements (Err fault) → FaultSoFar format (bytes ++ piece) fault.line fault.kind
-  advance_fault bytes piece old fault a some records = fault_behind bytes piece old fault a (lines_taken bytes old a some) records
+  pub advance_fault : (bytes block : List ℕ) (old : Ahead Contents Item) (fault : FileFault) → IsAhead format Makes bytes old → 0 < old.progress.lines → Records format Makes old.progress old.judged.judgements (Err fault) → FaultSoFar format (bytes ++ block) fault.line fault.kind
+  advance_fault bytes block old fault a some records = fault_behind bytes block old fault a (lines_taken bytes old a some) records
 
-  pub advanced : (bytes piece : List ℕ) (old new : Ahead Contents Item) (a : IsAhead format Makes bytes old) → 0 < old.progress.lines → Records format Makes old.progress old.judged.judgements (Ok new.progress) → IsJudged format a.header (old.judged.rest.items ++ piece) new.judged → new.fed ≡ old.fed + length piece → IsAhead format Makes (bytes ++ piece) new
-  advanced bytes piece old new a some records j f =
+  pub advanced : (bytes block : List ℕ) (old new : Ahead Contents Item) (a : IsAhead format Makes bytes old) → 0 < old.progress.lines → Records format Makes old.progress old.judged.judgements (Ok new.progress) → IsJudged format a.header (old.judged.rest.items ++ block) new.judged → new.fed ≡ old.fed + length block → IsAhead format Makes (bytes ++ block) new
+  advanced bytes block old new a some records j f =
       let lines = a.taken ++ a.waiting in
       record {
         taken = lines;
         waiting = j.lines;
         header = a.header;
-        splits = Splits-join bytes piece lines j.lines old.judged.rest.items new.judged.rest.items a.splits j.splits;
+        splits = Splits-join bytes block lines j.lines old.judged.rest.items new.judged.rest.items a.splits j.splits;
         at = records a.header a.waiting a.shown a.taken a.at (lines_taken bytes old a some);
         shown = j.shown;
-        fed = omega (arith, f, a.fed, length-append bytes piece);
+        fed = omega (arith, f, a.fed, length-append bytes block);
       }
 
   -- a line under way that is too long already
@@ -163,15 +163,15 @@ module _ {Header Item Contents : Type 0} (format : Format Header Item) (Makes : 
       let A : List (Judgement Item) → Type 0 = λ js. AllZip (ShowsItem (format.meaning header)) [] js in
       record { lines = []; splits = subst Q (sym r) (Splits-none bytes h); shown = subst A (sym none) tt }
 
-  -- the first line is behind the rest, the others are those of the tail's parts
-  pub judged_parts : (header : Header) (rest front tail : List ℕ) (parts : List (List ℕ)) (judged : Judged Item) → Divides tail parts judged.rest.items → ShowParts (format.meaning header) ((rest ++ front) ∷ parts) judged.judgements → IsJudged format header (rest ++ (front ++ 10 ∷ tail)) judged
-  judged_parts header rest front tail parts judged d h =
+  -- the first line is behind the rest, the others are those of the tail's chunks
+  pub judged_chunks : (header : Header) (rest front tail : List ℕ) (chunks : List (List ℕ)) (judged : Judged Item) → Divides tail chunks judged.rest.items → ShowChunks (format.meaning header) ((rest ++ front) ∷ chunks) judged.judgements → IsJudged format header (rest ++ (front ++ 10 ∷ tail)) judged
+  judged_chunks header rest front tail chunks judged d h =
       let left = judged.rest.items in
       let line = rest ++ front in
-      let whole : flat_map ended (line ∷ parts) ++ left ≡ rest ++ (front ++ 10 ∷ tail) =
-      append_assoc (ended line) (flat_map ended parts) left ∙ ap (λ (xs : List ℕ). ended line ++ xs) (sym d.whole) ∙ append_assoc line (10 ∷ []) tail ∙ append_assoc rest front (10 ∷ tail) in
+      let whole : flat_map ended (line ∷ chunks) ++ left ≡ rest ++ (front ++ 10 ∷ tail) =
+      append_assoc (ended line) (flat_map ended chunks) left ∙ ap (λ (xs : List ℕ). ended line ++ xs) (sym d.whole) ∙ append_assoc line (10 ∷ []) tail ∙ append_assoc rest front (10 ∷ tail) in
       let P : List ℕ → Type 0 = λ xs. Splits xs h.lines left in
-      record { lines = h.lines; splits = subst P whole (Splits-rest (flat_map ended (line ∷ parts)) left h.lines h.cut d.partial); shown = h.shown }
+      record { lines = h.lines; splits = subst P whole (Splits-rest (flat_map ended (line ∷ chunks)) left h.lines h.cut d.partial); shown = h.shown }
 
   -- each line and its end is a byte at least
   pub judged_room : (header : Header) (bytes : List ℕ) (judged : Judged Item) → IsJudged format header bytes judged → length judged.judgements + length judged.rest.items ≤ length bytes

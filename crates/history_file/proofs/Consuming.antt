@@ -1,4 +1,4 @@
--- Bytes that a reader gives, one piece after another.
+-- Bytes that a reader gives, one block after another.
 use Rattle.std.proofs.Common.{ℕ, ◌≡◌, ◌+◌, List, [], ◌++◌, Option, None, Result, Ok, Err, ◌⊎◌, inl, inr, arith}
 use Rattle.std.specs.Prelude.{IfOk, IfErr, MatchResult}
 use Rattle.std.specs.Io.KnownBytes.{Consumes, IsAtEnd}
@@ -21,8 +21,8 @@ module _ {Header Item Contents : Type 0} (format : Format Header Item) (Makes : 
   Holds-start a feed s = record { bytes = []; given = Consumes-none a; fact = s }
 
   -- what was made of the bytes, made of these bytes too
-  pub Delivers-more : (P Q : List ℕ → Type 0) (a b c : Option (List ℕ)) (piece : List ℕ) → Delivers a b P → Consumes b c piece → ((bytes : List ℕ) → P bytes → Q (bytes ++ piece)) → Delivers a c Q
-  Delivers-more P Q a b c piece h k goes = record { bytes = h.bytes ++ piece; given = Consumes-join a b c h.bytes piece h.given k; fact = goes h.bytes h.fact }
+  pub Delivers-more : (P Q : List ℕ → Type 0) (a b c : Option (List ℕ)) (block : List ℕ) → Delivers a b P → Consumes b c block → ((bytes : List ℕ) → P bytes → Q (bytes ++ block)) → Delivers a c Q
+  Delivers-more P Q a b c block h k goes = record { bytes = h.bytes ++ block; given = Consumes-join a b c h.bytes block h.given k; fact = goes h.bytes h.fact }
 
   so_far : (left : Option (List ℕ)) (bytes : List ℕ) (number : ℕ) (k : FaultKind) → FaultSoFar format bytes number k → StopsWith format left number k bytes
   so_far left bytes number k h =
@@ -34,11 +34,11 @@ module _ {Header Item Contents : Type 0} (format : Format Header Item) (Makes : 
   never_failed bytes number k old new h = no_device (FirstFaultSoFar format bytes number) k old new h
 
   -- a fault of a line
-  pub Delivers-stop : (P : List ℕ → Type 0) (a b c : Option (List ℕ)) (piece : List ℕ) (fault : FileFault) → Delivers a b P → Consumes b c piece → ((bytes : List ℕ) → P bytes → FaultSoFar format (bytes ++ piece) fault.line fault.kind) → Delivers a c (StopsAt format c fault)
-  Delivers-stop P a b c piece fault h k stops = Delivers-more P (StopsAt format c fault) a b c piece h k (λ bytes p. so_far c (bytes ++ piece) fault.line fault.kind (stops bytes p))
+  pub Delivers-stop : (P : List ℕ → Type 0) (a b c : Option (List ℕ)) (block : List ℕ) (fault : FileFault) → Delivers a b P → Consumes b c block → ((bytes : List ℕ) → P bytes → FaultSoFar format (bytes ++ block) fault.line fault.kind) → Delivers a c (StopsAt format c fault)
+  Delivers-stop P a b c block fault h k stops = Delivers-more P (StopsAt format c fault) a b c block h k (λ bytes p. so_far c (bytes ++ block) fault.line fault.kind (stops bytes p))
 
-  pub stop_no_device : (P : List ℕ → Type 0) (a b : Option (List ℕ)) (piece : List ℕ) (fault : FileFault) (m n : ℕ) → Delivers a b P → ((bytes : List ℕ) → P bytes → FaultSoFar format (bytes ++ piece) fault.line fault.kind) → HasFailed fault.kind m n
-  stop_no_device P a b piece fault m n h stops = never_failed (h.bytes ++ piece) fault.line fault.kind m n (stops h.bytes h.fact)
+  pub stop_no_device : (P : List ℕ → Type 0) (a b : Option (List ℕ)) (block : List ℕ) (fault : FileFault) (m n : ℕ) → Delivers a b P → ((bytes : List ℕ) → P bytes → FaultSoFar format (bytes ++ block) fault.line fault.kind) → HasFailed fault.kind m n
+  stop_no_device P a b block fault m n h stops = never_failed (h.bytes ++ block) fault.line fault.kind m n (stops h.bytes h.fact)
 
   -- a fault of a line that had waited
   pub Delivers-late : (P : List ℕ → Type 0) (a c : Option (List ℕ)) (fault : FileFault) → Delivers a c P → ((bytes : List ℕ) → P bytes → FaultSoFar format bytes fault.line fault.kind) → Delivers a c (StopsAt format c fault)

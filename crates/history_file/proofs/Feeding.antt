@@ -1,4 +1,4 @@
--- Bytes that come in pieces.
+-- Bytes that come in blocks.
 use Rattle.std.proofs.Common.{ℕ, ◌≡◌, ◌<◌, ◌≤◌, ◌+◌, inl, inr, List, [], ◌∷◌, ◌++◌, length, Bool, true, false, cond, nat_lt, Result, Ok, Err, None, refl, sym, ap, ◌∙◌, append_assoc, append-nil, length-append, arith, subst}
 use Rattle.std.specs.Prelude.{MatchResult}
 use Rattle.std.proofs.lemmas.Bool.{lt-ltb}
@@ -64,27 +64,27 @@ module _ {Header Item Contents : Type 0} (format : Format Header Item) (Makes : 
     first = λ before at. let now = taken before at in long_first (nat_lt 65536 (length rest)) (before ++ lines) rest now.0 now.1.items number (lt-ltb 65536 (length rest) long) long now.1.sound (omega (arith, counted, now.1.counted));
   }
 
-  -- a piece more
-  pub Stands-more : (bytes piece : List ℕ) (old new : Feed Contents) → Stands format Makes bytes old → Passed format Makes old.progress (old.rest.items ++ piece) new.rest.items new.progress → new.fed ≡ old.fed + length piece → new.fault ≡ None → Stands format Makes (bytes ++ piece) new
-  Stands-more bytes piece old new s p fed sound = record {
+  -- a block more
+  pub Stands-more : (bytes block : List ℕ) (old new : Feed Contents) → Stands format Makes bytes old → Passed format Makes old.progress (old.rest.items ++ block) new.rest.items new.progress → new.fed ≡ old.fed + length block → new.fault ≡ None → Stands format Makes (bytes ++ block) new
+  Stands-more bytes block old new s p fed sound = record {
     lines = s.lines ++ p.lines;
-    splits = Splits-join bytes piece s.lines p.lines old.rest.items new.rest.items s.splits p.splits;
+    splits = Splits-join bytes block s.lines p.lines old.rest.items new.rest.items s.splits p.splits;
     at = p.taken s.lines s.at;
     short = p.short;
-    fed = omega (arith, s.fed, fed, length-append bytes piece);
+    fed = omega (arith, s.fed, fed, length-append bytes block);
     sound = sound;
   }
 
-  -- a fault in the piece
-  pub stops_so_far : (bytes piece : List ℕ) (old : Feed Contents) (number : ℕ) (k : FaultKind) → Stands format Makes bytes old → PassStops format Makes old.progress (old.rest.items ++ piece) number k → FaultSoFar format (bytes ++ piece) number k
-  stops_so_far bytes piece old number (kind.Line fault) s p = record {
+  -- a fault in the block
+  pub stops_so_far : (bytes block : List ℕ) (old : Feed Contents) (number : ℕ) (k : FaultKind) → Stands format Makes bytes old → PassStops format Makes old.progress (old.rest.items ++ block) number k → FaultSoFar format (bytes ++ block) number k
+  stops_so_far bytes block old number (kind.Line fault) s p = record {
     lines = s.lines ++ p.lines;
     rest = p.rest;
-    splits = Splits-join bytes piece s.lines p.lines old.rest.items p.rest s.splits p.splits;
+    splits = Splits-join bytes block s.lines p.lines old.rest.items p.rest s.splits p.splits;
     first = p.first s.lines s.at;
   }
-  stops_so_far bytes piece old number kind.Device s p = p s.lines s.at
-  stops_so_far bytes piece old number kind.Memory s p = tt
+  stops_so_far bytes block old number kind.Device s p = p s.lines s.at
+  stops_so_far bytes block old number kind.Memory s p = tt
 
   -- a fault of the last line, which has no end
   pub stops_in_all : (bytes : List ℕ) (feed : Feed Contents) (number : ℕ) (k : FaultKind) → Stands format Makes bytes feed → 0 < length feed.rest.items → ((before : List (List ℕ)) → AreTaken format Makes before feed.progress → IsFirstOfKind format (before ++ feed.rest.items ∷ []) number k) → FaultInAll format bytes number k
@@ -156,7 +156,7 @@ module _ {Header Item Contents : Type 0} (format : Format Header Item) (Makes : 
       let Q : List (List ℕ) → Type 0 = λ ls. AreTaken format Makes ls old in
       subst P (sym same) (pass_long old old bytes [] bytes number (Splits-none bytes none) (λ before at. subst Q (sym (append-nil before)) at) long counted)
 
-  -- a piece without an end only makes the rest longer, which is then short enough or too long
+  -- a block without an end only makes the rest longer, which is then short enough or too long
   pub passes_alone : (old : Progress Contents) (bytes : List ℕ) (r : Result (Unit {0}) FileFault) → HasNoEnd bytes → MatchResult r (λ x. length bytes ≤ 65536) (λ fault. (65536 < length bytes) × (fault.line ≡ old.lines + 1) × (fault.kind ≡ kind.Line TooLong)) → MatchResult r (λ x. Passed format Makes old bytes bytes old) (λ fault. PassStops format Makes old bytes fault.line fault.kind)
   passes_alone old bytes (Ok done) none h = Passed-none old bytes none h
   passes_alone old bytes (Err fault) none h = long_alone old bytes fault.line fault.kind none h.0 h.1 h.2

@@ -1,4 +1,4 @@
--- Pieces of a reader that are judged together.
+-- Blocks of a reader that are judged together.
 use Rattle.std.specs.Prelude.{ℕ, ◌≡◌, ◌<◌, List, Option}
 use Rattle.std.specs.Io.KnownBytes.{IsAtEnd}
 use Rattle.history_file.specs.declared.batches.Behind.{Behind}

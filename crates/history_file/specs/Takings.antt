@@ -40,10 +40,10 @@ abbrev pub TakesShown : {Header Item Contents : Type 0} → Format Header Item �
 TakesShown {Header = Header} format Makes old judgements result new =
     (header : Header) (lines : List (List ℕ)) → AllZip (ShowsItem (format.meaning header)) lines judgements → (before : List (List ℕ)) → IsAt format Makes before header old → 0 < length before → Takes format Makes before header lines result new
 
--- the same of the lines of parts behind the header
-abbrev pub TakesParts : {Header Item Contents : Type 0} → Format Header Item → (Header → List Item → Contents → Type 0) → Progress Contents → List (List ℕ) → Result (Unit {0}) FileFault → Progress Contents → Type 0
-TakesParts {Header = Header} format Makes old parts result new =
-    (lines : List (List ℕ)) → AreLinesIn parts lines → (before : List (List ℕ)) (header : Header) → IsAt format Makes before header old → 0 < length before → Takes format Makes before header lines result new
+-- the same of the lines of chunks behind the header
+abbrev pub TakesChunks : {Header Item Contents : Type 0} → Format Header Item → (Header → List Item → Contents → Type 0) → Progress Contents → List (List ℕ) → Result (Unit {0}) FileFault → Progress Contents → Type 0
+TakesChunks {Header = Header} format Makes old chunks result new =
+    (lines : List (List ℕ)) → AreLinesIn chunks lines → (before : List (List ℕ)) (header : Header) → IsAt format Makes before header old → 0 < length before → Takes format Makes before header lines result new
 
 -- behind the lines before, if there are any, that line was taken, or the first fault is that
 abbrev pub TakesLine : {Header Item Contents : Type 0} → Format Header Item → (Header → List Item → Contents → Type 0) → List (List ℕ) → List ℕ → Result (Unit {0}) FileFault → Progress Contents → Type 0

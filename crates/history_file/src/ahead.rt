@@ -5,7 +5,7 @@ ghost use Rattle.counted_devices.specs.Cuts.{HasNoEnd};
 
 use crate::feed::Feed;
 use crate::format::Contents;
-use crate::judged::{Judged, judge_piece};
+use crate::judged::{Judged, judge_block};
 use crate::judgements::Judgements;
 use crate::progress::Progress;
 use file_format::{FaultKind, FileFault, LONGEST, LineFault};
@@ -13,11 +13,11 @@ use std::alloc::Global;
 use std::thread::{Threads, join};
 use tag::Memory;
 
-/// The least bytes of a piece that is worth a thread.
+/// The least bytes of a block that is worth a thread.
 const LEAST: usize = 65_536;
 
-/// What the lines so far made but for the last piece's, which were judged and are taken while the
-/// next piece is judged.
+/// What the lines so far made but for the last block's, which were judged and are taken while the
+/// next block is judged.
 #[derive(Drop)]
 pub struct Ahead<C, T> {
     pub progress: Progress<C>,
@@ -94,19 +94,19 @@ impl<C: Contents> Ahead<C, C::Item> {
         })
     }
 
-    /// Takes a piece at once.
+    /// Takes a block at once.
     fn take_at_once(
         self,
         rt: &(impl Threads + Sync),
-        piece: &[u8],
+        block: &[u8],
     ) -> Result<Ahead<C, C::Item>, FileFault>
-        requires { self.fed + length piece.now ≤ 2 ^ 62 }
+        requires { self.fed + length block.now ≤ 2 ^ 62 }
         ensures goes { (bytes : List ℕ) → StandsAhead C.format C.Makes bytes self
-            → GoesAhead C.format C.Makes (bytes ++ piece.now) result }
-        ensures count { IfOk result (λ new. new.fed ≡ self.fed + length piece.now) }
+            → GoesAhead C.format C.Makes (bytes ++ block.now) result }
+        ensures count { IfOk result (λ new. new.fed ≡ self.fed + length block.now) }
     {
         let mut feed = self.settle()?;
-        feed.feed(rt, piece)?;
+        feed.feed(rt, block)?;
         let Feed {
             progress,
             rest,
@@ -137,20 +137,20 @@ impl<C: Contents> Ahead<C, C::Item> {
         })
     }
 
-    /// Judges the next piece while the lines before it are taken. A piece that isn't worth a
+    /// Judges the next block while the lines before it are taken. A block that isn't worth a
     /// thread, or before which no line came, is taken at once.
     pub(crate) fn advance<R: Threads + Sync>(
         self,
         rt: &R,
-        piece: &[u8],
+        block: &[u8],
     ) -> Result<Ahead<C, C::Item>, FileFault>
-        requires { self.fed + length piece.now ≤ 2 ^ 62 }
+        requires { self.fed + length block.now ≤ 2 ^ 62 }
         ensures goes { (bytes : List ℕ) → StandsAhead C.format C.Makes bytes self
-            → GoesAhead C.format C.Makes (bytes ++ piece.now) result }
-        ensures count { IfOk result (λ new. new.fed ≡ self.fed + length piece.now) }
+            → GoesAhead C.format C.Makes (bytes ++ block.now) result }
+        ensures count { IfOk result (λ new. new.fed ≡ self.fed + length block.now) }
     {
-        if self.progress.lines == 0 || piece.len() < LEAST {
-            return self.take_at_once(rt, piece);
+        if self.progress.lines == 0 || block.len() < LEAST {
+            return self.take_at_once(rt, block);
         }
         let Ahead {
             progress,
@@ -171,10 +171,10 @@ impl<C: Contents> Ahead<C, C::Item> {
             || -> Result<Judged<C::Item>, Memory>
                 requires { IsSync R.row }
                 ensures judged { IfOk result (λ judged. HasNoEnd rest.items
-                    → IsJudged C.format header (rest.items ++ piece.entry.now) judged) }
+                    → IsJudged C.format header (rest.items ++ block.entry.now) judged) }
                 ensures room { IfOk result (λ judged. length judged.judgements
-                    + length judged.rest.items ≤ length rest.items + length piece.entry.now) }
-            { judge_piece::<C, R>(rt, alloc, header, rest.as_slice(), piece) },
+                    + length judged.rest.items ≤ length rest.items + length block.entry.now) }
+            { judge_block::<C, R>(rt, alloc, header, rest.as_slice(), block) },
         );
         let progress = taken?;
         let Ok(judged) = next else {
@@ -186,7 +186,7 @@ impl<C: Contents> Ahead<C, C::Item> {
         let ahead = Ahead {
             progress,
             judged,
-            fed: fed + piece.len() as u64,
+            fed: fed + block.len() as u64,
         };
         ahead.check_length()
     }

@@ -1,4 +1,4 @@
-//! Pieces of a reader that are judged together.
+//! Blocks of a reader that are judged together.
 ghost use Rattle.std.specs.Prelude.{◌≡◌, ◌≤◌, ◌<◌, ◌+◌, length, take};
 ghost use Rattle.std.specs.Io.KnownBytes.{Consumes};
 ghost use Rattle.history_file.specs.Batches.{IsBehind};
@@ -6,7 +6,7 @@ ghost use Rattle.history_file.specs.Batches.{IsBehind};
 use counted_devices::CountedRead;
 
 /// The most bytes that a reader is asked for at once.
-pub const PIECE: usize = 1_048_576;
+pub const BLOCK: usize = 1_048_576;
 
 /// What was behind the bytes of a batch.
 #[derive(Clone, Copy, Debug)]
@@ -23,7 +23,7 @@ pub struct Batch {
     pub behind: Behind,
 }
 
-/// Reads pieces into the room, one behind the other, until it is full or a piece came short. A
+/// Reads blocks into the room, one behind the other, until it is full or a block came short. A
 /// reader that gives its bytes slowly isn't waited for.
 pub(crate) fn read_batch<R: CountedRead>(reader: &mut R, room: &mut [u8]) -> Batch
     requires { 0 < length room.old }
@@ -35,8 +35,8 @@ pub(crate) fn read_batch<R: CountedRead>(reader: &mut R, room: &mut [u8]) -> Bat
         (R.failures reader.old) (R.failures reader.new) }
 {
     let mut count = 0;
-    'pieces: while count < room.len() {
-        let end = room.len().min(count.saturating_add(PIECE));
+    'blocks: while count < room.len() {
+        let end = room.len().min(count.saturating_add(BLOCK));
         match reader.read_counted(&mut room[count..end]) {
             Ok(0) => {
                 return Batch {

@@ -1,8 +1,8 @@
-//! A file that comes in pieces.
+//! A file that comes in blocks.
 ghost use Rattle.std.specs.Prelude.{ℕ, ◌≡◌, ◌≤◌, ◌+◌, ◌^◌, ◌++◌, List, [], Some, None, length, IfOk, IfErr, MatchResult};
 
+use crate::blocks::take_block;
 use crate::format::Contents;
-use crate::pieces::take_piece;
 use crate::progress::Progress;
 use file_format::{FaultKind, FileFault, LineFault};
 use std::alloc::Global;
@@ -44,12 +44,12 @@ impl<C: Contents> Feed<C> {
         self.progress.lines.saturating_add(1)
     }
 
-    /// Takes the next piece.
-    pub(crate) fn feed(&mut self, rt: &(impl Threads + Sync), piece: &[u8]) -> Result<(), FileFault>
-        requires { self.old.fed + length piece.now ≤ 2 ^ 62 }
+    /// Takes the next block.
+    pub(crate) fn feed(&mut self, rt: &(impl Threads + Sync), block: &[u8]) -> Result<(), FileFault>
+        requires { self.old.fed + length block.now ≤ 2 ^ 62 }
         ensures fed { (bytes : List ℕ) → Stands C.format C.Makes bytes self.old
-            → Fed C.format C.Makes (bytes ++ piece.now) result self.new }
-        ensures count { MatchResult result (λ _. self.new.fed ≡ self.old.fed + length piece.now)
+            → Fed C.format C.Makes (bytes ++ block.now) result self.new }
+        ensures count { MatchResult result (λ _. self.new.fed ≡ self.old.fed + length block.now)
             (λ _. self.new.fed ≡ self.old.fed) }
         ensures sound { IfOk result (λ _. self.new.fault ≡ None) }
         ensures kept { IfErr result (λ fault. self.new.fault ≡ Some fault) }
@@ -59,9 +59,9 @@ impl<C: Contents> Feed<C> {
         if let Some(fault) = self.fault {
             return Err(fault);
         }
-        match take_piece(rt, &mut self.progress, &mut self.rest, piece) {
+        match take_block(rt, &mut self.progress, &mut self.rest, block) {
             Ok(()) => {
-                self.fed += piece.len() as u64;
+                self.fed += block.len() as u64;
                 Ok(())
             }
             Err(fault) => {

@@ -1,4 +1,4 @@
-//! Files that come in pieces, as their callers see them.
+//! Files that come in blocks, as their callers see them.
 ghost use Rattle.std.specs.Prelude.{ℕ, ◌≡◌, ◌≤◌, ◌+◌, ◌^◌, ◌++◌, List, [], None, Some, length, IfErr, MatchResult};
 ghost use Rattle.history_file.specs.Feeds.{Stands, Fed};
 
@@ -9,7 +9,7 @@ use std::alloc::Global;
 use std::marker::Model;
 use std::thread::Threads;
 
-/// A file that comes in pieces of any size: what its lines so far make.
+/// A file that comes in blocks of any size: what its lines so far make.
 #[derive(Drop)]
 pub struct FileFeed<C> {
     pub(crate) feed: Feed<C>,
@@ -33,7 +33,7 @@ impl<C: Contents> FileFeed<C> {
         }
     }
 
-    /// How many bytes the pieces had that were taken.
+    /// How many bytes the blocks had that were taken.
     pub fn fed(&self) -> u64
         ensures fed { result ≡ self.now.fed }
         ensures most { result ≤ 2 ^ 62 }
@@ -48,18 +48,18 @@ impl<C: Contents> FileFeed<C> {
         self.feed.line()
     }
 
-    /// Takes the next piece, however the file was cut. The first fault of the bytes so far is
+    /// Takes the next block, however the file was cut. The first fault of the bytes so far is
     /// answered, and then by each later call; `Memory` comes only where a growth was refused.
-    pub fn feed(&mut self, rt: &(impl Threads + Sync), piece: &[u8]) -> Result<(), FileFault>
-        requires { self.old.fed + length piece.now ≤ 2 ^ 62 }
+    pub fn feed(&mut self, rt: &(impl Threads + Sync), block: &[u8]) -> Result<(), FileFault>
+        requires { self.old.fed + length block.now ≤ 2 ^ 62 }
         ensures fed { (bytes : List ℕ) → Stands C.format C.Makes bytes self.old
-            → Fed C.format C.Makes (bytes ++ piece.now) result self.new }
-        ensures count { MatchResult result (λ _. self.new.fed ≡ self.old.fed + length piece.now)
+            → Fed C.format C.Makes (bytes ++ block.now) result self.new }
+        ensures count { MatchResult result (λ _. self.new.fed ≡ self.old.fed + length block.now)
             (λ _. self.new.fed ≡ self.old.fed) }
         ensures kept { IfErr result (λ fault. self.new.fault ≡ Some fault) }
         ensures stays { (fault : _) → self.old.fault ≡ Some fault
             → (result ≡ Err fault) × (self.new ≡ self.old) }
     {
-        self.feed.feed(rt, piece)
+        self.feed.feed(rt, block)
     }
 }

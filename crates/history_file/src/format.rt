@@ -1,7 +1,7 @@
 //! Formats of files.
 ghost use Rattle.std.specs.Prelude.{◌≡◌, List, [], ℕ, IfOk, map};
 ghost use Rattle.std.specs.Thread.{IsSync};
-ghost use Rattle.file_format.specs.Lines.{ShowParts};
+ghost use Rattle.file_format.specs.Lines.{ShowChunks};
 ghost use Rattle.file_format.specs.Formats.{Format, Follows};
 ghost use Rattle.history_file.specs.Beginnings.{Begins};
 
@@ -39,17 +39,17 @@ pub trait Contents: Drop + Send {
         ensures { (header : Self.Header) (items : List Self.Item) → Makes header items self.now
             → result ≡ header };
 
-    /// What the lines of the parts show behind that header, in order. Parts are judged side by
+    /// What the lines of the chunks show behind that header, in order. Chunks are judged side by
     /// side.
     fn judge_all<R: Threads + Sync>(
         rt: &R,
         alloc: Global,
         header: Self::Header,
-        parts: &[&[u8]],
+        chunks: &[&[u8]],
     ) -> Result<Judgements<Self::Item>, Memory>
         requires { IsSync R.row }
-        ensures { IfOk result (λ judgements. ShowParts (format.meaning header)
-            (map (λ part. part.now) parts.now) judgements) };
+        ensures { IfOk result (λ judgements. ShowChunks (format.meaning header)
+            (map (λ chunk. chunk.now) chunks.now) judgements) };
 
     /// Takes the next item, or says which fault it has behind the others.
     fn follow(&mut self, item: Self::Item) -> Result<(), Stop>

@@ -1,4 +1,4 @@
-//! History files of either version that come in pieces.
+//! History files of either version that come in blocks.
 ghost use Rattle.std.specs.Prelude.{ℕ, ◌≡◌, List, Some};
 ghost use Rattle.history_file.specs.Fed.{StandsForHalls, EndsHalls};
 
@@ -8,7 +8,7 @@ use file_format::{FaultKind, FileFault, HallHistories, LineFault};
 use recorder::Histories;
 use std::thread::Threads;
 
-/// A history file of version 1 or 2 that comes in pieces of any size: the histories of its lines so
+/// A history file of version 1 or 2 that comes in blocks of any size: the histories of its lines so
 /// far.
 pub type HistoriesFeed = FileFeed<Option<HallHistories>>;
 

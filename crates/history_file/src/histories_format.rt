@@ -4,7 +4,7 @@ ghost use Rattle.history_file.specs.Making.{MakesHalls};
 
 use crate::format::Contents;
 use crate::judgements::Judgements;
-use crate::side_by_side::judge_parts;
+use crate::side_by_side::judge_chunks;
 use file_format::{FileHeader, HallHistories, HallRow, LineFault, Stop, judge_file_header};
 use std::alloc::Global;
 use std::thread::Threads;
@@ -43,9 +43,9 @@ impl Contents for Option<HallHistories> {
         rt: &R,
         alloc: Global,
         header: FileHeader,
-        parts: &[&[u8]],
+        chunks: &[&[u8]],
     ) -> Result<Judgements<HallRow>, Memory> {
-        judge_parts::<HallRow, R>(rt, alloc, header, parts)
+        judge_chunks::<HallRow, R>(rt, alloc, header, chunks)
     }
 
     fn follow(&mut self, item: HallRow) -> Result<(), Stop> {

@@ -1,4 +1,4 @@
-//! History files that come in pieces.
+//! History files that come in blocks.
 ghost use Rattle.std.specs.Prelude.{ℕ, ◌≡◌, List, Some};
 ghost use Rattle.history_file.specs.Fed.{StandsForRows, EndsRows};
 
@@ -7,7 +7,7 @@ use file_format::FileFault;
 use recorder::History;
 use std::thread::Threads;
 
-/// A history file that comes in pieces of any size: the history of its lines so far.
+/// A history file that comes in blocks of any size: the history of its lines so far.
 pub type HistoryFeed = FileFeed<History>;
 
 impl FileFeed<History> {

@@ -3,7 +3,7 @@ ghost use Rattle.file_format.specs.HistoryFormat.{history_format, MakesHistory};
 
 use crate::format::Contents;
 use crate::judgements::Judgements;
-use crate::side_by_side::judge_parts;
+use crate::side_by_side::judge_chunks;
 use file_format::{MOST_CALLS, Stop, follow, judge_header};
 use recorder::{History, Row};
 use std::alloc::Global;
@@ -34,9 +34,9 @@ impl Contents for History {
         rt: &R,
         alloc: Global,
         header: (),
-        parts: &[&[u8]],
+        chunks: &[&[u8]],
     ) -> Result<Judgements<Row>, Memory> {
-        judge_parts::<Row, R>(rt, alloc, header, parts)
+        judge_chunks::<Row, R>(rt, alloc, header, chunks)
     }
 
     fn follow(&mut self, row: Row) -> Result<(), Stop> {

@@ -1,11 +1,11 @@
-//! Pieces of a file, cut into lines that are judged.
+//! Blocks of a file, cut into lines that are judged.
 ghost use Rattle.std.specs.Prelude.{◌≤◌, ◌+◌, ◌++◌, length, IfOk};
 ghost use Rattle.history_file.specs.Ahead.{IsJudged};
 ghost use Rattle.counted_devices.specs.Cuts.{HasNoEnd};
 
 use crate::format::Contents;
 use crate::judgements::Judgements;
-use counted_devices::{cut_parts, first_end};
+use counted_devices::{cut_chunks, first_end};
 use std::alloc::Global;
 use std::thread::Threads;
 use tag::Memory;
@@ -17,33 +17,33 @@ pub struct Judged<T> {
     pub rest: Vec<u8>,
 }
 
-/// Judges, behind that header, the whole lines of the rest and the piece behind it.
+/// Judges, behind that header, the whole lines of the rest and the block behind it.
 ///
-/// The piece's first line is put behind the rest; the others are judged where they lie.
-pub(crate) fn judge_piece<C: Contents, R: Threads + Sync>(
+/// The block's first line is put behind the rest; the others are judged where they lie.
+pub(crate) fn judge_block<C: Contents, R: Threads + Sync>(
     rt: &R,
     alloc: Global,
     header: C::Header,
     rest: &[u8],
-    piece: &[u8],
+    block: &[u8],
 ) -> Result<Judged<C::Item>, Memory>
     ensures judged { IfOk result (λ judged. HasNoEnd rest.now
-        → IsJudged C.format header (rest.now ++ piece.now) judged) }
+        → IsJudged C.format header (rest.now ++ block.now) judged) }
     ensures room { IfOk result (λ judged. length judged.judgements + length judged.rest.items
-        ≤ length rest.now + length piece.now) }
+        ≤ length rest.now + length block.now) }
 {
     let mut first = Vec::from_slice(alloc, rest)?;
-    let Some(end) = first_end(piece) else {
-        first.extend_from_slice(piece)?;
+    let Some(end) = first_end(block) else {
+        first.extend_from_slice(block)?;
         return Ok(Judged {
             judgements: Judgements::new(alloc),
             rest: first,
         });
     };
-    first.extend_from_slice(&piece[..end])?;
-    let mut found = cut_parts(alloc, &piece[end + 1..])?;
-    found.parts.insert(0, first.as_slice())?;
-    let judgements = C::judge_all(rt, alloc, header, found.parts.as_slice())?;
+    first.extend_from_slice(&block[..end])?;
+    let mut found = cut_chunks(alloc, &block[end + 1..])?;
+    found.chunks.insert(0, first.as_slice())?;
+    let judgements = C::judge_all(rt, alloc, header, found.chunks.as_slice())?;
     Ok(Judged {
         judgements,
         rest: Vec::from_slice(alloc, found.rest)?,

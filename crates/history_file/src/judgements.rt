@@ -7,7 +7,7 @@ use std::marker::Model;
 
 /// What lines show, in their order.
 ///
-/// Each part's lines fill a run of their own; what is in a run isn't moved.
+/// Each chunk's lines fill a run of their own; what is in a run isn't moved.
 #[derive(Drop)]
 pub struct Judgements<T> {
     runs: Vec<Vec<Judgement<T>>>,

@@ -1,13 +1,14 @@
 //! History and order files: what their bytes are read as, and the first fault of those that are
 //! none.
 //!
-//! A file comes in pieces of any size, from a reader or from the caller. What was read is what the
+//! A file comes in blocks of any size, from a reader or from the caller. What was read is what the
 //! lines say one for one, to the reader's end; a file with a fault is refused with its first one.
 //! A line is read where it lies, and only what it adds to the answer is copied.
 #![tactic(auto)]
 
 mod ahead;
 mod batches;
+mod blocks;
 mod feed;
 mod file_feed;
 mod format;
@@ -19,7 +20,6 @@ mod judged;
 mod judgements;
 mod order_feed;
 mod order_format;
-mod pieces;
 mod progress;
 mod reading;
 mod side_by_side;

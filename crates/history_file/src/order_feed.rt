@@ -1,4 +1,4 @@
-//! Order files that come in pieces.
+//! Order files that come in blocks.
 ghost use Rattle.std.specs.Prelude.{ℕ, ◌≡◌, List, Some};
 ghost use Rattle.history_file.specs.Fed.{EndsOrders, StandsForOrders};
 
@@ -9,7 +9,7 @@ use file_format::{FaultKind, FileFault, listed};
 use recorder::KeyOrder;
 use std::thread::Threads;
 
-/// An order file that comes in pieces of any size: the orders of its lines so far.
+/// An order file that comes in blocks of any size: the orders of its lines so far.
 pub type OrderFeed = FileFeed<Orders>;
 
 impl FileFeed<Orders> {

@@ -4,7 +4,7 @@ ghost use Rattle.file_format.specs.OrderFormat.{order_format};
 
 use crate::format::Contents;
 use crate::judgements::Judgements;
-use crate::side_by_side::judge_parts;
+use crate::side_by_side::judge_chunks;
 use file_format::{JoinedOrders, LineFault, MOST_CALLS, Stop, join, judge_header};
 use recorder::KeyOrder;
 use std::alloc::Global;
@@ -75,9 +75,9 @@ impl Contents for Orders {
         rt: &R,
         alloc: Global,
         header: (),
-        parts: &[&[u8]],
+        chunks: &[&[u8]],
     ) -> Result<Judgements<KeyOrder>, Memory> {
-        judge_parts::<KeyOrder, R>(rt, alloc, header, parts)
+        judge_chunks::<KeyOrder, R>(rt, alloc, header, chunks)
     }
 
     fn follow(&mut self, piece: KeyOrder) -> Result<(), Stop> {

@@ -3,7 +3,7 @@ ghost use Rattle.std.specs.Prelude.{ℕ, ◌≡◌, ◌<◌, ◌≤◌, ◌+◌,
 ghost use Rattle.std.specs.List.{flat_map};
 ghost use Rattle.history_file.specs.Ahead.{Records};
 ghost use Rattle.counted_devices.specs.Cuts.{HasNoEnd, ended};
-ghost use Rattle.history_file.specs.Takings.{AreTaken, TakesJudged, TakesLine, TakesParts, TakesShown};
+ghost use Rattle.history_file.specs.Takings.{AreTaken, TakesJudged, TakesLine, TakesChunks, TakesShown};
 
 use crate::format::Contents;
 use crate::judgements::Judgements;
@@ -92,22 +92,22 @@ impl<C: Contents> Progress<C> {
         Ok(self)
     }
 
-    /// Takes the lines of parts that stand behind the header.
-    pub(crate) fn take_parts(
+    /// Takes the lines of chunks that stand behind the header.
+    pub(crate) fn take_chunks(
         &mut self,
         rt: &(impl Threads + Sync),
         alloc: Global,
-        parts: &[&[u8]],
+        chunks: &[&[u8]],
     ) -> Result<(), FileFault>
         requires { self.old.lines + length
-            (flat_map ended (map (λ part. part.now) parts.now)) < 2 ^ 63 }
-        ensures taken { TakesParts C.format C.Makes self.old
-            (map (λ part. part.now) parts.now) result self.new }
+            (flat_map ended (map (λ chunk. chunk.now) chunks.now)) < 2 ^ 63 }
+        ensures taken { TakesChunks C.format C.Makes self.old
+            (map (λ chunk. chunk.now) chunks.now) result self.new }
         ensures more { OnOk result (self.old.lines ≤ self.new.lines) }
         ensures lines { OnOk result (self.new.lines ≤ self.old.lines + length
-            (flat_map ended (map (λ part. part.now) parts.now))) }
+            (flat_map ended (map (λ chunk. chunk.now) chunks.now))) }
     {
-        match C::judge_all(rt, alloc, self.contents.header(), parts) {
+        match C::judge_all(rt, alloc, self.contents.header(), chunks) {
             Ok(judgements) => self.record(judgements),
             Err(_) => Err(FileFault::at(self.lines + 1, Stop::Memory)),
         }
@@ -130,6 +130,6 @@ impl<C: Contents> Progress<C> {
         if self.lines == 0 {
             return self.take_header(alloc, line);
         }
-        self.take_parts(rt, alloc, &[line])
+        self.take_chunks(rt, alloc, &[line])
     }
 }

@@ -8,7 +8,7 @@ ghost use Rattle.file_format.specs.HistoriesFormat.{histories_format, MakesHisto
 ghost use Rattle.file_format.specs.OrderFormat.{order_format, MakesJoined};
 
 use crate::ahead::Ahead;
-use crate::batches::{Behind, PIECE, read_batch};
+use crate::batches::{BLOCK, Behind, read_batch};
 use crate::feed::Feed;
 use crate::format::Contents;
 use crate::histories_feed::finish_histories;
@@ -20,8 +20,8 @@ use recorder::{Histories, History, KeyOrder};
 use std::alloc::{AllocError, Global};
 use std::thread::Threads;
 
-/// The most pieces of a batch.
-const PIECES: usize = 4;
+/// The most blocks of a batch.
+const BLOCKS: usize = 4;
 
 /// Room for batches of that size.
 fn room_for(alloc: Global, size: usize) -> Result<Vec<u8>, AllocError>
@@ -63,7 +63,7 @@ fn read_next<C: Contents, R: CountedRead, T: Threads + Sync>(
 }
 
 /// Feeds the bytes of the reader, to its end, in batches of that room.
-fn feed_in_pieces<C: Contents, R: CountedRead, T: Threads + Sync>(
+fn feed_in_blocks<C: Contents, R: CountedRead, T: Threads + Sync>(
     rt: &T,
     alloc: Global,
     reader: &mut R,
@@ -76,7 +76,7 @@ fn feed_in_pieces<C: Contents, R: CountedRead, T: Threads + Sync>(
         × FailsFrom R.failures reader.old reader.new fault) }
 {
     let mut ahead = Ahead::<C, C::Item>::new(alloc);
-    'pieces: loop {
+    'blocks: loop {
         let (next, more) = read_next(rt, ahead, reader, room)?;
         if !more {
             return next.settle();
@@ -95,14 +95,14 @@ fn feed_all<C: Contents, R: CountedRead>(
     ensures fault { IfErr result (StopsFrom C.format R.remaining reader.old reader.new) }
     ensures device { IfErr result (FailsFrom R.failures reader.old reader.new) }
 {
-    let pieces = rayon::current_num_threads(rt).clamp(1, PIECES);
-    let Ok(mut room) = room_for(alloc, pieces * PIECE) else {
+    let blocks = rayon::current_num_threads(rt).clamp(1, BLOCKS);
+    let Ok(mut room) = room_for(alloc, blocks * BLOCK) else {
         return Err(FileFault {
             line: 1,
             kind: FaultKind::Memory,
         });
     };
-    feed_in_pieces(rt, alloc, reader, room.as_mut_slice())
+    feed_in_blocks(rt, alloc, reader, room.as_mut_slice())
 }
 
 /// The history that the reader's bytes are, all of them up to its end.

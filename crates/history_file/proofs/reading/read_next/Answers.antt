@@ -10,12 +10,12 @@ pub returns-in_err-next-clause-goes : goal.returns-in_err-next-clause-goes
 returns-in_err-next-clause-goes g c = λ start holds.
     let p = err_from_is_err_and c.from_residual.result c.from_residual.ensures.1 in
     let a = g.R.Read.remaining c.args.reader.now in
-    let piece = take c.read_batch-batch.result.count c.read_batch-batch.new.room in
+    let block = take c.read_batch-batch.result.count c.read_batch-batch.new.room in
     let fault = c.in_err-next.field-0.0 in
     let P : List ℕ → Type 0 = λ bytes. StandsAhead g.C.Contents.format g.C.Contents.Makes bytes c.args.ahead in
     rw (p.1, p.2) (
-      Delivers-stop g.C.Contents.format g.C.Contents.Makes P start a (g.R.Read.remaining c.read_batch-batch.new.reader) piece fault holds c.read_batch-batch.ensures.bytes c.in_err-next.ensures.goes,
-      stop_no_device g.C.Contents.format g.C.Contents.Makes P start a piece fault (g.R.Counted.failures c.args.reader.now) (g.R.Counted.failures c.read_batch-batch.new.reader) holds c.in_err-next.ensures.goes,
+      Delivers-stop g.C.Contents.format g.C.Contents.Makes P start a (g.R.Read.remaining c.read_batch-batch.new.reader) block fault holds c.read_batch-batch.ensures.bytes c.in_err-next.ensures.goes,
+      stop_no_device g.C.Contents.format g.C.Contents.Makes P start a block fault (g.R.Counted.failures c.args.reader.now) (g.R.Counted.failures c.read_batch-batch.new.reader) holds c.in_err-next.ensures.goes,
     )
 
 pub returns-in-More-clause-goes : goal.returns-in-More-clause-goes

@@ -16,17 +16,17 @@ returns-in_err-progress-clause-goes g c =
     let old = c.args.self in
     let some : 0 < old.progress.lines = omega (arith, c.if-self-eq0.false) in
     let P : Result (Progress g.row.C.Denot) FileFault → Type 0 = λ r. Records g.C.Contents.format g.C.Contents.Makes old.progress old.judged.judgements r in
-    rw (p.1, p.2) (λ bytes s. advance_fault g.C.Contents.format g.C.Contents.Makes bytes c.args.piece.now old c.in_err-progress.field-0.0 s.0 some (subst P c.in_err-progress.was c.join-taken.ensures.first.0))
+    rw (p.1, p.2) (λ bytes s. advance_fault g.C.Contents.format g.C.Contents.Makes bytes c.args.block.now old c.in_err-progress.field-0.0 s.0 some (subst P c.in_err-progress.was c.join-taken.ensures.first.0))
 
 pub returns-clause-goes : goal.returns-clause-goes
 returns-clause-goes g c =
     let old = c.args.self in
     let some : 0 < old.progress.lines = omega (arith, c.if-self-eq0.false) in
     let P : Result (Progress g.row.C.Denot) FileFault → Type 0 = λ r. Records g.C.Contents.format g.C.Contents.Makes old.progress old.judged.judgements r in
-    let Q : Result (Judged g.row.C-Item.Denot) Memory → Type 0 = λ r. IfOk r (λ judged. HasNoEnd old.judged.rest.items → IsJudged g.C.Contents.format c.header-header.result (old.judged.rest.items ++ c.args.piece.now) judged) in
+    let Q : Result (Judged g.row.C-Item.Denot) Memory → Type 0 = λ r. IfOk r (λ judged. HasNoEnd old.judged.rest.items → IsJudged g.C.Contents.format c.header-header.result (old.judged.rest.items ++ c.args.block.now) judged) in
     λ bytes s.
     let a = s.0 in
     let known : c.header-header.result ≡ a.header = c.header-header.ensures a.header a.at.items (a.at.made (omega (arith, a.at.counted, some))) in
     let judged = subst Q c.in-Ok.is c.join-taken.ensures.second.0 a.splits.partial in
-    let H : g.row.C-Header.Denot → Type 0 = λ h. IsJudged g.C.Contents.format h (old.judged.rest.items ++ c.args.piece.now) _ in
-    c.check_length.ensures.goes _ (advanced g.C.Contents.format g.C.Contents.Makes bytes c.args.piece.now old _ a some (subst P c.in_ok-progress.was c.join-taken.ensures.first.0) (subst H known judged) refl)
+    let H : g.row.C-Header.Denot → Type 0 = λ h. IsJudged g.C.Contents.format h (old.judged.rest.items ++ c.args.block.now) _ in
+    c.check_length.ensures.goes _ (advanced g.C.Contents.format g.C.Contents.Makes bytes c.args.block.now old _ a some (subst P c.in_ok-progress.was c.join-taken.ensures.first.0) (subst H known judged) refl)

@@ -6,7 +6,7 @@ use Rattle.history_file.proofs.ahead.Ahead+C+C+Item.take_at_once.Goals as goal
 pub returns-in_err-feed-clause-goes : goal.returns-in_err-feed-clause-goes
 returns-in_err-feed-clause-goes g c =
     let p = err_from_is_err_and c.from_residual.result c.from_residual.ensures.1 in
-    rw (p.1, p.2) (λ bytes s. c.in_err-feed.ensures.settles bytes s c.args.piece.now)
+    rw (p.1, p.2) (λ bytes s. c.in_err-feed.ensures.settles bytes s c.args.block.now)
 
 pub returns-in_err-feed-2-clause-goes : goal.returns-in_err-feed-2-clause-goes
 returns-in_err-feed-2-clause-goes g c =

@@ -33,16 +33,16 @@ loop-run-preserved g c =
     let left = into_iter_items c.next.new.self in
     let all : (runs : List (Vec (Judgement g.row.C-Item.Denot) Global)) → List (Judgement g.row.C-Item.Denot) = λ runs. flat_map (λ r. r.items) runs in
     let steps : into_iter_items at.run-iterator ≡ run ∷ left = c.in-Some.ensures.steps.0 in
-    let parts : all (into_iter_items at.run-iterator) ≡ run.items ++ all left = ap all steps in
+    let chunks : all (into_iter_items at.run-iterator) ≡ run.items ++ all left = ap all steps in
     let short = ap length steps in
     let gone = c.in-Some.ensures.steps.1 in
     let grown = c.in_ok-record_run.ensures.lines in
-    let count = ap length parts in
+    let count = ap length chunks in
     let sum = length-append run.items (all left) in
     record {
       goes = λ header lines shown.
           let P : List (Judgement g.row.C-Item.Denot) → Type 0 = λ js. Goes g.C.Contents.format g.C.Contents.Makes header lines old at.self js in
-          Goes-run g.C.Contents.format g.C.Contents.Makes header lines old at.self c.record_run.new.self run.items (all left) (subst P parts (at.invariant.goes header lines shown)) c.in_ok-record_run.ensures.taken;
+          Goes-run g.C.Contents.format g.C.Contents.Makes header lines old at.self c.record_run.new.self run.items (all left) (subst P chunks (at.invariant.goes header lines shown)) c.in_ok-record_run.ensures.taken;
       known = omega arith;
       room = omega arith;
     }
@@ -55,11 +55,11 @@ returns-in_err-record_run-clause-taken g c =
     let left = into_iter_items c.next.new.self in
     let all : (runs : List (Vec (Judgement g.row.C-Item.Denot) Global)) → List (Judgement g.row.C-Item.Denot) = λ runs. flat_map (λ r. r.items) runs in
     let steps : into_iter_items at.run-iterator ≡ run ∷ left = c.in-Some.ensures.steps.0 in
-    let parts : all (into_iter_items at.run-iterator) ≡ run.items ++ all left = ap all steps in
+    let chunks : all (into_iter_items at.run-iterator) ≡ run.items ++ all left = ap all steps in
     let p = err_from_is_err_and c.from_residual.result c.from_residual.ensures.1 in
     λ header lines shown before was some.
     let P : List (Judgement g.row.C-Item.Denot) → Type 0 = λ js. Goes g.C.Contents.format g.C.Contents.Makes header lines old at.self js in
-    rw (p.1, p.2) (Goes-run_stop g.C.Contents.format g.C.Contents.Makes header lines old at.self c.record_run.new.self run.items (all left) c.in_err-record_run.field-0.0 (subst P parts (at.invariant.goes header lines shown)) c.in_err-record_run.ensures.taken before was some)
+    rw (p.1, p.2) (Goes-run_stop g.C.Contents.format g.C.Contents.Makes header lines old at.self c.record_run.new.self run.items (all left) c.in_err-record_run.field-0.0 (subst P chunks (at.invariant.goes header lines shown)) c.in_err-record_run.ensures.taken before was some)
 
 pub returns-clause-taken : goal.returns-clause-taken
 returns-clause-taken g c =

@@ -7,4 +7,4 @@ pub returns-clause-taken : goal.returns-clause-taken
 returns-clause-taken g c = λ none before at.
     let line = c.args.line.now in
     let some : 0 < length before = omega (arith, c.if-self-eq0.false, at.1.counted) in
-    line_taken g.C.Contents.format g.C.Contents.Makes before at.0 line c.take_parts.result c.take_parts.new.self (c.take_parts.ensures.taken (line ∷ []) (one_line line none) before at.0 at.1 some)
+    line_taken g.C.Contents.format g.C.Contents.Makes before at.0 line c.take_chunks.result c.take_chunks.new.self (c.take_chunks.ensures.taken (line ∷ []) (one_line line none) before at.0 at.1 some)

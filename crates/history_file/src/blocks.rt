@@ -1,11 +1,11 @@
-//! Pieces of a file, cut into lines that are taken.
+//! Blocks of a file, cut into lines that are taken.
 ghost use Rattle.std.specs.Prelude.{◌≡◌, ◌<◌, ◌≤◌, ◌+◌, ◌^◌, ◌++◌, length, IfOk, MatchResult};
 ghost use Rattle.counted_devices.specs.Cuts.{HasNoEnd};
 ghost use Rattle.history_file.specs.Feeds.{IsShort, Passes};
 
 use crate::format::Contents;
 use crate::progress::Progress;
-use counted_devices::{FaultKind, cut_parts, first_end};
+use counted_devices::{FaultKind, cut_chunks, first_end};
 use file_format::{FileFault, LONGEST, LineFault};
 use std::alloc::Global;
 use std::thread::Threads;
@@ -48,10 +48,10 @@ fn pass<C: Contents>(
     ensures lines { IfOk result (λ rest. progress.new.lines + length rest.items
         ≤ progress.old.lines + length bytes.now) }
 {
-    let Ok(found) = cut_parts(alloc, bytes) else {
+    let Ok(found) = cut_chunks(alloc, bytes) else {
         return Err(memory_at(progress.lines + 1));
     };
-    progress.take_parts(rt, alloc, found.parts.as_slice())?;
+    progress.take_chunks(rt, alloc, found.chunks.as_slice())?;
     check_length(progress.lines, found.rest)?;
     match Vec::from_slice(alloc, found.rest) {
         Ok(rest) => Ok(rest),
@@ -71,29 +71,29 @@ fn lengthen(lines: u64, rest: &mut Vec<u8>, bytes: &[u8]) -> Result<(), FileFaul
     Ok(())
 }
 
-/// Takes the whole lines of the rest and the piece behind it; the rest is then what is left.
+/// Takes the whole lines of the rest and the block behind it; the rest is then what is left.
 ///
-/// The piece's first line is put behind the rest; the others are taken where they lie.
-pub(crate) fn take_piece<C: Contents>(
+/// The block's first line is put behind the rest; the others are taken where they lie.
+pub(crate) fn take_block<C: Contents>(
     rt: &(impl Threads + Sync),
     progress: &mut Progress<C>,
     rest: &mut Vec<u8>,
-    piece: &[u8],
+    block: &[u8],
 ) -> Result<(), FileFault>
-    requires { progress.old.lines + length rest.old.items + length piece.now < 2 ^ 63 }
+    requires { progress.old.lines + length rest.old.items + length block.now < 2 ^ 63 }
     ensures passes { HasNoEnd rest.old.items
-        → Passes C.format C.Makes progress.old (rest.old.items ++ piece.now) result
+        → Passes C.format C.Makes progress.old (rest.old.items ++ block.now) result
         (λ _. rest.new.items) progress.new }
     ensures lines { IfOk result (λ _. progress.new.lines + length rest.new.items
-        ≤ progress.old.lines + length rest.old.items + length piece.now) }
+        ≤ progress.old.lines + length rest.old.items + length block.now) }
 {
-    let Some(end) = first_end(piece) else {
-        lengthen(progress.lines, rest, piece)?;
+    let Some(end) = first_end(block) else {
+        lengthen(progress.lines, rest, block)?;
         return check_length(progress.lines, rest.as_slice());
     };
-    lengthen(progress.lines, rest, &piece[..end])?;
+    lengthen(progress.lines, rest, &block[..end])?;
     let alloc = *rest.allocator();
     progress.take_line(rt, alloc, rest.as_slice())?;
-    *rest = pass(rt, alloc, progress, &piece[end + 1..])?;
+    *rest = pass(rt, alloc, progress, &block[end + 1..])?;
     Ok(())
 }

@@ -1,10 +1,10 @@
 use Rattle.std.proofs.Common.{length}
-use Rattle.file_format.specs.Parting.{Shown}
-use Rattle.file_format.proofs.judging.judge_part.Given as goal
+use Rattle.file_format.specs.Chunks.{Shown}
+use Rattle.file_format.proofs.judging.judge_chunk.Given as goal
 
 abbrev pub invariant-loop-end : goal.invariant-loop-end
 invariant-loop-end g l = record {
-  shown : Shown (g.T.LineItem.meaning l.header) l.part l.run.items l.rest;
+  shown : Shown (g.T.LineItem.meaning l.header) l.chunk l.run.items l.rest;
 }
 
 abbrev pub decreases-loop-end : goal.decreases-loop-end

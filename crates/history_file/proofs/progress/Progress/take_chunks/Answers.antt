@@ -3,22 +3,22 @@ use Rattle.std.specs.List.{AllZip, flat_map}
 use Rattle.std.proofs.lemmas.Slice.Zip.{AllZip-long}
 use Rattle.std.proofs.lemmas.Result.{on_ok_weaker}
 use Rattle.counted_devices.specs.Cuts.{ended}
-use Rattle.file_format.specs.Lines.{ShowsItem, ShowParts}
+use Rattle.file_format.specs.Lines.{ShowsItem, ShowChunks}
 use Rattle.counted_devices.specs.Cutting.{Splits-room}
 use Rattle.counted_devices.specs.CutOnce.{splits_once}
-use Rattle.history_file.proofs.progress.Progress.take_parts.Goals as goal
+use Rattle.history_file.proofs.progress.Progress.take_chunks.Goals as goal
 
 pub record-requires-after_bounds : goal.record-requires-after_bounds
 record-requires-after_bounds g c κs within =
-    let parts = map (λ (part : Bor (List ℕ)). part.now) c.args.parts.now in
-    let shows : ShowParts (g.C.Contents.format.meaning c.header.result) parts c.in-Ok.judgements = c.in-Ok.ensures in
-    omega (arith, c.requires, AllZip-long (ShowsItem (g.C.Contents.format.meaning c.header.result)) shows.lines c.in-Ok.judgements shows.shown, Splits-room (flat_map ended parts) shows.lines [] shows.cut)
+    let chunks = map (λ (chunk : Bor (List ℕ)). chunk.now) c.args.chunks.now in
+    let shows : ShowChunks (g.C.Contents.format.meaning c.header.result) chunks c.in-Ok.judgements = c.in-Ok.ensures in
+    omega (arith, c.requires, AllZip-long (ShowsItem (g.C.Contents.format.meaning c.header.result)) shows.lines c.in-Ok.judgements shows.shown, Splits-room (flat_map ended chunks) shows.lines [] shows.cut)
 
 pub returns-in-Ok-clause-taken : goal.returns-in-Ok-clause-taken
 returns-in-Ok-clause-taken g c = λ lines cut before header at some.
-    let parts = map (λ (part : Bor (List ℕ)). part.now) c.args.parts.now in
-    let shows : ShowParts (g.C.Contents.format.meaning c.header.result) parts c.in-Ok.judgements = c.in-Ok.ensures in
-    let same : shows.lines ≡ lines = (splits_once (flat_map ended parts) shows.lines lines [] [] shows.cut cut).0 in
+    let chunks = map (λ (chunk : Bor (List ℕ)). chunk.now) c.args.chunks.now in
+    let shows : ShowChunks (g.C.Contents.format.meaning c.header.result) chunks c.in-Ok.judgements = c.in-Ok.ensures in
+    let same : shows.lines ≡ lines = (splits_once (flat_map ended chunks) shows.lines lines [] [] shows.cut cut).0 in
     let known : c.header.result ≡ header = c.header.ensures header at.items (at.made some) in
     let P : List (List ℕ) → Type 0 = λ ls. AllZip (ShowsItem (g.C.Contents.format.meaning c.header.result)) ls c.in-Ok.judgements in
     let Q : g.row.C-Header.Denot → Type 0 = λ h. AllZip (ShowsItem (g.C.Contents.format.meaning h)) lines c.in-Ok.judgements in
@@ -26,8 +26,8 @@ returns-in-Ok-clause-taken g c = λ lines cut before header at some.
 
 pub returns-in-Ok-clause-lines : goal.returns-in-Ok-clause-lines
 returns-in-Ok-clause-lines g c =
-    let parts = map (λ (part : Bor (List ℕ)). part.now) c.args.parts.now in
-    let shows : ShowParts (g.C.Contents.format.meaning c.header.result) parts c.in-Ok.judgements = c.in-Ok.ensures in
+    let chunks = map (λ (chunk : Bor (List ℕ)). chunk.now) c.args.chunks.now in
+    let shows : ShowChunks (g.C.Contents.format.meaning c.header.result) chunks c.in-Ok.judgements = c.in-Ok.ensures in
     let long = AllZip-long (ShowsItem (g.C.Contents.format.meaning c.header.result)) shows.lines c.in-Ok.judgements shows.shown in
-    let room = Splits-room (flat_map ended parts) shows.lines [] shows.cut in
+    let room = Splits-room (flat_map ended chunks) shows.lines [] shows.cut in
     on_ok_weaker c.record.result (λ exactly. omega (arith, exactly, long, room)) c.record.ensures.lines
