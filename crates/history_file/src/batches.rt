@@ -35,7 +35,7 @@ pub(crate) fn read_batch<R: CountedRead>(reader: &mut R, room: &mut [u8]) -> Bat
         (R.failures reader.old) (R.failures reader.new) }
 {
     let mut count = 0;
-    'blocks: while count < room.len() {
+    'reads: while count < room.len() {
         let end = room.len().min(count.saturating_add(BLOCK));
         match reader.read_counted(&mut room[count..end]) {
             Ok(0) => {

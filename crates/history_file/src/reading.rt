@@ -76,7 +76,7 @@ fn feed_in_blocks<C: Contents, R: CountedRead, T: Threads + Sync>(
         × FailsFrom R.failures reader.old reader.new fault) }
 {
     let mut ahead = Ahead::<C, C::Item>::new(alloc);
-    'blocks: loop {
+    'reads: loop {
         let (next, more) = read_next(rt, ahead, reader, room)?;
         if !more {
             return next.settle();

@@ -7,17 +7,17 @@ pub returns-then-not-more-clause-holds : goal.returns-then-not-more-clause-holds
 returns-then-not-more-clause-holds g c =
     let start = g.R.Read.remaining c.args.reader.now in
     let P : List ℕ → Type 0 = λ bytes. StandsAhead g.C.Contents.format g.C.Contents.Makes bytes c.in_ok-next.next in
-    settled_holds g.C.Contents.format g.C.Contents.Makes P start (g.R.Read.remaining c.read_next.new.reader) c.settle.result (c.in_ok-next.ensures.goes start c.blocks.invariant.holds) (c.in_ok-next.ensures.end c.if-not-more.true) c.settle.ensures.settles
+    settled_holds g.C.Contents.format g.C.Contents.Makes P start (g.R.Read.remaining c.read_next.new.reader) c.settle.result (c.in_ok-next.ensures.goes start c.reads.invariant.holds) (c.in_ok-next.ensures.end c.if-not-more.true) c.settle.ensures.settles
 
 pub returns-then-not-more-clause-fault : goal.returns-then-not-more-clause-fault
 returns-then-not-more-clause-fault g c =
     let start = g.R.Read.remaining c.args.reader.now in
     let P : List ℕ → Type 0 = λ bytes. StandsAhead g.C.Contents.format g.C.Contents.Makes bytes c.in_ok-next.next in
-    settled_fault g.C.Contents.format g.C.Contents.Makes P start (g.R.Read.remaining c.read_next.new.reader) c.settle.result (g.R.Counted.failures c.args.reader.now) (g.R.Counted.failures c.read_next.new.reader) (c.in_ok-next.ensures.goes start c.blocks.invariant.holds) c.settle.ensures.settles
+    settled_fault g.C.Contents.format g.C.Contents.Makes P start (g.R.Read.remaining c.read_next.new.reader) c.settle.result (g.R.Counted.failures c.args.reader.now) (g.R.Counted.failures c.read_next.new.reader) (c.in_ok-next.ensures.goes start c.reads.invariant.holds) c.settle.ensures.settles
 
-pub blocks-preserved : goal.blocks-preserved
-blocks-preserved g c = record {
-  holds = c.in_ok-next.ensures.goes (g.R.Read.remaining c.args.reader.now) c.blocks.invariant.holds;
-  same = c.in_ok-next.ensures.counted ∙ c.blocks.invariant.same;
+pub reads-preserved : goal.reads-preserved
+reads-preserved g c = record {
+  holds = c.in_ok-next.ensures.goes (g.R.Read.remaining c.args.reader.now) c.reads.invariant.holds;
+  same = c.in_ok-next.ensures.counted ∙ c.reads.invariant.same;
   fed = c.in_ok-next.ensures.fed;
 }

@@ -2,12 +2,12 @@ use Rattle.std.proofs.Common.{◌≡◌, ◌≤◌, ◌-◌, ◌^◌}
 use Rattle.history_file.specs.Deliveries.{HoldsAhead}
 use Rattle.history_file.proofs.reading.feed_in_blocks.Given as goal
 
-abbrev pub invariant-blocks : goal.invariant-blocks
-invariant-blocks g l = record {
+abbrev pub invariant-reads : goal.invariant-reads
+invariant-reads g l = record {
   holds : HoldsAhead g.C.Contents.format g.C.Contents.Makes (g.R.Read.remaining l.fn.reader) (g.R.Read.remaining l.reader) l.ahead;
   same : (g.R.Counted.failures l.reader) ≡ (g.R.Counted.failures l.fn.reader);
   fed : l.ahead.fed ≤ (g.R.Counted.given l.reader);
 }
 
-abbrev pub decreases-blocks : goal.decreases-blocks
-decreases-blocks g l = 2 ^ 62 - (g.R.Counted.given l.reader)
+abbrev pub decreases-reads : goal.decreases-reads
+decreases-reads g l = 2 ^ 62 - (g.R.Counted.given l.reader)
