@@ -8,7 +8,7 @@ use crate::format::Contents;
 use crate::judged::{Judged, judge_block};
 use crate::judgements::Judgements;
 use crate::progress::Progress;
-use file_format::{FaultKind, FileFault, LONGEST, LineFault};
+use file_format::{FaultKind, FileFault, LONGEST, LineFault, Stop};
 use std::alloc::Global;
 use std::thread::{Threads, join};
 use tag::Memory;
@@ -154,10 +154,9 @@ impl<C: Contents> Ahead<C, C::Item> {
         }
         let Ahead {
             progress,
-            judged,
+            judged: Judged { judgements, rest },
             fed,
         } = self;
-        let Judged { judgements, rest } = judged;
         let alloc = *rest.allocator();
         let header = progress.contents.header();
         let (taken, next) = join(
@@ -178,16 +177,14 @@ impl<C: Contents> Ahead<C, C::Item> {
         );
         let progress = taken?;
         let Ok(judged) = next else {
-            return Err(FileFault {
-                line: progress.lines + 1,
-                kind: FaultKind::Memory,
-            });
+            return Err(FileFault::at(progress.lines + 1, Stop::Memory));
         };
-        let ahead = Ahead {
+        let fed = fed + block.len() as u64;
+        Ahead {
             progress,
             judged,
-            fed: fed + block.len() as u64,
-        };
-        ahead.check_length()
+            fed,
+        }
+        .check_length()
     }
 }
