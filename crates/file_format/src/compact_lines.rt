@@ -44,8 +44,11 @@ struct Asked {
 fn behind<'a>(bytes: &'a [u8], beginning: &[u8]) -> Option<&'a [u8]>
     ensures { IfSome result (λ rest. bytes.now ≡ beginning.now ++ rest.now) }
 {
-    let rest = bytes.strip_prefix(beginning)?;
-    Some(rest)
+    let end = beginning.len();
+    if bytes.len() < end || !is_all(&bytes[..end], beginning) {
+        return None;
+    }
+    Some(&bytes[end..])
 }
 
 /// Whether the bytes are that text.
