@@ -1,11 +1,10 @@
--- Verdicts and halls, one after another.
+-- Verdicts, one after another.
 use Rattle.std.proofs.Common.{◌≡◌, ◌<◌, ◌+◌, ℕ, List, Some, None, length, get_or, sym, ap, ap₂, ◌∙◌}
 use Rattle.std.proofs.lemmas.Option.{slice_get_within}
 use Rattle.certificate_check.specs.declared.verdict.Verdict.{Verdict}
 use Rattle.certificate_check.specs.declared.verdict.Verdict.TheVariants.{Yes, No}
-use Rattle.node_threads.specs.declared.closing.ClosedHall.{ClosedHall}
 use Rattle.parallel_keys.specs.Histories.{KeyVerdicts}
-use Rattle.store_run.specs.Judged.{AreAllYes, AreYes, AreYesUpTo, IsFirst, IsFirstNo, IsFirstRefused, JudgesHall}
+use Rattle.store_run.specs.Judged.{AreYes, IsFirst, IsFirstNo}
 use Rattle.store_run.specs.declared.judging.RefusedKey.{RefusedKey}
 use Rattle.store_run.proofs.Lists.{item_at, one_more}
 
@@ -24,21 +23,3 @@ first_here verdicts i told refused so_far below is said key = record {
 
 pub all_yes : (verdicts : KeyVerdicts) → AreYes verdicts (length verdicts) → IsFirstNo verdicts None
 all_yes verdicts said i told at = said i told (slice_get_within verdicts i told at) at
-
--- a hall more in which each key is judged yes
-pub hall_more : (halls : List ClosedHall) (hall : ℕ) (closed : ClosedHall) → AreYesUpTo halls hall → hall < length halls → closed ≡ get_or halls hall closed → JudgesHall closed None → AreYesUpTo halls (hall + 1)
-hall_more halls hall closed so_far below is judged = one_more (λ _ (one : ClosedHall). JudgesHall one None) halls hall closed so_far (item_at halls hall closed below is) judged
-
--- the first hall with a key that is judged no
-pub hall_here : (halls : List ClosedHall) (hall : ℕ) (closed : ClosedHall) (refused : RefusedKey) → AreYesUpTo halls hall → hall < length halls → closed ≡ get_or halls hall closed → JudgesHall closed (Some refused)
-    → IsFirstRefused halls refused
-hall_here halls hall closed refused so_far below is judged = record {
-  hall = hall;
-  closed = closed;
-  there = item_at halls hall closed below is;
-  judged = judged;
-  before = so_far;
-}
-
-pub halls_yes : (halls : List ClosedHall) → AreYesUpTo halls (length halls) → AreAllYes halls
-halls_yes halls said hall closed at = said hall closed (slice_get_within halls hall closed at) at

@@ -12,7 +12,8 @@ use Rattle.node_threads.specs.declared.errors.CloseError.TheVariants as close
 use Rattle.run_words.specs.declared.asked.RunAsked.{RunAsked}
 use Rattle.store_load.specs.Loads.{IsLoaded}
 use Rattle.store_load.specs.declared.loaded.Loaded.{Loaded}
-use Rattle.store_run.specs.Judged.{AreAllYes, IsFirstRefused}
+use Rattle.store_run.specs.Judged.{JudgesHalls}
+use Rattle.store_run.specs.Records.{record_of}
 use Rattle.store_run.specs.Shown.{IsShownText}
 use Rattle.store_run.specs.declared.judging.RefusedKey.{RefusedKey}
 
@@ -28,13 +29,13 @@ status_of_judging (Some refused) = status.Refused
 
 -- that holds of the text of what is shown of the halls
 abbrev pub Sends : RunAsked → List ClosedHall → (List ℕ → Type 0) → Type 0
-Sends asked halls P = (text : List ℕ) × IsShownText halls asked.shown asked.load.quorums text × P text
+Sends asked halls P = (text : List ℕ) × IsShownText (record_of halls asked.load.quorums) asked.shown text × P text
 
 -- what the status says of closed halls: the text of what is shown went out, and each key of every hall is judged yes, or
 -- a key is refused; or nothing went out, or a beginning of that text
 abbrev pub Ends : RunAsked → List ClosedHall → Passage → Status → Type 0
-Ends asked halls out status.Good = AreAllYes halls × Sends asked halls (Appends out.old out.new)
-Ends asked halls out status.Refused = ((refused : RefusedKey) × IsFirstRefused halls refused) × Sends asked halls (Appends out.old out.new)
+Ends asked halls out status.Good = JudgesHalls halls None × Sends asked halls (Appends out.old out.new)
+Ends asked halls out status.Refused = ((refused : RefusedKey) × JudgesHalls halls (Some refused)) × Sends asked halls (Appends out.old out.new)
 Ends asked halls out status.Usage = ⊥
 Ends asked halls out status.Format = ⊥
 Ends asked halls out status.Failed = (out.new ≡ out.old) ⊎ Sends asked halls (Begins out.old out.new)

@@ -1,11 +1,11 @@
-//! Judging the orders that a closed store leaves.
+//! Judging the record and the orders that a closed store leaves.
 ghost use Rattle.std.specs.Prelude.{◌≡◌, IfOk};
-ghost use Rattle.parallel_keys.specs.Histories.{JudgesHistory};
-ghost use Rattle.store_run.specs.Judged.{AreDistinctOrders, HaveDistinctOrders, JudgesHall, JudgesHalls, IsFirstNo};
+ghost use Rattle.parallel_keys.specs.Pairings.{AreDistinct};
+ghost use Rattle.store_run.specs.Judged.{IsFirstNo, JudgesRecord};
 
 use certificate_check::{Fault, Verdict};
-use node_threads::ClosedHall;
-use parallel_keys::{CheckError, NoGate, Workers, check_history};
+use parallel_keys::{CheckError, NoGate, Workers, check_histories};
+use recorder::{Histories, KeyOrder};
 use std::alloc::Global;
 use std::sync::Wait;
 use std::thread::Threads;
@@ -37,37 +37,20 @@ fn first_no(verdicts: &[(Key, Verdict)]) -> Result<Option<RefusedKey>, Memory>
     Ok(None)
 }
 
-/// The first key of a hall whose order is refused.
-fn refused_in<R: Threads + Wait>(
+/// The first key whose order is refused, the keys of hall 0 first, then those of hall 1, and so on; none
+/// where each key of every hall has an order of its calls.
+pub fn first_refused<R: Threads + Wait>(
     rt: &R,
     alloc: Global,
-    hall: &ClosedHall,
+    histories: &Histories,
+    orders: &[KeyOrder],
 ) -> Result<Option<RefusedKey>, CheckError>
-    requires { AreDistinctOrders hall.now }
-    ensures { IfOk result (JudgesHall hall.now) }
+    requires { AreDistinct orders.now }
+    ensures { IfOk result (JudgesRecord histories.now.halls orders.now) }
 {
     let Some(workers) = Workers::new(1) else {
         unreachable!()
     };
-    let orders = hall.orders.as_slice();
-    let verdicts = check_history(rt, alloc, &hall.history, orders, workers, &NoGate)?;
+    let verdicts = check_histories(rt, alloc, histories, orders, workers, &NoGate)?;
     Ok(first_no(verdicts.as_slice())?)
-}
-
-/// The first key whose order is refused, hall by hall; none where each key's order is one of its calls.
-#[tactic(auto, using(crate::proofs::Verdicts::hall_more, crate::proofs::Verdicts::hall_here))]
-pub fn first_refused<R: Threads + Wait>(
-    rt: &R,
-    alloc: Global,
-    halls: &[ClosedHall],
-) -> Result<Option<RefusedKey>, CheckError>
-    requires { HaveDistinctOrders halls.now }
-    ensures { IfOk result (JudgesHalls halls.now) }
-{
-    for hall in halls {
-        if let Some(refused) = refused_in(rt, alloc, hall)? {
-            return Ok(Some(refused));
-        }
-    }
-    Ok(None)
 }

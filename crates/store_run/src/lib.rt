@@ -4,6 +4,7 @@
 //! the histories went out whole.
 #![tactic(auto)]
 
+mod joining;
 mod judging;
 mod run;
 mod shown;

@@ -5,6 +5,7 @@ ghost use Rattle.counted_devices.specs.Counts.{IsOneMore};
 ghost use Rattle.node_threads.specs.Closings.{AreClosed};
 ghost use Rattle.store_run.specs.Runs.{Ends, EndsRun};
 
+use crate::joining::{ClosedRecord, closed_record};
 use crate::judging::first_refused;
 use crate::shown::shown_text;
 use crate::telling::{tell_check, tell_close, tell_judged, tell_load, tell_no_text, tell_refusals};
@@ -19,7 +20,7 @@ use std::thread::Threads;
 use store_load::{Loaded, Watch, run_load};
 
 /// Judges the keys of the closed halls, and writes what is shown of their histories.
-#[tactic(auto, using(crate::proofs::Distinct::closed_distinct, crate::proofs::Ending::ends_judged))]
+#[tactic(auto, using(crate::proofs::Ending::ends_judged))]
 fn finish<R: Threads + Wait, W: CountedWrite, E: Write>(
     rt: &R,
     alloc: Global,
@@ -34,13 +35,17 @@ fn finish<R: Threads + Wait, W: CountedWrite, E: Write>(
     ensures failed { result ≡ Status.Failed
         → (out.new ≡ out.old) ⊎ IsOneMore (W.failures out.old) (W.failures out.new) }
 {
-    let first = match first_refused(rt, alloc, halls.as_slice()) {
+    let quorums = asked.load.options().quorums;
+    let ClosedRecord { histories, orders } = match closed_record(alloc, halls, quorums) {
+        Ok(record) => record,
+        Err(error) => return tell_no_text(error, errors),
+    };
+    let first = match first_refused(rt, alloc, &histories, orders.as_slice()) {
         Ok(first) => first,
         Err(error) => return tell_check(error, errors),
     };
     let status = tell_judged(first, errors);
-    let quorums = asked.load.options().quorums;
-    let text = match shown_text(alloc, halls, asked.shown, quorums) {
+    let text = match shown_text(alloc, &histories, asked.shown) {
         Ok(text) => text,
         Err(error) => return tell_no_text(error, errors),
     };

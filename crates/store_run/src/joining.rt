@@ -1,0 +1,76 @@
+//! What the halls of a closed store leave, taken together.
+ghost use Rattle.std.specs.Prelude.{◌≡◌, ◌++◌, IfOk, OnOk, Some};
+ghost use Rattle.node_threads.specs.Closings.{AreClosed};
+ghost use Rattle.parallel_keys.specs.Pairings.{AreDistinct};
+ghost use Rattle.store_run.specs.Records.{histories_in, orders_in, record_of};
+
+use crate::shown::NoText;
+use node_threads::ClosedHall;
+use quorum::Quorums;
+use recorder::{Histories, History, KeyOrder};
+use std::alloc::Global;
+use tag::Memory;
+
+/// The record of a closed store: its histories by hall, and the orders of all halls.
+#[derive(Drop)]
+pub(crate) struct ClosedRecord {
+    /// The histories, hall 0 first, with the store's quorums.
+    pub(crate) histories: Histories,
+    /// The orders of hall 0, then those of hall 1, and so on. No two are of one key.
+    pub(crate) orders: Vec<KeyOrder>,
+}
+
+/// The histories and the orders of closed halls, hall by hall.
+#[derive(Drop)]
+struct Joined {
+    histories: Vec<History>,
+    orders: Vec<KeyOrder>,
+}
+
+/// The record of a store that left these halls. `Apart` comes where they make no histories by hall.
+#[tactic(auto, using(crate::proofs::Distinct::joined_distinct))]
+pub(crate) fn closed_record(
+    alloc: Global,
+    halls: Vec<ClosedHall>,
+    quorums: Quorums,
+) -> Result<ClosedRecord, NoText>
+    requires { AreClosed halls.items }
+    ensures histories { IfOk result (λ made. made.histories ≡ record_of halls.items quorums) }
+    ensures orders { IfOk result (λ made. made.orders.items ≡ orders_in halls.items) }
+    ensures distinct { IfOk result (λ made. AreDistinct made.orders.items) }
+{
+    let Joined { histories, orders } = join_halls(alloc, halls)?;
+    match Histories::new(histories, Some(quorums)) {
+        Some(histories) => Ok(ClosedRecord { histories, orders }),
+        None => Err(NoText::Apart),
+    }
+}
+
+/// The histories of the halls, and their orders.
+fn join_halls(alloc: Global, halls: Vec<ClosedHall>) -> Result<Joined, Memory>
+    ensures histories { IfOk result (λ all. all.histories.items ≡ histories_in halls.items) }
+    ensures orders { IfOk result (λ all. all.orders.items ≡ orders_in halls.items) }
+{
+    let mut histories = Vec::new(alloc);
+    let mut orders = Vec::new(alloc);
+    for closed in halls {
+        let ClosedHall {
+            history,
+            orders: own,
+            ..
+        } = closed;
+        histories.push(history)?;
+        append(&mut orders, own)?;
+    }
+    Ok(Joined { histories, orders })
+}
+
+/// Puts the further orders behind the others.
+fn append(orders: &mut Vec<KeyOrder>, further: Vec<KeyOrder>) -> Result<(), Memory>
+    ensures { OnOk result (orders.new.items ≡ orders.old.items ++ further.items) }
+{
+    for order in further {
+        orders.push(order)?;
+    }
+    Ok(())
+}
