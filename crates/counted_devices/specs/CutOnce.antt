@@ -3,7 +3,7 @@ use Rattle.std.proofs.Common.{ℕ, ◌≡◌, ◌≢◌, List, [], ◌∷◌, �
 use Rattle.std.specs.Prelude.{All}
 use Rattle.std.specs.List.{flat_map}
 use Rattle.std.proofs.lemmas.List.Elements.{All-head, All-tail}
-use Rattle.counted_devices.specs.Cuts.{ended, HasNoEnd, Splits}
+use Rattle.counted_devices.specs.Cuts.{with_end, HasNoEnd, Splits}
 
 first_of : (b : ℕ) (bytes : List ℕ) → HasNoEnd (b ∷ bytes) → b ≢ 10
 first_of b bytes h = All-head (λ (x : ℕ). x ≢ 10) b bytes h
@@ -51,12 +51,12 @@ more_lines line lines h = All-tail HasNoEnd line lines h
 spread : (line xs rest : List ℕ) → ((line ++ 10 ∷ []) ++ xs) ++ rest ≡ line ++ 10 ∷ (xs ++ rest)
 spread line xs rest = append_assoc (line ++ 10 ∷ []) xs rest ∙ append_assoc line (10 ∷ []) (xs ++ rest)
 
-lines_once : (ls ms : List (List ℕ)) (x y : List ℕ) → All HasNoEnd ls → All HasNoEnd ms → HasNoEnd x → HasNoEnd y → flat_map ended ls ++ x ≡ flat_map ended ms ++ y → (ls ≡ ms) × (x ≡ y)
+lines_once : (ls ms : List (List ℕ)) (x y : List ℕ) → All HasNoEnd ls → All HasNoEnd ms → HasNoEnd x → HasNoEnd y → flat_map with_end ls ++ x ≡ flat_map with_end ms ++ y → (ls ≡ ms) × (x ≡ y)
 lines_once [] [] x y h k p q e = (refl, e)
-lines_once [] (b ∷ ms) x y h k p q e = absurd (never_whole x b (flat_map ended ms ++ y) p (e ∙ spread b (flat_map ended ms) y))
-lines_once (a ∷ ls) [] x y h k p q e = absurd (never_whole y a (flat_map ended ls ++ x) q (sym e ∙ spread a (flat_map ended ls) x))
+lines_once [] (b ∷ ms) x y h k p q e = absurd (never_whole x b (flat_map with_end ms ++ y) p (e ∙ spread b (flat_map with_end ms) y))
+lines_once (a ∷ ls) [] x y h k p q e = absurd (never_whole y a (flat_map with_end ls ++ x) q (sym e ∙ spread a (flat_map with_end ls) x))
 lines_once (a ∷ ls) (b ∷ ms) x y h k p q e =
-    let one = cut_once a b (flat_map ended ls ++ x) (flat_map ended ms ++ y) (first_line a ls h) (first_line b ms k) (sym (spread a (flat_map ended ls) x) ∙ e ∙ spread b (flat_map ended ms) y) in
+    let one = cut_once a b (flat_map with_end ls ++ x) (flat_map with_end ms ++ y) (first_line a ls h) (first_line b ms k) (sym (spread a (flat_map with_end ls) x) ∙ e ∙ spread b (flat_map with_end ms) y) in
     let others = lines_once ls ms x y (more_lines a ls h) (more_lines b ms k) p q one.1 in
     (same_cons a b ls ms one.0 others.0, others.1)
 

@@ -3,8 +3,8 @@ use Rattle.std.specs.Prelude.{ℕ, ◌≡◌, ◌≢◌, ◌<◌, ◌≤◌, ◌
 use Rattle.std.specs.List.{flat_map}
 
 -- a line with its end
-abbrev pub ended : List ℕ → List ℕ
-ended line = line ++ 10 ∷ []
+abbrev pub with_end : List ℕ → List ℕ
+with_end line = line ++ 10 ∷ []
 
 -- no end of a line stands there
 abbrev pub HasNoEnd : List ℕ → Type 0
@@ -19,18 +19,18 @@ pub record IsFirstEnd (bytes : List ℕ) (from place : ℕ) : Type 0 where
 
 -- the bytes are these lines, each with its end, and then a rest without one
 pub record Splits (bytes : List ℕ) (lines : List (List ℕ)) (rest : List ℕ) : Type 0 where
-  pub whole : bytes ≡ flat_map ended lines ++ rest
+  pub whole : bytes ≡ flat_map with_end lines ++ rest
   pub each : All HasNoEnd lines
   pub partial : HasNoEnd rest
 
 -- the bytes are these chunks, each of one line or more and with an end behind it, and then a rest without an end
 pub record Divides (bytes : List ℕ) (chunks : List (List ℕ)) (rest : List ℕ) : Type 0 where
-  pub whole : bytes ≡ flat_map ended chunks ++ rest
+  pub whole : bytes ≡ flat_map with_end chunks ++ rest
   pub partial : HasNoEnd rest
 
 -- the chunks, each with an end behind it, are these lines
 abbrev pub AreLinesIn : List (List ℕ) → List (List ℕ) → Type 0
-AreLinesIn chunks lines = Splits (flat_map ended chunks) lines []
+AreLinesIn chunks lines = Splits (flat_map with_end chunks) lines []
 
 -- the lines at the end: each that has its end, and a rest that isn't empty
 abbrev pub last_lines : List (List ℕ) → List ℕ → List (List ℕ)

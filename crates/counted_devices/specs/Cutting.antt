@@ -6,27 +6,27 @@ use Rattle.std.proofs.lemmas.Grind.{flat_map-append}
 use Rattle.std.proofs.lemmas.List.{drop_more, take_rest, take-append-drop}
 use Rattle.std.proofs.lemmas.List.Elements.{All-append, All-nil, All-cons, All-head, All-tail}
 use Rattle.std.proofs.lemmas.Bool.{eqb-false}
-use Rattle.counted_devices.specs.Cuts.{ended, HasNoEnd, Splits, AreLinesIn, last_lines}
+use Rattle.counted_devices.specs.Cuts.{with_end, HasNoEnd, Splits, AreLinesIn, last_lines}
 
 pub Splits-join : (bytes block : List ℕ) (lines more : List (List ℕ)) (rest last : List ℕ) → Splits bytes lines rest → Splits (rest ++ block) more last → Splits (bytes ++ block) (lines ++ more) last
 Splits-join bytes block lines more rest last a b = record {
-  whole = ap (λ (xs : List ℕ). xs ++ block) a.whole ∙ append_assoc (flat_map ended lines) rest block ∙ ap (λ (xs : List ℕ). flat_map ended lines ++ xs) b.whole ∙ sym (append_assoc (flat_map ended lines) (flat_map ended more) last) ∙ ap (λ (xs : List ℕ). xs ++ last) (sym (flat_map-append ended lines more));
+  whole = ap (λ (xs : List ℕ). xs ++ block) a.whole ∙ append_assoc (flat_map with_end lines) rest block ∙ ap (λ (xs : List ℕ). flat_map with_end lines ++ xs) b.whole ∙ sym (append_assoc (flat_map with_end lines) (flat_map with_end more) last) ∙ ap (λ (xs : List ℕ). xs ++ last) (sym (flat_map-append with_end lines more));
   each = All-append HasNoEnd lines more a.each b.each;
   partial = b.partial;
 }
 
-line_long : (line bytes : List ℕ) → suc (length bytes) ≤ length (ended line ++ bytes)
+line_long : (line bytes : List ℕ) → suc (length bytes) ≤ length (with_end line ++ bytes)
 line_long [] bytes = le_refl (suc (length bytes))
 line_long (b ∷ line) bytes = le_step (line_long line bytes)
 
-ends_long : (lines : List (List ℕ)) → length lines ≤ length (flat_map ended lines)
+ends_long : (lines : List (List ℕ)) → length lines ≤ length (flat_map with_end lines)
 ends_long [] = le_refl zero
-ends_long (line ∷ lines) = le_trans (suc-le-suc (ends_long lines)) (line_long line (flat_map ended lines))
+ends_long (line ∷ lines) = le_trans (suc-le-suc (ends_long lines)) (line_long line (flat_map with_end lines))
 
 -- each line and its end is a byte at least
 pub Splits-room : (bytes : List ℕ) (lines : List (List ℕ)) (rest : List ℕ) → Splits bytes lines rest → length lines + length rest ≤ length bytes
 Splits-room bytes lines rest s =
-    let whole : length bytes ≡ length (flat_map ended lines) + length rest = ap length s.whole ∙ length-append (flat_map ended lines) rest in
+    let whole : length bytes ≡ length (flat_map with_end lines) + length rest = ap length s.whole ∙ length-append (flat_map with_end lines) rest in
     subst (λ (n : ℕ). length lines + length rest ≤ n) (sym whole) (add-le-add (ends_long lines) (le_refl (length rest)))
 
 -- bytes without an end are no line
@@ -36,7 +36,7 @@ Splits-none bytes h = record { whole = refl; each = All-nil HasNoEnd; partial = 
 -- a line begun by the rest and ended behind the front, before the lines of the tail
 pub Splits-line : (rest front tail : List ℕ) (lines : List (List ℕ)) (last : List ℕ) → HasNoEnd rest → HasNoEnd front → Splits tail lines last → Splits (rest ++ (front ++ 10 ∷ tail)) ((rest ++ front) ∷ lines) last
 Splits-line rest front tail lines last r f s = record {
-  whole = sym (append_assoc rest front (10 ∷ tail)) ∙ ap (λ (xs : List ℕ). (rest ++ front) ++ 10 ∷ xs) s.whole ∙ sym (append_assoc (rest ++ front) (10 ∷ []) (flat_map ended lines ++ last)) ∙ sym (append_assoc (ended (rest ++ front)) (flat_map ended lines) last);
+  whole = sym (append_assoc rest front (10 ∷ tail)) ∙ ap (λ (xs : List ℕ). (rest ++ front) ++ 10 ∷ xs) s.whole ∙ sym (append_assoc (rest ++ front) (10 ∷ []) (flat_map with_end lines ++ last)) ∙ sym (append_assoc (with_end (rest ++ front)) (flat_map with_end lines) last);
   each = All-cons HasNoEnd (rest ++ front) lines (All-append (λ (b : ℕ). b ≢ 10) rest front r f) s.each;
   partial = s.partial;
 }
@@ -103,9 +103,9 @@ Splits-rest bytes rest lines s none =
     subst P (append-nil lines) (Splits-join bytes rest lines [] [] rest s (Splits-none rest none))
 
 -- the rest is a line, when its end comes
-ended_rest : (rest : List ℕ) → HasNoEnd rest → Splits (ended rest) (rest ∷ []) []
+ended_rest : (rest : List ℕ) → HasNoEnd rest → Splits (with_end rest) (rest ∷ []) []
 ended_rest rest none = record {
-  whole = sym (append-nil (ended rest ++ []) ∙ append-nil (ended rest));
+  whole = sym (append-nil (with_end rest ++ []) ∙ append-nil (with_end rest));
   each = All-cons HasNoEnd rest [] none (All-nil HasNoEnd);
   partial = All-nil (λ (b : ℕ). b ≢ 10);
 }
@@ -114,7 +114,7 @@ ended_rest rest none = record {
 pub ended_chunk : (chunk : List ℕ) (lines : List (List ℕ)) (rest : List ℕ) → Splits chunk lines rest → AreLinesIn (chunk ∷ []) (lines ++ rest ∷ [])
 ended_chunk chunk lines rest s =
     let P : List ℕ → Type 0 = λ xs. Splits xs (lines ++ rest ∷ []) [] in
-    subst P (sym (append-nil (ended chunk))) (Splits-join chunk (10 ∷ []) lines (rest ∷ []) rest [] s (ended_rest rest s.partial))
+    subst P (sym (append-nil (with_end chunk))) (Splits-join chunk (10 ∷ []) lines (rest ∷ []) rest [] s (ended_rest rest s.partial))
 
 -- a line is a chunk of one line
 pub one_line : (line : List ℕ) → HasNoEnd line → AreLinesIn (line ∷ []) (line ∷ [])
@@ -126,7 +126,7 @@ no_chunks = Splits-none [] (All-nil (λ (b : ℕ). b ≢ 10))
 pub more_lines : (chunk : List ℕ) (chunks lines more : List (List ℕ)) → AreLinesIn (chunk ∷ []) lines → AreLinesIn chunks more → AreLinesIn (chunk ∷ chunks) (lines ++ more)
 more_lines chunk chunks lines more a b =
     let P : List ℕ → Type 0 = λ xs. Splits xs lines [] in
-    Splits-join (ended chunk) (flat_map ended chunks) lines more [] [] (subst P (append-nil (ended chunk)) a) b
+    Splits-join (with_end chunk) (flat_map with_end chunks) lines more [] [] (subst P (append-nil (with_end chunk)) a) b
 
 -- the lines of chunks
 pub record ChunkLines (chunks : List (List ℕ)) : Type 0 where

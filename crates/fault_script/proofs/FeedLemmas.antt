@@ -4,7 +4,7 @@ use Rattle.std.specs.Prelude.{All}
 use Rattle.std.specs.List.{flat_map}
 use Rattle.std.proofs.lemmas.Grind.{flat_map-append}
 use Rattle.std.proofs.lemmas.List.Elements.{All-append, All-nil}
-use Rattle.counted_devices.specs.Cuts.{ended, HasNoEnd, Splits}
+use Rattle.counted_devices.specs.Cuts.{with_end, HasNoEnd, Splits}
 use Rattle.counted_devices.specs.Cuts.{last_lines}
 use Rattle.counted_devices.specs.Cutting.{last_some, last_none}
 use Rattle.fault_script.specs.declared.command.Script.{Script}
@@ -37,7 +37,7 @@ Stands-none feed drafted lines empty =
 -- bytes that end no line are kept
 Splits-keep : (bytes part : List ℕ) (lines : List (List ℕ)) (rest : List ℕ) → Splits bytes lines rest → HasNoEnd part → Splits (bytes ++ part) lines (rest ++ part)
 Splits-keep bytes part lines rest s none = record {
-  whole = ap (λ (xs : List ℕ). xs ++ part) s.whole ∙ append_assoc (flat_map ended lines) rest part;
+  whole = ap (λ (xs : List ℕ). xs ++ part) s.whole ∙ append_assoc (flat_map with_end lines) rest part;
   each = s.each;
   partial = no_end-append rest part s.partial none;
 }
@@ -63,7 +63,7 @@ first_long bytes part old number s none more counted =
       earlier = s.lines;
       line = line;
       later = [];
-      place = t.whole ∙ ap (λ (xs : List ℕ). flat_map ended s.lines ++ xs) (sym (append-nil line));
+      place = t.whole ∙ ap (λ (xs : List ℕ). flat_map with_end s.lines ++ xs) (sym (append-nil line));
       each = t.each;
       one = t.partial;
       whole = inr much;
@@ -75,26 +75,26 @@ All-one line h zero d lt = h
 All-one line h (suc k) d lt = absurd (omega arith)
 
 -- a line and its end
-ended_more : (lines : List (List ℕ)) (line : List ℕ) → flat_map ended (lines ++ line ∷ []) ≡ flat_map ended lines ++ ended line
-ended_more lines line = flat_map-append ended lines (line ∷ []) ∙ ap (λ (xs : List ℕ). flat_map ended lines ++ xs) (append-nil (ended line))
+ended_more : (lines : List (List ℕ)) (line : List ℕ) → flat_map with_end (lines ++ line ∷ []) ≡ flat_map with_end lines ++ with_end line
+ended_more lines line = flat_map-append with_end lines (line ∷ []) ∙ ap (λ (xs : List ℕ). flat_map with_end lines ++ xs) (append-nil (with_end line))
 
-end_whole : (bytes part : List ℕ) (lines : List (List ℕ)) (rest : List ℕ) → bytes ≡ flat_map ended lines ++ rest → bytes ++ ended part ≡ flat_map ended lines ++ ended (rest ++ part)
+end_whole : (bytes part : List ℕ) (lines : List (List ℕ)) (rest : List ℕ) → bytes ≡ flat_map with_end lines ++ rest → bytes ++ with_end part ≡ flat_map with_end lines ++ with_end (rest ++ part)
 end_whole bytes part lines rest e =
-    ap (λ (xs : List ℕ). xs ++ ended part) e
-    ∙ append_assoc (flat_map ended lines) rest (ended part)
-    ∙ ap (λ (xs : List ℕ). flat_map ended lines ++ xs) (sym (append_assoc rest part (10 ∷ [])))
+    ap (λ (xs : List ℕ). xs ++ with_end part) e
+    ∙ append_assoc (flat_map with_end lines) rest (with_end part)
+    ∙ ap (λ (xs : List ℕ). flat_map with_end lines ++ xs) (sym (append_assoc rest part (10 ∷ [])))
 
-Splits-end : (bytes part : List ℕ) (lines : List (List ℕ)) (rest : List ℕ) → Splits bytes lines rest → HasNoEnd part → Splits (bytes ++ ended part) (lines ++ (rest ++ part) ∷ []) []
+Splits-end : (bytes part : List ℕ) (lines : List (List ℕ)) (rest : List ℕ) → Splits bytes lines rest → HasNoEnd part → Splits (bytes ++ with_end part) (lines ++ (rest ++ part) ∷ []) []
 Splits-end bytes part lines rest s none = record {
-  whole = end_whole bytes part lines rest s.whole ∙ sym (ended_more lines (rest ++ part)) ∙ sym (append-nil (flat_map ended (lines ++ (rest ++ part) ∷ [])));
+  whole = end_whole bytes part lines rest s.whole ∙ sym (ended_more lines (rest ++ part)) ∙ sym (append-nil (flat_map with_end (lines ++ (rest ++ part) ∷ [])));
   each = All-append HasNoEnd lines ((rest ++ part) ∷ []) s.each (All-one (rest ++ part) (no_end-append rest part s.partial none));
   partial = no_end-nil;
 }
 
-pub Stands-end : (bytes part line : List ℕ) (old new : Feed) (s : Stands bytes old) → HasNoEnd part → line ≡ old.rest.items ++ part → IsAt (s.lines ++ line ∷ []) new.progress → new.rest.items ≡ [] → Stands (bytes ++ ended part) new
+pub Stands-end : (bytes part line : List ℕ) (old new : Feed) (s : Stands bytes old) → HasNoEnd part → line ≡ old.rest.items ++ part → IsAt (s.lines ++ line ∷ []) new.progress → new.rest.items ≡ [] → Stands (bytes ++ with_end part) new
 Stands-end bytes part line old new s none is at empty =
     let A : List ℕ → Type 0 = λ x. IsAt (s.lines ++ x ∷ []) new.progress in
-    let S : List ℕ → Type 0 = λ xs. Splits (bytes ++ ended part) (s.lines ++ (old.rest.items ++ part) ∷ []) xs in
+    let S : List ℕ → Type 0 = λ xs. Splits (bytes ++ with_end part) (s.lines ++ (old.rest.items ++ part) ∷ []) xs in
     record {
       lines = s.lines ++ (old.rest.items ++ part) ∷ [];
       splits = subst S (sym empty) (Splits-end bytes part s.lines old.rest.items s.splits none);
@@ -103,16 +103,16 @@ Stands-end bytes part line old new s none is at empty =
     }
 
 -- a fault of the line that ends
-pub stops_end : (bytes part line : List ℕ) (old : Feed) (number : ℕ) (k : ErrorKind) (s : Stands bytes old) → HasNoEnd part → line ≡ old.rest.items ++ part → HasFaultOf s.lines line number k → (later : List ℕ) → ErrorSoFar ((bytes ++ ended part) ++ later) number k
+pub stops_end : (bytes part line : List ℕ) (old : Feed) (number : ℕ) (k : ErrorKind) (s : Stands bytes old) → HasNoEnd part → line ≡ old.rest.items ++ part → HasFaultOf s.lines line number k → (later : List ℕ) → ErrorSoFar ((bytes ++ with_end part) ++ later) number k
 stops_end bytes part line old number (kind.Line fault) s none is h later =
     let whole : List ℕ = old.rest.items ++ part in
     let F : List ℕ → Type 0 = λ x. HasFault s.lines x number fault in
-    let seam : ended whole ++ later ≡ whole ++ 10 ∷ later = append_assoc whole (10 ∷ []) later in
+    let seam : with_end whole ++ later ≡ whole ++ 10 ∷ later = append_assoc whole (10 ∷ []) later in
     record {
       earlier = s.lines;
       line = whole;
       later = 10 ∷ later;
-      place = ap (λ (xs : List ℕ). xs ++ later) (end_whole bytes part s.lines old.rest.items s.splits.whole) ∙ append_assoc (flat_map ended s.lines) (ended whole) later ∙ ap (λ (xs : List ℕ). flat_map ended s.lines ++ xs) seam;
+      place = ap (λ (xs : List ℕ). xs ++ later) (end_whole bytes part s.lines old.rest.items s.splits.whole) ∙ append_assoc (flat_map with_end s.lines) (with_end whole) later ∙ ap (λ (xs : List ℕ). flat_map with_end s.lines ++ xs) seam;
       each = s.splits.each;
       one = no_end-append old.rest.items part s.splits.partial none;
       whole = inl (later, refl);
@@ -122,7 +122,7 @@ stops_end bytes part line old number kind.Device s none is h later = h
 stops_end bytes part line old number kind.Memory s none is h later = tt
 
 -- what a line's end makes of the line that was taken, or refused
-pub end_of : (bytes part line : List ℕ) (old new : Feed) (r : Result (Unit {0}) ScriptError) (s : Stands bytes old) → HasNoEnd part → line ≡ old.rest.items ++ part → Takes s.lines line r new.progress → new.rest.items ≡ [] → Ended (bytes ++ ended part) r new
+pub end_of : (bytes part line : List ℕ) (old new : Feed) (r : Result (Unit {0}) ScriptError) (s : Stands bytes old) → HasNoEnd part → line ≡ old.rest.items ++ part → Takes s.lines line r new.progress → new.rest.items ≡ [] → Ended (bytes ++ with_end part) r new
 end_of bytes part line old new (Ok done) s none is taken empty = Stands-end bytes part line old new s none is taken empty
 end_of bytes part line old new (Err error) s none is taken empty = stops_end bytes part line old error.line error.kind s none is taken
 
@@ -136,7 +136,7 @@ error_more bytes more number (kind.Line fault) h = record {
   earlier = h.earlier;
   line = h.line;
   later = h.later ++ more;
-  place = ap (λ (xs : List ℕ). xs ++ more) h.place ∙ append_assoc (flat_map ended h.earlier) (h.line ++ h.later) more ∙ ap (λ (xs : List ℕ). flat_map ended h.earlier ++ xs) (append_assoc h.line h.later more);
+  place = ap (λ (xs : List ℕ). xs ++ more) h.place ∙ append_assoc (flat_map with_end h.earlier) (h.line ++ h.later) more ∙ ap (λ (xs : List ℕ). flat_map with_end h.earlier ++ xs) (append_assoc h.line h.later more);
   each = h.each;
   one = h.one;
   whole = whole_more h.line h.later more h.whole;
@@ -145,29 +145,29 @@ error_more bytes more number (kind.Line fault) h = record {
 error_more bytes more number kind.Device h = h
 error_more bytes more number kind.Memory h = tt
 
-seam : (bytes part later : List ℕ) → (bytes ++ part) ++ 10 ∷ later ≡ (bytes ++ ended part) ++ later
-seam bytes part later = append_assoc bytes part (10 ∷ later) ∙ ap (λ (xs : List ℕ). bytes ++ xs) (sym (append_assoc part (10 ∷ []) later)) ∙ sym (append_assoc bytes (ended part) later)
+seam : (bytes part later : List ℕ) → (bytes ++ part) ++ 10 ∷ later ≡ (bytes ++ with_end part) ++ later
+seam bytes part later = append_assoc bytes part (10 ∷ later) ∙ ap (λ (xs : List ℕ). bytes ++ xs) (sym (append_assoc part (10 ∷ []) later)) ∙ sym (append_assoc bytes (with_end part) later)
 
 -- an error of the part of a line is one of the line
-pub error_ends : (bytes part : List ℕ) (number : ℕ) (k : ErrorKind) → ErrorSoFar (bytes ++ part) number k → (later : List ℕ) → ErrorSoFar ((bytes ++ ended part) ++ later) number k
+pub error_ends : (bytes part : List ℕ) (number : ℕ) (k : ErrorKind) → ErrorSoFar (bytes ++ part) number k → (later : List ℕ) → ErrorSoFar ((bytes ++ with_end part) ++ later) number k
 error_ends bytes part number k h later =
     let P : List ℕ → Type 0 = λ xs. ErrorSoFar xs number k in
     subst P (seam bytes part later) (error_more (bytes ++ part) (10 ∷ later) number k h)
 
 -- a line whose bytes were kept ends with no further byte
-pub end_kept : (bytes part : List ℕ) (kept new : Feed) (r : Result (Unit {0}) ScriptError) (s : Stands (bytes ++ part) kept) → Takes s.lines kept.rest.items r new.progress → new.rest.items ≡ [] → Ended (bytes ++ ended part) r new
+pub end_kept : (bytes part : List ℕ) (kept new : Feed) (r : Result (Unit {0}) ScriptError) (s : Stands (bytes ++ part) kept) → Takes s.lines kept.rest.items r new.progress → new.rest.items ≡ [] → Ended (bytes ++ with_end part) r new
 end_kept bytes part kept new r s taken empty =
     let P : List ℕ → Type 0 = λ xs. Ended xs r new in
     subst P (append_assoc bytes part (10 ∷ [])) (end_of (bytes ++ part) [] kept.rest.items kept new r s no_end-nil (sym (append-nil kept.rest.items)) taken empty)
 
 -- a fault of a line whose bytes were kept
-pub stop_kept : (bytes part : List ℕ) (kept : Feed) (number : ℕ) (k : ErrorKind) (s : Stands (bytes ++ part) kept) → HasFaultOf s.lines kept.rest.items number k → (later : List ℕ) → ErrorSoFar ((bytes ++ ended part) ++ later) number k
+pub stop_kept : (bytes part : List ℕ) (kept : Feed) (number : ℕ) (k : ErrorKind) (s : Stands (bytes ++ part) kept) → HasFaultOf s.lines kept.rest.items number k → (later : List ℕ) → ErrorSoFar ((bytes ++ with_end part) ++ later) number k
 stop_kept bytes part kept number k s h later =
     let P : List ℕ → Type 0 = λ xs. ErrorSoFar (xs ++ later) number k in
     subst P (append_assoc bytes part (10 ∷ [])) (stops_end (bytes ++ part) [] kept.rest.items kept number k s no_end-nil (sym (append-nil kept.rest.items)) h later)
 
 -- a line's end divides the bytes
-pub cut_at : (left : List ℕ) (i : ℕ) → i < length left → get_or left i 0 ≡ 10 → left ≡ ended (take i left) ++ drop (suc i) left
+pub cut_at : (left : List ℕ) (i : ℕ) → i < length left → get_or left i 0 ≡ 10 → left ≡ with_end (take i left) ++ drop (suc i) left
 cut_at [] i lt e = absurd (omega arith)
 cut_at (x ∷ xs) zero lt e = ap (λ (b : ℕ). b ∷ xs) e
 cut_at (x ∷ xs) (suc i) lt e = ap (λ (l : List ℕ). x ∷ l) (cut_at xs i (omega arith) e)
@@ -178,19 +178,19 @@ pub record Goes (old : Feed) (piece left : List ℕ) (new : Feed) : Type 0 where
   pub split : piece ≡ done ++ left
   pub stands : (bytes : List ℕ) → Stands bytes old → Stands (bytes ++ done) new
 
-pub Goes-step : (old mid new : Feed) (piece left part more : List ℕ) → Goes old piece left mid → left ≡ ended part ++ more → HasNoEnd part → ((bytes : List ℕ) → Stands bytes mid → HasNoEnd part → Ended (bytes ++ ended part) (Ok tt) new) → Goes old piece more new
+pub Goes-step : (old mid new : Feed) (piece left part more : List ℕ) → Goes old piece left mid → left ≡ with_end part ++ more → HasNoEnd part → ((bytes : List ℕ) → Stands bytes mid → HasNoEnd part → Ended (bytes ++ with_end part) (Ok tt) new) → Goes old piece more new
 Goes-step old mid new piece left part more g cut none ends = record {
-  done = g.done ++ ended part;
-  split = g.split ∙ ap (λ (xs : List ℕ). g.done ++ xs) cut ∙ sym (append_assoc g.done (ended part) more);
-  stands = λ bytes s. let P : List ℕ → Type 0 = λ xs. Stands xs new in subst P (append_assoc bytes g.done (ended part)) (ends (bytes ++ g.done) (g.stands bytes s) none);
+  done = g.done ++ with_end part;
+  split = g.split ∙ ap (λ (xs : List ℕ). g.done ++ xs) cut ∙ sym (append_assoc g.done (with_end part) more);
+  stands = λ bytes s. let P : List ℕ → Type 0 = λ xs. Stands xs new in subst P (append_assoc bytes g.done (with_end part)) (ends (bytes ++ g.done) (g.stands bytes s) none);
 }
 
 -- a fault of one of its lines
-pub Goes-stop : (old mid new : Feed) (piece left part more : List ℕ) (error : ScriptError) → Goes old piece left mid → left ≡ ended part ++ more → HasNoEnd part → ((bytes : List ℕ) → Stands bytes mid → HasNoEnd part → Ended (bytes ++ ended part) (Err error) new) → (bytes : List ℕ) → Stands bytes old → ErrorSoFar (bytes ++ piece) error.line error.kind
+pub Goes-stop : (old mid new : Feed) (piece left part more : List ℕ) (error : ScriptError) → Goes old piece left mid → left ≡ with_end part ++ more → HasNoEnd part → ((bytes : List ℕ) → Stands bytes mid → HasNoEnd part → Ended (bytes ++ with_end part) (Err error) new) → (bytes : List ℕ) → Stands bytes old → ErrorSoFar (bytes ++ piece) error.line error.kind
 Goes-stop old mid new piece left part more error g cut none ends bytes s =
     let P : List ℕ → Type 0 = λ xs. ErrorSoFar xs error.line error.kind in
-    let same : ((bytes ++ g.done) ++ ended part) ++ more ≡ bytes ++ piece =
-    append_assoc (bytes ++ g.done) (ended part) more
+    let same : ((bytes ++ g.done) ++ with_end part) ++ more ≡ bytes ++ piece =
+    append_assoc (bytes ++ g.done) (with_end part) more
     ∙ ap (λ (xs : List ℕ). (bytes ++ g.done) ++ xs) (sym cut)
     ∙ append_assoc bytes g.done left
     ∙ ap (λ (xs : List ℕ). bytes ++ xs) (sym g.split) in

@@ -1,7 +1,7 @@
 -- What bytes that come in pieces were read as.
 use Rattle.std.specs.Prelude.{ℕ, ◌≡◌, ◌≤◌, ◌<◌, ◌+◌, ◌⊎◌, List, [], ◌∷◌, ◌++◌, length, Result, Ok, Err, All, MatchResult}
 use Rattle.std.specs.List.{flat_map}
-use Rattle.counted_devices.specs.Cuts.{ended, HasNoEnd, Splits}
+use Rattle.counted_devices.specs.Cuts.{with_end, HasNoEnd, Splits}
 use Rattle.counted_devices.specs.ReadFaults.{IsFaultBy}
 use Rattle.fault_script.specs.declared.draft.Draft.{Draft}
 use Rattle.fault_script.specs.declared.progress.Progress.{Progress}
@@ -61,7 +61,7 @@ pub record FirstFault (bytes : List ℕ) (number : ℕ) (fault : LineFault) : Ty
   pub earlier : List (List ℕ)
   pub line : List ℕ
   pub later : List ℕ
-  pub place : bytes ≡ flat_map ended earlier ++ (line ++ later)
+  pub place : bytes ≡ flat_map with_end earlier ++ (line ++ later)
   pub each : All HasNoEnd earlier
   pub one : HasNoEnd line
   pub whole : IsWhole line later

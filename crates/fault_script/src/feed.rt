@@ -1,6 +1,6 @@
 //! A script that comes in pieces.
 ghost use Rattle.std.specs.Prelude.{ℕ, ◌≡◌, ◌<◌, ◌≤◌, ◌+◌, ◌^◌, ◌++◌, List, [], length, OnOk};
-ghost use Rattle.counted_devices.specs.Cuts.{HasNoEnd, ended};
+ghost use Rattle.counted_devices.specs.Cuts.{HasNoEnd, with_end};
 
 use crate::command::Script;
 use crate::draft::Draft;
@@ -65,8 +65,8 @@ impl Feed {
     /// Ends the line that is under way, of which these are the last bytes.
     fn end_line(&mut self, part: &[u8]) -> Result<(), ScriptError>
         requires { self.old.progress.lines < 2 ^ 63 }
-        ensures ended { (bytes : List ℕ) → Stands bytes self.old → HasNoEnd part.now
-            → Ended (bytes ++ ended part.now) result self.new }
+        ensures with_end { (bytes : List ℕ) → Stands bytes self.old → HasNoEnd part.now
+            → Ended (bytes ++ with_end part.now) result self.new }
         ensures lines { OnOk result (self.new.progress.lines ≡ self.old.progress.lines + 1) }
         ensures rest { OnOk result (length self.new.rest.items ≡ 0) }
     {

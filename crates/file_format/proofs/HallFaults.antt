@@ -12,7 +12,7 @@ use Rattle.file_format.specs.declared.hall_row.HallRow.{HallRow}
 use Rattle.file_format.specs.FileHeaders.{count_of, quorums_of, are_quorums, told_in, version_of, file_header_of, file_header_in}
 use Rattle.file_format.specs.HallRows.{only_row_in, placed_row_in, hall_row_in}
 use Rattle.file_format.specs.LineFaults.{LacksQuorumMember, no_ask, no_halls, no_put, no_votes, AreQuorumsOutOfRange, bad_count, bad_quorums, LacksRowMember, LacksPlacedMember, no_hall, of_row, IsRowOutOfRange, IsPlacedOutOfRange, great_hall, bad_row, IsMemberFault, HasHallRowFault, IsOfVersion, HasFileHeaderFault}
-use Rattle.file_format.specs.Members.{needed, ranged, text_at, number_at, numbers_at}
+use Rattle.file_format.specs.Members.{needed_member, in_range, text_at, number_at, numbers_at}
 use Rattle.file_format.specs.Rows.{row_in}
 use Rattle.file_format.specs.Says.{HasText, HasNumber, SaysQuorums, SaysFileHeader, SaysPlacedRow}
 use Rattle.file_format.proofs.LineFaults.{Told, bind, need, range, one, decided, one_number, two_texts, equal_to, row_told, row_complete, row_within}
@@ -36,10 +36,10 @@ unfolding told_in
 told_told d =
     let L = LacksQuorumMember d in
     let O = AreQuorumsOutOfRange d in
-    bind L O (needed (number_at (codes "ask") d)) _ (need L O (number_at (codes "ask") d) (λ lacks. no_ask lacks)) (λ ask a.
-    bind L O (needed (number_at (codes "halls") d)) _ (need L O (number_at (codes "halls") d) (λ lacks. no_halls lacks)) (λ halls h.
-    bind L O (needed (number_at (codes "put") d)) _ (need L O (number_at (codes "put") d) (λ lacks. no_put lacks)) (λ put p.
-    bind L O (needed (numbers_at (codes "votes") d)) _ (need L O (numbers_at (codes "votes") d) (λ lacks. no_votes lacks)) (λ votes v.
+    bind L O (needed_member (number_at (codes "ask") d)) _ (need L O (number_at (codes "ask") d) (λ lacks. no_ask lacks)) (λ ask a.
+    bind L O (needed_member (number_at (codes "halls") d)) _ (need L O (number_at (codes "halls") d) (λ lacks. no_halls lacks)) (λ halls h.
+    bind L O (needed_member (number_at (codes "put") d)) _ (need L O (number_at (codes "put") d) (λ lacks. no_put lacks)) (λ put p.
+    bind L O (needed_member (numbers_at (codes "votes") d)) _ (need L O (numbers_at (codes "votes") d) (λ lacks. no_votes lacks)) (λ votes v.
     let at_ask = found (number_at (codes "ask") d) ask a in
     let at_halls = found (number_at (codes "halls") d) halls h in
     let at_put = found (number_at (codes "put") d) put p in
@@ -174,11 +174,11 @@ unfolding placed_row_in
 placed_told halls d =
     let L = LacksPlacedMember d in
     let O = IsPlacedOutOfRange halls d in
-    bind L O (needed (number_at (codes "hall") d)) _ (need L O (number_at (codes "hall") d) (λ lacks. no_hall lacks)) (λ number n.
+    bind L O (needed_member (number_at (codes "hall") d)) _ (need L O (number_at (codes "hall") d) (λ lacks. no_hall lacks)) (λ number n.
     let at_hall = found (number_at (codes "hall") d) number n in
     bind L O (row_in d) _ (wider (LacksRowMember d) (IsRowOutOfRange d) L O (row_in d) (λ lacks. of_row lacks) (λ row. placed_has d number at_hall row) (λ out. bad_row out) (row_told d)) (λ said e.
     let row = row_back d said e in
-    bind L O (ranged (nat_lt number halls) number) _ (range L O (nat_lt number halls) number (λ out. (placed_has d number at_hall (row_complete d said row), great_hall number at_hall (ltb-false number halls out)))) (λ place p. tt)))
+    bind L O (in_range (nat_lt number halls) number) _ (range L O (nat_lt number halls) number (λ out. (placed_has d number at_hall (row_complete d said row), great_hall number at_hall (ltb-false number halls out)))) (λ place p. tt)))
 
 placed_within : (halls : ℕ) (d : Data) (item : HallRow) → SaysPlacedRow halls d item → IsPlacedOutOfRange halls d → ⊥
 placed_within halls d item s (great_hall n h g) = omega (arith, s.below, one_number d (codes "hall") item.hall n s.hall h, g)

@@ -17,7 +17,7 @@ use Rattle.recorder.specs.declared.row.Row.TheVariants.{Invoke, Note, Respond}
 use Rattle.recorder.specs.declared.order.KeyOrder.{KeyOrder}
 use Rattle.file_format.specs.declared.fault.LineFault.{LineFault}
 use Rattle.file_format.specs.declared.fault.LineFault.TheVariants.{NoHeader, Version, Member, Range}
-use Rattle.file_format.specs.Members.{◌>>=◌, needed, ranged, text_at, number_at, numbers_at, op_of, client_of, key_of, value_of, tag_of}
+use Rattle.file_format.specs.Members.{◌>>=◌, needed_member, in_range, text_at, number_at, numbers_at, op_of, client_of, key_of, value_of, tag_of}
 use Rattle.file_format.specs.Rows.{begun, written_in, action_of, invoke_in, note_in, answer_of, returned_of, respond_in, row_of, row_in}
 use Rattle.file_format.specs.OrderLines.{calls_of, piece_in}
 use Rattle.file_format.specs.Headers.{header_of, header_in}
@@ -38,11 +38,11 @@ module _ (L O : Type 0) where
   bind (Ok x) f h k = k x refl
   bind (Err e) f h k = h
 
-  pub need : {X : Type 0} (o : Option X) → (((x : X) → o ≡ Some x → ⊥) → L) → Told L O (needed o)
+  pub need : {X : Type 0} (o : Option X) → (((x : X) → o ≡ Some x → ⊥) → L) → Told L O (needed_member o)
   need None lacks = lacks (λ x e. cc)
   need (Some x) lacks = tt
 
-  pub range : {X : Type 0} (b : Bool) (x : X) → (b ≡ false → (L → ⊥) × O) → Told L O (ranged b x)
+  pub range : {X : Type 0} (b : Bool) (x : X) → (b ≡ false → (L → ⊥) × O) → Told L O (in_range b x)
   range true x out = tt
   range false x out = out refl
 
@@ -120,7 +120,7 @@ unfolding written_in
 written_told d call client key name m w =
     let L = LacksInvokeMember d in
     let O = IsInvokeOutOfRange d in
-    bind L O (needed (text_at (codes "value") d)) _ (need L O (text_at (codes "value") d) (λ lacks. no_value w lacks)) (λ text t.
+    bind L O (needed_member (text_at (codes "value") d)) _ (need L O (text_at (codes "value") d) (λ lacks. no_value w lacks)) (λ text t.
     let here = found (text_at (codes "value") d) text t in
     bind L O (value_of text) _ (range L O (is_value text) text (λ out. (invoke_has d call client key name m (λ u. (text, here)), long_value w (text, here, out)))) (λ value v. tt))
 
@@ -155,10 +155,10 @@ unfolding invoke_in
 invoke_told d =
     let L = LacksInvokeMember d in
     let O = IsInvokeOutOfRange d in
-    bind L O (needed (number_at (codes "call") d)) _ (need L O (number_at (codes "call") d) (λ lacks. no_call_begun lacks)) (λ call c.
-    bind L O (needed (number_at (codes "client") d)) _ (need L O (number_at (codes "client") d) (λ lacks. no_client lacks)) (λ client w.
-    bind L O (needed (text_at (codes "key") d)) _ (need L O (text_at (codes "key") d) (λ lacks. no_key lacks)) (λ key k.
-    bind L O (needed (text_at (codes "do") d)) _ (need L O (text_at (codes "do") d) (λ lacks. no_action lacks)) (λ name n.
+    bind L O (needed_member (number_at (codes "call") d)) _ (need L O (number_at (codes "call") d) (λ lacks. no_call_begun lacks)) (λ call c.
+    bind L O (needed_member (number_at (codes "client") d)) _ (need L O (number_at (codes "client") d) (λ lacks. no_client lacks)) (λ client w.
+    bind L O (needed_member (text_at (codes "key") d)) _ (need L O (text_at (codes "key") d) (λ lacks. no_key lacks)) (λ key k.
+    bind L O (needed_member (text_at (codes "do") d)) _ (need L O (text_at (codes "do") d) (λ lacks. no_action lacks)) (λ name n.
     let asks = found (text_at (codes "do") d) name n in
     let m : Members d call client key name = record { op = found (number_at (codes "call") d) call c; who = found (number_at (codes "client") d) client w; subject = found (text_at (codes "key") d) key k; asks = asks } in
     bind L O (action_of name d) _ (action_told d call client key name m) (λ action a. begun_told d call client key name action m (valued d action (action_back d name action asks a)))))))
@@ -180,9 +180,9 @@ unfolding note_in
 note_told d =
     let L = LacksNoteMember d in
     let O = IsNoteOutOfRange d in
-    bind L O (needed (number_at (codes "call") d)) _ (need L O (number_at (codes "call") d) (λ lacks. no_call_noted lacks)) (λ call c.
-    bind L O (needed (number_at (codes "number") d)) _ (need L O (number_at (codes "number") d) (λ lacks. no_number lacks)) (λ tag n.
-    bind L O (needed (number_at (codes "writer") d)) _ (need L O (number_at (codes "writer") d) (λ lacks. no_writer lacks)) (λ writer w.
+    bind L O (needed_member (number_at (codes "call") d)) _ (need L O (number_at (codes "call") d) (λ lacks. no_call_noted lacks)) (λ call c.
+    bind L O (needed_member (number_at (codes "number") d)) _ (need L O (number_at (codes "number") d) (λ lacks. no_number lacks)) (λ tag n.
+    bind L O (needed_member (number_at (codes "writer") d)) _ (need L O (number_at (codes "writer") d) (λ lacks. no_writer lacks)) (λ writer w.
     let at_call = found (number_at (codes "call") d) call c in
     let at_number = found (number_at (codes "number") d) tag n in
     let at_writer = found (number_at (codes "writer") d) writer w in
@@ -247,7 +247,7 @@ respond_told d =
     let L = LacksRespondMember d in
     let O = IsRespondOutOfRange d in
     let answer = get (codes "value") d in
-    bind L O (needed (number_at (codes "call") d)) _ (need L O (number_at (codes "call") d) (λ lacks. no_call_answered lacks)) (λ call c.
+    bind L O (needed_member (number_at (codes "call") d)) _ (need L O (number_at (codes "call") d) (λ lacks. no_call_answered lacks)) (λ call c.
     let at_call = found (number_at (codes "call") d) call c in
     bind L O (returned_of answer) _ (answer_told d call at_call answer (answer_at d answer refl)) (λ returned r.
     let fits = answered_fits d returned (returned_back d answer returned refl r) in
@@ -290,7 +290,7 @@ unfolding row_in row_of
 row_told d =
     let L = LacksRowMember d in
     let O = IsRowOutOfRange d in
-    bind L O (needed (text_at (codes "row") d)) _ (need L O (text_at (codes "row") d) (λ lacks. no_row lacks)) (λ kind k.
+    bind L O (needed_member (text_at (codes "row") d)) _ (need L O (text_at (codes "row") d) (λ lacks. no_row lacks)) (λ kind k.
     let here = found (text_at (codes "row") d) kind k in
     picked L O (bytes_eq kind (codes "invoke")) (invoke_in d) _ (λ e.
     let is = here ∙ equal_to kind (codes "invoke") e in
@@ -408,8 +408,8 @@ unfolding piece_in
 piece_told d =
     let L = LacksPieceMember d in
     let O = IsPieceOutOfRange d in
-    bind L O (needed (text_at (codes "key") d)) _ (need L O (text_at (codes "key") d) (λ lacks. no_subject lacks)) (λ text t.
-    bind L O (needed (numbers_at (codes "order") d)) _ (need L O (numbers_at (codes "order") d) (λ lacks. no_order lacks)) (λ numbers n.
+    bind L O (needed_member (text_at (codes "key") d)) _ (need L O (text_at (codes "key") d) (λ lacks. no_subject lacks)) (λ text t.
+    bind L O (needed_member (numbers_at (codes "order") d)) _ (need L O (numbers_at (codes "order") d) (λ lacks. no_order lacks)) (λ numbers n.
     let at_key = found (text_at (codes "key") d) text t in
     let at_order = found (numbers_at (codes "order") d) numbers n in
     let all : LacksPieceMember d → ⊥ = piece_has d text numbers at_key at_order in

@@ -8,7 +8,7 @@ use Rattle.recorder.specs.Halls.{IsCount}
 use Rattle.file_format.specs.declared.fault.LineFault.{LineFault}
 use Rattle.file_format.specs.declared.fault.LineFault.TheVariants.{Range}
 use Rattle.file_format.specs.FileHeaders.{are_votes, is_reached, are_quorums, quorums_of, count_of}
-use Rattle.file_format.specs.Members.{ranged}
+use Rattle.file_format.specs.Members.{in_range}
 
 abbrev IsVote : ℕ → Type 0
 IsVote v = (1 ≤ v) × (v ≤ 9)
@@ -71,13 +71,13 @@ lawful_there votes ask put h =
 abbrev refused : {X : Type 0} → Result X LineFault
 refused = Err Range
 
-pub out_of_range : {X : Type 0} (b : Bool) (x : X) → (b ≡ true → ⊥) → ranged b x ≡ refused
+pub out_of_range : {X : Type 0} (b : Bool) (x : X) → (b ≡ true → ⊥) → in_range b x ≡ refused
 out_of_range true x never = absurd (never refl)
 out_of_range false x never = refl
 
-pub in_range : {X : Type 0} (b : Bool) (x : X) → b ≡ true → ranged b x ≡ Ok x
-in_range true x e = refl
-in_range false x e = absurd (cc)
+pub number_in_range : {X : Type 0} (b : Bool) (x : X) → b ≡ true → in_range b x ≡ Ok x
+number_in_range true x e = refl
+number_in_range false x e = absurd (cc)
 
 pub votes_few : (votes : List ℕ) (ask put : ℕ) → IsLawful (record { votes = votes; ask = ask; put = put }) → sum votes ≤ 135
 votes_few votes ask put h = omega (arith, h.most_replicas, sum_by-le (λ (v : ℕ). v) 9 votes (λ k d lt. (h.each_votes k d lt).1))
@@ -100,7 +100,7 @@ pub refused_big : (votes : List ℕ) (ask put : ℕ) → (list_all (λ n. nat_le
 refused_big votes ask put big = refused_unlawful votes ask put (λ h. big (small_all votes (all_there votes h.each_votes)))
 
 pub lawful_taken : (votes : List ℕ) (ask put : ℕ) → IsLawful (record { votes = votes; ask = ask; put = put }) → quorums_of votes ask put ≡ Ok (record { votes = votes; ask = ask; put = put })
-lawful_taken votes ask put h = in_range (are_quorums votes ask put) _ (lawful_there votes ask put h)
+lawful_taken votes ask put h = number_in_range (are_quorums votes ask put) _ (lawful_there votes ask put h)
 
 -- ---- how many halls there are
 
@@ -114,7 +114,7 @@ pub refused_count : (halls : ℕ) → (IsCount halls → ⊥) → count_of halls
 refused_count halls never = out_of_range _ halls (λ e. never (count_back halls e))
 
 pub taken_count : (halls : ℕ) → IsCount halls → count_of halls ≡ Ok halls
-taken_count halls h = in_range _ halls (count_there halls h)
+taken_count halls h = number_in_range _ halls (count_there halls h)
 
 pub not_both : (b : Bool) → b ≡ false → b ≡ true → ⊥
 not_both b e f = cc

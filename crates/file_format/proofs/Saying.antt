@@ -15,7 +15,7 @@ use Rattle.recorder.specs.declared.row.Row.{Row}
 use Rattle.recorder.specs.declared.row.Row.TheVariants.{Invoke, Note, Respond}
 use Rattle.file_format.specs.declared.fault.LineFault.{LineFault}
 use Rattle.file_format.specs.declared.fault.LineFault.TheVariants.{Range}
-use Rattle.file_format.specs.Members.{◌>>=◌, needed, ranged, text_at, number_at, op_of, client_of, key_of, value_of, tag_of}
+use Rattle.file_format.specs.Members.{◌>>=◌, needed_member, in_range, text_at, number_at, op_of, client_of, key_of, value_of, tag_of}
 use Rattle.file_format.specs.Rows.{begun, written_in, action_of, invoke_in, note_in, answer_of, returned_of, respond_in, row_of, row_in}
 use Rattle.file_format.specs.Says.{HasText, HasValue, HasCall, HasAction, reads, writes, HasAnswer, written, absent, answered, SaysRow}
 
@@ -23,11 +23,11 @@ pub after : {A B : Type 0} (r : Result A LineFault) (f : A → Result B LineFaul
 after (Ok x) f y e = (x, refl, e)
 after (Err fault) f y e = absurd (cc)
 
-pub found : {X : Type 0} (o : Option X) (x : X) → needed o ≡ Ok x → o ≡ Some x
+pub found : {X : Type 0} (o : Option X) (x : X) → needed_member o ≡ Ok x → o ≡ Some x
 found None x e = absurd (cc)
 found (Some y) x e = cc
 
-pub within : {X : Type 0} (b : Bool) (x y : X) → ranged b x ≡ Ok y → (b ≡ true) × (x ≡ y)
+pub within : {X : Type 0} (b : Bool) (x y : X) → in_range b x ≡ Ok y → (b ≡ true) × (x ≡ y)
 within true x y e = (refl, cc)
 within false x y e = absurd (cc)
 
@@ -60,7 +60,7 @@ op_back call op e =
     let same : call ≡ op.0 = ap (λ (o : OpId). o.0) w.1 in
     (sym same, omega (arith, same, ltb-true call (2 ^ 32) w.0))
 
-call_back : (d : Data) (call : ℕ) (op : OpId) → needed (number_at (codes "call") d) ≡ Ok call → op_of call ≡ Ok op → HasCall d op
+call_back : (d : Data) (call : ℕ) (op : OpId) → needed_member (number_at (codes "call") d) ≡ Ok call → op_of call ≡ Ok op → HasCall d op
 call_back d call op here e =
     let w = op_back call op e in
     record { call = found (number_at (codes "call") d) call here ∙ ap Some (sym w.0); range = w.1 }
@@ -74,7 +74,7 @@ value_back d text value here e =
 written_back : (d : Data) (action : Action) → written_in d ≡ Ok action → (value : List ℕ) × HasValue d value × (action ≡ Write value)
 unfolding written_in
 written_back d action e =
-    let t = after (needed (text_at (codes "value") d)) _ action e in
+    let t = after (needed_member (text_at (codes "value") d)) _ action e in
     let v = after (value_of t.0) _ action t.2 in
     (v.0, value_back d t.0 v.0 (found (text_at (codes "value") d) t.0 t.1) v.1, sym (inside (Write v.0) action v.2))
 
@@ -100,10 +100,10 @@ client_back given client e =
 invoke_back : (d : Data) (row : Row) → HasText d (codes "row") (codes "invoke") → invoke_in d ≡ Ok row → SaysRow d row
 unfolding invoke_in begun
 invoke_back d row kind e =
-    let call = after (needed (number_at (codes "call") d)) _ row e in
-    let client = after (needed (number_at (codes "client") d)) _ row call.2 in
-    let key = after (needed (text_at (codes "key") d)) _ row client.2 in
-    let name = after (needed (text_at (codes "do") d)) _ row key.2 in
+    let call = after (needed_member (number_at (codes "call") d)) _ row e in
+    let client = after (needed_member (number_at (codes "client") d)) _ row call.2 in
+    let key = after (needed_member (text_at (codes "key") d)) _ row client.2 in
+    let name = after (needed_member (text_at (codes "do") d)) _ row key.2 in
     let action = after (action_of name.0 d) _ row name.2 in
     let op = after (op_of call.0) _ row action.2 in
     let who = after (client_of client.0) _ row op.2 in
@@ -125,9 +125,9 @@ invoke_back d row kind e =
 note_back : (d : Data) (row : Row) → HasText d (codes "row") (codes "note") → note_in d ≡ Ok row → SaysRow d row
 unfolding note_in
 note_back d row kind e =
-    let call = after (needed (number_at (codes "call") d)) _ row e in
-    let number = after (needed (number_at (codes "number") d)) _ row call.2 in
-    let writer = after (needed (number_at (codes "writer") d)) _ row number.2 in
+    let call = after (needed_member (number_at (codes "call") d)) _ row e in
+    let number = after (needed_member (number_at (codes "number") d)) _ row call.2 in
+    let writer = after (needed_member (number_at (codes "writer") d)) _ row number.2 in
     let op = after (op_of call.0) _ row writer.2 in
     let tag = after (tag_of number.0 writer.0) _ row op.2 in
     let w = within _ (record { number = number.0; writer = writer.0 }) tag.0 tag.1 in
@@ -184,7 +184,7 @@ returned_back d (Some member) returned here e = returned_case d member (is_some 
 respond_back : (d : Data) (row : Row) → HasText d (codes "row") (codes "respond") → respond_in d ≡ Ok row → SaysRow d row
 unfolding respond_in
 respond_back d row kind e =
-    let call = after (needed (number_at (codes "call") d)) _ row e in
+    let call = after (needed_member (number_at (codes "call") d)) _ row e in
     let answer = after (returned_of (get (codes "value") d)) _ row call.2 in
     let op = after (op_of call.0) _ row answer.2 in
     let P : Row → Type 0 = λ r. SaysRow d r in
@@ -198,7 +198,7 @@ respond_back d row kind e =
 pub row_back : (d : Data) (row : Row) → row_in d ≡ Ok row → SaysRow d row
 unfolding row_in row_of
 row_back d row e =
-    let kind = after (needed (text_at (codes "row") d)) _ row e in
+    let kind = after (needed_member (text_at (codes "row") d)) _ row e in
     let here : (name : List ℕ) → bytes_eq kind.0 name ≡ true → HasText d (codes "row") name = λ name equal. found (text_at (codes "row") d) kind.0 kind.1 ∙ ap Some ((bytes_decides kind.0 name).0 equal) in
     elim (one_of (bytes_eq kind.0 (codes "invoke")) (bytes_eq kind.0 (codes "note")) (bytes_eq kind.0 (codes "respond")) (invoke_in d) (note_in d) (respond_in d) row kind.2) [
       | inl w ↦ invoke_back d row (here (codes "invoke") w.0) w.1
@@ -206,7 +206,7 @@ row_back d row e =
     ]
 
 -- backward: what the members say is read
-pub fits : {X : Type 0} (b : Bool) (x : X) → b ≡ true → ranged b x ≡ Ok x
+pub fits : {X : Type 0} (b : Bool) (x : X) → b ≡ true → in_range b x ≡ Ok x
 fits true x e = refl
 fits false x e = absurd (cc)
 

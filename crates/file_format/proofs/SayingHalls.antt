@@ -12,10 +12,10 @@ use Rattle.file_format.specs.declared.file_header.FileHeader.TheVariants.{Versio
 use Rattle.file_format.specs.declared.hall_row.HallRow.{HallRow}
 use Rattle.file_format.specs.FileHeaders.{count_of, quorums_of, told_in, version_of, file_header_of, file_header_in}
 use Rattle.file_format.specs.HallRows.{only_row_in, placed_row_in, hall_row_in}
-use Rattle.file_format.specs.Members.{needed, ranged, text_at, number_at, numbers_at}
+use Rattle.file_format.specs.Members.{needed_member, in_range, text_at, number_at, numbers_at}
 use Rattle.file_format.specs.Rows.{row_in}
 use Rattle.file_format.specs.Says.{HasText, HasNumber, SaysQuorums, SaysFileHeader, SaysPlacedRow, SaysHallRow}
-use Rattle.file_format.proofs.QuorumRules.{count_back, lawful_back, taken_count, lawful_taken, in_range}
+use Rattle.file_format.proofs.QuorumRules.{count_back, lawful_back, taken_count, lawful_taken, number_in_range}
 use Rattle.file_format.proofs.Saying.{after, found, within, inside, row_back, row_there}
 
 -- ---- headers
@@ -23,10 +23,10 @@ use Rattle.file_format.proofs.Saying.{after, found, within, inside, row_back, ro
 pub told_back : (d : Data) (header : FileHeader) → HasText d (codes "abd") (codes "history") → HasNumber d (codes "version") 2 → told_in d ≡ Ok header → SaysFileHeader d header
 unfolding told_in
 told_back d header abd version e =
-    let ask = after (needed (number_at (codes "ask") d)) _ header e in
-    let halls = after (needed (number_at (codes "halls") d)) _ header ask.2 in
-    let put = after (needed (number_at (codes "put") d)) _ header halls.2 in
-    let votes = after (needed (numbers_at (codes "votes") d)) _ header put.2 in
+    let ask = after (needed_member (number_at (codes "ask") d)) _ header e in
+    let halls = after (needed_member (number_at (codes "halls") d)) _ header ask.2 in
+    let put = after (needed_member (number_at (codes "put") d)) _ header halls.2 in
+    let votes = after (needed_member (numbers_at (codes "votes") d)) _ header put.2 in
     let count = after (count_of halls.0) _ header votes.2 in
     let quorums = after (quorums_of votes.0 ask.0 put.0) _ header count.2 in
     let told : Quorums = record { votes = votes.0; ask = ask.0; put = put.0 } in
@@ -106,9 +106,9 @@ only_row_back d item e =
 placed_row_back : (halls : ℕ) (d : Data) (item : HallRow) → placed_row_in halls d ≡ Ok item → SaysPlacedRow halls d item
 unfolding placed_row_in
 placed_row_back halls d item e =
-    let number = after (needed (number_at (codes "hall") d)) _ item e in
+    let number = after (needed_member (number_at (codes "hall") d)) _ item e in
     let said = after (row_in d) _ item number.2 in
-    let place = after (ranged (nat_lt number.0 halls) number.0) _ item said.2 in
+    let place = after (in_range (nat_lt number.0 halls) number.0) _ item said.2 in
     let p = within (nat_lt number.0 halls) number.0 place.0 place.1 in
     let one : HallRow = record { hall = place.0; row = said.0 } in
     subst (λ (i : HallRow). SaysPlacedRow halls d i) (inside one item place.2) (record {
@@ -131,7 +131,7 @@ only_row_there d item s = rw (row_there d item.row s.1) (ap (λ (i : HallRow). O
 
 placed_row_there : (halls : ℕ) (d : Data) (item : HallRow) → SaysPlacedRow halls d item → placed_row_in halls d ≡ Ok item
 unfolding placed_row_in
-placed_row_there halls d item s = rw s.hall (rw (row_there d item.row s.said) (rw (in_range (nat_lt item.hall halls) item.hall (lt-ltb item.hall halls s.below)) refl))
+placed_row_there halls d item s = rw s.hall (rw (row_there d item.row s.said) (rw (number_in_range (nat_lt item.hall halls) item.hall (lt-ltb item.hall halls s.below)) refl))
 
 pub hall_row_there : (header : FileHeader) (d : Data) (item : HallRow) → SaysHallRow header d item → hall_row_in header d ≡ Ok item
 unfolding hall_row_in

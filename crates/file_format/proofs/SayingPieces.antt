@@ -8,7 +8,7 @@ use Rattle.tag.specs.declared.numbers.OpId.{OpId}
 use Rattle.tag.specs.Names.{is_key}
 use Rattle.recorder.specs.declared.order.KeyOrder.{KeyOrder}
 use Rattle.file_format.specs.declared.fault.LineFault.{LineFault}
-use Rattle.file_format.specs.Members.{needed, text_at, number_at, numbers_at, key_of}
+use Rattle.file_format.specs.Members.{needed_member, text_at, number_at, numbers_at, key_of}
 use Rattle.file_format.specs.Headers.{header_of, header_in}
 use Rattle.file_format.specs.OrderLines.{op_at, calls_of, piece_in}
 use Rattle.file_format.specs.Says.{SaysHeader, SaysPiece}
@@ -37,8 +37,8 @@ range_there (op ∷ ops) range = ap (λ (b : Bool). b && list_all (λ n. nat_lt 
 pub piece_back : (d : Data) (piece : KeyOrder) → piece_in d ≡ Ok piece → SaysPiece d piece
 unfolding piece_in
 piece_back d piece e =
-    let text = after (needed (text_at (codes "key") d)) _ piece e in
-    let numbers = after (needed (numbers_at (codes "order") d)) _ piece text.2 in
+    let text = after (needed_member (text_at (codes "key") d)) _ piece e in
+    let numbers = after (needed_member (numbers_at (codes "order") d)) _ piece text.2 in
     let key = after (key_of text.0) _ piece numbers.2 in
     let order = after (calls_of numbers.0) _ piece key.2 in
     let k = within _ text.0 key.0 key.1 in

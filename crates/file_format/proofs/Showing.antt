@@ -6,7 +6,7 @@ use Rattle.file_format.specs.declared.fault.LineFault.{LineFault}
 use Rattle.file_format.specs.declared.fault.LineFault.TheVariants.{NotJson, NoHeader, Version, Range, TooLong}
 use Rattle.file_format.specs.Faults.{Stop}
 use Rattle.counted_devices.specs.declared.read_fault.Stop.TheVariants as stop
-use Rattle.file_format.specs.Members.{◌>>=◌, Gives, needed, ranged}
+use Rattle.file_format.specs.Members.{◌>>=◌, Gives, needed_member, in_range}
 use Rattle.file_format.specs.Rows.{begun, written_in, action_of, invoke_in, note_in, answer_of, returned_of, respond_in, row_of, row_in}
 use Rattle.file_format.specs.OrderLines.{piece_in}
 use Rattle.file_format.specs.Headers.{header_of, header_in}
@@ -28,11 +28,11 @@ bind : {A B : Type 0} (r : Result A LineFault) (f : A → Result B LineFault) �
 bind (Ok x) f h k = k x
 bind (Err e) f h k = record { fine = h.fine }
 
-need : {X : Type 0} (o : Option X) → Well (needed o)
+need : {X : Type 0} (o : Option X) → Well (needed_member o)
 need None = record { fine = tt }
 need (Some x) = record { fine = tt }
 
-range : {X : Type 0} (b : Bool) (x : X) → Well (ranged b x)
+range : {X : Type 0} (b : Bool) (x : X) → Well (in_range b x)
 range true x = record { fine = tt }
 range false x = record { fine = tt }
 

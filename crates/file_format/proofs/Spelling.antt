@@ -16,7 +16,7 @@ use Rattle.tag.specs.declared.actions.Returned.TheVariants.{Value, Written}
 use Rattle.recorder.specs.declared.row.Row.{Row}
 use Rattle.recorder.specs.declared.row.Row.TheVariants.{Invoke, Note, Respond}
 use Rattle.quorum.specs.Quorums.{Quorums}
-use Rattle.counted_devices.specs.Cuts.{ended}
+use Rattle.counted_devices.specs.Cuts.{with_end}
 use Rattle.file_format.specs.declared.file_header.FileHeader.TheVariants.{Version2}
 use Rattle.file_format.specs.PlainTexts.{is_plain}
 use Rattle.file_format.specs.RowTexts.{row_bytes}
@@ -107,15 +107,15 @@ written_bytes hall op = later_end op.0 hall (member (codes "row") (string (codes
 abbrev pub answer_members : Option (List ℕ) → Members
 answer_members answer = member (codes "row") (string (codes "respond")) (answered_value (Value answer))
 
-pub absent_bytes : ended (members_text true (answer_members None)) ≡ codes ",\"row\":\"respond\",\"value\":null}\n"
+pub absent_bytes : with_end (members_text true (answer_members None)) ≡ codes ",\"row\":\"respond\",\"value\":null}\n"
 unfolding escape_byte
 absent_bytes = refl
 
-pub answered_bytes : (value : List ℕ) → ended (members_text true (answer_members (Some value))) ≡ codes ",\"row\":\"respond\",\"value\":" ++ (quoted value ++ codes "}\n")
+pub answered_bytes : (value : List ℕ) → with_end (members_text true (answer_members (Some value))) ≡ codes ",\"row\":\"respond\",\"value\":" ++ (quoted value ++ codes "}\n")
 unfolding escape_byte
 answered_bytes value = member_end (codes ",\"row\":\"respond\",\"value\":") (quoted value) (codes "}")
 
-pub respond_bytes : (hall : Option ℕ) (op : OpId) (answer : Option (List ℕ)) → placed_text hall (Respond op (Value answer)) ≡ codes "{\"call\":" ++ (decimal op.0 ++ (hall_text hall ++ ended (members_text true (answer_members answer))))
+pub respond_bytes : (hall : Option ℕ) (op : OpId) (answer : Option (List ℕ)) → placed_text hall (Respond op (Value answer)) ≡ codes "{\"call\":" ++ (decimal op.0 ++ (hall_text hall ++ with_end (members_text true (answer_members answer))))
 unfolding line_text row_data escape_byte
 respond_bytes hall op answer = later_end op.0 hall (answer_members answer) (members_text true (answer_members answer)) refl
 

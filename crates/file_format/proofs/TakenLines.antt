@@ -4,7 +4,7 @@ use Rattle.std.proofs.lemmas.List.{append_cancel_right}
 use Rattle.serde_json.specs.Written.{compact_text}
 use Rattle.recorder.specs.declared.row.Row.{Row}
 use Rattle.recorder.specs.declared.order.KeyOrder.{KeyOrder}
-use Rattle.counted_devices.specs.Cuts.{ended}
+use Rattle.counted_devices.specs.Cuts.{with_end}
 use Rattle.file_format.specs.declared.file_header.FileHeader.{FileHeader}
 use Rattle.file_format.specs.declared.hall_row.HallRow.{HallRow}
 use Rattle.file_format.specs.FileHeaders.{halls_in, place_in}
@@ -25,7 +25,7 @@ pub row_taken : (line : List ℕ) (row : Row) → line ≡ row_bytes None row �
 row_taken line row is range =
     subst (λ l. Shows row_in l (Ok row)) (compact_row None row ∙ sym is) (line_of_item row_in (row_data None row) row (good_row None row tt range))
 
-pub piece_taken : (line : List ℕ) (piece : KeyOrder) → piece_text piece ≡ ended line → IsOrderInRange piece → length piece.order ≤ 1000 → Shows piece_in line (Ok piece)
+pub piece_taken : (line : List ℕ) (piece : KeyOrder) → piece_text piece ≡ with_end line → IsOrderInRange piece → length piece.order ≤ 1000 → Shows piece_in line (Ok piece)
 unfolding line_text
 piece_taken line piece is range few =
     subst (λ l. Shows piece_in l (Ok piece)) (append_cancel_right (compact_text (piece_data piece)) line (10 ∷ []) is) (line_of_item piece_in (piece_data piece) piece (good_piece piece range few))

@@ -8,7 +8,7 @@ use Rattle.serde_json.specs.Data.{Data}
 use Rattle.serde_json.specs.Read.{read}
 use Rattle.serde_json.specs.Written.{compact_text}
 use Rattle.serde_json.proofs.Numbers.{number_of-decimal}
-use Rattle.counted_devices.specs.Cuts.{ended, HasNoEnd}
+use Rattle.counted_devices.specs.Cuts.{with_end, HasNoEnd}
 use Rattle.file_format.specs.declared.fault.LineFault.{LineFault}
 use Rattle.file_format.specs.Formats.{Format}
 use Rattle.file_format.specs.Files.{IsLineOf}
@@ -69,10 +69,10 @@ module _ {Header Item : Type 0} (format : Format Header Item) (header : Header) 
   pub line_at : Item → List ℕ
   line_at thing = compact_text (value thing)
 
-  lines_text : (items : List Item) → flat_map (λ thing. line_text (value thing)) items ≡ flat_map ended (map line_at items)
+  lines_text : (items : List Item) → flat_map (λ thing. line_text (value thing)) items ≡ flat_map with_end (map line_at items)
   unfolding line_text line_at
   lines_text [] = refl
-  lines_text (thing ∷ items) = ap (λ (s : List ℕ). ended (line_at thing) ++ s) (lines_text items)
+  lines_text (thing ∷ items) = ap (λ (s : List ℕ). with_end (line_at thing) ++ s) (lines_text items)
 
   AreGood : List Item → Type 0
   AreGood items = (k : ℕ) (thing : Item) → slice_get items k ≡ Some thing → IsGoodLine (format.meaning header) (value thing) thing
@@ -95,7 +95,7 @@ module _ {Header Item : Type 0} (format : Format Header Item) (header : Header) 
         lines = line ∷ map line_at items;
         rest = [];
         splits = record {
-          whole = ap (λ (s : List ℕ). ended line ++ s) (lines_text items) ∙ sym (append-nil (flat_map ended (line ∷ map line_at items)));
+          whole = ap (λ (s : List ℕ). with_end line ++ s) (lines_text items) ∙ sym (append-nil (flat_map with_end (line ∷ map line_at items)));
           each = all_more line (map line_at items) (HasNoEnd-compact_text first head.simple) (whole_lines items good);
           partial = λ k d lt. absurd (omega arith);
         };

@@ -6,7 +6,7 @@ use Rattle.std.proofs.lemmas.List.Elements.{All-append, All-nil, All-cons}
 use Rattle.serde_json.specs.Data.{Data}
 use Rattle.file_format.specs.declared.fault.LineFault.{LineFault}
 use Rattle.file_format.specs.declared.judging.Judgement.{Judgement}
-use Rattle.counted_devices.specs.Cuts.{ended, HasNoEnd}
+use Rattle.counted_devices.specs.Cuts.{with_end, HasNoEnd}
 use Rattle.file_format.specs.Lines.{ShowsItem, ShowChunks}
 use Rattle.file_format.specs.Zips.{AllZip-push_both, AllZip-append}
 use Rattle.counted_devices.specs.Cutting.{ended_chunk, no_chunks, more_lines}
@@ -15,23 +15,23 @@ module _ {Item : Type 0} (meaning : Data → Result Item LineFault) where
   -- of a chunk's lines the first show that, and that rest is left
   pub record Shown (chunk : List ℕ) (judgements : List (Judgement Item)) (rest : List ℕ) : Type 0 where
     pub lines : List (List ℕ)
-    pub whole : chunk ≡ flat_map ended lines ++ rest
+    pub whole : chunk ≡ flat_map with_end lines ++ rest
     pub each : All HasNoEnd lines
     pub shown : AllZip (ShowsItem meaning) lines judgements
 
   pub Shown-none : (chunk : List ℕ) → Shown chunk [] chunk
   Shown-none chunk = record { lines = []; whole = refl; each = All-nil HasNoEnd; shown = tt }
 
-  ended_more : (lines : List (List ℕ)) (line tail : List ℕ) → flat_map ended lines ++ (line ++ 10 ∷ tail) ≡ flat_map ended (lines ++ line ∷ []) ++ tail
-  ended_more [] line tail = sym (append_assoc line (10 ∷ []) tail) ∙ ap (λ (xs : List ℕ). xs ++ tail) (sym (append-nil (ended line)))
+  ended_more : (lines : List (List ℕ)) (line tail : List ℕ) → flat_map with_end lines ++ (line ++ 10 ∷ tail) ≡ flat_map with_end (lines ++ line ∷ []) ++ tail
+  ended_more [] line tail = sym (append_assoc line (10 ∷ []) tail) ∙ ap (λ (xs : List ℕ). xs ++ tail) (sym (append-nil (with_end line)))
   ended_more (first ∷ lines) line tail =
-      append_assoc (ended first) (flat_map ended lines) (line ++ 10 ∷ tail) ∙ ap (λ (xs : List ℕ). ended first ++ xs) (ended_more lines line tail) ∙ sym (append_assoc (ended first) (flat_map ended (lines ++ line ∷ [])) tail)
+      append_assoc (with_end first) (flat_map with_end lines) (line ++ 10 ∷ tail) ∙ ap (λ (xs : List ℕ). with_end first ++ xs) (ended_more lines line tail) ∙ sym (append_assoc (with_end first) (flat_map with_end (lines ++ line ∷ [])) tail)
 
   -- a line more
   pub Shown-line : (chunk rest line tail : List ℕ) (judgements : List (Judgement Item)) (judgement : Judgement Item) → Shown chunk judgements rest → rest ≡ line ++ 10 ∷ tail → HasNoEnd line → ShowsItem meaning line judgement → Shown chunk (judgements ++ judgement ∷ []) tail
   Shown-line chunk rest line tail judgements judgement s cut none shows = record {
     lines = s.lines ++ line ∷ [];
-    whole = s.whole ∙ ap (λ (xs : List ℕ). flat_map ended s.lines ++ xs) cut ∙ ended_more s.lines line tail;
+    whole = s.whole ∙ ap (λ (xs : List ℕ). flat_map with_end s.lines ++ xs) cut ∙ ended_more s.lines line tail;
     each = All-append HasNoEnd s.lines (line ∷ []) s.each (All-cons HasNoEnd line [] none (All-nil HasNoEnd));
     shown = AllZip-push_both (ShowsItem meaning) s.lines judgements line judgement s.shown shows;
   }

@@ -7,7 +7,7 @@ use Rattle.file_format.specs.declared.fault.LineFault.{LineFault}
 use Rattle.file_format.specs.declared.fault.LineFault.TheVariants.{NoHeader, Version}
 use Rattle.file_format.specs.declared.file_header.FileHeader.{FileHeader}
 use Rattle.file_format.specs.declared.file_header.FileHeader.TheVariants.{Version1, Version2}
-use Rattle.file_format.specs.Members.{◌>>=◌, text_at, number_at, numbers_at, needed, ranged}
+use Rattle.file_format.specs.Members.{◌>>=◌, text_at, number_at, numbers_at, needed_member, in_range}
 
 -- how many halls there are
 abbrev pub halls_in : FileHeader → ℕ
@@ -42,18 +42,18 @@ abbrev pub are_quorums : List ℕ → ℕ → ℕ → Bool
 are_quorums votes ask put = are_votes votes && is_reached votes ask && is_reached votes put && nat_lt (sum votes) (ask + put)
 
 abbrev pub quorums_of : List ℕ → ℕ → ℕ → Result Quorums LineFault
-quorums_of votes ask put = ranged (are_quorums votes ask put) (record { votes = votes; ask = ask; put = put })
+quorums_of votes ask put = in_range (are_quorums votes ask put) (record { votes = votes; ask = ask; put = put })
 
 abbrev pub count_of : ℕ → Result ℕ LineFault
-count_of halls = ranged (nat_le 1 halls && nat_le halls 64) halls
+count_of halls = in_range (nat_le 1 halls && nat_le halls 64) halls
 
 -- the halls and the quorums that a header of version 2 tells: first its members and their kinds, then their ranges
 unfoldable pub told_in : Data → Result FileHeader LineFault
 told_in d = do
-  ask ← needed (number_at (codes "ask") d)
-  halls ← needed (number_at (codes "halls") d)
-  put ← needed (number_at (codes "put") d)
-  votes ← needed (numbers_at (codes "votes") d)
+  ask ← needed_member (number_at (codes "ask") d)
+  halls ← needed_member (number_at (codes "halls") d)
+  put ← needed_member (number_at (codes "put") d)
+  votes ← needed_member (numbers_at (codes "votes") d)
   count ← count_of halls
   quorums ← quorums_of votes ask put
   Ok (Version2 count quorums)

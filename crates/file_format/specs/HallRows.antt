@@ -5,7 +5,7 @@ use Rattle.file_format.specs.declared.fault.LineFault.{LineFault}
 use Rattle.file_format.specs.declared.file_header.FileHeader.{FileHeader}
 use Rattle.file_format.specs.declared.file_header.FileHeader.TheVariants.{Version1, Version2}
 use Rattle.file_format.specs.declared.hall_row.HallRow.{HallRow}
-use Rattle.file_format.specs.Members.{◌>>=◌, number_at, needed, ranged}
+use Rattle.file_format.specs.Members.{◌>>=◌, number_at, needed_member, in_range}
 use Rattle.file_format.specs.Rows.{row_in}
 
 -- in version 1 every row is of hall 0
@@ -17,9 +17,9 @@ only_row_in d = do
 -- in version 2 the member `hall` is the number of one of so many halls
 unfoldable pub placed_row_in : ℕ → Data → Result HallRow LineFault
 placed_row_in halls d = do
-  number ← needed (number_at (codes "hall") d)
+  number ← needed_member (number_at (codes "hall") d)
   said ← row_in d
-  place ← ranged (nat_lt number halls) number
+  place ← in_range (nat_lt number halls) number
   Ok (record { hall = place; row = said })
 
 -- the row that the value says behind that header, or its fault

@@ -45,25 +45,25 @@ abbrev pub numbers_at : List ℕ → Data → Option (List ℕ)
 numbers_at name d = option_and_then numbers_in (option_and_then as_array (get name d))
 
 -- a member that is missing or of the wrong kind is a fault
-abbrev pub needed : {X : Type 0} → Option X → Result X LineFault
-needed None = Err Member
-needed (Some x) = Ok x
+abbrev pub needed_member : {X : Type 0} → Option X → Result X LineFault
+needed_member None = Err Member
+needed_member (Some x) = Ok x
 
 -- what is outside its range is a fault
-abbrev pub ranged : {X : Type 0} → Bool → X → Result X LineFault
-ranged fits x = if fits then Ok x else Err Range
+abbrev pub in_range : {X : Type 0} → Bool → X → Result X LineFault
+in_range fits x = if fits then Ok x else Err Range
 
 abbrev pub op_of : ℕ → Result OpId LineFault
-op_of call = ranged (nat_lt call (2 ^ 32)) (record { 0 = call })
+op_of call = in_range (nat_lt call (2 ^ 32)) (record { 0 = call })
 
 abbrev pub client_of : ℕ → Result ℕ LineFault
-client_of client = ranged (nat_le 1 client && nat_le client 65535) client
+client_of client = in_range (nat_le 1 client && nat_le client 65535) client
 
 abbrev pub key_of : List ℕ → Result (List ℕ) LineFault
-key_of key = ranged (is_key key) key
+key_of key = in_range (is_key key) key
 
 abbrev pub value_of : List ℕ → Result (List ℕ) LineFault
-value_of value = ranged (is_value value) value
+value_of value = in_range (is_value value) value
 
 abbrev pub tag_of : ℕ → ℕ → Result Tag LineFault
-tag_of number writer = ranged (nat_le number 1000000 && nat_le writer 65535) (record { number = number; writer = writer })
+tag_of number writer = in_range (nat_le number 1000000 && nat_le writer 65535) (record { number = number; writer = writer })

@@ -5,20 +5,20 @@ use Rattle.serde_json.specs.Data.{Data}
 use Rattle.tag.specs.declared.numbers.OpId.{OpId}
 use Rattle.recorder.specs.declared.order.KeyOrder.{KeyOrder}
 use Rattle.file_format.specs.declared.fault.LineFault.{LineFault}
-use Rattle.file_format.specs.Members.{◌>>=◌, text_at, numbers_at, needed, ranged, key_of}
+use Rattle.file_format.specs.Members.{◌>>=◌, text_at, numbers_at, needed_member, in_range, key_of}
 
 abbrev pub op_at : ℕ → OpId
 op_at call = record { 0 = call }
 
 -- numbers of calls, each in its range
 abbrev pub calls_of : List ℕ → Result (List OpId) LineFault
-calls_of numbers = ranged (list_all (λ n. nat_lt n (2 ^ 32)) numbers) (map op_at numbers)
+calls_of numbers = in_range (list_all (λ n. nat_lt n (2 ^ 32)) numbers) (map op_at numbers)
 
 -- the key and the piece that the value says: first its members and their kinds, then their ranges
 unfoldable pub piece_in : Data → Result KeyOrder LineFault
 piece_in d = do
-  text ← needed (text_at (codes "key") d)
-  numbers ← needed (numbers_at (codes "order") d)
+  text ← needed_member (text_at (codes "key") d)
+  numbers ← needed_member (numbers_at (codes "order") d)
   key ← key_of text
   order ← calls_of numbers
   Ok (record { key = key; order = order })

@@ -10,7 +10,7 @@ use Rattle.recorder.specs.declared.row.Row.{Row}
 use Rattle.recorder.specs.declared.row.Row.TheVariants.{Invoke, Note, Respond}
 use Rattle.file_format.specs.declared.fault.LineFault.{LineFault}
 use Rattle.file_format.specs.declared.fault.LineFault.TheVariants.{Member, Range}
-use Rattle.file_format.specs.Members.{◌>>=◌, text_at, number_at, needed, op_of, client_of, key_of, value_of, tag_of}
+use Rattle.file_format.specs.Members.{◌>>=◌, text_at, number_at, needed_member, op_of, client_of, key_of, value_of, tag_of}
 
 -- an invocation's row; `do` is one of two texts
 unfoldable pub begun : ℕ → ℕ → List ℕ → Action → Result Row LineFault
@@ -22,7 +22,7 @@ begun call client key action = do
 
 unfoldable pub written_in : Data → Result Action LineFault
 written_in d = do
-  text ← needed (text_at (codes "value") d)
+  text ← needed_member (text_at (codes "value") d)
   value ← value_of text
   Ok (Write value)
 
@@ -31,18 +31,18 @@ action_of action d = if bytes_eq action (codes "read") then Ok Read else if byte
 
 unfoldable pub invoke_in : Data → Result Row LineFault
 invoke_in d = do
-  call ← needed (number_at (codes "call") d)
-  client ← needed (number_at (codes "client") d)
-  key ← needed (text_at (codes "key") d)
-  name ← needed (text_at (codes "do") d)
+  call ← needed_member (number_at (codes "call") d)
+  client ← needed_member (number_at (codes "client") d)
+  key ← needed_member (text_at (codes "key") d)
+  name ← needed_member (text_at (codes "do") d)
   action ← action_of name d
   begun call client key action
 
 unfoldable pub note_in : Data → Result Row LineFault
 note_in d = do
-  call ← needed (number_at (codes "call") d)
-  number ← needed (number_at (codes "number") d)
-  writer ← needed (number_at (codes "writer") d)
+  call ← needed_member (number_at (codes "call") d)
+  number ← needed_member (number_at (codes "number") d)
+  writer ← needed_member (number_at (codes "writer") d)
   op ← op_of call
   tag ← tag_of number writer
   Ok (Note op tag)
@@ -60,7 +60,7 @@ returned_of (Some d) = if is_some (as_null d) then Ok (Value None) else answer_o
 
 unfoldable pub respond_in : Data → Result Row LineFault
 respond_in d = do
-  call ← needed (number_at (codes "call") d)
+  call ← needed_member (number_at (codes "call") d)
   returned ← returned_of (get (codes "value") d)
   op ← op_of call
   Ok (Respond op returned)
@@ -71,5 +71,5 @@ row_of kind d = if bytes_eq kind (codes "invoke") then invoke_in d else if bytes
 -- the row that the value says, or its fault
 unfoldable pub row_in : Data → Result Row LineFault
 row_in d = do
-  kind ← needed (text_at (codes "row") d)
+  kind ← needed_member (text_at (codes "row") d)
   row_of kind d

@@ -13,7 +13,7 @@ use Rattle.recorder.specs.declared.row.Row.TheVariants.{Invoke, Note, Respond}
 use Rattle.recorder.specs.declared.order.KeyOrder.{KeyOrder}
 use Rattle.recorder.specs.Halls.{RecordedHalls}
 use Rattle.recorder.specs.Histories.{Recorded}
-use Rattle.counted_devices.specs.Cuts.{ended}
+use Rattle.counted_devices.specs.Cuts.{with_end}
 use Rattle.file_format.specs.declared.file_header.FileHeader.{FileHeader}
 use Rattle.file_format.specs.declared.file_header.FileHeader.TheVariants.{Version1, Version2}
 use Rattle.file_format.specs.declared.hall_row.HallRow.{HallRow}
@@ -93,7 +93,7 @@ pieces_of order = map (λ calls. record { key = order.key; order = calls }) (cut
 
 -- a value's line, with its end
 unfoldable pub line_text : Data → List ℕ
-line_text d = ended (compact_text d)
+line_text d = with_end (compact_text d)
 
 abbrev pub placed_text : Option ℕ → Row → List ℕ
 placed_text hall row = line_text (row_data hall row)

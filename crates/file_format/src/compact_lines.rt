@@ -6,7 +6,7 @@
 //! the guess is the very same; so nothing rests on the guess but the time that it takes.
 ghost use Rattle.std.specs.Prelude.{◌≡◌, ◌++◌, codes, decimal, Ok, IfOk, IfSome, IsTrue};
 ghost use Rattle.json.specs.Print.{quoted};
-ghost use Rattle.counted_devices.specs.Cuts.{ended};
+ghost use Rattle.counted_devices.specs.Cuts.{with_end};
 ghost use Rattle.file_format.specs.HallRows.{hall_row_in};
 ghost use Rattle.file_format.specs.Lines.{Shows};
 ghost use Rattle.file_format.specs.OrderLines.{piece_in};
@@ -445,7 +445,7 @@ pub(crate) fn written_hall_row(
 
 /// Whether the text is the line with its end. It is spent.
 fn is_line(text: &mut Vec<u8>, line: &[u8]) -> bool
-    ensures { IsTrue result → text.old.items ≡ ended line.now }
+    ensures { IsTrue result → text.old.items ≡ with_end line.now }
 {
     text.pop() == Some(b'\n') && text.as_slice() == line
 }

@@ -3,7 +3,7 @@ ghost use Rattle.std.specs.Prelude.{◌≡◌, true, option_map};
 ghost use Rattle.json.specs.Find.{as_array};
 ghost use Rattle.json.specs.Value.{value_view, items_view};
 ghost use Rattle.serde_json.specs.Find.{get};
-ghost use Rattle.file_format.specs.Members.{Gives, needed, text_at, number_at, numbers_at};
+ghost use Rattle.file_format.specs.Members.{Gives, needed_member, text_at, number_at, numbers_at};
 ghost use Rattle.file_format.specs.Trees.{has_numbers, unsigned_of, all_unsigned};
 
 use crate::LineFault;
@@ -83,14 +83,14 @@ impl<'a> Document<'a> {
 
     /// The text that is the member of that name; without one the line has the fault `Member`.
     pub(crate) fn needed_text(&self, name: &str) -> Result<&str, Stop>
-        ensures { Gives (λ text. text.now) result (needed (text_at name.now (data_in self.now))) }
+        ensures { Gives (λ text. text.now) result (needed_member (text_at name.now (data_in self.now))) }
     {
         self.text(name).ok_or(Stop::Fault(LineFault::Member))
     }
 
     /// The number that is the member of that name; without one the line has the fault `Member`.
     pub(crate) fn needed_number(&self, name: &str) -> Result<u64, Stop>
-        ensures { Gives (λ number. number) result (needed (number_at name.now (data_in self.now))) }
+        ensures { Gives (λ number. number) result (needed_member (number_at name.now (data_in self.now))) }
     {
         self.number(name).ok_or(Stop::Fault(LineFault::Member))
     }
@@ -99,7 +99,7 @@ impl<'a> Document<'a> {
     /// line has the fault `Member`.
     pub(crate) fn needed_numbers(&self, alloc: Global, name: &str) -> Result<Vec<u64>, Stop>
         ensures { Gives (λ numbers. numbers.items) result
-            (needed (numbers_at name.now (data_in self.now))) }
+            (needed_member (numbers_at name.now (data_in self.now))) }
     {
         let Some(value) = self.value.get(name) else {
             return Err(Stop::Fault(LineFault::Member));
@@ -132,7 +132,7 @@ fn number_in(value: &Json<'_>) -> Option<u64>
 /// The numbers that all the items are.
 fn numbers_in(alloc: Global, items: &[Json<'_>]) -> Result<Vec<u64>, Stop>
     ensures { Gives (λ numbers. numbers.items) result
-        (needed (all_unsigned (items_view items.now))) }
+        (needed_member (all_unsigned (items_view items.now))) }
 {
     let mut numbers = Vec::new(alloc);
     for item in items {

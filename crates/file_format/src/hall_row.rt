@@ -2,7 +2,7 @@
 ghost use Rattle.std.specs.Prelude.{◌≡◌, nat_lt};
 ghost use Rattle.file_format.specs.Documents.{data_in};
 ghost use Rattle.file_format.specs.HallRows.{only_row_in, placed_row_in, hall_row_in};
-ghost use Rattle.file_format.specs.Members.{Gives, ranged};
+ghost use Rattle.file_format.specs.Members.{Gives, in_range};
 
 use crate::LineFault;
 use crate::document::Document;
@@ -21,7 +21,7 @@ pub struct HallRow {
 
 /// The number of one of so many halls.
 fn hall_of(number: u64, halls: u8) -> Result<u8, Stop>
-    ensures { Gives (λ hall. hall) result (ranged (nat_lt number halls) number) }
+    ensures { Gives (λ hall. hall) result (in_range (nat_lt number halls) number) }
 {
     if number < u64::from(halls) {
         Ok(number as u8)

@@ -4,7 +4,7 @@ ghost use Rattle.std.specs.List.{list_all};
 ghost use Rattle.json.specs.Print.{quoted};
 ghost use Rattle.serde_json.specs.Data.{string, member};
 ghost use Rattle.serde_json.specs.Written.{items_text, members_text};
-ghost use Rattle.counted_devices.specs.Cuts.{ended};
+ghost use Rattle.counted_devices.specs.Cuts.{with_end};
 ghost use Rattle.file_format.specs.PlainTexts.{is_plain};
 ghost use Rattle.file_format.specs.Ranges.{IsOp, HasAnswerIn, AreOps, IsInvocation, IsNote, IsResponse, IsInRange, IsOrderInRange};
 ghost use Rattle.file_format.specs.Texts.{header_data, file_header_data, hall_text, answered_value, calls_data, numbers_data, line_text, placed_text, piece_text};
@@ -199,7 +199,7 @@ fn append_note(out: &mut Vec<u8>, hall: Option<u8>, op: OpId, tag: Tag) -> Resul
 /// Adds what a read's response has behind its call and its hall.
 fn append_answer(out: &mut Vec<u8>, answer: &Option<Value>) -> Result<(), Memory>
     ensures text { OnOk result (out.new.items
-        ≡ out.old.items ++ ended
+        ≡ out.old.items ++ with_end
         (members_text true (member (codes "row") (string (codes "respond"))
         (answered_value (Returned.Value answer.now))))) }
     ensures range { OnOk result (HasAnswerIn (Returned.Value answer.now)) }

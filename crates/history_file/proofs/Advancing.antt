@@ -12,7 +12,7 @@ use Rattle.file_format.specs.declared.judging.Judgement.{Judgement}
 use Rattle.history_file.specs.declared.feed.Feed.{Feed}
 use Rattle.history_file.specs.declared.ahead.Ahead.{Ahead}
 use Rattle.history_file.specs.declared.judged.Judged.{Judged}
-use Rattle.counted_devices.specs.Cuts.{ended, Splits, Divides, HasNoEnd}
+use Rattle.counted_devices.specs.Cuts.{with_end, Splits, Divides, HasNoEnd}
 use Rattle.file_format.specs.Lines.{ShowsItem, ShowChunks}
 use Rattle.file_format.specs.Formats.{Format}
 use Rattle.history_file.specs.Takings.{IsFirstOfKind, IsAt}
@@ -168,10 +168,10 @@ module _ {Header Item Contents : Type 0} (format : Format Header Item) (Makes : 
   judged_chunks header rest front tail chunks judged d h =
       let left = judged.rest.items in
       let line = rest ++ front in
-      let whole : flat_map ended (line ∷ chunks) ++ left ≡ rest ++ (front ++ 10 ∷ tail) =
-      append_assoc (ended line) (flat_map ended chunks) left ∙ ap (λ (xs : List ℕ). ended line ++ xs) (sym d.whole) ∙ append_assoc line (10 ∷ []) tail ∙ append_assoc rest front (10 ∷ tail) in
+      let whole : flat_map with_end (line ∷ chunks) ++ left ≡ rest ++ (front ++ 10 ∷ tail) =
+      append_assoc (with_end line) (flat_map with_end chunks) left ∙ ap (λ (xs : List ℕ). with_end line ++ xs) (sym d.whole) ∙ append_assoc line (10 ∷ []) tail ∙ append_assoc rest front (10 ∷ tail) in
       let P : List ℕ → Type 0 = λ xs. Splits xs h.lines left in
-      record { lines = h.lines; splits = subst P whole (Splits-rest (flat_map ended (line ∷ chunks)) left h.lines h.cut d.partial); shown = h.shown }
+      record { lines = h.lines; splits = subst P whole (Splits-rest (flat_map with_end (line ∷ chunks)) left h.lines h.cut d.partial); shown = h.shown }
 
   -- each line and its end is a byte at least
   pub judged_room : (header : Header) (bytes : List ℕ) (judged : Judged Item) → IsJudged format header bytes judged → length judged.judgements + length judged.rest.items ≤ length bytes

@@ -5,7 +5,7 @@ use Rattle.file_format.specs.declared.fault.LineFault.TheVariants.{TooLong}
 use Rattle.file_format.specs.Faults.{FileFault, FaultKind}
 use Rattle.counted_devices.specs.declared.read_fault.FaultKind.TheVariants as kind
 use Rattle.history_file.specs.declared.progress.Progress.{Progress}
-use Rattle.counted_devices.specs.Cuts.{ended, Splits, Divides, AreLinesIn}
+use Rattle.counted_devices.specs.Cuts.{with_end, Splits, Divides, AreLinesIn}
 use Rattle.file_format.specs.Formats.{Format}
 use Rattle.history_file.specs.Takings.{AreTaken, TakesChunks}
 use Rattle.history_file.specs.Feeds.{Passed, PassStops}
@@ -16,7 +16,7 @@ module _ {Header Item Contents : Type 0} (format : Format Header Item) (Makes : 
   chunks_cut : (bytes : List ℕ) (chunks lines : List (List ℕ)) (rest : List ℕ) → Divides bytes chunks rest → AreLinesIn chunks lines → Splits bytes lines rest
   chunks_cut bytes chunks lines rest d cut =
       let P : List ℕ → Type 0 = λ xs. Splits xs lines rest in
-      subst P (sym d.whole) (Splits-rest (flat_map ended chunks) rest lines cut d.partial)
+      subst P (sym d.whole) (Splits-rest (flat_map with_end chunks) rest lines cut d.partial)
 
   some_before : (before : List (List ℕ)) (old : Progress Contents) → AreTaken format Makes before old → 0 < old.lines → 0 < length before
   some_before before old at some = omega (arith, at.1.counted, some)

@@ -2,7 +2,7 @@
 ghost use Rattle.std.specs.Prelude.{ℕ, ◌≡◌, ◌<◌, ◌≤◌, ◌+◌, ◌^◌, List, [], ◌∷◌, length, map, IfOk, OnOk};
 ghost use Rattle.std.specs.List.{flat_map};
 ghost use Rattle.history_file.specs.Ahead.{Records};
-ghost use Rattle.counted_devices.specs.Cuts.{HasNoEnd, ended};
+ghost use Rattle.counted_devices.specs.Cuts.{HasNoEnd, with_end};
 ghost use Rattle.history_file.specs.Takings.{AreTaken, TakesJudged, TakesLine, TakesChunks, TakesShown};
 
 use crate::format::Contents;
@@ -100,12 +100,12 @@ impl<C: Contents> Progress<C> {
         chunks: &[&[u8]],
     ) -> Result<(), FileFault>
         requires { self.old.lines + length
-            (flat_map ended (map (λ chunk. chunk.now) chunks.now)) < 2 ^ 63 }
+            (flat_map with_end (map (λ chunk. chunk.now) chunks.now)) < 2 ^ 63 }
         ensures taken { TakesChunks C.format C.Makes self.old
             (map (λ chunk. chunk.now) chunks.now) result self.new }
         ensures more { OnOk result (self.old.lines ≤ self.new.lines) }
         ensures lines { OnOk result (self.new.lines ≤ self.old.lines + length
-            (flat_map ended (map (λ chunk. chunk.now) chunks.now))) }
+            (flat_map with_end (map (λ chunk. chunk.now) chunks.now))) }
     {
         match C::judge_all(rt, alloc, self.contents.header(), chunks) {
             Ok(judgements) => self.record(judgements),

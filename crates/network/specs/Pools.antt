@@ -18,8 +18,8 @@ pub record IsBag (pool : Pool) : Type 0 where
   pub most : (number : ℕ) (flight : Flight) → finite.get pool.flights number ≡ Some flight → flight.copies ≤ 1000
 
 -- the network before the first message
-abbrev pub silent : ℕ → Pool
-silent limit = record { sent = 0; limit = limit; flights = finite.empty }
+abbrev pub silent_pool : ℕ → Pool
+silent_pool limit = record { sent = 0; limit = limit; flights = finite.empty }
 
 -- a message that is sent has the next number, and one copy
 abbrev pub with_sent : Pool → Message → Pool

@@ -6,7 +6,7 @@ ghost use Rattle.network.specs.contracts.flights.FlightPartialEq.TheImpl.Laws as
 ghost use Rattle.network.specs.Equality.{pools_per, same_pools};
 ghost use Rattle.network.specs.Flights.{copies_of, message_of, IsGone, IsMessageOf};
 ghost use Rattle.network.specs.Refusals.{IsEither};
-ghost use Rattle.network.specs.Pools.{IsBag, silent, with_one_less, with_one_more, with_sent, without_last};
+ghost use Rattle.network.specs.Pools.{IsBag, silent_pool, with_one_less, with_one_more, with_sent, without_last};
 
 use crate::in_flight::InFlight;
 use crate::{Flight, Message, NetRefusal};
@@ -61,7 +61,7 @@ impl PartialEq for Pool {
 impl Pool {
     /// A pool without a flight, to which at most `limit` messages may ever be sent.
     pub fn new(alloc: Global, limit: u32) -> Pool
-        ensures { result ≡ silent limit }
+        ensures { result ≡ silent_pool limit }
     {
         Pool {
             sent: 0,

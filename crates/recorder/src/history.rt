@@ -50,9 +50,9 @@ impl Model for History {
 
     ghost Value = { Recorded };
 
-    ghost use Rattle.recorder.specs.Kept.{recorded, IsKept};
+    ghost use Rattle.recorder.specs.Kept.{record_within, IsKept};
 
-    ghost view = { recorded };
+    ghost view = { record_within };
 
     ghost invariant = { IsKept };
 }

@@ -21,5 +21,5 @@ pub record IsWritten (block name input expected : List ℕ) : Type 0 where
   pub lines : AreLines input
 
 -- what is said of a row: its name, what was found, and a line where that is not what is expected
-abbrev pub told : List ℕ → List ℕ → List ℕ → List ℕ
-told name expected found = name ++ (10 ∷ (found ++ cond (bytes_eq found expected) [] (codes "NOT AS EXPECTED\n")))
+abbrev pub report_text : List ℕ → List ℕ → List ℕ → List ℕ
+report_text name expected found = name ++ (10 ∷ (found ++ cond (bytes_eq found expected) [] (codes "NOT AS EXPECTED\n")))

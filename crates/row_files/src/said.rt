@@ -1,6 +1,6 @@
 //! What a program says of a row.
 ghost use Rattle.std.specs.Prelude.{◌≡◌, IfOk, string_bytes};
-ghost use Rattle.row_files.specs.Rows.{told};
+ghost use Rattle.row_files.specs.Rows.{report_text};
 
 use crate::Row;
 use std::alloc::{AllocError, Global};
@@ -9,7 +9,7 @@ use std::alloc::{AllocError, Global};
 /// expected.
 pub fn report(alloc: Global, row: &Row<'_>, found: &str) -> Result<String, AllocError>
     ensures { IfOk result
-        (λ text. string_bytes text ≡ told row.now.name.now row.now.expected.now found.now) }
+        (λ text. string_bytes text ≡ report_text row.now.name.now row.now.expected.now found.now) }
 {
     let name = row.name;
     let note = if found == row.expected {

@@ -17,7 +17,7 @@ use Rattle.client_phases.specs.declared.outcomes.Taken.TheVariants.{Noted, Agree
 use Rattle.client_phases.specs.declared.states.State.{State}
 use Rattle.client_phases.specs.declared.states.State.TheVariants.{Ready}
 use Rattle.network.specs.Flights.{message_of}
-use Rattle.network.specs.Pools.{silent, with_sent, with_one_less, with_one_more}
+use Rattle.network.specs.Pools.{silent_pool, with_sent, with_one_less, with_one_more}
 use Rattle.network.specs.declared.messages.Message.{Message}
 use Rattle.network.specs.declared.messages.Message.TheVariants.{ToReplica, ToClient}
 use Rattle.recorder.specs.Answers.{with_row}
@@ -40,7 +40,7 @@ opening config = record {
   config = config;
   members = record { joined = []; clients = finite.empty };
   nodes = nodes_below (length config.quorums.votes);
-  pool = silent config.flights;
+  pool = silent_pool config.flights;
   history = record { rows = []; limit = config.calls };
 }
 

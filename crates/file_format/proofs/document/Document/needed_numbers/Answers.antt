@@ -4,7 +4,7 @@ use Rattle.std.specs.declared.alloc.Global.{Global}
 use Rattle.json.specs.Find.{as_array}
 use Rattle.json.specs.Json.{Json}
 use Rattle.json.specs.Value.{value_view}
-use Rattle.file_format.specs.Members.{Gives, needed}
+use Rattle.file_format.specs.Members.{Gives, needed_member}
 use Rattle.file_format.specs.Trees.{all_unsigned}
 use Rattle.file_format.proofs.Looking.{numbers_there}
 use Rattle.file_format.proofs.document.Document.needed_numbers.Goals as goal
@@ -17,7 +17,7 @@ returns-in_default c =
     let j = value_view c.args.self.now.value in
     let fits = c.args.self.now.numbers in
     let name = c.args.name.now in
-    ap needed (sym (ap numbers_of c.in_default.ensures ∙ numbers_there name j fits))
+    ap needed_member (sym (ap numbers_of c.in_default.ensures ∙ numbers_there name j fits))
 
 pub returns-in-Some-items_in : goal.returns-in-Some-items_in
 returns-in-Some-items_in c =
@@ -25,7 +25,7 @@ returns-in-Some-items_in c =
     let fits = c.args.self.now.numbers in
     let name = c.args.name.now in
     let here = ap (option_and_then all_unsigned) c.in-Some-items_in.ensures ∙ ap numbers_of c.in-Some.ensures ∙ numbers_there name j fits in
-    let P : Option (List ℕ) → Type 0 = λ o. Gives (λ (numbers : Vec ℕ Global). numbers.items) c.numbers_in.result (needed o) in
+    let P : Option (List ℕ) → Type 0 = λ o. Gives (λ (numbers : Vec ℕ Global). numbers.items) c.numbers_in.result (needed_member o) in
     subst P here c.numbers_in.ensures
 
 pub returns-in-None : goal.returns-in-None
@@ -33,4 +33,4 @@ returns-in-None c =
     let j = value_view c.args.self.now.value in
     let fits = c.args.self.now.numbers in
     let name = c.args.name.now in
-    ap needed (sym (ap (option_and_then all_unsigned) c.in-None.ensures ∙ ap numbers_of c.in-Some.ensures ∙ numbers_there name j fits))
+    ap needed_member (sym (ap (option_and_then all_unsigned) c.in-None.ensures ∙ ap numbers_of c.in-Some.ensures ∙ numbers_there name j fits))
