@@ -9,8 +9,11 @@ use std::collections::BTreeMap;
 use std::marker::Model;
 use tag::{Key, Memory};
 
-/// How many numbers are at hand.
-const AT_HAND: usize = 1024;
+/// How many numbers are at hand at first.
+const LEAST_AT_HAND: usize = 1024;
+
+/// How many numbers are at hand at most.
+const MOST_AT_HAND: usize = 131_072;
 
 /// Keys, each once, in the order in which they were first seen. A key's number is its place.
 ///
@@ -60,7 +63,7 @@ impl KeyNumbers {
     fn at_hand(&self, mark: u64, key: &Key) -> Option<usize>
         ensures { IfSome result (λ number. slice_get self.now number ≡ Some key.now) }
     {
-        let number = *self.at_hand.get(place_at_hand(mark))?;
+        let number = *self.at_hand.get(place_at_hand(mark, self.at_hand.len()))?;
         match self.keys.get(number) {
             Some(known) if known == key => Some(number),
             _ => None,
@@ -71,7 +74,7 @@ impl KeyNumbers {
     fn keep_at_hand(&mut self, mark: u64, number: usize)
         ensures { self.new ≡ self.old }
     {
-        let place = place_at_hand(mark);
+        let place = place_at_hand(mark, self.at_hand.len());
         if place < self.at_hand.len() {
             self.at_hand[place] = number;
         }
@@ -116,7 +119,7 @@ impl KeyNumbers {
         let number = self.keys.len();
         // Whatever can be refused comes first.
         self.keys.reserve(1)?;
-        make_room_at_hand(&mut self.at_hand)?;
+        make_room_at_hand(&mut self.at_hand, number)?;
         let name = key.copy()?;
         let marked = (mark, key.copy()?);
         self.places.insert(marked, number)?;
@@ -125,15 +128,21 @@ impl KeyNumbers {
     }
 }
 
-/// Makes room for numbers at hand, where there is none.
-fn make_room_at_hand(numbers: &mut Vec<usize>) -> Result<(), Memory> {
-    if numbers.is_empty() {
-        numbers.resize(AT_HAND, 0)?;
+/// Makes room for numbers at hand, as many as there are keys, or up to twice as many.
+fn make_room_at_hand(numbers: &mut Vec<usize>, keys: usize) -> Result<(), Memory> {
+    let room = numbers.len();
+    if room == 0 {
+        numbers.resize(LEAST_AT_HAND, 0)?;
+    } else if keys > room && room < MOST_AT_HAND {
+        numbers.resize(room.saturating_mul(2).min(MOST_AT_HAND), 0)?;
     }
     Ok(())
 }
 
-/// Where the number of a key of that mark is at hand.
-fn place_at_hand(mark: u64) -> usize {
-    (mark % AT_HAND as u64) as usize
+/// Where, of so many places, the number of a key of that mark is at hand.
+fn place_at_hand(mark: u64, places: usize) -> usize {
+    if places == 0 {
+        return 0;
+    }
+    (mark % places as u64) as usize
 }
