@@ -22,9 +22,10 @@ const MOST_AT_HAND: usize = 131_072;
 pub struct KeyNumbers {
     places: BTreeMap<(u64, Key), usize>,
     keys: Vec<Key>,
-    /// The number of the last key that was asked for of those whose marks leave this place. It is
-    /// compared before it is taken, so what stands here costs time and changes no answer.
-    at_hand: Vec<usize>,
+    /// The mark and the number of the last key that was asked for of those whose marks leave this
+    /// place. The key is compared before its number is taken, so what stands here costs time and
+    /// changes no answer.
+    at_hand: Vec<(u64, usize)>,
 }
 
 impl Model for KeyNumbers {
@@ -59,11 +60,20 @@ impl KeyNumbers {
         self.keys.as_slice()
     }
 
+    /// The number that is at hand for that mark, if any.
+    fn marked_at_hand(&self, mark: u64) -> Option<usize> {
+        let place = place_at_hand(mark, self.at_hand.len());
+        match self.at_hand.get(place) {
+            Some((kept, number)) if *kept == mark => Some(*number),
+            _ => None,
+        }
+    }
+
     /// The number of that key, whose mark that is, where it is at hand.
     fn at_hand(&self, mark: u64, key: &Key) -> Option<usize>
         ensures { IfSome result (λ number. slice_get self.now number ≡ Some key.now) }
     {
-        let number = *self.at_hand.get(place_at_hand(mark, self.at_hand.len()))?;
+        let number = self.marked_at_hand(mark)?;
         match self.keys.get(number) {
             Some(known) if known == key => Some(number),
             _ => None,
@@ -76,7 +86,7 @@ impl KeyNumbers {
     {
         let place = place_at_hand(mark, self.at_hand.len());
         if place < self.at_hand.len() {
-            self.at_hand[place] = number;
+            self.at_hand[place] = (mark, number);
         }
     }
 
@@ -129,12 +139,12 @@ impl KeyNumbers {
 }
 
 /// Makes room for numbers at hand, as many as there are keys, or up to twice as many.
-fn make_room_at_hand(numbers: &mut Vec<usize>, keys: usize) -> Result<(), Memory> {
+fn make_room_at_hand(numbers: &mut Vec<(u64, usize)>, keys: usize) -> Result<(), Memory> {
     let room = numbers.len();
     if room == 0 {
-        numbers.resize(LEAST_AT_HAND, 0)?;
+        numbers.resize(LEAST_AT_HAND, (0, 0))?;
     } else if keys > room && room < MOST_AT_HAND {
-        numbers.resize(room.saturating_mul(2).min(MOST_AT_HAND), 0)?;
+        numbers.resize(room.saturating_mul(2).min(MOST_AT_HAND), (0, 0))?;
     }
     Ok(())
 }
