@@ -1,4 +1,4 @@
--- Bytes that a reader gives, one piece after another.
+-- Bytes that a reader gives, one block after another.
 use Rattle.std.proofs.Common.{ℕ, List, ◌++◌, Option, Result, Ok, Err, ◌⊎◌, inl, inr}
 use Rattle.std.specs.Prelude.{IfOk, IfErr}
 use Rattle.std.specs.Io.KnownBytes.{Consumes, IsAtEnd}
@@ -13,8 +13,8 @@ use Rattle.fault_script.specs.declared.fault.LineFault.{LineFault}
 use Rattle.fault_script.specs.Feeds.{Stands, Fed, FirstFault, FaultAtEnd, ErrorSoFar, ErrorAtEnd, Ends}
 use Rattle.fault_script.specs.Deliveries.{Holds, ReadsAll, StopsAt, StopsWith, IsUnderWay}
 
-pub Holds-step : (a b c : Option (List ℕ)) (old new : Feed) (piece : List ℕ) → Holds a b old → Consumes b c piece → ((bytes : List ℕ) → Stands bytes old → Fed (bytes ++ piece) (Ok tt) new) → Holds a c new
-Holds-step a b c old new piece h k fed = record { bytes = h.bytes ++ piece; given = Consumes-join a b c h.bytes piece h.given k; fact = fed h.bytes h.fact }
+pub Holds-step : (a b c : Option (List ℕ)) (old new : Feed) (block : List ℕ) → Holds a b old → Consumes b c block → ((bytes : List ℕ) → Stands bytes old → Fed (bytes ++ block) (Ok tt) new) → Holds a c new
+Holds-step a b c old new block h k fed = record { bytes = h.bytes ++ block; given = Consumes-join a b c h.bytes block h.given k; fact = fed h.bytes h.fact }
 
 so_far : (left : Option (List ℕ)) (bytes : List ℕ) (number : ℕ) (k : ErrorKind) → ErrorSoFar bytes number k → StopsWith left number k bytes
 so_far left bytes number k h =
@@ -24,11 +24,11 @@ so_far left bytes number k h =
 never_failed : (bytes : List ℕ) (number : ℕ) (k : ErrorKind) (old new : ℕ) → ErrorSoFar bytes number k → HasFailed k old new
 never_failed bytes number k old new h = no_device (FirstFault bytes number) k old new h
 
-pub Holds-stop : (a b c : Option (List ℕ)) (old new : Feed) (piece : List ℕ) (error : ScriptError) → Holds a b old → Consumes b c piece → ((bytes : List ℕ) → Stands bytes old → Fed (bytes ++ piece) (Err error) new) → Delivers a c (StopsAt c error)
-Holds-stop a b c old new piece error h k fed = record { bytes = h.bytes ++ piece; given = Consumes-join a b c h.bytes piece h.given k; fact = so_far c (h.bytes ++ piece) error.line error.kind (fed h.bytes h.fact) }
+pub Holds-stop : (a b c : Option (List ℕ)) (old new : Feed) (block : List ℕ) (error : ScriptError) → Holds a b old → Consumes b c block → ((bytes : List ℕ) → Stands bytes old → Fed (bytes ++ block) (Err error) new) → Delivers a c (StopsAt c error)
+Holds-stop a b c old new block error h k fed = record { bytes = h.bytes ++ block; given = Consumes-join a b c h.bytes block h.given k; fact = so_far c (h.bytes ++ block) error.line error.kind (fed h.bytes h.fact) }
 
-pub Holds-no_device : (a b : Option (List ℕ)) (old new : Feed) (piece : List ℕ) (error : ScriptError) (m n : ℕ) → Holds a b old → ((bytes : List ℕ) → Stands bytes old → Fed (bytes ++ piece) (Err error) new) → HasFailed error.kind m n
-Holds-no_device a b old new piece error m n h fed = never_failed (h.bytes ++ piece) error.line error.kind m n (fed h.bytes h.fact)
+pub Holds-no_device : (a b : Option (List ℕ)) (old new : Feed) (block : List ℕ) (error : ScriptError) (m n : ℕ) → Holds a b old → ((bytes : List ℕ) → Stands bytes old → Fed (bytes ++ block) (Err error) new) → HasFailed error.kind m n
+Holds-no_device a b old new block error m n h fed = never_failed (h.bytes ++ block) error.line error.kind m n (fed h.bytes h.fact)
 
 at_end : (left : Option (List ℕ)) (bytes : List ℕ) (number : ℕ) (k : ErrorKind) → IsAtEnd left → ErrorAtEnd bytes number k → StopsWith left number k bytes
 at_end left bytes number k e h =

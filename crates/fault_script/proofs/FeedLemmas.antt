@@ -1,4 +1,4 @@
--- Bytes that come in pieces.
+-- Bytes that come in blocks.
 use Rattle.std.proofs.Common.{ℕ, zero, suc, ◌≡◌, ◌≢◌, ◌<◌, ◌≤◌, ◌+◌, inl, inr, List, [], ◌∷◌, ◌++◌, length, take, drop, get_or, Result, Ok, Err, refl, sym, ap, ◌∙◌, subst, append_assoc, append-nil, length-append, arith}
 use Rattle.std.specs.Prelude.{All}
 use Rattle.std.specs.List.{flat_map}
@@ -172,24 +172,24 @@ cut_at [] i lt e = absurd (omega arith)
 cut_at (x ∷ xs) zero lt e = ap (λ (b : ℕ). b ∷ xs) e
 cut_at (x ∷ xs) (suc i) lt e = ap (λ (l : List ℕ). x ∷ l) (cut_at xs i (omega arith) e)
 
--- the lines of a beginning of the piece were taken
-pub record Goes (old : Feed) (piece left : List ℕ) (new : Feed) : Type 0 where
+-- the lines of a beginning of the block were taken
+pub record Goes (old : Feed) (block left : List ℕ) (new : Feed) : Type 0 where
   pub done : List ℕ
-  pub split : piece ≡ done ++ left
+  pub split : block ≡ done ++ left
   pub stands : (bytes : List ℕ) → Stands bytes old → Stands (bytes ++ done) new
 
-pub Goes-step : (old mid new : Feed) (piece left part more : List ℕ) → Goes old piece left mid → left ≡ with_end part ++ more → HasNoEnd part → ((bytes : List ℕ) → Stands bytes mid → HasNoEnd part → Ended (bytes ++ with_end part) (Ok tt) new) → Goes old piece more new
-Goes-step old mid new piece left part more g cut none ends = record {
+pub Goes-step : (old mid new : Feed) (block left part more : List ℕ) → Goes old block left mid → left ≡ with_end part ++ more → HasNoEnd part → ((bytes : List ℕ) → Stands bytes mid → HasNoEnd part → Ended (bytes ++ with_end part) (Ok tt) new) → Goes old block more new
+Goes-step old mid new block left part more g cut none ends = record {
   done = g.done ++ with_end part;
   split = g.split ∙ ap (λ (xs : List ℕ). g.done ++ xs) cut ∙ sym (append_assoc g.done (with_end part) more);
   stands = λ bytes s. let P : List ℕ → Type 0 = λ xs. Stands xs new in subst P (append_assoc bytes g.done (with_end part)) (ends (bytes ++ g.done) (g.stands bytes s) none);
 }
 
 -- a fault of one of its lines
-pub Goes-stop : (old mid new : Feed) (piece left part more : List ℕ) (error : ScriptError) → Goes old piece left mid → left ≡ with_end part ++ more → HasNoEnd part → ((bytes : List ℕ) → Stands bytes mid → HasNoEnd part → Ended (bytes ++ with_end part) (Err error) new) → (bytes : List ℕ) → Stands bytes old → ErrorSoFar (bytes ++ piece) error.line error.kind
-Goes-stop old mid new piece left part more error g cut none ends bytes s =
+pub Goes-stop : (old mid new : Feed) (block left part more : List ℕ) (error : ScriptError) → Goes old block left mid → left ≡ with_end part ++ more → HasNoEnd part → ((bytes : List ℕ) → Stands bytes mid → HasNoEnd part → Ended (bytes ++ with_end part) (Err error) new) → (bytes : List ℕ) → Stands bytes old → ErrorSoFar (bytes ++ block) error.line error.kind
+Goes-stop old mid new block left part more error g cut none ends bytes s =
     let P : List ℕ → Type 0 = λ xs. ErrorSoFar xs error.line error.kind in
-    let same : ((bytes ++ g.done) ++ with_end part) ++ more ≡ bytes ++ piece =
+    let same : ((bytes ++ g.done) ++ with_end part) ++ more ≡ bytes ++ block =
     append_assoc (bytes ++ g.done) (with_end part) more
     ∙ ap (λ (xs : List ℕ). (bytes ++ g.done) ++ xs) (sym cut)
     ∙ append_assoc bytes g.done left
@@ -197,8 +197,8 @@ Goes-stop old mid new piece left part more error g cut none ends bytes s =
     subst P same (ends (bytes ++ g.done) (g.stands bytes s) none more)
 
 -- what is left when the last line's end was passed
-pub Goes-end : (old mid new : Feed) (piece left : List ℕ) (r : Result (Unit {0}) ScriptError) → Goes old piece left mid → HasNoEnd left → ((bytes : List ℕ) → Stands bytes mid → HasNoEnd left → Fed (bytes ++ left) r new) → (bytes : List ℕ) → Stands bytes old → Fed (bytes ++ piece) r new
-Goes-end old mid new piece left r g none keeps bytes s =
+pub Goes-end : (old mid new : Feed) (block left : List ℕ) (r : Result (Unit {0}) ScriptError) → Goes old block left mid → HasNoEnd left → ((bytes : List ℕ) → Stands bytes mid → HasNoEnd left → Fed (bytes ++ left) r new) → (bytes : List ℕ) → Stands bytes old → Fed (bytes ++ block) r new
+Goes-end old mid new block left r g none keeps bytes s =
     let P : List ℕ → Type 0 = λ xs. Fed xs r new in
     subst P (append_assoc bytes g.done left ∙ ap (λ (xs : List ℕ). bytes ++ xs) (sym g.split)) (keeps (bytes ++ g.done) (g.stands bytes s) none)
 

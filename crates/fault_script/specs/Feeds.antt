@@ -1,4 +1,4 @@
--- What bytes that come in pieces were read as.
+-- What bytes that come in blocks were read as.
 use Rattle.std.specs.Prelude.{ℕ, ◌≡◌, ◌≤◌, ◌<◌, ◌+◌, ◌⊎◌, List, [], ◌∷◌, ◌++◌, length, Result, Ok, Err, All, MatchResult}
 use Rattle.std.specs.List.{flat_map}
 use Rattle.counted_devices.specs.Cuts.{with_end, HasNoEnd, Splits}

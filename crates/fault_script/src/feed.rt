@@ -1,4 +1,4 @@
-//! A script that comes in pieces.
+//! A script that comes in blocks.
 ghost use Rattle.std.specs.Prelude.{ℕ, ◌≡◌, ◌<◌, ◌≤◌, ◌+◌, ◌^◌, ◌++◌, List, [], length, OnOk};
 ghost use Rattle.counted_devices.specs.Cuts.{HasNoEnd, with_end};
 
@@ -65,7 +65,7 @@ impl Feed {
     /// Ends the line that is under way, of which these are the last bytes.
     fn end_line(&mut self, part: &[u8]) -> Result<(), ScriptError>
         requires { self.old.progress.lines < 2 ^ 63 }
-        ensures with_end { (bytes : List ℕ) → Stands bytes self.old → HasNoEnd part.now
+        ensures ended { (bytes : List ℕ) → Stands bytes self.old → HasNoEnd part.now
             → Ended (bytes ++ with_end part.now) result self.new }
         ensures lines { OnOk result (self.new.progress.lines ≡ self.old.progress.lines + 1) }
         ensures rest { OnOk result (length self.new.rest.items ≡ 0) }
@@ -79,16 +79,16 @@ impl Feed {
         Ok(())
     }
 
-    /// Takes the next piece.
-    pub(crate) fn feed(&mut self, piece: &[u8]) -> Result<(), ScriptError>
+    /// Takes the next block.
+    pub(crate) fn feed(&mut self, block: &[u8]) -> Result<(), ScriptError>
         requires { self.old.progress.lines + length self.old.rest.items
-            + length piece.now < 2 ^ 63 }
+            + length block.now < 2 ^ 63 }
         ensures fed { (bytes : List ℕ) → Stands bytes self.old
-            → Fed (bytes ++ piece.now) result self.new }
+            → Fed (bytes ++ block.now) result self.new }
         ensures room { OnOk result (self.new.progress.lines + length self.new.rest.items
-            ≤ self.old.progress.lines + length self.old.rest.items + length piece.now) }
+            ≤ self.old.progress.lines + length self.old.rest.items + length block.now) }
     {
-        let mut left = piece;
+        let mut left = block;
         while let Some(end) = first_end(left) {
             self.end_line(&left[..end])?;
             left = &left[end + 1..];

@@ -10,10 +10,10 @@ use crate::{ErrorKind, ScriptError};
 use counted_devices::CountedRead;
 use std::alloc::{AllocError, Global};
 
-/// The most bytes of a piece.
-const PIECE: usize = 1_048_576;
+/// The most bytes of a block.
+const BLOCK: usize = 1_048_576;
 
-/// Room for pieces of that size.
+/// Room for blocks of that size.
 fn room_for(alloc: Global, size: usize) -> Result<Vec<u8>, AllocError>
     ensures { IfOk result (λ room. length room.items ≡ size) }
 {
@@ -50,8 +50,8 @@ fn feed_next<R: CountedRead>(
     }
 }
 
-/// Feeds the bytes of the reader, to its end, in pieces of that room.
-fn feed_in_pieces<R: CountedRead>(
+/// Feeds the bytes of the reader, to its end, in blocks of that room.
+fn feed_in_blocks<R: CountedRead>(
     alloc: Global,
     reader: &mut R,
     room: &mut [u8],
@@ -63,7 +63,7 @@ fn feed_in_pieces<R: CountedRead>(
     ensures room { IfOk result (λ feed. feed.progress.lines < 2 ^ 63) }
 {
     let mut feed = Feed::new(alloc);
-    'pieces: while feed_next(&mut feed, reader, room)? {}
+    'reads: while feed_next(&mut feed, reader, room)? {}
     let _given = reader.given();
     Ok(feed)
 }
@@ -78,12 +78,12 @@ pub fn parse<R: CountedRead>(alloc: Global, reader: &mut R) -> Result<Script, Sc
     ensures fault { IfErr result (StopsFrom R.remaining reader.old reader.new) }
     ensures device { IfErr result (FailsFrom R.failures reader.old reader.new) }
 {
-    let Ok(mut room) = room_for(alloc, PIECE) else {
+    let Ok(mut room) = room_for(alloc, BLOCK) else {
         return Err(ScriptError {
             line: 1,
             kind: ErrorKind::Memory,
         });
     };
-    let feed = feed_in_pieces(alloc, reader, room.as_mut_slice())?;
+    let feed = feed_in_blocks(alloc, reader, room.as_mut_slice())?;
     feed.finish()
 }

@@ -53,7 +53,7 @@ pub fn a_list_may_have_one_more_step()
     ensures accepted { (config : Config) (steps : List Step) (step : Step)
         → AreAccepted (opening config) steps → refusal_of (after config steps) step ≡ None
         → (after config (steps ++ step ∷ []) ≡ system_after (after config steps) step)
-            × AreAccepted (opening config) (steps ++ step ∷ []) }
+        × AreAccepted (opening config) (steps ++ step ∷ []) }
 {}
 
 /// What a step answers is the next system, but where it was refused for memory.
@@ -74,7 +74,7 @@ pub fn steps_keep_a_system_sound()
 pub fn a_stop_is_of_a_client_that_runs()
     ensures { (s : System) (step : Step) → IsSound s → refusal_of s step ≡ None
         → running_count (system_after s step).members + stop_count step
-            ≤ running_count s.members + join_count step }
+        ≤ running_count s.members + join_count step }
 {}
 
 /// Whatever steps follow, a name that joined stays joined, no replica's tag of a key falls, and the rows
