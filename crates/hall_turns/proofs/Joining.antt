@@ -21,7 +21,8 @@ use Rattle.hall_turns.specs.Turns.{Enters, HasEntered, HasNoCall, Receives, gues
 use Rattle.hall_turns.proofs.Rows.{none_some}
 use Rattle.hall_turns.proofs.Turning.{StayJoined, joined_on}
 
-there_now : (m : finite.FinMap nat_cmp Client) (name : ℕ) (client : Client) → finite.get (finite.insert m name client) name ≡ Some client
+-- a name has the client that it was given last
+pub there_now : (m : finite.FinMap nat_cmp Client) (name : ℕ) (client : Client) → finite.get (finite.insert m name client) name ≡ Some client
 there_now m name client = finite.get-insert nat_cmp_total m name client name ∙ ap (λ b. cond b (Some client) (finite.get m name)) (ap is_eq (tied_itself nat_cmp_total name))
 
 -- a name that joined is refused

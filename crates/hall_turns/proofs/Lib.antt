@@ -5,3 +5,4 @@ mod Turning
 mod ClientTurns
 mod FreeTurns
 mod Joining
+mod Stopping

@@ -109,12 +109,13 @@ rested v w z old hall is returned = returned ∙ ap (λ y. resting y hall.world)
 pub recorded : (hall : Hall) → IsReplay hall → IsSound hall.world → IsWellFormed hall.world.history.rows → AreRecorded hall.world.history.rows
 recorded hall replay sound formed = record { hall = hall; replay = replay; sound = sound; is = refl; formed = formed }
 
-pub turned : (v w z : View) (old new : Hall) (step : Step) (result : Result Effect Refusal) → Receives v old w → Takes old step result new → AreRecorded new.world.history.rows → Returns w new z → Turns v step result z
-turned v w z old new step result received took sound returned = record {
+pub turned : (v w z : View) (old new : Hall) (step : Step) (result : Result Effect Refusal) → Receives v old w → Takes old step result new → IsReplay new → AreRecorded new.world.history.rows → Returns w new z → Turns v step result z
+turned v w z old new step result received took replay sound returned = record {
   before = old;
   after = new;
   knows = received.knows;
   took = took;
+  replay = replay;
   recorded = sound;
   is = rested v w z old new received.is returned;
 }

@@ -1,5 +1,5 @@
 -- A hall that threads take in turns: it lies in a channel or is out with one pass, and each pass knows what it has seen.
-use Rattle.std.specs.Prelude.{ℕ, ◌≡◌, ◌≤◌, List, [], ◌∷◌, ◌++◌, Option, Some, None, Result, length}
+use Rattle.std.specs.Prelude.{ℕ, ◌≡◌, ◌≤◌, true, List, [], ◌∷◌, ◌++◌, Option, Some, None, Result, length}
 use Rattle.std.specs.FinMap as finite
 use mathlib.Core.Option.{some}
 use lib.ListN.{get_elem?}
@@ -16,6 +16,7 @@ use Rattle.recorder.specs.declared.row.Row.{Row}
 use Rattle.recorder.specs.declared.row.Row.TheVariants.{Invoke, Note}
 use Rattle.world_steps.specs.Configs.{config_of}
 use Rattle.world_steps.specs.Lasting.{Grows, HasJoined, IsRowOf}
+use Rattle.world_steps.specs.Refusals.{is_stopped, phase_at}
 use Rattle.world_steps.specs.SoundSystems.{IsSound}
 use Rattle.world_steps.specs.Sound.{At}
 use Rattle.world_steps.specs.Systems.{opening}
@@ -182,6 +183,7 @@ pub record Turns (v : View) (step : Step) (result : Result Effect Refusal) (w : 
   pub after : Hall
   pub knows : Knows v before.world
   pub took : Takes before step result after
+  pub replay : IsReplay after
   pub recorded : AreRecorded after.world.history.rows
   pub is : w ≡ resting v after.world
 
@@ -212,6 +214,13 @@ pub record Turned (old : Seen) (step : Step) (result : Result Effect Refusal) (n
 pub record Looked (old new : Seen) : Type 0 where
   pub client : new.client ≡ old.client
   pub others : OthersAdd old.client old.rows new.rows
+
+-- the client of the pass is stopped in a world that steps reach, whose rows are those that the pass has seen
+pub record SeesStopped (now : Seen) : Type 0 where
+  pub hall : Hall
+  pub replay : IsReplay hall
+  pub rows : now.rows ≡ hall.world.history.rows
+  pub stopped : is_stopped (phase_at hall.world now.client) ≡ true
 
 -- one turn, in which that row of the client's came, at that place: before it came rows of other clients alone
 pub record AddedRow (old : Seen) (row : Row) (place : ℕ) (new : Seen) : Type 0 where

@@ -8,7 +8,7 @@ ghost use Rattle.world_steps.specs.Refusals.{refusal_of};
 ghost use Rattle.world_steps.specs.declared.effect.Effect.TheVariants as effect;
 ghost use Rattle.world_steps.specs.declared.step.Step.TheVariants as event;
 ghost use Rattle.hall_journal.specs.Halls.{Takes, with_step};
-ghost use Rattle.hall_turns.specs.Turns.{AddedRow, AreRecorded, IsQuiet, IsReady, Looked, MayTake, TookReply, Turned, seat};
+ghost use Rattle.hall_turns.specs.Turns.{AddedRow, AreRecorded, IsQuiet, IsReady, Looked, MayTake, SeesStopped, TookReply, Turned, seat};
 
 use crate::door::{Door, known};
 use client_phases::{Phase, Taken};
@@ -106,6 +106,16 @@ impl ClientPass {
         ensures recorded { AreRecorded self.new.rows }
     {
         self.door.take(rt, step)
+    }
+
+    /// One turn: the client stops for good, where it hasn't yet. Nothing refuses that for memory.
+    pub fn stop(&mut self, rt: &impl Wait)
+        ensures looked { Looked self.old self.new }
+        ensures stopped { SeesStopped self.new }
+        ensures recorded { AreRecorded self.new.rows }
+    {
+        let client = self.client;
+        let _ = self.door.take(rt, Step::StopClient { client });
     }
 }
 

@@ -8,7 +8,7 @@ use Rattle.tag.specs.declared.actions.Returned.{Returned}
 use Rattle.tag.specs.declared.numbers.OpId.{OpId}
 use Rattle.recorder.specs.declared.part.Response.{Response}
 use Rattle.recorder.specs.declared.row.Row.TheVariants.{Respond}
-use Rattle.hall_turns.specs.Turns.{HasNoCall, Seen}
+use Rattle.hall_turns.specs.Turns.{HasNoCall, Seen, SeesStopped}
 use Rattle.node_threads.specs.declared.entry.Entry.{Entry}
 use Rattle.node_threads.specs.declared.seat.Answer.{Answer}
 use Rattle.node_threads.specs.Answers.{HasFailed, IsAnswered}
@@ -162,8 +162,8 @@ module _ (s : Seat) (at hall : ℕ) (old new : Seen) (key kept_key : List ℕ) (
     pending_is = subst (λ l. IsSeat (record { store = s.store; client = s.client; is_spent = true; log = l; passes = slice_set s.passes at new; seen = slice_set s.seen at (place + 1) })) (sym logged)
         (pending_seat s at old new entry_of seen is there saw later (sym same) refl has_begun)
 
-    pub leaves_pending : HasFailed s hall key action (record { store = s.store; client = s.client; is_spent = true; log = log; passes = slice_set s.passes at new; seen = slice_set s.seen at (place + 1) })
-    leaves_pending = inr (
+    pub leaves_pending : SeesStopped new → HasFailed s hall key action (record { store = s.store; client = s.client; is_spent = true; log = log; passes = slice_set s.passes at new; seen = slice_set s.seen at (place + 1) })
+    leaves_pending stopped = inr (
       entry_of,
       record {
         before = old;
@@ -176,6 +176,7 @@ module _ (s : Seat) (at hall : ℕ) (old new : Seen) (key kept_key : List ℕ) (
         pending = refl;
         later = seen_before;
         grown = has_begun.grown;
+        stopped = stopped;
       },
     )
 

@@ -4,7 +4,7 @@ use Rattle.tag.specs.declared.actions.Action.{Action}
 use Rattle.tag.specs.declared.actions.Returned.{Returned}
 use Rattle.tag.specs.declared.numbers.OpId.{OpId}
 use Rattle.recorder.specs.declared.row.Row.TheVariants.{Invoke, Respond}
-use Rattle.hall_turns.specs.Turns.{AddedRow, AreRecorded, Seen}
+use Rattle.hall_turns.specs.Turns.{AddedRow, AreRecorded, Seen, SeesStopped}
 use Rattle.world_steps.specs.Lasting.{Grows}
 use Rattle.node_threads.specs.declared.entry.Entry.{Entry}
 use Rattle.node_threads.specs.declared.errand.Outcome.{Outcome}
@@ -29,10 +29,11 @@ pub record EndsCall (old : Seen) (op : OpId) (returned : Returned) (place : ℕ)
   pub answered : AddedRow middle (Respond op returned) place new
   pub recorded : AreRecorded new.rows
 
--- what became of a call, where the client's pass had seen so many rows at least: it didn't begin; or it began and isn't answered; or it is
+-- what became of a call, where the client's pass had seen so many rows at least: it didn't begin; or it began, isn't answered, and the client is
+-- stopped; or it is answered
 abbrev pub Drives : Seen → List ℕ → Action → ℕ → Outcome → Seen → Type 0
 Drives old key action seen (outcome.Refused error) new = KeepsLog old new
-Drives old key action seen (outcome.Pending begun error) new = (seen ≤ begun.place) × ((middle : Seen) × BeginsCall old key action begun.op begun.place middle × KeepsLog middle new)
+Drives old key action seen (outcome.Pending begun error) new = (seen ≤ begun.place) × ((middle : Seen) × BeginsCall old key action begun.op begun.place middle × KeepsLog middle new × SeesStopped new)
 Drives old key action seen (outcome.Done begun ended) new = (seen ≤ begun.place) × ((middle : Seen) × BeginsCall old key action begun.op begun.place middle × EndsCall middle ended.op ended.returned ended.place new)
 
 -- places are below the lengths of lists that a program holds, and the copy of an answer is the answer

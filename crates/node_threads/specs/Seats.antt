@@ -7,7 +7,7 @@ use Rattle.recorder.specs.declared.part.Response.{Response}
 use Rattle.recorder.specs.declared.row.Row.{Row}
 use Rattle.recorder.specs.declared.row.Row.TheVariants.{Respond}
 use Rattle.world_steps.specs.Lasting.{Grows}
-use Rattle.hall_turns.specs.Turns.{HasNoCall, Seen}
+use Rattle.hall_turns.specs.Turns.{HasNoCall, Seen, SeesStopped}
 use Rattle.node_threads.specs.Logs.{AreAnswered, IsLog, of_hall}
 use Rattle.node_threads.specs.Receipts.{Receipt}
 use Rattle.node_threads.specs.declared.entry.Entry.{Entry}
@@ -68,7 +68,8 @@ pub record Calls (old : Seat) (hall : ℕ) (key : List ℕ) (action : Action) (e
   pub grown : Grows before.rows after.rows
   pub last : EndsWith after.rows (Respond entry.op response.returned)
 
--- a call of the seat began and isn't answered: one entry more, pending, begun behind all that the seat had seen, and the seat is spent
+-- a call of the seat began and isn't answered: one entry more, pending, begun behind all that the seat had seen; the client is stopped in the hall,
+-- and the seat is spent
 pub record LeavesPending (old : Seat) (hall : ℕ) (key : List ℕ) (action : Action) (entry : Entry) (new : Seat) : Type 0 where
   pub before : Seen
   pub after : Seen
@@ -80,6 +81,7 @@ pub record LeavesPending (old : Seat) (hall : ℕ) (key : List ℕ) (action : Ac
   pub pending : entry.response ≡ None
   pub later : seen_in old hall ≤ entry.invoked
   pub grown : Grows before.rows after.rows
+  pub stopped : SeesStopped after
 
 -- a call of the seat didn't begin: its log, its store, its client and what it has seen are as before, and it is no more spent than before
 pub record DidNotBegin (old new : Seat) : Type 0 where
@@ -101,3 +103,7 @@ pub record HasMet (old : Seat) (receipt : Receipt) (new : Seat) : Type 0 where
 -- the passes are of a client that has no call yet
 abbrev pub AreFresh : ℕ → List Seen → Type 0
 AreFresh client passes = (k : ℕ) (pass : Seen) → slice_get passes k ≡ Some pass → (pass.client ≡ client) × HasNoCall client pass.rows
+
+-- the client of each of the passes is stopped in the pass's hall
+abbrev pub AreStopped : List Seen → Type 0
+AreStopped passes = (k : ℕ) (pass : Seen) → slice_get passes k ≡ Some pass → SeesStopped pass

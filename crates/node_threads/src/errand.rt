@@ -1,6 +1,6 @@
 //! One call on its way: what its client sends, and what it hears.
 ghost use Rattle.std.specs.Prelude.{◌≡◌, ◌≤◌, Some, IfOk, OnErr};
-ghost use Rattle.hall_turns.specs.Turns.{IsQuiet, MayTake};
+ghost use Rattle.hall_turns.specs.Turns.{IsQuiet, MayTake, SeesStopped};
 ghost use Rattle.node_threads.specs.Calls.{Drives, EndsCall, IsPlaced, KeepsLog};
 
 use crate::errors::CallError;
@@ -312,12 +312,11 @@ fn turn<R: Wait>(rt: &R, pass: &mut ClientPass, step: Step) -> Result<Effect, Re
 }
 
 /// Stops the client in the pass's hall.
-#[tactic(auto, using(crate::proofs::Keeping::keeps_same, crate::proofs::Keeping::keeps_then))]
 fn stop<R: Wait>(rt: &R, pass: &mut ClientPass)
-    ensures { KeepsLog pass.old pass.new }
+    ensures kept { KeepsLog pass.old pass.new }
+    ensures stopped { SeesStopped pass.new }
 {
-    let client = pass.client();
-    let _ = turn(rt, pass, Step::StopClient { client });
+    pass.stop(rt);
 }
 
 /// What a call answers where its invocation was refused.

@@ -1,11 +1,11 @@
 //! A running store: its halls, and a thread for each replica.
-ghost use Rattle.std.specs.Prelude.{◌≡◌, ◌≤◌, ◌↔◌, Err, true, false, [], length, IfOk, IfSome, IsNone, OnErr, OnOk};
+ghost use Rattle.std.specs.Prelude.{◌≡◌, ◌≤◌, ◌+◌, ◌↔◌, Err, true, false, [], length, IfOk, IfSome, IsNone, OnErr, OnOk};
 ghost use Rattle.recorder.specs.Halls.{hall_of};
 ghost use Rattle.std.specs.Fn.{FnOnceReturnsAt};
 ghost use Rattle.hall_turns.specs.Turns.{IsTold};
 ghost use Rattle.node_threads.specs.Answers.{HasFailed, IsAnswered};
 ghost use Rattle.node_threads.specs.Closings.{Closes, HasForeign};
-ghost use Rattle.node_threads.specs.Seats.{AreFresh};
+ghost use Rattle.node_threads.specs.Seats.{AreFresh, AreStopped};
 ghost use Rattle.node_threads.specs.Snapshots.{Shows};
 
 use crate::closing::{Closed, are_logged, are_of_store, closed_halls, end_replicas};
@@ -172,19 +172,16 @@ impl<G: Gate> Store<G> {
         ensures client { IfOk result (λ seat. seat.client ≡ client) }
         ensures fresh { IfOk result (λ seat. (seat.log ≡ []) × (seat.is_spent ≡ false)) }
     {
+        let mut seen = Vec::new(alloc);
+        for _ in &self.roots {
+            seen.push(0)?;
+        }
         let mut passes = Vec::new(alloc);
         for root in &self.roots {
-            match join_hall(rt, root, &mut passes, client) {
-                Ok(()) => {}
-                Err(error) => {
-                    stop_all(rt, passes);
-                    return Err(error);
-                }
+            if let Err(error) = join_hall(rt, root, &mut passes, client) {
+                stop_all(rt, &mut passes);
+                return Err(error);
             }
-        }
-        let mut seen = Vec::new(alloc);
-        for _ in &passes {
-            seen.push(0)?;
         }
         Ok(Seat::new(alloc, self.number, client, passes, seen))
     }
@@ -345,6 +342,7 @@ fn join_hall<R: Wait>(
 ) -> Result<(), JoinError>
     requires { AreFresh client passes.old.items }
     ensures fresh { AreFresh client passes.new.items }
+    ensures one { OnOk result (length passes.new.items ≡ length passes.old.items + 1) }
 {
     passes.reserve(1)?;
     let free = root.lock(rt).another()?;
@@ -354,9 +352,10 @@ fn join_hall<R: Wait>(
 }
 
 /// Stops the client in the halls of these passes.
-fn stop_all<R: Wait>(rt: &R, passes: Vec<ClientPass>) {
-    for mut pass in passes {
-        let name = pass.client();
-        let _ = pass.take(rt, Step::StopClient { client: name });
+fn stop_all<R: Wait>(rt: &R, passes: &mut [ClientPass])
+    ensures { AreStopped passes.new }
+{
+    for pass in passes.iter_mut() {
+        pass.stop(rt);
     }
 }

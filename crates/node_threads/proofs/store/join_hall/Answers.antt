@@ -1,11 +1,15 @@
-use Rattle.std.proofs.Common.{sym, subst}
+use Rattle.std.proofs.Common.{sym, subst, ap, length, ◌∙◌}
+use Rattle.std.proofs.lemmas.List.{length_push}
 use Rattle.node_threads.specs.Seats.{AreFresh}
 use Rattle.node_threads.proofs.Lists.{behind}
 use Rattle.node_threads.proofs.Seating.{fresh_more}
 use Rattle.node_threads.proofs.store.join_hall.Goals as goal
 
 pub returns : goal.returns
-returns g c = record {
-  fresh = subst (AreFresh c.args.client) (sym (behind c.args.passes.now.items c.reserve.new.self.items c.push_reserved.new.self.items _ c.reserve.ensures.items c.push_reserved.ensures.items))
-      (fresh_more c.args.client c.args.passes.now.items _ c.requires c.in_ok-pass.ensures.client c.in_ok-pass.ensures.rows.1);
-}
+returns g c =
+    let more = behind c.args.passes.now.items c.reserve.new.self.items c.push_reserved.new.self.items _ c.reserve.ensures.items c.push_reserved.ensures.items in
+    record {
+      fresh = subst (AreFresh c.args.client) (sym more)
+          (fresh_more c.args.client c.args.passes.now.items _ c.requires c.in_ok-pass.ensures.client c.in_ok-pass.ensures.rows.1);
+      one = ap length more ∙ length_push c.args.passes.now.items _;
+    }

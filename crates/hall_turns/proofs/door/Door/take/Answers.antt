@@ -8,5 +8,5 @@ give_back-requires g c =
 
 pub returns : goal.returns
 returns g c =
-    turned c.args.self.now c.receive-hall.new.self c.give_back.new.self c.receive-hall.result c.take-taken.new.self c.args.step c.take-taken.result c.receive-hall.ensures c.take-taken.ensures.takes
+    turned c.args.self.now c.receive-hall.new.self c.give_back.new.self c.receive-hall.result c.take-taken.new.self c.args.step c.take-taken.result c.receive-hall.ensures c.take-taken.ensures.takes c.known-2.ensures.replay
     (recorded c.take-taken.new.self c.known-2.ensures.replay c.known-2.ensures.sound c.known-2.ensures.formed) c.give_back.ensures

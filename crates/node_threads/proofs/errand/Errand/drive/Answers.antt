@@ -10,5 +10,5 @@ returns-in-Err-Refused-clause-drives g c = keeps_looked c.args.pass.now c.invoke
 pub returns-in-Err-clause-drives : goal.returns-in-Err-clause-drives
 returns-in-Err-clause-drives g c = (
   c.in-Ok.ensures.seen,
-  (c.invoke.new.self, record { added = c.in-Ok.ensures.begun; recorded = c.invoke.ensures.recorded }, keeps_then c.invoke.new.self c.finish.new.pass c.stop.new.pass c.in-Err.ensures.failed c.stop.ensures),
+  (c.invoke.new.self, record { added = c.in-Ok.ensures.begun; recorded = c.invoke.ensures.recorded }, keeps_then c.invoke.new.self c.finish.new.pass c.stop.new.pass c.in-Err.ensures.failed c.stop.ensures.kept, c.stop.ensures.stopped),
 )

@@ -40,7 +40,7 @@ returns-in-Pending-clause-failed g c =
     rw (← c.self.view_is)
     (leaves_pending (record { store = c.self.inside.store; client = c.self.inside.client; is_spent = c.self.inside.is_spent; log = c.self.inside.log.items; passes = c.self.inside.passes.items; seen = c.self.inside.seen.items }) c.from-at.result c.args.errand.now.hall c.index_mut.result.now c.drive.new.pass c.args.key c.in_ok-kept_key.kept_key c.args.action c.in_ok-kept_action.kept_action c.in-Pending.begun.op c.in-Pending.begun.place c.index-seen.result.now
     c.self.invariant there saw c.from-at.ensures c.in_ok-kept_key.ensures c.in_ok-kept_action.ensures c.in-Pending.ensures.drives.0
-    c.push_reserved.new.self.items logged began.0 began.1 began.2)
+    c.push_reserved.new.self.items logged began.0 began.1 began.2 began.3)
 
 pub invariant_of-self-in-Done : goal.invariant_of-self-in-Done
 invariant_of-self-in-Done g c =

@@ -1,0 +1,47 @@
+-- A turn that stops a client.
+use Rattle.std.proofs.Common.{◌≡◌, ℕ, List, [], ◌∷◌, Bool, true, false, is_none, option_map, Some, Result, Ok, Err, ⊎_elim, refl, ap, ◌∙◌, subst}
+use Rattle.std.specs.FinMap as finite
+use Rattle.client_phases.specs.Clients.{client_after_stop, phase_of}
+use Rattle.client_phases.specs.declared.clients.Client.{Client}
+use Rattle.recorder.specs.declared.row.Row.{Row}
+use Rattle.world_steps.specs.Lasting.{HasJoined}
+use Rattle.world_steps.specs.Refusals.{first_of, is_stopped, no_such_client, phase_at}
+use Rattle.world_steps.specs.Systems.{stop, system_after}
+use Rattle.world_steps.specs.declared.effect.Effect.{Effect}
+use Rattle.world_steps.specs.declared.refusal.Refusal.{Refusal}
+use Rattle.world_steps.specs.declared.refusal.Refusal.TheVariants as refusal
+use Rattle.world_steps.specs.declared.step.Step.TheVariants as step
+use Rattle.world_steps.specs.declared.system.System.{System}
+use Rattle.hall_journal.specs.Halls.{Hall, IsRefused, Takes}
+use Rattle.hall_turns.specs.declared.rule.View.{View}
+use Rattle.hall_turns.specs.Turns.{Knows, SeesStopped, Turns, seat}
+use Rattle.hall_turns.proofs.ClientTurns.{seen}
+use Rattle.hall_turns.proofs.Joining.{there_now}
+use Rattle.hall_turns.proofs.Rows.{none_some}
+
+-- the stop was taken
+stops : (s : System) (name : ℕ) (client : Client) → finite.get s.members.clients name ≡ Some client → is_stopped (phase_at (system_after s (step.StopClient name)) name) ≡ true
+stops s name client there =
+    ap (λ o. is_stopped (phase_at (stop s name o) name)) there ∙ ap (λ o. is_stopped (option_map phase_of o)) (there_now s.members.clients name (client_after_stop client))
+
+-- of a client that is there a stop is refused only where it is stopped
+by_table : (missing stopped : Bool) (why : Refusal) → missing ≡ false → first_of ((refusal.NoSuchClient, missing) ∷ (refusal.ClientStopped, stopped) ∷ []) ≡ Some why → stopped ≡ true
+by_table true stopped why there some = absurd (cc)
+by_table false true why there some = refl
+by_table false false why there some = none_some some
+
+was_stopped : (s : System) (name : ℕ) (why : Refusal) → HasJoined s name → IsRefused s (step.StopClient name) why → is_stopped (phase_at s name) ≡ true
+was_stopped s name why joined refused =
+    ⊎_elim (λ some. by_table (no_such_client s name) (is_stopped (phase_at s name)) why (ap is_none joined.1) some) (λ wants. absurd wants.2) refused
+
+is_stopped_after : (old new : Hall) (name : ℕ) (result : Result Effect Refusal) → HasJoined old.world name → Takes old (step.StopClient name) result new → is_stopped (phase_at new.world name) ≡ true
+is_stopped_after old new name (Ok effect) joined took = ap (λ (h : Hall). is_stopped (phase_at h.world name)) took.2 ∙ stops old.world name joined.0 joined.1
+is_stopped_after old new name (Err why) joined took = ap (λ (h : Hall). is_stopped (phase_at h.world name)) took.1 ∙ was_stopped old.world name why joined took.0
+
+pub sees_stopped : (client : ℕ) (rows : List Row) (v w : View) (result : Result Effect Refusal) → v ≡ seat client rows → Turns v (step.StopClient client) result w → SeesStopped (seen client w.rows)
+sees_stopped client rows v w result is turn = record {
+  hall = turn.after;
+  replay = turn.replay;
+  rows = ap (λ (y : View). y.rows) turn.is;
+  stopped = is_stopped_after turn.before turn.after client result ((subst (λ y. Knows y turn.before.world) is turn.knows).joined client refl) turn.took;
+}
