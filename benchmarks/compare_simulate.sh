@@ -1,7 +1,7 @@
 #!/usr/bin/env bash
 # compare_simulate.sh [COUNT [LINES [FIRST]]]
 # Runs `abd simulate` and plain_simulate on COUNT random scripts of about LINES commands, seeds from FIRST on, and on every example,
-# and names the first script of which they make another history, other notes or another exit status. The program has to be
+# and names the first script of which they make another history, other messages or another exit status. The program has to be
 # built before (cd crates/abd && rt run), or named by ABD.
 set -eu
 here=$(cd "$(dirname "$0")" && pwd)
@@ -16,9 +16,9 @@ plain=$work/plain/target/release/plain_simulate
 # Both programs run the script; what differs is told, and stays.
 compare() {
   ours=0 theirs=0
-  "$abd" simulate "$1" > "$work/abd.history" 2> "$work/abd.notes" || ours=$?
-  "$plain" "$1" > "$work/plain.history" 2> "$work/plain.notes" || theirs=$?
-  for what in history notes; do
+  "$abd" simulate "$1" > "$work/abd.history" 2> "$work/abd.messages" || ours=$?
+  "$plain" "$1" > "$work/plain.history" 2> "$work/plain.messages" || theirs=$?
+  for what in history messages; do
     if ! cmp -s "$work/abd.$what" "$work/plain.$what"; then
       echo "$1: another $what ($2); see $work/abd.$what and $work/plain.$what"
       diff -a "$work/abd.$what" "$work/plain.$what" | head -n 5 | cut -c 1-200
@@ -48,4 +48,4 @@ said_of() {
 ours=$(said_of "$abd" simulate "$example") theirs=$(said_of "$plain" "$example")
 [ "$ours" = "$theirs" ] || { echo "a full device: $ours, and of the plain program $theirs"; exit 1; }
 rm -r "$work"
-echo "$count random scripts and the examples: the same histories, notes and exit statuses"
+echo "$count random scripts and the examples: the same histories, messages and exit statuses"

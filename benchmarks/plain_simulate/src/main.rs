@@ -1,5 +1,5 @@
 //! What `abd simulate SCRIPT` does, in plain sequential Rust and nothing but std: the yardstick of its speed, and a second
-//! program, written from the rules alone, whose output, notes and exit status have to be the same byte for byte.
+//! program, written from the rules alone, whose output, messages and exit status have to be the same byte for byte.
 mod random;
 mod record;
 mod script;
@@ -22,8 +22,8 @@ fn report(text: &str, status: u8) -> u8 {
     status
 }
 
-fn deliver(notes: &[u8], history: &[u8]) -> io::Result<()> {
-    io::stderr().write_all(notes)?;
+fn deliver(messages: &[u8], history: &[u8]) -> io::Result<()> {
+    io::stderr().write_all(messages)?;
     let mut out = io::stdout().lock();
     out.write_all(history)?;
     out.flush()
@@ -34,8 +34,8 @@ fn run(name: &str, mut file: File) -> u8 {
     let is_whole = file.read_to_end(&mut bytes).is_ok();
     match script::parse(&bytes, is_whole) {
         Ok(script) => {
-            let (history, notes) = simulator::run(script.config, &script.commands);
-            match deliver(&notes, &history) {
+            let (history, messages) = simulator::run(script.config, &script.commands);
+            match deliver(&messages, &history) {
                 Ok(()) => 0,
                 Err(_) => report("output failed", FAILED),
             }

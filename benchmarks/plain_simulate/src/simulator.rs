@@ -1,4 +1,4 @@
-//! A script's run: its history, and its notes.
+//! A script's run: its history, and its messages.
 use crate::random::Generator;
 use crate::script::{Command, Config};
 use crate::world::{Place, Refusal, World};
@@ -61,7 +61,7 @@ fn step<'a>(world: &mut World<'a>, command: &Command<'a>) -> Result<(), Refusal>
 }
 
 /// What a command has to say of itself.
-fn note_of<'a>(world: &mut World<'a>, command: &Command<'a>) -> Option<String> {
+fn message_of<'a>(world: &mut World<'a>, command: &Command<'a>) -> Option<String> {
     match *command {
         Command::Finish(client) => {
             let refusal = world.settle(world.place(client)).err()?;
@@ -75,14 +75,14 @@ fn note_of<'a>(world: &mut World<'a>, command: &Command<'a>) -> Option<String> {
     }
 }
 
-/// The text of the script's history, and of its notes.
+/// The text of the script's history, and of its messages.
 pub fn run<'a>(config: Config, commands: &[(usize, Command<'a>)]) -> (Vec<u8>, Vec<u8>) {
     let mut world = World::new(config);
-    let mut notes = Vec::new();
+    let mut messages = Vec::new();
     for (line, command) in commands {
-        if let Some(note) = note_of(&mut world, command) {
-            writeln!(notes, "line {line}: {note}").expect("a vector takes what is written");
+        if let Some(message) = message_of(&mut world, command) {
+            writeln!(messages, "line {line}: {message}").expect("a vector takes what is written");
         }
     }
-    (world.history(), notes)
+    (world.history(), messages)
 }

@@ -1,19 +1,19 @@
-//! Scripts with the histories and notes that the rules give for them, worked by hand.
+//! Scripts with the histories and messages that the rules give for them, worked by hand.
 use crate::random::Generator;
 use crate::script::{self, Fault};
 use crate::simulator;
 
-/// A script's history without its header, and its notes; ` / ` parts the script's lines.
+/// A script's history without its header, and its messages; ` / ` parts the script's lines.
 fn run(script: &str) -> (String, String) {
     run_bytes(script.replace(" / ", "\n").as_bytes())
 }
 
 fn run_bytes(bytes: &[u8]) -> (String, String) {
     let script = script::parse(bytes, true).expect("a script");
-    let (history, notes) = simulator::run(script.config, &script.commands);
+    let (history, messages) = simulator::run(script.config, &script.commands);
     let history = String::from_utf8(history).expect("a text");
     let rows = history.strip_prefix("{\"abd\":\"history\",\"version\":1}\n").expect("a header");
-    (rows.to_owned(), String::from_utf8(notes).expect("a text"))
+    (rows.to_owned(), String::from_utf8(messages).expect("a text"))
 }
 
 fn fault_of(bytes: &[u8]) -> Option<(usize, Fault)> {
@@ -106,8 +106,8 @@ fn the_writers_name_decides_between_equal_numbers() {
 fn replies_count_once_and_for_their_phase() {
     let repeated = "replicas 3 / join 1 / invoke 1 read x / send 1 0 / deliver 0 / repeat 1 / repeat 1 / deliver 1 / deliver 1 / \
         deliver 1 / deliver 1 / respond 1";
-    let notes = "line 11: refused 7 NotInFlight\nline 12: refused 8 NotReady\n";
-    assert_eq!(run(repeated), (read(0, 1, "x"), notes.to_owned()));
+    let messages = "line 11: refused 7 NotInFlight\nline 12: refused 8 NotReady\n";
+    assert_eq!(run(repeated), (read(0, 1, "x"), messages.to_owned()));
     let stale = "replicas 3 / join 1 / invoke 1 write x a / send 1 0 / send 1 1 / send 1 2 / deliver 0 / deliver 1 / deliver 2 / \
         deliver 3 / deliver 4 / deliver 5 / send 1 0 / deliver 6 / repeat 7 / deliver 7 / respond 1 / finish 1 / invoke 1 read x / \
         deliver 7 / finish 1";
@@ -117,27 +117,27 @@ fn replies_count_once_and_for_their_phase() {
 #[test]
 fn refusals_have_their_numbers() {
     let lost = "replicas 1 / join 1 / invoke 1 read x / send 1 0 / lose 0 / deliver 0 / repeat 0";
-    let notes = "line 6: refused 7 NotInFlight\nline 7: refused 7 NotInFlight\n";
-    assert_eq!(run(lost).1, notes);
+    let messages = "line 6: refused 7 NotInFlight\nline 7: refused 7 NotInFlight\n";
+    assert_eq!(run(lost).1, messages);
     let repeats = format!("replicas 1 / join 1 / invoke 1 read x / send 1 0{}", " / repeat 0".repeat(1000));
     assert_eq!(run(&repeats).1, "line 1004: refused 11 CopiesFull\n");
     let busy = "replicas 3 / join 1 / invoke 1 read x / invoke 1 read y / stop client 1 / join 1 / invoke 1 read y / invoke 2 read y";
-    let notes = "line 4: refused 5 ClientBusy\nline 6: refused 3 ClientTaken\nline 7: refused 4 ClientStopped\n\
+    let messages = "line 4: refused 5 ClientBusy\nline 6: refused 3 ClientTaken\nline 7: refused 4 ClientStopped\n\
         line 8: refused 2 NoSuchClient\n";
-    assert_eq!(run(busy), (read(0, 1, "x"), notes.to_owned()));
+    assert_eq!(run(busy), (read(0, 1, "x"), messages.to_owned()));
     assert_eq!(run("replicas 3 1 / join 1 / invoke 1 read x / finish 1 / invoke 1 read x").1, "line 5: refused 12 OpsFull\n");
     let calls = "join 1 / invoke 1 read x / finish 1 / invoke 1 read x / finish 1 / send 1 0";
-    let notes = "line 6: finish refused 3 Room\nline 7: refused 13 FlightsFull\n";
-    assert_eq!(run(&format!("replicas 1 10 4 / {calls}")).1, notes);
+    let messages = "line 6: finish refused 3 Room\nline 7: refused 13 FlightsFull\n";
+    assert_eq!(run(&format!("replicas 1 10 4 / {calls}")).1, messages);
     // A short read's call takes half the flights, so that the send is the last that has room.
     assert_eq!(run(&format!("replicas 1 10 4 / reads short / {calls}")).1, "line 7: finish refused 3 Room\n");
     let others = "replicas 3 / send 1 3 / send 1 0 / respond 1 / stop client 1 / stop replica 3 / start replica 0 / stop replica 0 / \
         stop replica 0 / join 1 / send 1 0 / finish 1 / finish 2 / start replica 14";
-    let notes = "line 2: refused 1 NoSuchReplica\nline 3: refused 2 NoSuchClient\nline 4: refused 2 NoSuchClient\n\
+    let messages = "line 2: refused 1 NoSuchReplica\nline 3: refused 2 NoSuchClient\nline 4: refused 2 NoSuchClient\n\
         line 5: refused 2 NoSuchClient\nline 6: refused 1 NoSuchReplica\nline 7: refused 10 ReplicaUp\nline 9: refused 9 ReplicaDown\n\
         line 11: refused 6 NothingToSend\nline 12: finish refused 2 NotPending\nline 13: finish refused 2 NotPending\n\
         line 14: refused 1 NoSuchReplica\n";
-    assert_eq!(run(others), (String::new(), notes.to_owned()));
+    assert_eq!(run(others), (String::new(), messages.to_owned()));
 }
 
 #[test]
@@ -161,8 +161,8 @@ fn flights_are_numbered_through_every_finish() {
     for (mode, sent) in [("full", 16), ("short", 12)] {
         let numbers = [("LAST", sent - 1), ("NEXT", sent), ("BEYOND", sent + 2)];
         let script = numbers.iter().fold(script.replace("MODE", mode), |text, (word, n)| text.replace(word, &n.to_string()));
-        let notes = "line 9: refused 6 NothingToSend\nline 12: refused 7 NotInFlight\nline 14: refused 7 NotInFlight\n";
-        assert_eq!(run(&script).1, notes, "{mode}");
+        let messages = "line 9: refused 6 NothingToSend\nline 12: refused 7 NotInFlight\nline 14: refused 7 NotInFlight\n";
+        assert_eq!(run(&script).1, messages, "{mode}");
     }
     // Four replicas need three answers in both phases, 12 flights; so do votes of 1, 1 and 3 with quorums of 3.
     for head in ["replicas 4", "replicas 3 / votes 1 1 3 ask 3 put 3"] {
@@ -211,8 +211,8 @@ fn the_generators_words_choose_the_steps() {
     let words: Vec<u32> = (0..6).map(|_| generator.word()).collect();
     assert_eq!(words, [0xa15c02b7, 0x7b47f409, 0xba1d3330, 0x83d2f293, 0xbfa4784b, 0xcbed606e]);
     let script = "replicas 3 / join 1 / invoke 1 read x / random 42 2 / stop replica 2 / deliver 0";
-    let notes = "line 4: random took 1 of 2\nline 6: refused 9 ReplicaDown\n";
-    assert_eq!(run(script), (read(0, 1, "x"), notes.to_owned()));
+    let messages = "line 4: random took 1 of 2\nline 6: refused 9 ReplicaDown\n";
+    assert_eq!(run(script), (read(0, 1, "x"), messages.to_owned()));
     assert_eq!(run("replicas 3 / random 7 100 / random 7 0").1, "line 2: random took 0 of 100\nline 3: random took 0 of 0\n");
 }
 

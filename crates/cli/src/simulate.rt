@@ -11,9 +11,9 @@ use std::alloc::Global;
 /// Reads the script, runs it, and writes what is said of its lines to `errors` and then the history
 /// of the run to `out`.
 ///
-/// Nothing goes to `out` before the whole run was made. A line that is refused is no failure: it has
-/// its note, and the status is `Good`. A failure is said on `errors`, behind the notes that went
-/// there.
+/// Nothing goes to `out` before the whole run was made. A line that is refused is no failure: it
+/// has its message, and the status is `Good`. A failure is said on `errors`, behind the messages
+/// that went there.
 pub fn simulate_command<'a, S: CountedRead, W: CountedWrite, E: CountedWrite>(
     alloc: Global,
     script: &mut Source<'a, S>,

@@ -252,7 +252,7 @@ fn room_answer(alloc: Global, said: &Said, whole: &Said, way: Way) -> Result<Str
 }
 
 /// The command with each room from none to that of all that it writes: on standard error where the
-/// row says `each-notes`, and else on the standard output.
+/// row says `each-messages`, and else on the standard output.
 fn rooms(
     rt: &(impl Threads + Wait + Sync),
     alloc: Global,
@@ -260,8 +260,8 @@ fn rooms(
     input: Input<'_>,
 ) -> Result<String, AllocError> {
     let whole = run(rt, alloc, asked.kind(), input, WELL);
-    let notes = asked.has("each-notes");
-    let most = if notes {
+    let messages = asked.has("each-messages");
+    let most = if messages {
         whole.errors.len()
     } else {
         whole.out.len()
@@ -269,8 +269,8 @@ fn rooms(
     let mut spans = Spans::new(alloc);
     for room in 0..most.saturating_add(1) {
         let way = Way {
-            out: if notes { AMPLE } else { room },
-            errors: if notes { room } else { AMPLE },
+            out: if messages { AMPLE } else { room },
+            errors: if messages { room } else { AMPLE },
             ..WELL
         };
         let said = run(rt, alloc, asked.kind(), input, way);
@@ -286,7 +286,7 @@ fn one(
     asked: Asked<'_>,
     input: Input<'_>,
 ) -> Result<String, AllocError> {
-    if asked.has("each-room") || asked.has("each-notes") {
+    if asked.has("each-room") || asked.has("each-messages") {
         return rooms(rt, alloc, asked, input);
     }
     let mut answers = Agreed::new(alloc);

@@ -14,7 +14,7 @@ mod SaidBack
 mod FormFaults
 mod LineFaults
 mod ReadOnce
-mod NoteSpelling
+mod MessageSpelling
 mod RunSteps
 mod Walking
 mod RunsOfSteps

@@ -12,7 +12,7 @@ use Rattle.world_steps.specs.declared.system.System.{System}
 use Rattle.fault_script.specs.declared.command.Command.TheVariants as command
 use Rattle.fault_script.specs.declared.command.Numbered.{Numbered}
 use Rattle.fault_script.specs.declared.script_run.ScriptRun.{ScriptRun}
-use Rattle.fault_script.specs.NoteTexts.{random_note, refused_note, unfinished_note}
+use Rattle.fault_script.specs.MessageTexts.{random_message, refused_message, unfinished_message}
 use Rattle.fault_script.specs.Running.{IsRunSoFar, RunsOn, Walks}
 use Rattle.fault_script.specs.ScriptRuns.{random_walk, Runs, takes, refuses, finishes, stays, randomly, RunsAll, done, goes}
 
@@ -23,9 +23,9 @@ step_taken line s new step effect (none, is, moves) =
     subst P (sym moves) (takes s step none)
 
 -- a step that was refused, and not for memory
-pub step_refused : (line : ℕ) (s new : System) (step : Step) (why : Refusal) → Steps s step (Err why) new → (why ≡ refusal.Memory → ⊥) → Runs line s (command.Step step) new (refused_note line why)
+pub step_refused : (line : ℕ) (s new : System) (step : Step) (why : Refusal) → Steps s step (Err why) new → (why ≡ refusal.Memory → ⊥) → Runs line s (command.Step step) new (refused_message line why)
 step_refused line s new step why (inl refused, same) fine =
-    let P : System → Type 0 = λ w. Runs line s (command.Step step) w (refused_note line why) in
+    let P : System → Type 0 = λ w. Runs line s (command.Step step) w (refused_message line why) in
     subst P (sym same) (refuses s step why refused)
 step_refused line s new step why (inr (none, memory, grows), same) fine = absurd (fine memory)
 
@@ -36,46 +36,46 @@ call_finished line s new name count h =
     subst P (sym h.after) (finishes s name h.steps h.may h.settles)
 
 -- a call that can't be completed, and not for memory
-pub call_stays : (line : ℕ) (s new : System) (name : ℕ) (why : SettleError) → SettlesBy s name (Err why) new → ((steps : ℕ) → why ≡ settle.Memory steps → ⊥) → Runs line s (command.Finish name) new (unfinished_note line why)
+pub call_stays : (line : ℕ) (s new : System) (name : ℕ) (why : SettleError) → SettlesBy s name (Err why) new → ((steps : ℕ) → why ≡ settle.Memory steps → ⊥) → Runs line s (command.Finish name) new (unfinished_message line why)
 call_stays line s new name settle.NoMajority (holds, same) fine =
-    let P : System → Type 0 = λ w. Runs line s (command.Finish name) w (unfinished_note line settle.NoMajority) in
+    let P : System → Type 0 = λ w. Runs line s (command.Finish name) w (unfinished_message line settle.NoMajority) in
     subst P (sym same) (stays s name settle.NoMajority holds)
 call_stays line s new name settle.NotPending (holds, same) fine =
-    let P : System → Type 0 = λ w. Runs line s (command.Finish name) w (unfinished_note line settle.NotPending) in
+    let P : System → Type 0 = λ w. Runs line s (command.Finish name) w (unfinished_message line settle.NotPending) in
     subst P (sym same) (stays s name settle.NotPending holds)
 call_stays line s new name settle.Room (holds, same) fine =
-    let P : System → Type 0 = λ w. Runs line s (command.Finish name) w (unfinished_note line settle.Room) in
+    let P : System → Type 0 = λ w. Runs line s (command.Finish name) w (unfinished_message line settle.Room) in
     subst P (sym same) (stays s name settle.Room holds)
 call_stays line s new name (settle.Memory steps) fails fine = absurd (fine steps refl)
 
 -- one command more
-pub RunsAll_push : (a b c : System) (xs : List Numbered) (x : Numbered) (said note : List ℕ) → RunsAll a xs b said → Runs x.line b x.command c note → RunsAll a (xs ++ x ∷ []) c (said ++ note)
-RunsAll_push a b c xs x said note (done s) r =
-    let P : List ℕ → Type 0 = λ notes. RunsAll s (x ∷ []) c notes in
-    subst P (append-nil note) (goes s c c x [] note [] r (done c))
-RunsAll_push a b c xs x said note (goes s mid last numbered others first rest one all) r =
-    let P : List ℕ → Type 0 = λ notes. RunsAll s (numbered ∷ (others ++ x ∷ [])) c notes in
-    subst P (sym (append_assoc first rest note)) (goes s mid c numbered (others ++ x ∷ []) first (rest ++ note) one (RunsAll_push mid last c others x rest note all r))
+pub RunsAll_push : (a b c : System) (xs : List Numbered) (x : Numbered) (said message : List ℕ) → RunsAll a xs b said → Runs x.line b x.command c message → RunsAll a (xs ++ x ∷ []) c (said ++ message)
+RunsAll_push a b c xs x said message (done s) r =
+    let P : List ℕ → Type 0 = λ messages. RunsAll s (x ∷ []) c messages in
+    subst P (append-nil message) (goes s c c x [] message [] r (done c))
+RunsAll_push a b c xs x said message (goes s mid last numbered others first rest one all) r =
+    let P : List ℕ → Type 0 = λ messages. RunsAll s (numbered ∷ (others ++ x ∷ [])) c messages in
+    subst P (sym (append_assoc first rest message)) (goes s mid c numbered (others ++ x ∷ []) first (rest ++ message) one (RunsAll_push mid last c others x rest message all r))
 
 -- no command yet
-pub run_begun : (first : System) (run : ScriptRun) → run.world ≡ first → run.notes.items ≡ [] → IsRunSoFar first [] run
-run_begun first run world notes =
-    let P : System → Type 0 = λ w. RunsAll first [] w run.notes.items in
+pub run_begun : (first : System) (run : ScriptRun) → run.world ≡ first → run.messages.items ≡ [] → IsRunSoFar first [] run
+run_begun first run world messages =
+    let P : System → Type 0 = λ w. RunsAll first [] w run.messages.items in
     let Q : List ℕ → Type 0 = λ n. RunsAll first [] first n in
-    subst P (sym world) (subst Q (sym notes) (done first))
+    subst P (sym world) (subst Q (sym messages) (done first))
 
 -- one more
 pub run_on : (first : System) (commands : List Numbered) (numbered : Numbered) (old new : ScriptRun) → IsRunSoFar first commands old → RunsOn old numbered.line numbered.command new → IsRunSoFar first (commands ++ numbered ∷ []) new
 run_on first commands numbered old new so_far on =
     let P : List ℕ → Type 0 = λ n. RunsAll first (commands ++ numbered ∷ []) new.world n in
-    subst P (sym on.said) (RunsAll_push first old.world new.world commands numbered old.notes.items on.note so_far on.runs)
+    subst P (sym on.said) (RunsAll_push first old.world new.world commands numbered old.messages.items on.message so_far on.runs)
 
 -- random steps
-pub walked_on : (old new : ScriptRun) (line seed count taken : ℕ) → Walks old.world seed count new.world taken → new.notes.items ≡ old.notes.items ++ random_note line taken count → RunsOn old line (command.Random seed count) new
+pub walked_on : (old new : ScriptRun) (line seed count taken : ℕ) → Walks old.world seed count new.world taken → new.messages.items ≡ old.messages.items ++ random_message line taken count → RunsOn old line (command.Random seed count) new
 walked_on old new line seed count taken walks said =
-    let P : System → Type 0 = λ w. Runs line old.world (command.Random seed count) w (random_note line (random_walk old.world seed count).taken count) in
+    let P : System → Type 0 = λ w. Runs line old.world (command.Random seed count) w (random_message line (random_walk old.world seed count).taken count) in
     record {
-      note = random_note line (random_walk old.world seed count).taken count;
+      message = random_message line (random_walk old.world seed count).taken count;
       runs = subst P (sym walks.0) (randomly old.world seed count);
-      said = said ∙ ap (λ (n : ℕ). old.notes.items ++ random_note line n count) walks.1;
+      said = said ∙ ap (λ (n : ℕ). old.messages.items ++ random_message line n count) walks.1;
     }

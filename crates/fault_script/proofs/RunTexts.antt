@@ -18,7 +18,7 @@ use Rattle.fault_script.specs.declared.script_run.ScriptRun.{ScriptRun}
 -- the run of all commands, and the text of its record
 pub run_of : (script : Script) (run : ScriptRun) (history : Recorded) (text : List ℕ) → IsRunSoFar (opening script.config) script.commands.items run
     → history ≡ run.world.history → ((key : List ℕ) (part : List Call) → IsPart run.world.history.rows key part → TagSound part) → text ≡ history_text history.rows → IsTextOf text history.rows
-    → (rows : List Row) × IsSoundRun script rows run.notes.items × (text ≡ history_text rows)
+    → (rows : List Row) × IsSoundRun script rows run.messages.items × (text ≡ history_text rows)
 run_of script run history text so_far is sound written read =
     let P : List ℕ → Type 0 = λ t. IsTextOf t history.rows in
     let Q : Recorded → Type 0 = λ h. (key : List ℕ) (part : List Call) → IsPart h.rows key part → TagSound part in (
@@ -45,15 +45,15 @@ parsed {T} {E} {D} (Err e) s x P Q cases same was h =
     absurd cc
 
 -- a script that was read, the texts of its run, and what holds of them
-pub simulated : {old new : Option (List ℕ)} {P : List ℕ → List ℕ → Type 0} (script : Script) (notes text : List ℕ) → Delivers old new (ReadsAll new script)
-    → (rows : List Row) × IsSoundRun script rows notes × (text ≡ history_text rows) → P notes text → Simulates old new P
-simulated {old} {new} {P} script notes text read (rows, run, is) fact = record {
+pub simulated : {old new : Option (List ℕ)} {P : List ℕ → List ℕ → Type 0} (script : Script) (messages text : List ℕ) → Delivers old new (ReadsAll new script)
+    → (rows : List Row) × IsSoundRun script rows messages × (text ≡ history_text rows) → P messages text → Simulates old new P
+simulated {old} {new} {P} script messages text read (rows, run, is) fact = record {
   script = script;
   read = read;
   rows = rows;
-  notes = notes;
+  messages = messages;
   run = run;
-  fact = subst (P notes) is fact;
+  fact = subst (P messages) is fact;
 }
 
 -- what holds after every error holds after this one

@@ -52,16 +52,16 @@ walk_leads : (walk : Walk) (count : ℕ) → Leads walk.system (walk_after walk 
 walk_leads walk zero = no_step walk.system
 walk_leads walk (suc count) = leads_on walk.system (walk_after walk count).system (stride (walk_after walk count)).system (walk_leads walk count) (stride_leads (walk_after walk count))
 
-one_leads : (line : ℕ) (a b : System) (command : Command) (note : List ℕ) → Runs line a command b note → Leads a b
-one_leads line a b command note (takes s step none) = record { steps = step ∷ []; is = next_moved s step (refusal_of s step) refl none }
-one_leads line a b command note (refuses s step why refused) = no_step s
-one_leads line a b command note (finishes s name steps may settles) = record { steps = steps; is = refl }
-one_leads line a b command note (stays s name why holds) = no_step s
-one_leads line a b command note (randomly s seed count) = walk_leads (record { system = s; generator = generator_of seed; taken = 0 }) count
+one_leads : (line : ℕ) (a b : System) (command : Command) (message : List ℕ) → Runs line a command b message → Leads a b
+one_leads line a b command message (takes s step none) = record { steps = step ∷ []; is = next_moved s step (refusal_of s step) refl none }
+one_leads line a b command message (refuses s step why refused) = no_step s
+one_leads line a b command message (finishes s name steps may settles) = record { steps = steps; is = refl }
+one_leads line a b command message (stays s name why holds) = no_step s
+one_leads line a b command message (randomly s seed count) = walk_leads (record { system = s; generator = generator_of seed; taken = 0 }) count
 
-pub all_lead : (a b : System) (commands : List Numbered) (notes : List ℕ) → RunsAll a commands b notes → Leads a b
-all_lead a b commands notes (done s) = no_step s
-all_lead a b commands notes (goes s mid last numbered others first rest one all) =
+pub all_lead : (a b : System) (commands : List Numbered) (messages : List ℕ) → RunsAll a commands b messages → Leads a b
+all_lead a b commands messages (done s) = no_step s
+all_lead a b commands messages (goes s mid last numbered others first rest one all) =
     leads_on s mid last (one_leads numbered.line s mid numbered.command first one) (all_lead mid last others rest all)
 
 -- each part of what steps leave has sound tags, as the law of the steps says
@@ -70,8 +70,8 @@ StepsLeaveSoundTags = (config : Config) (steps : List Step) (key : List ℕ) (pa
     → IsPart (after config steps).history.rows key part → TagSound part
 
 -- so it is sound
-pub run_sound : StepsLeaveSoundTags → (script : Script) (rows : List Row) (notes key : List ℕ) (part : List Call) → IsLawful script.config.quorums → script.config.calls ≤ 1000000 → IsRunOf script rows notes → IsPart rows key part → TagSound part
-run_sound tags script rows notes key part lawful calls run is =
-    let led = all_lead (opening script.config) run.last script.commands.items notes run.runs in
+pub run_sound : StepsLeaveSoundTags → (script : Script) (rows : List Row) (messages key : List ℕ) (part : List Call) → IsLawful script.config.quorums → script.config.calls ≤ 1000000 → IsRunOf script rows messages → IsPart rows key part → TagSound part
+run_sound tags script rows messages key part lawful calls run is =
+    let led = all_lead (opening script.config) run.last script.commands.items messages run.runs in
     let P : List Row → Type 0 = λ r. IsPart r key part in
     tags script.config led.steps key part lawful calls (subst P (sym run.recorded ∙ ap (λ (s : System). s.history.rows) led.is) is)

@@ -14,7 +14,7 @@ use Rattle.world_steps.specs.declared.system.System.{System}
 use Rattle.fault_script.specs.declared.command.Command.{Command}
 use Rattle.fault_script.specs.declared.command.Numbered.{Numbered}
 use Rattle.fault_script.specs.declared.command.Script.{Script}
-use Rattle.fault_script.specs.NoteTexts.{refused_note, unfinished_note}
+use Rattle.fault_script.specs.MessageTexts.{refused_message, unfinished_message}
 use Rattle.fault_script.specs.ScriptRuns.{Runs, takes, refuses, finishes, stays, randomly, RunsAll, done, goes, IsRunOf}
 
 -- a call is pending, or it isn't
@@ -58,22 +58,22 @@ runs_once steps_once line command s a b m n (refuses t step why refused) (takes 
 runs_once steps_once line command s a b m n (refuses t step why refused) (refuses u other because again) =
     let both : Some why ≡ Some because = sym refused ∙ again in
     let same : why ≡ because = cc in
-    (refl, ap (refused_note line) same)
+    (refl, ap (refused_message line) same)
 runs_once steps_once line command s a b m n (finishes t name steps may settles) (finishes u other others again settled) = (ap (after_from t) (steps_once t name steps others settles settled), refl)
 runs_once steps_once line command s a b m n (finishes t name steps may settles) (stays u other why holds) = absurd (may_not t name why may holds)
 runs_once steps_once line command s a b m n (stays t name why holds) (finishes u other steps may settles) = absurd (may_not t name why may holds)
-runs_once steps_once line command s a b m n (stays t name why holds) (stays u other because again) = (refl, ap (unfinished_note line) (one_reason t name why because holds again))
+runs_once steps_once line command s a b m n (stays t name why holds) (stays u other because again) = (refl, ap (unfinished_message line) (one_reason t name why because holds again))
 runs_once steps_once line command s a b m n (randomly t seed count) (randomly u first more) = (refl, refl)
 
 all_once : StepsAreOneList → (a b c : System) (commands : List Numbered) (m n : List ℕ) → RunsAll a commands b m → RunsAll a commands c n → (b ≡ c) × (m ≡ n)
 all_once steps_once a b c commands m n (done s) (done t) = (refl, refl)
-all_once steps_once a b c commands m n (goes s mid last numbered others note notes one all) (goes t between end same rest told tolds two also) =
-    let w = runs_once steps_once numbered.line numbered.command s mid between note told one two in
+all_once steps_once a b c commands m n (goes s mid last numbered others message messages one all) (goes t between end same rest told tolds two also) =
+    let w = runs_once steps_once numbered.line numbered.command s mid between message told one two in
     let P : System → Type 0 = λ x. RunsAll x others end tolds in
-    let v = all_once steps_once mid last end others notes tolds all (subst P (sym w.0) also) in
+    let v = all_once steps_once mid last end others messages tolds all (subst P (sym w.0) also) in
     (v.0, λ i. w.1 i ++ v.1 i)
 
-pub run_once : StepsAreOneList → (script : Script) (rows others : List Row) (notes told : List ℕ) → IsRunOf script rows notes → IsRunOf script others told → (rows ≡ others) × (notes ≡ told)
-run_once steps_once script rows others notes told h k =
-    let w = all_once steps_once (opening script.config) h.last k.last script.commands.items notes told h.runs k.runs in
+pub run_once : StepsAreOneList → (script : Script) (rows others : List Row) (messages told : List ℕ) → IsRunOf script rows messages → IsRunOf script others told → (rows ≡ others) × (messages ≡ told)
+run_once steps_once script rows others messages told h k =
+    let w = all_once steps_once (opening script.config) h.last k.last script.commands.items messages told h.runs k.runs in
     (sym h.recorded ∙ ap (λ (s : System). s.history.rows) w.0 ∙ k.recorded, w.1)

@@ -12,7 +12,7 @@ pub mod Lines
 pub mod Scripts
 pub mod Feeds
 pub mod Deliveries
-pub mod NoteTexts
+pub mod MessageTexts
 pub mod ScriptRuns
 pub mod Simulations
 pub mod Running

@@ -12,10 +12,10 @@ Walks old seed count new taken = (new ≡ (random_walk old seed count).system) �
 
 -- the run goes on by the command of that line
 pub record RunsOn (old : ScriptRun) (line : ℕ) (command : Command) (new : ScriptRun) : Type 0 where
-  pub note : List ℕ
-  pub runs : Runs line old.world command new.world note
-  pub said : new.notes.items ≡ old.notes.items ++ note
+  pub message : List ℕ
+  pub runs : Runs line old.world command new.world message
+  pub said : new.messages.items ≡ old.messages.items ++ message
 
 -- the run is that of those commands
 abbrev pub IsRunSoFar : System → List Numbered → ScriptRun → Type 0
-IsRunSoFar first commands run = RunsAll first commands run.world run.notes.items
+IsRunSoFar first commands run = RunsAll first commands run.world run.messages.items

@@ -16,7 +16,7 @@ use Rattle.fault_script.specs.declared.command.Command.{Command}
 use Rattle.fault_script.specs.declared.command.Command.TheVariants as command
 use Rattle.fault_script.specs.declared.command.Numbered.{Numbered}
 use Rattle.fault_script.specs.declared.command.Script.{Script}
-use Rattle.fault_script.specs.NoteTexts.{random_note, refused_note, unfinished_note}
+use Rattle.fault_script.specs.MessageTexts.{random_message, refused_message, unfinished_message}
 
 -- a system behind some random steps, the generator of those to come, and how many were taken
 pub record Walk : Type 0 where
@@ -45,18 +45,19 @@ random_walk s seed count = walk_after (record { system = s; generator = generato
 -- what the command of a line makes of the system, and what is said of it
 pub data Runs (line : ℕ) : System → Command → System → List ℕ → Type 0 where
   takes : (s : System) (step : Step) → refusal_of s step ≡ None → Runs line s (command.Step step) (system_after s step) []
-  refuses : (s : System) (step : Step) (why : Refusal) → refusal_of s step ≡ Some why → Runs line s (command.Step step) s (refused_note line why)
+  refuses : (s : System) (step : Step) (why : Refusal) → refusal_of s step ≡ Some why → Runs line s (command.Step step) s (refused_message line why)
   finishes : (s : System) (name : ℕ) (steps : List Step) → MaySettle s name → Settles name s steps → Runs line s (command.Finish name) (after_from s steps) []
-  stays : (s : System) (name : ℕ) (why : SettleError) → IsUnsettled s name why → Runs line s (command.Finish name) s (unfinished_note line why)
-  randomly : (s : System) (seed count : ℕ) → Runs line s (command.Random seed count) (random_walk s seed count).system (random_note line (random_walk s seed count).taken count)
+  stays : (s : System) (name : ℕ) (why : SettleError) → IsUnsettled s name why → Runs line s (command.Finish name) s (unfinished_message line why)
+  randomly : (s : System) (seed count : ℕ) → Runs line s (command.Random seed count) (random_walk s seed count).system (random_message line (random_walk s seed count).taken count)
 
 -- the commands one after another, and what is said of them
 pub data RunsAll : System → List Numbered → System → List ℕ → Type 0 where
   done : (s : System) → RunsAll s [] s []
-  goes : (s mid last : System) (numbered : Numbered) (others : List Numbered) (note notes : List ℕ) → Runs numbered.line s numbered.command mid note → RunsAll mid others last notes → RunsAll s (numbered ∷ others) last (note ++ notes)
+  goes : (s mid last : System) (numbered : Numbered) (others : List Numbered) (message messages : List ℕ) → Runs numbered.line s numbered.command mid message
+      → RunsAll mid others last messages → RunsAll s (numbered ∷ others) last (message ++ messages)
 
--- a run of the script has those rows in its record, and says those notes
-pub record IsRunOf (script : Script) (rows : List Row) (notes : List ℕ) : Type 0 where
+-- a run of the script has those rows in its record, and says those messages
+pub record IsRunOf (script : Script) (rows : List Row) (messages : List ℕ) : Type 0 where
   pub last : System
-  pub runs : RunsAll (opening script.config) script.commands.items last notes
+  pub runs : RunsAll (opening script.config) script.commands.items last messages
   pub recorded : last.history.rows ≡ rows

@@ -18,19 +18,19 @@ use Rattle.fault_script.specs.declared.simulating.SimulateError.TheVariants as e
 
 -- the rows of a run of that script, and what is said in it; the text of the rows is read as them and as no others, and the
 -- tags of each of their parts are sound
-pub record IsSoundRun (script : Script) (rows : List Row) (notes : List ℕ) : Type 0 where
-  pub run : IsRunOf script rows notes
+pub record IsSoundRun (script : Script) (rows : List Row) (messages : List ℕ) : Type 0 where
+  pub run : IsRunOf script rows messages
   pub text : IsTextOf (history_text rows) rows
   pub sound : (key : List ℕ) (part : List Call) → IsPart rows key part → TagSound part
 
--- the bytes that a reader gave, to its end, are a script, and the notes and the text of the record of a run of it have that
+-- the bytes that a reader gave, to its end, are a script, and the messages and the text of the record of a run of it have that
 pub record Simulates (old new : Option (List ℕ)) (P : List ℕ → List ℕ → Type 0) : Type 0 where
   pub script : Script
   pub read : Delivers old new (ReadsAll new script)
   pub rows : List Row
-  pub notes : List ℕ
-  pub run : IsSoundRun script rows notes
-  pub fact : P notes (history_text rows)
+  pub messages : List ℕ
+  pub run : IsSoundRun script rows messages
+  pub fact : P messages (history_text rows)
 
 -- where the script couldn't be read, that holds of why
 abbrev pub IfScript : SimulateError → (ScriptError → Type 0) → Type 0
@@ -38,17 +38,17 @@ IfScript (error.Script why) P = P why
 IfScript error.Memory P = Unit {0}
 IfScript error.Device P = Unit {0}
 
--- the text is that of the record of a run of the script that says those notes
+-- the text is that of the record of a run of the script that says those messages
 abbrev pub AreTextsOf : Script → List ℕ → List ℕ → Type 0
-AreTextsOf script notes history = (rows : List Row) × IsSoundRun script rows notes × (history ≡ history_text rows)
+AreTextsOf script messages history = (rows : List Row) × IsSoundRun script rows messages × (history ≡ history_text rows)
 
 -- two writers took a text each, all of it
-abbrev pub SendsBoth : {N W : Type 0} → (N → Option (List ℕ)) → N → N → (W → Option (List ℕ)) → W → W → List ℕ → List ℕ → Type 0
-SendsBoth said_by notes_old notes_new written_by old new notes text = Sends said_by notes_old notes_new notes × Sends written_by old new text
+abbrev pub SendsBoth : {M W : Type 0} → (M → Option (List ℕ)) → M → M → (W → Option (List ℕ)) → W → W → List ℕ → List ℕ → Type 0
+SendsBoth said_by messages_old messages_new written_by old new messages text = Sends said_by messages_old messages_new messages × Sends written_by old new text
 
 -- the first of two writers failed behind a beginning of its text, and the second took nothing
-abbrev pub FailsFirst : {N W : Type 0} → (N → Option (List ℕ)) → (N → ℕ) → N → N → W → W → List ℕ → Type 0
-FailsFirst said_by failures notes_old notes_new old new notes = SendsStart said_by notes_old notes_new notes × IsOneMore (failures notes_old) (failures notes_new) × (new ≡ old)
+abbrev pub FailsFirst : {M W : Type 0} → (M → Option (List ℕ)) → (M → ℕ) → M → M → W → W → List ℕ → Type 0
+FailsFirst said_by failures messages_old messages_new old new messages = SendsStart said_by messages_old messages_new messages × IsOneMore (failures messages_old) (failures messages_new) × (new ≡ old)
 
 -- the writer failed behind a beginning of its text
 abbrev pub FailsBehind : {W : Type 0} → (W → Option (List ℕ)) → (W → ℕ) → W → W → List ℕ → Type 0

@@ -65,26 +65,26 @@ pub fn bytes_are_read_as_one_script()
 
 /// What a script leaves is what some list of steps leaves.
 pub fn every_script_run_is_one_of_steps()
-    ensures { (script : Script) (last : System) (notes : List ℕ)
-        → RunsAll (opening script.config) script.commands.items last notes
+    ensures { (script : Script) (last : System) (messages : List ℕ)
+        → RunsAll (opening script.config) script.commands.items last messages
         → (steps : List Step) × (last ≡ after script.config steps) }
 {}
 
 /// In each run of every script each key's part of the record has sound tags, so that its calls
 /// sorted by tag are an order of it.
 pub fn every_script_run_has_sound_tags()
-    ensures { (script : Script) (rows : List Row) (notes : List ℕ) (key : List ℕ)
+    ensures { (script : Script) (rows : List Row) (messages : List ℕ) (key : List ℕ)
         (part : List Call) → IsLawful script.config.quorums → script.config.calls ≤ 1000000
-        → IsRunOf script rows notes → IsPart rows key part → TagSound part }
+        → IsRunOf script rows messages → IsPart rows key part → TagSound part }
 {
     every_run_has_sound_tags();
 }
 
 /// A script has one run: what its record is, and what is said of its commands.
 pub fn a_script_has_one_run()
-    ensures { (script : Script) (rows others : List Row) (notes said : List ℕ)
-        → IsRunOf script rows notes → IsRunOf script others said
-        → (rows ≡ others) × (notes ≡ said) }
+    ensures { (script : Script) (rows others : List Row) (messages said : List ℕ)
+        → IsRunOf script rows messages → IsRunOf script others said
+        → (rows ≡ others) × (messages ≡ said) }
 {
     the_steps_are_one_list();
 }

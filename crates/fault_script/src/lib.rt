@@ -3,8 +3,8 @@
 //! A script comes from a reader and is read line by line, each where it lies; only what a command
 //! keeps is copied. What was read is what the lines say one for one, to the reader's end; a script
 //! with a fault is refused with its first one. A script's run is simulated to the text of its
-//! record, with a note for each command that is refused; a run of steps comes with the orders that
-//! show its record atomic.
+//! record, with a message for each command that is refused; a run of steps comes with the orders
+//! that show its record atomic.
 #![tactic(auto)]
 
 mod command;
@@ -14,7 +14,7 @@ mod feed;
 mod justified;
 pub mod laws;
 mod lines;
-mod notes;
+mod messages;
 mod numbers;
 mod parse_command;
 mod parse_line;

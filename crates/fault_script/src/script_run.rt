@@ -7,7 +7,7 @@ ghost use Rattle.world_steps.specs.Systems.{opening};
 ghost use Rattle.fault_script.specs.Running.{IsRunSoFar, Walks};
 
 use crate::command::{Command, Numbered, Script};
-use crate::notes::{note_random, note_refused, note_unfinished};
+use crate::messages::{message_random, message_refused, message_unfinished};
 use random_steps::RandomSteps;
 use std::alloc::Global;
 use tag::{ClientId, Memory};
@@ -18,7 +18,7 @@ use world_steps::{Config, Refusal, Step, World};
 #[derive(Drop)]
 pub struct ScriptRun {
     pub world: World,
-    pub notes: Vec<u8>,
+    pub messages: Vec<u8>,
 }
 
 /// Takes the next random step, and answers whether it was taken.
@@ -56,11 +56,11 @@ impl ScriptRun {
     /// Before the first command.
     fn new(alloc: Global, config: Config) -> Result<ScriptRun, Memory>
         ensures world { IfOk result (λ run. run.world ≡ opening config) }
-        ensures notes { IfOk result (λ run. run.notes.items ≡ []) }
+        ensures messages { IfOk result (λ run. run.messages.items ≡ []) }
     {
         Ok(ScriptRun {
             world: World::new(alloc, config)?,
-            notes: Vec::new(alloc),
+            messages: Vec::new(alloc),
         })
     }
 
@@ -70,7 +70,7 @@ impl ScriptRun {
     {
         match self.world.step(step) {
             Ok(_) => Ok(()),
-            Err(why) => note_refused(&mut self.notes, line, why),
+            Err(why) => message_refused(&mut self.messages, line, why),
         }
     }
 
@@ -80,7 +80,7 @@ impl ScriptRun {
     {
         match settle(&mut self.world, client) {
             Ok(_) => Ok(()),
-            Err(why) => note_unfinished(&mut self.notes, line, why),
+            Err(why) => message_unfinished(&mut self.messages, line, why),
         }
     }
 
@@ -89,7 +89,7 @@ impl ScriptRun {
         ensures { OnOk result (RunsOn self.old line (Command.Random seed count) self.new) }
     {
         let taken = walk(alloc, &mut self.world, seed, count)?;
-        note_random(&mut self.notes, line, taken, count)
+        message_random(&mut self.messages, line, taken, count)
     }
 
     /// Runs the command.

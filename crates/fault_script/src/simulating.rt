@@ -42,34 +42,35 @@ impl From<Memory> for SimulateError {
 /// What a run of a script says, and the text of its record.
 #[derive(Drop)]
 struct Texts {
-    notes: Vec<u8>,
+    messages: Vec<u8>,
     history: Vec<u8>,
 }
 
 /// The texts of the script's run.
 fn texts_of(alloc: Global, script: Script) -> Result<Texts, Memory>
-    ensures { IfOk result (λ texts. AreTextsOf script texts.notes.items texts.history.items) }
+    ensures { IfOk result (λ texts. AreTextsOf script texts.messages.items texts.history.items) }
 {
-    let ScriptRun { world, notes } = ScriptRun::of(alloc, script)?;
+    let ScriptRun { world, messages } = ScriptRun::of(alloc, script)?;
     let history = history_text(alloc, &world.into_history())?;
-    Ok(Texts { notes, history })
+    Ok(Texts { messages, history })
 }
 
-/// Writes the notes, and then the history.
-fn write_texts<W: CountedWrite, N: CountedWrite>(
+/// Writes the messages, and then the history.
+fn write_texts<W: CountedWrite, M: CountedWrite>(
     texts: &Texts,
     out: &mut W,
-    notes: &mut N,
+    messages: &mut M,
 ) -> Result<(), SimulateError>
-    ensures written { OnOk result (SendsBoth N.contents notes.old notes.new
-        W.contents out.old out.new texts.now.notes.items texts.now.history.items) }
+    ensures written { OnOk result (SendsBoth M.contents messages.old messages.new
+        W.contents out.old out.new texts.now.messages.items texts.now.history.items) }
     ensures begun { IfErr result (λ error.
-        FailsFirst N.contents N.failures notes.old notes.new out.old out.new texts.now.notes.items
-        ⊎ (Sends N.contents notes.old notes.new texts.now.notes.items
+        FailsFirst M.contents M.failures messages.old messages.new out.old out.new
+        texts.now.messages.items
+        ⊎ (Sends M.contents messages.old messages.new texts.now.messages.items
         × FailsBehind W.contents W.failures out.old out.new texts.now.history.items)) }
     ensures device { IfErr result (λ error. error ≡ SimulateError.Device) }
 {
-    if write_text(texts.notes.as_slice(), notes).is_err() {
+    if write_text(texts.messages.as_slice(), messages).is_err() {
         return Err(SimulateError::Device);
     }
     match write_text(texts.history.as_slice(), out) {
@@ -78,37 +79,37 @@ fn write_texts<W: CountedWrite, N: CountedWrite>(
     }
 }
 
-/// Reads a script to its reader's end, runs it, and writes what is said of its commands to `notes`
-/// and then the text of its record to `out`.
+/// Reads a script to its reader's end, runs it, and writes what is said of its commands to
+/// `messages` and then the text of its record to `out`.
 ///
-/// A step that is refused has a note and changes nothing, and so has a call that can't be finished;
-/// random steps have one note together, which tells how many of them were taken. What is written to
-/// `out` is the history of a run whose parts have sound tags, so that the calls of a key sorted by
-/// tag are an order of it. Both texts are made before the first byte of either goes out: a script
-/// that can't be read, or a growth that is refused, leaves both writers as they were. `Device`
-/// comes only where a writer failed; a beginning of the notes may then have gone out, or the notes
-/// and a beginning of the history.
-pub fn simulate<R: CountedRead, W: CountedWrite, N: CountedWrite>(
+/// A step that is refused has a message and changes nothing, and so has a call that can't be
+/// finished; random steps have one message together, which tells how many of them were taken. What
+/// is written to `out` is the history of a run whose parts have sound tags, so that the calls of a
+/// key sorted by tag are an order of it. Both texts are made before the first byte of either goes
+/// out: a script that can't be read, or a growth that is refused, leaves both writers as they were.
+/// `Device` comes only where a writer failed; a beginning of the messages may then have gone out, or
+/// the messages and a beginning of the history.
+pub fn simulate<R: CountedRead, W: CountedWrite, M: CountedWrite>(
     alloc: Global,
     reader: &mut R,
     out: &mut W,
-    notes: &mut N,
+    messages: &mut M,
 ) -> Result<(), SimulateError>
     ensures written { OnOk result (Simulates (R.remaining reader.old) (R.remaining reader.new)
-        (SendsBoth N.contents notes.old notes.new W.contents out.old out.new)) }
+        (SendsBoth M.contents messages.old messages.new W.contents out.old out.new)) }
     ensures begun { IsErrOf result SimulateError.Device
         → Simulates (R.remaining reader.old) (R.remaining reader.new) (λ said text.
-        FailsFirst N.contents N.failures notes.old notes.new out.old out.new said
-        ⊎ (Sends N.contents notes.old notes.new said
+        FailsFirst M.contents M.failures messages.old messages.new out.old out.new said
+        ⊎ (Sends M.contents messages.old messages.new said
         × FailsBehind W.contents W.failures out.old out.new text)) }
     ensures fault { IfErr result (λ error. IfScript error (λ why.
         StopsFrom R.remaining reader.old reader.new why
         × FailsFrom R.failures reader.old reader.new why
-        × (out.new ≡ out.old) × (notes.new ≡ notes.old))) }
+        × (out.new ≡ out.old) × (messages.new ≡ messages.old))) }
     ensures memory { IsErrOf result SimulateError.Memory
-        → (out.new ≡ out.old) × (notes.new ≡ notes.old) }
+        → (out.new ≡ out.old) × (messages.new ≡ messages.old) }
 {
     let script = parse(alloc, reader).map_err(SimulateError::Script)?;
     let texts = texts_of(alloc, script)?;
-    write_texts(&texts, out, notes)
+    write_texts(&texts, out, messages)
 }

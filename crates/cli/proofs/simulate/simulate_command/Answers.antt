@@ -12,7 +12,7 @@ returns-in-Err-Device-clause-ends g c =
     let said = g.E.Write.contents in
     rw c.report-in-Err-Device.ensures
     (begun (remaining c.args.script.now.reader) (remaining c.simulate.new.reader)
-    (contents c.args.out.now) (contents c.simulate.new.out) (said c.args.errors.now) (said c.simulate.new.notes)
-    (c.simulate.new.out ≡ c.args.out.now) (IsOneMore (g.E.Counted.failures c.args.errors.now) (g.E.Counted.failures c.simulate.new.notes))
+    (contents c.args.out.now) (contents c.simulate.new.out) (said c.args.errors.now) (said c.simulate.new.messages)
+    (c.simulate.new.out ≡ c.args.out.now) (IsOneMore (g.E.Counted.failures c.args.errors.now) (g.E.Counted.failures c.simulate.new.messages))
     (IsOneMore (failures c.args.out.now) (failures c.simulate.new.out))
     (λ same. ap contents same) (c.in-Err-Device.ensures.begun (ap Err c.in-Err-Device.field-0-is)))

@@ -12,7 +12,7 @@ returns-clause-written g c =
     let script = c.in_ok-script.script in
     let texts = c.in_ok-texts.texts in
     let read : Delivers old new (ReadsAll new script) = parsed c.parse.result c.map_err.result script (λ (s : Script). Delivers old new (ReadsAll new s)) _ c.map_err.ensures.cases c.map_err.ensures.variant c.in_ok-script.was c.parse.ensures.read in
-    on_ok_weaker c.write_texts.result (λ written. simulated script texts.notes.items texts.history.items read c.in_ok-texts.ensures written) c.write_texts.ensures.written
+    on_ok_weaker c.write_texts.result (λ written. simulated script texts.messages.items texts.history.items read c.in_ok-texts.ensures written) c.write_texts.ensures.written
 
 pub returns-clause-begun : goal.returns-clause-begun
 returns-clause-begun g c = λ is_device.
@@ -21,4 +21,4 @@ returns-clause-begun g c = λ is_device.
     let script = c.in_ok-script.script in
     let texts = c.in_ok-texts.texts in
     let read : Delivers old new (ReadsAll new script) = parsed c.parse.result c.map_err.result script (λ (s : Script). Delivers old new (ReadsAll new s)) _ c.map_err.ensures.cases c.map_err.ensures.variant c.in_ok-script.was c.parse.ensures.read in
-    simulated script texts.notes.items texts.history.items read c.in_ok-texts.ensures (begun_at c.write_texts.result _ is_device c.write_texts.ensures.begun)
+    simulated script texts.messages.items texts.history.items read c.in_ok-texts.ensures (begun_at c.write_texts.result _ is_device c.write_texts.ensures.begun)

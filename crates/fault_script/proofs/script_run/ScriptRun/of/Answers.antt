@@ -9,7 +9,7 @@ use Rattle.fault_script.proofs.RunSteps.{run_begun, run_on}
 use Rattle.fault_script.proofs.script_run.ScriptRun.of.Goals as goal
 
 pub loop-numbered-init : goal.loop-numbered-init
-loop-numbered-init c = run_begun (opening c.args.script.config) c.in_ok-run.run' c.in_ok-run.ensures.world c.in_ok-run.ensures.notes
+loop-numbered-init c = run_begun (opening c.args.script.config) c.in_ok-run.run' c.in_ok-run.ensures.world c.in_ok-run.ensures.messages
 
 pub loop-numbered-preserved : goal.loop-numbered-preserved
 loop-numbered-preserved c =

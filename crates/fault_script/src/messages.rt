@@ -1,0 +1,79 @@
+//! Messages of a script's run, as they are written.
+ghost use Rattle.std.specs.Prelude.{ℕ, ◌≡◌, ◌≢◌, ◌++◌, codes, decimal, OnOk};
+ghost use Rattle.fault_script.specs.MessageTexts.{random_message, refused_message, unfinished_message};
+
+use itoa::Buffer;
+use tag::Memory;
+use world_settle::SettleError;
+use world_steps::Refusal;
+
+/// Adds the text.
+fn append(messages: &mut Vec<u8>, text: &str) -> Result<(), Memory>
+    ensures { OnOk result (messages.new.items ≡ messages.old.items ++ text.now) }
+{
+    messages.extend_from_slice(text.as_bytes())?;
+    Ok(())
+}
+
+/// Adds the text and then the number.
+fn append_number(messages: &mut Vec<u8>, before: &str, number: u64) -> Result<(), Memory>
+    ensures { OnOk result
+        (messages.new.items ≡ messages.old.items ++ before.now ++ decimal number) }
+{
+    let mut digits = Buffer::new();
+    append(messages, before)?;
+    append(messages, digits.format(number))
+}
+
+/// Says that the step of that line was refused. A refusal for memory isn't said but passed on.
+pub(crate) fn message_refused(messages: &mut Vec<u8>, line: u64, why: Refusal) -> Result<(), Memory>
+    ensures said { OnOk result
+        (messages.new.items ≡ messages.old.items ++ refused_message line why) }
+    ensures memory { OnOk result (why ≢ Refusal.Memory) }
+{
+    if let Refusal::Memory = why {
+        return Err(Memory);
+    }
+    append_number(messages, "line ", line)?;
+    append_number(messages, ": refused ", u64::from(why.number()))?;
+    append(messages, " ")?;
+    append(messages, why.name())?;
+    append(messages, "\n")
+}
+
+/// Says that the call that was to be finished at that line wasn't. Want of memory isn't said but
+/// passed on.
+pub(crate) fn message_unfinished(
+    messages: &mut Vec<u8>,
+    line: u64,
+    why: SettleError,
+) -> Result<(), Memory>
+    ensures said { OnOk result
+        (messages.new.items ≡ messages.old.items ++ unfinished_message line why) }
+    ensures memory { OnOk result ((steps : ℕ) → why ≢ SettleError.Memory steps) }
+{
+    if let SettleError::Memory(_) = why {
+        return Err(Memory);
+    }
+    append_number(messages, "line ", line)?;
+    append_number(messages, ": finish refused ", u64::from(why.number()))?;
+    append(messages, " ")?;
+    append(messages, why.name())?;
+    append(messages, "\n")
+}
+
+/// Says how many of the random steps of that line were taken.
+pub(crate) fn message_random(
+    messages: &mut Vec<u8>,
+    line: u64,
+    taken: u32,
+    count: u32,
+) -> Result<(), Memory>
+    ensures { OnOk result
+        (messages.new.items ≡ messages.old.items ++ random_message line taken count) }
+{
+    append_number(messages, "line ", line)?;
+    append_number(messages, ": random took ", u64::from(taken))?;
+    append_number(messages, " of ", u64::from(count))?;
+    append(messages, "\n")
+}
