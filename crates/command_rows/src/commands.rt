@@ -1,11 +1,11 @@
 //! Rows of the commands.
-use crate::answers::{Agreed, Spans};
+use crate::answers::Agreed;
 use crate::asked::Asked;
-use crate::devices::{AMPLE, Bounded, Pieces};
 use crate::formats::Counting;
 use crate::notation::bytes_of;
 use cli::{Source, Status, check_command, justify_command, simulate_command};
 use parallel_keys::Workers;
+use row_files::{AMPLE, Bounded, Pieces, Spans, push_bytes};
 use std::alloc::{AllocError, Global};
 use std::io::ErrorKind;
 use std::sync::Wait;
@@ -134,15 +134,6 @@ fn run(
         "justify" => justified(rt, alloc, input, way),
         _ => checked(rt, alloc, input, way),
     }
-}
-
-/// Bytes as a text that ends with a line's end.
-pub fn push_bytes(text: &mut String, bytes: &[u8]) -> Result<(), AllocError> {
-    text.push_str(std::str::from_utf8(bytes).unwrap_or("not UTF-8"))?;
-    if bytes.is_empty() || bytes.ends_with(b"\n") {
-        return Ok(());
-    }
-    text.push_str("<end>\n")
 }
 
 /// The status, and what went to both outputs.

@@ -1,8 +1,7 @@
 //! Rows of single files: what was read, and what is written of it.
-use crate::answers::Spans;
 use crate::asked::Asked;
-use crate::commands::{extent, push_bytes};
-use crate::devices::{AMPLE, Bounded, Narrow, Pieces};
+use crate::commands::extent;
+use crate::devices::Narrow;
 use crate::formats::{
     Counted, Counting, WriteFault, history_text, read_history, read_orders, write_history,
     write_orders, write_text,
@@ -11,6 +10,7 @@ use crate::notation::bytes_of;
 use crate::saying::{commands_said, key_orders_said, rows_said};
 use fault_script::{Command, Script, justified_run, parse};
 use recorder::{History, KeyOrder};
+use row_files::{AMPLE, Bounded, Pieces, Spans, push_bytes};
 use std::alloc::{AllocError, Global};
 use std::thread::Threads;
 use world_steps::Step;
@@ -20,11 +20,7 @@ const SHORT: usize = 2_000;
 
 /// A reader that gives all at once.
 fn whole(left: &[u8]) -> Counting<Pieces<'_>> {
-    Counting::new(Pieces {
-        left,
-        size: AMPLE,
-        failure: None,
-    })
+    Counting::new(Pieces::whole(left))
 }
 
 fn fault_said(alloc: Global, written: Result<(), WriteFault>) -> Result<String, AllocError> {

@@ -1,8 +1,9 @@
 //! Rows of counted failures, and of the faults' numbers and texts.
 use crate::asked::Asked;
-use crate::devices::{Narrow, Pieces};
+use crate::devices::Narrow;
 use crate::formats::{Counted, Counting, FaultKind, FileFault, LineFault, WriteFault};
 use fault_script::{ErrorKind, ScriptError, SimulateError};
+use row_files::Pieces;
 use std::alloc::{AllocError, Global};
 use std::io::{Read, Write};
 

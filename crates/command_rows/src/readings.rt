@@ -1,7 +1,6 @@
 //! Rows of files that are read: in pieces of several sizes, by readers and by feeds.
-use crate::answers::{Agreed, Spans};
+use crate::answers::Agreed;
 use crate::asked::Asked;
-use crate::devices::Pieces;
 use crate::formats::{
     Counted, Counting, FaultKind, FileFault, HistoryFeed, OrderFeed, read_history, read_orders,
 };
@@ -9,6 +8,7 @@ use crate::notation::bytes_of;
 use crate::saying::{history_said, orders_said, script_said};
 use fault_script::{ErrorKind, parse};
 use recorder::{History, KeyOrder};
+use row_files::{Pieces, Spans};
 use std::alloc::{AllocError, Global};
 use std::thread::Threads;
 
@@ -23,7 +23,7 @@ pub enum Format {
     Script,
 }
 
-/// Adds a note to an answer where the reader's counts are others than they should be: a failure
+/// Adds to an answer where the reader's counts are others than they should be: a failure
 /// after a device's fault, and all bytes after a good file.
 fn with_counts(
     answer: String,

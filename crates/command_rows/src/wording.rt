@@ -1,5 +1,6 @@
 //! Rows of command lines.
 use cli::{Command, Usage, command};
+use row_files::text_said;
 use std::alloc::{AllocError, Global};
 
 /// The words of a line, divided by bars.
@@ -9,15 +10,6 @@ fn words_of(alloc: Global, line: &str) -> Result<Vec<String>, AllocError> {
         list.push(String::from_str(alloc, word)?)?;
     }
     Ok(list)
-}
-
-fn text_said(alloc: Global, name: &str, text: &str, word: &str) -> Result<String, AllocError> {
-    let says = if text.contains(word) {
-        "says"
-    } else {
-        "doesn't say"
-    };
-    format!(in alloc; "{name} that {says} {word}\n")
 }
 
 fn asked_said(alloc: Global, asked: &Command<'_>) -> Result<String, AllocError> {

@@ -2,11 +2,21 @@
 //!
 //! A file begins with a head of comment lines. Before each row stands an empty line and then
 //! `### ` and the row's name, so that a program goes over `text.split("\n### ").skip(1)` and what
-//! is expected ends with the end of its last line.
+//! is expected ends with the end of its last line. `say_files` does that for a program that says
+//! what it makes of an input; devices over memory and pieces of answers are what several programs
+//! need for that.
 #![tactic(auto)]
 
+mod devices;
+mod program;
 mod row;
 mod said;
+mod spans;
+mod texts;
 
+pub use devices::{AMPLE, Bounded, Pieces};
+pub use program::say_files;
 pub use row::Row;
 pub use said::report;
+pub use spans::Spans;
+pub use texts::{push_bytes, text_said};

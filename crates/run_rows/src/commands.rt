@@ -1,7 +1,7 @@
 //! The commands, over texts in memory.
-use crate::devices::{AMPLE, Bounded, Left};
 use cli::{Command, Counting, Source, Status, check_command, command, justify_command};
 use parallel_keys::Workers;
+use row_files::{AMPLE, Bounded, Pieces};
 use run_words::RunAsked;
 use std::alloc::{AllocError, Global};
 use std::sync::Wait;
@@ -51,8 +51,8 @@ where
 }
 
 /// A file of that text.
-fn file_of(left: &[u8]) -> Source<'static, Counting<Left<'_>>> {
-    Source::new("file", Counting::new(Left { left }))
+fn file_of(left: &[u8]) -> Source<'static, Counting<Pieces<'_>>> {
+    Source::new("file", Counting::new(Pieces::whole(left)))
 }
 
 /// The justification of a history.

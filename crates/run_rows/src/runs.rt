@@ -1,24 +1,14 @@
 //! Rows of runs: what goes out, and what comes of it in `justify` and `check`.
 use crate::commands::{Said, asked_of, checked, justified, ran};
-use crate::devices::{AMPLE, Left};
-use crate::spans::Spans;
 use cli::Counting;
 use history_file::read_histories;
 use recorder::Row;
+use row_files::{AMPLE, Pieces, Spans, push_bytes};
 use run_words::RunAsked;
 use std::alloc::{AllocError, Global};
 use std::sync::Wait;
 use std::thread::Threads;
 use tag::{Action, OpId, Returned};
-
-/// Bytes as a text that ends with a line's end.
-fn push_bytes(text: &mut String, bytes: &[u8]) -> Result<(), AllocError> {
-    text.push_str(std::str::from_utf8(bytes).unwrap_or("not UTF-8"))?;
-    if bytes.is_empty() || bytes.ends_with(b"\n") {
-        return Ok(());
-    }
-    text.push_str("<end>\n")
-}
 
 /// The status, and what went to both outputs.
 fn push_said(text: &mut String, said: &Said) -> Result<(), AllocError> {
@@ -123,7 +113,7 @@ fn histories_said(
     alloc: Global,
     bytes: &[u8],
 ) -> Result<String, AllocError> {
-    let mut reader = Counting::new(Left { left: bytes });
+    let mut reader = Counting::new(Pieces::whole(bytes));
     let Ok(histories) = read_histories(rt, alloc, &mut reader) else {
         return String::from_str(alloc, "NO HISTORY");
     };

@@ -2,6 +2,7 @@
 use crate::commands::words_of;
 use cli::{Command, Usage, command};
 use client_phases::ReadMode;
+use row_files::text_said;
 use run_words::{RunAsked, Shown};
 use std::alloc::{AllocError, Global};
 
@@ -32,16 +33,6 @@ fn asked_said(alloc: Global, asked: RunAsked) -> Result<String, AllocError> {
         Shown::All => text.push_str("all halls\n")?,
     }
     Ok(text)
-}
-
-/// Whether a text says the word.
-fn text_said(alloc: Global, name: &str, text: &str, word: &str) -> Result<String, AllocError> {
-    let says = if text.contains(word) {
-        "says"
-    } else {
-        "doesn't say"
-    };
-    format!(in alloc; "{name} that {says} {word}\n")
 }
 
 /// What a line of words asks for.

@@ -1,4 +1,7 @@
 //! Answers that are the same over a span of numbers.
+ghost use Rattle.std.specs.Prelude.{◌≡◌, ◌++◌, [], IfOk, OnOk, string_bytes};
+ghost use Rattle.row_files.specs.Spans.{GoesOn, span_line, span_lines};
+
 use std::alloc::{AllocError, Global};
 
 /// Answers to numbers that follow one another, a line for each span with one answer.
@@ -12,7 +15,9 @@ pub struct Spans {
 
 impl Spans {
     /// No answer yet.
-    pub fn new(alloc: Global) -> Spans {
+    pub fn new(alloc: Global) -> Spans
+        ensures { span_lines result ≡ [] }
+    {
         Spans {
             text: String::new(alloc),
             answer: String::new(alloc),
@@ -21,8 +26,10 @@ impl Spans {
         }
     }
 
-    /// The line of the span under way.
-    fn close(&mut self) -> Result<(), AllocError> {
+    /// Writes the line of the span under way.
+    fn close(&mut self) -> Result<(), AllocError>
+        ensures { OnOk result (string_bytes self.new.text ≡ span_lines self.old) }
+    {
         if self.answer.is_empty() {
             return Ok(());
         }
@@ -36,7 +43,9 @@ impl Spans {
     }
 
     /// The answer to the next number.
-    pub fn take(&mut self, number: usize, answer: String) -> Result<(), AllocError> {
+    pub fn take(&mut self, number: usize, answer: String) -> Result<(), AllocError>
+        ensures { OnOk result (GoesOn self.old number (string_bytes answer) self.new) }
+    {
         if self.answer != answer {
             self.close()?;
             self.answer = answer;
@@ -47,7 +56,9 @@ impl Spans {
     }
 
     /// All lines.
-    pub fn finish(mut self) -> Result<String, AllocError> {
+    pub fn finish(mut self) -> Result<String, AllocError>
+        ensures { IfOk result (λ text. string_bytes text ≡ span_lines self) }
+    {
         self.close()?;
         let Spans { text, .. } = self;
         Ok(text)

@@ -1,22 +1,44 @@
-//! Readers and writers over memory.
-ghost use Rattle.std.specs.Prelude.{◌≡◌, []};
+//! Readers and writers over memory, and such as fail.
+ghost use Rattle.std.specs.Prelude.{◌≡◌, [], None};
 
 use std::alloc::Global;
 use std::io;
 use std::io::{ErrorKind, Read, Write};
 
-/// A room that is more than any row needs.
+/// A size of pieces, and a room, that is more than any row needs.
 pub const AMPLE: usize = 1_000_000_000;
 
-/// A reader of a text.
+/// A reader that gives a text in pieces of one size, and then ends, or fails in that way.
 #[derive(Drop)]
-pub struct Left<'a> {
+pub struct Pieces<'a> {
     pub left: &'a [u8],
+    pub size: usize,
+    pub failure: Option<ErrorKind>,
 }
 
-impl Read for Left<'_> {
+impl<'a> Pieces<'a> {
+    /// A reader that gives all at once, and then ends.
+    pub fn whole(left: &'a [u8]) -> Pieces<'a>
+        ensures left { result.left.now ≡ left.now }
+        ensures size { result.size ≡ 1000000000 }
+        ensures failure { result.failure ≡ None }
+    {
+        Pieces {
+            left,
+            size: AMPLE,
+            failure: None,
+        }
+    }
+}
+
+impl Read for Pieces<'_> {
     fn read(&mut self, buffer: &mut [u8]) -> io::Result<usize> {
-        let count = buffer.len().min(self.left.len());
+        if let Some(failure) = self.failure
+            && self.left.is_empty()
+        {
+            return Err(io::Error::from(failure));
+        }
+        let count = self.size.min(buffer.len()).min(self.left.len());
         buffer[..count].copy_from_slice(&self.left[..count]);
         self.left = &self.left[count..];
         Ok(count)
@@ -32,7 +54,7 @@ pub struct Bounded {
 
 impl Bounded {
     /// With nothing taken.
-    pub(crate) fn new(alloc: Global, room: usize) -> Bounded
+    pub fn new(alloc: Global, room: usize) -> Bounded
         ensures taken { result.taken.items ≡ [] }
         ensures room { result.room ≡ room }
     {
