@@ -1,4 +1,5 @@
 pub mod Spelling
+mod SpelledNumbers
 pub mod Compact
 pub mod WrittenLines
 pub mod WrittenFiles

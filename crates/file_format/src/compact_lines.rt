@@ -4,7 +4,7 @@
 //! a line that is written otherwise isn't taken, and is left to the JSON reader. The line of a
 //! piece of an order is guessed from its bytes, and taken only where the line that is written for
 //! the guess is the very same; so nothing rests on the guess but the time that it takes.
-ghost use Rattle.std.specs.Prelude.{◌≡◌, ◌++◌, codes, decimal, Ok, IfOk, IfSome, IsTrue};
+ghost use Rattle.std.specs.Prelude.{◌≡◌, ◌<◌, ◌≤◌, ◌++◌, codes, decimal, length, slice_index, Ok, IfOk, IfSome, IsTrue};
 ghost use Rattle.json.specs.Print.{quoted};
 ghost use Rattle.counted_devices.specs.Cuts.{with_end};
 ghost use Rattle.file_format.specs.HallRows.{hall_row_in};
@@ -18,12 +18,13 @@ ghost use Rattle.file_format.specs.Texts.{hall_text};
 use crate::file_header::FileHeader;
 use crate::hall_row::HallRow;
 use crate::seen::SeenTexts;
-use crate::texts::{MOST_IN_PIECE, append_piece, is_plain};
-use itoa::Buffer;
+use crate::texts::{MOST_IN_PIECE, append_piece, plain_length};
 use recorder::{KeyOrder, Order, Row};
 use std::alloc::Global;
-use std::str;
 use tag::{Action, ClientId, Key, Memory, OpId, Returned, Tag, Value};
+
+/// The most digits of a number of 32 bits.
+const MOST_DIGITS: usize = 10;
 
 /// A row, and what its line has as its member `hall`.
 #[derive(Debug, Drop)]
@@ -40,22 +41,32 @@ struct Asked {
     action: Action,
 }
 
+/// Whether the array has these bytes.
+fn has_bytes<const N: usize>(array: &[u8; N], bytes: &[u8; N]) -> bool
+    ensures { IsTrue result → array.now ≡ bytes.now }
+{
+    array == bytes
+}
+
 /// What is behind that beginning of the bytes.
-fn behind<'a>(bytes: &'a [u8], beginning: &[u8]) -> Option<&'a [u8]>
+fn behind<'a, const N: usize>(bytes: &'a [u8], beginning: &[u8; N]) -> Option<&'a [u8]>
     ensures { IfSome result (λ rest. bytes.now ≡ beginning.now ++ rest.now) }
 {
-    let end = beginning.len();
-    if bytes.len() < end || !is_all(&bytes[..end], beginning) {
+    let (first, rest) = bytes.split_first_chunk::<N>()?;
+    if !has_bytes(first, beginning) {
         return None;
     }
-    Some(&bytes[end..])
+    Some(rest)
 }
 
 /// Whether the bytes are that text.
-fn is_all(bytes: &[u8], text: &[u8]) -> bool
+fn is_all<const N: usize>(bytes: &[u8], text: &[u8; N]) -> bool
     ensures { IsTrue result → bytes.now ≡ text.now }
 {
-    bytes == text
+    match bytes.as_array::<N>() {
+        Some(array) => has_bytes(array, text),
+        None => false,
+    }
 }
 
 /// The decimal number that the bytes begin with, which wraps, and what is behind it.
@@ -70,31 +81,41 @@ fn guessed_number(bytes: &[u8]) -> (u32, &[u8]) {
     (number, &bytes[count..])
 }
 
-/// The number that the bytes begin with, as it is written, and what is behind it.
+/// Whether so many digits at the front are as a number is written: some, and no zero before others.
+fn are_spelled(bytes: &[u8], count: usize) -> bool
+    requires { count ≤ length bytes.now }
+    ensures some { IsTrue result → 0 < count }
+    ensures alone { IsTrue result → slice_index bytes.now 0 ≡ 48 → count ≡ 1 }
+{
+    count == 1 || (count > 1 && bytes[0] != b'0')
+}
+
+/// The number of at most 32 bits that the bytes begin with, as it is written, and what is behind
+/// it.
 fn first_number(bytes: &[u8]) -> Option<(u32, &[u8])>
     ensures { IfSome result (λ found. bytes.now ≡ decimal found.0 ++ found.1.now) }
 {
-    let (number, _) = guessed_number(bytes);
-    let mut digits = Buffer::new();
-    let rest = behind(bytes, digits.format(number).as_bytes())?;
-    Some((number, rest))
+    let mut value: u64 = 0;
+    let mut count = 0;
+    while count < bytes.len().min(MOST_DIGITS) && bytes[count].is_ascii_digit() {
+        value = value * 10 + u64::from(bytes[count] - b'0');
+        count += 1;
+    }
+    if value > u64::from(u32::MAX) || !are_spelled(bytes, count) {
+        return None;
+    }
+    Some((value as u32, &bytes[count..]))
 }
 
 /// The text in quotation marks that the bytes begin with, where it has no escape, and what is
 /// behind it.
-fn first_text(bytes: &[u8]) -> Option<(&str, &[u8])>
+fn first_text(bytes: &[u8]) -> Option<(&[u8], &[u8])>
     ensures { IfSome result (λ found. bytes.now ≡ quoted found.0.now ++ found.1.now) }
 {
     let inside = behind(bytes, b"\"")?;
-    let end = inside.iter().position(|byte| *byte == b'"')?;
-    let Ok(text) = str::from_utf8(&inside[..end]) else {
-        return None;
-    };
-    if !is_plain(text) {
-        return None;
-    }
+    let end = plain_length(inside);
     let rest = behind(&inside[end..], b"\"")?;
-    Some((text, rest))
+    Some((&inside[..end], rest))
 }
 
 /// The number of the row's hall, where the bytes begin with it as a member, and what is behind it.

@@ -2,6 +2,7 @@
 ghost use Rattle.std.specs.Prelude.{◌≡◌, IfOk, IfSome};
 
 use std::alloc::Global;
+use std::str;
 use tag::{Key, Memory, NameError, Value};
 
 /// How many keys are kept.
@@ -10,10 +11,7 @@ const KEYS: usize = 256;
 /// How many values are kept.
 const VALUES: usize = 1024;
 
-/// How many bytes of a text choose its place, the last ones.
-const MARKED: usize = 16;
-
-/// A factor that spreads the bytes of short texts over the whole number.
+/// A factor that spreads the bytes of texts over the whole number.
 const FACTOR: u64 = 0x9e37_79b9_7f4a_7c15;
 
 /// Keys and values of the lines before, each at a place that its text chooses, the last one there
@@ -27,35 +25,43 @@ pub struct SeenTexts {
     values: Vec<Option<Value>>,
 }
 
-/// A number of so many that is most texts' own.
-fn place_of(text: &str, places: usize) -> usize {
-    let bytes = text.as_bytes();
-    let mut mark: u64 = 0;
-    for byte in &bytes[bytes.len().saturating_sub(MARKED)..] {
-        mark = mark.wrapping_mul(FACTOR).wrapping_add(u64::from(*byte));
+/// The last eight bytes of the text as a number, or all where there are fewer.
+fn last_bytes(text: &[u8]) -> u64 {
+    if let Some(last) = text.last_chunk::<8>() {
+        return u64::from_le_bytes(*last);
     }
-    if places == 0 {
-        return 0;
+    if let (Some(first), Some(last)) = (text.first_chunk::<4>(), text.last_chunk::<4>()) {
+        let first = u64::from(u32::from_le_bytes(*first));
+        return (first << 32) | u64::from(u32::from_le_bytes(*last));
     }
-    (mark % places as u64) as usize
+    let mut number: u64 = 0;
+    for byte in text {
+        number = (number << 8) | u64::from(*byte);
+    }
+    number
+}
+
+/// A number below 1,024 that texts with other last bytes mostly don't have.
+fn mark_of(text: &[u8]) -> usize {
+    (last_bytes(text).wrapping_mul(FACTOR) >> 54) as usize
 }
 
 /// The key that was kept at the place, where it has that text.
-fn key_at(keys: &[Option<Key>], place: usize, text: &str) -> Result<Option<Key>, Memory>
+fn key_at(keys: &[Option<Key>], place: usize, text: &[u8]) -> Result<Option<Key>, Memory>
     ensures { IfOk result (λ found. IfSome found (λ key. key ≡ text.now)) }
 {
     match keys.get(place) {
-        Some(Some(key)) if key.as_str() == text => Ok(Some(key.copy()?)),
+        Some(Some(key)) if key.as_str().as_bytes() == text => Ok(Some(key.copy()?)),
         _ => Ok(None),
     }
 }
 
 /// The value that was kept at the place, where it has that text.
-fn value_at(values: &[Option<Value>], place: usize, text: &str) -> Result<Option<Value>, Memory>
+fn value_at(values: &[Option<Value>], place: usize, text: &[u8]) -> Result<Option<Value>, Memory>
     ensures { IfOk result (λ found. IfSome found (λ value. value ≡ text.now)) }
 {
     match values.get(place) {
-        Some(Some(value)) if value.as_str() == text => Ok(Some(value.copy()?)),
+        Some(Some(value)) if value.as_str().as_bytes() == text => Ok(Some(value.copy()?)),
         _ => Ok(None),
     }
 }
@@ -75,14 +81,17 @@ impl SeenTexts {
     }
 
     /// The key of that text, if it is one's.
-    pub(crate) fn key(&mut self, alloc: Global, text: &str) -> Result<Option<Key>, Memory>
+    pub(crate) fn key(&mut self, alloc: Global, text: &[u8]) -> Result<Option<Key>, Memory>
         ensures { IfOk result (λ found. IfSome found (λ key. key ≡ text.now)) }
     {
-        let place = place_of(text, self.keys.len());
+        let place = mark_of(text) % KEYS;
         if let Some(key) = key_at(&self.keys, place, text)? {
             return Ok(Some(key));
         }
-        let key = match Key::new(alloc, text) {
+        let Ok(name) = str::from_utf8(text) else {
+            return Ok(None);
+        };
+        let key = match Key::new(alloc, name) {
             Ok(key) => key,
             Err(NameError::Memory) => return Err(Memory),
             Err(_) => return Ok(None),
@@ -94,14 +103,17 @@ impl SeenTexts {
     }
 
     /// The value of that text, if it is one's.
-    pub(crate) fn value(&mut self, alloc: Global, text: &str) -> Result<Option<Value>, Memory>
+    pub(crate) fn value(&mut self, alloc: Global, text: &[u8]) -> Result<Option<Value>, Memory>
         ensures { IfOk result (λ found. IfSome found (λ value. value ≡ text.now)) }
     {
-        let place = place_of(text, self.values.len());
+        let place = mark_of(text) % VALUES;
         if let Some(value) = value_at(&self.values, place, text)? {
             return Ok(Some(value));
         }
-        let value = match Value::new(alloc, text) {
+        let Ok(name) = str::from_utf8(text) else {
+            return Ok(None);
+        };
+        let value = match Value::new(alloc, name) {
             Ok(value) => value,
             Err(NameError::Memory) => return Err(Memory),
             Err(_) => return Ok(None),

@@ -1,5 +1,5 @@
 //! Lines, as they are written.
-ghost use Rattle.std.specs.Prelude.{◌≡◌, ◌++◌, ◌<◌, true, false, codes, decimal, length, slice_index, OnOk};
+ghost use Rattle.std.specs.Prelude.{◌≡◌, ◌++◌, ◌<◌, ◌≤◌, true, false, codes, decimal, length, take, slice_index, OnOk};
 ghost use Rattle.std.specs.List.{list_all};
 ghost use Rattle.json.specs.Print.{quoted};
 ghost use Rattle.serde_json.specs.Data.{string, member};
@@ -47,10 +47,22 @@ fn is_plain_byte(byte: u8) -> bool
 }
 
 /// Whether the text stands in a JSON string without an escape.
-pub(crate) fn is_plain(text: &str) -> bool
+fn is_plain(text: &str) -> bool
     ensures { result ≡ list_all is_plain text.now }
 {
     text.as_bytes().iter().all(|byte| is_plain_byte(*byte))
+}
+
+/// How many bytes stand for themselves in a JSON string before one that doesn't, or the end.
+pub(crate) fn plain_length(bytes: &[u8]) -> usize
+    ensures length { result ≤ length bytes.now }
+    ensures plain { list_all is_plain (take result bytes.now) ≡ true }
+{
+    let mut count = 0;
+    while count < bytes.len() && is_plain_byte(bytes[count]) {
+        count += 1;
+    }
+    count
 }
 
 /// Adds the text as a JSON string, with its escapes. Without memory all bytes are lost.
