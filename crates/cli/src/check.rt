@@ -99,8 +99,14 @@ pub fn check_command<'a, H: CountedRead, O: CountedRead, W: CountedWrite, E: Wri
     errors: &mut E,
 ) -> Status
     ensures ends { Ends
-        (record { history = H.remaining history.old.reader; orders = O.remaining orders.old.reader })
-        (record { history = H.remaining history.new.reader; orders = O.remaining orders.new.reader })
+        (record {
+          history = H.remaining history.old.reader;
+          orders = O.remaining orders.old.reader;
+        })
+        (record {
+          history = H.remaining history.new.reader;
+          orders = O.remaining orders.new.reader;
+        })
         (record { old = W.contents out.old; new = W.contents out.new })
         result }
     ensures quiet { result ≡ Status.Format → out.new ≡ out.old }

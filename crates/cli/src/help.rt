@@ -47,6 +47,6 @@ stop replica R, start replica R\n  \
 finish CLIENT                  the steps that complete its call\n  \
 random SEED COUNT              up to COUNT random steps\n\
 SCRIPT may be /dev/stdin, for what is piped in.\n\n\
-Writes a history file, for `abd justify` and `abd check`. A note on standard error says which line was refused and \
+Writes a history file, for `abd justify` and `abd check`. A message on standard error says which line was refused and \
 why, and how many random steps were taken.\nExit status: 0 written, 2 usage, 3 the script can't be opened or has a \
 fault, 4 memory or a device.\n\nExample: abd simulate examples/new_then_old.script";

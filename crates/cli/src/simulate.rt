@@ -22,7 +22,12 @@ pub fn simulate_command<'a, S: CountedRead, W: CountedWrite, E: CountedWrite>(
 ) -> Status
     ensures ends { EndsSimulation
         (record { old = S.remaining script.old.reader; new = S.remaining script.new.reader })
-        (record { old = W.contents out.old; new = W.contents out.new; failures = W.failures out.old; failures_now = W.failures out.new })
+        (record {
+          old = W.contents out.old;
+          new = W.contents out.new;
+          failures = W.failures out.old;
+          failures_now = W.failures out.new;
+        })
         (record { old = E.contents errors.old; new = E.contents errors.new })
         result }
     ensures faulty { result ≡ Status.Format → out.new ≡ out.old }

@@ -146,7 +146,8 @@ fn check_in<'a>(matches: &ArgMatches<'a>) -> Option<Command<'a>>
 /// `justify`, of the words behind its name.
 fn justify_in<'a>(matches: &ArgMatches<'a>) -> Option<Command<'a>>
     ensures { MatchOption result
-        ((command : Command) → MakesAs (codes "justify") (rows_of (found_of matches.now)) command → ⊥)
+        ((command : Command) → MakesAs (codes "justify") (rows_of (found_of matches.now)) command
+        → ⊥)
         (MakesAs (codes "justify") (rows_of (found_of matches.now))) }
 {
     let history = matches.get_str("HISTORY")?;
@@ -156,7 +157,8 @@ fn justify_in<'a>(matches: &ArgMatches<'a>) -> Option<Command<'a>>
 /// `simulate`, of the words behind its name.
 fn simulate_in<'a>(matches: &ArgMatches<'a>) -> Option<Command<'a>>
     ensures { MatchOption result
-        ((command : Command) → MakesAs (codes "simulate") (rows_of (found_of matches.now)) command → ⊥)
+        ((command : Command) → MakesAs (codes "simulate") (rows_of (found_of matches.now)) command
+        → ⊥)
         (MakesAs (codes "simulate") (rows_of (found_of matches.now))) }
 {
     let script = matches.get_str("SCRIPT")?;
@@ -166,7 +168,8 @@ fn simulate_in<'a>(matches: &ArgMatches<'a>) -> Option<Command<'a>>
 /// `run`, of the words behind its name.
 fn asked_run<'a>(alloc: Global, matches: &ArgMatches<'a>) -> Result<Command<'a>, Usage>
     ensures { MatchResult result (MakesAs (codes "run") (rows_of (found_of matches.now)))
-        (MakesNothing ((command : Command) → MakesAs (codes "run") (rows_of (found_of matches.now)) command → ⊥)) }
+        (MakesNothing ((command : Command)
+        → MakesAs (codes "run") (rows_of (found_of matches.now)) command → ⊥)) }
 {
     match run_in(alloc, matches) {
         Ok(asked) => Ok(Command::Run(asked)),
@@ -206,7 +209,8 @@ fn made_in<'a>(name: &str, matches: &ArgMatches<'a>) -> Option<Command<'a>>
 /// The command that was met.
 fn command_in<'a>(alloc: Global, matches: &ArgMatches<'a>) -> Result<Command<'a>, Usage>
     ensures { MatchResult result (MakesOf (subcommand_rows_of matches.now))
-        (MakesNothing ((command : Command) → MakesOf (subcommand_rows_of matches.now) command → ⊥)) }
+        (MakesNothing ((command : Command)
+        → MakesOf (subcommand_rows_of matches.now) command → ⊥)) }
 {
     let Some((name, found)) = matches.subcommand() else {
         return Err(no_command(alloc));
