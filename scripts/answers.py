@@ -7,8 +7,8 @@ place, and nothing is printed. What is read is what `EDITS_LOG=LOG scripts/edits
     scripts/answers.py LOG..
 
 Each answer is written into crates/NAME/proofs/../Answers.antt; `rt verdict` in the crate, which proves it from nothing, says
-whether the crate is proved with them, and where it isn't, that goal's answer goes again. (`rt check` over kept work may not look
-at a new answer of a function that hasn't changed.)
+whether the crate is proved with them, and where it isn't, that goal's answer goes again. (`rt check` over kept work called
+a crate proved with answers that the gate then refused; why wasn't found.)
 """
 
 import os
