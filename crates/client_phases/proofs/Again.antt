@@ -20,7 +20,7 @@ use Rattle.client_phases.specs.declared.clients.Client.{Client}
 use Rattle.client_phases.specs.Calls.{Call, Chosen, pair_to_put}
 use Rattle.client_phases.specs.Asking.{Asking, is_agreed, asking_with, counts}
 use Rattle.client_phases.specs.States.{asking_outcome, putting_outcome, reply_outcome}
-use Rattle.client_phases.specs.Clients.{client_after, taken}
+use Rattle.client_phases.specs.Clients.{client_after, reply_result}
 
 and_false : (b : Bool) → (b && false) ≡ false
 and_false true = refl
@@ -76,5 +76,5 @@ again rules Idle reply = refl
 again rules (Ready chosen) reply = refl
 again rules Stopped reply = refl
 
-pub stale_again : (client : Client) (reply : Reply) → taken (client_after client reply) reply ≡ Stale
+pub stale_again : (client : Client) (reply : Reply) → reply_result (client_after client reply) reply ≡ Stale
 stale_again client reply = again client.rules client.state reply

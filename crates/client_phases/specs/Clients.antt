@@ -53,8 +53,8 @@ abbrev pub MayTake : Client → Reply → Type 0
 MayTake client reply = MayHear client.rules client.state reply
 
 -- what a client makes of a reply
-abbrev pub taken : Client → Reply → Taken
-taken client reply = (reply_outcome client.rules client.state reply).1
+abbrev pub reply_result : Client → Reply → Taken
+reply_result client reply = (reply_outcome client.rules client.state reply).1
 
 -- the client after a reply
 abbrev pub client_after : Client → Reply → Client

@@ -37,8 +37,10 @@ impl Tally {
     /// The tally with a further replica that told this tag.
     pub(crate) fn with(self, replica: ReplicaId, tag: Tag) -> Tally
         ensures { (call : Call) (found value : Option (List ℕ))
-            → asking_with (asking_from call self found) replica (record { tag = tag; value = value })
-            ≡ asking_from call result (if is_lt (tag_cmp self.best tag) then value else found) }
+            → asking_with (asking_from call self found) replica
+            (record { tag = tag; value = value })
+            ≡ asking_from call result
+            (if is_lt (tag_cmp self.best tag) then value else found) }
     {
         let is_least = self.counted.count() == 0 || tag < self.least;
         Tally {

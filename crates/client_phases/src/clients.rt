@@ -1,6 +1,6 @@
 //! Clients.
 ghost use Rattle.std.specs.Prelude.{◌≡◌, IfOk, None, Ok, Some};
-ghost use Rattle.client_phases.specs.Clients.{MayTake, answer_of, client_after, client_of, counted_by, client_after_invoke, pending_of, phase_of, request_of, client_after_respond, client_after_stop, taken};
+ghost use Rattle.client_phases.specs.Clients.{MayTake, answer_of, client_after, client_of, counted_by, client_after_invoke, pending_of, phase_of, request_of, client_after_respond, client_after_stop, reply_result};
 
 use crate::asking::Asking;
 use crate::calls::Call;
@@ -72,9 +72,9 @@ impl Client {
     /// number below 1,000,000.
     pub fn foresee(&self, reply: &Reply) -> Taken
         requires { MayTake self.now reply.now }
-        ensures { result ≡ taken self.now reply.now }
+        ensures { result ≡ reply_result self.now reply.now }
     {
-        self.rules.foreseen(&self.state, reply)
+        self.rules.foresee(&self.state, reply)
     }
 
     /// Takes a reply. A stale one changes nothing; one that counts may end the phase.
@@ -83,12 +83,12 @@ impl Client {
     /// while it puts, and comes from a replica below the count that this phase hasn't counted.
     pub fn take(&mut self, reply: Reply) -> Taken
         requires { MayTake self.old reply }
-        ensures answer { result ≡ taken self.old reply }
+        ensures answer { result ≡ reply_result self.old reply }
         ensures after { self.new ≡ client_after self.old reply }
         ensures stale { result ≡ Taken.Stale → self.new ≡ self.old }
     {
         let state = mem::replace(&mut self.state, State::Idle);
-        let (state, taken) = self.rules.heard(state, reply);
+        let (state, taken) = self.rules.hear(state, reply);
         self.state = state;
         taken
     }

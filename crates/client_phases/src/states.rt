@@ -22,7 +22,7 @@ pub enum State {
 
 impl Rules {
     /// What an asking comes to.
-    pub(crate) fn asked(&self, asking: Asking) -> (State, Taken)
+    pub(crate) fn end_asking(&self, asking: Asking) -> (State, Taken)
         ensures { result ≡ asking_outcome self.now asking }
     {
         let taken = self.outcome(&asking.call, &asking.tally);
@@ -46,7 +46,7 @@ impl Rules {
     }
 
     /// What a putting comes to.
-    pub(crate) fn kept(&self, chosen: Chosen, counted: ReplicaSet) -> (State, Taken)
+    pub(crate) fn end_putting(&self, chosen: Chosen, counted: ReplicaSet) -> (State, Taken)
         ensures { result ≡ putting_outcome self.now chosen counted }
     {
         if self.quorums.is_put(&counted) {
@@ -57,7 +57,7 @@ impl Rules {
     }
 
     /// The state after a reply, and what came of it.
-    pub(crate) fn heard(&self, state: State, reply: Reply) -> (State, Taken)
+    pub(crate) fn hear(&self, state: State, reply: Reply) -> (State, Taken)
         requires { MayHear self.now state reply }
         ensures { result ≡ reply_outcome self.now state reply }
     {
@@ -72,14 +72,14 @@ impl Rules {
                 },
             ) => {
                 if self.counts(&asking.call, &asking.tally.counted, op, replica) {
-                    self.asked(asking.with(replica, Pair { tag, value }))
+                    self.end_asking(asking.with(replica, Pair { tag, value }))
                 } else {
                     (State::Ask(asking), Taken::Stale)
                 }
             }
             (State::Put { chosen, counted }, Reply::Kept { op, replica }) => {
                 if self.counts(&chosen.call, &counted, op, replica) {
-                    self.kept(chosen, with_replica(counted, replica))
+                    self.end_putting(chosen, with_replica(counted, replica))
                 } else {
                     (State::Put { chosen, counted }, Taken::Stale)
                 }
@@ -89,7 +89,7 @@ impl Rules {
     }
 
     /// What would come of a reply.
-    pub(crate) fn foreseen(&self, state: &State, reply: &Reply) -> Taken
+    pub(crate) fn foresee(&self, state: &State, reply: &Reply) -> Taken
         requires { MayHear self.now state.now reply.now }
         ensures { result ≡ (reply_outcome self.now state.now reply.now).1 }
     {

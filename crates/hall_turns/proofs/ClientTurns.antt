@@ -7,7 +7,7 @@ use Rattle.tag.specs.declared.actions.Returned.{Returned}
 use Rattle.tag.specs.declared.numbers.OpId.{OpId}
 use Rattle.replica.specs.declared.replies.Reply.{Reply}
 use Rattle.client_phases.specs.Calls.{answer_from}
-use Rattle.client_phases.specs.Clients.{answer_of, pending_of, taken}
+use Rattle.client_phases.specs.Clients.{answer_of, pending_of, reply_result}
 use Rattle.client_phases.specs.declared.clients.Client.{Client}
 use Rattle.client_phases.specs.declared.outcomes.Taken.{Taken}
 use Rattle.client_phases.specs.declared.outcomes.Taken.TheVariants.{Stale, Counted, Noted, Agreed}
@@ -34,7 +34,7 @@ use Rattle.world_steps.specs.declared.system.System.{System}
 use Rattle.hall_journal.specs.Halls.{Hall, IsReplay, Takes, with_step}
 use Rattle.hall_turns.specs.declared.rule.View.{View}
 use Rattle.hall_turns.specs.Turns.TookReply.{WithNote, WithoutNote}
-use Rattle.hall_turns.specs.Turns.{AddedRow, AreRecorded, IsQuiet, IsReady, Knows, Looked, MayReturn, OthersAdd, Receives, Returns, Seen, TookReply, Turned, Turns, resting, seat}
+use Rattle.hall_turns.specs.Turns.{AddedRow, AreRecorded, IsQuiet, IsReady, Knows, Looked, MayReturn, OthersAdd, Receives, Returns, Seen, TookReply, Turned, Turns, view_at_rest, seat}
 use Rattle.hall_turns.proofs.Rows.{last_row, none_some, past_end, pushed, same_some}
 use Rattle.hall_turns.proofs.Turning.{AddsOfItsClient, StayJoined, kept_adds, rested, returnable, same_next, took_adds}
 
@@ -113,7 +113,7 @@ noted s op outcome.Ready = Same refl
 
 heard_rows : (s : System) (name : ℕ) (reply : Reply) (found : Option Client) → IsNoted s.history.rows (take s name reply found).history.rows
 heard_rows s name reply None = Same refl
-heard_rows s name reply (Some client) = noted s (answered_op reply) (taken client reply)
+heard_rows s name reply (Some client) = noted s (answered_op reply) (reply_result client reply)
 
 pub delivered_rows : (s : System) (flight client : ℕ) (found : Option Message) → receiver found ≡ Some client → IsNoted s.history.rows (deliver s flight found).history.rows
 delivered_rows s flight client None is = none_some is
@@ -136,7 +136,7 @@ seen client rows = record { client = client; rows = rows }
 pub client_turn : (client : ℕ) (rows : List Row) (v w z : View) (old new : Hall) → v ≡ seat client rows → Receives v old w → Returns w new z → ClientTurn client rows old new z
 client_turn client rows v w z old new is received returned = record {
   others = (subst (λ y. Knows y old.world) is received.knows).others client refl;
-  is = rested v w z old new received.is returned ∙ ap (λ y. resting y new.world) is;
+  is = rested v w z old new received.is returned ∙ ap (λ y. view_at_rest y new.world) is;
 }
 
 pub looked : (client : ℕ) (rows : List Row) (old new : Hall) (z : View) → ClientTurn client rows old new z → new.world.history.rows ≡ old.world.history.rows → Looked (seen client rows) (seen client z.rows)
@@ -181,10 +181,10 @@ turn_seen client rows v w step result is turn = record {
 
 pub quiet_seen : (client : ℕ) (rows : List Row) (v w : View) (step : Step) (result : Result Effect Refusal) → IsQuiet step → v ≡ seat client rows → Turns v step result w → Looked (seen client rows) (seen client w.rows)
 quiet_seen client rows v w step result quiet is turn =
-    looked client rows turn.before turn.after w (record { others = (subst (λ y. Knows y turn.before.world) is turn.knows).others client refl; is = turn.is ∙ ap (λ y. resting y turn.after.world) is }) (quiet_takes turn.before turn.after step result quiet turn.took)
+    looked client rows turn.before turn.after w (record { others = (subst (λ y. Knows y turn.before.world) is turn.knows).others client refl; is = turn.is ∙ ap (λ y. view_at_rest y turn.after.world) is }) (quiet_takes turn.before turn.after step result quiet turn.took)
 
 pub seat_turned : (client : ℕ) (v w : View) (step : Step) (result : Result Effect Refusal) → v ≡ seat client v.rows → Turns v step result w → (w ≡ seat client w.rows) × AreRecorded w.rows
-seat_turned client v w step result is turn = seat_recorded client w turn.after (turn.is ∙ ap (λ y. resting y turn.after.world) is) turn.recorded
+seat_turned client v w step result is turn = seat_recorded client w turn.after (turn.is ∙ ap (λ y. view_at_rest y turn.after.world) is) turn.recorded
 
 -- ---- that the hall may be given back
 

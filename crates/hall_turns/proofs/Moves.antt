@@ -10,7 +10,7 @@ use Rattle.world_steps.specs.Systems.{opening}
 use Rattle.world_steps.specs.declared.system.System.{System}
 use Rattle.hall_journal.specs.Halls.{Hall}
 use Rattle.hall_turns.specs.declared.rule.View.{View}
-use Rattle.hall_turns.specs.Turns.{Adds, AreApart, AreFitting, BecomesSeat, Enters, Fits, Kept, Knows, MayReturn, OthersAdd, Placed, Receives, Returns, guest, holding, last_of, maker, resting, seat}
+use Rattle.hall_turns.specs.Turns.{Adds, AreApart, AreFitting, BecomesSeat, Enters, Fits, Kept, Knows, MayReturn, OthersAdd, Placed, Receives, Returns, guest, view_with_hall, last_of, maker, view_at_rest, seat}
 use Rattle.hall_turns.proofs.Rows.{longer, more_added, none_added, none_some, same_some, whole}
 
 -- ---- a list in which one view was set
@@ -74,7 +74,7 @@ takes_at pass v hall halls views now None placed fitting apart at =
     let here : hall ≡ placed.0 = cc in
     let rest : halls ≡ [] = cc in
     let same : hall.world ≡ now = ap (λ (h : Hall). h.world) here ∙ placed.2 in
-    let w = holding v hall.world in
+    let w = view_with_hall v hall.world in
     let mine : Knows v hall.world = knows_at v hall.world now same (fitting pass v at).knows in (
       w,
       record {
@@ -126,7 +126,7 @@ gives n pass v hall may halls views _ kept at =
     let old = may.old in
     let adds = may.adds in
     let h : Held pass old halls views = held pass v old halls views may.taken kept at in
-    let w = resting v hall.world in
+    let w = view_at_rest v hall.world in
     let mine : Knows v old = (h.fitting pass v at).knows in (
       w,
       record {

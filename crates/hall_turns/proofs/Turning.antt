@@ -18,7 +18,7 @@ use Rattle.world_steps.specs.declared.step.Step.TheVariants as step
 use Rattle.world_steps.specs.declared.system.System.{System}
 use Rattle.hall_journal.specs.Halls.{Hall, IsReplay, Takes, with_step}
 use Rattle.hall_turns.specs.declared.rule.View.{View}
-use Rattle.hall_turns.specs.Turns.{Adds, AreRecorded, IsOwn, MayReturn, MayTake, Receives, Returns, Turns, holding, resting}
+use Rattle.hall_turns.specs.Turns.{Adds, AreRecorded, IsOwn, MayReturn, MayTake, Receives, Returns, Turns, view_with_hall, view_at_rest}
 use Rattle.hall_turns.proofs.Rows.{last_row, none_some, past_end, row_grown, whole}
 
 -- the laws of the world that a turn rests on
@@ -91,7 +91,7 @@ takes_add : (v : View) (old new : Hall) (step : Step) (result : Result Effect Re
 takes_add v old new step (Ok effect) sound before after_it rows stay owns took = took_adds v old new step sound before after_it rows stay owns took.0 took.2
 takes_add v old new step (Err why) sound before after_it rows stay owns took = kept_adds v old.world new.world (ap (λ (h : Hall). h.world) took.1)
 
-pub returnable : (v w : View) (old : Hall) (new : System) → w ≡ holding v old.world → Adds v old.world new → MayReturn w new
+pub returnable : (v w : View) (old : Hall) (new : System) → w ≡ view_with_hall v old.world → Adds v old.world new → MayReturn w new
 returnable v w old new is adds = subst (λ y. MayReturn y new) (sym is) (record {
   old = old.world;
   taken = refl;
@@ -103,8 +103,8 @@ pub may_return : (v w : View) (old new : Hall) (step : Step) (result : Result Ef
 may_return v w old new step result may received sound before after_it rows stay took =
     returnable v w old new.world received.is (takes_add v old new step result sound before after_it rows stay (owner v.client old.world step may) took)
 
-pub rested : (v w z : View) (old hall : Hall) → w ≡ holding v old.world → Returns w hall z → z ≡ resting v hall.world
-rested v w z old hall is returned = returned ∙ ap (λ y. resting y hall.world) is
+pub rested : (v w z : View) (old hall : Hall) → w ≡ view_with_hall v old.world → Returns w hall z → z ≡ view_at_rest v hall.world
+rested v w z old hall is returned = returned ∙ ap (λ y. view_at_rest y hall.world) is
 
 pub recorded : (hall : Hall) → IsReplay hall → IsSound hall.world → IsWellFormed hall.world.history.rows → AreRecorded hall.world.history.rows
 recorded hall replay sound formed = record { hall = hall; replay = replay; sound = sound; is = refl; formed = formed }

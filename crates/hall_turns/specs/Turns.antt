@@ -43,12 +43,12 @@ abbrev pub maker : View
 maker = record { client = None; rows = []; taken = Some (opening (config_of 1 1 1)) }
 
 -- the pass, once it took the hall with this world
-abbrev pub holding : View → System → View
-holding v s = record { client = v.client; rows = v.rows; taken = Some s }
+abbrev pub view_with_hall : View → System → View
+view_with_hall v s = record { client = v.client; rows = v.rows; taken = Some s }
 
 -- the pass, once it gave the hall back with this world
-abbrev pub resting : View → System → View
-resting v s = record { client = v.client; rows = s.history.rows; taken = None }
+abbrev pub view_at_rest : View → System → View
+view_at_rest v s = record { client = v.client; rows = s.history.rows; taken = None }
 
 abbrev pub IsAtRest : View → Type 0
 IsAtRest v = v.taken ≡ None
@@ -105,12 +105,12 @@ pub record Kept (halls : List Hall) (views : List View) : Type 0 where
 
 -- the hall was taken
 pub record Receives (v : View) (hall : Hall) (w : View) : Type 0 where
-  pub is : w ≡ holding v hall.world
+  pub is : w ≡ view_with_hall v hall.world
   pub knows : Knows v hall.world
 
 -- the hall was given back: all its rows are seen
 abbrev pub Returns : View → Hall → View → Type 0
-Returns v hall w = w ≡ resting v hall.world
+Returns v hall w = w ≡ view_at_rest v hall.world
 
 -- the row is of a call of the pass's client
 pub record IsOwn (v : View) (rows : List Row) (row : Row) : Type 0 where
@@ -185,14 +185,14 @@ pub record Turns (v : View) (step : Step) (result : Result Effect Refusal) (w : 
   pub took : Takes before step result after
   pub replay : IsReplay after
   pub recorded : AreRecorded after.world.history.rows
-  pub is : w ≡ resting v after.world
+  pub is : w ≡ view_at_rest v after.world
 
 -- a pass had the hall for one turn, and left it as it was
 pub record Looks (v w : View) : Type 0 where
   pub hall : Hall
   pub knows : Knows v hall.world
   pub recorded : AreRecorded hall.world.history.rows
-  pub is : w ≡ resting v hall.world
+  pub is : w ≡ view_at_rest v hall.world
 
 -- ---- what contracts say of a client's pass
 

@@ -9,7 +9,7 @@ use Rattle.replica.specs.Replicas.{replica_after, reply_of}
 use Rattle.replica.specs.declared.requests.Request.{Request}
 use Rattle.client_phases.specs.Asking.{query_of}
 use Rattle.client_phases.specs.Calls.{put_of}
-use Rattle.client_phases.specs.Clients.{client_after, phase_of, request_of, taken}
+use Rattle.client_phases.specs.Clients.{client_after, phase_of, request_of, reply_result}
 use Rattle.client_phases.specs.declared.clients.Client.{Client}
 use Rattle.client_phases.specs.declared.rules.Rules.{Rules}
 use Rattle.client_phases.specs.declared.states.State.{State}
@@ -111,7 +111,7 @@ third_system s name replica client request node = record s {
   members = with_client s.members name (client_after client (reply_of node.replica request));
   nodes = handled_nodes s replica request node;
   pool = with_one_less (with_one_less (both_sent s name replica request node) s.pool.sent) (s.pool.sent + 1);
-  history = with_note s.history (answered_op (reply_of node.replica request)) (taken client (reply_of node.replica request));
+  history = with_note s.history (answered_op (reply_of node.replica request)) (reply_result client (reply_of node.replica request));
 }
 
 module _ (s : System) (name replica : ℕ) (client : Client) (request : Request) (node : Node) (may : MayRound s name replica client request node) where

@@ -9,7 +9,7 @@ use Rattle.replica.specs.declared.replies.Reply.{Reply}
 use Rattle.replica.specs.declared.requests.Request.{Request}
 use Rattle.replica.specs.declared.requests.Request.TheVariants.{Query, Put}
 use Rattle.client_phases.specs.Calls.{answer_from}
-use Rattle.client_phases.specs.Clients.{client_after, client_of, client_after_invoke, client_after_respond, client_after_stop, taken}
+use Rattle.client_phases.specs.Clients.{client_after, client_of, client_after_invoke, client_after_respond, client_after_stop, reply_result}
 use Rattle.client_phases.specs.declared.clients.Client.{Client}
 use Rattle.client_phases.specs.declared.outcomes.Taken.{Taken}
 use Rattle.client_phases.specs.declared.outcomes.Taken.TheVariants.{Stale, Counted, Noted, Agreed}
@@ -123,7 +123,7 @@ module _ (s : System) where
 
   heard : (name : ℕ) (reply : Reply) (found : Option Client) → Lasts s (take s name reply found)
   heard name reply None = still
-  heard name reply (Some client) = record { joined = there s.members.clients name (client_after client reply); held = level; rows = noted (answered_op reply) (taken client reply) }
+  heard name reply (Some client) = record { joined = there s.members.clients name (client_after client reply); held = level; rows = noted (answered_op reply) (reply_result client reply) }
 
   -- ---- steps of replicas
   same : (number : ℕ) (node new : Node) → slice_get s.nodes number ≡ Some node → new.replica.pairs ≡ node.replica.pairs

@@ -6,7 +6,7 @@ use Rattle.tag.specs.declared.numbers.OpId.{OpId}
 use Rattle.quorum.specs.Quorums.{IsLawful}
 use Rattle.replica.specs.declared.replies.Reply.{Reply}
 use Rattle.replica.specs.declared.replies.Reply.TheVariants.{Held, Kept}
-use Rattle.client_phases.specs.Clients.{client_after, taken}
+use Rattle.client_phases.specs.Clients.{client_after, reply_result}
 use Rattle.client_phases.specs.declared.clients.Client.{Client}
 use Rattle.client_phases.specs.declared.outcomes.Taken.{Taken}
 use Rattle.client_phases.specs.declared.outcomes.Taken.TheVariants.{Stale, Counted, Noted, Agreed}
@@ -60,17 +60,17 @@ module _ (s : System) (sound : IsSound s) (name : ℕ) (reply : Reply) (flies : 
   taken_sound : (client : Client) → IsClient s name client → IsSound (take s name reply (Some client))
   taken_sound client is =
       let new : Client = client_after client reply in
-      let history : Recorded = with_note s.history (answered_op reply) (taken client reply) in
+      let history : Recorded = with_note s.history (answered_op reply) (reply_result client reply) in
       let clients = finite.insert s.members.clients name new in
       let ruled = sound.ruled name client is in
       let waits : IsWaiting s.config.quorums new.state =
       subst (λ q. IsWaiting q new.state) (ap (λ (r : Rules). r.quorums) ruled)
       (heard_waits client.rules (subst IsLawful (sym (ap (λ (r : Rules). r.quorums) ruled)) sound.sound.lawful) client.state reply (subst (λ q. IsWaiting q client.state) (sym (ap (λ (r : Rules). r.quorums) ruled)) (sound.waiting name client is))) in
-      let limit : history.limit ≡ s.history.limit = noted_limit s.history (answered_op reply) (taken client reply) in
-      let counted : call_count history.rows ≡ call_count s.history.rows = noted_count s.history (answered_op reply) (taken client reply) in
+      let limit : history.limit ≡ s.history.limit = noted_limit s.history (answered_op reply) (reply_result client reply) in
+      let counted : call_count history.rows ≡ call_count s.history.rows = noted_count s.history (answered_op reply) (reply_result client reply) in
       let calls : call_count s.history.rows ≤ s.history.limit = sound.calls in
-      let rows : rows_after s.history.rows (op_in reply) (taken client reply) ≡ history.rows =
-      ap (λ o. rows_after s.history.rows o (taken client reply)) (same_ops reply) ∙ noted_rows s.history (answered_op reply) (taken client reply) in
+      let rows : rows_after s.history.rows (op_in reply) (reply_result client reply) ≡ history.rows =
+      ap (λ o. rows_after s.history.rows o (reply_result client reply)) (same_ops reply) ∙ noted_rows s.history (answered_op reply) (reply_result client reply) in
       turned_system s sound s.members.joined name new history (named_insert s.members sound.named name client new is) ruled waits (omega (arith, counted, calls, limit)) limit
       (subst (λ r. Sound s.config.quorums r (held_in s.nodes) (Flies s.pool.flights) (IsIn clients)) rows
       (hearing s.config.quorums s.history.rows (held_in s.nodes) (Flies s.pool.flights) (IsIn s.members.clients) (IsIn clients) name name client.rules client.state reply

@@ -9,11 +9,11 @@ use Rattle.recorder.specs.declared.row.Row.TheVariants.{Invoke, Note, Respond}
 use Rattle.world_steps.specs.Sound.{At, RowsSound, Invoked}
 
 -- the call that a row begins, and its client; where it begins none, those that are given
-abbrev begun : OpId → Option Row → OpId
-begun other None = other
-begun other (Some (Invoke op client key action)) = op
-begun other (Some (Note op tag)) = other
-begun other (Some (Respond op returned)) = other
+abbrev begun_call : OpId → Option Row → OpId
+begun_call other None = other
+begun_call other (Some (Invoke op client key action)) = op
+begun_call other (Some (Note op tag)) = other
+begun_call other (Some (Respond op returned)) = other
 
 abbrev beginner : ℕ → Option Row → ℕ
 beginner other None = other
@@ -39,7 +39,7 @@ found_by : (o : OpId) (c : ℕ) (l : List ℕ) (a : Action) (rows : List Row) (o
     → ((p d : ℕ) (key : List ℕ) (action : Action) → At rows p (Invoke op d key action) → caller_of rows op ≡ Some client)
     → (p d : ℕ) (key : List ℕ) (action : Action) → At (Invoke o c l a ∷ rows) p (Invoke op d key action) → cond b (Some c) (caller_of rows op) ≡ Some client
 found_by o c l a rows op client true e names later p d key action is = ap Some (names 0 c l a (ap (λ (x : OpId). Some (Invoke x c l a)) (same_op o op (eqb-true o.0 op.0 e))))
-found_by o c l a rows op client false e names later zero d key action is = absurd (eqb-false o.0 op.0 e (ap (λ (x : Option Row). (begun o x).0) is))
+found_by o c l a rows op client false e names later zero d key action is = absurd (eqb-false o.0 op.0 e (ap (λ (x : Option Row). (begun_call o x).0) is))
 found_by o c l a rows op client false e names later (suc p) d key action is = later p d key action is
 
 found : (rows : List Row) (op : OpId) (client : ℕ) → NamesOnly rows op client → (p d : ℕ) (key : List ℕ) (action : Action) → At rows p (Invoke op d key action) → caller_of rows op ≡ Some client

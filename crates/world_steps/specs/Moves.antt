@@ -8,7 +8,7 @@ use Rattle.tag.specs.declared.numbers.OpId.{OpId}
 use Rattle.replica.specs.declared.requests.Request.{Request}
 use Rattle.replica.specs.declared.replies.Reply.{Reply}
 use Rattle.client_phases.specs.Calls.{Chosen, answer_from}
-use Rattle.client_phases.specs.Clients.{MayTake, phase_of, request_of, taken}
+use Rattle.client_phases.specs.Clients.{MayTake, phase_of, request_of, reply_result}
 use Rattle.client_phases.specs.declared.clients.Client.{Client}
 use Rattle.client_phases.specs.declared.outcomes.Phase.TheVariants as phase
 use Rattle.client_phases.specs.declared.outcomes.Taken.{Taken}
@@ -67,7 +67,7 @@ pub record MayHear (s : System) (name : ℕ) (reply : Reply) : Type 0 where
   pub client : Client
   pub is : IsClient s name client
   pub takes : MayTake client reply
-  pub notes : MayNote s (answered_op reply) (taken client reply)
+  pub notes : MayNote s (answered_op reply) (reply_result client reply)
 
 abbrev pub MayArrive : System → Message → Type 0
 MayArrive s (ToReplica number request) = MayHandle s number request

@@ -11,7 +11,7 @@ use Rattle.replica.specs.declared.replies.Reply.{Reply}
 use Rattle.replica.specs.declared.replies.Reply.TheVariants.{Held, Kept}
 use Rattle.client_phases.specs.Calls.{answer_from}
 use Rattle.client_phases.specs.declared.clients.Client.{Client}
-use Rattle.client_phases.specs.Clients.{client_of, client_after, client_after_invoke, request_of, client_after_respond, client_after_stop, taken}
+use Rattle.client_phases.specs.Clients.{client_of, client_after, client_after_invoke, request_of, client_after_respond, client_after_stop, reply_result}
 use Rattle.client_phases.specs.declared.outcomes.Taken.{Taken}
 use Rattle.client_phases.specs.declared.outcomes.Taken.TheVariants.{Noted, Agreed}
 use Rattle.client_phases.specs.declared.states.State.{State}
@@ -98,7 +98,7 @@ with_note history op outcome = history
 -- a client takes a reply
 abbrev pub take : System → ℕ → Reply → Option Client → System
 take s name reply (Some client) =
-    record (turn s name (client_after client reply)) { history = with_note s.history (answered_op reply) (taken client reply) }
+    record (turn s name (client_after client reply)) { history = with_note s.history (answered_op reply) (reply_result client reply) }
 take s name reply None = s
 
 -- a message comes to whom it was sent
@@ -154,7 +154,7 @@ system_after s (step.StartReplica number) = set_up s number true (slice_get s.no
 -- ---- what a step answers, where nothing refuses it
 
 abbrev take_effect : Reply → Option Client → Option Effect
-take_effect reply (Some client) = Some (effect.Taken (taken client reply))
+take_effect reply (Some client) = Some (effect.Taken (reply_result client reply))
 take_effect reply None = None
 
 abbrev arrival_effect : System → Option Message → Option Effect

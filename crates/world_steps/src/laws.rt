@@ -83,7 +83,8 @@ pub fn further_steps_take_nothing_away()
     ensures joined { (config : Config) (steps later : List Step) (name : ℕ)
         → HasJoined (after config steps) name → HasJoined (after config (steps ++ later)) name }
     ensures held { (config : Config) (steps later : List Step) (number : ℕ) (key : List ℕ)
-        → IsAtMost (held_in (after config steps).nodes number key).tag (held_in (after config (steps ++ later)).nodes number key).tag }
+        → IsAtMost (held_in (after config steps).nodes number key).tag
+        (held_in (after config (steps ++ later)).nodes number key).tag }
     ensures rows { (config : Config) (steps later : List Step)
         → Grows (after config steps).history.rows (after config (steps ++ later)).history.rows }
 {}

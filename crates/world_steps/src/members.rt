@@ -6,7 +6,7 @@ ghost use Rattle.std.specs.Cmp.{and_per, nat_eq_equiv, on_per, partial_equiv_fro
 ghost use Rattle.std.specs.Cmp.Lexicographic.{lists_per, pointwise};
 ghost use Rattle.std.specs.Ordering.{eq_of_both, on};
 ghost use Rattle.client_phases.specs.contracts.clients.ClientPartialEq.TheImpl.Laws as client;
-ghost use Rattle.client_phases.specs.Clients.{MayTake, client_after, client_after_invoke, phase_of, client_after_respond, client_after_stop, taken};
+ghost use Rattle.client_phases.specs.Clients.{MayTake, client_after, client_after_invoke, phase_of, client_after_respond, client_after_stop, reply_result};
 ghost use Rattle.client_phases.specs.declared.clients.Client.{Client};
 ghost use Rattle.client_phases.specs.declared.outcomes.Phase.{Phase};
 ghost use Rattle.world_steps.specs.Clients.{with_client, with_member};

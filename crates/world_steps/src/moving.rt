@@ -5,7 +5,7 @@ ghost use Rattle.network.specs.declared.messages.Message.{Message};
 ghost use Rattle.recorder.specs.Histories.{MayFollow};
 ghost use Rattle.recorder.specs.Answers.{with_row};
 ghost use Rattle.recorder.specs.declared.row.Row.{Row};
-ghost use Rattle.client_phases.specs.Clients.{taken};
+ghost use Rattle.client_phases.specs.Clients.{reply_result};
 ghost use Rattle.client_phases.specs.declared.clients.Client.{Client};
 ghost use Rattle.world_steps.specs.Systems.{answered_op, arrive, lose, op_of, with_note};
 ghost use Rattle.world_steps.specs.Moves.{IsClient, MayAnswer, MayDeliver, MayHandle, MayHear, MayInvoke, MayMove, MayNote, MayRepeat, MayRespond, MaySend, MayStop, Moves};
@@ -171,7 +171,7 @@ impl System {
         requires { MayHear self.old name reply }
         ensures effect { IfOk result
             (λ effect. (client : Client) → IsClient self.old name client
-            → effect ≡ Effect.Taken (taken client reply)) }
+            → effect ≡ Effect.Taken (reply_result client reply)) }
         ensures ok { OnOk result (self.new ≡ arrive self.old (Message.ToClient name reply)) }
         ensures err { OnErr result (self.new ≡ self.old) }
     {
@@ -257,7 +257,7 @@ impl System {
     }
 
     /// Takes a step that nothing refuses. On `Memory` nothing changed.
-    pub(crate) fn moved(&mut self, step: Step) -> Result<Effect, Memory>
+    pub(crate) fn apply(&mut self, step: Step) -> Result<Effect, Memory>
         requires { MayMove self.old step }
         ensures { Moves self.old step result self.new }
     {

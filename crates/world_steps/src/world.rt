@@ -78,7 +78,7 @@ impl World {
         if let Some(refusal) = self.system.refusal(&step) {
             return Err(refusal);
         }
-        Ok(self.system.moved(step)?)
+        Ok(self.system.apply(step)?)
     }
 
     /// Why the step would be refused now, other than for memory.

@@ -1,5 +1,5 @@
 use Rattle.std.proofs.Common.{◌∙◌, ap}
-use Rattle.hall_turns.specs.Turns.{resting}
+use Rattle.hall_turns.specs.Turns.{view_at_rest}
 use Rattle.hall_turns.proofs.FreeTurns.{guest_recorded, opens}
 use Rattle.hall_turns.proofs.Turning.{recorded}
 use Rattle.hall_turns.proofs.free_pass.FreePass.open.Goals as goal
@@ -9,5 +9,5 @@ give_back-requires g c = opens c.args.config c.in_ok-hall.hall c.in_ok-door.door
 
 pub invariant_of-result : goal.invariant_of-result
 invariant_of-result g c =
-    guest_recorded c.give_back.new.self c.in_ok-hall.hall (c.give_back.ensures ∙ ap (λ y. resting y c.in_ok-hall.hall.world) c.in_ok-door.ensures)
+    guest_recorded c.give_back.new.self c.in_ok-hall.hall (c.give_back.ensures ∙ ap (λ y. view_at_rest y c.in_ok-hall.hall.world) c.in_ok-door.ensures)
     (recorded c.in_ok-hall.hall c.known.ensures.replay c.known.ensures.sound c.known.ensures.formed)

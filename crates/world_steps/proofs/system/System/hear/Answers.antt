@@ -1,7 +1,7 @@
 use Rattle.std.proofs.Common.{◌≡◌, ap, sym, subst, ◌∙◌}
 use Rattle.std.specs.Option.{option_copied}
 use Rattle.std.proofs.lemmas.Option.{same_Some}
-use Rattle.client_phases.specs.Clients.{taken}
+use Rattle.client_phases.specs.Clients.{reply_result}
 use Rattle.client_phases.specs.declared.clients.Client.{Client}
 use Rattle.world_steps.specs.Systems.{answered_op}
 use Rattle.world_steps.specs.Moves.{MayNote}
@@ -11,4 +11,4 @@ use Rattle.world_steps.proofs.system.System.hear.Goals as goal
 pub note_settled-requires : goal.note_settled-requires
 note_settled-requires c =
     let same : c.requires.client ≡ c.in-Some.client.now = same_Some _ _ (sym c.requires.is ∙ sym c.get.ensures ∙ ap option_copied c.in-Some.is) in
-    rw (c.answered_op.ensures, c.foresee-taken.ensures) (subst (λ (k : Client). MayNote c.args.self.now (answered_op c.args.reply) (taken k c.args.reply)) same c.requires.notes)
+    rw (c.answered_op.ensures, c.foresee-taken.ensures) (subst (λ (k : Client). MayNote c.args.self.now (answered_op c.args.reply) (reply_result k c.args.reply)) same c.requires.notes)

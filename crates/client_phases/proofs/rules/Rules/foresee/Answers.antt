@@ -6,7 +6,7 @@ use Rattle.client_phases.specs.States.{asking_outcome}
 use Rattle.client_phases.specs.declared.states.State.{State}
 use Rattle.client_phases.specs.declared.outcomes.Taken.{Taken}
 use Rattle.client_phases.proofs.Ends.{room_with, room_of, may_count, heard-held, counts-shown}
-use Rattle.client_phases.proofs.rules.Rules.foreseen.Goals as goal
+use Rattle.client_phases.proofs.rules.Rules.foresee.Goals as goal
 
 pub outcome-requires : goal.outcome-requires
 outcome-requires c =
