@@ -18,7 +18,7 @@ use Rattle.recorder.specs.declared.order.KeyOrder.{KeyOrder}
 use Rattle.file_format.specs.declared.fault.LineFault.{LineFault}
 use Rattle.file_format.specs.declared.fault.LineFault.TheVariants.{NoHeader, Version, Member, Range}
 use Rattle.file_format.specs.Members.{◌>>=◌, needed_member, in_range, text_at, number_at, numbers_at, op_of, client_of, key_of, value_of, tag_of}
-use Rattle.file_format.specs.Rows.{begun, written_in, action_of, invoke_in, note_in, answer_of, returned_of, respond_in, row_of, row_in}
+use Rattle.file_format.specs.Rows.{invocation_of, written_in, action_of, invoke_in, note_in, answer_of, returned_of, respond_in, row_of, row_in}
 use Rattle.file_format.specs.OrderLines.{calls_of, piece_in}
 use Rattle.file_format.specs.Headers.{header_of, header_in}
 use Rattle.file_format.specs.Says.{HasText, HasNumber, HasAction, reads, writes, HasAnswer, written, absent, answered, SaysInvoke, SaysNote, SaysRespond, SaysRow, SaysHeader, SaysPiece}
@@ -140,8 +140,8 @@ client_out d client here e =
       | inr high ↦ great_client client here (leb-false client 65535 high)
     ]
 
-begun_told : (d : Data) (call client : ℕ) (key name : List ℕ) (action : Action) → Members d call client key name → Valued d → Told (LacksInvokeMember d) (IsInvokeOutOfRange d) (begun call client key action)
-unfolding begun
+begun_told : (d : Data) (call client : ℕ) (key name : List ℕ) (action : Action) → Members d call client key name → Valued d → Told (LacksInvokeMember d) (IsInvokeOutOfRange d) (invocation_of call client key action)
+unfolding invocation_of
 begun_told d call client key name action m v =
     let L = LacksInvokeMember d in
     let O = IsInvokeOutOfRange d in

@@ -16,7 +16,7 @@ use Rattle.recorder.specs.declared.row.Row.TheVariants.{Invoke, Note, Respond}
 use Rattle.file_format.specs.declared.fault.LineFault.{LineFault}
 use Rattle.file_format.specs.declared.fault.LineFault.TheVariants.{Range}
 use Rattle.file_format.specs.Members.{◌>>=◌, needed_member, in_range, text_at, number_at, op_of, client_of, key_of, value_of, tag_of}
-use Rattle.file_format.specs.Rows.{begun, written_in, action_of, invoke_in, note_in, answer_of, returned_of, respond_in, row_of, row_in}
+use Rattle.file_format.specs.Rows.{invocation_of, written_in, action_of, invoke_in, note_in, answer_of, returned_of, respond_in, row_of, row_in}
 use Rattle.file_format.specs.Says.{HasText, HasValue, HasCall, HasAction, reads, writes, HasAnswer, written, absent, answered, SaysRow}
 
 pub after : {A B : Type 0} (r : Result A LineFault) (f : A → Result B LineFault) (y : B) → (r >>= f) ≡ Ok y → (x : A) × (r ≡ Ok x) × (f x ≡ Ok y)
@@ -98,7 +98,7 @@ client_back given client e =
     (w.1, omega (arith, w.1, leb-true 1 given b.0), omega (arith, w.1, leb-true given 65535 b.1))
 
 invoke_back : (d : Data) (row : Row) → HasText d (codes "row") (codes "invoke") → invoke_in d ≡ Ok row → SaysRow d row
-unfolding invoke_in begun
+unfolding invoke_in invocation_of
 invoke_back d row kind e =
     let call = after (needed_member (number_at (codes "call") d)) _ row e in
     let client = after (needed_member (number_at (codes "client") d)) _ row call.2 in
@@ -241,7 +241,7 @@ answer_there d (Value None) (absent here) = rw here refl
 answer_there d (Value (Some _)) (answered value v) = text_there (get (codes "value") d) value v.text v.short
 
 pub row_there : (d : Data) (row : Row) → SaysRow d row → row_in d ≡ Ok row
-unfolding row_in row_of invoke_in begun note_in respond_in
+unfolding row_in row_of invoke_in invocation_of note_in respond_in
 row_there d (Invoke op client key action) s =
     let does = action_there d action s.asks in
     rw s.kind (rw s.call.call (rw s.caller (rw s.subject (rw does.1 (rw does.2 (rw (op_there op s.call.range) (rw (client_there client s.least s.most) (rw (fits (is_key key) key s.named) refl))))))))

@@ -7,7 +7,7 @@ use Rattle.file_format.specs.declared.fault.LineFault.TheVariants.{NotJson, NoHe
 use Rattle.file_format.specs.Faults.{Stop}
 use Rattle.counted_devices.specs.declared.read_fault.Stop.TheVariants as stop
 use Rattle.file_format.specs.Members.{◌>>=◌, Gives, needed_member, in_range}
-use Rattle.file_format.specs.Rows.{begun, written_in, action_of, invoke_in, note_in, answer_of, returned_of, respond_in, row_of, row_in}
+use Rattle.file_format.specs.Rows.{invocation_of, written_in, action_of, invoke_in, note_in, answer_of, returned_of, respond_in, row_of, row_in}
 use Rattle.file_format.specs.OrderLines.{piece_in}
 use Rattle.file_format.specs.Headers.{header_of, header_in}
 use Rattle.file_format.specs.declared.file_header.FileHeader.{FileHeader}
@@ -43,9 +43,9 @@ choice false x y h k = k
 out : {X : Type 0} → Well {X = X} (Err Range)
 out = record { fine = tt }
 
-begun-well : (call client : ℕ) (key : List ℕ) (action : Action) → Well (begun call client key action)
-unfolding begun
-begun-well call client key action = search (bind, range, ok) depth 20
+invocation_of-well : (call client : ℕ) (key : List ℕ) (action : Action) → Well (invocation_of call client key action)
+unfolding invocation_of
+invocation_of-well call client key action = search (bind, range, ok) depth 20
 
 written-well : (d : Data) → Well (written_in d)
 unfolding written_in
@@ -57,7 +57,7 @@ action-well action d = search (choice, written-well, ok, out) depth 20
 
 invoke-well : (d : Data) → Well (invoke_in d)
 unfolding invoke_in
-invoke-well d = search (bind, need, action-well, begun-well) depth 20
+invoke-well d = search (bind, need, action-well, invocation_of-well) depth 20
 
 note-well : (d : Data) → Well (note_in d)
 unfolding note_in

@@ -13,8 +13,8 @@ use Rattle.file_format.specs.declared.fault.LineFault.TheVariants.{Member, Range
 use Rattle.file_format.specs.Members.{◌>>=◌, text_at, number_at, needed_member, op_of, client_of, key_of, value_of, tag_of}
 
 -- an invocation's row; `do` is one of two texts
-unfoldable pub begun : ℕ → ℕ → List ℕ → Action → Result Row LineFault
-begun call client key action = do
+unfoldable pub invocation_of : ℕ → ℕ → List ℕ → Action → Result Row LineFault
+invocation_of call client key action = do
   op ← op_of call
   name ← client_of client
   text ← key_of key
@@ -36,7 +36,7 @@ invoke_in d = do
   key ← needed_member (text_at (codes "key") d)
   name ← needed_member (text_at (codes "do") d)
   action ← action_of name d
-  begun call client key action
+  invocation_of call client key action
 
 unfoldable pub note_in : Data → Result Row LineFault
 note_in d = do

@@ -83,14 +83,16 @@ impl<'a> Document<'a> {
 
     /// The text that is the member of that name; without one the line has the fault `Member`.
     pub(crate) fn needed_text(&self, name: &str) -> Result<&str, Stop>
-        ensures { Gives (λ text. text.now) result (needed_member (text_at name.now (data_in self.now))) }
+        ensures { Gives (λ text. text.now) result
+            (needed_member (text_at name.now (data_in self.now))) }
     {
         self.text(name).ok_or(Stop::Fault(LineFault::Member))
     }
 
     /// The number that is the member of that name; without one the line has the fault `Member`.
     pub(crate) fn needed_number(&self, name: &str) -> Result<u64, Stop>
-        ensures { Gives (λ number. number) result (needed_member (number_at name.now (data_in self.now))) }
+        ensures { Gives (λ number. number) result
+            (needed_member (number_at name.now (data_in self.now))) }
     {
         self.number(name).ok_or(Stop::Fault(LineFault::Member))
     }

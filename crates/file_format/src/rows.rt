@@ -3,7 +3,7 @@ ghost use Rattle.std.specs.Prelude.{◌≡◌, codes, Some};
 ghost use Rattle.serde_json.specs.Find.{get};
 ghost use Rattle.file_format.specs.Documents.{data_in};
 ghost use Rattle.file_format.specs.Members.{Gives};
-ghost use Rattle.file_format.specs.Rows.{begun, written_in, action_of, invoke_in, note_in, answer_of, returned_of, respond_in, row_of, row_in};
+ghost use Rattle.file_format.specs.Rows.{invocation_of, written_in, action_of, invoke_in, note_in, answer_of, returned_of, respond_in, row_of, row_in};
 
 use crate::LineFault;
 use crate::document::{Document, Member};
@@ -13,9 +13,15 @@ use recorder::Row;
 use std::alloc::Global;
 use tag::{Action, Returned};
 
-#[tactic(auto, unfolding(crate::specs::Rows::begun))]
-fn begun(alloc: Global, call: u64, client: u64, key: &str, action: Action) -> Result<Row, Stop>
-    ensures { Gives (λ row. row) result (begun call client key.now action) }
+#[tactic(auto, unfolding(crate::specs::Rows::invocation_of))]
+fn invocation_of(
+    alloc: Global,
+    call: u64,
+    client: u64,
+    key: &str,
+    action: Action,
+) -> Result<Row, Stop>
+    ensures { Gives (λ row. row) result (invocation_of call client key.now action) }
 {
     let op = op_of(call)?;
     let client = client_of(client)?;
@@ -59,7 +65,7 @@ fn invoke_in(alloc: Global, document: &Document<'_>) -> Result<Row, Stop>
     let key = document.needed_text("key")?;
     let name = document.needed_text("do")?;
     let action = action_of(alloc, name, document)?;
-    begun(alloc, call, client, key, action)
+    invocation_of(alloc, call, client, key, action)
 }
 
 #[tactic(auto, unfolding(crate::specs::Rows::note_in))]
