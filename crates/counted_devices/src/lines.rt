@@ -10,7 +10,7 @@ use tag::Memory;
 const END: u8 = 10;
 
 /// How many bytes of lines are worth a chunk of their own.
-const PART: usize = 262_144;
+const CHUNK: usize = 262_144;
 
 /// Bytes as chunks of whole lines, each of which had its end, and a rest without one.
 #[derive(Debug, Drop)]
@@ -50,8 +50,8 @@ fn chunk_end(bytes: &[u8]) -> Option<usize>
     ensures { MatchOption result (HasNoEnd bytes.now)
         (λ i. (i < length bytes.now) × (slice_index bytes.now i ≡ 10)) }
 {
-    if bytes.len() > PART {
-        if let Some(end) = end_from(bytes, PART) {
+    if bytes.len() > CHUNK {
+        if let Some(end) = end_from(bytes, CHUNK) {
             return Some(end);
         }
     }

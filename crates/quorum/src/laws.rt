@@ -7,7 +7,8 @@ ghost use Rattle.quorum.specs.Sets.{IsAmong, IsMajority, Replicas};
 /// An ask quorum and a put quorum share a replica.
 pub fn quorums_share_a_replica()
     ensures { (quorums : Quorums) (asked put : Replicas)
-        → IsLawful quorums → IsAskQuorum quorums asked → IsPutQuorum quorums put → Share quorums asked put }
+        → IsLawful quorums → IsAskQuorum quorums asked → IsPutQuorum quorums put
+        → Share quorums asked put }
 {}
 
 /// Two majorities of the same replicas share one of them.
@@ -31,5 +32,6 @@ pub fn majorities_are_quorums()
 pub fn a_replica_brings_its_votes()
     ensures { (votes : List ℕ) (set : Replicas) (replica : ℕ)
         → replica < length votes → finite.contains set replica ≡ false
-        → votes_of votes (finite.insert set replica) ≡ votes_of votes set + slice_index votes replica }
+        → votes_of votes (finite.insert set replica)
+        ≡ votes_of votes set + slice_index votes replica }
 {}

@@ -1,5 +1,5 @@
 -- A row of halls: histories side by side, each of the keys that fall to it.
-use Rattle.std.specs.Prelude.{ℕ, ◌≡◌, ◌≤◌, ◌%◌, List, length, sum, sum_by, All, slice_get, Option, Some, None, Bool, true, false}
+use Rattle.std.specs.Prelude.{ℕ, ◌≡◌, ◌≤◌, ◌%◌, List, length, sum, sum_by, All, slice_get, Option, Some, None}
 use Rattle.quorum.specs.Quorums.{Quorums}
 use Rattle.recorder.specs.declared.row.Row.{Row}
 use Rattle.recorder.specs.declared.row.Row.TheVariants.{Invoke, Note, Respond}

@@ -1,5 +1,5 @@
 -- What a caller's calls come to.
-use Rattle.std.specs.Prelude.{ℕ, ◌≡◌, ◌≤◌, ◌+◌, ◌⊎◌, false, List, [], ◌∷◌, ◌++◌, Option, Some, None, length, slice_get}
+use Rattle.std.specs.Prelude.{ℕ, ◌≡◌, ◌≤◌, ◌+◌, ◌⊎◌, List, [], ◌∷◌, ◌++◌, Option, Some, None, length, slice_get}
 use Rattle.recorder.specs.declared.part.Response.{Response}
 use Rattle.node_threads.specs.Logs.{AreAnswered}
 use Rattle.node_threads.specs.Seats.{Seat}

@@ -1,5 +1,5 @@
 -- Laws of the workload.
-use Rattle.std.specs.Prelude.{ℕ, ◌≡◌, true}
+use Rattle.std.specs.Prelude.{◌≡◌, true}
 use Rattle.workload.specs.Turns.{key_number, writes}
 use Rattle.workload.specs.declared.turns.Turn.{Turn}
 

@@ -1,5 +1,5 @@
 -- How large a load may be.
-use Rattle.std.specs.Prelude.{ℕ, ◌≤◌}
+use Rattle.std.specs.Prelude.{◌≤◌}
 use Rattle.workload.specs.declared.load.LoadOptions.{LoadOptions}
 
 -- 1 to 16 callers of 1 to 10,000 calls each, on 1 to 8 keys, in phases of 1 to 10,000 rounds
