@@ -5,7 +5,7 @@ use Rattle.counted_devices.specs.Deliveries.{Delivers}
 use Rattle.history_file.specs.Deliveries.{ReadsAll}
 use Rattle.file_format.specs.HistoriesFormat.{histories_format, MakesHistories}
 use Rattle.cli.specs.Checks.{Stops}
-use Rattle.cli.specs.Justified.{Justifies, JustifiesHalls}
+use Rattle.cli.specs.Justifications.{Justifies, JustifiesHalls}
 use Rattle.cli.specs.Passages.{Passage, Writing}
 use Rattle.cli.specs.declared.status.Status.{Status}
 use Rattle.cli.specs.declared.status.Status.TheVariants.{Good, Refused, Usage, Format, Failed}

@@ -4,9 +4,9 @@ use Rattle.std.specs.Borrow.{Bor}
 use Rattle.tag.specs.declared.numbers.OpId.{OpId}
 use Rattle.certificate_check.specs.declared.verdict.Fault.{Fault}
 use Rattle.certificate_check.specs.declared.verdict.Verdict.{Verdict}
-use Rattle.cli.specs.Justified.{refusal_text}
+use Rattle.cli.specs.Justifications.{refusal_text}
 use Rattle.cli.specs.VerdictLines.{fault_text, line_text, verdict_text}
-use Rattle.cli.specs.declared.justifying.Unjustified.TheVariants as unjustified
+use Rattle.cli.specs.declared.noted_orders.Unjustified.TheVariants as unjustified
 
 regroup : (old p q r s : List ℕ) → (((old ++ p) ++ q) ++ r) ++ s ≡ old ++ (p ++ q ++ r ++ s)
 regroup old p q r s = simp append_assoc

@@ -7,8 +7,8 @@ use Rattle.recorder.specs.declared.order.KeyOrder.{KeyOrder}
 use Rattle.recorder.specs.Lists.{push_cases}
 use Rattle.parallel_keys.specs.Pairings.{KeyParts, all_parts}
 use Rattle.parallel_keys.specs.Fronts.{front_more}
-use Rattle.cli.specs.declared.justifying.Unjustified.{Unjustified}
-use Rattle.cli.specs.Justified.{KeyPart, AreJustified, IsFirstUnjustified, IsJustifiedOrder, IsUnjustified}
+use Rattle.cli.specs.declared.noted_orders.Unjustified.{Unjustified}
+use Rattle.cli.specs.Justifications.{KeyPart, AreJustified, IsFirstUnjustified, IsJustifiedOrder, IsUnjustified}
 
 -- the parts before and some of these have the orders, and the others are left
 pub record JustifiedSoFar (before parts left : List KeyPart) (orders : List KeyOrder) : Type 0 where

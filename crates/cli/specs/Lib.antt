@@ -1,7 +1,7 @@
 pub mod Checks
 pub mod Halts
 pub mod Judging
-pub mod Justified
+pub mod Justifications
 pub mod Passages
 pub mod Simulated
 pub mod Statuses

@@ -12,7 +12,7 @@ abd justify made.history > made.orders\n  \
 abd check made.history made.orders";
 
 /// Of the option `--workers`.
-pub const WORKERS: &str = "How many threads judge the keys, 1 to 16; the lines are the same";
+pub const WORKERS: &str = "How many threads check the orders, 1 to 16; the lines are the same";
 
 /// Of `abd check`.
 pub const CHECK: &str =

@@ -3,10 +3,10 @@ ghost use Rattle.std.specs.Prelude.{◌≡◌, ◌⊎◌, map, IfOk};
 ghost use Rattle.counted_devices.specs.Counts.{IsOneMore};
 ghost use Rattle.file_format.specs.Texts.{orders_text};
 ghost use Rattle.parallel_keys.specs.Pairings.{all_parts};
-ghost use Rattle.cli.specs.Justified.{Justifies, JustifiesParts, JustifiesHalls, Refuses, SendsOrders};
+ghost use Rattle.cli.specs.Justifications.{Justifies, JustifiesParts, JustifiesHalls, Refuses, SendsOrders};
 
 use crate::check::{Source, histories_in};
-use crate::justifying::{Unjustified, justified_orders};
+use crate::noted_orders::{Unjustified, checked_orders};
 use crate::status::{Failure, Status};
 use counted_devices::{CountedRead, CountedWrite, Counting, write_text};
 use file_format::write_orders;
@@ -89,7 +89,7 @@ fn justify_parts<W: CountedWrite, E: CountedWrite>(
     ensures failed { result ≡ Status.Failed
         → (out.new ≡ out.old) ⊎ IsOneMore (W.failures out.old) (W.failures out.new) }
 {
-    match justified_orders(alloc, parts) {
+    match checked_orders(alloc, parts) {
         Ok(orders) => send_orders(alloc, orders.as_slice(), out, errors),
         Err(refusal) => refuse(alloc, refusal, errors),
     }

@@ -46,7 +46,7 @@ fn check_words<'a>(alloc: Global) -> Result<clap::Command<'a>, AllocError>
         "For each key an order of its calls: an order file",
     );
     let check = clap::Command::new(alloc, "check")
-        .about("Judge, key by key, whether the orders show that the history is atomic")
+        .about("Check, key by key, whether the orders show that the history is atomic")
         .after_help(help::CHECK);
     check.arg(history)?.arg(orders)?.arg(workers_option(alloc))
 }

@@ -1,6 +1,6 @@
 use Rattle.std.proofs.lemmas.Result.{err_from_is_err_and}
 use Rattle.cli.proofs.Prefixes.{hall_justified, hall_unjustified}
-use Rattle.cli.proofs.justifying.justified_orders.Goals as goal
+use Rattle.cli.proofs.noted_orders.checked_orders.Goals as goal
 
 pub loop-own-preserved : goal.loop-own-preserved
 loop-own-preserved c =

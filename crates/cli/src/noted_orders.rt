@@ -1,7 +1,7 @@
 //! The orders that the notes of a history give its keys, each checked.
 ghost use Rattle.std.specs.Prelude.{◌≡◌, ◌++◌, List, map, IfOk, IfErr, OnOk};
 ghost use Rattle.parallel_keys.specs.Pairings.{all_parts};
-ghost use Rattle.cli.specs.Justified.{AreJustified, KeyPart, IsJustifiedOrder, IsUnjustified, IsFirstUnjustified, refusal_text, status_of_refusal};
+ghost use Rattle.cli.specs.Justifications.{AreJustified, KeyPart, IsJustifiedOrder, IsUnjustified, IsFirstUnjustified, refusal_text, status_of_refusal};
 
 use crate::status::Status;
 use crate::verdict_lines::{append, append_fault, append_number};
@@ -58,7 +58,7 @@ impl Unjustified<'_> {
 
 impl From<Memory> for Unjustified<'_> {
     ghost use Rattle.std.specs.Prelude.{◌≡◌};
-    ghost use Rattle.cli.specs.declared.justifying.Unjustified.TheVariants.{Memory};
+    ghost use Rattle.cli.specs.declared.noted_orders.Unjustified.TheVariants.{Memory};
 
     ghost from_gives = { λ _ e. e ≡ Memory };
 
@@ -69,7 +69,7 @@ impl From<Memory> for Unjustified<'_> {
 
 impl<'k, T: Drop> From<AllocFailed<T>> for Unjustified<'k> {
     ghost use Rattle.std.specs.Prelude.{◌≡◌};
-    ghost use Rattle.cli.specs.declared.justifying.Unjustified.TheVariants.{Memory};
+    ghost use Rattle.cli.specs.declared.noted_orders.Unjustified.TheVariants.{Memory};
 
     ghost from_gives = { λ _ e. e ≡ Memory };
 
@@ -79,7 +79,7 @@ impl<'k, T: Drop> From<AllocFailed<T>> for Unjustified<'k> {
 }
 
 /// The key's tag order, where it is an order of its calls.
-fn key_order<'k>(alloc: Global, key: &'k Key, part: &Part) -> Result<KeyOrder, Unjustified<'k>>
+fn checked_order<'k>(alloc: Global, key: &'k Key, part: &Part) -> Result<KeyOrder, Unjustified<'k>>
     ensures order { IfOk result (IsJustifiedOrder (key.now, part.now)) }
     ensures refused { IfErr result (IsUnjustified (key.now, part.now)) }
 {
@@ -110,7 +110,7 @@ fn add_orders<'k>(
         → IsFirstUnjustified (before ++ (parts.now ++ behind)) refusal) }
 {
     for entry in parts {
-        orders.push(key_order(alloc, &entry.0, &entry.1)?)?;
+        orders.push(checked_order(alloc, &entry.0, &entry.1)?)?;
     }
     Ok(())
 }
@@ -120,7 +120,7 @@ fn add_orders<'k>(
 ///
 /// It ends at the first key that has none, or whose tag order is no order of its calls; `Memory`
 /// comes only where a growth was refused.
-pub fn justified_orders<'k>(
+pub fn checked_orders<'k>(
     alloc: Global,
     parts: &'k [Parts],
 ) -> Result<Vec<KeyOrder>, Unjustified<'k>>

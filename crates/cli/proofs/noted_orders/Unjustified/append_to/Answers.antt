@@ -1,7 +1,7 @@
 use Rattle.std.proofs.Common.{List, ℕ, ◌++◌, ap, ◌∙◌}
 use Rattle.std.proofs.lemmas.Result.{on_ok_weaker}
 use Rattle.cli.proofs.LineSpelling.{memory_said, no_note_said, no_order_said}
-use Rattle.cli.proofs.justifying.Unjustified.append_to.Goals as goal
+use Rattle.cli.proofs.noted_orders.Unjustified.append_to.Goals as goal
 
 pub returns-in_ok-append_number-in-NoNote : goal.returns-in_ok-append_number-in-NoNote
 returns-in_ok-append_number-in-NoNote c =

@@ -17,8 +17,8 @@ use Rattle.parallel_keys.specs.Histories.{AreHallParts}
 use Rattle.parallel_keys.specs.Pairings.{KeyParts, all_parts}
 use Rattle.counted_devices.specs.Sendings.{Begins}
 use Rattle.file_format.specs.Texts.{orders_text}
-use Rattle.cli.specs.declared.justifying.Unjustified.{Unjustified}
-use Rattle.cli.specs.declared.justifying.Unjustified.TheVariants as unjustified
+use Rattle.cli.specs.declared.noted_orders.Unjustified.{Unjustified}
+use Rattle.cli.specs.declared.noted_orders.Unjustified.TheVariants as unjustified
 use Rattle.cli.specs.declared.status.Status.{Status}
 use Rattle.cli.specs.declared.status.Status.TheVariants as status
 use Rattle.cli.specs.Checks.{IsFaulty}
