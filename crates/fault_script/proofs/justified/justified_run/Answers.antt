@@ -1,4 +1,4 @@
-use Rattle.std.proofs.Common.{subst}
+use Rattle.std.proofs.Common.{rules, subst}
 use Rattle.recorder.specs.Histories.{Recorded}
 use Rattle.recorder.specs.Records.{IsPart}
 use Rattle.fault_script.proofs.justified.justified_run.Goals as goal
@@ -7,3 +7,6 @@ pub justified_orders-requires : goal.justified_orders-requires
 justified_orders-requires c = λ key part is.
     let h = c.into_history-history in
     h.ensures.parts key part (subst (λ (r : Recorded). IsPart r.rows key part) h.ensures.history is)
+
+pub returns-clause-history : goal.returns-clause-history
+returns-clause-history c = search rules

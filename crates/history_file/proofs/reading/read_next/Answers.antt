@@ -1,4 +1,4 @@
-use Rattle.std.proofs.Common.{ℕ, List, take, subst}
+use Rattle.std.proofs.Common.{rules, ℕ, List, take, subst}
 use Rattle.std.proofs.lemmas.Result.{err_from_is_err_and}
 use Rattle.history_file.specs.Ahead.{StandsAhead}
 use Rattle.history_file.specs.Batches.{IsBehind}
@@ -54,3 +54,6 @@ returns-in_ok-feed-in-Failure-clause-goes g c = λ start holds.
       Holds-device g.C.Contents.format g.C.Contents.Makes start left feed c.line.result (record { bytes = after.bytes; given = after.given; fact = c.in_ok-feed-in-Failure.ensures.settles after.bytes after.fact }) c.line.ensures,
       subst (λ b. IsBehind c.read_batch-batch.result.count b left (g.R.Counted.failures c.args.reader.now) (g.R.Counted.failures c.read_batch-batch.new.reader)) c.in-Failure.is c.read_batch-batch.ensures.behind,
     )
+
+pub returns-in-More-clause-end : goal.returns-in-More-clause-end
+returns-in-More-clause-end g c = search rules

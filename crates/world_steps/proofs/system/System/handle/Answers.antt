@@ -1,4 +1,4 @@
-use Rattle.std.proofs.Common.{◌≡◌, ◌-◌, List, sym, ◌∙◌, ap}
+use Rattle.std.proofs.Common.{rules, ◌≡◌, ◌-◌, List, sym, ◌∙◌, ap}
 use Rattle.std.specs.Prelude.{IsSome}
 use Rattle.std.proofs.lemmas.Result.{err_from_is_err_and}
 use Rattle.std.proofs.lemmas.Option.{slice_get_within}
@@ -34,3 +34,9 @@ returns-then-is_err-clause-err c =
     let found : IsSome c.unsend.result = c.unsend.ensures.some.1 once in
     let pool : c.unsend.new.self ≡ without_last after.pool = on_some c.unsend.result found c.unsend.ensures.after in
     unsent_system s after message c.handle-in-Put.new.self c.unsend.new.self sent nodes pool c.post-in-Put.ensures.bag
+
+pub unreachable-requires : goal.unreachable-requires
+unreachable-requires c = search rules
+
+pub returns-clause-ok : goal.returns-clause-ok
+returns-clause-ok c = search rules
