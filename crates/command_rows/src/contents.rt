@@ -43,6 +43,34 @@ fn push_written(text: &mut String, bytes: &[u8], written: &[u8]) -> Result<(), A
     push_bytes(text, written)
 }
 
+/// The bytes that are written of a history.
+fn written_history(alloc: Global, history: &History) -> Vec<u8> {
+    let mut writer = Counting::new(Bounded::new(alloc, AMPLE));
+    let _ = write_history(alloc, history, &mut writer);
+    writer.into_inner().taken
+}
+
+/// Whether the bytes are the text that is made of the history.
+fn is_text_of(alloc: Global, history: &History, written: &[u8]) -> bool {
+    match history_text(alloc, history) {
+        Ok(made) => made.as_slice() == written,
+        Err(_) => false,
+    }
+}
+
+/// Whether a history with those rows is read from the bytes.
+fn has_rows(
+    rt: &(impl Threads + Sync),
+    alloc: Global,
+    written: &[u8],
+    rows: &str,
+) -> Result<bool, AllocError> {
+    match read_history(rt, alloc, &mut whole(written)) {
+        Ok(again) => Ok(rows_said(alloc, again.rows())?.as_str() == rows),
+        Err(_) => Ok(false),
+    }
+}
+
 fn push_history(
     text: &mut String,
     rt: &(impl Threads + Sync),
@@ -52,18 +80,15 @@ fn push_history(
     let alloc = *text.allocator();
     let rows = rows_said(alloc, history.rows())?;
     text.push_str(rows.as_str())?;
-    let mut writer = Counting::new(Bounded::new(alloc, AMPLE));
-    let _ = write_history(alloc, history, &mut writer);
-    let written = writer.into_inner().taken;
+    let written = written_history(alloc, history);
     push_written(text, bytes, written.as_slice())?;
-    match history_text(alloc, history) {
-        Ok(made) if made == written => {}
-        _ => text.push_str("WRITERS DIFFER\n")?,
+    if !is_text_of(alloc, history, written.as_slice()) {
+        text.push_str("WRITERS DIFFER\n")?;
     }
-    match read_history(rt, alloc, &mut whole(written.as_slice())) {
-        Ok(again) if rows_said(alloc, again.rows())? == rows => Ok(()),
-        _ => text.push_str("READ AGAIN IT DIFFERS\n"),
+    if !has_rows(rt, alloc, written.as_slice(), rows.as_str())? {
+        text.push_str("READ AGAIN IT DIFFERS\n")?;
     }
+    Ok(())
 }
 
 /// The history written with each room from none to that of its text.

@@ -244,6 +244,21 @@ fn fed_said(
     }
 }
 
+/// What a feed of a history says of a line as its next piece.
+fn fed_history_line(
+    rt: &(impl Threads + Sync),
+    alloc: Global,
+    feed: &mut HistoryFeed,
+    line: &str,
+) -> Result<String, AllocError> {
+    let piece = bytes_of(alloc, line)?;
+    if feed.fed() >= MOST_FED || piece.len() as u64 >= MOST_FED {
+        return Ok(String::new(alloc));
+    }
+    let fed = feed.feed(rt, piece.as_slice());
+    fed_said(alloc, fed, feed.fed(), feed.line())
+}
+
 /// A feed of a history whose pieces are the lines.
 pub fn feed_history_row(
     rt: &(impl Threads + Sync),
@@ -253,15 +268,28 @@ pub fn feed_history_row(
     let mut feed = HistoryFeed::new(alloc);
     let mut text = String::new(alloc);
     for line in lines.lines() {
-        let piece = bytes_of(alloc, line)?;
-        if feed.fed() < MOST_FED && (piece.len() as u64) < MOST_FED {
-            let fed = feed.feed(rt, piece.as_slice());
-            text.push_str(fed_said(alloc, fed, feed.fed(), feed.line())?.as_str())?;
-        }
+        let said = fed_history_line(rt, alloc, &mut feed, line)?;
+        text.push_str(said.as_str())?;
     }
-    text.push_str(history_said(alloc, &feed.finish(rt))?.as_str())?;
+    let said = history_said(alloc, &feed.finish(rt))?;
+    text.push_str(said.as_str())?;
     text.push('\n')?;
     Ok(text)
+}
+
+/// What a feed of orders says of a line as its next piece.
+fn fed_orders_line(
+    rt: &(impl Threads + Sync),
+    alloc: Global,
+    feed: &mut OrderFeed,
+    line: &str,
+) -> Result<String, AllocError> {
+    let piece = bytes_of(alloc, line)?;
+    if feed.fed() >= MOST_FED || piece.len() as u64 >= MOST_FED {
+        return Ok(String::new(alloc));
+    }
+    let fed = feed.feed(rt, piece.as_slice());
+    fed_said(alloc, fed, feed.fed(), feed.line())
 }
 
 /// A feed of orders whose pieces are the lines.
@@ -273,13 +301,11 @@ pub fn feed_orders_row(
     let mut feed = OrderFeed::new(alloc);
     let mut text = String::new(alloc);
     for line in lines.lines() {
-        let piece = bytes_of(alloc, line)?;
-        if feed.fed() < MOST_FED && (piece.len() as u64) < MOST_FED {
-            let fed = feed.feed(rt, piece.as_slice());
-            text.push_str(fed_said(alloc, fed, feed.fed(), feed.line())?.as_str())?;
-        }
+        let said = fed_orders_line(rt, alloc, &mut feed, line)?;
+        text.push_str(said.as_str())?;
     }
-    text.push_str(orders_said(alloc, &feed.finish(rt))?.as_str())?;
+    let said = orders_said(alloc, &feed.finish(rt))?;
+    text.push_str(said.as_str())?;
     text.push('\n')?;
     Ok(text)
 }
