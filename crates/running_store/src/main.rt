@@ -12,7 +12,7 @@ use std::sync::Wait;
 use std::sync::atomic::{AtomicU64, Ordering};
 use std::thread;
 use std::thread::Threads;
-use tag::{Action, ClientId, Key, Value};
+use tag::{Action, ClientId, Key, OpId, Value};
 use world_steps::Config;
 
 /// Loses every fifth parcel.
@@ -138,7 +138,17 @@ where
     Some((one, two, closed))
 }
 
-/// A line for each key of a hall: how many calls its order has, and the verdict on it.
+/// The calls of an order by their numbers, a blank before each.
+fn numbers(alloc: Global, order: &[OpId]) -> Option<String> {
+    let mut text = String::new(alloc);
+    for call in order {
+        let number = format!(in alloc; " {}", call.0).ok()?;
+        text.push_str(number.as_str()).ok()?;
+    }
+    Some(text)
+}
+
+/// A line for each key of a hall: the order of its calls, and the verdict on it.
 fn verdicts(alloc: Global, hall: &ClosedHall) -> Option<String> {
     let parts = hall.history.parts().ok()?;
     let mut lines = String::new(alloc);
@@ -146,8 +156,8 @@ fn verdicts(alloc: Global, hall: &ClosedHall) -> Option<String> {
         let order = key_order.order.as_slice();
         let part = parts.get(&key_order.key).ok()??;
         let verdict = check_part(alloc, part, order).ok()?;
-        let (name, count) = (key_order.key.as_str(), order.len());
-        let line = format!(in alloc; "{name}, an order of {count} calls: {verdict}\n").ok()?;
+        let (name, calls) = (key_order.key.as_str(), numbers(alloc, order)?);
+        let line = format!(in alloc; "{name}:{}: {verdict}\n", calls.as_str()).ok()?;
         lines.push_str(line.as_str()).ok()?;
     }
     Some(lines)

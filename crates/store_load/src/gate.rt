@@ -3,6 +3,7 @@ ghost use Rattle.std.specs.Prelude.{◌≡◌};
 ghost use Rattle.store_load.specs.Passages.{is_hit, passage_of};
 
 use node_threads::{Gate, Passage, Place};
+use std::marker::Model;
 use std::sync::atomic::{AtomicU64, Ordering};
 
 /// Whether the number is a multiple of the other, which isn't 0.
@@ -48,6 +49,14 @@ pub struct CountingGate<L> {
     double: u64,
     parcels: AtomicU64,
     watch: L,
+}
+
+impl<L> Model for CountingGate<L> {
+    ghost use Rattle.store_load.specs.Passages.{Counted};
+
+    ghost Value = { Counted };
+
+    ghost view = { λ gate. record { drop = gate.drop; double = gate.double } };
 }
 
 impl<L: Watch> CountingGate<L> {
