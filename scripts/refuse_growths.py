@@ -4,7 +4,7 @@ Runs built programs with the library before them that refuses one growth, the fi
 
 - abd: a check, a justify and a simulate of an example. With a refusal a run has the very answer of a run without one, or status 4,
   nothing on standard output and one line on standard error, which names memory and a line of the file, or the number behind
-  its last where all lines were read.
+  its last where all lines were read. The first line that is named is line 1, and a later growth never names an earlier line.
 - the row programs: each row alone. What is said of it is what is expected, up to a line that names memory, or a step that the program
   couldn't make for want of it (with what such a command wrote before its message, at most three lines), or to the program's end.
 - growth_tests and parallel_tests: each test of a refused growth. It passes (it calls again after a refused growth, and compares whole worlds, pools, replicas, clients and
@@ -77,7 +77,8 @@ def commands(library, top):
     folder = f"{top}/examples"
     runs = Runs(library, f"{top}/crates/abd/out/abd", folder)
     for words in (["check", "two_calls.history", "two_calls.orders"], ["justify", "new_then_old.history"], ["simulate", "new_then_old.script"]):
-        named = set()
+        # each file that was named, and its lines, as the refused growth came later and later
+        named = {}
 
         def judge(at, status, out, errors):
             found = re.fullmatch(r"abd: (?:(\S+): line (\d+): (?:fault 14|script fault 8) memory|no memory)\n", errors)
@@ -86,10 +87,16 @@ def commands(library, top):
             if found[1]:
                 if found[1] not in words or not 1 <= int(found[2]) <= lines_of(f"{folder}/{found[1]}") + 1:
                     raise Wrong(f"abd {' '.join(words)}, growth {at}: no such line: {errors!r}")
-                named.add((found[1], int(found[2])))
+                lines = named.setdefault(found[1], [])
+                lines.append(int(found[2]))
+                if lines != sorted(lines) or list(named)[-1] != found[1]:
+                    raise Wrong(f"abd {' '.join(words)}, growth {at}: a later growth names an earlier line: {errors!r}")
 
         count, same, _ = runs.go_over(words, judge, ALL)
-        where = ", ".join(f"{file} {sorted(line for it, line in named if it == file)}" for file in sorted({it for it, _ in named}))
+        for file, lines in named.items():
+            if lines[0] != 1:
+                raise Wrong(f"abd {' '.join(words)}: the first line of {file} that is named is {lines[0]}")
+        where = ", ".join(f"{file} {sorted(set(lines))}" for file, lines in named.items())
         print(f"abd {' '.join(words)}: {count} growths, the right answer all the same at {same} of them, else status 4; lines named: {where}", flush=True)
 
 
