@@ -20,6 +20,7 @@ use Rattle.node_threads.proofs.Logs.{answers_last, begun_entry, ended_entry, log
 pub record HasBegun (old new : Seen) (earlier : List Entry) (entry : Entry) : Type 0 where
   pub client : new.client ≡ old.client
   pub grown : Grows old.rows new.rows
+  pub recorded : AreRecorded new.rows
   pub log : IsLog new.rows old.client (earlier ++ entry ∷ [])
 
 pub begins : (hall : ℕ) (old new : Seen) (key : List ℕ) (action : Action) (op : OpId) (place : ℕ) (log : List Entry) → IsLog old.rows old.client log → BeginsCall old key action op place new → HasBegun old new log (begun_entry hall op key action place)
@@ -33,6 +34,7 @@ begins hall old new key action op place log is call =
     record {
       client = ap (λ (s : Seen). s.client) added.is;
       grown = grown_then old.rows added.before new.rows added.others.grown (Invoke op old.client key action ∷ [], rows);
+      recorded = call.recorded;
       log = subst (λ (y : List Row × ℕ). IsLog y.0 old.client (log ++ begun_entry hall op key action y.1 ∷ [])) (λ i. (sym rows i, added.at i)) after;
     }
 
@@ -40,6 +42,7 @@ pub still_begun : (old mid new : Seen) (log : List Entry) (entry : Entry) → Ha
 still_begun old mid new log entry begun kept = record {
   client = kept.client ∙ begun.client;
   grown = grown_then old.rows mid.rows new.rows begun.grown kept.grown;
+  recorded = kept.recorded begun.recorded;
   log = subst (λ c. IsLog new.rows c (log ++ entry ∷ [])) (kept.client ∙ begun.client) (kept.log (log ++ entry ∷ []) (subst (λ c. IsLog mid.rows c (log ++ entry ∷ [])) (sym begun.client) begun.log));
 }
 
@@ -47,6 +50,7 @@ still_begun old mid new log entry begun kept = record {
 pub record HasEnded (old new : Seen) (earlier : List Entry) (entry : Entry) (op : OpId) (returned : Returned) (place : ℕ) : Type 0 where
   pub client : new.client ≡ old.client
   pub grown : Grows old.rows new.rows
+  pub recorded : AreRecorded new.rows
   pub number : entry.op ≡ op
   pub log : IsLog new.rows old.client (earlier ++ ended_entry entry place returned ∷ [])
   pub ordered : entry.invoked < place
@@ -70,6 +74,7 @@ ends old mid new log entry op returned place begun pending answered call =
     record {
       client = ap (λ (s : Seen). s.client) added.is ∙ kept.client;
       grown = grown_then old.rows call.middle.rows new.rows kept.grown (grown_then call.middle.rows added.before new.rows added.others.grown (Respond op returned ∷ [], rows));
+      recorded = call.recorded;
       number = number;
       log = subst (λ (y : List Row × ℕ × ℕ). IsLog y.0 y.1 (log ++ ended_entry entry y.2 returned ∷ [])) (λ i. (sym rows i, kept.client i, added.at i)) after;
       ordered = subst (λ n. entry.invoked < n) added.at (within added.before entry.invoked _ (before.each (length log) entry (pushed log entry)).begun);

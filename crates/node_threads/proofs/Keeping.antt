@@ -18,12 +18,13 @@ pub grown_not : (a : List Row) → Grows a a
 grown_not a = ([], sym (append-nil a))
 
 pub keeps_same : (s : Seen) → KeepsLog s s
-keeps_same s = record { client = refl; grown = grown_not s.rows; log = λ log is. is }
+keeps_same s = record { client = refl; grown = grown_not s.rows; recorded = λ r. r; log = λ log is. is }
 
 pub keeps_then : (a b c : Seen) → KeepsLog a b → KeepsLog b c → KeepsLog a c
 keeps_then a b c x y = record {
   client = y.client ∙ x.client;
   grown = grown_then a.rows b.rows c.rows x.grown y.grown;
+  recorded = λ r. y.recorded (x.recorded r);
   log = λ log is. y.log log (x.log log is);
 }
 
@@ -31,6 +32,7 @@ pub keeps_looked : (old new : Seen) → Looked old new → AreRecorded new.rows 
 keeps_looked old new looked recorded = record {
   client = looked.client;
   grown = looked.others.grown;
+  recorded = λ _. recorded;
   log = λ log is. subst (λ c. IsLog new.rows c log) (sym looked.client) (log_grown old.client old.rows new.rows new.rows (rows_sound new.rows recorded) (grown_not new.rows) looked.others log is);
 }
 
@@ -41,6 +43,7 @@ keeps_noted old new op tag place added recorded =
     record {
       client = ap (λ (s : Seen). s.client) added.is;
       grown = grown_then old.rows added.before new.rows added.others.grown within;
+      recorded = λ _. recorded;
       log = λ log is. subst (λ (s : Seen). IsLog s.rows s.client log) (sym added.is)
           (log_noted old.client added.before op tag log (log_grown old.client old.rows added.before new.rows (rows_sound new.rows recorded) within added.others log is));
     }

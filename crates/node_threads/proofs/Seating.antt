@@ -1,6 +1,6 @@
 -- Seats after a call.
-use Rattle.std.proofs.Common.{◌≡◌, ◌≢◌, ◌<◌, ◌≤◌, ◌+◌, ◌⊎◌, ℕ, zero, suc, Bool, true, false, cond, true≢false, List, [], ◌∷◌, ◌++◌, Some, None, length, length-set, slice_get, slice_set, unwrap_or, refl, sym, ap, ◌∙◌, subst, inl, inr, append-nil, arith}
-use Rattle.std.specs.Prelude.{◌==◌}
+use Rattle.std.proofs.Common.{◌≡◌, ◌≢◌, ◌<◌, ◌≤◌, ◌+◌, ◌⊎◌, ℕ, zero, suc, Bool, true, false, cond, true≢false, Result, Ok, Err, List, [], ◌∷◌, ◌++◌, Some, None, length, length-set, slice_get, slice_set, unwrap_or, refl, sym, ap, ◌∙◌, subst, inl, inr, append-nil, arith}
+use Rattle.std.specs.Prelude.{◌==◌, IfErr, OnErr}
 use Rattle.std.proofs.lemmas.Bool.Decides.{nat_tests}
 use Rattle.std.proofs.lemmas.List.Elements.{filter-append}
 use Rattle.tag.specs.declared.actions.Action.{Action}
@@ -8,15 +8,19 @@ use Rattle.tag.specs.declared.actions.Returned.{Returned}
 use Rattle.tag.specs.declared.numbers.OpId.{OpId}
 use Rattle.recorder.specs.declared.part.Response.{Response}
 use Rattle.recorder.specs.declared.row.Row.TheVariants.{Respond}
-use Rattle.hall_turns.specs.Turns.{HasNoCall, Seen, SeesStopped}
+use Rattle.world_steps.specs.Lasting.{Grows}
+use Rattle.hall_turns.specs.Turns.{AreRecorded, HasNoCall, Seen, SeesStopped}
 use Rattle.node_threads.specs.declared.entry.Entry.{Entry}
+use Rattle.node_threads.specs.declared.errors.CallError.{CallError}
+use Rattle.node_threads.specs.declared.errors.CallError.TheVariants as fault
 use Rattle.node_threads.specs.declared.seat.Answer.{Answer}
-use Rattle.node_threads.specs.Answers.{HasFailed, IsAnswered}
-use Rattle.node_threads.specs.Calls.{BeginsCall, EndsCall, KeepsLog}
+use Rattle.node_threads.specs.Answers.{FailsWith, HasFailed, IsAnswered}
+use Rattle.node_threads.specs.Calls.{BeginsCall, EndsCall, KeepsLog, MayRefuse, MayStay}
 use Rattle.node_threads.specs.Receipts.{Receipt}
 use Rattle.node_threads.specs.Logs.{AreAnswered, IsLog, of_hall}
-use Rattle.node_threads.specs.Seats.{AreFresh, EndsWith, HasMet, IsBelow, IsOwnPass, IsSeat, Seat, greater, seen_in, value_of}
+use Rattle.node_threads.specs.Seats.{AreFresh, AreZero, DidNotBegin, EndsWith, HasMet, HaveGrown, IsBelow, IsFresh, IsOwnPass, IsSeat, LeavesPending, Seat, greater, seen_in, value_of}
 use Rattle.node_threads.proofs.Answering.{HasBegun, HasEnded, begins, ends, still_begun}
+use Rattle.node_threads.proofs.Keeping.{grown_not}
 use Rattle.node_threads.proofs.Lists.{after_push, none_some, same_some}
 use Rattle.node_threads.proofs.Logs.{begun_entry, ended_entry}
 
@@ -63,15 +67,15 @@ hall_answered hall log answered k entry at = let there = from_hall hall log k en
 abbrev pub with_entry : Seat → ℕ → Entry → Seen → ℕ → Bool → Seat
 with_entry s hall entry after place spent = record s { is_spent = spent; log = s.log ++ entry ∷ []; passes = slice_set s.passes hall after; seen = slice_set s.seen hall place }
 
-own_after : (s : Seat) (hall : ℕ) (entry : Entry) (after : Seen) (place : ℕ) (spent : Bool) → IsSeat s → entry.hall ≡ hall → after.client ≡ s.client → IsLog after.rows s.client (of_hall hall s.log ++ entry ∷ [])
+own_after : (s : Seat) (hall : ℕ) (entry : Entry) (after : Seen) (place : ℕ) (spent : Bool) → IsSeat s → entry.hall ≡ hall → after.client ≡ s.client → AreRecorded after.rows → IsLog after.rows s.client (of_hall hall s.log ++ entry ∷ [])
     → (k : ℕ) (pass : Seen) → slice_get (slice_set s.passes hall after) k ≡ Some pass → IsOwnPass (with_entry s hall entry after place spent) k pass
-own_after s hall entry after place spent is in_hall client log k pass at = elim (set_cases s.passes hall after k pass at) [
+own_after s hall entry after place spent is in_hall client recorded log k pass at = elim (set_cases s.passes hall after k pass at) [
   | inl here ↦
       let whole : IsLog after.rows s.client (of_hall hall (s.log ++ entry ∷ [])) = subst (IsLog after.rows s.client) (sym (hall_more hall s.log entry in_hall)) log in
-      subst (λ (y : ℕ × Seen). IsOwnPass (with_entry s hall entry after place spent) y.0 y.1) (λ i. (sym here.0 i, here.1 i)) (record { client = client; log = whole })
+      subst (λ (y : ℕ × Seen). IsOwnPass (with_entry s hall entry after place spent) y.0 y.1) (λ i. (sym here.0 i, here.1 i)) (record { client = client; recorded = recorded; log = whole })
   | inr other ↦
       let old = is.own k pass other.1 in
-      record { client = old.client; log = subst (IsLog pass.rows s.client) (sym (hall_same hall k s.log entry in_hall other.0)) old.log }
+      record { client = old.client; recorded = old.recorded; log = subst (IsLog pass.rows s.client) (sym (hall_same hall k s.log entry in_hall other.0)) old.log }
 ]
 
 below_after : (s : Seat) (hall : ℕ) (entry : Entry) (old place : ℕ) → IsSeat s → entry.hall ≡ hall → slice_get s.seen hall ≡ Some old → old ≤ place → IsBelow place entry
@@ -97,8 +101,8 @@ kept_seat s hall old new is there kept = record {
         let was = is.own hall old there in
         let client : new.client ≡ s.client = kept.client ∙ was.client in
         let log : IsLog new.rows s.client (of_hall hall s.log) = subst (λ c. IsLog new.rows c (of_hall hall s.log)) client (kept.log (of_hall hall s.log) (subst (λ c. IsLog old.rows c (of_hall hall s.log)) (sym was.client) was.log)) in
-        subst (λ (y : ℕ × Seen). IsOwnPass (record s { passes = slice_set s.passes hall new }) y.0 y.1) (λ i. (sym here.0 i, here.1 i)) (record { client = client; log = log })
-    | inr other ↦ let was = is.own k pass other.1 in record { client = was.client; log = was.log }
+        subst (λ (y : ℕ × Seen). IsOwnPass (record s { passes = slice_set s.passes hall new }) y.0 y.1) (λ i. (sym here.0 i, here.1 i)) (record { client = client; recorded = kept.recorded was.recorded; log = log })
+    | inr other ↦ let was = is.own k pass other.1 in record { client = was.client; recorded = was.recorded; log = was.log }
   ];
   answered = is.answered;
   below = is.below;
@@ -110,7 +114,7 @@ pending_seat s hall old new entry place is there seen later in_hall pending begu
     let was = is.own hall old there in
     record {
       halls = length-set s.seen hall (entry.invoked + 1) ∙ is.halls ∙ sym (length-set s.passes hall new);
-      own = λ k pass at. own_after s hall entry new (entry.invoked + 1) true is in_hall (begun.client ∙ was.client) (subst (λ c. IsLog new.rows c (of_hall hall s.log ++ entry ∷ [])) was.client begun.log) k pass at;
+      own = λ k pass at. own_after s hall entry new (entry.invoked + 1) true is in_hall (begun.client ∙ was.client) begun.recorded (subst (λ c. IsLog new.rows c (of_hall hall s.log ++ entry ∷ [])) was.client begun.log) k pass at;
       answered = λ (no : true ≡ false). absurd (true≢false no);
       below = λ k now i e at e_at. below_after s hall entry place (entry.invoked + 1) is in_hall seen (omega arith) (record { invoked = omega arith; answered = λ response r. none_some (sym pending ∙ r) }) k now i e at e_at;
     }
@@ -123,7 +127,7 @@ answered_seat s hall old new entry op returned at_place place is unspent there s
     let done = ended_entry entry at_place returned in
     record {
       halls = length-set s.seen hall (at_place + 1) ∙ is.halls ∙ sym (length-set s.passes hall new);
-      own = λ k pass at. own_after s hall done new (at_place + 1) false is in_hall (ended.client ∙ was.client) (subst (λ c. IsLog new.rows c (of_hall hall s.log ++ done ∷ [])) was.client ended.log) k pass at;
+      own = λ k pass at. own_after s hall done new (at_place + 1) false is in_hall (ended.client ∙ was.client) ended.recorded (subst (λ c. IsLog new.rows c (of_hall hall s.log ++ done ∷ [])) was.client ended.log) k pass at;
       answered = λ _ k e at. elim (after_push s.log done k e at) [
         | inl old_one ↦ is.answered unspent k e old_one
         | inr new_one ↦ (record { place = at_place; returned = returned }, ap (λ (x : Entry). x.response) (sym new_one.1))
@@ -131,6 +135,58 @@ answered_seat s hall old new entry op returned at_place place is unspent there s
       below = λ k now i e at e_at. below_after s hall done place (at_place + 1) is in_hall seen (omega arith)
           (record { invoked = omega arith; answered = λ response r. (let same : ◌≡◌ {A = Response} (record { place = at_place; returned = returned }) response = same_some _ _ r in let here : at_place ≡ response.place = ap (λ (x : Response). x.place) same in omega arith) }) k now i e at e_at;
     }
+
+-- ---- a call that didn't begin
+
+grown_none : (passes : List Seen) → HaveGrown passes passes
+grown_none passes hall before at = (before, at, grown_not before.rows)
+
+grown_one : (passes : List Seen) (hall : ℕ) (old new : Seen) → slice_get passes hall ≡ Some old → Grows old.rows new.rows → HaveGrown passes (slice_set passes hall new)
+grown_one [] hall old new there grown k before at = none_some at
+grown_one (x ∷ xs) zero old new there grown zero before at = (new, refl, subst (λ (s : Seen). Grows s.rows new.rows) (same_some old before (sym there ∙ at)) grown)
+grown_one (x ∷ xs) zero old new there grown (suc k) before at = (before, at, grown_not before.rows)
+grown_one (x ∷ xs) (suc hall) old new there grown zero before at = (before, at, grown_not before.rows)
+grown_one (x ∷ xs) (suc hall) old new there grown (suc k) before at = grown_one xs hall old new there grown k before at
+
+pub unbegun : (s : Seat) → DidNotBegin s s
+unbegun s = record { store = refl; client = refl; is_spent = refl; log = refl; seen = refl; grown = grown_none s.passes }
+
+-- the log is the same list
+pub unbegun_log : (s : Seat) (log : List Entry) → log ≡ s.log → DidNotBegin s (record { store = s.store; client = s.client; is_spent = s.is_spent; log = log; passes = s.passes; seen = s.seen })
+unbegun_log s log same = record { store = refl; client = refl; is_spent = refl; log = same; seen = refl; grown = grown_none s.passes }
+
+-- the pass of one hall saw more
+pub unbegun_pass : (s : Seat) (log : List Entry) (at : ℕ) (old new : Seen) → log ≡ s.log → slice_get s.passes at ≡ Some old → KeepsLog old new
+    → DidNotBegin s (record { store = s.store; client = s.client; is_spent = s.is_spent; log = log; passes = slice_set s.passes at new; seen = s.seen })
+unbegun_pass s log at old new same there kept = record { store = refl; client = refl; is_spent = refl; log = same; seen = refl; grown = grown_one s.passes at old new there kept.grown }
+
+-- ---- what an error says
+
+pub fails_unbegun : (error : CallError) (old : Seat) (hall : ℕ) (key : List ℕ) (action : Action) (new : Seat) → MayRefuse error → DidNotBegin old new → FailsWith error old hall key action new
+fails_unbegun fault.Unavailable old hall key action new may is = absurd may
+fails_unbegun fault.SeatSpent old hall key action new may is = absurd may
+fails_unbegun fault.Foreign old hall key action new may is = is
+fails_unbegun fault.Full old hall key action new may is = inl is
+fails_unbegun fault.Memory old hall key action new may is = inl is
+
+pub fails_pending : (error : CallError) (old : Seat) (hall : ℕ) (key : List ℕ) (action : Action) (new : Seat) → MayStay error → ((entry : Entry) × LeavesPending old hall key action entry new) → FailsWith error old hall key action new
+fails_pending fault.Unavailable old hall key action new may is = is
+fails_pending fault.SeatSpent old hall key action new may is = absurd may
+fails_pending fault.Foreign old hall key action new may is = absurd may
+fails_pending fault.Full old hall key action new may is = inr is
+fails_pending fault.Memory old hall key action new may is = inr is
+
+-- whatever the error is, the call didn't begin or is pending
+has_failed : (error : CallError) (old : Seat) (hall : ℕ) (key : List ℕ) (action : Action) (new : Seat) → FailsWith error old hall key action new → HasFailed old hall key action new
+has_failed fault.Unavailable old hall key action new is = inr is
+has_failed fault.SeatSpent old hall key action new is = inl (subst (DidNotBegin old) (sym is.1) (unbegun old))
+has_failed fault.Foreign old hall key action new is = inl is
+has_failed fault.Full old hall key action new is = is
+has_failed fault.Memory old hall key action new is = is
+
+pub failed_by : {T : Type 0} (r : Result T CallError) (old : Seat) (hall : ℕ) (key : List ℕ) (action : Action) (new : Seat) → IfErr r (λ error. FailsWith error old hall key action new) → OnErr r (HasFailed old hall key action new)
+failed_by (Ok x) old hall key action new is = tt
+failed_by (Err error) old hall key action new is = has_failed error old hall key action new is
 
 -- ---- a call of a seat
 
@@ -162,8 +218,8 @@ module _ (s : Seat) (at hall : ℕ) (old new : Seen) (key kept_key : List ℕ) (
     pending_is = subst (λ l. IsSeat (record { store = s.store; client = s.client; is_spent = true; log = l; passes = slice_set s.passes at new; seen = slice_set s.seen at (place + 1) })) (sym logged)
         (pending_seat s at old new entry_of seen is there saw later (sym same) refl has_begun)
 
-    pub leaves_pending : SeesStopped new → HasFailed s hall key action (record { store = s.store; client = s.client; is_spent = true; log = log; passes = slice_set s.passes at new; seen = slice_set s.seen at (place + 1) })
-    leaves_pending stopped = inr (
+    pub leaves_pending : (error : CallError) → MayStay error → SeesStopped new → FailsWith error s hall key action (record { store = s.store; client = s.client; is_spent = true; log = log; passes = slice_set s.passes at new; seen = slice_set s.seen at (place + 1) })
+    leaves_pending error may stopped = fails_pending error s hall key action _ may (
       entry_of,
       record {
         before = old;
@@ -229,17 +285,27 @@ pub new_seat : (store client : ℕ) (passes : List Seen) (seen : List ℕ) (log 
     → IsSeat (record { store = store; client = client; is_spent = false; log = log; passes = passes; seen = seen })
 new_seat store client passes seen log none halls fresh = subst (λ l. IsSeat (record { store = store; client = client; is_spent = false; log = l; passes = passes; seen = seen })) (sym none) (record {
   halls = halls;
-  own = λ hall pass at. let own = fresh hall pass at in record { client = own.0; log = new_log client pass own.1 };
+  own = λ hall pass at. let own = fresh hall pass at in record { client = own.client; recorded = own.recorded; log = new_log client pass own.unused };
   answered = λ _ k entry at. none_some at;
   below = λ hall place k entry at there. none_some there;
 })
 
 -- one pass more
-pub fresh_more : (client : ℕ) (passes : List Seen) (pass : Seen) → AreFresh client passes → pass.client ≡ client → HasNoCall client pass.rows → AreFresh client (passes ++ pass ∷ [])
-fresh_more client passes pass fresh is none k one at = elim (after_push passes pass k one at) [
+pub fresh_more : (client : ℕ) (passes : List Seen) (pass : Seen) → AreFresh client passes → IsFresh client pass → AreFresh client (passes ++ pass ∷ [])
+fresh_more client passes pass fresh is k one at = elim (after_push passes pass k one at) [
   | inl old ↦ fresh k one old
-  | inr new ↦ subst (λ (p : Seen). (p.client ≡ client) × HasNoCall client p.rows) new.1 (is, none)
+  | inr new ↦ subst (IsFresh client) new.1 is
 ]
+
+zero_behind : (places : List ℕ) → AreZero places → AreZero (places ++ 0 ∷ [])
+zero_behind [] none zero = refl
+zero_behind [] none (suc hall) = refl
+zero_behind (x ∷ xs) none zero = none 0
+zero_behind (x ∷ xs) none (suc hall) = zero_behind xs (λ k. none (suc k)) hall
+
+-- one place more
+pub zero_more : (places now : List ℕ) → now ≡ places ++ 0 ∷ [] → AreZero places → AreZero now
+zero_more places now is none = subst AreZero (sym is) (zero_behind places none)
 
 -- ---- a seat that met a receipt
 
@@ -249,7 +315,7 @@ greater_high a b = grind (arith, nat_tests)
 pub met_seat : (s : Seat) (hall old new : ℕ) → IsSeat s → slice_get s.seen hall ≡ Some old → old ≤ new → IsSeat (record s { seen = slice_set s.seen hall new })
 met_seat s hall old new is there higher = record {
   halls = length-set s.seen hall new ∙ is.halls;
-  own = λ k pass at. let was = is.own k pass at in record { client = was.client; log = was.log };
+  own = λ k pass at. let was = is.own k pass at in record { client = was.client; recorded = was.recorded; log = was.log };
   answered = is.answered;
   below = λ k place i entry at entry_at. elim (set_cases s.seen hall new k place at) [
     | inl here ↦
@@ -260,9 +326,10 @@ met_seat s hall old new is there higher = record {
   ];
 }
 
-pub has_met : (s : Seat) (receipt : Receipt) (hall old new : ℕ) → receipt.store ≡ s.store → hall ≡ receipt.hall → slice_get s.seen hall ≡ Some old → new ≡ greater old (receipt.place + 1) → HasMet s receipt (record s { seen = slice_set s.seen hall new })
-has_met s receipt hall old new store same there is = record {
+pub has_met : (s : Seat) (receipt : Receipt) (hall old new : ℕ) → receipt.store ≡ s.store → hall ≡ receipt.hall → hall < length s.seen → slice_get s.seen hall ≡ Some old → new ≡ greater old (receipt.place + 1) → HasMet s receipt (record s { seen = slice_set s.seen hall new })
+has_met s receipt hall old new store same lt there is = record {
   store = store;
+  there = subst (λ n. n < length s.seen) same lt;
   is =
       let saw : old ≡ seen_in s receipt.hall = sym (ap (λ o. unwrap_or o 0) (ap (λ n. slice_get s.seen n) (sym same) ∙ there)) in
       let place : new ≡ greater (seen_in s receipt.hall) (receipt.place + 1) = is ∙ ap (λ n. greater n (receipt.place + 1)) saw in

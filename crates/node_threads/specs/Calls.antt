@@ -7,14 +7,17 @@ use Rattle.recorder.specs.declared.row.Row.TheVariants.{Invoke, Respond}
 use Rattle.hall_turns.specs.Turns.{AddedRow, AreRecorded, Seen, SeesStopped}
 use Rattle.world_steps.specs.Lasting.{Grows}
 use Rattle.node_threads.specs.declared.entry.Entry.{Entry}
+use Rattle.node_threads.specs.declared.errors.CallError.{CallError}
+use Rattle.node_threads.specs.declared.errors.CallError.TheVariants as fault
 use Rattle.node_threads.specs.declared.errand.Outcome.{Outcome}
 use Rattle.node_threads.specs.declared.errand.Outcome.TheVariants as outcome
 use Rattle.node_threads.specs.Logs.{IsLog}
 
--- rows came, but none that begins or ends a call of the client: its log stays
+-- rows came, but none that begins or ends a call of the client: its log stays; and the rows are still the record of a world that steps reach
 pub record KeepsLog (old new : Seen) : Type 0 where
   pub client : new.client ≡ old.client
   pub grown : Grows old.rows new.rows
+  pub recorded : AreRecorded old.rows → AreRecorded new.rows
   pub log : (log : List Entry) → IsLog old.rows old.client log → IsLog new.rows new.client log
 
 -- the client's call began, at that place: its log has an entry more, pending
@@ -29,11 +32,23 @@ pub record EndsCall (old : Seen) (op : OpId) (returned : Returned) (place : ℕ)
   pub answered : AddedRow middle (Respond op returned) place new
   pub recorded : AreRecorded new.rows
 
+-- why a call may not begin: its seat is foreign, or there is no room; it isn't told as a call whose rounds ran out, nor as one of a spent seat
+abbrev pub MayRefuse : CallError → Type 0
+MayRefuse fault.Unavailable = ⊥
+MayRefuse fault.SeatSpent = ⊥
+MayRefuse other = Unit {0}
+
+-- why a call that began may have no answer: its rounds ran out, or there is no room; it isn't told as one that didn't begin
+abbrev pub MayStay : CallError → Type 0
+MayStay fault.SeatSpent = ⊥
+MayStay fault.Foreign = ⊥
+MayStay other = Unit {0}
+
 -- what became of a call, where the client's pass had seen so many rows at least: it didn't begin; or it began, isn't answered, and the client is
--- stopped; or it is answered
+-- stopped in a world that steps reach, whose rows are those that the pass has seen; or it is answered
 abbrev pub Drives : Seen → List ℕ → Action → ℕ → Outcome → Seen → Type 0
-Drives old key action seen (outcome.Refused error) new = KeepsLog old new
-Drives old key action seen (outcome.Pending begun error) new = (seen ≤ begun.place) × ((middle : Seen) × BeginsCall old key action begun.op begun.place middle × KeepsLog middle new × SeesStopped new)
+Drives old key action seen (outcome.Refused error) new = MayRefuse error × KeepsLog old new
+Drives old key action seen (outcome.Pending begun error) new = (seen ≤ begun.place) × ((middle : Seen) × BeginsCall old key action begun.op begun.place middle × KeepsLog middle new × SeesStopped new × MayStay error)
 Drives old key action seen (outcome.Done begun ended) new = (seen ≤ begun.place) × ((middle : Seen) × BeginsCall old key action begun.op begun.place middle × EndsCall middle ended.op ended.returned ended.place new)
 
 -- places are below the lengths of lists that a program holds, and the copy of an answer is the answer

@@ -7,7 +7,7 @@ use Rattle.recorder.specs.declared.part.Response.{Response}
 use Rattle.recorder.specs.declared.row.Row.{Row}
 use Rattle.recorder.specs.declared.row.Row.TheVariants.{Respond}
 use Rattle.world_steps.specs.Lasting.{Grows}
-use Rattle.hall_turns.specs.Turns.{HasNoCall, Seen, SeesStopped}
+use Rattle.hall_turns.specs.Turns.{AreRecorded, HasNoCall, Seen, SeesStopped}
 use Rattle.node_threads.specs.Logs.{AreAnswered, IsLog, of_hall}
 use Rattle.node_threads.specs.Receipts.{Receipt}
 use Rattle.node_threads.specs.declared.entry.Entry.{Entry}
@@ -27,9 +27,11 @@ pub record IsBelow (place : ℕ) (entry : Entry) : Type 0 where
   pub invoked : entry.invoked < place
   pub answered : (response : Response) → entry.response ≡ Some response → response.place < place
 
--- the pass is the client's, and the entries of its hall are the client's log in the rows that it has seen
+-- the pass is the client's, the rows that it has seen are the record of a world that steps reach, and the entries of its hall are the client's log in
+-- these rows
 pub record IsOwnPass (s : Seat) (hall : ℕ) (pass : Seen) : Type 0 where
   pub client : pass.client ≡ s.client
+  pub recorded : AreRecorded pass.rows
   pub log : IsLog pass.rows s.client (of_hall hall s.log)
 
 -- what holds of every seat
@@ -68,8 +70,8 @@ pub record Calls (old : Seat) (hall : ℕ) (key : List ℕ) (action : Action) (e
   pub grown : Grows before.rows after.rows
   pub last : EndsWith after.rows (Respond entry.op response.returned)
 
--- a call of the seat began and isn't answered: one entry more, pending, begun behind all that the seat had seen; the client is stopped in the hall,
--- and the seat is spent
+-- a call of the seat began and isn't answered: one entry more, pending, begun behind all that the seat had seen; the client is stopped in a world that
+-- steps reach, whose rows are those that the pass has seen, and the seat is spent
 pub record LeavesPending (old : Seat) (hall : ℕ) (key : List ℕ) (action : Action) (entry : Entry) (new : Seat) : Type 0 where
   pub before : Seen
   pub after : Seen
@@ -83,27 +85,48 @@ pub record LeavesPending (old : Seat) (hall : ℕ) (key : List ℕ) (action : Ac
   pub grown : Grows before.rows after.rows
   pub stopped : SeesStopped after
 
--- a call of the seat didn't begin: its log, its store, its client and what it has seen are as before, and it is no more spent than before
+-- the rows that were seen of each hall begin with those that had been seen of it
+abbrev pub HaveGrown : List Seen → List Seen → Type 0
+HaveGrown old new = (hall : ℕ) (before : Seen) → slice_get old hall ≡ Some before → (after : Seen) × (slice_get new hall ≡ Some after) × Grows before.rows after.rows
+
+-- a call of the seat didn't begin: its store, its client, its log and the places that it has seen are as before, it is no more spent than before, and
+-- it has seen the rows that it had seen, or more
 pub record DidNotBegin (old new : Seat) : Type 0 where
   pub store : new.store ≡ old.store
   pub client : new.client ≡ old.client
   pub is_spent : new.is_spent ≡ old.is_spent
   pub log : new.log ≡ old.log
   pub seen : new.seen ≡ old.seen
+  pub grown : HaveGrown old.passes new.passes
 
 -- the greater of two numbers
 abbrev pub greater : ℕ → ℕ → ℕ
 greater a b = if nat_le a b then b else a
 
--- the seat met the receipt: it has seen the response, and what it had seen
+-- the seat met the receipt, which is of its store and of a hall that it has: it has seen the response, and what it had seen
 pub record HasMet (old : Seat) (receipt : Receipt) (new : Seat) : Type 0 where
   pub store : receipt.store ≡ old.store
+  pub there : receipt.hall < length old.seen
   pub is : new ≡ record old { seen = slice_set old.seen receipt.hall (greater (seen_in old receipt.hall) (receipt.place + 1)) }
 
--- the passes are of a client that has no call yet
-abbrev pub AreFresh : ℕ → List Seen → Type 0
-AreFresh client passes = (k : ℕ) (pass : Seen) → slice_get passes k ≡ Some pass → (pass.client ≡ client) × HasNoCall client pass.rows
+-- the receipt is of another store, or of a hall that the seat lacks
+abbrev pub IsForeign : Seat → Receipt → Type 0
+IsForeign s receipt = receipt.store ≡ s.store → length s.seen ≤ receipt.hall
 
--- the client of each of the passes is stopped in the pass's hall
+-- the pass is of a client that has no call yet, and the rows that it has seen are the record of a world that steps reach
+pub record IsFresh (name : ℕ) (pass : Seen) : Type 0 where
+  pub client : pass.client ≡ name
+  pub recorded : AreRecorded pass.rows
+  pub unused : HasNoCall name pass.rows
+
+-- each of the passes is so
+abbrev pub AreFresh : ℕ → List Seen → Type 0
+AreFresh client passes = (k : ℕ) (pass : Seen) → slice_get passes k ≡ Some pass → IsFresh client pass
+
+-- none of these places is above 0
+abbrev pub AreZero : List ℕ → Type 0
+AreZero places = (hall : ℕ) → unwrap_or (slice_get places hall) 0 ≡ 0
+
+-- the client of each of the passes is stopped in a world that steps reach, whose rows are those that the pass has seen
 abbrev pub AreStopped : List Seen → Type 0
 AreStopped passes = (k : ℕ) (pass : Seen) → slice_get passes k ≡ Some pass → SeesStopped pass

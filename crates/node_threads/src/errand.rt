@@ -1,7 +1,7 @@
 //! One call on its way: what its client sends, and what it hears.
 ghost use Rattle.std.specs.Prelude.{◌≡◌, ◌≤◌, Some, IfOk, OnErr};
 ghost use Rattle.hall_turns.specs.Turns.{IsQuiet, MayTake, SeesStopped};
-ghost use Rattle.node_threads.specs.Calls.{Drives, EndsCall, IsPlaced, KeepsLog};
+ghost use Rattle.node_threads.specs.Calls.{Drives, EndsCall, IsPlaced, KeepsLog, MayRefuse, MayStay};
 
 use crate::errors::CallError;
 use crate::gate::{Gate, Passage, Place};
@@ -11,6 +11,7 @@ use client_phases::{Phase, Taken};
 use crossbeam_channel::{Receiver, Sender};
 use hall_turns::{Begun, ClientPass, Delay, Ended};
 use quorum::ReplicaSet;
+use std::alloc::AllocError;
 use std::sync::Wait;
 use tag::{Action, Key, OpId, ReplicaId};
 use world_steps::{Effect, Refusal, Step};
@@ -40,6 +41,17 @@ pub(crate) enum Outcome {
     Done(Begun, Ended),
 }
 
+/// Why a call that began isn't answered.
+#[derive(Clone, Copy, Debug, PartialEq, Eq)]
+enum Stall {
+    /// The rounds of a phase ran out, or the world refused a step.
+    Unavailable,
+    /// As many messages were sent as may be.
+    Full,
+    /// A growth was refused.
+    Memory,
+}
+
 impl<'a, G: Gate> Errand<'a, G> {
     /// Makes a call of the pass's client, which has seen so many rows at least.
     #[tactic(auto, using(crate::proofs::Keeping::keeps_same, crate::proofs::Keeping::keeps_then))]
@@ -63,9 +75,9 @@ impl<'a, G: Gate> Errand<'a, G> {
         self.call = begun.op;
         match self.finish(rt, pass, rounds) {
             Ok(ended) => Outcome::Done(begun, ended),
-            Err(error) => {
+            Err(stall) => {
                 stop(rt, pass);
-                Outcome::Pending(begun, error)
+                Outcome::Pending(begun, told_pending(stall))
             }
         }
     }
@@ -77,7 +89,7 @@ impl<'a, G: Gate> Errand<'a, G> {
         rt: &R,
         pass: &mut ClientPass,
         rounds: u16,
-    ) -> Result<Ended, CallError>
+    ) -> Result<Ended, Stall>
         ensures ended { IfOk result (λ ended.
             EndsCall pass.old ended.op ended.returned ended.place pass.new) }
         ensures placed { IfOk result (λ ended.
@@ -103,7 +115,7 @@ impl<'a, G: Gate> Errand<'a, G> {
         rt: &R,
         pass: &mut ClientPass,
         rounds: u16,
-    ) -> Result<(), CallError>
+    ) -> Result<(), Stall>
         ensures { KeepsLog pass.old pass.new }
     {
         match self.leave(rt, pass, rounds)? {
@@ -117,12 +129,7 @@ impl<'a, G: Gate> Errand<'a, G> {
 
     /// Makes rounds until the phase is over, which has just begun. The phase that follows it.
     #[tactic(auto, using(crate::proofs::Keeping::keeps_same, crate::proofs::Keeping::keeps_then))]
-    fn leave<R: Wait>(
-        &mut self,
-        rt: &R,
-        pass: &mut ClientPass,
-        rounds: u16,
-    ) -> Result<Phase, CallError>
+    fn leave<R: Wait>(&mut self, rt: &R, pass: &mut ClientPass, rounds: u16) -> Result<Phase, Stall>
         ensures { KeepsLog pass.old pass.new }
     {
         let mut counted = ReplicaSet::empty();
@@ -133,7 +140,7 @@ impl<'a, G: Gate> Errand<'a, G> {
             }
             counted = counted_by(rt, pass);
         }
-        Err(CallError::Unavailable)
+        Err(Stall::Unavailable)
     }
 
     /// Sends the client's request to each replica that it didn't count.
@@ -143,7 +150,7 @@ impl<'a, G: Gate> Errand<'a, G> {
         rt: &R,
         pass: &mut ClientPass,
         counted: ReplicaSet,
-    ) -> Result<(), CallError>
+    ) -> Result<(), Stall>
         ensures { KeepsLog pass.old pass.new }
     {
         for number in 0..15 {
@@ -163,7 +170,7 @@ impl<'a, G: Gate> Errand<'a, G> {
         rt: &R,
         pass: &mut ClientPass,
         replica: ReplicaId,
-    ) -> Result<(), CallError>
+    ) -> Result<(), Stall>
         ensures { KeepsLog pass.old pass.new }
     {
         let Some(way) = self.replicas.get(usize::from(replica.get())) else {
@@ -172,7 +179,7 @@ impl<'a, G: Gate> Errand<'a, G> {
         let client = pass.client();
         let flight = match turn(rt, pass, Step::Send { client, replica }) {
             Ok(Effect::Sent(flight)) => flight,
-            Ok(_) => return Err(CallError::Unavailable),
+            Ok(_) => return Err(Stall::Unavailable),
             Err(refusal) => return Err(refused(refusal)),
         };
         let place = Place::Request {
@@ -191,7 +198,7 @@ impl<'a, G: Gate> Errand<'a, G> {
         way: &Sender<Parcel>,
         flight: u32,
         parcels: u64,
-    ) -> Result<(), CallError> {
+    ) -> Result<(), Stall> {
         for _ in 0..parcels {
             self.post(rt, way, flight)?;
         }
@@ -199,12 +206,7 @@ impl<'a, G: Gate> Errand<'a, G> {
     }
 
     /// Puts a parcel of a flight on its way.
-    fn post<R: Wait>(
-        &mut self,
-        rt: &R,
-        way: &Sender<Parcel>,
-        flight: u32,
-    ) -> Result<(), CallError> {
+    fn post<R: Wait>(&mut self, rt: &R, way: &Sender<Parcel>, flight: u32) -> Result<(), Stall> {
         let parcel = Parcel {
             hall: self.hall,
             call: self.call,
@@ -212,7 +214,7 @@ impl<'a, G: Gate> Errand<'a, G> {
             reports: self.reports.clone()?,
         };
         if way.send(rt, parcel).is_err() {
-            return Err(CallError::Memory);
+            return Err(Stall::Memory);
         }
         self.awaited = u64::saturating_add(self.awaited, 1);
         Ok(())
@@ -221,16 +223,12 @@ impl<'a, G: Gate> Errand<'a, G> {
     /// Hears what the replicas report until the phase is over or each parcel was reported on. The phase that
     /// follows, where it is over.
     #[tactic(auto, using(crate::proofs::Keeping::keeps_same, crate::proofs::Keeping::keeps_then))]
-    fn hear_round<R: Wait>(
-        &mut self,
-        rt: &R,
-        pass: &mut ClientPass,
-    ) -> Result<Option<Phase>, CallError>
+    fn hear_round<R: Wait>(&mut self, rt: &R, pass: &mut ClientPass) -> Result<Option<Phase>, Stall>
         ensures { KeepsLog pass.old pass.new }
     {
         for _ in 0..self.awaited {
             let Some(report) = next_message(rt, &self.inbox) else {
-                return Err(CallError::Unavailable);
+                return Err(Stall::Unavailable);
             };
             self.awaited = u64::saturating_sub(self.awaited, 1);
             let next = hear(rt, pass, report)?;
@@ -262,7 +260,7 @@ fn parcels_of<R: Wait>(rt: &R, pass: &mut ClientPass, passage: Passage, flight: 
 
 /// Delivers what was reported. The phase that follows, where the client's phase is over.
 #[tactic(auto, using(crate::proofs::Keeping::keeps_same, crate::proofs::Keeping::keeps_then))]
-fn hear<R: Wait>(rt: &R, pass: &mut ClientPass, report: Report) -> Result<Option<Phase>, CallError>
+fn hear<R: Wait>(rt: &R, pass: &mut ClientPass, report: Report) -> Result<Option<Phase>, Stall>
     ensures { KeepsLog pass.old pass.new }
 {
     match report {
@@ -277,7 +275,7 @@ fn hear<R: Wait>(rt: &R, pass: &mut ClientPass, report: Report) -> Result<Option
 }
 
 /// Delivers a reply to the client. The phase that follows, where its phase is over.
-fn deliver<R: Wait>(rt: &R, pass: &mut ClientPass, flight: u32) -> Result<Option<Phase>, CallError>
+fn deliver<R: Wait>(rt: &R, pass: &mut ClientPass, flight: u32) -> Result<Option<Phase>, Stall>
     ensures { KeepsLog pass.old pass.new }
 {
     let taken = pass.deliver(rt, flight);
@@ -285,7 +283,7 @@ fn deliver<R: Wait>(rt: &R, pass: &mut ClientPass, flight: u32) -> Result<Option
 }
 
 /// The phase that a reply makes begin, if it does.
-fn phase_after(taken: Result<Taken, Refusal>) -> Result<Option<Phase>, CallError> {
+fn phase_after(taken: Result<Taken, Refusal>) -> Result<Option<Phase>, Stall> {
     match taken {
         Ok(Taken::Stale | Taken::Counted) => Ok(None),
         Ok(Taken::Noted(_)) => Ok(Some(Phase::Put)),
@@ -320,7 +318,9 @@ fn stop<R: Wait>(rt: &R, pass: &mut ClientPass)
 }
 
 /// What a call answers where its invocation was refused.
-fn not_begun(refusal: Refusal) -> CallError {
+fn not_begun(refusal: Refusal) -> CallError
+    ensures { MayRefuse result }
+{
     match refusal {
         Refusal::OpsFull | Refusal::FlightsFull => CallError::Full,
         Refusal::Memory => CallError::Memory,
@@ -328,11 +328,28 @@ fn not_begun(refusal: Refusal) -> CallError {
     }
 }
 
-/// What a call answers where a later step of it was refused.
-fn refused(refusal: Refusal) -> CallError {
+/// Why a call isn't answered where a later step of it was refused.
+fn refused(refusal: Refusal) -> Stall {
     match refusal {
-        Refusal::OpsFull | Refusal::FlightsFull => CallError::Full,
-        Refusal::Memory => CallError::Memory,
-        _ => CallError::Unavailable,
+        Refusal::OpsFull | Refusal::FlightsFull => Stall::Full,
+        Refusal::Memory => Stall::Memory,
+        _ => Stall::Unavailable,
+    }
+}
+
+/// What a call answers that began and isn't answered.
+fn told_pending(stall: Stall) -> CallError
+    ensures { MayStay result }
+{
+    match stall {
+        Stall::Unavailable => CallError::Unavailable,
+        Stall::Full => CallError::Full,
+        Stall::Memory => CallError::Memory,
+    }
+}
+
+impl From<AllocError> for Stall {
+    fn from(_: AllocError) -> Stall {
+        Stall::Memory
     }
 }

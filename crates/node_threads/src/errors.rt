@@ -143,12 +143,22 @@ impl From<Memory> for CloseError {
 }
 
 impl From<AllocError> for CallError {
+    ghost use Rattle.std.specs.Prelude.{◌≡◌};
+    ghost use Rattle.node_threads.specs.declared.errors.CallError.TheVariants.{Memory};
+
+    ghost from_gives = { λ _ e. e ≡ Memory };
+
     fn from(_: AllocError) -> CallError {
         CallError::Memory
     }
 }
 
 impl From<Memory> for CallError {
+    ghost use Rattle.std.specs.Prelude.{◌≡◌};
+    ghost use Rattle.node_threads.specs.declared.errors.CallError.TheVariants.{Memory};
+
+    ghost from_gives = { λ _ e. e ≡ Memory };
+
     fn from(_: Memory) -> CallError {
         CallError::Memory
     }

@@ -1,7 +1,7 @@
 //! A client's seat in a store.
 ghost use Rattle.std.specs.Prelude.{◌≡◌, ◌<◌, [], false, length, IfOk, IfErr, OnErr, OnOk};
-ghost use Rattle.node_threads.specs.Answers.{HasFailed, IsAnswered};
-ghost use Rattle.node_threads.specs.Seats.{AreFresh, HasMet, IsSeat, greater, seen_in, value_of};
+ghost use Rattle.node_threads.specs.Answers.{FailsWith, IsAnswered};
+ghost use Rattle.node_threads.specs.Seats.{AreFresh, HasMet, IsForeign, IsSeat, greater, seen_in, value_of};
 
 use crate::entry::Entry;
 use crate::errand::{Errand, Outcome};
@@ -141,6 +141,7 @@ impl Seat {
         ensures met { OnOk result (HasMet self.old receipt.now self.new) }
         ensures foreign { IfErr result (λ error.
             (error ≡ CallError.Foreign) × (self.new ≡ self.old)) }
+        ensures why { OnErr result (IsForeign self.old receipt.now) }
     {
         let hall = usize::from(receipt.hall());
         if receipt.store() != self.store || hall >= self.seen.len() {
@@ -165,7 +166,8 @@ impl Seat {
         requires there { errand.old.hall < length self.old.passes }
         ensures answered { IfOk result (λ answer.
             IsAnswered self.old errand.old.hall key action answer self.new) }
-        ensures failed { OnErr result (HasFailed self.old errand.old.hall key action self.new) }
+        ensures failed { IfErr result (λ error.
+            FailsWith error self.old errand.old.hall key action self.new) }
     {
         let hall = errand.hall;
         let at = usize::from(hall);

@@ -1,11 +1,11 @@
 //! A running store: its halls, and a thread for each replica.
-ghost use Rattle.std.specs.Prelude.{◌≡◌, ◌≤◌, ◌+◌, ◌↔◌, Err, true, false, [], length, IfOk, IfSome, IsNone, OnErr, OnOk};
+ghost use Rattle.std.specs.Prelude.{ℕ, ◌≡◌, ◌≢◌, ◌≤◌, ◌+◌, ◌↔◌, Err, true, false, [], length, IfErr, IfOk, IfSome, IsNone, OnErr, OnOk};
 ghost use Rattle.recorder.specs.Halls.{hall_of};
 ghost use Rattle.std.specs.Fn.{FnOnceReturnsAt};
 ghost use Rattle.hall_turns.specs.Turns.{IsTold};
-ghost use Rattle.node_threads.specs.Answers.{HasFailed, IsAnswered};
+ghost use Rattle.node_threads.specs.Answers.{FailsWith, HasFailed, IsAnswered};
 ghost use Rattle.node_threads.specs.Closings.{Closes, HasForeign};
-ghost use Rattle.node_threads.specs.Seats.{AreFresh, AreStopped};
+ghost use Rattle.node_threads.specs.Seats.{AreFresh, AreStopped, AreZero, seen_in};
 ghost use Rattle.node_threads.specs.Snapshots.{Shows};
 
 use crate::closing::{Closed, are_logged, are_of_store, closed_halls, end_replicas};
@@ -171,11 +171,10 @@ impl<G: Gate> Store<G> {
         ensures store { IfOk result (λ seat. seat.store ≡ self.now.number) }
         ensures client { IfOk result (λ seat. seat.client ≡ client) }
         ensures fresh { IfOk result (λ seat. (seat.log ≡ []) × (seat.is_spent ≡ false)) }
+        ensures seen { IfOk result (λ seat. (hall : ℕ) → seen_in seat hall ≡ 0) }
+        ensures halls { IfOk result (λ seat. length seat.passes ≡ self.now.halls) }
     {
-        let mut seen = Vec::new(alloc);
-        for _ in &self.roots {
-            seen.push(0)?;
-        }
+        let seen = none_seen(alloc, self.roots.len())?;
         let mut passes = Vec::new(alloc);
         for root in &self.roots {
             if let Err(error) = join_hall(rt, root, &mut passes, client) {
@@ -200,10 +199,14 @@ impl<G: Gate> Store<G> {
     ) -> Result<Answer, CallError>
         ensures answered { IfOk result (λ answer.
             IsAnswered seat.old (hall_of self.now.halls key) key action answer seat.new) }
-        ensures failed { OnErr result
+        ensures failed { IfErr result (λ error.
+            FailsWith error seat.old (hall_of self.now.halls key) key action seat.new) }
+        ensures left { OnErr result
             (HasFailed seat.old (hall_of self.now.halls key) key action seat.new) }
         ensures spent { seat.old.is_spent ≡ true
             → (result ≡ Err CallError.SeatSpent) × (seat.new ≡ seat.old) }
+        ensures foreign { seat.old.is_spent ≡ false → seat.old.store ≢ self.now.number
+            → (result ≡ Err CallError.Foreign) × (seat.new ≡ seat.old) }
         ensures own { OnOk result (seat.old.store ≡ self.now.number) }
     {
         if seat.is_spent() {
@@ -333,6 +336,18 @@ impl<G: Gate + Drop> Store<G> {
     }
 }
 
+/// The places that a new seat has seen of so many halls: 0 of each.
+fn none_seen(alloc: Global, halls: usize) -> Result<Vec<usize>, JoinError>
+    ensures count { IfOk result (λ seen. length seen.items ≡ halls) }
+    ensures zero { IfOk result (λ seen. AreZero seen.items) }
+{
+    let mut seen = Vec::new(alloc);
+    for _ in 0..halls {
+        seen.push(0)?;
+    }
+    Ok(seen)
+}
+
 /// Has the client join a hall, whose pass comes behind those of the halls before.
 fn join_hall<R: Wait>(
     rt: &R,
@@ -347,6 +362,7 @@ fn join_hall<R: Wait>(
     passes.reserve(1)?;
     let free = root.lock(rt).another()?;
     let pass = free.join(rt, client)?;
+    let _ = pass.client();
     passes.push_reserved(pass);
     Ok(())
 }

@@ -10,6 +10,15 @@ returns g c =
     let more = behind c.args.passes.now.items c.reserve.new.self.items c.push_reserved.new.self.items _ c.reserve.ensures.items c.push_reserved.ensures.items in
     record {
       fresh = subst (AreFresh c.args.client) (sym more)
-          (fresh_more c.args.client c.args.passes.now.items _ c.requires c.in_ok-pass.ensures.client c.in_ok-pass.ensures.rows.1);
+          (fresh_more c.args.client c.args.passes.now.items _ c.requires (record { client = c.in_ok-pass.ensures.client; recorded = c.client.ensures.recorded; unused = c.in_ok-pass.ensures.rows.1 }));
       one = ap length more ∙ length_push c.args.passes.now.items _;
     }
+
+pub returns-in_err-reserve-clause-fresh : goal.returns-in_err-reserve-clause-fresh
+returns-in_err-reserve-clause-fresh g c = subst (AreFresh c.args.client) (sym c.reserve.ensures.items) c.requires
+
+pub returns-in_err-free-clause-fresh : goal.returns-in_err-free-clause-fresh
+returns-in_err-free-clause-fresh g c = subst (AreFresh c.args.client) (sym c.reserve.ensures.items) c.requires
+
+pub returns-in_err-pass-clause-fresh : goal.returns-in_err-pass-clause-fresh
+returns-in_err-pass-clause-fresh g c = subst (AreFresh c.args.client) (sym c.reserve.ensures.items) c.requires

@@ -18,4 +18,4 @@ returns-clause-met c =
     let store : c.args.receipt.now.store ≡ c.self.inside.store = (let told = c.store.ensures in let same = c.if-store-self.false in omega arith) in
     rw (← c.self.view_is)
     (has_met (record { store = c.self.inside.store; client = c.self.inside.client; is_spent = c.self.inside.is_spent; log = c.self.inside.log.items; passes = c.self.inside.passes.items; seen = c.self.inside.seen.items })
-    c.args.receipt.now c.from-hall.result c.index.result.now c.greater.result store (c.from-hall.ensures ∙ c.hall.ensures) there (c.greater.ensures ∙ ap (λ n. greater c.index.result.now (n + 1)) c.place.ensures.place))
+    c.args.receipt.now c.from-hall.result c.index.result.now c.greater.result store (c.from-hall.ensures ∙ c.hall.ensures) lt there (c.greater.ensures ∙ ap (λ n. greater c.index.result.now (n + 1)) c.place.ensures.place))

@@ -2,8 +2,5 @@ use Rattle.std.proofs.Common.{◌≡◌, length}
 use Rattle.node_threads.specs.Seats.{AreFresh}
 use Rattle.node_threads.proofs.store.Store.join.Given as goal
 
-abbrev pub invariant-loop : goal.invariant-loop
-invariant-loop g l = length l.seen.items ≡ l.index
-
 abbrev pub invariant-loop-root : goal.invariant-loop-root
 invariant-loop-root g l = AreFresh l.client l.passes.items × (length l.passes.items ≡ l.root-index)
