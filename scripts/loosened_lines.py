@@ -1,7 +1,8 @@
-"""loosened_lines.py ABD [TIMES]
+"""loosened_lines.py ABD [TIMES [WRITE_SPEED]]
 
 Random histories of 10,000 rows, as `abd` writes them and in loosened form: members in another order, blanks, escapes, members that mean
-nothing. `abd justify` has to make the same orders of both, and `abd check` to say the same of them.
+nothing. `abd justify` has to make the same orders of both, and `abd check` to say the same of them. With the built program
+`write_speed` (benchmarks/build_programs.sh), which writes the history that it reads, both also have to be written as the first.
 """
 
 import json
@@ -36,9 +37,16 @@ def said(abd, *words):
     return ran.returncode, ran.stdout, ran.stderr
 
 
+def is_written(writer, name):
+    """Whether the history of that file is written as the file `written` has it."""
+    with open("written", "rb") as file:
+        return subprocess.run([writer, name], capture_output=True).stdout == file.read()
+
+
 def main():
     abd = os.path.abspath(sys.argv[1])
     times = int(sys.argv[2]) if len(sys.argv) > 2 else 10
+    writer = os.path.abspath(sys.argv[3]) if len(sys.argv) > 3 else None
     bad = 0
     with tempfile.TemporaryDirectory() as place:
         os.chdir(place)
@@ -53,7 +61,8 @@ def main():
                     file.write("".join((loosened(draw, line) if draw.random() < 0.9 else line) + "\n" for line in lines))
             justified = said(abd, "justify", "written") == said(abd, "justify", "written.loose")
             checked = {said(abd, "check", history, orders) for history in ("written", "written.loose") for orders in ("orders", "orders.loose")}
-            bad += not (justified and len(checked) == 1 and next(iter(checked))[0] == 0)
+            equal = writer is None or all(is_written(writer, name) for name in ("written", "written.loose"))
+            bad += not (equal and justified and len(checked) == 1 and next(iter(checked))[0] == 0)
     print(f"{times} histories, {bad} of them answered otherwise in loosened form")
     sys.exit(bad > 0)
 
