@@ -32,3 +32,4 @@ pub mod Onward
 pub mod RunningCounts
 pub mod LastingLaws
 pub mod AddingLaws
+pub mod Stopping

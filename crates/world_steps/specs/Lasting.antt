@@ -1,5 +1,5 @@
 -- What steps never take away, and what they add to the record.
-use Rattle.std.specs.Prelude.{ℕ, ◌≡◌, List, [], ◌∷◌, ◌++◌, Option, Some, None}
+use Rattle.std.specs.Prelude.{ℕ, ◌≡◌, true, List, [], ◌∷◌, ◌++◌, Option, Some, None}
 use Rattle.std.specs.FinMap as finite
 use Rattle.tag.specs.declared.actions.Action.{Action}
 use Rattle.tag.specs.declared.numbers.OpId.{OpId}
@@ -9,6 +9,7 @@ use Rattle.network.specs.declared.messages.Message.{Message}
 use Rattle.network.specs.declared.messages.Message.TheVariants.{ToReplica, ToClient}
 use Rattle.recorder.specs.declared.row.Row.{Row}
 use Rattle.recorder.specs.declared.row.Row.TheVariants.{Invoke, Note, Respond}
+use Rattle.world_steps.specs.Refusals.{is_stopped, phase_at}
 use Rattle.world_steps.specs.Sound.{At}
 use Rattle.world_steps.specs.declared.step.Step.{Step}
 use Rattle.world_steps.specs.declared.step.Step.TheVariants as step
@@ -17,6 +18,10 @@ use Rattle.world_steps.specs.declared.system.System.{System}
 -- a client of that name joined
 abbrev pub HasJoined : System → ℕ → Type 0
 HasJoined s name = (client : Client) × (finite.get s.members.clients name ≡ Some client)
+
+-- a client of that name joined, and is stopped
+abbrev pub HasStopped : System → ℕ → Type 0
+HasStopped s name = is_stopped (phase_at s name) ≡ true
 
 -- rows came behind those that were there
 abbrev pub Grows : List Row → List Row → Type 0

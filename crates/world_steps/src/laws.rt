@@ -6,7 +6,7 @@ ghost use Rattle.recorder.specs.Sound.{TagSound};
 ghost use Rattle.recorder.specs.declared.part.Call.{Call};
 ghost use Rattle.world_steps.specs.Clients.{running_count};
 ghost use Rattle.world_steps.specs.Configs.{Config};
-ghost use Rattle.world_steps.specs.Lasting.{AddsRowOf, Grows, HasJoined, client_in};
+ghost use Rattle.world_steps.specs.Lasting.{AddsRowOf, Grows, HasJoined, HasStopped, client_in};
 ghost use Rattle.world_steps.specs.Refusals.{refusal_of};
 ghost use Rattle.world_steps.specs.Runs.{AreAccepted, Steps, after, after_from, join_count, next, stop_count};
 ghost use Rattle.world_steps.specs.Sound.{IsAtMost};
@@ -87,6 +87,14 @@ pub fn further_steps_take_nothing_away()
         (held_in (after config (steps ++ later)).nodes number key).tag }
     ensures rows { (config : Config) (steps later : List Step)
         → Grows (after config steps).history.rows (after config (steps ++ later)).history.rows }
+{}
+
+/// A stop is for good: whatever steps follow, a client that is stopped stays stopped.
+pub fn a_stop_is_for_good()
+    ensures next { (s : System) (step : Step) (name : ℕ)
+        → HasStopped s name → HasStopped (next s step) name }
+    ensures steps { (s : System) (steps : List Step) (name : ℕ)
+        → HasStopped s name → HasStopped (after_from s steps) name }
 {}
 
 /// A step adds no row, or one: of the client that it names or delivers to.
