@@ -1,5 +1,5 @@
 -- What a client's turn leaves, as its pass sees it.
-use Rattle.std.proofs.Common.{◌≡◌, ℕ, List, [], ◌∷◌, ◌++◌, Option, Some, None, Result, Ok, Err, length, slice_get, refl, sym, ap, ◌∙◌, subst, arith}
+use Rattle.std.proofs.Common.{◌≡◌, ℕ, false, List, [], ◌∷◌, ◌++◌, Option, Some, None, Result, Ok, Err, length, slice_get, refl, sym, ap, ◌∙◌, subst, arith}
 use Rattle.std.specs.FinMap as finite
 use Rattle.tag.specs.Tags.{Tag}
 use Rattle.tag.specs.declared.actions.Action.{Action}
@@ -23,7 +23,7 @@ use Rattle.recorder.specs.declared.row.Row.TheVariants.{Invoke, Note, Respond}
 use Rattle.world_steps.specs.Lasting.{AddsRowOf, HasJoined, IsRowOf, client_in, receiver}
 use Rattle.world_steps.specs.Lasting.AddsRowOf.{NoRow, OneRow}
 use Rattle.world_steps.specs.Systems.{answered_op, deliver, effect_of, invoke, system_after, next_call, respond, send, stop, take, with_note}
-use Rattle.world_steps.specs.Refusals.{refusal_of}
+use Rattle.world_steps.specs.Refusals.{is_stopped, phase_at, refusal_of}
 use Rattle.world_steps.specs.SoundSystems.{IsSound}
 use Rattle.world_steps.specs.declared.effect.Effect.{Effect}
 use Rattle.world_steps.specs.declared.effect.Effect.TheVariants as effect
@@ -34,9 +34,10 @@ use Rattle.world_steps.specs.declared.system.System.{System}
 use Rattle.hall_journal.specs.Halls.{Hall, IsReplay, Takes, with_step}
 use Rattle.hall_turns.specs.declared.rule.View.{View}
 use Rattle.hall_turns.specs.Turns.TookReply.{WithNote, WithoutNote}
-use Rattle.hall_turns.specs.Turns.{AddedRow, AreRecorded, IsQuiet, IsReady, Knows, Looked, MayReturn, OthersAdd, Receives, Returns, Seen, TookReply, Turned, Turns, view_at_rest, seat}
+use Rattle.hall_turns.specs.Turns.{AddedRow, AreRecorded, IsQuiet, IsReady, Looked, MayReturn, OthersAdd, Receives, Returns, Seen, TookReply, Turned, Turns, view_at_rest, seat, seat_in}
+use Rattle.hall_turns.proofs.Running.{delivered_runs, invoked_runs, responded_runs}
 use Rattle.hall_turns.proofs.Rows.{last_row, none_some, past_end, pushed, same_some}
-use Rattle.hall_turns.proofs.Turning.{AddsOfItsClient, StayJoined, kept_adds, rested, returnable, same_next, took_adds}
+use Rattle.hall_turns.proofs.Turning.{AddsOfItsClient, StayJoined, StayStopped, kept_adds, rested, returnable, same_next, took_adds}
 
 -- ---- the rows after a step
 
@@ -126,77 +127,78 @@ same_last old x y same = last_row old x y (length old) (omega arith) (subst (λ 
 -- ---- a client's turn
 
 -- what a client's pass saw of a turn
-pub record ClientTurn (client : ℕ) (rows : List Row) (before after : Hall) (z : View) : Type 0 where
-  pub others : OthersAdd client rows before.world.history.rows
-  pub is : z ≡ seat client after.world.history.rows
+pub record ClientTurn (client : ℕ) (v : View) (before after : Hall) (z : View) : Type 0 where
+  pub others : OthersAdd client v.rows before.world.history.rows
+  pub is : z ≡ seat_in client after.world
 
-abbrev pub seen : ℕ → List Row → Seen
-seen client rows = record { client = client; rows = rows }
+abbrev pub seen : ℕ → View → Seen
+seen client v = record { client = client; rows = v.rows; is_stopped = v.is_stopped }
 
-pub client_turn : (client : ℕ) (rows : List Row) (v w z : View) (old new : Hall) → v ≡ seat client rows → Receives v old w → Returns w new z → ClientTurn client rows old new z
-client_turn client rows v w z old new is received returned = record {
-  others = (subst (λ y. Knows y old.world) is received.knows).others client refl;
+pub client_turn : (client : ℕ) (v w z : View) (old new : Hall) → v ≡ seat client v.rows v.is_stopped → Receives v old w → Returns w new z → ClientTurn client v old new z
+client_turn client v w z old new is received returned = record {
+  others = received.knows.others client (ap (λ (y : View). y.client) is);
   is = rested v w z old new received.is returned ∙ ap (λ y. view_at_rest y new.world) is;
 }
 
-pub looked : (client : ℕ) (rows : List Row) (old new : Hall) (z : View) → ClientTurn client rows old new z → new.world.history.rows ≡ old.world.history.rows → Looked (seen client rows) (seen client z.rows)
-looked client rows old new z turn same = record {
+pub looked : (client : ℕ) (v : View) (old new : Hall) (z : View) → ClientTurn client v old new z → new.world.history.rows ≡ old.world.history.rows → Looked (seen client v) (seen client z)
+looked client v old new z turn same = record {
   client = refl;
-  others = subst (OthersAdd client rows) (sym same ∙ sym (ap (λ (y : View). y.rows) turn.is)) turn.others;
+  others = subst (OthersAdd client v.rows) (sym same ∙ sym (ap (λ (y : View). y.rows) turn.is)) turn.others;
 }
 
-pub added : (client : ℕ) (rows : List Row) (old new : Hall) (z : View) (row : Row) (place : ℕ) → ClientTurn client rows old new z → length old.world.history.rows ≡ place → IsRowOf old.world.history.rows client row
-    → new.world.history.rows ≡ old.world.history.rows ++ row ∷ [] → AddedRow (seen client rows) row place (seen client z.rows)
-added client rows old new z row place turn at own same = record {
+pub added : (client : ℕ) (v : View) (old new : Hall) (z : View) (row : Row) (place : ℕ) → ClientTurn client v old new z → length old.world.history.rows ≡ place → IsRowOf old.world.history.rows client row
+    → new.world.history.rows ≡ old.world.history.rows ++ row ∷ [] → is_stopped (phase_at new.world client) ≡ false → AddedRow (seen client v) row place (seen client z)
+added client v old new z row place turn at own same free = record {
   before = old.world.history.rows;
   others = turn.others;
   at = at;
   own = own;
-  is = ap (seen client) (ap (λ (y : View). y.rows) turn.is ∙ same);
+  is = λ i. record { client = client; rows = (ap (λ (y : View). y.rows) turn.is ∙ same) i; is_stopped = (ap (λ (y : View). y.is_stopped) turn.is ∙ free) i };
 }
 
-pub took_reply : (client : ℕ) (rows : List Row) (old new : Hall) (z : View) → ClientTurn client rows old new z → IsNoted old.world.history.rows new.world.history.rows → AddsRowOf (Some client) old.world.history.rows new.world.history.rows
-    → TookReply (seen client rows) (seen client z.rows)
-took_reply client rows old new z turn (Same same) adds = WithoutNote (looked client rows old new z turn same)
-took_reply client rows old new z turn (OneNote op tag same) (NoRow still) =
+pub took_reply : (client : ℕ) (v : View) (old new : Hall) (z : View) → ClientTurn client v old new z → IsNoted old.world.history.rows new.world.history.rows → AddsRowOf (Some client) old.world.history.rows new.world.history.rows
+    → is_stopped (phase_at new.world client) ≡ false → TookReply (seen client v) (seen client z)
+took_reply client v old new z turn (Same same) adds free = WithoutNote (looked client v old new z turn same)
+took_reply client v old new z turn (OneNote op tag same) (NoRow still) free =
     absurd (past_end old.world.history.rows (length old.world.history.rows) (Note op tag) (omega arith) (subst (λ l. slice_get l (length old.world.history.rows) ≡ Some (Note op tag)) (sym same ∙ still) (pushed old.world.history.rows (Note op tag))))
-took_reply client rows old new z turn (OneNote op tag same) (OneRow name row is of one) =
-    WithNote op tag (length old.world.history.rows) (added client rows old new z (Note op tag) (length old.world.history.rows) turn refl
-    (subst (λ (y : ℕ × Row). IsRowOf old.world.history.rows y.0 y.1) (λ i. (same_some name client (sym is) i, same_last old.world.history.rows row (Note op tag) (sym one ∙ same) i)) of) same)
+took_reply client v old new z turn (OneNote op tag same) (OneRow name row is of one) free =
+    WithNote op tag (length old.world.history.rows) (added client v old new z (Note op tag) (length old.world.history.rows) turn refl
+    (subst (λ (y : ℕ × Row). IsRowOf old.world.history.rows y.0 y.1) (λ i. (same_some name client (sym is) i, same_last old.world.history.rows row (Note op tag) (sym one ∙ same) i)) of) same free)
 
-pub seat_recorded : (client : ℕ) (z : View) (hall : Hall) → z ≡ seat client hall.world.history.rows → AreRecorded hall.world.history.rows → (z ≡ seat client z.rows) × AreRecorded z.rows
+pub seat_recorded : (client : ℕ) (z : View) (hall : Hall) → z ≡ seat_in client hall.world → AreRecorded hall.world.history.rows → (z ≡ seat client z.rows z.is_stopped) × AreRecorded z.rows
 seat_recorded client z hall is recorded =
     let rows : z.rows ≡ hall.world.history.rows = ap (λ (y : View). y.rows) is in
-    (is ∙ ap (seat client) (sym rows), subst AreRecorded (sym rows) recorded)
+    let stopped : z.is_stopped ≡ is_stopped (phase_at hall.world client) = ap (λ (y : View). y.is_stopped) is in
+    (is ∙ (λ i. seat client (sym rows i) (sym stopped i)), subst AreRecorded (sym rows) recorded)
 
 -- a turn of the door, as the client's pass says it
-pub turn_seen : (client : ℕ) (rows : List Row) (v w : View) (step : Step) (result : Result Effect Refusal) → v ≡ seat client rows → Turns v step result w → Turned (seen client rows) step result (seen client w.rows)
-turn_seen client rows v w step result is turn = record {
+pub turn_seen : (client : ℕ) (v w : View) (step : Step) (result : Result Effect Refusal) → v ≡ seat client v.rows v.is_stopped → Turns v step result w → Turned (seen client v) step result (seen client w)
+turn_seen client v w step result is turn = record {
   before = turn.before;
   after = turn.after;
-  others = (subst (λ y. Knows y turn.before.world) is turn.knows).others client refl;
+  others = turn.knows.others client (ap (λ (y : View). y.client) is);
   took = turn.took;
-  is = ap (seen client) (ap (λ (y : View). y.rows) turn.is);
+  is = ap (seen client) (turn.is ∙ ap (λ y. view_at_rest y turn.after.world) is);
 }
 
-pub quiet_seen : (client : ℕ) (rows : List Row) (v w : View) (step : Step) (result : Result Effect Refusal) → IsQuiet step → v ≡ seat client rows → Turns v step result w → Looked (seen client rows) (seen client w.rows)
-quiet_seen client rows v w step result quiet is turn =
-    looked client rows turn.before turn.after w (record { others = (subst (λ y. Knows y turn.before.world) is turn.knows).others client refl; is = turn.is ∙ ap (λ y. view_at_rest y turn.after.world) is }) (quiet_takes turn.before turn.after step result quiet turn.took)
+pub quiet_seen : (client : ℕ) (v w : View) (step : Step) (result : Result Effect Refusal) → IsQuiet step → v ≡ seat client v.rows v.is_stopped → Turns v step result w → Looked (seen client v) (seen client w)
+quiet_seen client v w step result quiet is turn =
+    looked client v turn.before turn.after w (record { others = turn.knows.others client (ap (λ (y : View). y.client) is); is = turn.is ∙ ap (λ y. view_at_rest y turn.after.world) is }) (quiet_takes turn.before turn.after step result quiet turn.took)
 
-pub seat_turned : (client : ℕ) (v w : View) (step : Step) (result : Result Effect Refusal) → v ≡ seat client v.rows → Turns v step result w → (w ≡ seat client w.rows) × AreRecorded w.rows
+pub seat_turned : (client : ℕ) (v w : View) (step : Step) (result : Result Effect Refusal) → v ≡ seat client v.rows v.is_stopped → Turns v step result w → (w ≡ seat client w.rows w.is_stopped) × AreRecorded w.rows
 seat_turned client v w step result is turn = seat_recorded client w turn.after (turn.is ∙ ap (λ y. view_at_rest y turn.after.world) is) turn.recorded
 
 -- ---- that the hall may be given back
 
-pub client_returns : (client : ℕ) (rows : List Row) (v w : View) (old new : Hall) (step : Step) → v ≡ seat client rows → Receives v old w → IsSound old.world → IsReplay old → IsReplay new → AddsOfItsClient → StayJoined
+pub client_returns : (client : ℕ) (v w : View) (old new : Hall) (step : Step) → v ≡ seat client v.rows v.is_stopped → Receives v old w → IsSound old.world → IsReplay old → IsReplay new → AddsOfItsClient → StayJoined → StayStopped
     → client_in old.world step ≡ Some client → refusal_of old.world step ≡ None → new ≡ with_step old step → MayReturn w new.world
-client_returns client rows v w old new step is received sound before then_it law joined names none same =
-    returnable v w old new.world received.is (took_adds v old new step sound before then_it law joined (λ name one. ap (λ (y : View). y.client) is ∙ sym names ∙ one) none same)
+client_returns client v w old new step is received sound before then_it law joined stay names none same =
+    returnable v w old new.world received.is (took_adds v old new step sound before then_it law joined stay (λ name one. ap (λ (y : View). y.client) is ∙ sym names ∙ one) none same)
 
-pub free_returns : (v w : View) (old new : Hall) (step : Step) → Receives v old w → IsSound old.world → IsReplay old → IsReplay new → AddsOfItsClient → StayJoined
+pub free_returns : (v w : View) (old new : Hall) (step : Step) → Receives v old w → IsSound old.world → IsReplay old → IsReplay new → AddsOfItsClient → StayJoined → StayStopped
     → client_in old.world step ≡ None → refusal_of old.world step ≡ None → new ≡ with_step old step → MayReturn w new.world
-free_returns v w old new step received sound before then_it law joined names none same =
-    returnable v w old new.world received.is (took_adds v old new step sound before then_it law joined (λ name one. none_some (sym names ∙ one)) none same)
+free_returns v w old new step received sound before then_it law joined stay names none same =
+    returnable v w old new.world received.is (took_adds v old new step sound before then_it law joined stay (λ name one. none_some (sym names ∙ one)) none same)
 
 pub same_returns : (v w : View) (old new : Hall) → Receives v old w → new ≡ old → MayReturn w new.world
 same_returns v w old new received same = returnable v w old new.world received.is (kept_adds v old.world new.world (ap (λ (h : Hall). h.world) same))
@@ -209,16 +211,16 @@ invoked_op s name key action op is = same_op (next_call s) op (same_some (effect
     same_op : (a b : OpId) → effect.Invoked a ≡ effect.Invoked b → a ≡ b
     same_op a b e = cc
 
-pub begun : (client : ℕ) (rows : List Row) (v w z : View) (old new : Hall) (key : List ℕ) (action : Action) (op : OpId) (place : ℕ) → v ≡ seat client rows → Receives v old w → Returns w new z
-    → Takes old (step.Invoke client key action) (Ok (effect.Invoked op)) new → length old.world.history.rows ≡ place → AddedRow (seen client rows) (Invoke op client key action) place (seen client z.rows)
-begun client rows v w z old new key action op place is received returned took at =
-    let joined : HasJoined old.world client = (subst (λ y. Knows y old.world) is received.knows).joined client refl in
+pub begun : (client : ℕ) (v w z : View) (old new : Hall) (key : List ℕ) (action : Action) (op : OpId) (place : ℕ) → v ≡ seat client v.rows v.is_stopped → Receives v old w → Returns w new z
+    → Takes old (step.Invoke client key action) (Ok (effect.Invoked op)) new → length old.world.history.rows ≡ place → AddedRow (seen client v) (Invoke op client key action) place (seen client z)
+begun client v w z old new key action op place is received returned took at =
+    let joined : HasJoined old.world client = received.knows.joined client (ap (λ (y : View). y.client) is) in
     let same : new.world.history.rows ≡ old.world.history.rows ++ Invoke op client key action ∷ [] =
     invoked_rows old new client key action joined took.2 ∙ ap (λ o. old.world.history.rows ++ Invoke o client key action ∷ []) (invoked_op old.world client key action op took.1) in
-    added client rows old new z (Invoke op client key action) place (client_turn client rows v w z old new is received returned) at refl same
+    added client v old new z (Invoke op client key action) place (client_turn client v w z old new is received returned) at refl same (invoked_runs old new client key action joined took.2)
 
-pub left : (client : ℕ) (rows : List Row) (v w z : View) (old new : Hall) → v ≡ seat client rows → Receives v old w → Returns w new z → new ≡ old → Looked (seen client rows) (seen client z.rows)
-left client rows v w z old new is received returned same = looked client rows old new z (client_turn client rows v w z old new is received returned) (ap (λ (h : Hall). h.world.history.rows) same)
+pub left : (client : ℕ) (v w z : View) (old new : Hall) → v ≡ seat client v.rows v.is_stopped → Receives v old w → Returns w new z → new ≡ old → Looked (seen client v) (seen client z)
+left client v w z old new is received returned same = looked client v old new z (client_turn client v w z old new is received returned) (ap (λ (h : Hall). h.world.history.rows) same)
 
 -- a response is of the client's own call
 own_response : (s : System) (name : ℕ) (row : Row) (new : List Row) → AddsRowOf (Some name) s.history.rows new → new ≡ s.history.rows ++ row ∷ [] → IsRowOf s.history.rows name row
@@ -227,18 +229,18 @@ own_response s name row new (NoRow still) same =
 own_response s name row new (OneRow other found is of one) same =
     subst (λ (y : ℕ × Row). IsRowOf s.history.rows y.0 y.1) (λ i. (same_some other name (sym is) i, same_last s.history.rows found row (sym one ∙ same) i)) of
 
-pub ended : (client : ℕ) (rows : List Row) (v w z : View) (old new : Hall) (op : OpId) (returned : Returned) (place : ℕ) → v ≡ seat client rows → Receives v old w → Returns w new z → IsSound old.world → AddsOfItsClient
-    → refusal_of old.world (step.Respond client) ≡ None → new ≡ with_step old (step.Respond client) → IsReady old.world client op returned → length old.world.history.rows ≡ place → AddedRow (seen client rows) (Respond op returned) place (seen client z.rows)
-ended client rows v w z old new op returned place is received back sound law none same ready at =
+pub ended : (client : ℕ) (v w z : View) (old new : Hall) (op : OpId) (returned : Returned) (place : ℕ) → v ≡ seat client v.rows v.is_stopped → Receives v old w → Returns w new z → IsSound old.world → AddsOfItsClient
+    → refusal_of old.world (step.Respond client) ≡ None → new ≡ with_step old (step.Respond client) → IsReady old.world client op returned → length old.world.history.rows ≡ place → AddedRow (seen client v) (Respond op returned) place (seen client z)
+ended client v w z old new op returned place is received back sound law none same ready at =
     let grew : new.world.history.rows ≡ old.world.history.rows ++ Respond op returned ∷ [] = responded_rows old new client ready.state op returned ready.there ready.pending ready.answer same in
     let adds : AddsRowOf (Some client) old.world.history.rows new.world.history.rows = subst (AddsRowOf (Some client) old.world.history.rows) (ap (λ (s : System). s.history.rows) (same_next old.world (step.Respond client) none ∙ ap (λ (h : Hall). h.world) (sym same))) (law old.world (step.Respond client) sound) in
-    added client rows old new z (Respond op returned) place (client_turn client rows v w z old new is received back) at (own_response old.world client (Respond op returned) new.world.history.rows adds grew) grew
+    added client v old new z (Respond op returned) place (client_turn client v w z old new is received back) at (own_response old.world client (Respond op returned) new.world.history.rows adds grew) grew (responded_runs old new client ready.state returned ready.there ready.answer same)
 
-pub heard : (client : ℕ) (rows : List Row) (v w z : View) (old new : Hall) (flight : ℕ) → v ≡ seat client rows → Receives v old w → Returns w new z → IsSound old.world → AddsOfItsClient
-    → receiver (message_of old.world.pool.flights flight) ≡ Some client → refusal_of old.world (step.Deliver flight) ≡ None → new ≡ with_step old (step.Deliver flight) → TookReply (seen client rows) (seen client z.rows)
-heard client rows v w z old new flight is received back sound law names none same =
+pub heard : (client : ℕ) (v w z : View) (old new : Hall) (flight : ℕ) → v ≡ seat client v.rows v.is_stopped → Receives v old w → Returns w new z → IsSound old.world → AddsOfItsClient
+    → receiver (message_of old.world.pool.flights flight) ≡ Some client → refusal_of old.world (step.Deliver flight) ≡ None → new ≡ with_step old (step.Deliver flight) → TookReply (seen client v) (seen client z)
+heard client v w z old new flight is received back sound law names none same =
     let moved_to : new.world.history.rows ≡ (deliver old.world flight (message_of old.world.pool.flights flight)).history.rows = ap (λ (h : Hall). h.world.history.rows) same in
     let notes : IsNoted old.world.history.rows new.world.history.rows = subst (IsNoted old.world.history.rows) (sym moved_to) (delivered_rows old.world flight client (message_of old.world.pool.flights flight) names) in
     let adds : AddsRowOf (Some client) old.world.history.rows new.world.history.rows =
     subst (λ (y : Option ℕ × List Row). AddsRowOf y.0 old.world.history.rows y.1) (λ i. (names i, ap (λ (s : System). s.history.rows) (same_next old.world (step.Deliver flight) none ∙ ap (λ (h : Hall). h.world) (sym same)) i)) (law old.world (step.Deliver flight) sound) in
-    took_reply client rows old new z (client_turn client rows v w z old new is received back) notes adds
+    took_reply client v old new z (client_turn client v w z old new is received back) notes adds (delivered_runs old new flight client names none same)

@@ -1,12 +1,14 @@
 -- What a turn of a pass without a client leaves.
-use Rattle.std.proofs.Common.{◌≡◌, ℕ, [], Option, Some, None, Result, Ok, refl, sym, ap, ◌∙◌, subst}
+use Rattle.std.proofs.Common.{◌≡◌, ℕ, [], Option, Some, None, option_map, Result, Ok, refl, sym, ap, ◌∙◌, subst}
 use Rattle.std.specs.FinMap as finite
 use Rattle.std.specs.Ordering.{nat_cmp}
+use Rattle.client_phases.specs.Clients.{phase_of}
 use Rattle.network.specs.declared.messages.Message.{Message}
 use Rattle.network.specs.declared.messages.Message.TheVariants.{ToReplica, ToClient}
 use Rattle.recorder.specs.Histories.{Recorded}
 use Rattle.world_steps.specs.Configs.{Config, config_of}
-use Rattle.world_steps.specs.Lasting.{Grows, HasJoined, receiver}
+use Rattle.world_steps.specs.Lasting.{Grows, HasJoined, HasStopped, receiver}
+use Rattle.world_steps.specs.Refusals.{is_stopped}
 use Rattle.world_steps.specs.SoundSystems.{IsSound}
 use Rattle.world_steps.specs.Systems.{opening}
 use Rattle.world_steps.specs.declared.effect.Effect.{Effect}
@@ -15,7 +17,7 @@ use Rattle.world_steps.specs.declared.step.Step.{Step}
 use Rattle.hall_journal.specs.Halls.{Hall, IsReplay, Takes, opening_hall}
 use Rattle.hall_turns.specs.declared.rule.View.{View}
 use Rattle.hall_turns.specs.Turns.{AreRecorded, IsCopied, IsToReplica, MayReturn, Receives, Returns, Served, Turns, guest, maker, view_at_rest}
-use Rattle.hall_turns.proofs.Rows.{none_some, whole}
+use Rattle.hall_turns.proofs.Rows.{none_some, none_stopped, whole}
 use Rattle.hall_turns.proofs.Turning.{rested}
 
 pub to_replica : (message : Option Message) → IsToReplica message → receiver message ≡ None
@@ -65,6 +67,9 @@ copied v w hall history received replay sound is = record {
 nobody : (config : Config) (name : ℕ) → HasJoined (opening config) name → {A : Type 0} → A
 nobody config name joined = none_some (sym (finite.get-empty nat_cmp name) ∙ joined.1)
 
+none_halted : (config : Config) (name : ℕ) → HasStopped (opening config) name → {A : Type 0} → A
+none_halted config name is = none_stopped (sym (ap (λ o. is_stopped (option_map phase_of o)) (finite.get-empty nat_cmp name)) ∙ is)
+
 pub opens : (config : Config) (hall : Hall) (door : View) → hall ≡ opening_hall config → door ≡ maker → MayReturn door hall.world
 opens config hall door is made = subst (λ (y : View × Hall). MayReturn y.0 y.1.world) (λ i. (sym made i, sym is i)) (record {
   old = opening (config_of 1 1 1);
@@ -73,5 +78,6 @@ opens config hall door is made = subst (λ (y : View × Hall). MayReturn y.0 y.1
     grown = whole [];
     own = λ place row late at. none_some at;
     joined = λ name joined. nobody (config_of 1 1 1) name joined;
+    stopped = λ name is. none_halted (config_of 1 1 1) name is;
   };
 })

@@ -17,9 +17,9 @@ use Rattle.world_steps.specs.declared.step.Step.TheVariants as step
 use Rattle.world_steps.specs.declared.system.System.{System}
 use Rattle.hall_journal.specs.Halls.{Hall, IsReplay, with_step}
 use Rattle.hall_turns.specs.declared.rule.View.{View}
-use Rattle.hall_turns.specs.Turns.{Enters, HasEntered, HasNoCall, Receives, guest, seat}
+use Rattle.hall_turns.specs.Turns.{Enters, HasEntered, HasNoCall, Receives, guest, seat_in}
 use Rattle.hall_turns.proofs.Rows.{none_some}
-use Rattle.hall_turns.proofs.Turning.{StayJoined, joined_on}
+use Rattle.hall_turns.proofs.Turning.{StayJoined, StayStopped, joined_on, stopped_on}
 
 -- a name has the client that it was given last
 pub there_now : (m : finite.FinMap nat_cmp Client) (name : ℕ) (client : Client) → finite.get (finite.insert m name client) name ≡ Some client
@@ -29,8 +29,8 @@ there_now m name client = finite.get-insert nat_cmp_total m name client name ∙
 taken : (s : System) (name : ℕ) → HasJoined s name → refusal_of s (step.Join name) ≡ None → ⊥
 taken s name joined none = none_some (sym none ∙ ap (λ (o : Option Client). if not (is_none o) then Some refusal.ClientTaken else None) joined.1)
 
-pub joins_world : (old new : Hall) (name : ℕ) → IsReplay old → IsReplay new → StayJoined → refusal_of old.world (step.Join name) ≡ None → new ≡ with_step old (step.Join name) → Enters old.world name new.world
-joins_world old new name before then_it stay none same = record {
+pub joins_world : (old new : Hall) (name : ℕ) → IsReplay old → IsReplay new → StayJoined → StayStopped → refusal_of old.world (step.Join name) ≡ None → new ≡ with_step old (step.Join name) → Enters old.world name new.world
+joins_world old new name before then_it stay stopped none same = record {
   fresh = λ joined. taken old.world name joined none;
   rows = ap (λ (h : Hall). h.world.history.rows) same;
   names = ap (λ (h : Hall). h.world.members.joined) same;
@@ -39,13 +39,14 @@ joins_world old new name before then_it stay none same = record {
     ap (λ (h : Hall). finite.get h.world.members.clients name) same ∙ there_now old.world.members.clients name (client_of name old.world.config.quorums old.world.config.reads),
   );
   stayed = λ other joined. joined_on old new (step.Join name) before then_it same stay other joined;
+  stopped = λ other is. stopped_on old new (step.Join name) none same stopped other is;
 }
 
-pub entered : (v w : View) (old new : Hall) (name : ℕ) → v ≡ guest v.rows → Receives v old w → IsReplay old → IsReplay new → StayJoined → refusal_of old.world (step.Join name) ≡ None → new ≡ with_step old (step.Join name)
+pub entered : (v w : View) (old new : Hall) (name : ℕ) → v ≡ guest v.rows → Receives v old w → IsReplay old → IsReplay new → StayJoined → StayStopped → refusal_of old.world (step.Join name) ≡ None → new ≡ with_step old (step.Join name)
     → (w.client ≡ None) × HasEntered w name new.world
-entered v w old new name is received before then_it stay none same = (
+entered v w old new name is received before then_it stay stopped none same = (
   ap (λ (y : View). y.client) received.is ∙ ap (λ (y : View). y.client) is,
-  record { old = old.world; taken = ap (λ (y : View). y.taken) received.is; enters = joins_world old new name before then_it stay none same },
+  record { old = old.world; taken = ap (λ (y : View). y.taken) received.is; enters = joins_world old new name before then_it stay stopped none same },
 )
 
 -- who never joined has no call
@@ -54,7 +55,7 @@ no_call s name rows sound never same place op key action there =
     let found = sound.sound.joined place op name key action (subst (λ l. At l place (Invoke op name key action)) same there) in
     never (_, found.1.is)
 
-pub seat_rows : (v w z : View) (old new : Hall) (name : ℕ) → Receives v old w → IsSound old.world → Enters old.world name new.world → z ≡ seat name new.world.history.rows → Grows v.rows z.rows × HasNoCall name z.rows
+pub seat_rows : (v w z : View) (old new : Hall) (name : ℕ) → Receives v old w → IsSound old.world → Enters old.world name new.world → z ≡ seat_in name new.world → Grows v.rows z.rows × HasNoCall name z.rows
 seat_rows v w z old new name received sound enters is =
     let rows : z.rows ≡ old.world.history.rows = ap (λ (y : View). y.rows) is ∙ enters.rows in
     (subst (Grows v.rows) (sym rows) received.knows.seen, no_call old.world name z.rows sound enters.fresh rows)

@@ -2,7 +2,8 @@ mod Results
 mod Rows
 mod Moves
 mod Turning
+mod Joining
+mod Running
 mod ClientTurns
 mod FreeTurns
-mod Joining
 mod Stopping

@@ -1,17 +1,17 @@
 -- Each move keeps the rule of the hall.
-use Rattle.std.proofs.Common.{◌≡◌, ◌≢◌, ℕ, zero, suc, List, [], ◌∷◌, ◌++◌, Option, Some, None, set, refl, sym, ap, ◌∙◌, subst, ⊎_elim}
+use Rattle.std.proofs.Common.{◌≡◌, ◌≢◌, ℕ, true, zero, suc, List, [], ◌∷◌, ◌++◌, Option, Some, None, set, refl, sym, ap, ◌∙◌, subst, ⊎_elim}
 use mathlib.Core.Option.{some, some-ne-none, some-injective}
 use lib.ListN.{get_elem?}
 use Rattle.crossbeam_channel.specs.Fifo.{Pushes, Pops, Forks}
 use Rattle.atomic_table.proofs.Lists.{at_set, at_snoc, at_longer, set_again}
 use Rattle.world_steps.specs.Configs.{config_of}
-use Rattle.world_steps.specs.Lasting.{Grows, HasJoined}
+use Rattle.world_steps.specs.Lasting.{Grows, HasJoined, HasStopped}
 use Rattle.world_steps.specs.Systems.{opening}
 use Rattle.world_steps.specs.declared.system.System.{System}
 use Rattle.hall_journal.specs.Halls.{Hall}
 use Rattle.hall_turns.specs.declared.rule.View.{View}
-use Rattle.hall_turns.specs.Turns.{Adds, AreApart, AreFitting, BecomesSeat, Enters, Fits, Kept, Knows, MayReturn, OthersAdd, Placed, Receives, Returns, guest, view_with_hall, last_of, maker, view_at_rest, seat}
-use Rattle.hall_turns.proofs.Rows.{longer, more_added, none_added, none_some, same_some, whole}
+use Rattle.hall_turns.specs.Turns.{Adds, AreApart, AreFitting, BecomesSeat, Enters, Fits, Kept, Knows, MayReturn, OthersAdd, Placed, Receives, Returns, guest, is_client_stopped, view_with_hall, last_of, maker, view_at_rest, seat_in}
+use Rattle.hall_turns.proofs.Rows.{longer, more_added, none_added, none_some, none_stopped, same_some, whole}
 
 -- ---- a list in which one view was set
 
@@ -41,6 +41,11 @@ apart_set views pass v w at same apart i j u x client atu atx un xn =
 knows_at : (v : View) (a b : System) → a ≡ b → Knows v b → Knows v a
 knows_at v a b e k = subst (λ s. Knows v s) (sym e) k
 
+-- where who is stopped stays so, the client of a pass does
+stay_stopped : (old new : System) → ((name : ℕ) → HasStopped old name → HasStopped new name) → (client : Option ℕ) → is_client_stopped client old ≡ true → is_client_stopped client new ≡ true
+stay_stopped old new stay (Some name) is = stay name is
+stay_stopped old new stay None is = is
+
 -- ---- the first pass
 
 -- the rule holds as the channel is made
@@ -55,7 +60,7 @@ begins = record {
   where
     one : (pass : ℕ) (v : View) → get_elem? (maker ∷ []) pass ≡ some v → Fits (opening (config_of 1 1 1)) (Some 0) pass v
     one zero v e = subst (λ u. Fits (opening (config_of 1 1 1)) (Some 0) 0 u) (some-injective maker v e) (record {
-      knows = record { seen = whole []; others = λ client is. none_some is; joined = λ client is. none_some is };
+      knows = record { seen = whole []; others = λ client is. none_some is; joined = λ client is. none_some is; stopped = λ is. none_stopped is };
       out = λ s is. (refl, sym (same_some (opening (config_of 1 1 1)) s is));
     })
     one (suc pass) v e = absurd (some-ne-none v (sym e))
@@ -82,7 +87,7 @@ takes_at pass v hall halls views now None placed fitting apart at =
         holder = Some pass;
         placed = (rest, (w, at_here views pass v w at, refl));
         fitting = all_set (Fits hall.world (Some pass)) views pass w
-            (record { knows = record { seen = mine.seen; others = mine.others; joined = mine.joined }; out = λ s is. (refl, sym (same_some hall.world s is)) })
+            (record { knows = record { seen = mine.seen; others = mine.others; joined = mine.joined; stopped = mine.stopped }; out = λ s is. (refl, sym (same_some hall.world s is)) })
             (λ j u _ a. record { knows = knows_at u hall.world now same (fitting j u a).knows; out = λ s is. none_some ((fitting j u a).out s is).0 });
         apart = apart_set views pass v w at refl apart;
       },
@@ -119,6 +124,7 @@ others_know v u old new adds knows apart = record {
         record { name = own.name; apart = λ (same : own.name ≡ client). apart client is (own.client ∙ ap (λ n. Some n) same); is = own.is };
   });
   joined = λ client is. adds.joined client (knows.joined client is);
+  stopped = λ is. stay_stopped old new adds.stopped u.client (knows.stopped is);
 }
 
 pub gives : (n pass : ℕ) (v : View) (hall : Hall) → MayReturn v hall.world → Pushes Kept n pass v hall (Returns v hall)
@@ -135,7 +141,7 @@ gives n pass v hall may halls views _ kept at =
         placed = (hall, ap (λ l. l ++ hall ∷ []) h.empty, refl);
         fitting = all_set (Fits hall.world None) views pass w
             (record {
-              knows = record { seen = whole hall.world.history.rows; others = λ client is. none_added client hall.world.history.rows; joined = λ client is. adds.joined client (mine.joined client is) };
+              knows = record { seen = whole hall.world.history.rows; others = λ client is. none_added client hall.world.history.rows; joined = λ client is. adds.joined client (mine.joined client is); stopped = λ is. is };
               out = λ s is. none_some is;
             })
             (λ j u away a. record {
@@ -157,7 +163,7 @@ forks pass v halls views kept at =
       holder = kept.holder;
       placed = placed_more kept.holder kept.placed;
       fitting = λ j u e. ⊎_elim (λ a. kept.fitting j u a) (λ (is : guest v.rows ≡ u). subst (λ y. Fits kept.now kept.holder j y) is (record {
-        knows = record { seen = (kept.fitting pass v at).knows.seen; others = λ client n. none_some n; joined = λ client n. none_some n };
+        knows = record { seen = (kept.fitting pass v at).knows.seen; others = λ client n. none_some n; joined = λ client n. none_some n; stopped = λ n. none_stopped n };
         out = λ s n. none_some n;
       })) (at_snoc views (guest v.rows) u j e);
       apart = λ i j u x client a b un xn. kept.apart i j u x client (old_at i u client a un) (old_at j x client b xn) un xn;
@@ -182,13 +188,14 @@ entered u old new client enters knows = record {
   seen = subst (λ l. Grows u.rows l) (sym enters.rows) knows.seen;
   others = λ name is. subst (λ l. OthersAdd name u.rows l) (sym enters.rows) (knows.others name is);
   joined = λ name is. enters.stayed name (knows.joined name is);
+  stopped = λ is. stay_stopped old new enters.stopped u.client (knows.stopped is);
 }
 
 pub joins : (n pass : ℕ) (v : View) (hall : Hall) (old : System) (client : ℕ) → v.client ≡ None → v.taken ≡ Some old → Enters old client hall.world → Pushes Kept n pass v hall (BecomesSeat v hall)
 joins n pass v hall old client unnamed taken enters halls views _ kept at =
     let h : Held pass old halls views = held pass v old halls views taken kept at in
     let last : last_of hall.world.members.joined ≡ client = ap last_of enters.names ∙ last_of-push old.members.joined client in
-    let w = seat client hall.world.history.rows in
+    let w = seat_in client hall.world in
     let new : (j : ℕ) (u : View) → get_elem? views j ≡ some u → Knows u hall.world = λ j u a. entered u old hall.world client enters (h.fitting j u a).knows in
     let apart_from : (j : ℕ) (u : View) (name : ℕ) → get_elem? views j ≡ some u → u.client ≡ Some name → name ≢ client = λ j u name a un same. enters.fresh (subst (λ k. HasJoined old k) same ((h.fitting j u a).knows.joined name un)) in (
       w,
@@ -198,7 +205,7 @@ joins n pass v hall old client unnamed taken enters halls views _ kept at =
         placed = (hall, ap (λ l. l ++ hall ∷ []) h.empty, refl);
         fitting = all_set (Fits hall.world None) views pass w
             (record {
-              knows = record { seen = whole hall.world.history.rows; others = λ name is. none_added name hall.world.history.rows; joined = λ name is. subst (λ k. HasJoined hall.world k) (same_some client name is) enters.joined };
+              knows = record { seen = whole hall.world.history.rows; others = λ name is. none_added name hall.world.history.rows; joined = λ name is. subst (λ k. HasJoined hall.world k) (same_some client name is) enters.joined; stopped = λ is. is };
               out = λ s is. none_some is;
             })
             (λ j u away a. record { knows = new j u a; out = λ s is. absurd (away (sym (same_some pass j ((h.fitting j u a).out s is).0))) });
@@ -208,5 +215,5 @@ joins n pass v hall old client unnamed taken enters halls views _ kept at =
             (λ k y _ e yn. all_set (λ m z. z.client ≡ Some name → k ≡ m) views pass w (λ zs. absurd (apart_from k y name e yn (sym (same_some client name zs)))) (λ m z _ f zn. kept.apart k m y z name e f yn zn) j x b xn)
             i u a un;
       },
-      ap (λ k. seat k hall.world.history.rows) (sym last),
+      ap (λ k. seat_in k hall.world) (sym last),
     )

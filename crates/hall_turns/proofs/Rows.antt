@@ -1,5 +1,5 @@
 -- Rows that come behind others.
-use Rattle.std.proofs.Common.{◌≡◌, ◌≤◌, ◌⊎◌, ℕ, zero, suc, List, [], ◌∷◌, ◌++◌, Some, None, length, slice_get, refl, sym, ap, ◌∙◌, subst, ⊎_elim, inl, inr, append_assoc, append-nil, arith}
+use Rattle.std.proofs.Common.{◌≡◌, ◌≤◌, ◌⊎◌, ℕ, true, false, true≢false, zero, suc, List, [], ◌∷◌, ◌++◌, Some, None, length, slice_get, refl, sym, ap, ◌∙◌, subst, ⊎_elim, inl, inr, append_assoc, append-nil, arith}
 use Rattle.std.proofs.lemmas.Option.{slice_get_within}
 use Rattle.tag.specs.declared.numbers.OpId.{OpId}
 use Rattle.recorder.specs.declared.row.Row.{Row}
@@ -10,6 +10,10 @@ use Rattle.hall_turns.specs.Turns.{IsOfAnother, OthersAdd}
 
 pub none_some : {A B : Type 0} {x : A} → None ≡ Some x → B
 none_some e = absurd (cc)
+
+-- a pass that has seen no client stopped knows of none
+pub none_stopped : {A : Type 0} → false ≡ true → A
+none_stopped e = absurd (true≢false (sym e))
 
 pub same_some : {A : Type 0} (x y : A) → Some x ≡ Some y → x ≡ y
 same_some x y e = cc

@@ -1,10 +1,11 @@
 -- A turn that stops a client.
-use Rattle.std.proofs.Common.{◌≡◌, ℕ, List, [], ◌∷◌, Bool, true, false, is_none, option_map, Some, Result, Ok, Err, ⊎_elim, refl, ap, ◌∙◌, subst}
+use Rattle.std.proofs.Common.{◌≡◌, ℕ, [], ◌∷◌, Bool, true, false, is_none, option_map, Some, Result, Ok, Err, ⊎_elim, refl, ap, ◌∙◌, subst}
 use Rattle.std.specs.FinMap as finite
 use Rattle.client_phases.specs.Clients.{client_after_stop, phase_of}
 use Rattle.client_phases.specs.declared.clients.Client.{Client}
-use Rattle.recorder.specs.declared.row.Row.{Row}
-use Rattle.world_steps.specs.Lasting.{HasJoined}
+use Rattle.client_phases.specs.declared.outcomes.Phase.{Phase}
+use Rattle.client_phases.specs.declared.outcomes.Phase.TheVariants as phase
+use Rattle.world_steps.specs.Lasting.{HasJoined, HasStopped}
 use Rattle.world_steps.specs.Refusals.{first_of, is_stopped, no_such_client, phase_at}
 use Rattle.world_steps.specs.Systems.{stop, system_after}
 use Rattle.world_steps.specs.declared.effect.Effect.{Effect}
@@ -14,8 +15,7 @@ use Rattle.world_steps.specs.declared.step.Step.TheVariants as step
 use Rattle.world_steps.specs.declared.system.System.{System}
 use Rattle.hall_journal.specs.Halls.{Hall, IsRefused, Takes}
 use Rattle.hall_turns.specs.declared.rule.View.{View}
-use Rattle.hall_turns.specs.Turns.{Knows, SeesStopped, Turns, seat}
-use Rattle.hall_turns.proofs.ClientTurns.{seen}
+use Rattle.hall_turns.specs.Turns.{Receives, Turns, is_client_stopped, seat}
 use Rattle.hall_turns.proofs.Joining.{there_now}
 use Rattle.hall_turns.proofs.Rows.{none_some}
 
@@ -38,10 +38,19 @@ is_stopped_after : (old new : Hall) (name : ℕ) (result : Result Effect Refusal
 is_stopped_after old new name (Ok effect) joined took = ap (λ (h : Hall). is_stopped (phase_at h.world name)) took.2 ∙ stops old.world name joined.0 joined.1
 is_stopped_after old new name (Err why) joined took = ap (λ (h : Hall). is_stopped (phase_at h.world name)) took.1 ∙ was_stopped old.world name why joined took.0
 
-pub sees_stopped : (client : ℕ) (rows : List Row) (v w : View) (result : Result Effect Refusal) → v ≡ seat client rows → Turns v (step.StopClient client) result w → SeesStopped (seen client w.rows)
-sees_stopped client rows v w result is turn = record {
-  hall = turn.after;
-  replay = turn.replay;
-  rows = ap (λ (y : View). y.rows) turn.is;
-  stopped = is_stopped_after turn.before turn.after client result ((subst (λ y. Knows y turn.before.world) is turn.knows).joined client refl) turn.took;
-}
+pub sees_stopped : (client : ℕ) (v w : View) (result : Result Effect Refusal) → v ≡ seat client v.rows v.is_stopped → Turns v (step.StopClient client) result w → w.is_stopped ≡ true
+sees_stopped client v w result is turn =
+    let named : v.client ≡ Some client = ap (λ (y : View). y.client) is in
+    ap (λ (y : View). y.is_stopped) turn.is ∙ ap (λ c. is_client_stopped c turn.after.world) named ∙ is_stopped_after turn.before turn.after client result (turn.knows.joined client named) turn.took
+
+-- no other phase is stopped
+pub only_stopped : (p : Phase) → is_stopped (Some p) ≡ true → p ≡ phase.Stopped
+only_stopped phase.Idle is = absurd (cc)
+only_stopped phase.Ask is = absurd (cc)
+only_stopped phase.Put is = absurd (cc)
+only_stopped phase.Ready is = absurd (cc)
+only_stopped phase.Stopped is = refl
+
+-- a client that was seen stopped is stopped as the hall is taken
+pub found_stopped : (client : ℕ) (v w : View) (hall : Hall) → v ≡ seat client v.rows v.is_stopped → Receives v hall w → v.is_stopped ≡ true → HasStopped hall.world client
+found_stopped client v w hall is received stopped = subst (λ c. is_client_stopped c hall.world ≡ true) (ap (λ (y : View). y.client) is) (received.knows.stopped stopped)

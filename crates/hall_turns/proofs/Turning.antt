@@ -4,7 +4,7 @@ use Rattle.std.specs.Prelude.{if◌then◌else◌}
 use Rattle.recorder.specs.Histories.{IsWellFormed}
 use Rattle.recorder.specs.declared.row.Row.{Row}
 use Rattle.world_steps.specs.Configs.{Config}
-use Rattle.world_steps.specs.Lasting.{AddsRowOf, Grows, HasJoined, IsRowOf, client_in}
+use Rattle.world_steps.specs.Lasting.{AddsRowOf, Grows, HasJoined, HasStopped, IsRowOf, client_in}
 use Rattle.world_steps.specs.Lasting.AddsRowOf.{NoRow, OneRow}
 use Rattle.world_steps.specs.Refusals.{refusal_of}
 use Rattle.world_steps.specs.Runs.{after, next}
@@ -27,6 +27,9 @@ AddsOfItsClient = (s : System) (step : Step) → IsSound s → AddsRowOf (client
 
 abbrev pub StayJoined : Type 0
 StayJoined = (config : Config) (steps later : List Step) (name : ℕ) → HasJoined (after config steps) name → HasJoined (after config (steps ++ later)) name
+
+abbrev pub StayStopped : Type 0
+StayStopped = (s : System) (step : Step) (name : ℕ) → HasStopped s name → HasStopped (next s step) name
 
 -- whose row a step may add
 owner : (client : Option ℕ) (s : System) (step : Step) → MayTake client step → (name : ℕ) → client_in s step ≡ Some name → client ≡ Some name
@@ -73,35 +76,39 @@ joined_on old new step before after_it same stay name joined =
     let now : new.world ≡ after old.config (old.journal ++ step ∷ []) = after_it.is ∙ ap (λ (h : Hall). after h.config h.journal) same in
     subst (λ s. HasJoined s name) (sym now) (stay old.config old.journal (step ∷ []) name (subst (λ s. HasJoined s name) before.is joined))
 
+pub stopped_on : (old new : Hall) (step : Step) → refusal_of old.world step ≡ None → new ≡ with_step old step → StayStopped → (name : ℕ) → HasStopped old.world name → HasStopped new.world name
+stopped_on old new step none same stay name stopped =
+    subst (λ s. HasStopped s name) (same_next old.world step none ∙ ap (λ (h : Hall). h.world) (sym same)) (stay old.world step name stopped)
+
 -- what a step that the hall takes adds, and that it may then be given back
-pub took_adds : (v : View) (old new : Hall) (step : Step) → IsSound old.world → IsReplay old → IsReplay new → AddsOfItsClient → StayJoined
+pub took_adds : (v : View) (old new : Hall) (step : Step) → IsSound old.world → IsReplay old → IsReplay new → AddsOfItsClient → StayJoined → StayStopped
     → ((name : ℕ) → client_in old.world step ≡ Some name → v.client ≡ Some name) → refusal_of old.world step ≡ None → new ≡ with_step old step → Adds v old.world new.world
-took_adds v old new step sound before after_it rows stay owns none same =
+took_adds v old new step sound before after_it rows stay stopped owns none same =
     let is : (next old.world step).history.rows ≡ new.world.history.rows = ap (λ (s : System). s.history.rows) (same_next old.world step none ∙ ap (λ (h : Hall). h.world) (sym same)) in
     let added : OwnAdded v old.world.history.rows new.world.history.rows = own_added v (client_in old.world step) old.world.history.rows new.world.history.rows owns (subst (AddsRowOf (client_in old.world step) old.world.history.rows) is (rows old.world step sound)) in
-    record { grown = added.grown; own = added.own; joined = λ client joined. joined_on old new step before after_it same stay client joined }
+    record { grown = added.grown; own = added.own; joined = λ client joined. joined_on old new step before after_it same stay client joined; stopped = λ client is. stopped_on old new step none same stopped client is }
 
 pub kept_adds : (v : View) (old new : System) → new ≡ old → Adds v old new
 kept_adds v old new same =
     let added : OwnAdded v old.history.rows new.history.rows = none_own v old.history.rows new.history.rows (ap (λ (s : System). s.history.rows) same) in
-    record { grown = added.grown; own = added.own; joined = λ client joined. subst (λ s. HasJoined s client) (sym same) joined }
+    record { grown = added.grown; own = added.own; joined = λ client joined. subst (λ s. HasJoined s client) (sym same) joined; stopped = λ client is. subst (λ s. HasStopped s client) (sym same) is }
 
-takes_add : (v : View) (old new : Hall) (step : Step) (result : Result Effect Refusal) → IsSound old.world → IsReplay old → IsReplay new → AddsOfItsClient → StayJoined
+takes_add : (v : View) (old new : Hall) (step : Step) (result : Result Effect Refusal) → IsSound old.world → IsReplay old → IsReplay new → AddsOfItsClient → StayJoined → StayStopped
     → ((name : ℕ) → client_in old.world step ≡ Some name → v.client ≡ Some name) → Takes old step result new → Adds v old.world new.world
-takes_add v old new step (Ok effect) sound before after_it rows stay owns took = took_adds v old new step sound before after_it rows stay owns took.0 took.2
-takes_add v old new step (Err why) sound before after_it rows stay owns took = kept_adds v old.world new.world (ap (λ (h : Hall). h.world) took.1)
+takes_add v old new step (Ok effect) sound before after_it rows stay stopped owns took = took_adds v old new step sound before after_it rows stay stopped owns took.0 took.2
+takes_add v old new step (Err why) sound before after_it rows stay stopped owns took = kept_adds v old.world new.world (ap (λ (h : Hall). h.world) took.1)
 
 pub returnable : (v w : View) (old : Hall) (new : System) → w ≡ view_with_hall v old.world → Adds v old.world new → MayReturn w new
 returnable v w old new is adds = subst (λ y. MayReturn y new) (sym is) (record {
   old = old.world;
   taken = refl;
-  adds = record { grown = adds.grown; own = λ place row late at. let own = adds.own place row late at in record { name = own.name; client = own.client; is = own.is }; joined = adds.joined };
+  adds = record { grown = adds.grown; own = λ place row late at. let own = adds.own place row late at in record { name = own.name; client = own.client; is = own.is }; joined = adds.joined; stopped = adds.stopped };
 })
 
 pub may_return : (v w : View) (old new : Hall) (step : Step) (result : Result Effect Refusal) → MayTake v.client step → Receives v old w → IsSound old.world → IsReplay old → IsReplay new
-    → AddsOfItsClient → StayJoined → Takes old step result new → MayReturn w new.world
-may_return v w old new step result may received sound before after_it rows stay took =
-    returnable v w old new.world received.is (takes_add v old new step result sound before after_it rows stay (owner v.client old.world step may) took)
+    → AddsOfItsClient → StayJoined → StayStopped → Takes old step result new → MayReturn w new.world
+may_return v w old new step result may received sound before after_it rows stay stopped took =
+    returnable v w old new.world received.is (takes_add v old new step result sound before after_it rows stay stopped (owner v.client old.world step may) took)
 
 pub rested : (v w z : View) (old hall : Hall) → w ≡ view_with_hall v old.world → Returns w hall z → z ≡ view_at_rest v hall.world
 rested v w z old hall is returned = returned ∙ ap (λ y. view_at_rest y hall.world) is

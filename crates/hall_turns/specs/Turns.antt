@@ -1,5 +1,5 @@
 -- A hall that threads take in turns: it lies in a channel or is out with one pass, and each pass knows what it has seen.
-use Rattle.std.specs.Prelude.{ℕ, ◌≡◌, ◌≤◌, true, List, [], ◌∷◌, ◌++◌, Option, Some, None, Result, length}
+use Rattle.std.specs.Prelude.{ℕ, ◌≡◌, ◌≤◌, Bool, true, false, List, [], ◌∷◌, ◌++◌, Option, Some, None, Result, length}
 use Rattle.std.specs.FinMap as finite
 use mathlib.Core.Option.{some}
 use lib.ListN.{get_elem?}
@@ -15,7 +15,7 @@ use Rattle.recorder.specs.Histories.{IsWellFormed, Recorded}
 use Rattle.recorder.specs.declared.row.Row.{Row}
 use Rattle.recorder.specs.declared.row.Row.TheVariants.{Invoke, Note}
 use Rattle.world_steps.specs.Configs.{config_of}
-use Rattle.world_steps.specs.Lasting.{Grows, HasJoined, IsRowOf}
+use Rattle.world_steps.specs.Lasting.{Grows, HasJoined, HasStopped, IsRowOf}
 use Rattle.world_steps.specs.Refusals.{is_stopped, phase_at}
 use Rattle.world_steps.specs.SoundSystems.{IsSound}
 use Rattle.world_steps.specs.Sound.{At}
@@ -32,23 +32,32 @@ use Rattle.hall_turns.specs.declared.rule.View.{View}
 
 -- a pass without a client, which has seen these rows
 abbrev pub guest : List Row → View
-guest rows = record { client = None; rows = rows; taken = None }
+guest rows = record { client = None; rows = rows; is_stopped = false; taken = None }
 
--- the pass of a client
-abbrev pub seat : ℕ → List Row → View
-seat client rows = record { client = Some client; rows = rows; taken = None }
+-- the pass of a client, which has seen these rows, and whether the client is stopped
+abbrev pub seat : ℕ → List Row → Bool → View
+seat client rows stopped = record { client = Some client; rows = rows; is_stopped = stopped; taken = None }
 
 -- the first pass: a hall that nobody has had yet is out with it
 abbrev pub maker : View
-maker = record { client = None; rows = []; taken = Some (opening (config_of 1 1 1)) }
+maker = record { client = None; rows = []; is_stopped = false; taken = Some (opening (config_of 1 1 1)) }
+
+-- whether the client of a pass, if it has one, is stopped
+abbrev pub is_client_stopped : Option ℕ → System → Bool
+is_client_stopped (Some client) s = is_stopped (phase_at s client)
+is_client_stopped None s = false
+
+-- the pass of a client, as it gave the hall back with this world
+abbrev pub seat_in : ℕ → System → View
+seat_in client s = seat client s.history.rows (is_stopped (phase_at s client))
 
 -- the pass, once it took the hall with this world
 abbrev pub view_with_hall : View → System → View
-view_with_hall v s = record { client = v.client; rows = v.rows; taken = Some s }
+view_with_hall v s = record { client = v.client; rows = v.rows; is_stopped = v.is_stopped; taken = Some s }
 
 -- the pass, once it gave the hall back with this world
 abbrev pub view_at_rest : View → System → View
-view_at_rest v s = record { client = v.client; rows = s.history.rows; taken = None }
+view_at_rest v s = record { client = v.client; rows = s.history.rows; is_stopped = is_client_stopped v.client s; taken = None }
 
 abbrev pub IsAtRest : View → Type 0
 IsAtRest v = v.taken ≡ None
@@ -68,12 +77,13 @@ pub record OthersAdd (client : ℕ) (seen rows : List Row) : Type 0 where
 
 -- ---- the rule
 
--- what a pass knows of the world: its rows begin with those that the pass has seen; and where the pass has a client, this one joined, and
--- what came behind those rows is of other clients
+-- what a pass knows of the world: its rows begin with those that the pass has seen; and where the pass has a client, this one joined, what
+-- came behind those rows is of other clients, and the client is stopped, where the pass saw it stopped
 pub record Knows (v : View) (s : System) : Type 0 where
   pub seen : Grows v.rows s.history.rows
   pub others : (client : ℕ) → v.client ≡ Some client → OthersAdd client v.rows s.history.rows
   pub joined : (client : ℕ) → v.client ≡ Some client → HasJoined s client
+  pub stopped : v.is_stopped ≡ true → is_client_stopped v.client s ≡ true
 
 -- a pass that holds the hall is its holder, and took it with this world
 pub record Fits (now : System) (holder : Option ℕ) (pass : ℕ) (v : View) : Type 0 where
@@ -118,11 +128,13 @@ pub record IsOwn (v : View) (rows : List Row) (row : Row) : Type 0 where
   pub client : v.client ≡ Some name
   pub is : IsRowOf rows name row
 
--- what may be done to a hall that is out with the pass: rows of its client's calls are added and no others, and who joined stays joined
+-- what may be done to a hall that is out with the pass: rows of its client's calls are added and no others, who joined stays joined, and
+-- who is stopped stays stopped
 pub record Adds (v : View) (old new : System) : Type 0 where
   pub grown : Grows old.history.rows new.history.rows
   pub own : (place : ℕ) (row : Row) → length old.history.rows ≤ place → At new.history.rows place row → IsOwn v new.history.rows row
   pub joined : (client : ℕ) → HasJoined old client → HasJoined new client
+  pub stopped : (client : ℕ) → HasStopped old client → HasStopped new client
 
 -- the hall is out with the pass, and may be given back as it is
 pub record MayReturn (v : View) (new : System) : Type 0 where
@@ -130,13 +142,14 @@ pub record MayReturn (v : View) (new : System) : Type 0 where
   pub taken : v.taken ≡ Some old
   pub adds : Adds v old new
 
--- a client joins the world, and no row comes
+-- a client joins the world, no row comes, and who joined or is stopped stays so
 pub record Enters (old : System) (client : ℕ) (new : System) : Type 0 where
   pub fresh : HasJoined old client → ⊥
   pub rows : new.history.rows ≡ old.history.rows
   pub names : new.members.joined ≡ old.members.joined ++ client ∷ []
   pub joined : HasJoined new client
   pub stayed : (other : ℕ) → HasJoined old other → HasJoined new other
+  pub stopped : (other : ℕ) → HasStopped old other → HasStopped new other
 
 -- the hall is out with the pass, and the client joined it since
 pub record HasEntered (v : View) (client : ℕ) (new : System) : Type 0 where
@@ -152,7 +165,7 @@ last_of (name ∷ next ∷ names) = last_of (next ∷ names)
 
 -- the hall was given back by a pass whose client is from now on the last that joined
 abbrev pub BecomesSeat : View → Hall → View → Type 0
-BecomesSeat v hall w = w ≡ seat (last_of hall.world.members.joined) hall.world.history.rows
+BecomesSeat v hall w = w ≡ seat_in (last_of hall.world.members.joined) hall.world
 
 -- ---- turns
 
@@ -196,10 +209,11 @@ pub record Looks (v w : View) : Type 0 where
 
 -- ---- what contracts say of a client's pass
 
--- the client, and the rows that it has seen
+-- the client, the rows that it has seen, and whether it was stopped in the hall as its pass last gave it back; who is stopped there stays so
 pub record Seen : Type 0 where
   pub client : ℕ
   pub rows : List Row
+  pub is_stopped : Bool
 
 -- one turn, in which the hall took the step, or refused it: behind the rows that were seen came those of other clients alone, and then
 -- what the step added
@@ -208,27 +222,20 @@ pub record Turned (old : Seen) (step : Step) (result : Result Effect Refusal) (n
   pub after : Hall
   pub others : OthersAdd old.client old.rows before.world.history.rows
   pub took : Takes before step result after
-  pub is : new ≡ record { client = old.client; rows = after.world.history.rows }
+  pub is : new ≡ record { client = old.client; rows = after.world.history.rows; is_stopped = is_stopped (phase_at after.world old.client) }
 
 -- one turn, or several, in which rows of other clients came, and no others
 pub record Looked (old new : Seen) : Type 0 where
   pub client : new.client ≡ old.client
   pub others : OthersAdd old.client old.rows new.rows
 
--- the client of the pass is stopped in a world that steps reach, whose rows are those that the pass has seen
-pub record SeesStopped (now : Seen) : Type 0 where
-  pub hall : Hall
-  pub replay : IsReplay hall
-  pub rows : now.rows ≡ hall.world.history.rows
-  pub stopped : is_stopped (phase_at hall.world now.client) ≡ true
-
--- one turn, in which that row of the client's came, at that place: before it came rows of other clients alone
+-- one turn, in which that row of the client's came, at that place: before it came rows of other clients alone; and the client isn't stopped
 pub record AddedRow (old : Seen) (row : Row) (place : ℕ) (new : Seen) : Type 0 where
   pub before : List Row
   pub others : OthersAdd old.client old.rows before
   pub at : length before ≡ place
   pub own : IsRowOf before old.client row
-  pub is : new ≡ record { client = old.client; rows = before ++ row ∷ [] }
+  pub is : new ≡ record { client = old.client; rows = before ++ row ∷ []; is_stopped = false }
 
 -- one turn, in which rows of other clients came, and then perhaps a note of one of the client's calls
 pub data TookReply (old new : Seen) : Type 0 where

@@ -1,14 +1,14 @@
 //! A client's way to a hall.
-ghost use Rattle.std.specs.Prelude.{◌≡◌, ◌≤◌, Ok, Err, Some, None, IfOk, IfSome, OnErr, IsTrue, length, ℕ};
+ghost use Rattle.std.specs.Prelude.{◌≡◌, ◌≤◌, true, Ok, Err, Some, None, IfOk, IfSome, OnErr, IsTrue, length, ℕ};
 ghost use Rattle.std.specs.Option.{option_copied};
 ghost use Rattle.network.specs.Flights.{message_of};
 ghost use Rattle.recorder.specs.declared.row.Row.TheVariants as row;
-ghost use Rattle.world_steps.specs.Lasting.{receiver};
+ghost use Rattle.world_steps.specs.Lasting.{HasStopped, receiver};
 ghost use Rattle.world_steps.specs.Refusals.{refusal_of};
 ghost use Rattle.world_steps.specs.declared.effect.Effect.TheVariants as effect;
 ghost use Rattle.world_steps.specs.declared.step.Step.TheVariants as event;
 ghost use Rattle.hall_journal.specs.Halls.{Takes, with_step};
-ghost use Rattle.hall_turns.specs.Turns.{AddedRow, AreRecorded, IsQuiet, IsReady, Looked, MayTake, SeesStopped, TookReply, Turned, seat};
+ghost use Rattle.hall_turns.specs.Turns.{AddedRow, AreRecorded, IsQuiet, IsReady, Looked, MayTake, TookReply, Turned, seat};
 
 use crate::door::{Door, known};
 use client_phases::{Phase, Taken};
@@ -34,9 +34,9 @@ impl Model for ClientPass {
 
     ghost Value = { Seen };
 
-    ghost view = { λ p. record { client = p.client; rows = p.door.rows } };
+    ghost view = { λ p. record { client = p.client; rows = p.door.rows; is_stopped = p.door.is_stopped } };
 
-    ghost invariant = { λ p. (p.door ≡ seat p.client p.door.rows) × AreRecorded p.door.rows };
+    ghost invariant = { λ p. (p.door ≡ seat p.client p.door.rows p.door.is_stopped) × AreRecorded p.door.rows };
 }
 
 /// A call that began.
@@ -82,9 +82,13 @@ pub enum Delay {
 impl ClientPass {
     /// The way of the client that this door's pass has.
     pub(crate) fn new(client: ClientId, door: Door) -> ClientPass
-        requires seat { door ≡ seat client door.rows }
+        requires seat { door ≡ seat client door.rows door.is_stopped }
         requires recorded { AreRecorded door.rows }
-        ensures { result ≡ record { client = client; rows = door.rows } }
+        ensures { result ≡ record {
+          client = client;
+          rows = door.rows;
+          is_stopped = door.is_stopped;
+        } }
     {
         ClientPass { client, door }
     }
@@ -111,7 +115,7 @@ impl ClientPass {
     /// One turn: the client stops for good, where it hasn't yet. Nothing refuses that for memory.
     pub fn stop(&mut self, rt: &impl Wait)
         ensures looked { Looked self.old self.new }
-        ensures stopped { SeesStopped self.new }
+        ensures stopped { self.new.is_stopped ≡ true }
         ensures recorded { AreRecorded self.new.rows }
     {
         let client = self.client;
@@ -120,9 +124,10 @@ impl ClientPass {
 }
 
 impl ClientPass {
-    /// One turn: where the client stands.
+    /// One turn: where the client stands. Once it was seen stopped it stands stopped.
     pub fn standing(&mut self, rt: &impl Wait) -> Standing
         ensures looked { Looked self.old self.new }
+        ensures stopped { self.old.is_stopped ≡ true → result.phase ≡ Phase.Stopped }
         ensures recorded { AreRecorded self.new.rows }
     {
         let hall = self.door.receive(rt);
@@ -149,6 +154,7 @@ impl ClientPass {
     {
         laws::a_step_adds_a_row_of_its_client();
         laws::further_steps_take_nothing_away();
+        laws::a_stop_is_for_good();
         let mut hall = self.door.receive(rt);
         known(&hall);
         let begun = begin_in(&mut hall, self.client, key, action, seen);
@@ -165,6 +171,7 @@ impl ClientPass {
     {
         laws::a_step_adds_a_row_of_its_client();
         laws::further_steps_take_nothing_away();
+        laws::a_stop_is_for_good();
         let mut hall = self.door.receive(rt);
         known(&hall);
         let taken = deliver_in(&mut hall, self.client, flight);
@@ -184,6 +191,7 @@ impl ClientPass {
     {
         laws::a_step_adds_a_row_of_its_client();
         laws::further_steps_take_nothing_away();
+        laws::a_stop_is_for_good();
         let mut hall = self.door.receive(rt);
         known(&hall);
         let ended = respond_in(&mut hall, self.client);
@@ -291,7 +299,9 @@ fn answer_in(world: &World, client: ClientId) -> Result<Option<(OpId, Returned)>
 }
 
 /// Where the client stands.
-fn standing_in(world: &World, client: ClientId) -> Standing {
+fn standing_in(world: &World, client: ClientId) -> Standing
+    ensures { HasStopped world.now client → result.phase ≡ Phase.Stopped }
+{
     match world.client(client) {
         Some(state) => Standing {
             phase: state.phase(),

@@ -1,6 +1,6 @@
 //! The way to a hall: the ends of its channel, and a pass of the rule.
 ghost use Rattle.std.specs.Prelude.{◌≡◌, None, IfOk, IfSome, IsNone};
-ghost use Rattle.hall_turns.specs.Turns.{HasEntered, IsAtRest, MayReturn, MayTake, Receives, Returns, Turns, guest, maker, seat};
+ghost use Rattle.hall_turns.specs.Turns.{HasEntered, IsAtRest, MayReturn, MayTake, Receives, Returns, Turns, guest, maker, seat_in};
 ghost use Rattle.recorder.specs.Histories.{IsWellFormed};
 ghost use Rattle.hall_journal.specs.Halls.{IsReplay};
 ghost use Rattle.world_steps.specs.SoundSystems.{IsSound};
@@ -34,8 +34,8 @@ pub struct Door {
 }
 
 impl Model for Door {
-    ghost use Rattle.std.specs.Prelude.{◌≡◌, ℕ, List, Option, refl};
-    ghost use Rattle.std.specs.Coded.{code_by, coded×, coded_list, coded_option, coded_ℕ};
+    ghost use Rattle.std.specs.Prelude.{◌≡◌, ℕ, Bool, List, Option, refl};
+    ghost use Rattle.std.specs.Coded.{code_by, coded×, coded_bool, coded_list, coded_option, coded_ℕ};
     ghost use Rattle.crossbeam_channel.specs.Claims.{view as pass_view, IsSeatAt};
     ghost use Rattle.crossbeam_channel.specs.Ends.{sends_on, receives_on};
     ghost use Rattle.recorder.specs.contracts.row.Row as entry;
@@ -46,7 +46,7 @@ impl Model for Door {
 
     ghost Value = { View };
 
-    ghost coded = { code_by (Option ℕ × (List Row × Option System)) (coded× (coded_option coded_ℕ) (coded× (coded_list entry.the_row.coded) (coded_option whole.the_row.coded))) (λ v. (v.client, (v.rows, v.taken))) (λ p. record { client = p.0; rows = p.1.0; taken = p.1.1 }) (λ _. refl) };
+    ghost coded = { code_by (Option ℕ × (List Row × (Bool × Option System))) (coded× (coded_option coded_ℕ) (coded× (coded_list entry.the_row.coded) (coded× coded_bool (coded_option whole.the_row.coded)))) (λ v. (v.client, (v.rows, (v.is_stopped, v.taken)))) (λ p. record { client = p.0; rows = p.1.0; is_stopped = p.1.1.0; taken = p.1.1.1 }) (λ _. refl) };
 
     ghost view = { λ d. pass_view d.pass };
 
@@ -128,7 +128,7 @@ impl Door {
     pub(crate) fn give_named(&mut self, rt: &impl Wait, hall: Hall, client: ClientId)
         requires free { self.old.client ≡ None }
         requires joined { HasEntered self.old client hall.world }
-        ensures { self.new ≡ seat client hall.world.history.rows }
+        ensures { self.new ≡ seat_in client hall.world }
     {
         let mut back = hall;
         for _ in rt.forever() {
@@ -165,6 +165,7 @@ impl Door {
     {
         laws::a_step_adds_a_row_of_its_client();
         laws::further_steps_take_nothing_away();
+        laws::a_stop_is_for_good();
         let mut hall = self.receive(rt);
         known(&hall);
         let taken = hall.take(step);

@@ -1,5 +1,5 @@
 //! A way to a hall without a client.
-ghost use Rattle.std.specs.Prelude.{◌≡◌, Ok, None, Some, IfOk, OnOk, OnErr, IsTrue, [], ℕ};
+ghost use Rattle.std.specs.Prelude.{◌≡◌, false, Ok, None, Some, IfOk, OnOk, OnErr, IsTrue, [], ℕ};
 ghost use Rattle.std.specs.Fn.{FnOnceReturnsAt};
 ghost use Rattle.std.specs.Option.{option_copied};
 ghost use Rattle.network.specs.Flights.{message_of};
@@ -85,6 +85,7 @@ impl FreePass {
     {
         laws::a_step_adds_a_row_of_its_client();
         laws::further_steps_take_nothing_away();
+        laws::a_stop_is_for_good();
         let mut hall = self.door.receive(rt);
         known(&hall);
         let served = serve_in(&mut hall, replica, flight);
@@ -121,9 +122,11 @@ impl FreePass {
     /// One turn: the client joins, and has this way from now on.
     pub fn join(self, rt: &impl Wait, client: ClientId) -> Result<ClientPass, Refusal>
         ensures client { IfOk result (λ pass. pass.client ≡ client) }
+        ensures running { IfOk result (λ pass. pass.is_stopped ≡ false) }
         ensures rows { IfOk result (λ pass. Grows self pass.rows × HasNoCall client pass.rows) }
     {
         laws::further_steps_take_nothing_away();
+        laws::a_stop_is_for_good();
         let FreePass { mut door } = self;
         let mut hall = door.receive(rt);
         known(&hall);

@@ -6,11 +6,13 @@ use std::collections::LinkedList;
 use tag::ClientId;
 use world_steps::World;
 
-/// What a pass knows: its client, if it has one; the rows that it has seen; and, while it holds the
-/// hall, the world that it took. No value of it is made.
+/// What a pass knows: its client, if it has one; the rows that it has seen; whether the client was
+/// stopped in the hall as the pass last gave it back; and, while it holds the hall, the world that it
+/// took. No value of it is made.
 pub struct View {
     pub client: Option<ClientId>,
     pub rows: LinkedList<Row>,
+    pub is_stopped: bool,
     pub taken: Option<World>,
 }
 

@@ -7,30 +7,30 @@ use Rattle.hall_turns.proofs.client_pass.ClientPass.invoke.Goals as goal
 
 pub give_back-requires : goal.give_back-requires
 give_back-requires g c = either c.begin_in-begun.result c.begin_in-begun.ensures.began
-    (λ b took. client_returns c.self.inside.client c.self.inside.door.rows c.self.inside.door c.receive-hall.new.self c.receive-hall.result c.begin_in-begun.new.hall (event.Invoke c.self.inside.client c.args.key c.args.action) c.self.invariant.0 c.receive-hall.ensures c.known.ensures.sound c.known.ensures.replay c.known-2.ensures.replay c.a_step_adds_a_row_of_its_client.ensures c.further_steps_take_nothing_away.ensures.joined refl took.0 took.2)
+    (λ b took. client_returns c.self.inside.client c.self.inside.door c.receive-hall.new.self c.receive-hall.result c.begin_in-begun.new.hall (event.Invoke c.self.inside.client c.args.key c.args.action) c.self.invariant.0 c.receive-hall.ensures c.known.ensures.sound c.known.ensures.replay c.known-2.ensures.replay c.a_step_adds_a_row_of_its_client.ensures c.further_steps_take_nothing_away.ensures.joined c.a_stop_is_for_good.ensures.next refl took.0 took.2)
     c.begin_in-begun.ensures.delayed (λ same. same_returns c.self.inside.door c.receive-hall.new.self c.receive-hall.result c.begin_in-begun.new.hall c.receive-hall.ensures same)
 
 pub invariant_of-self : goal.invariant_of-self
 invariant_of-self g c =
-    seat_recorded c.self.inside.client c.give_back.new.self c.begin_in-begun.new.hall (client_turn c.self.inside.client c.self.inside.door.rows c.self.inside.door c.receive-hall.new.self c.give_back.new.self c.receive-hall.result c.begin_in-begun.new.hall c.self.invariant.0 c.receive-hall.ensures c.give_back.ensures).is
+    seat_recorded c.self.inside.client c.give_back.new.self c.begin_in-begun.new.hall (client_turn c.self.inside.client c.self.inside.door c.receive-hall.new.self c.give_back.new.self c.receive-hall.result c.begin_in-begun.new.hall c.self.invariant.0 c.receive-hall.ensures c.give_back.ensures).is
     (recorded c.begin_in-begun.new.hall c.known-2.ensures.replay c.known-2.ensures.sound c.known-2.ensures.formed)
 
 pub returns-clause-recorded : goal.returns-clause-recorded
 returns-clause-recorded g c =
-    (seat_recorded c.self.inside.client c.give_back.new.self c.begin_in-begun.new.hall (client_turn c.self.inside.client c.self.inside.door.rows c.self.inside.door c.receive-hall.new.self c.give_back.new.self c.receive-hall.result c.begin_in-begun.new.hall c.self.invariant.0 c.receive-hall.ensures c.give_back.ensures).is
+    (seat_recorded c.self.inside.client c.give_back.new.self c.begin_in-begun.new.hall (client_turn c.self.inside.client c.self.inside.door c.receive-hall.new.self c.give_back.new.self c.receive-hall.result c.begin_in-begun.new.hall c.self.invariant.0 c.receive-hall.ensures c.give_back.ensures).is
     (recorded c.begin_in-begun.new.hall c.known-2.ensures.replay c.known-2.ensures.sound c.known-2.ensures.formed)).1
 
 pub returns-clause-begun : goal.returns-clause-begun
 returns-clause-begun g c = rw (← c.self.view_is)
     (ok_both c.begin_in-begun.result c.begin_in-begun.ensures.began c.begin_in-begun.ensures.place
-    (λ b took place. begun c.self.inside.client c.self.inside.door.rows c.self.inside.door c.receive-hall.new.self c.give_back.new.self c.receive-hall.result c.begin_in-begun.new.hall c.args.key c.args.action b.op b.place c.self.invariant.0 c.receive-hall.ensures c.give_back.ensures took place.0))
+    (λ b took place. begun c.self.inside.client c.self.inside.door c.receive-hall.new.self c.give_back.new.self c.receive-hall.result c.begin_in-begun.new.hall c.args.key c.args.action b.op b.place c.self.invariant.0 c.receive-hall.ensures c.give_back.ensures took place.0))
 
 pub returns-clause-seen : goal.returns-clause-seen
 returns-clause-seen g c = ok_map c.begin_in-begun.result c.begin_in-begun.ensures.place (λ b place. place.1)
 
 pub returns-clause-delayed : goal.returns-clause-delayed
 returns-clause-delayed g c = rw (← c.self.view_is)
-    (err_map c.begin_in-begun.result c.begin_in-begun.ensures.delayed (λ same. left c.self.inside.client c.self.inside.door.rows c.self.inside.door c.receive-hall.new.self c.give_back.new.self c.receive-hall.result c.begin_in-begun.new.hall c.self.invariant.0 c.receive-hall.ensures c.give_back.ensures same))
+    (err_map c.begin_in-begun.result c.begin_in-begun.ensures.delayed (λ same. left c.self.inside.client c.self.inside.door c.receive-hall.new.self c.give_back.new.self c.receive-hall.result c.begin_in-begun.new.hall c.self.invariant.0 c.receive-hall.ensures c.give_back.ensures same))
 
 pub returns-clause-few : goal.returns-clause-few
 returns-clause-few g c = c.begin_in-begun.ensures.few

@@ -1,5 +1,7 @@
-use Rattle.std.proofs.Common.{refl}
+use Rattle.std.proofs.Common.{refl, sym, subst}
+use Rattle.world_steps.specs.Lasting.{HasStopped}
 use Rattle.hall_turns.proofs.ClientTurns.{client_turn, left, same_returns, seat_recorded}
+use Rattle.hall_turns.proofs.Stopping.{found_stopped}
 use Rattle.hall_turns.proofs.Turning.{recorded}
 use Rattle.hall_turns.proofs.client_pass.ClientPass.standing.Goals as goal
 
@@ -8,14 +10,18 @@ give_back-requires g c = same_returns c.self.inside.door c.receive-hall.new.self
 
 pub invariant_of-self : goal.invariant_of-self
 invariant_of-self g c =
-    seat_recorded c.self.inside.client c.give_back.new.self c.receive-hall.result (client_turn c.self.inside.client c.self.inside.door.rows c.self.inside.door c.receive-hall.new.self c.give_back.new.self c.receive-hall.result c.receive-hall.result c.self.invariant.0 c.receive-hall.ensures c.give_back.ensures).is
+    seat_recorded c.self.inside.client c.give_back.new.self c.receive-hall.result (client_turn c.self.inside.client c.self.inside.door c.receive-hall.new.self c.give_back.new.self c.receive-hall.result c.receive-hall.result c.self.invariant.0 c.receive-hall.ensures c.give_back.ensures).is
     (recorded c.receive-hall.result c.known.ensures.replay c.known.ensures.sound c.known.ensures.formed)
 
 pub returns-clause-recorded : goal.returns-clause-recorded
 returns-clause-recorded g c =
-    (seat_recorded c.self.inside.client c.give_back.new.self c.receive-hall.result (client_turn c.self.inside.client c.self.inside.door.rows c.self.inside.door c.receive-hall.new.self c.give_back.new.self c.receive-hall.result c.receive-hall.result c.self.invariant.0 c.receive-hall.ensures c.give_back.ensures).is
+    (seat_recorded c.self.inside.client c.give_back.new.self c.receive-hall.result (client_turn c.self.inside.client c.self.inside.door c.receive-hall.new.self c.give_back.new.self c.receive-hall.result c.receive-hall.result c.self.invariant.0 c.receive-hall.ensures c.give_back.ensures).is
     (recorded c.receive-hall.result c.known.ensures.replay c.known.ensures.sound c.known.ensures.formed)).1
 
 pub returns-clause-looked : goal.returns-clause-looked
 returns-clause-looked g c = rw (← c.self.view_is)
-    (left c.self.inside.client c.self.inside.door.rows c.self.inside.door c.receive-hall.new.self c.give_back.new.self c.receive-hall.result c.receive-hall.result c.self.invariant.0 c.receive-hall.ensures c.give_back.ensures refl)
+    (left c.self.inside.client c.self.inside.door c.receive-hall.new.self c.give_back.new.self c.receive-hall.result c.receive-hall.result c.self.invariant.0 c.receive-hall.ensures c.give_back.ensures refl)
+
+pub returns-clause-stopped : goal.returns-clause-stopped
+returns-clause-stopped g c = rw (← c.self.view_is)
+    (λ stopped. c.standing_in-standing.ensures (subst (λ s. HasStopped s c.self.inside.client) (sym c.world.ensures.world) (found_stopped c.self.inside.client c.self.inside.door c.receive-hall.new.self c.receive-hall.result c.self.invariant.0 c.receive-hall.ensures stopped)))

@@ -4,10 +4,10 @@ use Rattle.hall_turns.proofs.client_pass.ClientPass.stop.Goals as goal
 
 pub returns-clause-looked : goal.returns-clause-looked
 returns-clause-looked g c = rw (← c.self.view_is)
-    (quiet_seen c.self.inside.client c.self.inside.door.rows c.self.inside.door c.take.new.self _ c.take.result _ c.self.invariant.0 c.take.ensures)
+    (quiet_seen c.self.inside.client c.self.inside.door c.take.new.self _ c.take.result _ c.self.invariant.0 c.take.ensures)
 
 pub returns-clause-stopped : goal.returns-clause-stopped
-returns-clause-stopped g c = sees_stopped c.self.inside.client c.self.inside.door.rows c.self.inside.door c.take.new.self c.take.result c.self.invariant.0 c.take.ensures
+returns-clause-stopped g c = sees_stopped c.self.inside.client c.self.inside.door c.take.new.self c.take.result c.self.invariant.0 c.take.ensures
 
 pub returns-clause-recorded : goal.returns-clause-recorded
 returns-clause-recorded g c = (seat_turned c.self.inside.client c.self.inside.door c.take.new.self _ c.take.result c.self.invariant.0 c.take.ensures).1

@@ -3,11 +3,11 @@ use Rattle.hall_turns.proofs.client_pass.ClientPass.take.Goals as goal
 
 pub returns-clause-turned : goal.returns-clause-turned
 returns-clause-turned g c = rw (← c.self.view_is)
-    (turn_seen c.self.inside.client c.self.inside.door.rows c.self.inside.door c.take.new.self c.args.step c.take.result c.self.invariant.0 c.take.ensures)
+    (turn_seen c.self.inside.client c.self.inside.door c.take.new.self c.args.step c.take.result c.self.invariant.0 c.take.ensures)
 
 pub returns-clause-looked : goal.returns-clause-looked
 returns-clause-looked g c = rw (← c.self.view_is)
-    (quiet_seen c.self.inside.client c.self.inside.door.rows c.self.inside.door c.take.new.self c.args.step c.take.result c.requires.quiet c.self.invariant.0 c.take.ensures)
+    (quiet_seen c.self.inside.client c.self.inside.door c.take.new.self c.args.step c.take.result c.requires.quiet c.self.invariant.0 c.take.ensures)
 
 pub returns-clause-recorded : goal.returns-clause-recorded
 returns-clause-recorded g c = (seat_turned c.self.inside.client c.self.inside.door c.take.new.self c.args.step c.take.result c.self.invariant.0 c.take.ensures).1

@@ -2,7 +2,7 @@ use Rattle.std.proofs.Common.{◌≡◌, None, sym, subst, ap, ◌∙◌}
 use Rattle.crossbeam_channel.specs.Claims.{view}
 use Rattle.hall_journal.specs.Halls.{Hall}
 use Rattle.hall_turns.specs.declared.rule.View.{View}
-use Rattle.hall_turns.specs.Turns.{HasEntered, last_of, seat}
+use Rattle.hall_turns.specs.Turns.{HasEntered, last_of, seat_in}
 use Rattle.hall_turns.proofs.Moves.{joins, last_of-push}
 use Rattle.hall_turns.proofs.door.Door.give_named.Goals as goal
 
@@ -15,5 +15,5 @@ send_as-requires-clause-rule g c =
 
 pub returns-in-Ok : goal.returns-in-Ok
 returns-in-Ok g c =
-    c.in-Ok.ensures.rule ∙ ap (λ (h : Hall). seat (last_of h.world.members.joined) h.world.history.rows) c.loop.invariant.3
-    ∙ ap (λ n. seat n c.args.hall.world.history.rows) (ap last_of c.requires.joined.enters.names ∙ last_of-push c.requires.joined.old.members.joined c.args.client)
+    c.in-Ok.ensures.rule ∙ ap (λ (h : Hall). seat_in (last_of h.world.members.joined) h.world) c.loop.invariant.3
+    ∙ ap (λ n. seat_in n c.args.hall.world) (ap last_of c.requires.joined.enters.names ∙ last_of-push c.requires.joined.old.members.joined c.args.client)

@@ -9,7 +9,7 @@ use Rattle.hall_turns.proofs.free_pass.FreePass.deliver.Goals as goal
 pub give_back-requires : goal.give_back-requires
 give_back-requires g c = either c.serve_in-served.result c.serve_in-served.ensures.served
     (λ reply took. free_returns c.self.inside.door c.receive-hall.new.self c.receive-hall.result c.serve_in-served.new.hall (event.Deliver c.args.flight) c.receive-hall.ensures c.known.ensures.sound c.known.ensures.replay c.known-2.ensures.replay
-    c.a_step_adds_a_row_of_its_client.ensures c.further_steps_take_nothing_away.ensures.joined (to_replica _ took.1) took.0.0 took.0.2)
+    c.a_step_adds_a_row_of_its_client.ensures c.further_steps_take_nothing_away.ensures.joined c.a_stop_is_for_good.ensures.next (to_replica _ took.1) took.0.0 took.0.2)
     c.serve_in-served.ensures.refused
     (λ same. same_returns c.self.inside.door c.receive-hall.new.self c.receive-hall.result c.serve_in-served.new.hall c.receive-hall.ensures same)
 
