@@ -9,7 +9,7 @@ use Rattle.tag.specs.declared.numbers.OpId.{OpId}
 use Rattle.recorder.specs.declared.part.Response.{Response}
 use Rattle.recorder.specs.declared.row.Row.TheVariants.{Respond}
 use Rattle.world_steps.specs.Lasting.{Grows}
-use Rattle.hall_turns.specs.Turns.{AreRecorded, HasNoCall, Seen, SeesStopped}
+use Rattle.hall_turns.specs.Turns.{AreRecorded, HasNoCall, Seen}
 use Rattle.node_threads.specs.declared.entry.Entry.{Entry}
 use Rattle.node_threads.specs.declared.errors.CallError.{CallError}
 use Rattle.node_threads.specs.declared.errors.CallError.TheVariants as fault
@@ -218,7 +218,7 @@ module _ (s : Seat) (at hall : ℕ) (old new : Seen) (key kept_key : List ℕ) (
     pending_is = subst (λ l. IsSeat (record { store = s.store; client = s.client; is_spent = true; log = l; passes = slice_set s.passes at new; seen = slice_set s.seen at (place + 1) })) (sym logged)
         (pending_seat s at old new entry_of seen is there saw later (sym same) refl has_begun)
 
-    pub leaves_pending : (error : CallError) → MayStay error → SeesStopped new → FailsWith error s hall key action (record { store = s.store; client = s.client; is_spent = true; log = log; passes = slice_set s.passes at new; seen = slice_set s.seen at (place + 1) })
+    pub leaves_pending : (error : CallError) → MayStay error → new.is_stopped ≡ true → FailsWith error s hall key action (record { store = s.store; client = s.client; is_spent = true; log = log; passes = slice_set s.passes at new; seen = slice_set s.seen at (place + 1) })
     leaves_pending error may stopped = fails_pending error s hall key action _ may (
       entry_of,
       record {

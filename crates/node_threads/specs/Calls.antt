@@ -1,10 +1,10 @@
 -- What a call's turns leave of a client's log.
-use Rattle.std.specs.Prelude.{ℕ, ◌≡◌, ◌≤◌, List}
+use Rattle.std.specs.Prelude.{ℕ, ◌≡◌, ◌≤◌, true, List}
 use Rattle.tag.specs.declared.actions.Action.{Action}
 use Rattle.tag.specs.declared.actions.Returned.{Returned}
 use Rattle.tag.specs.declared.numbers.OpId.{OpId}
 use Rattle.recorder.specs.declared.row.Row.TheVariants.{Invoke, Respond}
-use Rattle.hall_turns.specs.Turns.{AddedRow, AreRecorded, Seen, SeesStopped}
+use Rattle.hall_turns.specs.Turns.{AddedRow, AreRecorded, Seen}
 use Rattle.world_steps.specs.Lasting.{Grows}
 use Rattle.node_threads.specs.declared.entry.Entry.{Entry}
 use Rattle.node_threads.specs.declared.errors.CallError.{CallError}
@@ -45,10 +45,10 @@ MayStay fault.Foreign = ⊥
 MayStay other = Unit {0}
 
 -- what became of a call, where the client's pass had seen so many rows at least: it didn't begin; or it began, isn't answered, and the client is
--- stopped in a world that steps reach, whose rows are those that the pass has seen; or it is answered
+-- stopped in the hall; or it is answered
 abbrev pub Drives : Seen → List ℕ → Action → ℕ → Outcome → Seen → Type 0
 Drives old key action seen (outcome.Refused error) new = MayRefuse error × KeepsLog old new
-Drives old key action seen (outcome.Pending begun error) new = (seen ≤ begun.place) × ((middle : Seen) × BeginsCall old key action begun.op begun.place middle × KeepsLog middle new × SeesStopped new × MayStay error)
+Drives old key action seen (outcome.Pending begun error) new = (seen ≤ begun.place) × ((middle : Seen) × BeginsCall old key action begun.op begun.place middle × KeepsLog middle new × (new.is_stopped ≡ true) × MayStay error)
 Drives old key action seen (outcome.Done begun ended) new = (seen ≤ begun.place) × ((middle : Seen) × BeginsCall old key action begun.op begun.place middle × EndsCall middle ended.op ended.returned ended.place new)
 
 -- places are below the lengths of lists that a program holds, and the copy of an answer is the answer

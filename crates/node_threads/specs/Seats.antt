@@ -7,7 +7,7 @@ use Rattle.recorder.specs.declared.part.Response.{Response}
 use Rattle.recorder.specs.declared.row.Row.{Row}
 use Rattle.recorder.specs.declared.row.Row.TheVariants.{Respond}
 use Rattle.world_steps.specs.Lasting.{Grows}
-use Rattle.hall_turns.specs.Turns.{AreRecorded, HasNoCall, Seen, SeesStopped}
+use Rattle.hall_turns.specs.Turns.{AreRecorded, HasNoCall, Seen}
 use Rattle.node_threads.specs.Logs.{AreAnswered, IsLog, of_hall}
 use Rattle.node_threads.specs.Receipts.{Receipt}
 use Rattle.node_threads.specs.declared.entry.Entry.{Entry}
@@ -70,8 +70,8 @@ pub record Calls (old : Seat) (hall : ℕ) (key : List ℕ) (action : Action) (e
   pub grown : Grows before.rows after.rows
   pub last : EndsWith after.rows (Respond entry.op response.returned)
 
--- a call of the seat began and isn't answered: one entry more, pending, begun behind all that the seat had seen; the client is stopped in a world that
--- steps reach, whose rows are those that the pass has seen, and the seat is spent
+-- a call of the seat began and isn't answered: one entry more, pending, begun behind all that the seat had seen; the client is stopped in that hall, and
+-- the seat is spent
 pub record LeavesPending (old : Seat) (hall : ℕ) (key : List ℕ) (action : Action) (entry : Entry) (new : Seat) : Type 0 where
   pub before : Seen
   pub after : Seen
@@ -83,7 +83,7 @@ pub record LeavesPending (old : Seat) (hall : ℕ) (key : List ℕ) (action : Ac
   pub pending : entry.response ≡ None
   pub later : seen_in old hall ≤ entry.invoked
   pub grown : Grows before.rows after.rows
-  pub stopped : SeesStopped after
+  pub stopped : after.is_stopped ≡ true
 
 -- the rows that were seen of each hall begin with those that had been seen of it
 abbrev pub HaveGrown : List Seen → List Seen → Type 0
@@ -113,9 +113,10 @@ pub record HasMet (old : Seat) (receipt : Receipt) (new : Seat) : Type 0 where
 abbrev pub IsForeign : Seat → Receipt → Type 0
 IsForeign s receipt = receipt.store ≡ s.store → length s.seen ≤ receipt.hall
 
--- the pass is of a client that has no call yet, and the rows that it has seen are the record of a world that steps reach
+-- the pass is of a client that has no call yet and isn't stopped, and the rows that it has seen are the record of a world that steps reach
 pub record IsFresh (name : ℕ) (pass : Seen) : Type 0 where
   pub client : pass.client ≡ name
+  pub running : pass.is_stopped ≡ false
   pub recorded : AreRecorded pass.rows
   pub unused : HasNoCall name pass.rows
 
@@ -127,6 +128,6 @@ AreFresh client passes = (k : ℕ) (pass : Seen) → slice_get passes k ≡ Some
 abbrev pub AreZero : List ℕ → Type 0
 AreZero places = (hall : ℕ) → unwrap_or (slice_get places hall) 0 ≡ 0
 
--- the client of each of the passes is stopped in a world that steps reach, whose rows are those that the pass has seen
+-- the client of each of the passes is stopped in the hall of the pass
 abbrev pub AreStopped : List Seen → Type 0
-AreStopped passes = (k : ℕ) (pass : Seen) → slice_get passes k ≡ Some pass → SeesStopped pass
+AreStopped passes = (k : ℕ) (pass : Seen) → slice_get passes k ≡ Some pass → pass.is_stopped ≡ true

@@ -1,6 +1,6 @@
 //! One call on its way: what its client sends, and what it hears.
-ghost use Rattle.std.specs.Prelude.{◌≡◌, ◌≤◌, Some, IfOk, OnErr};
-ghost use Rattle.hall_turns.specs.Turns.{IsQuiet, MayTake, SeesStopped};
+ghost use Rattle.std.specs.Prelude.{◌≡◌, ◌≤◌, true, Some, IfOk, OnErr};
+ghost use Rattle.hall_turns.specs.Turns.{IsQuiet, MayTake};
 ghost use Rattle.node_threads.specs.Calls.{Drives, EndsCall, IsPlaced, KeepsLog, MayRefuse, MayStay};
 
 use crate::errors::CallError;
@@ -312,7 +312,7 @@ fn turn<R: Wait>(rt: &R, pass: &mut ClientPass, step: Step) -> Result<Effect, Re
 /// Stops the client in the pass's hall.
 fn stop<R: Wait>(rt: &R, pass: &mut ClientPass)
     ensures kept { KeepsLog pass.old pass.new }
-    ensures stopped { SeesStopped pass.new }
+    ensures stopped { pass.new.is_stopped ≡ true }
 {
     pass.stop(rt);
 }
