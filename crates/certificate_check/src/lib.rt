@@ -1,6 +1,6 @@
 //! The verdict on an order of a part's calls: exactly the definition's.
 //!
-//! An order is judged in one pass for each kind of fault, in `n log n` steps; no pass compares all
+//! An order is checked in one pass for each kind of fault, in `n log n` steps; no pass compares all
 //! pairs, and the definition speaks of nothing else.
 #![tactic(auto)]
 
