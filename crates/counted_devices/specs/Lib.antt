@@ -6,6 +6,6 @@ pub mod Deliveries
 pub mod ReadFaults
 pub mod Sendings
 pub mod Leaving
-pub mod Cutting
+pub mod CutLemmas
 pub mod Consuming
 pub mod CutOnce

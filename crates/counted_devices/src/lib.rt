@@ -4,15 +4,15 @@
 //! out whole, or after a failure a beginning of it.
 #![tactic(auto)]
 
-mod counted;
-mod counting;
+mod count_failures;
+mod device_traits;
 mod lines;
 mod read_fault;
 mod sending;
 mod write_fault;
 
-pub use counted::{Counted, CountedRead, CountedWrite};
-pub use counting::Counting;
+pub use count_failures::Counting;
+pub use device_traits::{Counted, CountedRead, CountedWrite};
 pub use lines::{Cut, cut_chunks, first_end};
 pub use read_fault::{FaultKind, FaultNumbers, ReadFault, Stop};
 pub use sending::{relieve, write_text};

@@ -6,7 +6,7 @@ use Rattle.std.proofs.lemmas.Grind.{flat_map-append}
 use Rattle.std.proofs.lemmas.List.Elements.{All-append, All-nil}
 use Rattle.counted_devices.specs.Cuts.{with_end, HasNoEnd, Splits}
 use Rattle.counted_devices.specs.Cuts.{last_lines}
-use Rattle.counted_devices.specs.Cutting.{last_some, last_none}
+use Rattle.counted_devices.specs.CutLemmas.{last_some, last_none}
 use Rattle.fault_script.specs.declared.command.Script.{Script}
 use Rattle.fault_script.specs.declared.progress.Progress.{Progress}
 use Rattle.fault_script.specs.declared.feed.Feed.{Feed}

@@ -9,7 +9,7 @@ use Rattle.file_format.specs.declared.judging.Judgement.{Judgement}
 use Rattle.counted_devices.specs.Cuts.{with_end, HasNoEnd}
 use Rattle.file_format.specs.Lines.{ShowsItem, ShowChunks}
 use Rattle.file_format.specs.Zips.{AllZip-push_both, AllZip-append}
-use Rattle.counted_devices.specs.Cutting.{ended_chunk, no_chunks, more_lines}
+use Rattle.counted_devices.specs.CutLemmas.{ended_chunk, no_chunks, more_lines}
 
 module _ {Item : Type 0} (meaning : Data → Result Item LineFault) where
   -- of a chunk's lines the first show that, and that rest is left

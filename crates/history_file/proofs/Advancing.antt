@@ -20,7 +20,7 @@ use Rattle.history_file.specs.Feeds.{Stands, FaultSoFar, FirstFaultSoFar}
 use Rattle.history_file.specs.Ahead.{IsJudged, Records, IsAhead, StandsAhead, FaultStays}
 use Rattle.history_file.proofs.Taking.{IsFirstFault-more}
 use Rattle.history_file.proofs.Feeding.{with_more, long_first}
-use Rattle.counted_devices.specs.Cutting.{Splits-join, Splits-room, Splits-none, Splits-rest, cut_of}
+use Rattle.counted_devices.specs.CutLemmas.{Splits-join, Splits-room, Splits-none, Splits-rest, cut_of}
 
 module _ {Header Item Contents : Type 0} (format : Format Header Item) (Makes : Header → List Item → Contents → Type 0) where
   -- a fault among the whole lines

@@ -15,7 +15,7 @@ use Rattle.history_file.specs.Takings.{IsFirstOfKind, AreTaken}
 use Rattle.file_format.specs.Readings.{Reads, FirstFaultInAll}
 use Rattle.history_file.specs.Feeds.{Stands, whole_lines, FaultSoFar, FaultInAll, Passed, FaultPassed, PassStops}
 use Rattle.history_file.proofs.Taking.{IsFirstFault-more}
-use Rattle.counted_devices.specs.Cutting.{Splits-join, Splits-none, Splits-line, cut_of, last_some, last_none}
+use Rattle.counted_devices.specs.CutLemmas.{Splits-join, Splits-none, Splits-line, cut_of, last_some, last_none}
 
 none_of : (lines : List (List ℕ)) → length lines ≡ 0 → lines ≡ []
 none_of [] e = refl

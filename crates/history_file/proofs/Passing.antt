@@ -10,7 +10,7 @@ use Rattle.file_format.specs.Formats.{Format}
 use Rattle.history_file.specs.Takings.{AreTaken, TakesChunks}
 use Rattle.history_file.specs.Feeds.{Passed, PassStops}
 use Rattle.history_file.proofs.Feeding.{pass_stops, pass_long}
-use Rattle.counted_devices.specs.Cutting.{Splits-rest, lines_of}
+use Rattle.counted_devices.specs.CutLemmas.{Splits-rest, lines_of}
 
 module _ {Header Item Contents : Type 0} (format : Format Header Item) (Makes : Header → List Item → Contents → Type 0) where
   chunks_cut : (bytes : List ℕ) (chunks lines : List (List ℕ)) (rest : List ℕ) → Divides bytes chunks rest → AreLinesIn chunks lines → Splits bytes lines rest

@@ -7,7 +7,7 @@ use Rattle.counted_devices.specs.declared.read_fault.FaultKind.TheVariants as ki
 use Rattle.counted_devices.specs.Cuts.{HasNoEnd}
 use Rattle.history_file.specs.Feeds.{Passed, PassStops}
 use Rattle.history_file.specs.Takings.{AreTaken, IsFirstOfKind}
-use Rattle.counted_devices.specs.Cutting.{behind, cut_at}
+use Rattle.counted_devices.specs.CutLemmas.{behind, cut_at}
 use Rattle.history_file.proofs.Feeding.{Passed-line, PassStops-line, line_stops, passes_alone}
 use Rattle.history_file.proofs.blocks.take_block.Goals as goal
 

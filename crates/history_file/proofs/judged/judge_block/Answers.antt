@@ -4,7 +4,7 @@ use Rattle.history_file.specs.declared.judged.Judged.{Judged}
 use Rattle.counted_devices.specs.Cuts.{HasNoEnd, Divides}
 use Rattle.history_file.specs.Ahead.{IsJudged}
 use Rattle.file_format.specs.Lines.{ShowChunks}
-use Rattle.counted_devices.specs.Cutting.{behind, cut_at}
+use Rattle.counted_devices.specs.CutLemmas.{behind, cut_at}
 use Rattle.history_file.proofs.Advancing.{judged_none, judged_chunks, judged_room}
 use Rattle.history_file.proofs.judged.judge_block.Goals as goal
 

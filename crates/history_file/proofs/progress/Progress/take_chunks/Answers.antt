@@ -4,7 +4,7 @@ use Rattle.std.proofs.lemmas.Slice.Zip.{AllZip-long}
 use Rattle.std.proofs.lemmas.Result.{on_ok_weaker}
 use Rattle.counted_devices.specs.Cuts.{with_end}
 use Rattle.file_format.specs.Lines.{ShowsItem, ShowChunks}
-use Rattle.counted_devices.specs.Cutting.{Splits-room}
+use Rattle.counted_devices.specs.CutLemmas.{Splits-room}
 use Rattle.counted_devices.specs.CutOnce.{splits_once}
 use Rattle.history_file.proofs.progress.Progress.take_chunks.Goals as goal
 

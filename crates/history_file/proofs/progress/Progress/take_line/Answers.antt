@@ -1,5 +1,5 @@
 use Rattle.std.proofs.Common.{◌<◌, [], ◌∷◌, length, arith}
-use Rattle.counted_devices.specs.Cutting.{one_line}
+use Rattle.counted_devices.specs.CutLemmas.{one_line}
 use Rattle.history_file.proofs.Taking.{line_taken}
 use Rattle.history_file.proofs.progress.Progress.take_line.Goals as goal
 
