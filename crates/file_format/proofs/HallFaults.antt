@@ -17,7 +17,7 @@ use Rattle.file_format.specs.Rows.{row_in}
 use Rattle.file_format.specs.Says.{HasText, HasNumber, SaysQuorums, SaysFileHeader, SaysPlacedRow}
 use Rattle.file_format.proofs.LineFaults.{Told, bind, need, range, one, decided, one_number, two_texts, equal_to, row_told, row_complete, row_within}
 use Rattle.file_format.proofs.QuorumRules.{count_there, lawful_there}
-use Rattle.file_format.proofs.Saying.{found, row_back}
+use Rattle.file_format.proofs.SayingRows.{found, row_back}
 use Rattle.file_format.proofs.SayingHalls.{told_back, hall_row_back}
 
 yes_no : (b : Bool) → b ≡ false → b ≡ true → ⊥
@@ -155,7 +155,7 @@ file_header_fault d fault = header_decided d (file_header_in d) fault (headed d 
 
 -- ---- rows
 
--- a fault of a part is one of the whole, where the whole lacks nothing else
+-- a fault of a member is one of the whole, where the whole lacks nothing else
 wider : {X : Type 0} (L O M P : Type 0) (r : Result X LineFault) → (L → M) → ((L → ⊥) → M → ⊥) → (O → P) → Told L O r → Told M P r
 wider L O M P (Ok x) l m o told = tt
 wider L O M P (Err f) l m o told = at f told

@@ -6,13 +6,13 @@ pub mod WrittenFiles
 pub mod WrittenHistories
 pub mod WrittenOrders
 mod TakenLines
-pub mod Ranging
+pub mod EachElement
 pub mod Converting
 pub mod Looking
 pub mod OrderPieces
 pub mod Showing
 mod OrderEntries
-pub mod Saying
+pub mod SayingRows
 pub mod SayingPieces
 pub mod QuorumRules
 pub mod SayingHalls
@@ -22,10 +22,10 @@ pub mod Once
 pub mod OneOrder
 pub mod OneFault
 pub mod SharpFormats
-pub mod HallPlacing
+pub mod RowsAcrossHalls
 pub mod RowsByHall
 pub mod WrittenHalls
 pub mod HallTexts
-pub mod HallState
+pub mod OneRowMore
 pub mod Votes
 pub mod OneHall

@@ -23,7 +23,7 @@ use Rattle.file_format.specs.OrderLines.{calls_of, piece_in}
 use Rattle.file_format.specs.Headers.{header_of, header_in}
 use Rattle.file_format.specs.Says.{HasText, HasNumber, HasAction, reads, writes, HasAnswer, written, absent, answered, SaysInvoke, SaysNote, SaysRespond, SaysRow, SaysHeader, SaysPiece}
 use Rattle.file_format.specs.LineFaults.{LacksInvokeMember, no_call_begun, no_client, no_key, no_action, no_value, LacksNoteMember, no_call_noted, no_number, no_writer, LacksRespondMember, no_call_answered, no_answer, LacksRowMember, no_row, of_invoke, of_note, of_respond, LacksPieceMember, no_subject, no_order, IsInvokeOutOfRange, great_call_begun, client_zero, great_client, bad_key, other_action, long_value, IsNoteOutOfRange, great_call_noted, great_number, great_writer, IsRespondOutOfRange, great_call_answered, long_answer, IsRowOutOfRange, other_row, out_of_invoke, out_of_note, out_of_respond, IsPieceOutOfRange, bad_subject, great_call, IsMemberFault, HasRowFault, HasPieceFault, HasHeaderFault}
-use Rattle.file_format.proofs.Saying.{found, action_back, returned_back, row_back}
+use Rattle.file_format.proofs.SayingRows.{found, action_back, returned_back, row_back}
 use Rattle.file_format.proofs.SayingPieces.{piece_back}
 
 -- ---- what a step tells

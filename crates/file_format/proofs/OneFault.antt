@@ -9,7 +9,7 @@ use Rattle.counted_devices.specs.Cuts.{last_lines}
 use Rattle.file_format.specs.Readings.{Reads, FirstFaultInAll}
 use Rattle.counted_devices.specs.CutOnce.{splits_once}
 use Rattle.file_format.proofs.Once.{shows_once, header_once, spelled_once}
-use Rattle.file_format.proofs.Saying.{inside}
+use Rattle.file_format.proofs.SayingRows.{inside}
 
 -- of the faults that an item has behind others there is one, and none where the list goes on in a file
 pub record IsSharp {Header Item : Type 0} (format : Format Header Item) : Type 0 where

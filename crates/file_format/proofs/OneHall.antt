@@ -25,10 +25,10 @@ use Rattle.file_format.specs.Readings.{Reads, FirstFaultInAll}
 use Rattle.file_format.specs.Rows.{row_in}
 use Rattle.file_format.specs.Texts.{rows_from}
 use Rattle.file_format.proofs.HallFaults.{file_header_fault, hall_row_fault}
-use Rattle.file_format.proofs.HallPlacing.{in_hall}
+use Rattle.file_format.proofs.RowsAcrossHalls.{in_hall}
 use Rattle.file_format.proofs.LineFaults.{header_fault, row_fault}
 use Rattle.file_format.proofs.RowsByHall.{tagged, rows_tagged, plain_tagged, fits_again, made_again}
-use Rattle.file_format.proofs.Saying.{row_back}
+use Rattle.file_format.proofs.SayingRows.{row_back}
 use Rattle.file_format.proofs.SayingHalls.{file_header_there, hall_row_there}
 use Rattle.file_format.proofs.SayingPieces.{header_back}
 

@@ -17,7 +17,7 @@ use Rattle.file_format.specs.HistoriesFormat.{AreHistories, MakesHistories}
 use Rattle.file_format.specs.Ranges.{HaveFormed}
 use Rattle.file_format.specs.ReadAgain.{with_room}
 use Rattle.file_format.specs.Texts.{header_of, rows_from}
-use Rattle.file_format.proofs.HallPlacing.{rows-append, calls-append, one_here, one_apart}
+use Rattle.file_format.proofs.RowsAcrossHalls.{rows-append, calls-append, one_here, one_apart}
 
 -- ---- rows of one hall
 
@@ -81,10 +81,10 @@ pub record IsFrom (first : ℕ) (halls : List Recorded) (item : HallRow) : Type 
   pub place : ℕ
   pub row : slice_get history.rows place ≡ Some item.row
 
-parts : {X : Type 0} (xs ys : List X) (k : ℕ) (z : X) → slice_get (xs ++ ys) k ≡ Some z → (slice_get xs k ≡ Some z) ⊎ ((j : ℕ) × (slice_get ys j ≡ Some z))
-parts [] ys k z e = inr (k, e)
-parts (x ∷ xs) ys zero z e = inl e
-parts (x ∷ xs) ys (suc k) z e = parts xs ys k z e
+in_either : {X : Type 0} (xs ys : List X) (k : ℕ) (z : X) → slice_get (xs ++ ys) k ≡ Some z → (slice_get xs k ≡ Some z) ⊎ ((j : ℕ) × (slice_get ys j ≡ Some z))
+in_either [] ys k z e = inr (k, e)
+in_either (x ∷ xs) ys zero z e = inl e
+in_either (x ∷ xs) ys (suc k) z e = in_either xs ys k z e
 
 in_tagged : (hall : ℕ) (rows : List Row) (k : ℕ) (item : HallRow) → slice_get (tagged hall rows) k ≡ Some item → (item.hall ≡ hall) × (slice_get rows k ≡ Some item.row)
 in_tagged hall [] k item e = absurd (cc)
@@ -94,7 +94,7 @@ in_tagged hall (row ∷ rows) (suc k) item e = in_tagged hall rows k item e
 pub is_from : (first : ℕ) (halls : List Recorded) (k : ℕ) (item : HallRow) → slice_get (rows_from first halls) k ≡ Some item → IsFrom first halls item
 is_from first [] k item e = absurd (cc)
 is_from first (history ∷ halls) k item e =
-    elim (parts (tagged first history.rows) (rows_from (suc first) halls) k item e) [
+    elim (in_either (tagged first history.rows) (rows_from (suc first) halls) k item e) [
       | inl here ↦
           let t = in_tagged first history.rows k item here in
           record { hall = 0; history = history; there = refl; named = omega (arith, t.0); place = k; row = t.1 }

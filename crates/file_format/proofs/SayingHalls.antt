@@ -16,7 +16,7 @@ use Rattle.file_format.specs.Members.{needed_member, in_range, text_at, number_a
 use Rattle.file_format.specs.Rows.{row_in}
 use Rattle.file_format.specs.Says.{HasText, HasNumber, SaysQuorums, SaysFileHeader, SaysPlacedRow, SaysHallRow}
 use Rattle.file_format.proofs.QuorumRules.{count_back, lawful_back, taken_count, lawful_taken, number_in_range}
-use Rattle.file_format.proofs.Saying.{after, found, within, inside, row_back, row_there}
+use Rattle.file_format.proofs.SayingRows.{after, found, within, inside, row_back, row_there}
 
 -- ---- headers
 

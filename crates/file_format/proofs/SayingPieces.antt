@@ -12,7 +12,7 @@ use Rattle.file_format.specs.Members.{needed_member, text_at, number_at, numbers
 use Rattle.file_format.specs.Headers.{header_of, header_in}
 use Rattle.file_format.specs.OrderLines.{op_at, calls_of, piece_in}
 use Rattle.file_format.specs.Says.{SaysHeader, SaysPiece}
-use Rattle.file_format.proofs.Saying.{after, found, within, both, fits, done, inside}
+use Rattle.file_format.proofs.SayingRows.{after, found, within, both, fits, done, inside}
 
 numbers_back : (numbers : List ℕ) → map (λ (op : OpId). op.0) (map op_at numbers) ≡ numbers
 numbers_back [] = refl

@@ -11,7 +11,7 @@ use Rattle.file_format.specs.Rows.{row_in}
 use Rattle.file_format.specs.Texts.{header_data, row_data, history_text}
 use Rattle.file_format.proofs.Once.{reads_once}
 use Rattle.file_format.proofs.Compact.{read-compact_text}
-use Rattle.file_format.proofs.Saying.{row_there}
+use Rattle.file_format.proofs.SayingRows.{row_there}
 use Rattle.file_format.proofs.WrittenLines.{IsPlace, row_simple, row_depth, row_back, row_length, says_row, line_length}
 use Rattle.file_format.proofs.WrittenFiles.{IsGoodLine, header_good, written_reads}
 

@@ -23,7 +23,7 @@ use Rattle.file_format.specs.Ranges.{AreOps, IsOrderInRange, AreOrdersInRange, H
 use Rattle.file_format.specs.Says.{SaysPiece}
 use Rattle.file_format.specs.Texts.{calls_data, piece_data, cut_behind, pieces_of, line_text, piece_text, order_text, orders_text, header_data}
 use Rattle.file_format.proofs.Compact.{IsSimple, AreSimple, read-compact_text, length-quoted, length-digits}
-use Rattle.file_format.specs.Joining.{joined_begun, joined_extended, mapped_at}
+use Rattle.file_format.specs.PieceByPiece.{joined_begun, joined_extended, mapped_at}
 use Rattle.file_format.proofs.Once.{reads_once}
 use Rattle.file_format.proofs.OneOrder.{joined_once}
 use Rattle.file_format.proofs.OrderPieces.{piece_at}

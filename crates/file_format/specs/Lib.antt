@@ -27,5 +27,5 @@ pub mod Ranges
 pub mod ReadAgain
 pub mod Zips
 pub mod Chunks
-pub mod Joining
+pub mod PieceByPiece
 pub mod RowTexts

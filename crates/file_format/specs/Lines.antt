@@ -6,8 +6,8 @@ use Rattle.file_format.specs.declared.fault.LineFault.{LineFault}
 use Rattle.file_format.specs.declared.fault.LineFault.TheVariants.{NotJson, TooLong}
 use Rattle.file_format.specs.Faults.{Stop}
 use Rattle.counted_devices.specs.declared.read_fault.Stop.TheVariants as stop
-use Rattle.file_format.specs.declared.judging.Judgement.{Judgement}
-use Rattle.file_format.specs.declared.judging.Judgement.TheVariants as judgement
+use Rattle.file_format.specs.declared.judge_lines.Judgement.{Judgement}
+use Rattle.file_format.specs.declared.judge_lines.Judgement.TheVariants as judgement
 use Rattle.counted_devices.specs.Cuts.{AreLinesIn}
 use Rattle.file_format.specs.Documents.{IsJson}
 
@@ -35,7 +35,7 @@ abbrev pub ShowsItem : {Item : Type 0} → (Data → Result Item LineFault) → 
 ShowsItem meaning line (judgement.Item item) = Shows meaning line (Ok item)
 ShowsItem meaning line (judgement.Fault fault) = Shows meaning line (Err fault)
 
--- what the lines of the parts show, in their order
+-- what the lines of the chunks show, in their order
 pub record ShowChunks {Item : Type 0} (meaning : Data → Result Item LineFault) (chunks : List (List ℕ)) (judgements : List (Judgement Item)) : Type 0 where
   pub lines : List (List ℕ)
   pub cut : AreLinesIn chunks lines

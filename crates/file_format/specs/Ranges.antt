@@ -1,4 +1,4 @@
--- What the types of a row's and of an order's parts carry: each is in its range.
+-- What the types of a row's and of an order's fields carry: each is in its range.
 use Rattle.std.specs.Prelude.{ℕ, ◌≡◌, ◌≤◌, ◌<◌, ◌^◌, List, Option, Some, None, slice_get, true, IsUtf8}
 use Rattle.tag.specs.declared.actions.Action.{Action}
 use Rattle.tag.specs.declared.actions.Action.TheVariants.{Read, Write}
@@ -49,7 +49,7 @@ pub record IsResponse (op : OpId) (returned : Returned) : Type 0 where
   pub call : IsOp op
   pub answers : HasAnswerIn returned
 
--- the row's parts are in their ranges
+-- the row's fields are in their ranges
 abbrev pub IsInRange : Row → Type 0
 IsInRange (Invoke op client key action) = IsInvocation op client key action
 IsInRange (Note op tag) = IsNote op tag
@@ -58,7 +58,7 @@ IsInRange (Respond op returned) = IsResponse op returned
 abbrev pub AreInRange : List Row → Type 0
 AreInRange rows = (k : ℕ) (row : Row) → slice_get rows k ≡ Some row → IsInRange row
 
--- a history, with its rows' parts in their ranges
+-- a history, with its rows' fields in their ranges
 pub record IsWritten (history : Recorded) : Type 0 where
   pub formed : IsWellFormed history.rows
   pub ranges : AreInRange history.rows

@@ -15,19 +15,19 @@ AllZip-take_more {A = A} {B = B} R xs ys i d y lt h r =
     let P : List A → Type 0 = λ front. AllZip R front (ys ++ y ∷ []) in
     subst P (sym (take_more xs i d lt)) (AllZip-push_both R (take i xs) ys (get_or xs i d) y h r)
 
--- the first list, in two parts that go with those of the second
-pub record Parted {A B : Type 0} (R : A → B → Type 0) (xs : List A) (ys zs : List B) : Type 0 where
+-- the first list, as a front and a back that go with those of the second
+pub record FrontAndBack {A B : Type 0} (R : A → B → Type 0) (xs : List A) (ys zs : List B) : Type 0 where
   pub front : List A
   pub back : List A
   pub whole : xs ≡ front ++ back
   pub first : AllZip R front ys
   pub second : AllZip R back zs
 
-pub parted : {A B : Type 0} (R : A → B → Type 0) (xs : List A) (ys zs : List B) → AllZip R xs (ys ++ zs) → Parted R xs ys zs
-parted R xs [] zs h = record { front = []; back = xs; whole = refl; first = tt; second = h }
-parted R [] (y ∷ ys) zs h = absurd h
-parted {A} R (x ∷ xs) (y ∷ ys) zs h =
-    let p = parted R xs ys zs h.1 in
+pub front_and_back : {A B : Type 0} (R : A → B → Type 0) (xs : List A) (ys zs : List B) → AllZip R xs (ys ++ zs) → FrontAndBack R xs ys zs
+front_and_back R xs [] zs h = record { front = []; back = xs; whole = refl; first = tt; second = h }
+front_and_back R [] (y ∷ ys) zs h = absurd h
+front_and_back {A} R (x ∷ xs) (y ∷ ys) zs h =
+    let p = front_and_back R xs ys zs h.1 in
     record {
       front = x ∷ p.front;
       back = p.back;

@@ -340,7 +340,7 @@ fn placed_row(alloc: Global, seen: &mut SeenTexts, line: &[u8]) -> Result<Option
     }
 }
 
-// What the types of a row's parts keep, looked at for its ranges' sake.
+// What the types of a row's fields keep, looked at for its ranges' sake.
 
 fn look_at_call(op: OpId)
     ensures { IsOp op }

@@ -68,7 +68,7 @@ pub fn join(orders: &mut JoinedOrders, piece: KeyOrder) -> Result<(), Memory>
 }
 
 /// The orders as a list.
-pub fn listed(alloc: Global, orders: JoinedOrders) -> Result<Vec<KeyOrder>, Memory>
+pub fn list_orders(alloc: Global, orders: JoinedOrders) -> Result<Vec<KeyOrder>, Memory>
     ensures { IfOk result (λ listed. listed.items ≡ map order_of orders.entries) }
 {
     let mut listed = Vec::with_capacity(alloc, orders.entries.len())?;

@@ -8,7 +8,7 @@ use Rattle.file_format.specs.declared.fault.LineFault.TheVariants.{TooLong}
 use Rattle.file_format.specs.Faults.{FileFault, FaultKind}
 use Rattle.counted_devices.specs.declared.read_fault.FaultKind.TheVariants as kind
 use Rattle.history_file.specs.declared.progress.Progress.{Progress}
-use Rattle.file_format.specs.declared.judging.Judgement.{Judgement}
+use Rattle.file_format.specs.declared.judge_lines.Judgement.{Judgement}
 use Rattle.history_file.specs.declared.feed.Feed.{Feed}
 use Rattle.history_file.specs.declared.ahead.Ahead.{Ahead}
 use Rattle.history_file.specs.declared.judged.Judged.{Judged}

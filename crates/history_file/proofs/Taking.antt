@@ -1,7 +1,7 @@
 -- Lines that are taken one after another.
 use Rattle.std.proofs.Common.{ℕ, ◌≡◌, ◌<◌, ◌+◌, List, [], ◌∷◌, ◌++◌, length, Result, Ok, Err, refl, sym, ap, ◌∙◌, append_assoc, append-nil, length-append, arith, subst, inl, inr}
 use Rattle.std.specs.List.{AllZip}
-use Rattle.file_format.specs.declared.judging.Judgement.{Judgement}
+use Rattle.file_format.specs.declared.judge_lines.Judgement.{Judgement}
 use Rattle.file_format.specs.declared.fault.LineFault.{LineFault}
 use Rattle.file_format.specs.Faults.{FileFault, FaultKind}
 use Rattle.counted_devices.specs.declared.read_fault.FaultKind.TheVariants as kind
@@ -10,7 +10,7 @@ use Rattle.file_format.specs.Lines.{Shows, ShowsItem}
 use Rattle.file_format.specs.Formats.{Format}
 use Rattle.file_format.specs.Files.{IsHeader, IsLineOf, AreSpelled, AreLinesOf, HasFault, IsFirstFault}
 use Rattle.history_file.specs.Takings.{IsFirstOfKind, IsAt, AreTaken, Takes, TakesJudged, TakesLine}
-use Rattle.file_format.specs.Zips.{AllZip-push_both, parted}
+use Rattle.file_format.specs.Zips.{AllZip-push_both, front_and_back}
 
 module _ {Header Item Contents : Type 0} (format : Format Header Item) (Makes : Header → List Item → Contents → Type 0) where
   AreSpelled-push : (before : List (List ℕ)) (header : Header) (items : List Item) (line : List ℕ) (item : Item) → 0 < length before → AreSpelled format before header items → IsLineOf format header line item → AreSpelled format (before ++ line ∷ []) header (items ++ item ∷ [])
@@ -182,7 +182,7 @@ module _ {Header Item Contents : Type 0} (format : Format Header Item) (Makes : 
   Goes-run header lines old mid new js more goes takes = record {
     each = λ before at some.
         let h = goes.each before at some in
-        let p = parted (ShowsItem (format.meaning header)) h.rest js more h.shown in
+        let p = front_and_back (ShowsItem (format.meaning header)) h.rest js more h.shown in
         let P : List (List ℕ) → Type 0 = λ ls. IsAt format Makes ls header new in
         record {
           done = h.done ++ p.front;
@@ -196,7 +196,7 @@ module _ {Header Item Contents : Type 0} (format : Format Header Item) (Makes : 
   pub Goes-run_stop : (header : Header) (lines : List (List ℕ)) (old mid new : Progress Contents) (js more : List (Judgement Item)) (fault : FileFault) → Goes header lines old mid (js ++ more) → TakesRun js mid (Err fault) new → (before : List (List ℕ)) → IsAt format Makes before header old → 0 < length before → IsFirstOfKind format (before ++ lines) fault.line fault.kind
   Goes-run_stop header lines old mid new js more fault goes takes before at some =
       let h = goes.each before at some in
-      let p = parted (ShowsItem (format.meaning header)) h.rest js more h.shown in
+      let p = front_and_back (ShowsItem (format.meaning header)) h.rest js more h.shown in
       let one = takes header p.front p.first (before ++ h.done) h.at (some_more before h.done some) in
       let P : List (List ℕ) → Type 0 = λ ls. IsFirstOfKind format ls fault.line fault.kind in
       let same : ((before ++ h.done) ++ p.front) ++ p.back ≡ before ++ lines =

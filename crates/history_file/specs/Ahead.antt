@@ -6,7 +6,7 @@ use Rattle.history_file.specs.declared.judged.Judged.{Judged}
 use Rattle.history_file.specs.declared.ahead.Ahead.{Ahead}
 use Rattle.history_file.specs.declared.feed.Feed.{Feed}
 use Rattle.history_file.specs.declared.progress.Progress.{Progress}
-use Rattle.file_format.specs.declared.judging.Judgement.{Judgement}
+use Rattle.file_format.specs.declared.judge_lines.Judgement.{Judgement}
 use Rattle.counted_devices.specs.Cuts.{Splits}
 use Rattle.file_format.specs.Lines.{ShowsItem}
 use Rattle.file_format.specs.Formats.{Format}

@@ -4,7 +4,7 @@ use Rattle.std.specs.List.{AllZip}
 use Rattle.counted_devices.specs.Cuts.{AreLinesIn}
 use Rattle.counted_devices.specs.ReadFaults.{IsFaultBy}
 use Rattle.file_format.specs.Faults.{FileFault, FaultKind}
-use Rattle.file_format.specs.declared.judging.Judgement.{Judgement}
+use Rattle.file_format.specs.declared.judge_lines.Judgement.{Judgement}
 use Rattle.file_format.specs.Lines.{ShowsItem}
 use Rattle.file_format.specs.Formats.{Format}
 use Rattle.file_format.specs.Files.{AreLinesOf, IsFirstFault}

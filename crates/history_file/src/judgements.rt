@@ -16,7 +16,7 @@ pub struct Judgements<T> {
 impl<T> Model for Judgements<T> {
     ghost use Rattle.std.specs.Prelude.{List};
     ghost use Rattle.std.specs.List.{flat_map};
-    ghost use Rattle.file_format.specs.declared.judging.Judgement.{Judgement};
+    ghost use Rattle.file_format.specs.declared.judge_lines.Judgement.{Judgement};
 
     ghost Value = { List (Judgement T) };
 

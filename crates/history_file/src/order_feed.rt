@@ -5,7 +5,7 @@ ghost use Rattle.history_file.specs.Fed.{EndsOrders, StandsForOrders};
 use crate::feed::Feed;
 use crate::file_feed::FileFeed;
 use crate::order_format::Orders;
-use file_format::{FaultKind, FileFault, listed};
+use file_format::{FaultKind, FileFault, list_orders};
 use recorder::KeyOrder;
 use std::thread::Threads;
 
@@ -34,7 +34,7 @@ pub(crate) fn finish_orders(
     let alloc = *feed.rest.allocator();
     let line = feed.line();
     let orders = feed.finish(rt)?;
-    match listed(alloc, orders.into_map()) {
+    match list_orders(alloc, orders.into_map()) {
         Ok(orders) => Ok(orders),
         Err(_) => Err(FileFault {
             line,

@@ -1,7 +1,7 @@
 use Rattle.std.proofs.Common.{arith}
 use Rattle.std.proofs.lemmas.Grind.{common_steps}
 use Rattle.file_format.specs.Ranges.{IsOp}
-use Rattle.file_format.proofs.Ranging.{before_next, before_all, on_ok}
+use Rattle.file_format.proofs.EachElement.{before_next, before_all, on_ok}
 use Rattle.file_format.proofs.texts.append_calls.Goals as goal
 use Rattle.file_format.proofs.texts.append_calls.Goals.{then-place-gt0+in_ok-append_number, else-place-gt0+in_ok-append_number-2}
 

@@ -2,7 +2,7 @@ use Rattle.std.proofs.Common.{◌≡◌, ◌++◌, nat_lt, false, drop}
 use Rattle.serde_json.specs.Written.{items_text}
 use Rattle.file_format.specs.Ranges.{IsOp}
 use Rattle.file_format.specs.Texts.{calls_data}
-use Rattle.file_format.proofs.Ranging.{AllBefore}
+use Rattle.file_format.proofs.EachElement.{AllBefore}
 use Rattle.file_format.proofs.texts.append_calls.Given as goal
 
 abbrev pub invariant-loop-place : goal.invariant-loop-place

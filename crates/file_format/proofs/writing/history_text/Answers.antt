@@ -5,7 +5,7 @@ use Rattle.file_format.specs.Ranges.{IsInRange, AreInRange}
 use Rattle.file_format.specs.ReadAgain.{IsTextOf}
 use Rattle.file_format.specs.Texts.{row_text}
 use Rattle.counted_devices.specs.Leaving.{ahead, none_ahead}
-use Rattle.file_format.proofs.Ranging.{before_more, before_all}
+use Rattle.file_format.proofs.EachElement.{before_more, before_all}
 use Rattle.file_format.proofs.WrittenHistories.{history_text_of}
 use Rattle.file_format.proofs.writing.history_text.Goals as goal
 

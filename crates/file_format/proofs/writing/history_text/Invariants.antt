@@ -2,7 +2,7 @@ use Rattle.std.proofs.Common.{◌≡◌, ◌++◌, drop}
 use Rattle.std.specs.List.{flat_map}
 use Rattle.file_format.specs.Ranges.{IsInRange}
 use Rattle.file_format.specs.Texts.{row_text, history_text}
-use Rattle.file_format.proofs.Ranging.{AllBefore}
+use Rattle.file_format.proofs.EachElement.{AllBefore}
 use Rattle.file_format.proofs.writing.history_text.Given as goal
 
 abbrev pub invariant-loop-row : goal.invariant-loop-row

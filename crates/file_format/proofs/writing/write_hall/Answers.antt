@@ -5,7 +5,7 @@ use Rattle.counted_devices.specs.Sendings.{Leaves}
 use Rattle.file_format.specs.Ranges.{IsInRange, AreInRange}
 use Rattle.file_format.specs.Texts.{placed_text}
 use Rattle.counted_devices.specs.Leaving.{Leaves-next, Begins-next, none_ahead, on_err}
-use Rattle.file_format.proofs.Ranging.{before_more, before_all}
+use Rattle.file_format.proofs.EachElement.{before_more, before_all}
 use Rattle.file_format.proofs.writing.write_hall.Goals as goal
 
 pub returns-in_err-write_row-clause-begun : goal.returns-in_err-write_row-clause-begun

@@ -7,7 +7,7 @@ use Rattle.file_format.specs.Ranges.{IsWritten, HaveFormed, HasRowsInRange}
 use Rattle.file_format.specs.Texts.{placed_text, histories_text}
 use Rattle.counted_devices.specs.Leaving.{Begins-nothing, on_err}
 use Rattle.file_format.proofs.HallTexts.{Leaves-hall, Begins-hall, Begins-none-left}
-use Rattle.file_format.proofs.Ranging.{on_ok, before_more, before_all}
+use Rattle.file_format.proofs.EachElement.{on_ok, before_more, before_all}
 use Rattle.file_format.proofs.WrittenHalls.{histories_text_of}
 use Rattle.file_format.proofs.writing.write_histories.Goals as goal
 

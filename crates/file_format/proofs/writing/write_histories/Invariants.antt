@@ -3,7 +3,7 @@ use Rattle.counted_devices.specs.Sendings.{Leaves}
 use Rattle.file_format.specs.Ranges.{IsWritten}
 use Rattle.file_format.specs.Texts.{histories_text}
 use Rattle.file_format.proofs.HallTexts.{lines_from}
-use Rattle.file_format.proofs.Ranging.{AllBefore}
+use Rattle.file_format.proofs.EachElement.{AllBefore}
 use Rattle.file_format.proofs.writing.write_histories.Given as goal
 
 abbrev pub invariant-loop-hall : goal.invariant-loop-hall

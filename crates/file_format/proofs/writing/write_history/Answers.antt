@@ -5,7 +5,7 @@ use Rattle.counted_devices.specs.Sendings.{Begins}
 use Rattle.file_format.specs.Ranges.{IsInRange, AreInRange}
 use Rattle.file_format.specs.Texts.{row_text, history_text}
 use Rattle.counted_devices.specs.Leaving.{Begins-nothing, Leaves-next, Begins-next, Begins-last, on_err}
-use Rattle.file_format.proofs.Ranging.{on_ok, before_more, before_all}
+use Rattle.file_format.proofs.EachElement.{on_ok, before_more, before_all}
 use Rattle.file_format.proofs.WrittenHistories.{history_text_of}
 use Rattle.file_format.proofs.writing.write_history.Goals as goal
 

@@ -3,7 +3,7 @@ use Rattle.std.specs.List.{flat_map}
 use Rattle.counted_devices.specs.Sendings.{Leaves}
 use Rattle.file_format.specs.Ranges.{IsInRange}
 use Rattle.file_format.specs.Texts.{row_text, history_text}
-use Rattle.file_format.proofs.Ranging.{AllBefore}
+use Rattle.file_format.proofs.EachElement.{AllBefore}
 use Rattle.file_format.proofs.writing.write_history.Given as goal
 
 abbrev pub invariant-loop-row : goal.invariant-loop-row

@@ -4,7 +4,7 @@ use Rattle.std.proofs.lemmas.Result.{on_ok_weaker, on_err_weaker}
 use Rattle.file_format.specs.Texts.{order_text}
 use Rattle.counted_devices.specs.Leaving.{on_err}
 use Rattle.file_format.proofs.OrderPieces.{Leaves-piece, Begins-piece, Leaves-last, Begins-last}
-use Rattle.file_format.proofs.Ranging.{ops_both}
+use Rattle.file_format.proofs.EachElement.{ops_both}
 use Rattle.file_format.proofs.writing.write_order.Goals as goal
 
 pub slice_bounds-write_piece-end : goal.slice_bounds-write_piece-end

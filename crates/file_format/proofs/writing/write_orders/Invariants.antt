@@ -3,7 +3,7 @@ use Rattle.std.specs.List.{flat_map}
 use Rattle.counted_devices.specs.Sendings.{Leaves}
 use Rattle.file_format.specs.Ranges.{IsOrderInRange}
 use Rattle.file_format.specs.Texts.{order_text, orders_text}
-use Rattle.file_format.proofs.Ranging.{AllBefore}
+use Rattle.file_format.proofs.EachElement.{AllBefore}
 use Rattle.file_format.proofs.writing.write_orders.Given as goal
 
 abbrev pub invariant-loop-order : goal.invariant-loop-order

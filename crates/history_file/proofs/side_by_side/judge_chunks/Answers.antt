@@ -3,7 +3,7 @@ use Rattle.std.specs.Prelude.{IfOk, Vec}
 use Rattle.std.specs.List.{AllZip, flat_map}
 use Rattle.std.specs.declared.alloc.Global.{Global}
 use Rattle.tag.specs.declared.memory.Memory.{Memory}
-use Rattle.file_format.specs.declared.judging.Judgement.{Judgement}
+use Rattle.file_format.specs.declared.judge_lines.Judgement.{Judgement}
 use Rattle.file_format.specs.Lines.{ShowChunks}
 use Rattle.rayon.proofs.ListFacts.{AllZip-weaken}
 use Rattle.rayon.proofs.ToStd.{slice-AllZip}

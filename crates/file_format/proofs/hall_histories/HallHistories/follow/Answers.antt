@@ -8,7 +8,7 @@ use Rattle.recorder.specs.Histories.{Recorded}
 use Rattle.file_format.specs.FileHeaders.{halls_in, quorums_in}
 use Rattle.file_format.specs.HallStates.{histories_in}
 use Rattle.file_format.specs.HistoriesFormat.{MakesHistories}
-use Rattle.file_format.proofs.HallState.{After, grows, counted_after, lawful_after, room_after, unchanged_after, one_of_all, follows_after}
+use Rattle.file_format.proofs.OneRowMore.{After, grows, counted_after, lawful_after, room_after, unchanged_after, one_of_all, follows_after}
 use Rattle.file_format.proofs.hall_histories.HallHistories.follow.Goals as goal
 
 pub overflow_sub-self : goal.overflow_sub-self

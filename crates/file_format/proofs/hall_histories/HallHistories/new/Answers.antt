@@ -1,7 +1,7 @@
 use Rattle.std.proofs.Common.{◌≡◌, [], ◌∷◌, length, length-append, ap, sym, subst, arith}
 use Rattle.recorder.specs.Histories.{Recorded}
 use Rattle.file_format.specs.FileHeaders.{halls_in}
-use Rattle.file_format.proofs.HallState.{AreBlank, more_blank, lawful_blank, counted_blank, made_blank}
+use Rattle.file_format.proofs.OneRowMore.{AreBlank, more_blank, lawful_blank, counted_blank, made_blank}
 use Rattle.file_format.proofs.hall_histories.HallHistories.new.Goals as goal
 
 pub loop-preserved : goal.loop-preserved

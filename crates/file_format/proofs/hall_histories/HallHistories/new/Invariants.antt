@@ -1,5 +1,5 @@
 use Rattle.std.proofs.Common.{◌≡◌, length}
-use Rattle.file_format.proofs.HallState.{AreBlank}
+use Rattle.file_format.proofs.OneRowMore.{AreBlank}
 use Rattle.file_format.proofs.hall_histories.HallHistories.new.Given as goal
 
 abbrev pub invariant-loop : goal.invariant-loop

@@ -1,7 +1,7 @@
 use Rattle.std.proofs.Common.{◌≡◌, ◌∷◌, [], List, length, sym, ap, ◌∙◌, subst, arith, refl}
 use Rattle.std.specs.Vec.Iter.{into_iter_items}
 use Rattle.std.proofs.lemmas.Result.{err_from_is_err_and}
-use Rattle.file_format.specs.declared.judging.Judgement.{Judgement}
+use Rattle.file_format.specs.declared.judge_lines.Judgement.{Judgement}
 use Rattle.history_file.proofs.Taking.{Goes, Goes-start, Goes-step, Goes-stop, Goes-end}
 use Rattle.history_file.proofs.progress.Progress.record_run.Goals as goal
 

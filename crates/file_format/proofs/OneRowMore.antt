@@ -21,7 +21,7 @@ use Rattle.file_format.specs.FileHeaders.{halls_in, quorums_in}
 use Rattle.file_format.specs.Formats.{Follows}
 use Rattle.file_format.specs.HistoriesFormat.{MakesHistories, histories_format}
 use Rattle.file_format.specs.Places.{IsOneTooMany, FollowsBehind}
-use Rattle.file_format.proofs.HallPlacing.{begins, calls_more, few_more, IsNext, fits_more, makes_more, misplaced}
+use Rattle.file_format.proofs.RowsAcrossHalls.{begins, calls_more, few_more, IsNext, fits_more, makes_more, misplaced}
 
 pub set_same : (halls : List Recorded) (k : ℕ) (old : Recorded) → slice_get halls k ≡ Some old → set halls k old ≡ halls
 set_same [] k old e = absurd (cc)
