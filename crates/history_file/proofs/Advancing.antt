@@ -11,15 +11,15 @@ use Rattle.history_file.specs.declared.progress.Progress.{Progress}
 use Rattle.file_format.specs.declared.judge_lines.Judgement.{Judgement}
 use Rattle.history_file.specs.declared.feed.Feed.{Feed}
 use Rattle.history_file.specs.declared.ahead.Ahead.{Ahead}
-use Rattle.history_file.specs.declared.judged.Judged.{Judged}
+use Rattle.history_file.specs.declared.judge_blocks.JudgedLines.{JudgedLines}
 use Rattle.counted_devices.specs.Cuts.{with_end, Splits, Divides, HasNoEnd}
 use Rattle.file_format.specs.Lines.{ShowsItem, ShowChunks}
 use Rattle.file_format.specs.Formats.{Format}
 use Rattle.history_file.specs.Takings.{IsFirstOfKind, IsAt}
 use Rattle.history_file.specs.Feeds.{Stands, FaultSoFar, FirstFaultSoFar}
 use Rattle.history_file.specs.Ahead.{IsJudged, Records, IsAhead, StandsAhead, FaultStays}
-use Rattle.history_file.proofs.Taking.{IsFirstFault-more}
-use Rattle.history_file.proofs.Feeding.{with_more, long_first}
+use Rattle.history_file.proofs.LineByLine.{IsFirstFault-more}
+use Rattle.history_file.proofs.FeedLemmas.{with_more, long_first}
 use Rattle.counted_devices.specs.CutLemmas.{Splits-join, Splits-room, Splits-none, Splits-rest, cut_of}
 
 module _ {Header Item Contents : Type 0} (format : Format Header Item) (Makes : Header → List Item → Contents → Type 0) where
@@ -157,14 +157,14 @@ module _ {Header Item Contents : Type 0} (format : Format Header Item) (Makes : 
       }
 
   -- bytes without an end have no whole line
-  pub judged_none : (header : Header) (bytes : List ℕ) (judged : Judged Item) → HasNoEnd bytes → judged.judgements ≡ [] → judged.rest.items ≡ bytes → IsJudged format header bytes judged
+  pub judged_none : (header : Header) (bytes : List ℕ) (judged : JudgedLines Item) → HasNoEnd bytes → judged.judgements ≡ [] → judged.rest.items ≡ bytes → IsJudged format header bytes judged
   judged_none header bytes judged h none r =
       let Q : List ℕ → Type 0 = λ xs. Splits bytes [] xs in
       let A : List (Judgement Item) → Type 0 = λ js. AllZip (ShowsItem (format.meaning header)) [] js in
       record { lines = []; splits = subst Q (sym r) (Splits-none bytes h); shown = subst A (sym none) tt }
 
   -- the first line is behind the rest, the others are those of the tail's chunks
-  pub judged_chunks : (header : Header) (rest front tail : List ℕ) (chunks : List (List ℕ)) (judged : Judged Item) → Divides tail chunks judged.rest.items → ShowChunks (format.meaning header) ((rest ++ front) ∷ chunks) judged.judgements → IsJudged format header (rest ++ (front ++ 10 ∷ tail)) judged
+  pub judged_chunks : (header : Header) (rest front tail : List ℕ) (chunks : List (List ℕ)) (judged : JudgedLines Item) → Divides tail chunks judged.rest.items → ShowChunks (format.meaning header) ((rest ++ front) ∷ chunks) judged.judgements → IsJudged format header (rest ++ (front ++ 10 ∷ tail)) judged
   judged_chunks header rest front tail chunks judged d h =
       let left = judged.rest.items in
       let line = rest ++ front in
@@ -174,5 +174,5 @@ module _ {Header Item Contents : Type 0} (format : Format Header Item) (Makes : 
       record { lines = h.lines; splits = subst P whole (Splits-rest (flat_map with_end (line ∷ chunks)) left h.lines h.cut d.partial); shown = h.shown }
 
   -- each line and its end is a byte at least
-  pub judged_room : (header : Header) (bytes : List ℕ) (judged : Judged Item) → IsJudged format header bytes judged → length judged.judgements + length judged.rest.items ≤ length bytes
+  pub judged_room : (header : Header) (bytes : List ℕ) (judged : JudgedLines Item) → IsJudged format header bytes judged → length judged.judgements + length judged.rest.items ≤ length bytes
   judged_room header bytes judged j = omega (arith, AllZip-long (ShowsItem (format.meaning header)) j.lines judged.judgements j.shown, Splits-room bytes j.lines judged.rest.items j.splits)

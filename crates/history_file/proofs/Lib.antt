@@ -1,6 +1,6 @@
 pub mod SideBySide
-pub mod Taking
-pub mod Feeding
+pub mod LineByLine
+pub mod FeedLemmas
 pub mod Passing
 pub mod Advancing
 pub mod Consuming

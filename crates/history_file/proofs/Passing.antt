@@ -8,8 +8,8 @@ use Rattle.history_file.specs.declared.progress.Progress.{Progress}
 use Rattle.counted_devices.specs.Cuts.{with_end, Splits, Divides, AreLinesIn}
 use Rattle.file_format.specs.Formats.{Format}
 use Rattle.history_file.specs.Takings.{AreTaken, TakesChunks}
-use Rattle.history_file.specs.Feeds.{Passed, PassStops}
-use Rattle.history_file.proofs.Feeding.{pass_stops, pass_long}
+use Rattle.history_file.specs.Feeds.{PassTakes, PassStops}
+use Rattle.history_file.proofs.FeedLemmas.{pass_stops, pass_long}
 use Rattle.counted_devices.specs.CutLemmas.{Splits-rest, lines_of}
 
 module _ {Header Item Contents : Type 0} (format : Format Header Item) (Makes : Header → List Item → Contents → Type 0) where
@@ -35,7 +35,7 @@ module _ {Header Item Contents : Type 0} (format : Format Header Item) (Makes : 
       subst P (sym same) (pass_long format Makes old mid bytes l.lines rest number (chunks_cut bytes chunks l.lines rest d l.cut) (λ before at. (at.0, takes l.lines l.cut before at.0 at.1 (some_before before old at some))) long counted)
 
   -- all lines of the chunks were taken
-  pub chunks_passed : (old new : Progress Contents) (bytes : List ℕ) (chunks : List (List ℕ)) (rest : List ℕ) → 0 < old.lines → Divides bytes chunks rest → TakesChunks format Makes old chunks (Ok tt) new → length rest ≤ 65536 → Passed format Makes old bytes rest new
+  pub chunks_passed : (old new : Progress Contents) (bytes : List ℕ) (chunks : List (List ℕ)) (rest : List ℕ) → 0 < old.lines → Divides bytes chunks rest → TakesChunks format Makes old chunks (Ok tt) new → length rest ≤ 65536 → PassTakes format Makes old bytes rest new
   chunks_passed old new bytes chunks rest some d takes short =
       let l = lines_of chunks in
       record {

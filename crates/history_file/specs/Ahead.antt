@@ -2,7 +2,7 @@
 use Rattle.std.specs.Prelude.{ℕ, ◌≡◌, ◌≤◌, ◌<◌, List, ◌++◌, length, Result, MatchResult}
 use Rattle.std.specs.List.{AllZip}
 use Rattle.file_format.specs.Faults.{FileFault}
-use Rattle.history_file.specs.declared.judged.Judged.{Judged}
+use Rattle.history_file.specs.declared.judge_blocks.JudgedLines.{JudgedLines}
 use Rattle.history_file.specs.declared.ahead.Ahead.{Ahead}
 use Rattle.history_file.specs.declared.feed.Feed.{Feed}
 use Rattle.history_file.specs.declared.progress.Progress.{Progress}
@@ -14,7 +14,7 @@ use Rattle.history_file.specs.Takings.{IsAt, IsFirstOfKind}
 use Rattle.history_file.specs.Feeds.{FaultSoFar, Stands}
 
 -- behind that header the bytes' lines show that, and that rest is left
-pub record IsJudged {Header Item : Type 0} (format : Format Header Item) (header : Header) (bytes : List ℕ) (judged : Judged Item) : Type 0 where
+pub record IsJudged {Header Item : Type 0} (format : Format Header Item) (header : Header) (bytes : List ℕ) (judged : JudgedLines Item) : Type 0 where
   pub lines : List (List ℕ)
   pub splits : Splits bytes lines judged.rest.items
   pub shown : AllZip (ShowsItem (format.meaning header)) lines judged.judgements

@@ -38,9 +38,9 @@ abbrev pub FaultSoFar : {Header Item : Type 0} → Format Header Item → List �
 FaultSoFar format bytes number kind = IsFaultBy (FirstFaultSoFar format bytes number) ⊥ kind
 
 -- what a feed answers, when it was fed these bytes in all
-abbrev pub Fed : {Header Item Contents : Type 0} → Format Header Item → (Header → List Item → Contents → Type 0) → List ℕ → Result (Unit {0}) FileFault → Feed Contents → Type 0
-Fed format Makes bytes (Ok done) new = Stands format Makes bytes new
-Fed format Makes bytes (Err fault) new = FaultSoFar format bytes fault.line fault.kind
+abbrev pub FeedAnswers : {Header Item Contents : Type 0} → Format Header Item → (Header → List Item → Contents → Type 0) → List ℕ → Result (Unit {0}) FileFault → Feed Contents → Type 0
+FeedAnswers format Makes bytes (Ok done) new = Stands format Makes bytes new
+FeedAnswers format Makes bytes (Err fault) new = FaultSoFar format bytes fault.line fault.kind
 
 -- the first fault of a whole file, of any kind
 abbrev pub FaultInAll : {Header Item : Type 0} → Format Header Item → List ℕ → ℕ → FaultKind → Type 0
@@ -51,14 +51,14 @@ abbrev pub Ends : {Header Item Contents : Type 0} → Format Header Item → (He
 Ends format Makes bytes result = MatchResult result (λ contents. Reads format Makes bytes contents) (λ fault. FaultInAll format bytes fault.line fault.kind)
 
 -- the bytes' lines were taken, and that rest is left
-pub record Passed {Header Item Contents : Type 0} (format : Format Header Item) (Makes : Header → List Item → Contents → Type 0) (old : Progress Contents) (bytes rest : List ℕ) (new : Progress Contents) : Type 0 where
+pub record PassTakes {Header Item Contents : Type 0} (format : Format Header Item) (Makes : Header → List Item → Contents → Type 0) (old : Progress Contents) (bytes rest : List ℕ) (new : Progress Contents) : Type 0 where
   pub lines : List (List ℕ)
   pub splits : Splits bytes lines rest
   pub short : length rest ≤ 65536
   pub taken : (before : List (List ℕ)) → AreTaken format Makes before old → AreTaken format Makes (before ++ lines) new
 
 -- the first fault among the lines before and those of the bytes
-pub record FaultPassed {Header Item Contents : Type 0} (format : Format Header Item) (Makes : Header → List Item → Contents → Type 0) (old : Progress Contents) (bytes : List ℕ) (number : ℕ) (fault : LineFault) : Type 0 where
+pub record FirstFaultInPass {Header Item Contents : Type 0} (format : Format Header Item) (Makes : Header → List Item → Contents → Type 0) (old : Progress Contents) (bytes : List ℕ) (number : ℕ) (fault : LineFault) : Type 0 where
   pub lines : List (List ℕ)
   pub rest : List ℕ
   pub splits : Splits bytes lines rest
@@ -66,11 +66,11 @@ pub record FaultPassed {Header Item Contents : Type 0} (format : Format Header I
 
 -- the same of a fault of any kind; lines have none of a device
 abbrev pub PassStops : {Header Item Contents : Type 0} → Format Header Item → (Header → List Item → Contents → Type 0) → Progress Contents → List ℕ → ℕ → FaultKind → Type 0
-PassStops format Makes old bytes number kind = IsFaultBy (FaultPassed format Makes old bytes number) ((before : List (List ℕ)) → AreTaken format Makes before old → ⊥) kind
+PassStops format Makes old bytes number kind = IsFaultBy (FirstFaultInPass format Makes old bytes number) ((before : List (List ℕ)) → AreTaken format Makes before old → ⊥) kind
 
 -- what becomes of the bytes' lines: they were taken and that rest is left, or they have that fault
 abbrev pub Passes : {Header Item Contents X : Type 0} → Format Header Item → (Header → List Item → Contents → Type 0) → Progress Contents → List ℕ → Result X FileFault → (X → List ℕ) → Progress Contents → Type 0
-Passes format Makes old bytes result rest_of new = MatchResult result (λ x. Passed format Makes old bytes (rest_of x) new) (λ fault. PassStops format Makes old bytes fault.line fault.kind)
+Passes format Makes old bytes result rest_of new = MatchResult result (λ x. PassTakes format Makes old bytes (rest_of x) new) (λ fault. PassStops format Makes old bytes fault.line fault.kind)
 
 -- the line under way isn't too long, or that is its fault
 abbrev pub IsShort : ℕ → List ℕ → Result (Unit {0}) FileFault → Type 0

@@ -6,4 +6,4 @@ pub mod Feeds
 pub mod Ahead
 pub mod Batches
 pub mod Deliveries
-pub mod Fed
+pub mod PublicFeeds

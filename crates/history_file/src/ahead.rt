@@ -5,7 +5,7 @@ ghost use Rattle.counted_devices.specs.Cuts.{HasNoEnd};
 
 use crate::feed::Feed;
 use crate::format::Contents;
-use crate::judged::{Judged, judge_block};
+use crate::judge_blocks::{JudgedLines, judge_block};
 use crate::judgements::Judgements;
 use crate::progress::Progress;
 use file_format::{FaultKind, FileFault, LONGEST, LineFault, Stop};
@@ -21,7 +21,7 @@ const LEAST: usize = 65_536;
 #[derive(Drop)]
 pub struct Ahead<C, T> {
     pub progress: Progress<C>,
-    pub judged: Judged<T>,
+    pub judged: JudgedLines<T>,
     pub fed: u64,
     ghost few: { fed ≤ 2 ^ 62 },
     ghost room: { progress.lines + length judged.judgements + length judged.rest.items ≤ fed },
@@ -41,7 +41,7 @@ impl<C: Contents> Ahead<C, C::Item> {
                 contents: C::opening(alloc),
                 lines: 0,
             },
-            judged: Judged {
+            judged: JudgedLines {
                 judgements: Judgements::new(alloc),
                 rest: Vec::new(alloc),
             },
@@ -65,12 +65,12 @@ impl<C: Contents> Ahead<C, C::Item> {
             judged,
             fed,
         } = self;
-        let Judged { judgements, rest } = judged;
-        let progress = progress.recorded(judgements)?;
+        let JudgedLines { judgements, rest } = judged;
+        let progress = progress.record_owned(judgements)?;
         let judgements = Judgements::new(*rest.allocator());
         Ok(Ahead {
             progress,
-            judged: Judged { judgements, rest },
+            judged: JudgedLines { judgements, rest },
             fed,
         })
     }
@@ -116,7 +116,7 @@ impl<C: Contents> Ahead<C, C::Item> {
         let judgements = Judgements::new(*rest.allocator());
         Ok(Ahead {
             progress,
-            judged: Judged { judgements, rest },
+            judged: JudgedLines { judgements, rest },
             fed,
         })
     }
@@ -154,7 +154,7 @@ impl<C: Contents> Ahead<C, C::Item> {
         }
         let Ahead {
             progress,
-            judged: Judged { judgements, rest },
+            judged: JudgedLines { judgements, rest },
             fed,
         } = self;
         let alloc = *rest.allocator();
@@ -166,8 +166,8 @@ impl<C: Contents> Ahead<C, C::Item> {
                 ensures taken { Records C.format C.Makes progress judgements result }
                 ensures lines { IfOk result (λ new. new.lines
                     ≡ progress.lines + length judgements) }
-            { progress.recorded(judgements) },
-            || -> Result<Judged<C::Item>, Memory>
+            { progress.record_owned(judgements) },
+            || -> Result<JudgedLines<C::Item>, Memory>
                 requires { IsSync R.row }
                 ensures judged { IfOk result (λ judged. HasNoEnd rest.items
                     → IsJudged C.format header (rest.items ++ block.entry.now) judged) }

@@ -20,7 +20,7 @@ pub struct Feed<C> {
 }
 
 impl<C: Contents> Feed<C> {
-    ghost use Rattle.history_file.specs.Feeds.{Stands, Fed, Ends};
+    ghost use Rattle.history_file.specs.Feeds.{Stands, FeedAnswers, Ends};
 
     /// No byte yet.
     pub(crate) fn new(alloc: Global) -> Feed<C>
@@ -48,7 +48,7 @@ impl<C: Contents> Feed<C> {
     pub(crate) fn feed(&mut self, rt: &(impl Threads + Sync), block: &[u8]) -> Result<(), FileFault>
         requires { self.old.fed + length block.now ≤ 2 ^ 62 }
         ensures fed { (bytes : List ℕ) → Stands C.format C.Makes bytes self.old
-            → Fed C.format C.Makes (bytes ++ block.now) result self.new }
+            → FeedAnswers C.format C.Makes (bytes ++ block.now) result self.new }
         ensures count { MatchResult result (λ _. self.new.fed ≡ self.old.fed + length block.now)
             (λ _. self.new.fed ≡ self.old.fed) }
         ensures sound { IfOk result (λ _. self.new.fault ≡ None) }

@@ -1,6 +1,6 @@
 //! Files that come in blocks, as their callers see them.
 ghost use Rattle.std.specs.Prelude.{ℕ, ◌≡◌, ◌≤◌, ◌+◌, ◌^◌, ◌++◌, List, [], None, Some, length, IfErr, MatchResult};
-ghost use Rattle.history_file.specs.Feeds.{Stands, Fed};
+ghost use Rattle.history_file.specs.Feeds.{Stands, FeedAnswers};
 
 use crate::feed::Feed;
 use crate::format::Contents;
@@ -53,7 +53,7 @@ impl<C: Contents> FileFeed<C> {
     pub fn feed(&mut self, rt: &(impl Threads + Sync), block: &[u8]) -> Result<(), FileFault>
         requires { self.old.fed + length block.now ≤ 2 ^ 62 }
         ensures fed { (bytes : List ℕ) → Stands C.format C.Makes bytes self.old
-            → Fed C.format C.Makes (bytes ++ block.now) result self.new }
+            → FeedAnswers C.format C.Makes (bytes ++ block.now) result self.new }
         ensures count { MatchResult result (λ _. self.new.fed ≡ self.old.fed + length block.now)
             (λ _. self.new.fed ≡ self.old.fed) }
         ensures kept { IfErr result (λ fault. self.new.fault ≡ Some fault) }

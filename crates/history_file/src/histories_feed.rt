@@ -1,6 +1,6 @@
 //! History files of either version that come in blocks.
 ghost use Rattle.std.specs.Prelude.{ℕ, ◌≡◌, List, Some};
-ghost use Rattle.history_file.specs.Fed.{StandsForHalls, EndsHalls};
+ghost use Rattle.history_file.specs.PublicFeeds.{StandsForHalls, EndsHalls};
 
 use crate::feed::Feed;
 use crate::file_feed::FileFeed;

@@ -1,6 +1,6 @@
 //! History files that come in blocks.
 ghost use Rattle.std.specs.Prelude.{ℕ, ◌≡◌, List, Some};
-ghost use Rattle.history_file.specs.Fed.{StandsForRows, EndsRows};
+ghost use Rattle.history_file.specs.PublicFeeds.{StandsForRows, EndsRows};
 
 use crate::file_feed::FileFeed;
 use file_format::FileFault;

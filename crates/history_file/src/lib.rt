@@ -16,7 +16,7 @@ mod histories_feed;
 mod histories_format;
 mod history_feed;
 mod history_format;
-mod judged;
+mod judge_blocks;
 mod judgements;
 mod order_feed;
 mod order_format;

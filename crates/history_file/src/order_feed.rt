@@ -1,6 +1,6 @@
 //! Order files that come in blocks.
 ghost use Rattle.std.specs.Prelude.{ℕ, ◌≡◌, List, Some};
-ghost use Rattle.history_file.specs.Fed.{EndsOrders, StandsForOrders};
+ghost use Rattle.history_file.specs.PublicFeeds.{EndsOrders, StandsForOrders};
 
 use crate::feed::Feed;
 use crate::file_feed::FileFeed;

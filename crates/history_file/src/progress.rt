@@ -80,7 +80,7 @@ impl<C: Contents> Progress<C> {
     }
 
     /// The same of a progress that is handed over.
-    pub(crate) fn recorded(
+    pub(crate) fn record_owned(
         mut self,
         judgements: Judgements<C::Item>,
     ) -> Result<Progress<C>, FileFault>

@@ -1,7 +1,7 @@
 use Rattle.std.proofs.Common.{ℕ, List, Bor, map, Ok, Err, sym, subst}
 use Rattle.std.proofs.lemmas.Result.{err_from_is_err_and}
 use Rattle.history_file.specs.Takings.{TakesChunks}
-use Rattle.history_file.specs.Feeds.{Passed}
+use Rattle.history_file.specs.Feeds.{PassTakes}
 use Rattle.history_file.proofs.Passing.{chunks_stop, chunks_long, chunks_passed}
 use Rattle.history_file.proofs.blocks.pass.Goals as goal
 
@@ -32,5 +32,5 @@ returns-in-Ok-from_slice-clause-passes g c =
     let new = c.take_chunks.new.self in
     let found = c.in-Ok.found in
     let T : List (Bor (List ℕ)) → Type 0 = λ ps. TakesChunks g.C.Contents.format g.C.Contents.Makes old (map (λ (chunk : Bor (List ℕ)). chunk.now) ps) (Ok tt) new in
-    let P : List ℕ → Type 0 = λ xs. Passed g.C.Contents.format g.C.Contents.Makes old c.args.bytes.now xs new in
+    let P : List ℕ → Type 0 = λ xs. PassTakes g.C.Contents.format g.C.Contents.Makes old c.args.bytes.now xs new in
     subst P (sym c.in-Ok-from_slice.ensures.items) (chunks_passed g.C.Contents.format g.C.Contents.Makes old new c.args.bytes.now (map (λ (chunk : Bor (List ℕ)). chunk.now) found.chunks.items) found.rest.now c.requires.some c.in-Ok.ensures (subst T c.as_slice.ensures.value c.in_ok-take_chunks.ensures.taken) c.in_ok-check_length.ensures)

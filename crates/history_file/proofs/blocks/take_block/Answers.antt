@@ -5,10 +5,10 @@ use Rattle.std.proofs.lemmas.Result.{err_from_is_err_and}
 use Rattle.file_format.specs.declared.fault.LineFault.TheVariants.{TooLong}
 use Rattle.counted_devices.specs.declared.read_fault.FaultKind.TheVariants as kind
 use Rattle.counted_devices.specs.Cuts.{HasNoEnd}
-use Rattle.history_file.specs.Feeds.{Passed, PassStops}
+use Rattle.history_file.specs.Feeds.{PassTakes, PassStops}
 use Rattle.history_file.specs.Takings.{AreTaken, IsFirstOfKind}
 use Rattle.counted_devices.specs.CutLemmas.{behind, cut_at}
-use Rattle.history_file.proofs.Feeding.{Passed-line, PassStops-line, line_stops, passes_alone}
+use Rattle.history_file.proofs.FeedLemmas.{PassTakes-line, PassStops-line, line_stops, passes_alone}
 use Rattle.history_file.proofs.blocks.take_block.Goals as goal
 
 pub returns-in_default-clause-passes : goal.returns-in_default-clause-passes
@@ -72,5 +72,5 @@ returns-clause-passes g c = λ partial.
     let N : List ℕ → Type 0 = λ xs. HasNoEnd xs in
     let none : HasNoEnd c.as_slice-2.result.now = subst N (sym same) (All-append (λ (b : ℕ). b ≢ 10) rest front partial c.in-Some.ensures.1) in
     let P : List ℕ → Type 0 = λ xs. (before : List (List ℕ)) → AreTaken g.C.Contents.format g.C.Contents.Makes before old → AreTaken g.C.Contents.format g.C.Contents.Makes (before ++ xs ∷ []) mid in
-    let Q : List ℕ → Type 0 = λ xs. Passed g.C.Contents.format g.C.Contents.Makes old (rest ++ xs) left new in
-    subst Q (sym (cut_at block end c.in-Some.ensures.0 c.in-Some.ensures.2)) (Passed-line g.C.Contents.format g.C.Contents.Makes old mid new rest front tail left partial c.in-Some.ensures.1 (subst P same (c.in_ok-take_line.ensures.taken none)) c.in_ok-rest.ensures.passes)
+    let Q : List ℕ → Type 0 = λ xs. PassTakes g.C.Contents.format g.C.Contents.Makes old (rest ++ xs) left new in
+    subst Q (sym (cut_at block end c.in-Some.ensures.0 c.in-Some.ensures.2)) (PassTakes-line g.C.Contents.format g.C.Contents.Makes old mid new rest front tail left partial c.in-Some.ensures.1 (subst P same (c.in_ok-take_line.ensures.taken none)) c.in_ok-rest.ensures.passes)

@@ -3,7 +3,7 @@ use Rattle.std.specs.Prelude.{IfOk}
 use Rattle.std.proofs.lemmas.Result.{err_from_is_err_and}
 use Rattle.file_format.specs.Faults.{FileFault}
 use Rattle.history_file.specs.declared.progress.Progress.{Progress}
-use Rattle.history_file.specs.declared.judged.Judged.{Judged}
+use Rattle.history_file.specs.declared.judge_blocks.JudgedLines.{JudgedLines}
 use Rattle.tag.specs.declared.memory.Memory.{Memory}
 use Rattle.counted_devices.specs.Cuts.{HasNoEnd}
 use Rattle.history_file.specs.Ahead.{IsJudged, Records}
@@ -23,7 +23,7 @@ returns-clause-goes g c =
     let old = c.args.self in
     let some : 0 < old.progress.lines = omega (arith, c.if-self-eq0.false) in
     let P : Result (Progress g.row.C.Denot) FileFault → Type 0 = λ r. Records g.C.Contents.format g.C.Contents.Makes old.progress old.judged.judgements r in
-    let Q : Result (Judged g.row.C-Item.Denot) Memory → Type 0 = λ r. IfOk r (λ judged. HasNoEnd old.judged.rest.items → IsJudged g.C.Contents.format c.header-header.result (old.judged.rest.items ++ c.args.block.now) judged) in
+    let Q : Result (JudgedLines g.row.C-Item.Denot) Memory → Type 0 = λ r. IfOk r (λ judged. HasNoEnd old.judged.rest.items → IsJudged g.C.Contents.format c.header-header.result (old.judged.rest.items ++ c.args.block.now) judged) in
     λ bytes s.
     let a = s.0 in
     let known : c.header-header.result ≡ a.header = c.header-header.ensures a.header a.at.items (a.at.made (omega (arith, a.at.counted, some))) in

@@ -1,5 +1,5 @@
 use Rattle.std.proofs.Common.{refl}
-use Rattle.history_file.proofs.Feeding.{Stands-more, stops_so_far}
+use Rattle.history_file.proofs.FeedLemmas.{Stands-more, stops_so_far}
 use Rattle.history_file.proofs.feed.Feed.feed.Goals as goal
 
 pub returns-in-Ok-clause-fed : goal.returns-in-Ok-clause-fed

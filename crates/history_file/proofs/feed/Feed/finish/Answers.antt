@@ -4,7 +4,7 @@ use Rattle.std.proofs.lemmas.Result.{err_from_is_err_and}
 use Rattle.counted_devices.specs.Cuts.{HasNoEnd}
 use Rattle.history_file.specs.Takings.{AreTaken, IsFirstOfKind}
 use Rattle.history_file.specs.declared.progress.Progress.{Progress}
-use Rattle.history_file.proofs.Feeding.{stops_in_all, Reads-rest, Reads-whole}
+use Rattle.history_file.proofs.FeedLemmas.{stops_in_all, Reads-rest, Reads-whole}
 use Rattle.history_file.proofs.feed.Feed.finish.Goals as goal
 use Rattle.history_file.proofs.feed.Feed.finish.Goals.{then-not-is_empty+in_ok-take_line, else-not-is_empty}
 

@@ -5,7 +5,7 @@ use Rattle.std.specs.declared.alloc.Global.{Global}
 use Rattle.std.specs.Vec.Iter.{into_iter_items}
 use Rattle.std.proofs.lemmas.Result.{err_from_is_err_and}
 use Rattle.file_format.specs.declared.judge_lines.Judgement.{Judgement}
-use Rattle.history_file.proofs.Taking.{Goes, Goes-start, Goes-run, Goes-run_stop, Goes-end}
+use Rattle.history_file.proofs.LineByLine.{Goes, Goes-start, Goes-run, Goes-run_stop, Goes-end}
 use Rattle.history_file.proofs.progress.Progress.record.Goals as goal
 
 nothing_left : {X : Type 0} (l : List X) → length l ≡ 0 → l ≡ []

@@ -2,7 +2,7 @@ use Rattle.std.proofs.Common.{List, ℕ, ◌≡◌, ◌+◌, length}
 use Rattle.std.specs.List.{AllZip, flat_map}
 use Rattle.std.specs.Vec.Iter.{into_iter_items, into_iter_len}
 use Rattle.file_format.specs.Lines.{ShowsItem}
-use Rattle.history_file.proofs.Taking.{Goes}
+use Rattle.history_file.proofs.LineByLine.{Goes}
 use Rattle.history_file.proofs.progress.Progress.record.Given as goal
 
 abbrev pub invariant-loop-run : goal.invariant-loop-run

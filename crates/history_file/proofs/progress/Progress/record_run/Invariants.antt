@@ -2,7 +2,7 @@ use Rattle.std.proofs.Common.{List, ℕ, ◌≡◌, ◌+◌, length}
 use Rattle.std.specs.List.{AllZip}
 use Rattle.std.specs.Vec.Iter.{into_iter_items, into_iter_len}
 use Rattle.file_format.specs.Lines.{ShowsItem}
-use Rattle.history_file.proofs.Taking.{Goes}
+use Rattle.history_file.proofs.LineByLine.{Goes}
 use Rattle.history_file.proofs.progress.Progress.record_run.Given as goal
 
 abbrev pub invariant-loop-judgement : goal.invariant-loop-judgement

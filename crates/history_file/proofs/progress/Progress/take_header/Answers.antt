@@ -1,5 +1,5 @@
 use Rattle.std.proofs.Common.{refl}
-use Rattle.history_file.proofs.Taking.{taken_header}
+use Rattle.history_file.proofs.LineByLine.{taken_header}
 use Rattle.history_file.proofs.progress.Progress.take_header.Goals as goal
 
 pub returns-in-Ok-clause-taken : goal.returns-in-Ok-clause-taken

@@ -1,5 +1,5 @@
 use Rattle.std.proofs.Common.{rules, ◌+◌, refl}
-use Rattle.history_file.proofs.Taking.{taken_item}
+use Rattle.history_file.proofs.LineByLine.{taken_item}
 use Rattle.history_file.proofs.progress.Progress.take_judgement.Goals as goal
 
 pub returns-in-Ok-clause-taken : goal.returns-in-Ok-clause-taken

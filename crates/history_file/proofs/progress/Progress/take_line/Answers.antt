@@ -1,6 +1,6 @@
 use Rattle.std.proofs.Common.{◌<◌, [], ◌∷◌, length, arith}
 use Rattle.counted_devices.specs.CutLemmas.{one_line}
-use Rattle.history_file.proofs.Taking.{line_taken}
+use Rattle.history_file.proofs.LineByLine.{line_taken}
 use Rattle.history_file.proofs.progress.Progress.take_line.Goals as goal
 
 pub returns-clause-taken : goal.returns-clause-taken

@@ -12,7 +12,7 @@ use tag::Memory;
 
 /// What whole lines show by themselves, and the rest behind them, a line under way.
 #[derive(Drop)]
-pub struct Judged<T> {
+pub struct JudgedLines<T> {
     pub judgements: Judgements<T>,
     pub rest: Vec<u8>,
 }
@@ -26,7 +26,7 @@ pub(crate) fn judge_block<C: Contents, R: Threads + Sync>(
     header: C::Header,
     rest: &[u8],
     block: &[u8],
-) -> Result<Judged<C::Item>, Memory>
+) -> Result<JudgedLines<C::Item>, Memory>
     ensures judged { IfOk result (λ judged. HasNoEnd rest.now
         → IsJudged C.format header (rest.now ++ block.now) judged) }
     ensures room { IfOk result (λ judged. length judged.judgements + length judged.rest.items
@@ -35,7 +35,7 @@ pub(crate) fn judge_block<C: Contents, R: Threads + Sync>(
     let mut first = Vec::from_slice(alloc, rest)?;
     let Some(end) = first_end(block) else {
         first.extend_from_slice(block)?;
-        return Ok(Judged {
+        return Ok(JudgedLines {
             judgements: Judgements::new(alloc),
             rest: first,
         });
@@ -44,7 +44,7 @@ pub(crate) fn judge_block<C: Contents, R: Threads + Sync>(
     let mut found = cut_chunks(alloc, &block[end + 1..])?;
     found.chunks.insert(0, first.as_slice())?;
     let judgements = C::judge_all(rt, alloc, header, found.chunks.as_slice())?;
-    Ok(Judged {
+    Ok(JudgedLines {
         judgements,
         rest: Vec::from_slice(alloc, found.rest)?,
     })

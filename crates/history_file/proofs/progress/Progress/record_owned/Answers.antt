@@ -1,5 +1,5 @@
 use Rattle.std.proofs.lemmas.Result.{err_from_is_err_and}
-use Rattle.history_file.proofs.progress.Progress.recorded.Goals as goal
+use Rattle.history_file.proofs.progress.Progress.record_owned.Goals as goal
 
 pub returns-in_err-record-clause-taken : goal.returns-in_err-record-clause-taken
 returns-in_err-record-clause-taken g c =

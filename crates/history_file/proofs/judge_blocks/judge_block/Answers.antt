@@ -1,12 +1,12 @@
 use Rattle.std.proofs.Common.{ℕ, ◌≡◌, ◌≢◌, ◌++◌, List, ◌∷◌, Bor, length, map, take, length-append, sym, ap, ◌∙◌, subst, arith}
 use Rattle.std.proofs.lemmas.List.Elements.{All-append}
-use Rattle.history_file.specs.declared.judged.Judged.{Judged}
+use Rattle.history_file.specs.declared.judge_blocks.JudgedLines.{JudgedLines}
 use Rattle.counted_devices.specs.Cuts.{HasNoEnd, Divides}
 use Rattle.history_file.specs.Ahead.{IsJudged}
 use Rattle.file_format.specs.Lines.{ShowChunks}
 use Rattle.counted_devices.specs.CutLemmas.{behind, cut_at}
 use Rattle.history_file.proofs.Advancing.{judged_none, judged_chunks, judged_room}
-use Rattle.history_file.proofs.judged.judge_block.Goals as goal
+use Rattle.history_file.proofs.judge_blocks.judge_block.Goals as goal
 
 pub returns-in_default-clause-judged : goal.returns-in_default-clause-judged
 returns-in_default-clause-judged g c = λ partial.
@@ -22,7 +22,7 @@ returns-clause-judged g c = λ partial.
     let block = c.args.block.now in
     let front = take end block in
     let found = c.in_ok-found.found in
-    let judged : Judged g.row.C-Item.Denot = record { judgements = c.in_ok-judgements.judgements; rest = c.in_ok-from_slice.field-0 } in
+    let judged : JudgedLines g.row.C-Item.Denot = record { judgements = c.in_ok-judgements.judgements; rest = c.in_ok-from_slice.field-0 } in
     let first : c.as_slice.result.now ≡ rest ++ front = c.as_slice.ensures.value ∙ (c.in_ok-extend_from_slice-2.ensures.items ∙ ap (λ (xs : List ℕ). xs ++ front) c.in_ok-first.ensures.items) in
     let chunks = map (λ (chunk : Bor (List ℕ)). chunk.now) found.chunks.items in
     let S : List ℕ → Type 0 = λ xs. Divides (behind block end) chunks xs in
@@ -41,7 +41,7 @@ returns-clause-room g c =
     let block = c.args.block.now in
     let front = take end block in
     let found = c.in_ok-found.found in
-    let judged : Judged g.row.C-Item.Denot = record { judgements = c.in_ok-judgements.judgements; rest = c.in_ok-from_slice.field-0 } in
+    let judged : JudgedLines g.row.C-Item.Denot = record { judgements = c.in_ok-judgements.judgements; rest = c.in_ok-from_slice.field-0 } in
     let first : c.as_slice.result.now ≡ rest ++ front = c.as_slice.ensures.value ∙ (c.in_ok-extend_from_slice-2.ensures.items ∙ ap (λ (xs : List ℕ). xs ++ front) c.in_ok-first.ensures.items) in
     let chunks = map (λ (chunk : Bor (List ℕ)). chunk.now) found.chunks.items in
     let S : List ℕ → Type 0 = λ xs. Divides (behind block end) chunks xs in

@@ -13,8 +13,8 @@ use Rattle.file_format.specs.Formats.{Format}
 use Rattle.file_format.specs.Files.{AreLinesOf, HasFault, IsFirstFault}
 use Rattle.history_file.specs.Takings.{IsFirstOfKind, AreTaken}
 use Rattle.file_format.specs.Readings.{Reads, FirstFaultInAll}
-use Rattle.history_file.specs.Feeds.{Stands, whole_lines, FaultSoFar, FaultInAll, Passed, FaultPassed, PassStops}
-use Rattle.history_file.proofs.Taking.{IsFirstFault-more}
+use Rattle.history_file.specs.Feeds.{Stands, whole_lines, FaultSoFar, FaultInAll, PassTakes, FirstFaultInPass, PassStops}
+use Rattle.history_file.proofs.LineByLine.{IsFirstFault-more}
 use Rattle.counted_devices.specs.CutLemmas.{Splits-join, Splits-none, Splits-line, cut_of, last_some, last_none}
 
 none_of : (lines : List (List ℕ)) → length lines ≡ 0 → lines ≡ []
@@ -56,7 +56,7 @@ module _ {Header Item Contents : Type 0} (format : Format Header Item) (Makes : 
   }
 
   -- a rest that is too long already
-  pub pass_long : (old mid : Progress Contents) (bytes : List ℕ) (lines : List (List ℕ)) (rest : List ℕ) (number : ℕ) → Splits bytes lines rest → ((before : List (List ℕ)) → AreTaken format Makes before old → AreTaken format Makes (before ++ lines) mid) → 65536 < length rest → number ≡ mid.lines + 1 → FaultPassed format Makes old bytes number TooLong
+  pub pass_long : (old mid : Progress Contents) (bytes : List ℕ) (lines : List (List ℕ)) (rest : List ℕ) (number : ℕ) → Splits bytes lines rest → ((before : List (List ℕ)) → AreTaken format Makes before old → AreTaken format Makes (before ++ lines) mid) → 65536 < length rest → number ≡ mid.lines + 1 → FirstFaultInPass format Makes old bytes number TooLong
   pass_long old mid bytes lines rest number s taken long counted = record {
     lines = lines;
     rest = rest;
@@ -65,7 +65,7 @@ module _ {Header Item Contents : Type 0} (format : Format Header Item) (Makes : 
   }
 
   -- a block more
-  pub Stands-more : (bytes block : List ℕ) (old new : Feed Contents) → Stands format Makes bytes old → Passed format Makes old.progress (old.rest.items ++ block) new.rest.items new.progress → new.fed ≡ old.fed + length block → new.fault ≡ None → Stands format Makes (bytes ++ block) new
+  pub Stands-more : (bytes block : List ℕ) (old new : Feed Contents) → Stands format Makes bytes old → PassTakes format Makes old.progress (old.rest.items ++ block) new.rest.items new.progress → new.fed ≡ old.fed + length block → new.fault ≡ None → Stands format Makes (bytes ++ block) new
   Stands-more bytes block old new s p fed sound = record {
     lines = s.lines ++ p.lines;
     splits = Splits-join bytes block s.lines p.lines old.rest.items new.rest.items s.splits p.splits;
@@ -142,8 +142,8 @@ module _ {Header Item Contents : Type 0} (format : Format Header Item) (Makes : 
   }
 
   -- bytes without an end are all rest
-  Passed-none : (old : Progress Contents) (bytes : List ℕ) → HasNoEnd bytes → length bytes ≤ 65536 → Passed format Makes old bytes bytes old
-  Passed-none old bytes none short = record {
+  PassTakes-none : (old : Progress Contents) (bytes : List ℕ) → HasNoEnd bytes → length bytes ≤ 65536 → PassTakes format Makes old bytes bytes old
+  PassTakes-none old bytes none short = record {
     lines = [];
     splits = Splits-none bytes none;
     short = short;
@@ -157,13 +157,13 @@ module _ {Header Item Contents : Type 0} (format : Format Header Item) (Makes : 
       subst P (sym same) (pass_long old old bytes [] bytes number (Splits-none bytes none) (λ before at. subst Q (sym (append-nil before)) at) long counted)
 
   -- a block without an end only makes the rest longer, which is then short enough or too long
-  pub passes_alone : (old : Progress Contents) (bytes : List ℕ) (r : Result (Unit {0}) FileFault) → HasNoEnd bytes → MatchResult r (λ x. length bytes ≤ 65536) (λ fault. (65536 < length bytes) × (fault.line ≡ old.lines + 1) × (fault.kind ≡ kind.Line TooLong)) → MatchResult r (λ x. Passed format Makes old bytes bytes old) (λ fault. PassStops format Makes old bytes fault.line fault.kind)
-  passes_alone old bytes (Ok done) none h = Passed-none old bytes none h
+  pub passes_alone : (old : Progress Contents) (bytes : List ℕ) (r : Result (Unit {0}) FileFault) → HasNoEnd bytes → MatchResult r (λ x. length bytes ≤ 65536) (λ fault. (65536 < length bytes) × (fault.line ≡ old.lines + 1) × (fault.kind ≡ kind.Line TooLong)) → MatchResult r (λ x. PassTakes format Makes old bytes bytes old) (λ fault. PassStops format Makes old bytes fault.line fault.kind)
+  passes_alone old bytes (Ok done) none h = PassTakes-none old bytes none h
   passes_alone old bytes (Err fault) none h = long_alone old bytes fault.line fault.kind none h.0 h.1 h.2
 
   -- the first line of the bytes was taken, and then those behind it
-  pub Passed-line : (old mid new : Progress Contents) (rest front tail left : List ℕ) → HasNoEnd rest → HasNoEnd front → ((before : List (List ℕ)) → AreTaken format Makes before old → AreTaken format Makes (before ++ (rest ++ front) ∷ []) mid) → Passed format Makes mid tail left new → Passed format Makes old (rest ++ (front ++ 10 ∷ tail)) left new
-  Passed-line old mid new rest front tail left r f one p = record {
+  pub PassTakes-line : (old mid new : Progress Contents) (rest front tail left : List ℕ) → HasNoEnd rest → HasNoEnd front → ((before : List (List ℕ)) → AreTaken format Makes before old → AreTaken format Makes (before ++ (rest ++ front) ∷ []) mid) → PassTakes format Makes mid tail left new → PassTakes format Makes old (rest ++ (front ++ 10 ∷ tail)) left new
+  PassTakes-line old mid new rest front tail left r f one p = record {
     lines = (rest ++ front) ∷ p.lines;
     splits = Splits-line rest front tail p.lines left r f p.splits;
     short = p.short;
