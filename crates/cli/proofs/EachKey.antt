@@ -19,7 +19,7 @@ use Rattle.certificate_check.specs.declared.verdict.Fault.{Fault}
 use Rattle.certificate_check.specs.Faults.{refuted}
 use Rattle.file_format.specs.OrderFormat.{AreJoined, key_in, order_in, order_on}
 use Rattle.parallel_keys.specs.Histories.{AreOn, KeyVerdicts}
-use Rattle.parallel_keys.specs.Pairings.{AreDistinct, Judged, KeyParts, given_order, is_other, judged_keys}
+use Rattle.parallel_keys.specs.CheckedKeys.{AreDistinct, CheckedKey, KeyParts, given_order, is_other, checked_keys}
 use Rattle.parallel_keys.specs.Fronts.{place_before}
 use Rattle.parallel_keys.specs.Given.{given_at}
 use Rattle.cli.specs.Checks.{IsYes, IsNo, Judges}
@@ -120,11 +120,11 @@ is_nothing None is = refl
 is_nothing (Some x) is = absurd (cc)
 
 module _ (halls : List Recorded) (parts : KeyParts) (have : HaveParts halls parts) where
-  module _ (pieces orders : List KeyOrder) (verdicts : KeyVerdicts) (joined : AreJoined pieces orders) (on : AreOn (judged_keys parts orders) verdicts) where
+  module _ (pieces orders : List KeyOrder) (verdicts : KeyVerdicts) (joined : AreJoined pieces orders) (on : AreOn (checked_keys parts orders) verdicts) where
     -- where all verdicts are yes, what is judged at a place is an order
-    yes_at : SaysAll verdicts Good → (k : ℕ) (one : Judged) → slice_get (judged_keys parts orders) k ≡ Some one → IsOrder one.part one.order
+    yes_at : SaysAll verdicts Good → (k : ℕ) (one : CheckedKey) → slice_get (checked_keys parts orders) k ≡ Some one → IsOrder one.part one.order
     yes_at all k one at =
-        let within = slice_get_within (judged_keys parts orders) k one at in
+        let within = slice_get_within (checked_keys parts orders) k one at in
         let told = get_at verdicts k (omega (arith, within, on.all)) in
         subst (λ (v : Verdict). IsVerdict one.part one.order v) (all k told.0 told.1) (on.each k one told.0 at told.1).1
 
@@ -149,32 +149,32 @@ module _ (halls : List Recorded) (parts : KeyParts) (have : HaveParts halls part
             record { part = part; recorded = have.each key part h; ordered = subst (λ (order : List OpId). IsOrder part order) (given_on pieces orders joined key) (yes_at all judged.0 _ judged.1) }
 
     -- a key whose verdict is a fault has no order
-    no_at : (one : Judged) (fault : Fault) → IsVerdict one.part one.order (No fault) → (part : List Call) (order : List OpId) → one.part ≡ part → one.order ≡ order → IsOrder part order → ⊥
+    no_at : (one : CheckedKey) (fault : Fault) → IsVerdict one.part one.order (No fault) → (part : List Call) (order : List OpId) → one.part ≡ part → one.order ≡ order → IsOrder part order → ⊥
     no_at one fault judged part order same_part same_order good = refuted one.part one.order fault judged (rw (same_part, same_order) good)
 
     some_no : SaysAll verdicts Refused → (key : List ℕ) × IsNo halls pieces key
     some_no (k, fault, refused) =
         let within = slice_get_within verdicts k (refused.key, No fault) refused.told in
-        let one = get_at (judged_keys parts orders) k (omega (arith, within, on.all)) in
+        let one = get_at (checked_keys parts orders) k (omega (arith, within, on.all)) in
         let judged = (on.each k one.0 (refused.key, No fault) one.1 refused.told).1 in
         elim (judged_of parts orders k one.0 one.1) [
           | inl w ↦
               let entry = w.1 in
-              let order = ap (λ (j : Judged). j.order) (sym w.3) ∙ given_on pieces orders joined entry.0 in (
+              let order = ap (λ (j : CheckedKey). j.order) (sym w.3) ∙ given_on pieces orders joined entry.0 in (
                 entry.0,
                 record {
                   part = entry.1;
                   recorded = have.each entry.0 entry.1 (Contains-slice_get parts w.0 entry w.2);
-                  unordered = no_at one.0 fault judged entry.1 (order_on entry.0 pieces) (ap (λ (j : Judged). j.part) (sym w.3)) order;
+                  unordered = no_at one.0 fault judged entry.1 (order_on entry.0 pieces) (ap (λ (j : CheckedKey). j.part) (sym w.3)) order;
                 },
               )
           | inr w ↦
-              let order = ap (λ (j : Judged). j.order) (sym w.4) ∙ order_is pieces orders joined w.0 w.1 w.1.key w.2 refl in (
+              let order = ap (λ (j : CheckedKey). j.order) (sym w.4) ∙ order_is pieces orders joined w.0 w.1 w.1.key w.2 refl in (
                 w.1.key,
                 record {
                   part = [];
                   recorded = have.none w.1.key (is_nothing (lookup (bytes_eq w.1.key) parts) w.3);
-                  unordered = no_at one.0 fault judged [] (order_on w.1.key pieces) (ap (λ (j : Judged). j.part) (sym w.4)) order;
+                  unordered = no_at one.0 fault judged [] (order_on w.1.key pieces) (ap (λ (j : CheckedKey). j.part) (sym w.4)) order;
                 },
               )
         ]

@@ -14,7 +14,7 @@ use Rattle.recorder.specs.Halls.{AreOfTheirHalls, FallsTo, hall_of}
 use Rattle.recorder.specs.Records.{AreParts, IsPart}
 use Rattle.recorder.specs.Lists.{get_at}
 use Rattle.parallel_keys.specs.Histories.{AreHallParts}
-use Rattle.parallel_keys.specs.Pairings.{KeyParts, all_parts}
+use Rattle.parallel_keys.specs.CheckedKeys.{KeyParts, all_parts}
 use Rattle.cli.specs.Checks.{IsHallPart}
 use Rattle.cli.proofs.Entries.{contains_nothing, found_key}
 

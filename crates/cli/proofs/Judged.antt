@@ -5,7 +5,7 @@ use Rattle.std.specs.Option.{option_map}
 use Rattle.std.proofs.lemmas.Option.{slice_get-map}
 use Rattle.recorder.specs.declared.part.Call.{Call}
 use Rattle.recorder.specs.declared.order.KeyOrder.{KeyOrder}
-use Rattle.parallel_keys.specs.Pairings.{Judged, KeyParts, is_other, judged_keys, other_key, recorded_key}
+use Rattle.parallel_keys.specs.CheckedKeys.{CheckedKey, KeyParts, is_other, checked_keys, other_key, recorded_key}
 
 -- what stands in the first of two lists, and in the second, stands in both together
 at_first : {X : Type 0} (xs ys : List X) (i : ℕ) (x : X) → slice_get xs i ≡ Some x → slice_get (xs ++ ys) i ≡ Some x
@@ -55,16 +55,16 @@ made_of f (x ∷ xs) (suc i) y h = made_of f xs i y h
 
 module _ (parts : KeyParts) (orders : List KeyOrder) where
   -- a key that has a part is judged, and one that only the orders have
-  pub recorded_at : (i : ℕ) (entry : List ℕ × List Call) → slice_get parts i ≡ Some entry → (k : ℕ) × (slice_get (judged_keys parts orders) k ≡ Some (recorded_key orders entry))
+  pub recorded_at : (i : ℕ) (entry : List ℕ × List Call) → slice_get parts i ≡ Some entry → (k : ℕ) × (slice_get (checked_keys parts orders) k ≡ Some (recorded_key orders entry))
   recorded_at i entry at = (i, at_first (map (recorded_key orders) parts) (map other_key (filter (is_other parts) orders)) i (recorded_key orders entry) (made_at (recorded_key orders) parts i entry at))
 
-  pub other_at : (i : ℕ) (one : KeyOrder) → slice_get orders i ≡ Some one → is_other parts one ≡ true → (k : ℕ) × (slice_get (judged_keys parts orders) k ≡ Some (other_key one))
+  pub other_at : (i : ℕ) (one : KeyOrder) → slice_get orders i ≡ Some one → is_other parts one ≡ true → (k : ℕ) × (slice_get (checked_keys parts orders) k ≡ Some (other_key one))
   other_at i one at other =
       let kept = kept_at (is_other parts) orders i one at other in
       at_second (map (recorded_key orders) parts) (map other_key (filter (is_other parts) orders)) kept.0 (other_key one) (made_at other_key (filter (is_other parts) orders) kept.0 one kept.1)
 
   -- a key that is judged is one or the other
-  pub judged_of : (k : ℕ) (one : Judged) → slice_get (judged_keys parts orders) k ≡ Some one
+  pub judged_of : (k : ℕ) (one : CheckedKey) → slice_get (checked_keys parts orders) k ≡ Some one
       → ((i : ℕ) × (entry : List ℕ × List Call) × (slice_get parts i ≡ Some entry) × (recorded_key orders entry ≡ one))
       ⊎ ((i : ℕ) × (order : KeyOrder) × (slice_get orders i ≡ Some order) × (is_other parts order ≡ true) × (other_key order ≡ one))
   judged_of k one at = elim (of_either (map (recorded_key orders) parts) (map other_key (filter (is_other parts) orders)) k one at) [

@@ -5,7 +5,7 @@ use Rattle.std.proofs.lemmas.Option.{slice_get_within}
 use Rattle.std.proofs.Math.Seq.{drop-cons}
 use Rattle.recorder.specs.declared.order.KeyOrder.{KeyOrder}
 use Rattle.recorder.specs.Lists.{push_cases}
-use Rattle.parallel_keys.specs.Pairings.{KeyParts, all_parts}
+use Rattle.parallel_keys.specs.CheckedKeys.{KeyParts, all_parts}
 use Rattle.parallel_keys.specs.Fronts.{front_more}
 use Rattle.cli.specs.declared.noted_orders.Unjustified.{Unjustified}
 use Rattle.cli.specs.Justifications.{KeyPart, AreJustified, IsFirstUnjustified, IsJustifiedOrder, IsUnjustified}

@@ -14,7 +14,7 @@ use Rattle.counted_devices.specs.Deliveries.{Delivers}
 use Rattle.history_file.specs.Deliveries.{ReadsAll}
 use Rattle.file_format.specs.HistoriesFormat.{histories_format, MakesHistories}
 use Rattle.parallel_keys.specs.Histories.{AreHallParts}
-use Rattle.parallel_keys.specs.Pairings.{KeyParts, all_parts}
+use Rattle.parallel_keys.specs.CheckedKeys.{KeyParts, all_parts}
 use Rattle.counted_devices.specs.Sendings.{Begins}
 use Rattle.file_format.specs.Texts.{orders_text}
 use Rattle.cli.specs.declared.noted_orders.Unjustified.{Unjustified}

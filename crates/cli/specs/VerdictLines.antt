@@ -10,7 +10,7 @@ use Rattle.certificate_check.specs.declared.verdict.Fault.{Fault}
 use Rattle.certificate_check.specs.declared.verdict.Fault.TheVariants.{UnknownCall, CallTwice, MissingCall, PendingRead, WrongAnswer, OrderBroken}
 use Rattle.file_format.specs.OrderFormat.{AreJoined}
 use Rattle.parallel_keys.specs.Histories.{AreHallParts, KeyVerdicts}
-use Rattle.parallel_keys.specs.Pairings.{Judged, KeyParts, all_parts, judged_keys}
+use Rattle.parallel_keys.specs.CheckedKeys.{CheckedKey, KeyParts, all_parts, checked_keys}
 
 -- what is wrong with an order
 abbrev pub fault_text : Fault → List ℕ
@@ -34,7 +34,7 @@ abbrev pub lines_text : KeyVerdicts → List ℕ
 lines_text verdicts = flat_map (λ told. line_text told.0 told.1) verdicts
 
 -- the text is a line for each key that is judged, with the verdict on its order
-abbrev pub AreLines : List Judged → List ℕ → Type 0
+abbrev pub AreLines : List CheckedKey → List ℕ → Type 0
 AreLines [] text = text ≡ []
 AreLines (judged ∷ rest) text =
     (verdict : Verdict) × (lines : List ℕ) × IsVerdict judged.part judged.order verdict × AreLines rest lines × (text ≡ line_text judged.key verdict ++ lines)
@@ -46,7 +46,7 @@ pub record AreLinesOf (halls : List Recorded) (pieces : List KeyOrder) (text : L
   pub orders : List KeyOrder
   pub recorded : AreHallParts halls parts
   pub joined : AreJoined pieces orders
-  pub lines : AreLines (judged_keys (all_parts parts) orders) text
+  pub lines : AreLines (checked_keys (all_parts parts) orders) text
 
 -- that holds of what a check of these histories and pieces prints
 abbrev pub HasLines : List Recorded → List KeyOrder → (List ℕ → Type 0) → Type 0

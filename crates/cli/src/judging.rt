@@ -4,7 +4,7 @@ ghost use Rattle.std.specs.Io.KnownBytes.{Appends};
 ghost use Rattle.recorder.specs.declared.order.KeyOrder.{KeyOrder};
 ghost use Rattle.counted_devices.specs.Sendings.{Begins};
 ghost use Rattle.file_format.specs.OrderFormat.{AreJoined};
-ghost use Rattle.parallel_keys.specs.Pairings.{AreDistinct};
+ghost use Rattle.parallel_keys.specs.CheckedKeys.{AreDistinct};
 ghost use Rattle.cli.specs.Checks.{Judges};
 ghost use Rattle.cli.specs.Halts.{Halts};
 ghost use Rattle.cli.specs.Judging.{SaysAll};

@@ -2,7 +2,7 @@
 ghost use Rattle.std.specs.Prelude.{◌≡◌, ◌⊎◌, map, IfOk};
 ghost use Rattle.counted_devices.specs.Counts.{IsOneMore};
 ghost use Rattle.file_format.specs.Texts.{orders_text};
-ghost use Rattle.parallel_keys.specs.Pairings.{all_parts};
+ghost use Rattle.parallel_keys.specs.CheckedKeys.{all_parts};
 ghost use Rattle.cli.specs.Justifications.{Justifies, JustifiesParts, JustifiesHalls, Refuses, SendsOrders};
 
 use crate::check::{Source, histories_in};

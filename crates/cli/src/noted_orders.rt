@@ -1,6 +1,6 @@
 //! The orders that the notes of a history give its keys, each checked.
 ghost use Rattle.std.specs.Prelude.{◌≡◌, ◌++◌, List, map, IfOk, IfErr, OnOk};
-ghost use Rattle.parallel_keys.specs.Pairings.{all_parts};
+ghost use Rattle.parallel_keys.specs.CheckedKeys.{all_parts};
 ghost use Rattle.cli.specs.Justifications.{AreJustified, KeyPart, IsJustifiedOrder, IsUnjustified, IsFirstUnjustified, refusal_text, status_of_refusal};
 
 use crate::status::Status;

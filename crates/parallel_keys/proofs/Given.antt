@@ -8,7 +8,7 @@ use Rattle.std.proofs.lemmas.List.Elements.{Contains-append_left, Contains-appen
 use Rattle.recorder.specs.declared.order.KeyOrder.{KeyOrder}
 use Rattle.recorder.specs.Lists.{slice_get-take}
 use Rattle.key_numbers.specs.Numbers.{Numbers, known, first}
-use Rattle.parallel_keys.specs.Pairings.{AreDistinct, given_order}
+use Rattle.parallel_keys.specs.CheckedKeys.{AreDistinct, given_order}
 use Rattle.parallel_keys.specs.Fronts.{mapped_more, place_before}
 
 abbrev pub key_in : KeyOrder → List ℕ

@@ -5,7 +5,7 @@ use Rattle.std.proofs.lemmas.Option.{slice_get_within}
 use Rattle.recorder.specs.Histories.{Recorded}
 use Rattle.recorder.specs.Records.{AreParts}
 use Rattle.recorder.specs.Lists.{push_cases}
-use Rattle.parallel_keys.specs.Pairings.{KeyParts}
+use Rattle.parallel_keys.specs.CheckedKeys.{KeyParts}
 use Rattle.parallel_keys.specs.Histories.{AreHallParts}
 use Rattle.parallel_keys.specs.Fronts.{front_more}
 

@@ -4,21 +4,21 @@ use Rattle.std.specs.List.{slice_get}
 use Rattle.std.specs.Option.{option_map}
 use Rattle.std.proofs.lemmas.Option.{same_Some, slice_get-map, slice_get_read}
 use Rattle.recorder.specs.Lists.{push_cases}
-use Rattle.parallel_keys.specs.declared.pairing.Pair.{Pair}
-use Rattle.parallel_keys.specs.KeyVerdicts.{IsVerdictAt}
-use Rattle.parallel_keys.specs.Pairs.{what_of}
+use Rattle.parallel_keys.specs.declared.collect_keys.KeyToCheck.{KeyToCheck}
+use Rattle.parallel_keys.specs.IndexVerdicts.{IsVerdictAt}
+use Rattle.parallel_keys.specs.KeysToCheck.{what_of}
 use Rattle.certificate_check.specs.Verdicts.{IsVerdict}
 use Rattle.certificate_check.specs.declared.verdict.Verdict.{Verdict}
-use Rattle.parallel_keys.specs.Pairings.{Judged}
+use Rattle.parallel_keys.specs.CheckedKeys.{CheckedKey}
 use Rattle.parallel_keys.specs.Histories.{KeyVerdicts}
 
 -- the keys below that index have their verdicts
-pub record KeyedSoFar (judged : List Judged) (index : ℕ) (verdicts : KeyVerdicts) : Type 0 where
+pub record KeyedSoFar (checked : List CheckedKey) (index : ℕ) (verdicts : KeyVerdicts) : Type 0 where
   pub all : length verdicts ≡ index
-  pub each : (i : ℕ) (one : Judged) (told : List ℕ × Verdict) → slice_get judged i ≡ Some one → slice_get verdicts i ≡ Some told → (told.0 ≡ one.key) × IsVerdict one.part one.order told.1
+  pub each : (i : ℕ) (one : CheckedKey) (told : List ℕ × Verdict) → slice_get checked i ≡ Some one → slice_get verdicts i ≡ Some told → (told.0 ≡ one.key) × IsVerdict one.part one.order told.1
 
-module _ (judged : List Judged) where
-  pub keyed_none : (index : ℕ) (verdicts : KeyVerdicts) → index ≡ 0 → verdicts ≡ [] → KeyedSoFar judged index verdicts
+module _ (checked : List CheckedKey) where
+  pub keyed_none : (index : ℕ) (verdicts : KeyVerdicts) → index ≡ 0 → verdicts ≡ [] → KeyedSoFar checked index verdicts
   keyed_none index verdicts first none = record {
     all = rw (none, first) refl;
     each = λ i one told at_one at. let no : slice_get [] i ≡ Some told = rw none at at in absurd (nothing i told no);
@@ -27,7 +27,7 @@ module _ (judged : List Judged) where
       nothing : (i : ℕ) (told : List ℕ × Verdict) → slice_get [] i ≡ Some told → ⊥
       nothing i told h = cc
 
-  pub keyed_more : (index after : ℕ) (verdicts new : KeyVerdicts) (key : List ℕ) (verdict : Verdict) (one : Judged) → KeyedSoFar judged index verdicts → slice_get judged index ≡ Some one → key ≡ one.key → IsVerdict one.part one.order verdict → after ≡ index + 1 → new ≡ verdicts ++ (key, verdict) ∷ [] → KeyedSoFar judged after new
+  pub keyed_more : (index after : ℕ) (verdicts new : KeyVerdicts) (key : List ℕ) (verdict : Verdict) (one : CheckedKey) → KeyedSoFar checked index verdicts → slice_get checked index ≡ Some one → key ≡ one.key → IsVerdict one.part one.order verdict → after ≡ index + 1 → new ≡ verdicts ++ (key, verdict) ∷ [] → KeyedSoFar checked after new
   keyed_more index after verdicts new key verdict one so_far at_one same is later grown = record {
     all = ap length grown ∙ length-append verdicts ((key, verdict) ∷ []) ∙ ap (λ n. n + 1) so_far.all ∙ sym later;
     each = λ i other told at_other at. elim (push_cases verdicts (key, verdict) i told (subst (λ (l : KeyVerdicts). slice_get l i ≡ Some told) grown at)) [
@@ -39,16 +39,16 @@ module _ (judged : List Judged) where
     ];
   }
     where
-      same_one : (i : ℕ) (other : Judged) → i ≡ index → slice_get judged i ≡ Some other → one ≡ other
-      same_one i other here at = let twice : Some one ≡ Some other = sym at_one ∙ ap (slice_get judged) (sym here) ∙ at in cc
+      same_one : (i : ℕ) (other : CheckedKey) → i ≡ index → slice_get checked i ≡ Some other → one ≡ other
+      same_one i other here at = let twice : Some one ≡ Some other = sym at_one ∙ ap (slice_get checked) (sym here) ∙ at in cc
 
--- the verdict at a pair's index is the pair's
-pub pair_verdict : (pairs : List Pair) (index : ℕ) (pair : Pair) (verdict : Verdict) → index < length pairs → pair ≡ get_or pairs index pair → IsVerdictAt (map (λ (p : Pair). p.part.now) pairs) (map (λ (p : Pair). p.order.now) pairs) index verdict → IsVerdict pair.part.now pair.order.now verdict
-pair_verdict pairs index pair verdict below is at =
-    let here = slice_get_read pairs (length pairs) index pair refl below is in
-    let part_is : at.part ≡ pair.part.now = same_Some at.part pair.part.now (sym at.part_at ∙ slice_get-map (λ (p : Pair). p.part.now) pairs index ∙ ap (option_map (λ (p : Pair). p.part.now)) here) in
-    let order_is : at.order ≡ pair.order.now = same_Some at.order pair.order.now (sym at.order_at ∙ slice_get-map (λ (p : Pair). p.order.now) pairs index ∙ ap (option_map (λ (p : Pair). p.order.now)) here) in
-    rw (part_is, order_is) at at.judged
+-- the verdict at a key's index is the key's
+pub verdict_at : (keys : List KeyToCheck) (index : ℕ) (key : KeyToCheck) (verdict : Verdict) → index < length keys → key ≡ get_or keys index key → IsVerdictAt (map (λ (p : KeyToCheck). p.part.now) keys) (map (λ (p : KeyToCheck). p.order.now) keys) index verdict → IsVerdict key.part.now key.order.now verdict
+verdict_at keys index key verdict below is at =
+    let here = slice_get_read keys (length keys) index key refl below is in
+    let part_is : at.part ≡ key.part.now = same_Some at.part key.part.now (sym at.part_at ∙ slice_get-map (λ (p : KeyToCheck). p.part.now) keys index ∙ ap (option_map (λ (p : KeyToCheck). p.part.now)) here) in
+    let order_is : at.order ≡ key.order.now = same_Some at.order key.order.now (sym at.order_at ∙ slice_get-map (λ (p : KeyToCheck). p.order.now) keys index ∙ ap (option_map (λ (p : KeyToCheck). p.order.now)) here) in
+    rw (part_is, order_is) at at.checked
 
-pub what_at : (pairs : List Pair) (index : ℕ) (pair : Pair) → index < length pairs → pair ≡ get_or pairs index pair → slice_get (map what_of pairs) index ≡ Some (what_of pair)
-what_at pairs index pair below is = slice_get-map what_of pairs index ∙ ap (option_map what_of) (slice_get_read pairs (length pairs) index pair refl below is)
+pub what_at : (keys : List KeyToCheck) (index : ℕ) (key : KeyToCheck) → index < length keys → key ≡ get_or keys index key → slice_get (map what_of keys) index ≡ Some (what_of key)
+what_at keys index key below is = slice_get-map what_of keys index ∙ ap (option_map what_of) (slice_get_read keys (length keys) index key refl below is)

@@ -11,9 +11,9 @@ use Rattle.recorder.specs.declared.part.Call.{Call}
 use Rattle.recorder.specs.declared.order.KeyOrder.{KeyOrder}
 use Rattle.recorder.specs.Lists.{Contains-slice_get}
 use Rattle.key_numbers.specs.Numbers.{Numbers, IsPlace, known, first}
-use Rattle.parallel_keys.specs.declared.pairing.Pair.{Pair}
-use Rattle.parallel_keys.specs.Pairings.{Judged, KeyParts, all_parts, is_other, keys_in, other_key, recorded_key}
-use Rattle.parallel_keys.specs.Pairs.{HasKeys, key_of, what_of}
+use Rattle.parallel_keys.specs.declared.collect_keys.KeyToCheck.{KeyToCheck}
+use Rattle.parallel_keys.specs.CheckedKeys.{CheckedKey, KeyParts, all_parts, is_other, keys_in, other_key, recorded_key}
+use Rattle.parallel_keys.specs.KeysToCheck.{HasKeys, key_of, what_of}
 use Rattle.parallel_keys.specs.Fronts.{front_more, mapped_more}
 
 -- a key more
@@ -36,20 +36,20 @@ has_more old new others key number has (first unseen place grown) = record {
   ]);
 }
 
-abbrev judged_key : Judged → List ℕ
-judged_key one = one.key
+abbrev key_of_checked : CheckedKey → List ℕ
+key_of_checked one = one.key
 
-keys_of_what : (pairs : List Pair) → map key_of pairs ≡ map judged_key (map what_of pairs)
+keys_of_what : (keys : List KeyToCheck) → map key_of keys ≡ map key_of_checked (map what_of keys)
 keys_of_what [] = refl
 keys_of_what (p ∷ ps) = ap (λ (l : List (List ℕ)). key_of p ∷ l) (keys_of_what ps)
 
-keys_of_recorded : (orders : List KeyOrder) (parts : KeyParts) → map judged_key (map (recorded_key orders) parts) ≡ keys_in parts
+keys_of_recorded : (orders : List KeyOrder) (parts : KeyParts) → map key_of_checked (map (recorded_key orders) parts) ≡ keys_in parts
 keys_of_recorded orders [] = refl
 keys_of_recorded orders (e ∷ es) = ap (λ (l : List (List ℕ)). e.0 ∷ l) (keys_of_recorded orders es)
 
--- pairs of these parts have their keys
-pub keys_are : (orders : List KeyOrder) (pairs : List Pair) (parts : KeyParts) → map what_of pairs ≡ map (recorded_key orders) parts → map key_of pairs ≡ keys_in parts
-keys_are orders pairs parts same = keys_of_what pairs ∙ ap (map judged_key) same ∙ keys_of_recorded orders parts
+-- keys with these parts are the keys of the parts
+pub keys_are : (orders : List KeyOrder) (keys : List KeyToCheck) (parts : KeyParts) → map what_of keys ≡ map (recorded_key orders) parts → map key_of keys ≡ keys_in parts
+keys_are orders keys parts same = keys_of_what keys ∙ ap (map key_of_checked) same ∙ keys_of_recorded orders parts
 
 -- what a look-up finds is an entry
 found_entry : (parts : KeyParts) (key : List ℕ) (part : List Call) → lookup (bytes_eq key) parts ≡ Some part → Contains (keys_in parts) key
@@ -115,21 +115,21 @@ unseen keys key None place h = place
 unseen keys key (Some n) place h = absurd (cc)
 
 -- an order's key with no call
-pub other_is : (one : KeyOrder) (part : List Call) (order : List OpId) → part ≡ [] → order ≡ one.order → (let pair : Judged = record { key = one.key; part = part; order = order } in pair) ≡ other_key one
+pub other_is : (one : KeyOrder) (part : List Call) (order : List OpId) → part ≡ [] → order ≡ one.order → (let own : CheckedKey = record { key = one.key; part = part; order = order } in own) ≡ other_key one
 other_is one part order none same = λ i. record { key = one.key; part = none i; order = same i }
 
 -- the orders up to a further one
-pub others_more : (parts : KeyParts) (orders : List KeyOrder) (i : ℕ) (one : KeyOrder) (before mid new : List Judged) → i < length orders → one ≡ get_or orders i one → mid ≡ before ++ map other_key (filter (is_other parts) (take i orders)) → new ≡ mid ++ map other_key (filter (is_other parts) (one ∷ [])) → new ≡ before ++ map other_key (filter (is_other parts) (take (i + 1) orders))
+pub others_more : (parts : KeyParts) (orders : List KeyOrder) (i : ℕ) (one : KeyOrder) (before mid new : List CheckedKey) → i < length orders → one ≡ get_or orders i one → mid ≡ before ++ map other_key (filter (is_other parts) (take i orders)) → new ≡ mid ++ map other_key (filter (is_other parts) (one ∷ [])) → new ≡ before ++ map other_key (filter (is_other parts) (take (i + 1) orders))
 others_more parts orders i one before mid new below is so_far grown =
     let fronts = take i orders in
     let f = λ (l : List KeyOrder). map other_key (filter (is_other parts) l) in
-    grown ∙ ap (λ (l : List Judged). l ++ f (one ∷ [])) so_far ∙ append_assoc before (f fronts) (f (one ∷ []))
-    ∙ ap (λ (l : List Judged). before ++ l) (sym (ap f (front_more orders i one below is) ∙ ap (map other_key) (filter-append (is_other parts) fronts (one ∷ [])) ∙ map-append other_key (filter (is_other parts) fronts) (filter (is_other parts) (one ∷ []))))
+    grown ∙ ap (λ (l : List CheckedKey). l ++ f (one ∷ [])) so_far ∙ append_assoc before (f fronts) (f (one ∷ []))
+    ∙ ap (λ (l : List CheckedKey). before ++ l) (sym (ap f (front_more orders i one below is) ∙ ap (map other_key) (filter-append (is_other parts) fronts (one ∷ [])) ∙ map-append other_key (filter (is_other parts) fronts) (filter (is_other parts) (one ∷ []))))
 
 -- the parts up to those of a further history
-pub recorded_more : {X : Type 0} (parts_in : X → KeyParts) (orders : List KeyOrder) (maps : List X) (i : ℕ) (own : X) (old new : List Judged) → i < length maps → own ≡ get_or maps i own → old ≡ map (recorded_key orders) (all_parts (map parts_in (take i maps))) → new ≡ old ++ map (recorded_key orders) (parts_in own) → new ≡ map (recorded_key orders) (all_parts (map parts_in (take (i + 1) maps)))
+pub recorded_more : {X : Type 0} (parts_in : X → KeyParts) (orders : List KeyOrder) (maps : List X) (i : ℕ) (own : X) (old new : List CheckedKey) → i < length maps → own ≡ get_or maps i own → old ≡ map (recorded_key orders) (all_parts (map parts_in (take i maps))) → new ≡ old ++ map (recorded_key orders) (parts_in own) → new ≡ map (recorded_key orders) (all_parts (map parts_in (take (i + 1) maps)))
 recorded_more parts_in orders maps i own old new below is so_far grown =
     let f = recorded_key orders in
     let before = map parts_in (take i maps) in
-    grown ∙ ap (λ (l : List Judged). l ++ map f (parts_in own)) so_far ∙ sym (map-append f (all_parts before) (parts_in own))
+    grown ∙ ap (λ (l : List CheckedKey). l ++ map f (parts_in own)) so_far ∙ sym (map-append f (all_parts before) (parts_in own))
     ∙ ap (map f) (sym (ap all_parts (mapped_more parts_in maps i own below is) ∙ joined_more before (parts_in own)))

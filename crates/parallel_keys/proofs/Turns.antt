@@ -11,7 +11,7 @@ use Rattle.certificate_check.specs.Verdicts.{IsVerdict}
 use Rattle.parallel_keys.specs.declared.share.Share.{Share}
 use Rattle.parallel_keys.specs.Shares.{IsShare, parts_of, orders_of}
 use Rattle.parallel_keys.proofs.Places.{map_at}
-use Rattle.parallel_keys.specs.KeyVerdicts.{IsVerdictAt, AreTurns, AreLists, AreFirstLists}
+use Rattle.parallel_keys.specs.IndexVerdicts.{IsVerdictAt, AreTurns, AreLists, AreFirstLists}
 
 -- the turns that a worker has taken, and the index that is next
 pub record TurnsSoFar (parts : List (List Call)) (orders : List (List OpId)) (w k next : ℕ) (verdicts : List Verdict) : Type 0 where
@@ -29,11 +29,11 @@ module _ (parts : List (List Call)) (orders : List (List OpId)) (w k : ℕ) wher
       nothing turn verdict h = cc
 
   pub turns_more : (next after : ℕ) (verdicts new : List Verdict) (verdict : Verdict) → TurnsSoFar parts orders w k next verdicts → IsVerdictAt parts orders next verdict → after ≡ next + k → new ≡ verdicts ++ verdict ∷ [] → TurnsSoFar parts orders w k after new
-  turns_more next after verdicts new verdict so_far judged later grown = record {
+  turns_more next after verdicts new verdict so_far checked later grown = record {
     next_at = later ∙ ap (λ n. n + k) so_far.next_at ∙ one_more (length verdicts) ∙ ap (λ n. w + n * k) (sym (ap length grown ∙ length-append verdicts (verdict ∷ []) ∙ refl));
     each = λ turn told at. elim (push_cases verdicts verdict turn told (subst (λ (l : List Verdict). slice_get l turn ≡ Some told) grown at)) [
       | inl it ↦ so_far.each turn told it
-      | inr it ↦ rw (sym it.1, it.0, sym so_far.next_at) judged
+      | inr it ↦ rw (sym it.1, it.0, sym so_far.next_at) checked
     ];
   }
     where
@@ -47,13 +47,13 @@ module _ (parts : List (List Call)) (orders : List (List OpId)) (w k : ℕ) wher
   }
 
 -- the verdict on a share's part and order at an index
-pub judged_at : (share : Share) → IsShare share → (index : ℕ) (verdict : Verdict) (p : Bor (List Call)) (o : Bor (List OpId)) → index < length share.parts.now → IsVerdict (get_or share.parts.now index p).now (get_or share.orders.now index o).now verdict → IsVerdictAt (parts_of share) (orders_of share) index verdict
-judged_at share is index verdict p o below judged = record {
+pub checked_at : (share : Share) → IsShare share → (index : ℕ) (verdict : Verdict) (p : Bor (List Call)) (o : Bor (List OpId)) → index < length share.parts.now → IsVerdict (get_or share.parts.now index p).now (get_or share.orders.now index o).now verdict → IsVerdictAt (parts_of share) (orders_of share) index verdict
+checked_at share is index verdict p o below checked = record {
   part = (get_or share.parts.now index p).now;
   order = (get_or share.orders.now index o).now;
   part_at = map_at (λ (b : Bor (List Call)). b.now) share.parts.now index p below;
   order_at = map_at (λ (b : Bor (List OpId)). b.now) share.orders.now index o (let paired = is.paired in omega arith);
-  judged = judged;
+  checked = checked;
 }
 
 -- the list of a further worker

@@ -5,7 +5,7 @@ use Rattle.std.specs.Str.{bytes_eq}
 use Rattle.std.specs.Cmp.Lexicographic.{bytes_decides}
 use Rattle.std.proofs.lemmas.Option.{none-some, same_Some}
 use Rattle.recorder.specs.declared.order.KeyOrder.{KeyOrder}
-use Rattle.parallel_keys.specs.Pairings.{AreDistinct, given_order}
+use Rattle.parallel_keys.specs.CheckedKeys.{AreDistinct, given_order}
 
 -- the orders behind the first
 rest_distinct : (o : KeyOrder) (os : List KeyOrder) → AreDistinct (o ∷ os) → AreDistinct os

@@ -1,9 +1,9 @@
 pub mod Workers
 pub mod Numbers
-pub mod KeyVerdicts
+pub mod IndexVerdicts
 pub mod Shares
-pub mod Pairings
-pub mod Pairs
+pub mod CheckedKeys
+pub mod KeysToCheck
 pub mod Histories
 pub mod Fronts
 pub mod Given

@@ -1,4 +1,4 @@
--- The numbers and the names of the reasons why keys weren't judged, as programs print them.
+-- The numbers and the names of the reasons why orders weren't checked, as programs print them.
 use Rattle.std.specs.Prelude.{ℕ, List, codes}
 use Rattle.parallel_keys.specs.declared.error.CheckError.{CheckError}
 use Rattle.parallel_keys.specs.declared.error.CheckError.TheVariants.{Memory, Thread}

@@ -4,7 +4,7 @@ use Rattle.tag.specs.declared.numbers.OpId.{OpId}
 use Rattle.recorder.specs.declared.part.Call.{Call}
 use Rattle.certificate_check.specs.declared.verdict.Verdict.{Verdict}
 use Rattle.parallel_keys.specs.declared.share.Share.{Share}
-use Rattle.parallel_keys.specs.KeyVerdicts.{AreTurns, AreFirstLists}
+use Rattle.parallel_keys.specs.IndexVerdicts.{AreTurns, AreFirstLists}
 
 -- the share is one worker's of at most 16
 pub record IsShare (share : Share) : Type 0 where

@@ -1,4 +1,4 @@
--- How many threads judge.
+-- How many threads check.
 use Rattle.std.specs.Prelude.{ℕ, ◌≤◌}
 
 -- how many workers there may be

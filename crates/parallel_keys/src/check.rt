@@ -1,12 +1,12 @@
-//! Judging many keys.
+//! The check of many keys' orders.
 ghost use Rattle.std.specs.Prelude.{◌≡◌, ◌<◌, ◌≤◌, length, map, IfOk};
-ghost use Rattle.parallel_keys.specs.KeyVerdicts.{AreLists, AreTurns, AreVerdicts};
+ghost use Rattle.parallel_keys.specs.IndexVerdicts.{AreLists, AreTurns, AreVerdicts};
 ghost use Rattle.parallel_keys.specs.Shares.{AreUpToShare, IsShare};
 
 use crate::error::CheckError;
 use crate::gate::CheckGate;
 use crate::share::{Share, share_of};
-use crate::weaving::weave;
+use crate::weave_verdicts::weave;
 use crate::workers::Workers;
 use certificate_check::Verdict;
 use recorder::Part;
@@ -18,7 +18,7 @@ use tag::{Memory, OpId};
 
 /// The verdict on the part and the order at an index.
 #[derive(Clone, Copy, Debug, PartialEq, Eq)]
-pub struct KeyVerdict {
+pub struct IndexVerdict {
     pub index: usize,
     pub verdict: Verdict,
 }
@@ -46,11 +46,11 @@ fn start<'s, 'e: 's, G: CheckGate + Sync>(
                 × (worker < workers) × (workers ≤ 16) }
             ensures { IfOk result (λ verdicts. AreTurns (map (λ p. p.now) parts.entry.now)
                 (map (λ o. o.now) orders.entry.now) worker workers verdicts.items) }
-        { share_of(parts, orders, worker, workers).judge(alloc, gate) },
+        { share_of(parts, orders, worker, workers).check(alloc, gate) },
     )?)
 }
 
-/// Judges the first workers of a row, each on a thread of its own but worker 0, which is the caller's
+/// Runs the first workers of a row, each on a thread of its own but worker 0, which is the caller's
 /// thread; the lists of their verdicts, in order of worker. All are started before one is waited for.
 fn run_workers<'s, 'e: 's, R: Threads, G: CheckGate + Sync>(
     rt: &R,
@@ -64,7 +64,7 @@ fn run_workers<'s, 'e: 's, R: Threads, G: CheckGate + Sync>(
 {
     if last.worker == 0 {
         let mut lists = Vec::new(alloc);
-        lists.push(last.judge(alloc, gate)?)?;
+        lists.push(last.check(alloc, gate)?)?;
         return Ok(lists);
     }
     let started = start(scope, alloc, last, gate)?;
@@ -108,11 +108,11 @@ fn run_all<R: Threads + Wait, G: CheckGate + Sync>(
     )
 }
 
-/// Judges the order at each index against the part there; a verdict for each index, in order of index.
+/// Checks the order at each index against the part there; a verdict for each index, in order of index.
 ///
 /// Worker w of k takes the indexes w, w + k, w + 2k and so on. Each worker has a thread of its own, all
 /// at once; worker 0's is the caller's, so one worker starts no thread. The gate is called on the
-/// worker's thread before an index is judged. `Memory` comes only where a growth was refused, `Thread`
+/// worker's thread before an index is checked. `Memory` comes only where a growth was refused, `Thread`
 /// only where a thread couldn't be started; the threads have ended then too.
 pub fn check_all<R: Threads + Wait, G: CheckGate + Sync>(
     rt: &R,
@@ -121,7 +121,7 @@ pub fn check_all<R: Threads + Wait, G: CheckGate + Sync>(
     orders: &[&[OpId]],
     workers: Workers,
     gate: &G,
-) -> Result<Vec<KeyVerdict>, CheckError>
+) -> Result<Vec<IndexVerdict>, CheckError>
     requires { length parts.now ≡ length orders.now }
     ensures { IfOk result (λ verdicts. AreVerdicts (map (λ p. p.now) parts.now)
         (map (λ o. o.now) orders.now) verdicts.items) }

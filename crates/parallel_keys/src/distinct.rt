@@ -1,6 +1,6 @@
 //! Whether orders are of different keys.
 ghost use Rattle.std.specs.Prelude.{◌↔◌, IsTrue, IfOk};
-ghost use Rattle.parallel_keys.specs.Pairings.{AreDistinct};
+ghost use Rattle.parallel_keys.specs.CheckedKeys.{AreDistinct};
 
 use key_numbers::KeyNumbers;
 use recorder::KeyOrder;

@@ -1,4 +1,4 @@
-//! Why keys weren't judged.
+//! Why orders weren't checked.
 ghost use Rattle.std.specs.Prelude.{◌≡◌};
 ghost use Rattle.parallel_keys.specs.Numbers.{check_error_name, check_error_number};
 
@@ -7,7 +7,7 @@ use std::thread::SpawnError;
 use tag::Memory;
 use thiserror::Error;
 
-/// Why the orders of keys weren't judged.
+/// Why the orders of keys weren't checked.
 #[derive(Clone, Copy, Debug, PartialEq, Eq, Error)]
 pub enum CheckError {
     /// A growth was refused.

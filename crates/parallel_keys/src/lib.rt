@@ -1,22 +1,22 @@
-//! The verdicts on the orders of many keys, judged on several threads.
+//! The verdicts on the orders of many keys, checked on several threads.
 //!
-//! `check_all` judges many parts and their orders, `check_history` and `check_histories` the keys of
+//! `check_all` checks many parts and their orders, `check_history` and `check_histories` the keys of
 //! recorded histories, which `hall_parts` lists. Each verdict is the definition's for its key, whatever
 //! the number of workers. Worker w of k takes every k-th key from key w on, so each takes about as many
 //! keys as any other.
 #![tactic(auto)]
 
 mod check;
+mod collect_keys;
 mod distinct;
 mod error;
 mod gate;
 mod histories;
-mod pairing;
 mod share;
-mod weaving;
+mod weave_verdicts;
 mod workers;
 
-pub use check::{KeyVerdict, check_all};
+pub use check::{IndexVerdict, check_all};
 pub use distinct::are_distinct;
 pub use error::CheckError;
 pub use gate::{CheckGate, NoGate};

@@ -1,4 +1,4 @@
-//! The keys that one worker judges.
+//! The keys that one worker checks.
 ghost use Rattle.std.specs.Prelude.{◌≡◌};
 
 use crate::gate::CheckGate;
@@ -51,8 +51,8 @@ impl<'a> Share<'a> {
     ghost use Rattle.std.specs.Prelude.{IfOk};
     ghost use Rattle.parallel_keys.specs.Shares.{AreOfShare, IsShare};
 
-    /// Judges the keys of the share, in order of index.
-    pub(crate) fn judge<G: CheckGate>(self, alloc: Global, gate: &G) -> Result<Vec<Verdict>, Memory>
+    /// Checks the orders of the share's keys, in order of index.
+    pub(crate) fn check<G: CheckGate>(self, alloc: Global, gate: &G) -> Result<Vec<Verdict>, Memory>
         requires { IsShare self }
         ensures { IfOk result (λ verdicts. AreOfShare self.entry verdicts.items) }
     {

@@ -1,10 +1,10 @@
-//! How many threads judge.
+//! How many threads check.
 ghost use Rattle.std.specs.Prelude.{◌≡◌, ◌≤◌, ◌↔◌, IsSome, IfSome};
 ghost use Rattle.parallel_keys.specs.Workers.{IsCount};
 
 use std::marker::Model;
 
-/// How many workers judge the orders of keys, 1 to 16.
+/// How many workers check the orders of keys, 1 to 16.
 #[derive(Clone, Copy, Debug, PartialEq, Eq)]
 pub struct Workers {
     count: u8,

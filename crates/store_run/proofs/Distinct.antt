@@ -16,7 +16,7 @@ use Rattle.recorder.specs.Lists.{Contains-slice_get}
 use Rattle.witness_order.specs.Justified.{AreOrdersOf, Justify}
 use Rattle.node_threads.specs.declared.closing.ClosedHall.{ClosedHall}
 use Rattle.node_threads.specs.Closings.{AreClosed}
-use Rattle.parallel_keys.specs.Pairings.{AreDistinct}
+use Rattle.parallel_keys.specs.CheckedKeys.{AreDistinct}
 use Rattle.store_run.specs.Records.{histories_in, orders_in, record_of}
 
 none_some : {A B : Type 0} {x : A} → None ≡ Some x → B

@@ -3,7 +3,7 @@ use Rattle.std.specs.Prelude.{ℕ, ◌≡◌, ◌<◌, List, Option, Some, None,
 use Rattle.certificate_check.specs.declared.verdict.Verdict.{Verdict}
 use Rattle.certificate_check.specs.declared.verdict.Verdict.TheVariants.{Yes, No}
 use Rattle.node_threads.specs.declared.closing.ClosedHall.{ClosedHall}
-use Rattle.parallel_keys.specs.Histories.{JudgesHistories, KeyVerdicts}
+use Rattle.parallel_keys.specs.Histories.{AreVerdictsOnHistories, KeyVerdicts}
 use Rattle.recorder.specs.Histories.{Recorded}
 use Rattle.recorder.specs.declared.order.KeyOrder.{KeyOrder}
 use Rattle.store_run.specs.Records.{histories_in, orders_in}
@@ -27,7 +27,7 @@ IsFirstNo verdicts (Some refused) = IsFirst verdicts refused
 -- the first key of the histories, hall by hall, on which the orders are judged no; none where each key is judged yes
 pub record JudgesRecord (histories : List Recorded) (orders : List KeyOrder) (first : Option RefusedKey) : Type 0 where
   pub verdicts : KeyVerdicts
-  pub judged : JudgesHistories histories orders verdicts
+  pub judged : AreVerdictsOnHistories histories orders verdicts
   pub is : IsFirstNo verdicts first
 
 -- the first key, hall by hall, on which the halls' orders are judged no; none where each key of every hall is judged yes

@@ -1,7 +1,7 @@
 //! What the halls of a closed store leave, taken together.
 ghost use Rattle.std.specs.Prelude.{◌≡◌, ◌++◌, IfOk, OnOk, Some};
 ghost use Rattle.node_threads.specs.Closings.{AreClosed};
-ghost use Rattle.parallel_keys.specs.Pairings.{AreDistinct};
+ghost use Rattle.parallel_keys.specs.CheckedKeys.{AreDistinct};
 ghost use Rattle.store_run.specs.Records.{histories_in, orders_in, record_of};
 
 use crate::shown::NoText;

@@ -1,6 +1,6 @@
 //! Judging the record and the orders that a closed store leaves.
 ghost use Rattle.std.specs.Prelude.{◌≡◌, IfOk};
-ghost use Rattle.parallel_keys.specs.Pairings.{AreDistinct};
+ghost use Rattle.parallel_keys.specs.CheckedKeys.{AreDistinct};
 ghost use Rattle.store_run.specs.Judged.{IsFirstNo, JudgesRecord};
 
 use certificate_check::{Fault, Verdict};

@@ -2,7 +2,7 @@
 use Rattle.std.proofs.Common.{List, subst, sym}
 use Rattle.recorder.specs.declared.order.KeyOrder.{KeyOrder}
 use Rattle.file_format.specs.OrderFormat.{AreJoined}
-use Rattle.parallel_keys.specs.Pairings.{AreDistinct}
+use Rattle.parallel_keys.specs.CheckedKeys.{AreDistinct}
 use Rattle.cli.proofs.EachKey.{distinct}
 use Rattle.cli.proofs.Reading.{breaks, ends}
 use Rattle.cli.proofs.check.check_command.Goals as goal

@@ -1,6 +1,6 @@
 -- What is said of the verdicts, said of every key.
 use Rattle.std.proofs.lemmas.Result.{err_from_is_err_and}
-use Rattle.parallel_keys.specs.Pairings.{all_parts}
+use Rattle.parallel_keys.specs.CheckedKeys.{all_parts}
 use Rattle.cli.proofs.EachKey.{judged_status}
 use Rattle.cli.proofs.HallParts.{have_parts}
 use Rattle.cli.proofs.Halting.{halted, not_output}
@@ -22,7 +22,7 @@ returns-in-Ok-clause-judged g c = λ pieces joined.
     let judges = c.in_ok-judged.ensures in
     let lawful = c.halls-halls.ensures.lawful in
     let halls = c.args.histories.now.halls in
-    judged_status halls (all_parts judges.parts) (have_parts halls judges.parts judges.recorded lawful.count.least lawful.keys) pieces c.args.orders.now c.in_ok-judged.judged.items joined judges.judged c.status_of.result (rw c.as_slice-verdicts.ensures.value at c.status_of.ensures)
+    judged_status halls (all_parts judges.parts) (have_parts halls judges.parts judges.recorded lawful.count.least lawful.keys) pieces c.args.orders.now c.in_ok-judged.judged.items joined judges.checked c.status_of.result (rw c.as_slice-verdicts.ensures.value at c.status_of.ensures)
 
 pub returns-in-Ok-clause-said : goal.returns-in-Ok-clause-said
 returns-in-Ok-clause-said g c = λ pieces joined.

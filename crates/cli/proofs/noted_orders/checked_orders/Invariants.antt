@@ -1,5 +1,5 @@
 use Rattle.std.proofs.Common.{map, take}
-use Rattle.parallel_keys.specs.Pairings.{all_parts}
+use Rattle.parallel_keys.specs.CheckedKeys.{all_parts}
 use Rattle.cli.specs.Justifications.{AreJustified}
 use Rattle.cli.proofs.noted_orders.checked_orders.Given as goal
 

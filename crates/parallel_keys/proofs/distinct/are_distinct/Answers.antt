@@ -1,6 +1,6 @@
 use Rattle.std.proofs.Common.{refl, subst, arith}
 use Rattle.std.proofs.lemmas.List.{take_all}
-use Rattle.parallel_keys.specs.Pairings.{AreDistinct}
+use Rattle.parallel_keys.specs.CheckedKeys.{AreDistinct}
 use Rattle.parallel_keys.proofs.Apart.{apart_none, apart_more, met_before}
 use Rattle.parallel_keys.proofs.distinct.are_distinct.Goals as goal
 

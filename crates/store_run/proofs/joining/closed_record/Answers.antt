@@ -1,7 +1,7 @@
 use Rattle.std.proofs.Common.{◌≡◌, Some, List, refl, sym, subst}
 use Rattle.recorder.specs.Halls.{AreHalls}
 use Rattle.recorder.specs.Histories.{Recorded}
-use Rattle.parallel_keys.specs.Pairings.{AreDistinct}
+use Rattle.parallel_keys.specs.CheckedKeys.{AreDistinct}
 use Rattle.store_run.specs.Records.{record_of}
 use Rattle.store_run.proofs.Distinct.{joined_distinct}
 use Rattle.store_run.proofs.joining.closed_record.Goals as goal
