@@ -38,8 +38,8 @@ fn one_order(alloc: Global) -> Result<Vec<KeyOrder>, Memory> {
 }
 
 /// Whether the answer is that `x` is right.
-fn is_yes(judged: Result<Vec<(Key, Verdict)>, CheckError>) -> bool {
-    match judged {
+fn is_yes(checked: Result<Vec<(Key, Verdict)>, CheckError>) -> bool {
+    match checked {
         Ok(keyed) => match keyed.as_slice() {
             [(key, verdict)] => key.as_str() == "x" && *verdict == Verdict::Yes,
             _ => false,
@@ -49,7 +49,7 @@ fn is_yes(judged: Result<Vec<(Key, Verdict)>, CheckError>) -> bool {
 }
 
 /// Whether the answer is that `x` is right, at the second time where the first met an error.
-fn is_judged<R: Threads + Wait>(
+fn is_right<R: Threads + Wait>(
     rt: &R,
     alloc: Global,
     histories: &Histories,
@@ -67,11 +67,11 @@ fn is_judged<R: Threads + Wait>(
     };
     let first = match check_history(rt, alloc, history, orders, two, &NoGate) {
         Err(_) => check_history(rt, alloc, history, orders, two, &NoGate),
-        judged => judged,
+        checked => checked,
     };
     let second = match check_histories(rt, alloc, histories, orders, two, &NoGate) {
         Err(_) => check_histories(rt, alloc, histories, orders, two, &NoGate),
-        judged => judged,
+        checked => checked,
     };
     is_yes(first) && is_yes(second)
 }
@@ -84,7 +84,7 @@ fn verdicts_are_kept<R: Threads + Wait>(rt: &R, alloc: Global) -> Result<bool, M
     halls.push(history)?;
     let orders = one_order(alloc)?;
     match Histories::new(halls, None) {
-        Some(histories) => Ok(is_judged(rt, alloc, &histories, orders.as_slice())),
+        Some(histories) => Ok(is_right(rt, alloc, &histories, orders.as_slice())),
         None => Ok(false),
     }
 }

@@ -1,4 +1,4 @@
-//! Tests of keys that are judged on several threads: that two workers run at once, worked histories with
+//! Tests of keys that are checked on several threads: that two workers run at once, worked histories with
 //! every number of workers, and what a refused growth leaves. There is nothing else here.
 #![tactic(auto)]
 

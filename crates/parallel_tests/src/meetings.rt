@@ -34,11 +34,11 @@ fn two_workers_are_at_the_gate_at_once(rt: HostRuntime) {
         met: AtomicU64::new(0),
     };
     let part = Part::empty(rt.alloc());
-    let judged = match Workers::new(2) {
+    let checked = match Workers::new(2) {
         Some(two) => {
             check_all(&rt, rt.alloc(), &[&part, &part], &[&[], &[]], two, &gate).is_ok()
         }
         None => false,
     };
-    assert!(rt; judged && gate.met.load(Ordering::SeqCst) == 2);
+    assert!(rt; checked && gate.met.load(Ordering::SeqCst) == 2);
 }
