@@ -10,10 +10,10 @@ use Rattle.fault_script.specs.declared.command.Script.{Script}
 use Rattle.fault_script.specs.declared.feed.Feed.{Feed}
 use Rattle.fault_script.specs.Faults.{ScriptError, ErrorKind}
 use Rattle.fault_script.specs.declared.fault.LineFault.{LineFault}
-use Rattle.fault_script.specs.Feeds.{Stands, Fed, FirstFault, FaultAtEnd, ErrorSoFar, ErrorAtEnd, Ends}
+use Rattle.fault_script.specs.Feeds.{Stands, FeedAnswers, FirstFault, FaultAtEnd, ErrorSoFar, ErrorAtEnd, Ends}
 use Rattle.fault_script.specs.Deliveries.{Holds, ReadsAll, StopsAt, StopsWith, IsUnderWay}
 
-pub Holds-step : (a b c : Option (List ℕ)) (old new : Feed) (block : List ℕ) → Holds a b old → Consumes b c block → ((bytes : List ℕ) → Stands bytes old → Fed (bytes ++ block) (Ok tt) new) → Holds a c new
+pub Holds-step : (a b c : Option (List ℕ)) (old new : Feed) (block : List ℕ) → Holds a b old → Consumes b c block → ((bytes : List ℕ) → Stands bytes old → FeedAnswers (bytes ++ block) (Ok tt) new) → Holds a c new
 Holds-step a b c old new block h k fed = record { bytes = h.bytes ++ block; given = Consumes-join a b c h.bytes block h.given k; fact = fed h.bytes h.fact }
 
 so_far : (left : Option (List ℕ)) (bytes : List ℕ) (number : ℕ) (k : ErrorKind) → ErrorSoFar bytes number k → StopsWith left number k bytes
@@ -24,10 +24,10 @@ so_far left bytes number k h =
 never_failed : (bytes : List ℕ) (number : ℕ) (k : ErrorKind) (old new : ℕ) → ErrorSoFar bytes number k → HasFailed k old new
 never_failed bytes number k old new h = no_device (FirstFault bytes number) k old new h
 
-pub Holds-stop : (a b c : Option (List ℕ)) (old new : Feed) (block : List ℕ) (error : ScriptError) → Holds a b old → Consumes b c block → ((bytes : List ℕ) → Stands bytes old → Fed (bytes ++ block) (Err error) new) → Delivers a c (StopsAt c error)
+pub Holds-stop : (a b c : Option (List ℕ)) (old new : Feed) (block : List ℕ) (error : ScriptError) → Holds a b old → Consumes b c block → ((bytes : List ℕ) → Stands bytes old → FeedAnswers (bytes ++ block) (Err error) new) → Delivers a c (StopsAt c error)
 Holds-stop a b c old new block error h k fed = record { bytes = h.bytes ++ block; given = Consumes-join a b c h.bytes block h.given k; fact = so_far c (h.bytes ++ block) error.line error.kind (fed h.bytes h.fact) }
 
-pub Holds-no_device : (a b : Option (List ℕ)) (old new : Feed) (block : List ℕ) (error : ScriptError) (m n : ℕ) → Holds a b old → ((bytes : List ℕ) → Stands bytes old → Fed (bytes ++ block) (Err error) new) → HasFailed error.kind m n
+pub Holds-no_device : (a b : Option (List ℕ)) (old new : Feed) (block : List ℕ) (error : ScriptError) (m n : ℕ) → Holds a b old → ((bytes : List ℕ) → Stands bytes old → FeedAnswers (bytes ++ block) (Err error) new) → HasFailed error.kind m n
 Holds-no_device a b old new block error m n h fed = never_failed (h.bytes ++ block) error.line error.kind m n (fed h.bytes h.fact)
 
 at_end : (left : Option (List ℕ)) (bytes : List ℕ) (number : ℕ) (k : ErrorKind) → IsAtEnd left → ErrorAtEnd bytes number k → StopsWith left number k bytes

@@ -15,7 +15,7 @@ use Rattle.fault_script.specs.Faults.{ScriptError, ErrorKind}
 use Rattle.counted_devices.specs.declared.read_fault.FaultKind.TheVariants as kind
 use Rattle.fault_script.specs.Lines.{is_long}
 use Rattle.fault_script.specs.Scripts.{no_line, HasFault}
-use Rattle.fault_script.specs.Feeds.{IsDraft, IsAt, HasFaultOf, Takes, EndsBy, Stands, IsWhole, FirstFault, ErrorSoFar, Fed, Ended, ErrorAtEnd, Ends}
+use Rattle.fault_script.specs.Feeds.{IsDraft, IsAt, HasFaultOf, Takes, EndsBy, Stands, IsWhole, FirstFault, ErrorSoFar, FeedAnswers, FeedAnswersAtLineEnd, ErrorAtEnd, Ends}
 
 no_end-append : (xs ys : List ℕ) → HasNoEnd xs → HasNoEnd ys → HasNoEnd (xs ++ ys)
 no_end-append xs ys h k = All-append (λ (b : ℕ). b ≢ 10) xs ys h k
@@ -35,30 +35,30 @@ Stands-none feed drafted lines empty =
     }
 
 -- bytes that end no line are kept
-Splits-keep : (bytes part : List ℕ) (lines : List (List ℕ)) (rest : List ℕ) → Splits bytes lines rest → HasNoEnd part → Splits (bytes ++ part) lines (rest ++ part)
-Splits-keep bytes part lines rest s none = record {
-  whole = ap (λ (xs : List ℕ). xs ++ part) s.whole ∙ append_assoc (flat_map with_end lines) rest part;
+Splits-keep : (bytes chunk : List ℕ) (lines : List (List ℕ)) (rest : List ℕ) → Splits bytes lines rest → HasNoEnd chunk → Splits (bytes ++ chunk) lines (rest ++ chunk)
+Splits-keep bytes chunk lines rest s none = record {
+  whole = ap (λ (xs : List ℕ). xs ++ chunk) s.whole ∙ append_assoc (flat_map with_end lines) rest chunk;
   each = s.each;
-  partial = no_end-append rest part s.partial none;
+  partial = no_end-append rest chunk s.partial none;
 }
 
-pub Stands-keep : (bytes part : List ℕ) (old new : Feed) → Stands bytes old → HasNoEnd part → new.progress ≡ old.progress → new.rest.items ≡ old.rest.items ++ part → length old.rest.items + length part ≤ 65536 → Stands (bytes ++ part) new
-Stands-keep bytes part old new s none progress rest short =
-    let S : List ℕ → Type 0 = λ xs. Splits (bytes ++ part) s.lines xs in
+pub Stands-keep : (bytes chunk : List ℕ) (old new : Feed) → Stands bytes old → HasNoEnd chunk → new.progress ≡ old.progress → new.rest.items ≡ old.rest.items ++ chunk → length old.rest.items + length chunk ≤ 65536 → Stands (bytes ++ chunk) new
+Stands-keep bytes chunk old new s none progress rest short =
+    let S : List ℕ → Type 0 = λ xs. Splits (bytes ++ chunk) s.lines xs in
     let A : Progress → Type 0 = λ p. IsAt s.lines p in
     record {
       lines = s.lines;
-      splits = subst S (sym rest) (Splits-keep bytes part s.lines old.rest.items s.splits none);
+      splits = subst S (sym rest) (Splits-keep bytes chunk s.lines old.rest.items s.splits none);
       at = subst A (sym progress) s.at;
-      short = omega (arith, ap length rest, length-append old.rest.items part, short);
+      short = omega (arith, ap length rest, length-append old.rest.items chunk, short);
     }
 
 -- bytes that end no line, and are too many
-pub first_long : (bytes part : List ℕ) (old : Feed) (number : ℕ) → Stands bytes old → HasNoEnd part → 65536 < length old.rest.items + length part → number ≡ old.progress.lines + 1 → FirstFault (bytes ++ part) number TooLong
-first_long bytes part old number s none more counted =
-    let t = Splits-keep bytes part s.lines old.rest.items s.splits none in
-    let line : List ℕ = old.rest.items ++ part in
-    let much : 65536 < length line = omega (arith, length-append old.rest.items part) in
+pub first_long : (bytes chunk : List ℕ) (old : Feed) (number : ℕ) → Stands bytes old → HasNoEnd chunk → 65536 < length old.rest.items + length chunk → number ≡ old.progress.lines + 1 → FirstFault (bytes ++ chunk) number TooLong
+first_long bytes chunk old number s none more counted =
+    let t = Splits-keep bytes chunk s.lines old.rest.items s.splits none in
+    let line : List ℕ = old.rest.items ++ chunk in
+    let much : 65536 < length line = omega (arith, length-append old.rest.items chunk) in
     record {
       earlier = s.lines;
       line = line;
@@ -78,53 +78,53 @@ All-one line h (suc k) d lt = absurd (omega arith)
 ended_more : (lines : List (List ℕ)) (line : List ℕ) → flat_map with_end (lines ++ line ∷ []) ≡ flat_map with_end lines ++ with_end line
 ended_more lines line = flat_map-append with_end lines (line ∷ []) ∙ ap (λ (xs : List ℕ). flat_map with_end lines ++ xs) (append-nil (with_end line))
 
-end_whole : (bytes part : List ℕ) (lines : List (List ℕ)) (rest : List ℕ) → bytes ≡ flat_map with_end lines ++ rest → bytes ++ with_end part ≡ flat_map with_end lines ++ with_end (rest ++ part)
-end_whole bytes part lines rest e =
-    ap (λ (xs : List ℕ). xs ++ with_end part) e
-    ∙ append_assoc (flat_map with_end lines) rest (with_end part)
-    ∙ ap (λ (xs : List ℕ). flat_map with_end lines ++ xs) (sym (append_assoc rest part (10 ∷ [])))
+end_whole : (bytes chunk : List ℕ) (lines : List (List ℕ)) (rest : List ℕ) → bytes ≡ flat_map with_end lines ++ rest → bytes ++ with_end chunk ≡ flat_map with_end lines ++ with_end (rest ++ chunk)
+end_whole bytes chunk lines rest e =
+    ap (λ (xs : List ℕ). xs ++ with_end chunk) e
+    ∙ append_assoc (flat_map with_end lines) rest (with_end chunk)
+    ∙ ap (λ (xs : List ℕ). flat_map with_end lines ++ xs) (sym (append_assoc rest chunk (10 ∷ [])))
 
-Splits-end : (bytes part : List ℕ) (lines : List (List ℕ)) (rest : List ℕ) → Splits bytes lines rest → HasNoEnd part → Splits (bytes ++ with_end part) (lines ++ (rest ++ part) ∷ []) []
-Splits-end bytes part lines rest s none = record {
-  whole = end_whole bytes part lines rest s.whole ∙ sym (ended_more lines (rest ++ part)) ∙ sym (append-nil (flat_map with_end (lines ++ (rest ++ part) ∷ [])));
-  each = All-append HasNoEnd lines ((rest ++ part) ∷ []) s.each (All-one (rest ++ part) (no_end-append rest part s.partial none));
+Splits-end : (bytes chunk : List ℕ) (lines : List (List ℕ)) (rest : List ℕ) → Splits bytes lines rest → HasNoEnd chunk → Splits (bytes ++ with_end chunk) (lines ++ (rest ++ chunk) ∷ []) []
+Splits-end bytes chunk lines rest s none = record {
+  whole = end_whole bytes chunk lines rest s.whole ∙ sym (ended_more lines (rest ++ chunk)) ∙ sym (append-nil (flat_map with_end (lines ++ (rest ++ chunk) ∷ [])));
+  each = All-append HasNoEnd lines ((rest ++ chunk) ∷ []) s.each (All-one (rest ++ chunk) (no_end-append rest chunk s.partial none));
   partial = no_end-nil;
 }
 
-pub Stands-end : (bytes part line : List ℕ) (old new : Feed) (s : Stands bytes old) → HasNoEnd part → line ≡ old.rest.items ++ part → IsAt (s.lines ++ line ∷ []) new.progress → new.rest.items ≡ [] → Stands (bytes ++ with_end part) new
-Stands-end bytes part line old new s none is at empty =
+pub Stands-end : (bytes chunk line : List ℕ) (old new : Feed) (s : Stands bytes old) → HasNoEnd chunk → line ≡ old.rest.items ++ chunk → IsAt (s.lines ++ line ∷ []) new.progress → new.rest.items ≡ [] → Stands (bytes ++ with_end chunk) new
+Stands-end bytes chunk line old new s none is at empty =
     let A : List ℕ → Type 0 = λ x. IsAt (s.lines ++ x ∷ []) new.progress in
-    let S : List ℕ → Type 0 = λ xs. Splits (bytes ++ with_end part) (s.lines ++ (old.rest.items ++ part) ∷ []) xs in
+    let S : List ℕ → Type 0 = λ xs. Splits (bytes ++ with_end chunk) (s.lines ++ (old.rest.items ++ chunk) ∷ []) xs in
     record {
-      lines = s.lines ++ (old.rest.items ++ part) ∷ [];
-      splits = subst S (sym empty) (Splits-end bytes part s.lines old.rest.items s.splits none);
+      lines = s.lines ++ (old.rest.items ++ chunk) ∷ [];
+      splits = subst S (sym empty) (Splits-end bytes chunk s.lines old.rest.items s.splits none);
       at = subst A is at;
       short = omega (arith, ap length empty);
     }
 
 -- a fault of the line that ends
-pub stops_end : (bytes part line : List ℕ) (old : Feed) (number : ℕ) (k : ErrorKind) (s : Stands bytes old) → HasNoEnd part → line ≡ old.rest.items ++ part → HasFaultOf s.lines line number k → (later : List ℕ) → ErrorSoFar ((bytes ++ with_end part) ++ later) number k
-stops_end bytes part line old number (kind.Line fault) s none is h later =
-    let whole : List ℕ = old.rest.items ++ part in
+pub stops_end : (bytes chunk line : List ℕ) (old : Feed) (number : ℕ) (k : ErrorKind) (s : Stands bytes old) → HasNoEnd chunk → line ≡ old.rest.items ++ chunk → HasFaultOf s.lines line number k → (later : List ℕ) → ErrorSoFar ((bytes ++ with_end chunk) ++ later) number k
+stops_end bytes chunk line old number (kind.Line fault) s none is h later =
+    let whole : List ℕ = old.rest.items ++ chunk in
     let F : List ℕ → Type 0 = λ x. HasFault s.lines x number fault in
     let seam : with_end whole ++ later ≡ whole ++ 10 ∷ later = append_assoc whole (10 ∷ []) later in
     record {
       earlier = s.lines;
       line = whole;
       later = 10 ∷ later;
-      place = ap (λ (xs : List ℕ). xs ++ later) (end_whole bytes part s.lines old.rest.items s.splits.whole) ∙ append_assoc (flat_map with_end s.lines) (with_end whole) later ∙ ap (λ (xs : List ℕ). flat_map with_end s.lines ++ xs) seam;
+      place = ap (λ (xs : List ℕ). xs ++ later) (end_whole bytes chunk s.lines old.rest.items s.splits.whole) ∙ append_assoc (flat_map with_end s.lines) (with_end whole) later ∙ ap (λ (xs : List ℕ). flat_map with_end s.lines ++ xs) seam;
       each = s.splits.each;
-      one = no_end-append old.rest.items part s.splits.partial none;
+      one = no_end-append old.rest.items chunk s.splits.partial none;
       whole = inl (later, refl);
       faulty = subst F is h;
     }
-stops_end bytes part line old number kind.Device s none is h later = h
-stops_end bytes part line old number kind.Memory s none is h later = tt
+stops_end bytes chunk line old number kind.Device s none is h later = h
+stops_end bytes chunk line old number kind.Memory s none is h later = tt
 
 -- what a line's end makes of the line that was taken, or refused
-pub end_of : (bytes part line : List ℕ) (old new : Feed) (r : Result (Unit {0}) ScriptError) (s : Stands bytes old) → HasNoEnd part → line ≡ old.rest.items ++ part → Takes s.lines line r new.progress → new.rest.items ≡ [] → Ended (bytes ++ with_end part) r new
-end_of bytes part line old new (Ok done) s none is taken empty = Stands-end bytes part line old new s none is taken empty
-end_of bytes part line old new (Err error) s none is taken empty = stops_end bytes part line old error.line error.kind s none is taken
+pub end_of : (bytes chunk line : List ℕ) (old new : Feed) (r : Result (Unit {0}) ScriptError) (s : Stands bytes old) → HasNoEnd chunk → line ≡ old.rest.items ++ chunk → Takes s.lines line r new.progress → new.rest.items ≡ [] → FeedAnswersAtLineEnd (bytes ++ with_end chunk) r new
+end_of bytes chunk line old new (Ok done) s none is taken empty = Stands-end bytes chunk line old new s none is taken empty
+end_of bytes chunk line old new (Err error) s none is taken empty = stops_end bytes chunk line old error.line error.kind s none is taken
 
 whole_more : (line later more : List ℕ) → IsWhole line later → IsWhole line (later ++ more)
 whole_more line later more (inl w) = inl (w.0 ++ more, ap (λ (xs : List ℕ). xs ++ more) w.1)
@@ -145,26 +145,26 @@ error_more bytes more number (kind.Line fault) h = record {
 error_more bytes more number kind.Device h = h
 error_more bytes more number kind.Memory h = tt
 
-seam : (bytes part later : List ℕ) → (bytes ++ part) ++ 10 ∷ later ≡ (bytes ++ with_end part) ++ later
-seam bytes part later = append_assoc bytes part (10 ∷ later) ∙ ap (λ (xs : List ℕ). bytes ++ xs) (sym (append_assoc part (10 ∷ []) later)) ∙ sym (append_assoc bytes (with_end part) later)
+seam : (bytes chunk later : List ℕ) → (bytes ++ chunk) ++ 10 ∷ later ≡ (bytes ++ with_end chunk) ++ later
+seam bytes chunk later = append_assoc bytes chunk (10 ∷ later) ∙ ap (λ (xs : List ℕ). bytes ++ xs) (sym (append_assoc chunk (10 ∷ []) later)) ∙ sym (append_assoc bytes (with_end chunk) later)
 
--- an error of the part of a line is one of the line
-pub error_ends : (bytes part : List ℕ) (number : ℕ) (k : ErrorKind) → ErrorSoFar (bytes ++ part) number k → (later : List ℕ) → ErrorSoFar ((bytes ++ with_end part) ++ later) number k
-error_ends bytes part number k h later =
+-- an error of a chunk of a line is one of the line
+pub error_ends : (bytes chunk : List ℕ) (number : ℕ) (k : ErrorKind) → ErrorSoFar (bytes ++ chunk) number k → (later : List ℕ) → ErrorSoFar ((bytes ++ with_end chunk) ++ later) number k
+error_ends bytes chunk number k h later =
     let P : List ℕ → Type 0 = λ xs. ErrorSoFar xs number k in
-    subst P (seam bytes part later) (error_more (bytes ++ part) (10 ∷ later) number k h)
+    subst P (seam bytes chunk later) (error_more (bytes ++ chunk) (10 ∷ later) number k h)
 
 -- a line whose bytes were kept ends with no further byte
-pub end_kept : (bytes part : List ℕ) (kept new : Feed) (r : Result (Unit {0}) ScriptError) (s : Stands (bytes ++ part) kept) → Takes s.lines kept.rest.items r new.progress → new.rest.items ≡ [] → Ended (bytes ++ with_end part) r new
-end_kept bytes part kept new r s taken empty =
-    let P : List ℕ → Type 0 = λ xs. Ended xs r new in
-    subst P (append_assoc bytes part (10 ∷ [])) (end_of (bytes ++ part) [] kept.rest.items kept new r s no_end-nil (sym (append-nil kept.rest.items)) taken empty)
+pub end_kept : (bytes chunk : List ℕ) (kept new : Feed) (r : Result (Unit {0}) ScriptError) (s : Stands (bytes ++ chunk) kept) → Takes s.lines kept.rest.items r new.progress → new.rest.items ≡ [] → FeedAnswersAtLineEnd (bytes ++ with_end chunk) r new
+end_kept bytes chunk kept new r s taken empty =
+    let P : List ℕ → Type 0 = λ xs. FeedAnswersAtLineEnd xs r new in
+    subst P (append_assoc bytes chunk (10 ∷ [])) (end_of (bytes ++ chunk) [] kept.rest.items kept new r s no_end-nil (sym (append-nil kept.rest.items)) taken empty)
 
 -- a fault of a line whose bytes were kept
-pub stop_kept : (bytes part : List ℕ) (kept : Feed) (number : ℕ) (k : ErrorKind) (s : Stands (bytes ++ part) kept) → HasFaultOf s.lines kept.rest.items number k → (later : List ℕ) → ErrorSoFar ((bytes ++ with_end part) ++ later) number k
-stop_kept bytes part kept number k s h later =
+pub stop_kept : (bytes chunk : List ℕ) (kept : Feed) (number : ℕ) (k : ErrorKind) (s : Stands (bytes ++ chunk) kept) → HasFaultOf s.lines kept.rest.items number k → (later : List ℕ) → ErrorSoFar ((bytes ++ with_end chunk) ++ later) number k
+stop_kept bytes chunk kept number k s h later =
     let P : List ℕ → Type 0 = λ xs. ErrorSoFar (xs ++ later) number k in
-    subst P (append_assoc bytes part (10 ∷ [])) (stops_end (bytes ++ part) [] kept.rest.items kept number k s no_end-nil (sym (append-nil kept.rest.items)) h later)
+    subst P (append_assoc bytes chunk (10 ∷ [])) (stops_end (bytes ++ chunk) [] kept.rest.items kept number k s no_end-nil (sym (append-nil kept.rest.items)) h later)
 
 -- a line's end divides the bytes
 pub cut_at : (left : List ℕ) (i : ℕ) → i < length left → get_or left i 0 ≡ 10 → left ≡ with_end (take i left) ++ drop (suc i) left
@@ -178,28 +178,28 @@ pub record Goes (old : Feed) (block left : List ℕ) (new : Feed) : Type 0 where
   pub split : block ≡ done ++ left
   pub stands : (bytes : List ℕ) → Stands bytes old → Stands (bytes ++ done) new
 
-pub Goes-step : (old mid new : Feed) (block left part more : List ℕ) → Goes old block left mid → left ≡ with_end part ++ more → HasNoEnd part → ((bytes : List ℕ) → Stands bytes mid → HasNoEnd part → Ended (bytes ++ with_end part) (Ok tt) new) → Goes old block more new
-Goes-step old mid new block left part more g cut none ends = record {
-  done = g.done ++ with_end part;
-  split = g.split ∙ ap (λ (xs : List ℕ). g.done ++ xs) cut ∙ sym (append_assoc g.done (with_end part) more);
-  stands = λ bytes s. let P : List ℕ → Type 0 = λ xs. Stands xs new in subst P (append_assoc bytes g.done (with_end part)) (ends (bytes ++ g.done) (g.stands bytes s) none);
+pub Goes-step : (old mid new : Feed) (block left chunk more : List ℕ) → Goes old block left mid → left ≡ with_end chunk ++ more → HasNoEnd chunk → ((bytes : List ℕ) → Stands bytes mid → HasNoEnd chunk → FeedAnswersAtLineEnd (bytes ++ with_end chunk) (Ok tt) new) → Goes old block more new
+Goes-step old mid new block left chunk more g cut none ends = record {
+  done = g.done ++ with_end chunk;
+  split = g.split ∙ ap (λ (xs : List ℕ). g.done ++ xs) cut ∙ sym (append_assoc g.done (with_end chunk) more);
+  stands = λ bytes s. let P : List ℕ → Type 0 = λ xs. Stands xs new in subst P (append_assoc bytes g.done (with_end chunk)) (ends (bytes ++ g.done) (g.stands bytes s) none);
 }
 
 -- a fault of one of its lines
-pub Goes-stop : (old mid new : Feed) (block left part more : List ℕ) (error : ScriptError) → Goes old block left mid → left ≡ with_end part ++ more → HasNoEnd part → ((bytes : List ℕ) → Stands bytes mid → HasNoEnd part → Ended (bytes ++ with_end part) (Err error) new) → (bytes : List ℕ) → Stands bytes old → ErrorSoFar (bytes ++ block) error.line error.kind
-Goes-stop old mid new block left part more error g cut none ends bytes s =
+pub Goes-stop : (old mid new : Feed) (block left chunk more : List ℕ) (error : ScriptError) → Goes old block left mid → left ≡ with_end chunk ++ more → HasNoEnd chunk → ((bytes : List ℕ) → Stands bytes mid → HasNoEnd chunk → FeedAnswersAtLineEnd (bytes ++ with_end chunk) (Err error) new) → (bytes : List ℕ) → Stands bytes old → ErrorSoFar (bytes ++ block) error.line error.kind
+Goes-stop old mid new block left chunk more error g cut none ends bytes s =
     let P : List ℕ → Type 0 = λ xs. ErrorSoFar xs error.line error.kind in
-    let same : ((bytes ++ g.done) ++ with_end part) ++ more ≡ bytes ++ block =
-    append_assoc (bytes ++ g.done) (with_end part) more
+    let same : ((bytes ++ g.done) ++ with_end chunk) ++ more ≡ bytes ++ block =
+    append_assoc (bytes ++ g.done) (with_end chunk) more
     ∙ ap (λ (xs : List ℕ). (bytes ++ g.done) ++ xs) (sym cut)
     ∙ append_assoc bytes g.done left
     ∙ ap (λ (xs : List ℕ). bytes ++ xs) (sym g.split) in
     subst P same (ends (bytes ++ g.done) (g.stands bytes s) none more)
 
 -- what is left when the last line's end was passed
-pub Goes-end : (old mid new : Feed) (block left : List ℕ) (r : Result (Unit {0}) ScriptError) → Goes old block left mid → HasNoEnd left → ((bytes : List ℕ) → Stands bytes mid → HasNoEnd left → Fed (bytes ++ left) r new) → (bytes : List ℕ) → Stands bytes old → Fed (bytes ++ block) r new
+pub Goes-end : (old mid new : Feed) (block left : List ℕ) (r : Result (Unit {0}) ScriptError) → Goes old block left mid → HasNoEnd left → ((bytes : List ℕ) → Stands bytes mid → HasNoEnd left → FeedAnswers (bytes ++ left) r new) → (bytes : List ℕ) → Stands bytes old → FeedAnswers (bytes ++ block) r new
 Goes-end old mid new block left r g none keeps bytes s =
-    let P : List ℕ → Type 0 = λ xs. Fed xs r new in
+    let P : List ℕ → Type 0 = λ xs. FeedAnswers xs r new in
     subst P (append_assoc bytes g.done left ∙ ap (λ (xs : List ℕ). bytes ++ xs) (sym g.split)) (keeps (bytes ++ g.done) (g.stands bytes s) none)
 
 -- the last line, which has no end, has a fault

@@ -12,7 +12,7 @@ use Rattle.fault_script.specs.declared.fault.LineFault.TheVariants.{UnknownComma
 use Rattle.fault_script.specs.Words.{words, is_numeral, decimal_value, u64_of, number_of}
 use Rattle.fault_script.specs.Says.{◌>>=◌, needed_word, needed_number, needed_text, nothing_more, one_number, in_range, within, client_of, key_of, value_of}
 use Rattle.fault_script.specs.Commands.{client_in, replica_in, flight_in, action_in, invoke_in, send_in, stopped_in, stop_in, start_in, random_in, client_step_in, step_in, command_in}
-use Rattle.fault_script.specs.Forms.{IsNumber, IsValue, in_ranges, of_any_size, One, Named, Two, SaysInvoke, SpellsStep, Spells, HasForm}
+use Rattle.fault_script.specs.Forms.{IsNumber, IsValue, in_ranges, of_any_size, One, NameAndOne, Two, SaysInvoke, SpellsStep, Spells, HasForm}
 use Rattle.fault_script.proofs.Chains.{after, done}
 use Rattle.fault_script.proofs.ReadingBack.{word_is, text_back, nothing_back, word_back, Found, number_next, number_first, number_by}
 use Rattle.fault_script.proofs.FormsBack.{third, two_read, invoked, behind_three, read_asked, Asks, action_back, command_back}
@@ -209,7 +209,7 @@ unfolding random_in two_read
 random_err ws e h = two_err 0 18446744073709551615 0 1000000 command.Random ws e h
 
 NamedValue : List ℕ → List (List ℕ) → Type 0
-NamedValue name ws = (n : ℕ) × Named name IsValue ws n
+NamedValue name ws = (n : ℕ) × NameAndOne name IsValue ws n
 
 named_by : (name w : List ℕ) (ws others : List (List ℕ)) → ws ≡ w ∷ others → w ≡ name → OneValue others → NamedValue name ws
 unfolding OneValue NamedValue
@@ -378,18 +378,18 @@ flight_known : (ws : List (List ℕ)) (n : ℕ) → One IsValue ws n → flight_
 unfolding flight_in
 flight_known ws n one h = one_known 0 4294967295 ws n one h
 
-alone_value : (name : List ℕ) (ws : List (List ℕ)) (n : ℕ) (h : Named name IsValue ws n) → One IsValue (h.word ∷ []) n
+alone_value : (name : List ℕ) (ws : List (List ℕ)) (n : ℕ) (h : NameAndOne name IsValue ws n) → One IsValue (h.word ∷ []) n
 alone_value name ws n h = record { word = h.word; all = refl; is = h.is }
 
-stop_client_known : (ws : List (List ℕ)) (n : ℕ) → Named (codes "client") IsValue ws n → stop_in ws ≡ Err UnknownCommand → ⊥
+stop_client_known : (ws : List (List ℕ)) (n : ℕ) → NameAndOne (codes "client") IsValue ws n → stop_in ws ≡ Err UnknownCommand → ⊥
 unfolding stop_in stopped_in needed_word
 stop_client_known ws n h e = client_known (h.word ∷ []) n (alone_value (codes "client") ws n h) (err_mapped (client_in (h.word ∷ [])) step.StopClient UnknownCommand (sym (ap stop_in h.all) ∙ e))
 
-stop_replica_known : (ws : List (List ℕ)) (n : ℕ) → Named (codes "replica") IsValue ws n → stop_in ws ≡ Err UnknownCommand → ⊥
+stop_replica_known : (ws : List (List ℕ)) (n : ℕ) → NameAndOne (codes "replica") IsValue ws n → stop_in ws ≡ Err UnknownCommand → ⊥
 unfolding stop_in stopped_in needed_word
 stop_replica_known ws n h e = replica_known (h.word ∷ []) n (alone_value (codes "replica") ws n h) (err_mapped (replica_in (h.word ∷ [])) step.StopReplica UnknownCommand (sym (ap stop_in h.all) ∙ e))
 
-start_known : (ws : List (List ℕ)) (n : ℕ) → Named (codes "replica") IsValue ws n → start_in ws ≡ Err UnknownCommand → ⊥
+start_known : (ws : List (List ℕ)) (n : ℕ) → NameAndOne (codes "replica") IsValue ws n → start_in ws ≡ Err UnknownCommand → ⊥
 unfolding start_in needed_text needed_word
 start_known ws n h e = replica_known (h.word ∷ []) n (alone_value (codes "replica") ws n h) (err_mapped (replica_in (h.word ∷ [])) step.StartReplica UnknownCommand (sym (ap start_in h.all) ∙ e))
 
@@ -473,7 +473,7 @@ value_in least most word n is = record { digits = is.digits; value = is.value }
 one_any : (least most : ℕ) (ws : List (List ℕ)) (n : ℕ) → One (IsNumber least most) ws n → One IsValue ws n
 one_any least most ws n h = record { word = h.word; all = h.all; is = value_in least most h.word n h.is }
 
-named_any : (name : List ℕ) (least most : ℕ) (ws : List (List ℕ)) (n : ℕ) → Named name (IsNumber least most) ws n → Named name IsValue ws n
+named_any : (name : List ℕ) (least most : ℕ) (ws : List (List ℕ)) (n : ℕ) → NameAndOne name (IsNumber least most) ws n → NameAndOne name IsValue ws n
 named_any name least most ws n h = record { word = h.word; all = h.all; is = value_in least most h.word n h.is }
 
 two_any : (l m l' m' : ℕ) (ws : List (List ℕ)) (x y : ℕ) → Two (IsNumber l m) (IsNumber l' m') ws x y → Two IsValue IsValue ws x y

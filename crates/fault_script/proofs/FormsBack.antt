@@ -12,7 +12,7 @@ use Rattle.fault_script.specs.declared.fault.LineFault.TheVariants.{UnknownComma
 use Rattle.fault_script.specs.Words.{words, behind_word}
 use Rattle.fault_script.specs.Says.{◌>>=◌, needed_word, needed_number, needed_text, nothing_more, one_number, within, client_of, key_of, value_of}
 use Rattle.fault_script.specs.Commands.{client_in, replica_in, flight_in, action_in, invoke_in, send_in, stopped_in, stop_in, start_in, random_in, client_step_in, step_in, command_in}
-use Rattle.fault_script.specs.Forms.{in_ranges, IsNumber, IsClient, IsReplica, IsFlight, One, Named, Two, SaysInvoke, SaysStep, SaysCommand}
+use Rattle.fault_script.specs.Forms.{in_ranges, IsNumber, IsClient, IsReplica, IsFlight, One, NameAndOne, Two, SaysInvoke, SaysStep, SaysCommand}
 use Rattle.fault_script.proofs.WordLemmas.{words-behind}
 use Rattle.fault_script.proofs.Chains.{after, done, inside, picked, mapped, mapped_there}
 use Rattle.fault_script.proofs.ReadingBack.{text_back, word_is, range_back, range_there, number_back, number_there, number_in_range, nothing_back, word_back, Found, number_next, number_first, one_back, one_there}
@@ -249,18 +249,18 @@ command_back verb args c e =
 stepped : (r : Result Step LineFault) (s : Step) → r ≡ Ok s → (r >>= (λ s. done (command.Step s))) ≡ Ok (command.Step s)
 stepped r s e = mapped_there r command.Step s e
 
-named_there : (name : List ℕ) (ws : List (List ℕ)) (Is : List ℕ → ℕ → Type 0) (n : ℕ) (h : Named name Is ws n) → One Is (h.word ∷ []) n
+named_there : (name : List ℕ) (ws : List (List ℕ)) (Is : List ℕ → ℕ → Type 0) (n : ℕ) (h : NameAndOne name Is ws n) → One Is (h.word ∷ []) n
 named_there name ws Is n h = record { word = h.word; all = refl; is = h.is }
 
-stop_client_there : (ws : List (List ℕ)) (n : ℕ) → Named (codes "client") IsClient ws n → stop_in ws ≡ Ok (step.StopClient n)
+stop_client_there : (ws : List (List ℕ)) (n : ℕ) → NameAndOne (codes "client") IsClient ws n → stop_in ws ≡ Ok (step.StopClient n)
 unfolding stop_in stopped_in needed_word
 stop_client_there ws n h = ap stop_in h.all ∙ mapped_there (client_in (h.word ∷ [])) step.StopClient n (client_there (h.word ∷ []) n (named_there (codes "client") ws IsClient n h))
 
-stop_replica_there : (ws : List (List ℕ)) (n : ℕ) → Named (codes "replica") IsReplica ws n → stop_in ws ≡ Ok (step.StopReplica n)
+stop_replica_there : (ws : List (List ℕ)) (n : ℕ) → NameAndOne (codes "replica") IsReplica ws n → stop_in ws ≡ Ok (step.StopReplica n)
 unfolding stop_in stopped_in needed_word
 stop_replica_there ws n h = ap stop_in h.all ∙ mapped_there (replica_in (h.word ∷ [])) step.StopReplica n (replica_there (h.word ∷ []) n (named_there (codes "replica") ws IsReplica n h))
 
-start_there : (ws : List (List ℕ)) (n : ℕ) → Named (codes "replica") IsReplica ws n → start_in ws ≡ Ok (step.StartReplica n)
+start_there : (ws : List (List ℕ)) (n : ℕ) → NameAndOne (codes "replica") IsReplica ws n → start_in ws ≡ Ok (step.StartReplica n)
 unfolding start_in needed_text needed_word
 start_there ws n h = ap start_in h.all ∙ mapped_there (replica_in (h.word ∷ [])) step.StartReplica n (replica_there (h.word ∷ []) n (named_there (codes "replica") ws IsReplica n h))
 

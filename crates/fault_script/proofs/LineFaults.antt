@@ -8,7 +8,7 @@ use Rattle.quorum.specs.Quorums.{Quorums}
 use Rattle.world_steps.specs.Configs.{Config}
 use Rattle.fault_script.specs.declared.parse_line.Last.{Last}
 use Rattle.fault_script.specs.declared.parse_line.Last.TheVariants as last
-use Rattle.fault_script.specs.declared.parse_line.Opened.{Opened}
+use Rattle.fault_script.specs.declared.parse_line.ConfigSoFar.{ConfigSoFar}
 use Rattle.fault_script.specs.declared.parse_line.Said.{Said}
 use Rattle.fault_script.specs.declared.parse_line.Said.TheVariants.{Opens, Runs}
 use Rattle.fault_script.specs.declared.fault.LineFault.{LineFault}
@@ -17,7 +17,7 @@ use Rattle.fault_script.specs.Words.{words, is_numeral, decimal_value, u64_of, n
 use Rattle.fault_script.specs.Says.{◌>>=◌, needed_word, needed_number, needed_text, nothing_more, number_or, in_range, within}
 use Rattle.fault_script.specs.Settings.{config_in, replicas_in, mode_of, reads_in, vote_count, numbers_in, is_lawful, quorums_of, votes_in}
 use Rattle.fault_script.specs.Commands.{command_in}
-use Rattle.fault_script.specs.Saying.{reads_behind, votes_set, votes_behind, first_said, said_in}
+use Rattle.fault_script.specs.LineMeanings.{reads_behind, votes_set, votes_behind, first_said, said_in}
 use Rattle.fault_script.specs.Forms.{IsValue, of_any_size, HasForm}
 use Rattle.fault_script.specs.SettingForms.{SaysReplicas, alone, with_calls, with_flights, SaysReads, SaysVotes, MayVote, SaysBehind, replicas, reads, votes, runs}
 use Rattle.fault_script.specs.LineFaults.{AreNumerals, HasReplicasForm, HasVotesForm, HasFormBehind, replicas_form, reads_form, votes_form, command_form, LacksReplicas, HasWordFault}
@@ -248,7 +248,7 @@ votes_told n ws = told_by (HasVotesForm n ws) (votes_in n ws) (λ e h. votes_err
 
 -- ---- a line behind the lines before it
 
-FormAt : List ℕ → List ℕ → Option Opened → Type 0
+FormAt : List ℕ → List ℕ → Option ConfigSoFar → Type 0
 FormAt verb args before = HasFormBehind verb (words args) (third args) before
 
 -- an answer without a fault, or with one of a form
@@ -299,48 +299,48 @@ test_of verb name is apart = other verb name apart is
 plain_form : (verb args : List ℕ) → HasForm verb (words args) (third args) → IsPlain verb
 plain_form verb args form = command_plain of_any_size verb (words args) (third args) form.command form.spelled
 
-no_second : (verb args : List ℕ) (o : Opened) → verb ≡ codes "replicas" → FormAt verb args (Some o) → ⊥
+no_second : (verb args : List ℕ) (o : ConfigSoFar) → verb ≡ codes "replicas" → FormAt verb args (Some o) → ⊥
 unfolding FormAt
 no_second verb args _ is (reads_form opened mode here first h) = two_words (codes "replicas") (codes "reads") verb is here refl
 no_second verb args _ is (votes_form opened here may h) = two_words (codes "replicas") (codes "votes") verb is here refl
 no_second verb args _ is (command_form opened h) = test_of verb (codes "replicas") is (plain_form verb args h).no_replicas
 
-reads_only : (verb args : List ℕ) (o : Opened) → verb ≡ codes "reads" → FormAt verb args (Some o) → (o.last ≡ last.Replicas) × ReadsForm (words args)
+reads_only : (verb args : List ℕ) (o : ConfigSoFar) → verb ≡ codes "reads" → FormAt verb args (Some o) → (o.last ≡ last.Replicas) × ReadsForm (words args)
 unfolding FormAt ReadsForm
 reads_only verb args _ is (reads_form opened mode here first h) = (first, (mode, h))
 reads_only verb args _ is (votes_form opened here may h) = absurd (two_words (codes "reads") (codes "votes") verb is here refl)
 reads_only verb args _ is (command_form opened h) = absurd (test_of verb (codes "reads") is (plain_form verb args h).no_reads)
 
-votes_only : (verb args : List ℕ) (o : Opened) → verb ≡ codes "votes" → FormAt verb args (Some o) → MayVote o.last × HasVotesForm (length o.config.quorums.votes) (words args)
+votes_only : (verb args : List ℕ) (o : ConfigSoFar) → verb ≡ codes "votes" → FormAt verb args (Some o) → MayVote o.last × HasVotesForm (length o.config.quorums.votes) (words args)
 unfolding FormAt
 votes_only verb args _ is (reads_form opened mode here first h) = absurd (two_words (codes "votes") (codes "reads") verb is here refl)
 votes_only verb args _ is (votes_form opened here may h) = (may, h)
 votes_only verb args _ is (command_form opened h) = absurd (test_of verb (codes "votes") is (plain_form verb args h).no_votes)
 
-command_only : (verb args : List ℕ) (o : Opened) → bytes_eq verb (codes "reads") ≡ false → bytes_eq verb (codes "votes") ≡ false → FormAt verb args (Some o) → HasForm verb (words args) (third args)
+command_only : (verb args : List ℕ) (o : ConfigSoFar) → bytes_eq verb (codes "reads") ≡ false → bytes_eq verb (codes "votes") ≡ false → FormAt verb args (Some o) → HasForm verb (words args) (third args)
 unfolding FormAt
 command_only verb args _ no_reads no_votes (reads_form opened mode here first h) = absurd (test_of verb (codes "reads") here no_reads)
 command_only verb args _ no_reads no_votes (votes_form opened here may h) = absurd (test_of verb (codes "votes") here no_votes)
 command_only verb args _ no_reads no_votes (command_form opened h) = h
 
-set_reads : Config → ReadMode → Opened
+set_reads : Config → ReadMode → ConfigSoFar
 set_reads config mode = record { config = record config { reads = mode }; last = last.Reads }
 
 reads_at : (verb args : List ℕ) (config : Config) (before : Last) → verb ≡ codes "reads" → Told (FormAt verb args (Some (record { config = config; last = before }))) (reads_behind config before (words args))
 unfolding reads_behind set_reads ReadsForm FormAt
 reads_at verb args config last.Replicas is =
-    let o : Opened = record { config = config; last = last.Replicas } in
+    let o : ConfigSoFar = record { config = config; last = last.Replicas } in
     lifted (ReadsForm (words args)) (FormAt verb args (Some o)) (reads_in (words args) >>= (λ mode. done (set_reads config mode))) (λ h. reads_form o h.0 is refl h.1) (λ f. (reads_only verb args o is f).1) (made (ReadsForm (words args)) (reads_in (words args)) (set_reads config) (reads_told (words args)))
 reads_at verb args config last.Reads is = λ f. let first = (reads_only verb args (record { config = config; last = last.Reads }) is f).0 in cc
 reads_at verb args config last.Other is = λ f. let first = (reads_only verb args (record { config = config; last = last.Other }) is f).0 in cc
 
-set_votes : Config → Quorums → Opened
+set_votes : Config → Quorums → ConfigSoFar
 set_votes config quorums = record { config = record config { quorums = quorums }; last = last.Other }
 
 voted_at : (verb args : List ℕ) (config : Config) (before : Last) → verb ≡ codes "votes" → MayVote before → Told (FormAt verb args (Some (record { config = config; last = before }))) (votes_set config (words args))
 unfolding votes_set set_votes FormAt
 voted_at verb args config before is may =
-    let o : Opened = record { config = config; last = before } in
+    let o : ConfigSoFar = record { config = config; last = before } in
     let F = HasVotesForm (length config.quorums.votes) (words args) in
     let r = votes_in (length config.quorums.votes) (words args) in
     lifted F (FormAt verb args (Some o)) (r >>= (λ quorums. done (set_votes config quorums))) (λ h. votes_form o is may h) (λ f. (votes_only verb args o is f).1) (made F r (set_votes config) (votes_told (length config.quorums.votes) (words args)))
@@ -354,7 +354,7 @@ votes_at verb args config last.Other is = λ f. (votes_only verb args (record { 
 command_told : (verb args : List ℕ) → Told (HasForm verb (words args) (third args)) (command_in verb args)
 command_told verb args = told_by (HasForm verb (words args) (third args)) (command_in verb args) (λ e h. command_err verb args e h) (λ form h. command_known verb args form.command form.spelled h)
 
-later_told : (verb args : List ℕ) (o : Opened) → Told (FormAt verb args (Some o)) (said_in (Some o) verb args)
+later_told : (verb args : List ℕ) (o : ConfigSoFar) → Told (FormAt verb args (Some o)) (said_in (Some o) verb args)
 unfolding said_in FormAt
 later_told verb args o = by (bytes_eq verb (codes "replicas")) (bytes_eq verb (codes "reads")) (bytes_eq verb (codes "votes")) refl refl refl
   where
@@ -366,7 +366,7 @@ later_told verb args o = by (bytes_eq verb (codes "replicas")) (bytes_eq verb (c
         let H = HasForm verb (words args) (third args) in
         lifted H (FormAt verb args (Some o)) (command_in verb args >>= (λ command. done (Runs command))) (λ h. command_form o h) (λ h. command_only verb args o f g h) (made H (command_in verb args) Runs (command_told verb args))
 
-said_judged : (before : Option Opened) (verb args : List ℕ) → Judged (LacksReplicas verb before) (FormAt verb args before) (said_in before verb args)
+said_judged : (before : Option ConfigSoFar) (verb args : List ℕ) → Judged (LacksReplicas verb before) (FormAt verb args before) (said_in before verb args)
 said_judged None verb args = first_judged verb args
 said_judged (Some o) verb args = judged (LacksReplicas verb (Some o)) (FormAt verb args (Some o)) (said_in (Some o) verb args) (λ lacks. let none = lacks.first in cc) (later_told verb args o)
 
@@ -401,20 +401,20 @@ votes_has count ws quorums h =
       puts = h.puts.digits;
     }
 
-form_said : (before : Option Opened) (verb args : List ℕ) (said : Said) → SaysBehind verb (words args) (third args) before said → FormAt verb args before
+form_said : (before : Option ConfigSoFar) (verb args : List ℕ) (said : Said) → SaysBehind verb (words args) (third args) before said → FormAt verb args before
 unfolding FormAt
 form_said before verb args said (replicas config is h) = replicas_form is (replicas_has (words args) config h)
 form_said before verb args said (reads config mode is h) = reads_form (record { config = config; last = last.Replicas }) mode is refl h
 form_said before verb args said (votes config earlier quorums is may h) = votes_form (record { config = config; last = earlier }) is may (votes_has (length config.quorums.votes) (words args) quorums h)
 form_said before verb args said (runs opened c h) = command_form opened (form_of_said verb (words args) (third args) c h)
 
-form_first : (before : Option Opened) (verb args : List ℕ) → FormAt verb args before → LacksReplicas verb before → ⊥
+form_first : (before : Option ConfigSoFar) (verb args : List ℕ) → FormAt verb args before → LacksReplicas verb before → ⊥
 form_first None verb args form lacks = lacks.other (first_word verb args form)
 form_first (Some o) verb args form lacks = let none = lacks.first in cc
 
 -- ---- the fault that is told is the one that there is
 
-module _ (before : Option Opened) (verb args : List ℕ) where
+module _ (before : Option ConfigSoFar) (verb args : List ℕ) where
   which : (f : LineFault) → HasWordFault before verb args f → ((f ≡ NoReplicas) × LacksReplicas verb before) ⊎ (((f ≡ UnknownCommand) × (LacksReplicas verb before → ⊥) × (FormAt verb args before → ⊥)) ⊎ ((f ≡ Range) × FormAt verb args before))
   unfolding FormAt
   which NoReplicas h = inl (refl, h)
@@ -461,5 +461,5 @@ module _ (before : Option Opened) (verb args : List ℕ) where
       let P : LineFault → Type 0 = λ x. HasWordFault before verb args x in
       (λ e. let same : g ≡ f = cc in subst P same (told_fault g at t), λ h. ap (λ (x : LineFault). Err x) (one g f (told_fault g at t) h))
 
-pub word_fault : (before : Option Opened) (verb args : List ℕ) (f : LineFault) → (said_in before verb args ≡ Err f) ↔ HasWordFault before verb args f
+pub word_fault : (before : Option ConfigSoFar) (verb args : List ℕ) (f : LineFault) → (said_in before verb args ≡ Err f) ↔ HasWordFault before verb args f
 word_fault before verb args f = fault_by before verb args (said_in before verb args) f refl (said_judged before verb args)

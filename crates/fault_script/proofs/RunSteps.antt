@@ -10,7 +10,7 @@ use Rattle.world_steps.specs.declared.refusal.Refusal.TheVariants as refusal
 use Rattle.world_steps.specs.declared.step.Step.{Step}
 use Rattle.world_steps.specs.declared.system.System.{System}
 use Rattle.fault_script.specs.declared.command.Command.TheVariants as command
-use Rattle.fault_script.specs.declared.command.Numbered.{Numbered}
+use Rattle.fault_script.specs.declared.command.NumberedCommand.{NumberedCommand}
 use Rattle.fault_script.specs.declared.script_run.ScriptRun.{ScriptRun}
 use Rattle.fault_script.specs.MessageTexts.{random_message, refused_message, unfinished_message}
 use Rattle.fault_script.specs.Running.{IsRunSoFar, RunsOn, Walks}
@@ -49,7 +49,7 @@ call_stays line s new name settle.Room (holds, same) fine =
 call_stays line s new name (settle.Memory steps) fails fine = absurd (fine steps refl)
 
 -- one command more
-pub RunsAll_push : (a b c : System) (xs : List Numbered) (x : Numbered) (said message : List ℕ) → RunsAll a xs b said → Runs x.line b x.command c message → RunsAll a (xs ++ x ∷ []) c (said ++ message)
+pub RunsAll_push : (a b c : System) (xs : List NumberedCommand) (x : NumberedCommand) (said message : List ℕ) → RunsAll a xs b said → Runs x.line b x.command c message → RunsAll a (xs ++ x ∷ []) c (said ++ message)
 RunsAll_push a b c xs x said message (done s) r =
     let P : List ℕ → Type 0 = λ messages. RunsAll s (x ∷ []) c messages in
     subst P (append-nil message) (goes s c c x [] message [] r (done c))
@@ -65,7 +65,7 @@ run_begun first run world messages =
     subst P (sym world) (subst Q (sym messages) (done first))
 
 -- one more
-pub run_on : (first : System) (commands : List Numbered) (numbered : Numbered) (old new : ScriptRun) → IsRunSoFar first commands old → RunsOn old numbered.line numbered.command new → IsRunSoFar first (commands ++ numbered ∷ []) new
+pub run_on : (first : System) (commands : List NumberedCommand) (numbered : NumberedCommand) (old new : ScriptRun) → IsRunSoFar first commands old → RunsOn old numbered.line numbered.command new → IsRunSoFar first (commands ++ numbered ∷ []) new
 run_on first commands numbered old new so_far on =
     let P : List ℕ → Type 0 = λ n. RunsAll first (commands ++ numbered ∷ []) new.world n in
     subst P (sym on.said) (RunsAll_push first old.world new.world commands numbered old.messages.items on.message so_far on.runs)

@@ -14,7 +14,7 @@ use Rattle.world_steps.specs.declared.refusal.Refusal.{Refusal}
 use Rattle.world_steps.specs.declared.step.Step.{Step}
 use Rattle.world_steps.specs.declared.system.System.{System}
 use Rattle.fault_script.specs.declared.command.Command.{Command}
-use Rattle.fault_script.specs.declared.command.Numbered.{Numbered}
+use Rattle.fault_script.specs.declared.command.NumberedCommand.{NumberedCommand}
 use Rattle.fault_script.specs.declared.command.Script.{Script}
 use Rattle.fault_script.specs.ScriptRuns.{Walk, stride, walk_after, Runs, takes, refuses, finishes, stays, randomly, RunsAll, done, goes, IsRunOf}
 
@@ -59,7 +59,7 @@ one_leads line a b command message (finishes s name steps may settles) = record 
 one_leads line a b command message (stays s name why holds) = no_step s
 one_leads line a b command message (randomly s seed count) = walk_leads (record { system = s; generator = generator_of seed; taken = 0 }) count
 
-pub all_lead : (a b : System) (commands : List Numbered) (messages : List ℕ) → RunsAll a commands b messages → Leads a b
+pub all_lead : (a b : System) (commands : List NumberedCommand) (messages : List ℕ) → RunsAll a commands b messages → Leads a b
 all_lead a b commands messages (done s) = no_step s
 all_lead a b commands messages (goes s mid last numbered others first rest one all) =
     leads_on s mid last (one_leads numbered.line s mid numbered.command first one) (all_lead mid last others rest all)

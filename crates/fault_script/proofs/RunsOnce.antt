@@ -12,7 +12,7 @@ use Rattle.world_steps.specs.Systems.{opening}
 use Rattle.world_steps.specs.declared.step.Step.{Step}
 use Rattle.world_steps.specs.declared.system.System.{System}
 use Rattle.fault_script.specs.declared.command.Command.{Command}
-use Rattle.fault_script.specs.declared.command.Numbered.{Numbered}
+use Rattle.fault_script.specs.declared.command.NumberedCommand.{NumberedCommand}
 use Rattle.fault_script.specs.declared.command.Script.{Script}
 use Rattle.fault_script.specs.MessageTexts.{refused_message, unfinished_message}
 use Rattle.fault_script.specs.ScriptRuns.{Runs, takes, refuses, finishes, stays, randomly, RunsAll, done, goes, IsRunOf}
@@ -65,7 +65,7 @@ runs_once steps_once line command s a b m n (stays t name why holds) (finishes u
 runs_once steps_once line command s a b m n (stays t name why holds) (stays u other because again) = (refl, ap (unfinished_message line) (one_reason t name why because holds again))
 runs_once steps_once line command s a b m n (randomly t seed count) (randomly u first more) = (refl, refl)
 
-all_once : StepsAreOneList → (a b c : System) (commands : List Numbered) (m n : List ℕ) → RunsAll a commands b m → RunsAll a commands c n → (b ≡ c) × (m ≡ n)
+all_once : StepsAreOneList → (a b c : System) (commands : List NumberedCommand) (m n : List ℕ) → RunsAll a commands b m → RunsAll a commands c n → (b ≡ c) × (m ≡ n)
 all_once steps_once a b c commands m n (done s) (done t) = (refl, refl)
 all_once steps_once a b c commands m n (goes s mid last numbered others message messages one all) (goes t between end same rest told tolds two also) =
     let w = runs_once steps_once numbered.line numbered.command s mid between message told one two in

@@ -9,14 +9,14 @@ use Rattle.fault_script.specs.declared.command.Command.{Command}
 use Rattle.fault_script.specs.declared.command.Command.TheVariants as command
 use Rattle.fault_script.specs.declared.parse_line.Last.{Last}
 use Rattle.fault_script.specs.declared.parse_line.Last.TheVariants as last
-use Rattle.fault_script.specs.declared.parse_line.Opened.{Opened}
+use Rattle.fault_script.specs.declared.parse_line.ConfigSoFar.{ConfigSoFar}
 use Rattle.fault_script.specs.declared.parse_line.Said.{Said}
 use Rattle.fault_script.specs.declared.parse_line.Said.TheVariants.{Opens, Runs}
 use Rattle.fault_script.specs.Words.{words}
 use Rattle.fault_script.specs.Says.{◌>>=◌}
 use Rattle.fault_script.specs.Settings.{replicas_in, reads_in, votes_in}
 use Rattle.fault_script.specs.Commands.{command_in}
-use Rattle.fault_script.specs.Saying.{reads_behind, votes_set, votes_behind, first_said, said_in}
+use Rattle.fault_script.specs.LineMeanings.{reads_behind, votes_set, votes_behind, first_said, said_in}
 use Rattle.fault_script.specs.Forms.{Demands, in_ranges, SpellsStep, Spells}
 use Rattle.fault_script.specs.SettingForms.{MayVote, SaysVotes, SaysBehind, replicas, reads, votes, runs}
 use Rattle.fault_script.proofs.Chains.{done, picked, mapped, mapped_there}
@@ -27,13 +27,13 @@ use Rattle.fault_script.proofs.SettingsBack.{reads_back, reads_there, replicas_b
 abbrev bare : Config → Said
 bare config = Opens (record { config = config; last = last.Replicas })
 
-abbrev read : Config → ReadMode → Opened
+abbrev read : Config → ReadMode → ConfigSoFar
 read config mode = record { config = record config { reads = mode }; last = last.Reads }
 
-abbrev voted : Config → Quorums → Opened
+abbrev voted : Config → Quorums → ConfigSoFar
 voted config quorums = record { config = record config { quorums = quorums }; last = last.Other }
 
-Behind : List ℕ → List ℕ → Option Opened → Said → Type 0
+Behind : List ℕ → List ℕ → Option ConfigSoFar → Said → Type 0
 Behind verb args before said = SaysBehind verb (words args) (third args) before said
 
 first_back : (verb args : List ℕ) (said : Said) → said_in None verb args ≡ Ok said → Behind verb args None said
@@ -47,29 +47,29 @@ first_back verb args said e =
       | inr e2 ↦ absurd (cc)
     ]
 
-reads_made : (verb args : List ℕ) (config : Config) (before : Last) (opened : Opened) → verb ≡ codes "reads" → reads_behind config before (words args) ≡ Ok opened → Behind verb args (Some (record { config = config; last = before })) (Opens opened)
+reads_made : (verb args : List ℕ) (config : Config) (before : Last) (opened : ConfigSoFar) → verb ≡ codes "reads" → reads_behind config before (words args) ≡ Ok opened → Behind verb args (Some (record { config = config; last = before })) (Opens opened)
 unfolding reads_behind Behind
 reads_made verb args config last.Replicas opened is e =
     let a = mapped (reads_in (words args)) (read config) opened e in
-    let P : Opened → Type 0 = λ o. SaysBehind verb (words args) (third args) (Some (record { config = config; last = last.Replicas })) (Opens o) in
+    let P : ConfigSoFar → Type 0 = λ o. SaysBehind verb (words args) (third args) (Some (record { config = config; last = last.Replicas })) (Opens o) in
     subst P a.2 (reads config a.0 is (reads_back (words args) a.0 a.1))
 reads_made verb args config last.Reads opened is e = absurd (cc)
 reads_made verb args config last.Other opened is e = absurd (cc)
 
-voted_made : (verb args : List ℕ) (config : Config) (before : Last) (opened : Opened) → verb ≡ codes "votes" → MayVote before → votes_set config (words args) ≡ Ok opened → Behind verb args (Some (record { config = config; last = before })) (Opens opened)
+voted_made : (verb args : List ℕ) (config : Config) (before : Last) (opened : ConfigSoFar) → verb ≡ codes "votes" → MayVote before → votes_set config (words args) ≡ Ok opened → Behind verb args (Some (record { config = config; last = before })) (Opens opened)
 unfolding votes_set Behind
 voted_made verb args config before opened is may e =
     let a = mapped (votes_in (length config.quorums.votes) (words args)) (voted config) opened e in
-    let P : Opened → Type 0 = λ o. SaysBehind verb (words args) (third args) (Some (record { config = config; last = before })) (Opens o) in
+    let P : ConfigSoFar → Type 0 = λ o. SaysBehind verb (words args) (third args) (Some (record { config = config; last = before })) (Opens o) in
     subst P a.2 (votes config before a.0 is may (votes_back (length config.quorums.votes) (words args) a.0 a.1))
 
-votes_made : (verb args : List ℕ) (config : Config) (before : Last) (opened : Opened) → verb ≡ codes "votes" → votes_behind config before (words args) ≡ Ok opened → Behind verb args (Some (record { config = config; last = before })) (Opens opened)
+votes_made : (verb args : List ℕ) (config : Config) (before : Last) (opened : ConfigSoFar) → verb ≡ codes "votes" → votes_behind config before (words args) ≡ Ok opened → Behind verb args (Some (record { config = config; last = before })) (Opens opened)
 unfolding votes_behind
 votes_made verb args config last.Replicas opened is e = voted_made verb args config last.Replicas opened is tt e
 votes_made verb args config last.Reads opened is e = voted_made verb args config last.Reads opened is tt e
 votes_made verb args config last.Other opened is e = absurd (cc)
 
-later_back : (verb args : List ℕ) (o : Opened) (said : Said) → said_in (Some o) verb args ≡ Ok said → Behind verb args (Some o) said
+later_back : (verb args : List ℕ) (o : ConfigSoFar) (said : Said) → said_in (Some o) verb args ≡ Ok said → Behind verb args (Some o) said
 unfolding said_in Behind
 later_back verb args o said e =
     let P : Said → Type 0 = λ s. SaysBehind verb (words args) (third args) (Some o) s in
@@ -91,7 +91,7 @@ later_back verb args o said e =
     ]
 
 -- what is read is said by the words
-pub said_back : (before : Option Opened) (verb args : List ℕ) (said : Said) → said_in before verb args ≡ Ok said → SaysBehind verb (words args) (third args) before said
+pub said_back : (before : Option ConfigSoFar) (verb args : List ℕ) (said : Said) → said_in before verb args ≡ Ok said → SaysBehind verb (words args) (third args) before said
 unfolding Behind
 said_back None verb args said e = first_back verb args said e
 said_back (Some o) verb args said e = later_back verb args o said e
@@ -130,7 +130,7 @@ voted_there : (args : List ℕ) (config : Config) (quorums : Quorums) → SaysVo
 unfolding votes_set
 voted_there args config quorums h = mapped_there (votes_in (length config.quorums.votes) (words args)) (voted config) quorums (votes_there (length config.quorums.votes) (words args) quorums h)
 
-may_vote : (args : List ℕ) (config : Config) (before : Last) (opened : Opened) → MayVote before → votes_set config (words args) ≡ Ok opened → votes_behind config before (words args) ≡ Ok opened
+may_vote : (args : List ℕ) (config : Config) (before : Last) (opened : ConfigSoFar) → MayVote before → votes_set config (words args) ≡ Ok opened → votes_behind config before (words args) ≡ Ok opened
 unfolding votes_behind
 may_vote args config last.Replicas opened may e = e
 may_vote args config last.Reads opened may e = e
@@ -141,15 +141,15 @@ unfolding reads_behind
 reads_set args config mode e = mapped_there (reads_in (words args)) (read config) mode e
 
 -- what the words say is read
-pub said_there : (before : Option Opened) (verb args : List ℕ) (said : Said) → SaysBehind verb (words args) (third args) before said → said_in before verb args ≡ Ok said
+pub said_there : (before : Option ConfigSoFar) (verb args : List ℕ) (said : Said) → SaysBehind verb (words args) (third args) before said → said_in before verb args ≡ Ok said
 unfolding said_in first_said
 said_there before verb args said (replicas config is h) =
     ap (λ v. said_in None v args) is ∙ mapped_there (replicas_in (words args)) bare config (replicas_there (words args) config h)
 said_there before verb args said (reads config mode is h) =
-    let o : Opened = record { config = config; last = last.Replicas } in
+    let o : ConfigSoFar = record { config = config; last = last.Replicas } in
     ap (λ v. said_in (Some o) v args) is ∙ mapped_there (reads_behind config last.Replicas (words args)) Opens (read config mode) (reads_set args config mode (reads_there (words args) mode h))
 said_there before verb args said (votes config earlier quorums is may h) =
-    let o : Opened = record { config = config; last = earlier } in
+    let o : ConfigSoFar = record { config = config; last = earlier } in
     ap (λ v. said_in (Some o) v args) is ∙ mapped_there (votes_behind config earlier (words args)) Opens (voted config quorums) (may_vote args config earlier (voted config quorums) may (voted_there args config quorums h))
 said_there before verb args said (runs opened c h) =
     let plain = command_plain in_ranges verb (words args) (third args) c h in

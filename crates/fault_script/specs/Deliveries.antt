@@ -7,7 +7,7 @@ use Rattle.counted_devices.specs.ReadFaults.{IsFaultBy, HasFailed}
 use Rattle.fault_script.specs.declared.command.Script.{Script}
 use Rattle.fault_script.specs.declared.feed.Feed.{Feed}
 use Rattle.fault_script.specs.Faults.{ScriptError, ErrorKind}
-use Rattle.fault_script.specs.Scripts.{Placed, AreRead, Commands}
+use Rattle.fault_script.specs.Scripts.{SaidLine, AreRead, Commands}
 use Rattle.fault_script.specs.Feeds.{Stands, FirstFault, FaultAtEnd}
 
 -- the feed stands for the bytes that a reader gave
@@ -24,7 +24,7 @@ pub record IsUnderWay (bytes : List ℕ) (number : ℕ) : Type 0 where
   pub rest : List ℕ
   pub splits : Splits bytes lines rest
   pub short : length rest ≤ 65536
-  pub saids : List Placed
+  pub saids : List SaidLine
   pub read : AreRead lines saids
   pub counted : number ≡ length lines + 1
 

@@ -12,26 +12,26 @@ use Rattle.fault_script.specs.declared.fault.LineFault.TheVariants.{NoReplicas}
 use Rattle.fault_script.specs.Faults.{ScriptError, Stop, ErrorKind}
 use Rattle.counted_devices.specs.declared.read_fault.Stop.TheVariants as stop
 use Rattle.counted_devices.specs.declared.read_fault.FaultKind.TheVariants as kind
-use Rattle.fault_script.specs.Scripts.{Placed, AreRead, HasFault, IsMadeOf, Commands, HasNoCommand, opened_of, commands_of}
+use Rattle.fault_script.specs.Scripts.{SaidLine, AreRead, HasFault, IsMadeOf, Commands, HasNoCommand, opened_of, commands_of}
 
 -- the draft is what those lines say
-pub record IsDraft (saids : List Placed) (draft : Draft) : Type 0 where
+pub record IsDraft (saids : List SaidLine) (draft : Draft) : Type 0 where
   pub opened : draft.opened ≡ opened_of saids
   pub commands : draft.commands.items ≡ commands_of saids
   pub counted : draft.count ≡ length saids
 
 -- behind lines that say those, one more line was taken, or it has that fault
 abbrev pub DrawsBy : List (List ℕ) → List ℕ → ℕ → Result (Unit {0}) Stop → Draft → Type 0
-DrawsBy earlier line number (Ok done) new = (more : List Placed) × AreRead (earlier ++ line ∷ []) more × IsDraft more new
+DrawsBy earlier line number (Ok done) new = (more : List SaidLine) × AreRead (earlier ++ line ∷ []) more × IsDraft more new
 DrawsBy earlier line number (Err (stop.Fault fault)) new = HasFault earlier line number fault
 DrawsBy earlier line number (Err stop.Memory) new = Unit {0}
 
 abbrev pub Draws : Draft → List ℕ → ℕ → Result (Unit {0}) Stop → Draft → Type 0
-Draws old line number result new = (earlier : List (List ℕ)) (saids : List Placed) → AreRead earlier saids → IsDraft saids old → number ≡ length earlier + 1 → DrawsBy earlier line number result new
+Draws old line number result new = (earlier : List (List ℕ)) (saids : List SaidLine) → AreRead earlier saids → IsDraft saids old → number ≡ length earlier + 1 → DrawsBy earlier line number result new
 
 -- those lines were taken
 pub record IsAt (lines : List (List ℕ)) (progress : Progress) : Type 0 where
-  pub saids : List Placed
+  pub saids : List SaidLine
   pub read : AreRead lines saids
   pub drafted : IsDraft saids progress.draft
   pub counted : progress.lines ≡ length lines
@@ -72,18 +72,18 @@ abbrev pub ErrorSoFar : List ℕ → ℕ → ErrorKind → Type 0
 ErrorSoFar bytes number kind = IsFaultBy (FirstFault bytes number) ⊥ kind
 
 -- what a feed answers, when it was fed these bytes in all
-abbrev pub Fed : List ℕ → Result (Unit {0}) ScriptError → Feed → Type 0
-Fed bytes (Ok done) new = Stands bytes new
-Fed bytes (Err error) new = ErrorSoFar bytes error.line error.kind
+abbrev pub FeedAnswers : List ℕ → Result (Unit {0}) ScriptError → Feed → Type 0
+FeedAnswers bytes (Ok done) new = Stands bytes new
+FeedAnswers bytes (Err error) new = ErrorSoFar bytes error.line error.kind
 
 -- what it answers when these bytes end with a line's end, whatever stands behind it
-abbrev pub Ended : List ℕ → Result (Unit {0}) ScriptError → Feed → Type 0
-Ended bytes (Ok done) new = Stands bytes new
-Ended bytes (Err error) new = (later : List ℕ) → ErrorSoFar (bytes ++ later) error.line error.kind
+abbrev pub FeedAnswersAtLineEnd : List ℕ → Result (Unit {0}) ScriptError → Feed → Type 0
+FeedAnswersAtLineEnd bytes (Ok done) new = Stands bytes new
+FeedAnswersAtLineEnd bytes (Err error) new = (later : List ℕ) → ErrorSoFar (bytes ++ later) error.line error.kind
 
 -- what lines make at their end: a script, or they say no command
 abbrev pub EndsBy : List (List ℕ) → Result Script ScriptError → Type 0
-EndsBy lines (Ok script) = (saids : List Placed) × AreRead lines saids × IsMadeOf saids script
+EndsBy lines (Ok script) = (saids : List SaidLine) × AreRead lines saids × IsMadeOf saids script
 EndsBy lines (Err error) = AreRead lines [] × (error.line ≡ 1) × (error.kind ≡ kind.Line NoReplicas)
 
 -- the bytes' last line, which has no end, is the first with a fault

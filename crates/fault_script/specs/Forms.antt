@@ -51,7 +51,7 @@ pub record One (Is : List ℕ → ℕ → Type 0) (args : List (List ℕ)) (n : 
   pub is : Is word n
 
 -- a name and one word
-pub record Named (name : List ℕ) (Is : List ℕ → ℕ → Type 0) (args : List (List ℕ)) (n : ℕ) : Type 0 where
+pub record NameAndOne (name : List ℕ) (Is : List ℕ → ℕ → Type 0) (args : List (List ℕ)) (n : ℕ) : Type 0 where
   pub word : List ℕ
   pub all : args ≡ name ∷ word ∷ []
   pub is : Is word n
@@ -94,9 +94,9 @@ SpellsStep demands verb args behind_key (step.Deliver flight) = (verb ≡ codes 
 SpellsStep demands verb args behind_key (step.Lose flight) = (verb ≡ codes "lose") × One (demands.Number 0 4294967295) args flight
 SpellsStep demands verb args behind_key (step.Repeat flight) = (verb ≡ codes "repeat") × One (demands.Number 0 4294967295) args flight
 SpellsStep demands verb args behind_key (step.Respond client) = (verb ≡ codes "respond") × One (demands.Number 1 65535) args client
-SpellsStep demands verb args behind_key (step.StopClient client) = (verb ≡ codes "stop") × Named (codes "client") (demands.Number 1 65535) args client
-SpellsStep demands verb args behind_key (step.StopReplica replica) = (verb ≡ codes "stop") × Named (codes "replica") (demands.Number 0 14) args replica
-SpellsStep demands verb args behind_key (step.StartReplica replica) = (verb ≡ codes "start") × Named (codes "replica") (demands.Number 0 14) args replica
+SpellsStep demands verb args behind_key (step.StopClient client) = (verb ≡ codes "stop") × NameAndOne (codes "client") (demands.Number 1 65535) args client
+SpellsStep demands verb args behind_key (step.StopReplica replica) = (verb ≡ codes "stop") × NameAndOne (codes "replica") (demands.Number 0 14) args replica
+SpellsStep demands verb args behind_key (step.StartReplica replica) = (verb ≡ codes "start") × NameAndOne (codes "replica") (demands.Number 0 14) args replica
 
 abbrev pub Spells : Demands → List ℕ → List (List ℕ) → List ℕ → Command → Type 0
 Spells demands verb args behind_key (command.Step s) = SpellsStep demands verb args behind_key s

@@ -7,7 +7,7 @@ pub mod Commands
 pub mod Forms
 pub mod SettingForms
 pub mod LineFaults
-pub mod Saying
+pub mod LineMeanings
 pub mod Lines
 pub mod Scripts
 pub mod Feeds

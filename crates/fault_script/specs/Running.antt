@@ -2,7 +2,7 @@
 use Rattle.std.specs.Prelude.{ℕ, ◌≡◌, List, ◌++◌}
 use Rattle.world_steps.specs.declared.system.System.{System}
 use Rattle.fault_script.specs.declared.command.Command.{Command}
-use Rattle.fault_script.specs.declared.command.Numbered.{Numbered}
+use Rattle.fault_script.specs.declared.command.NumberedCommand.{NumberedCommand}
 use Rattle.fault_script.specs.declared.script_run.ScriptRun.{ScriptRun}
 use Rattle.fault_script.specs.ScriptRuns.{random_walk, Runs, RunsAll}
 
@@ -17,5 +17,5 @@ pub record RunsOn (old : ScriptRun) (line : ℕ) (command : Command) (new : Scri
   pub said : new.messages.items ≡ old.messages.items ++ message
 
 -- the run is that of those commands
-abbrev pub IsRunSoFar : System → List Numbered → ScriptRun → Type 0
+abbrev pub IsRunSoFar : System → List NumberedCommand → ScriptRun → Type 0
 IsRunSoFar first commands run = RunsAll first commands run.world run.messages.items

@@ -14,7 +14,7 @@ use Rattle.world_steps.specs.declared.step.Step.{Step}
 use Rattle.world_steps.specs.declared.system.System.{System}
 use Rattle.fault_script.specs.declared.command.Command.{Command}
 use Rattle.fault_script.specs.declared.command.Command.TheVariants as command
-use Rattle.fault_script.specs.declared.command.Numbered.{Numbered}
+use Rattle.fault_script.specs.declared.command.NumberedCommand.{NumberedCommand}
 use Rattle.fault_script.specs.declared.command.Script.{Script}
 use Rattle.fault_script.specs.MessageTexts.{random_message, refused_message, unfinished_message}
 
@@ -51,9 +51,9 @@ pub data Runs (line : ℕ) : System → Command → System → List ℕ → Type
   randomly : (s : System) (seed count : ℕ) → Runs line s (command.Random seed count) (random_walk s seed count).system (random_message line (random_walk s seed count).taken count)
 
 -- the commands one after another, and what is said of them
-pub data RunsAll : System → List Numbered → System → List ℕ → Type 0 where
+pub data RunsAll : System → List NumberedCommand → System → List ℕ → Type 0 where
   done : (s : System) → RunsAll s [] s []
-  goes : (s mid last : System) (numbered : Numbered) (others : List Numbered) (message messages : List ℕ) → Runs numbered.line s numbered.command mid message
+  goes : (s mid last : System) (numbered : NumberedCommand) (others : List NumberedCommand) (message messages : List ℕ) → Runs numbered.line s numbered.command mid message
       → RunsAll mid others last messages → RunsAll s (numbered ∷ others) last (message ++ messages)
 
 -- a run of the script has those rows in its record, and says those messages

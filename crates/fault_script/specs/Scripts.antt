@@ -2,54 +2,54 @@
 use Rattle.std.specs.Prelude.{ℕ, ◌≡◌, ◌+◌, List, [], ◌∷◌, ◌++◌, length, Option, Some, None, Ok, Err, option_map, fold, filter_map}
 use Rattle.counted_devices.specs.Cuts.{Splits}
 use Rattle.counted_devices.specs.Cuts.{last_lines}
-use Rattle.fault_script.specs.declared.command.Numbered.{Numbered}
+use Rattle.fault_script.specs.declared.command.NumberedCommand.{NumberedCommand}
 use Rattle.fault_script.specs.declared.command.Script.{Script}
 use Rattle.fault_script.specs.declared.parse_line.Last.TheVariants.{Other}
-use Rattle.fault_script.specs.declared.parse_line.Opened.{Opened}
+use Rattle.fault_script.specs.declared.parse_line.ConfigSoFar.{ConfigSoFar}
 use Rattle.fault_script.specs.declared.parse_line.Said.{Said}
 use Rattle.fault_script.specs.declared.parse_line.Said.TheVariants.{Opens, Runs}
 use Rattle.fault_script.specs.declared.fault.LineFault.{LineFault}
 use Rattle.fault_script.specs.Lines.{Shows}
 
 -- what a line says, and its number from 1
-pub record Placed : Type 0 where
+pub record SaidLine : Type 0 where
   pub line : ℕ
   pub said : Said
 
 -- the configuration behind one more line
-abbrev pub opened_after : Option Opened → Said → Option Opened
+abbrev pub opened_after : Option ConfigSoFar → Said → Option ConfigSoFar
 opened_after before (Opens opened) = Some opened
 opened_after None (Runs command) = None
 opened_after (Some opened) (Runs command) = Some (record { config = opened.config; last = Other })
 
 -- the configuration behind those lines
-abbrev pub opened_of : List Placed → Option Opened
+abbrev pub opened_of : List SaidLine → Option ConfigSoFar
 opened_of saids = fold (λ before placed. opened_after before placed.said) None saids
 
 -- a command of its line; a line of the configuration has none
-abbrev pub command_by : ℕ → Said → Option Numbered
+abbrev pub command_by : ℕ → Said → Option NumberedCommand
 command_by line (Opens opened) = None
 command_by line (Runs command) = Some (record { line = line; command = command })
 
-abbrev pub commands_of : List Placed → List Numbered
+abbrev pub commands_of : List SaidLine → List NumberedCommand
 commands_of saids = filter_map (λ placed. command_by placed.line placed.said) saids
 
 -- the lines are read as those: each is blank or a comment, or says the next of them behind those before
-pub data AreRead : List (List ℕ) → List Placed → Type 0 where
+pub data AreRead : List (List ℕ) → List SaidLine → Type 0 where
   no_line : AreRead [] []
-  blank_line : (lines : List (List ℕ)) (saids : List Placed) (line : List ℕ) → AreRead lines saids → Shows (opened_of saids) (length saids) line (Ok None) → AreRead (lines ++ line ∷ []) saids
-  command_line : (lines : List (List ℕ)) (saids : List Placed) (line : List ℕ) (said : Said) → AreRead lines saids → Shows (opened_of saids) (length saids) line (Ok (Some said)) → AreRead (lines ++ line ∷ []) (saids ++ record { line = length lines + 1; said = said } ∷ [])
+  blank_line : (lines : List (List ℕ)) (saids : List SaidLine) (line : List ℕ) → AreRead lines saids → Shows (opened_of saids) (length saids) line (Ok None) → AreRead (lines ++ line ∷ []) saids
+  command_line : (lines : List (List ℕ)) (saids : List SaidLine) (line : List ℕ) (said : Said) → AreRead lines saids → Shows (opened_of saids) (length saids) line (Ok (Some said)) → AreRead (lines ++ line ∷ []) (saids ++ record { line = length lines + 1; said = said } ∷ [])
 
 -- the line behind those lines has that fault, and that number
 pub record HasFault (earlier : List (List ℕ)) (line : List ℕ) (number : ℕ) (fault : LineFault) : Type 0 where
-  pub saids : List Placed
+  pub saids : List SaidLine
   pub read : AreRead earlier saids
   pub counted : number ≡ length earlier + 1
   pub faulty : Shows (opened_of saids) (length saids) line (Err fault)
 
 -- the script is made of what the lines say: the last configuration, and the commands in their order
-pub record IsMadeOf (saids : List Placed) (script : Script) : Type 0 where
-  pub config : option_map (λ (opened : Opened). opened.config) (opened_of saids) ≡ Some script.config
+pub record IsMadeOf (saids : List SaidLine) (script : Script) : Type 0 where
+  pub config : option_map (λ (opened : ConfigSoFar). opened.config) (opened_of saids) ≡ Some script.config
   pub commands : script.commands.items ≡ commands_of saids
 
 -- the bytes are the lines of that script
@@ -57,7 +57,7 @@ pub record Commands (bytes : List ℕ) (script : Script) : Type 0 where
   pub lines : List (List ℕ)
   pub rest : List ℕ
   pub splits : Splits bytes lines rest
-  pub saids : List Placed
+  pub saids : List SaidLine
   pub read : AreRead (last_lines lines rest) saids
   pub made : IsMadeOf saids script
 

@@ -8,7 +8,7 @@ use Rattle.world_steps.specs.Configs.{Config, config_of}
 use Rattle.fault_script.specs.declared.command.Command.{Command}
 use Rattle.fault_script.specs.declared.parse_line.Last.{Last}
 use Rattle.fault_script.specs.declared.parse_line.Last.TheVariants as last
-use Rattle.fault_script.specs.declared.parse_line.Opened.{Opened}
+use Rattle.fault_script.specs.declared.parse_line.ConfigSoFar.{ConfigSoFar}
 use Rattle.fault_script.specs.declared.parse_line.Said.{Said}
 use Rattle.fault_script.specs.declared.parse_line.Said.TheVariants.{Opens, Runs}
 use Rattle.fault_script.specs.Forms.{IsNumber, IsValue, One, Two, SaysCommand}
@@ -53,8 +53,8 @@ MayVote last.Reads = Unit {0}
 MayVote last.Other = ⊥
 
 -- what the words of a line say behind the lines before it: the first `replicas`, then `reads`, then `votes`, and then commands
-pub data SaysBehind (verb : List ℕ) (args : List (List ℕ)) (behind_key : List ℕ) : Option Opened → Said → Type 0 where
+pub data SaysBehind (verb : List ℕ) (args : List (List ℕ)) (behind_key : List ℕ) : Option ConfigSoFar → Said → Type 0 where
   replicas : (config : Config) → verb ≡ codes "replicas" → SaysReplicas args config → SaysBehind verb args behind_key None (Opens (record { config = config; last = last.Replicas }))
   reads : (config : Config) (mode : ReadMode) → verb ≡ codes "reads" → SaysReads args mode → SaysBehind verb args behind_key (Some (record { config = config; last = last.Replicas })) (Opens (record { config = record config { reads = mode }; last = last.Reads }))
   votes : (config : Config) (before : Last) (quorums : Quorums) → verb ≡ codes "votes" → MayVote before → SaysVotes (length config.quorums.votes) args quorums → SaysBehind verb args behind_key (Some (record { config = config; last = before })) (Opens (record { config = record config { quorums = quorums }; last = last.Other }))
-  runs : (opened : Opened) (command : Command) → SaysCommand verb args behind_key command → SaysBehind verb args behind_key (Some opened) (Runs command)
+  runs : (opened : ConfigSoFar) (command : Command) → SaysCommand verb args behind_key command → SaysBehind verb args behind_key (Some opened) (Runs command)

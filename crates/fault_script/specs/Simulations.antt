@@ -13,8 +13,8 @@ use Rattle.fault_script.specs.Deliveries.{ReadsAll}
 use Rattle.fault_script.specs.ScriptRuns.{IsRunOf}
 use Rattle.fault_script.specs.declared.command.Script.{Script}
 use Rattle.fault_script.specs.Faults.{ScriptError}
-use Rattle.fault_script.specs.declared.simulating.SimulateError.{SimulateError}
-use Rattle.fault_script.specs.declared.simulating.SimulateError.TheVariants as error
+use Rattle.fault_script.specs.declared.simulate_script.SimulateError.{SimulateError}
+use Rattle.fault_script.specs.declared.simulate_script.SimulateError.TheVariants as error
 
 -- the rows of a run of that script, and what is said in it; the text of the rows is read as them and as no others, and the
 -- tags of each of their parts are sound

@@ -15,7 +15,7 @@ pub enum Command {
 
 /// A command, and the number of its line, from 1.
 #[derive(Debug, Drop, PartialEq, Eq)]
-pub struct Numbered {
+pub struct NumberedCommand {
     pub line: u64,
     pub command: Command,
 }
@@ -24,5 +24,5 @@ pub struct Numbered {
 #[derive(Debug, Drop)]
 pub struct Script {
     pub config: Config,
-    pub commands: Vec<Numbered>,
+    pub commands: Vec<NumberedCommand>,
 }

@@ -1,12 +1,12 @@
 //! What the lines of a script made so far.
 ghost use Rattle.std.specs.Prelude.{ℕ, ◌≡◌, ◌<◌, ◌++◌, ◌∷◌, [], List, OnOk};
-ghost use Rattle.fault_script.specs.Scripts.{Placed, opened_after};
+ghost use Rattle.fault_script.specs.Scripts.{SaidLine, opened_after};
 ghost use Rattle.fault_script.specs.declared.command.Command.{Command};
 
-use crate::command::{Command, Numbered};
+use crate::command::{Command, NumberedCommand};
 use crate::fault::Stop;
 use crate::lines::shown_by;
-use crate::parse_line::{Last, Opened, Said};
+use crate::parse_line::{ConfigSoFar, Last, Said};
 use std::alloc::Global;
 use tag::Memory;
 
@@ -14,17 +14,17 @@ use tag::Memory;
 /// configuration among them.
 #[derive(Drop)]
 pub struct Draft {
-    pub opened: Option<Opened>,
-    pub commands: Vec<Numbered>,
+    pub opened: Option<ConfigSoFar>,
+    pub commands: Vec<NumberedCommand>,
     pub count: usize,
 }
 
 /// The configuration behind a command.
-fn behind_command(before: Option<Opened>) -> Option<Opened>
+fn behind_command(before: Option<ConfigSoFar>) -> Option<ConfigSoFar>
     ensures { (command : Command) → result ≡ opened_after before (Said.Runs command) }
 {
     match before {
-        Some(opened) => Some(Opened {
+        Some(opened) => Some(ConfigSoFar {
             config: opened.config,
             last: Last::Other,
         }),
@@ -47,9 +47,9 @@ impl Draft {
     }
 
     /// Sets the configuration, as a line of whatever number says.
-    fn open(&mut self, opened: Opened)
+    fn open(&mut self, opened: ConfigSoFar)
         requires { self.old.count < 1000000 }
-        ensures { (saids : List Placed) (line : ℕ) → IsDraft saids self.old
+        ensures { (saids : List SaidLine) (line : ℕ) → IsDraft saids self.old
             → IsDraft (saids ++ record { line = line; said = Said.Opens opened } ∷ []) self.new }
     {
         self.opened = Some(opened);
@@ -59,10 +59,10 @@ impl Draft {
     /// Adds the command of the line of that number.
     fn run(&mut self, line: u64, command: Command) -> Result<(), Memory>
         requires { self.old.count < 1000000 }
-        ensures { OnOk result ((saids : List Placed) → IsDraft saids self.old
+        ensures { OnOk result ((saids : List SaidLine) → IsDraft saids self.old
             → IsDraft (saids ++ record { line = line; said = Said.Runs command } ∷ []) self.new) }
     {
-        self.commands.push(Numbered { line, command })?;
+        self.commands.push(NumberedCommand { line, command })?;
         self.opened = behind_command(self.opened);
         self.count += 1;
         Ok(())

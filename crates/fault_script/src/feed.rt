@@ -19,7 +19,7 @@ pub struct Feed {
 }
 
 impl Feed {
-    ghost use Rattle.fault_script.specs.Feeds.{Stands, Fed, Ended, Ends};
+    ghost use Rattle.fault_script.specs.Feeds.{Stands, FeedAnswers, FeedAnswersAtLineEnd, Ends};
 
     /// No byte yet.
     pub(crate) fn new(alloc: Global) -> Feed
@@ -45,35 +45,35 @@ impl Feed {
     }
 
     /// Keeps bytes of the line that is under way.
-    fn keep(&mut self, part: &[u8]) -> Result<(), ScriptError>
+    fn keep(&mut self, chunk: &[u8]) -> Result<(), ScriptError>
         requires { self.old.progress.lines < 2 ^ 63 }
-        ensures fed { (bytes : List ℕ) → Stands bytes self.old → HasNoEnd part.now
-            → Fed (bytes ++ part.now) result self.new }
+        ensures fed { (bytes : List ℕ) → Stands bytes self.old → HasNoEnd chunk.now
+            → FeedAnswers (bytes ++ chunk.now) result self.new }
         ensures lines { OnOk result (self.new.progress.lines ≡ self.old.progress.lines) }
         ensures rest { OnOk result (length self.new.rest.items
-            ≡ length self.old.rest.items + length part.now) }
+            ≡ length self.old.rest.items + length chunk.now) }
     {
-        if self.rest.len().saturating_add(part.len()) > LONGEST {
+        if self.rest.len().saturating_add(chunk.len()) > LONGEST {
             return Err(ScriptError::at(self.line(), Stop::Fault(LineFault::TooLong)));
         }
-        match self.rest.extend_from_slice(part) {
+        match self.rest.extend_from_slice(chunk) {
             Ok(()) => Ok(()),
             Err(_) => Err(ScriptError::at(self.line(), Stop::Memory)),
         }
     }
 
     /// Ends the line that is under way, of which these are the last bytes.
-    fn end_line(&mut self, part: &[u8]) -> Result<(), ScriptError>
+    fn end_line(&mut self, chunk: &[u8]) -> Result<(), ScriptError>
         requires { self.old.progress.lines < 2 ^ 63 }
-        ensures ended { (bytes : List ℕ) → Stands bytes self.old → HasNoEnd part.now
-            → Ended (bytes ++ with_end part.now) result self.new }
+        ensures ended { (bytes : List ℕ) → Stands bytes self.old → HasNoEnd chunk.now
+            → FeedAnswersAtLineEnd (bytes ++ with_end chunk.now) result self.new }
         ensures lines { OnOk result (self.new.progress.lines ≡ self.old.progress.lines + 1) }
         ensures rest { OnOk result (length self.new.rest.items ≡ 0) }
     {
         if self.rest.is_empty() {
-            return self.progress.take(part);
+            return self.progress.take(chunk);
         }
-        self.keep(part)?;
+        self.keep(chunk)?;
         self.progress.take(self.rest.as_slice())?;
         self.rest.clear();
         Ok(())
@@ -84,7 +84,7 @@ impl Feed {
         requires { self.old.progress.lines + length self.old.rest.items
             + length block.now < 2 ^ 63 }
         ensures fed { (bytes : List ℕ) → Stands bytes self.old
-            → Fed (bytes ++ block.now) result self.new }
+            → FeedAnswers (bytes ++ block.now) result self.new }
         ensures room { OnOk result (self.new.progress.lines + length self.new.rest.items
             ≤ self.old.progress.lines + length self.old.rest.items + length block.now) }
     {

@@ -17,9 +17,9 @@ ghost use Rattle.fault_script.specs.Words.{words, behind_three};
 ghost use Rattle.fault_script.specs.Commands.{command_in};
 ghost use Rattle.fault_script.specs.declared.fault.LineFault.TheVariants.{UnknownCommand, Range};
 ghost use Rattle.fault_script.specs.Forms.{SaysCommand, HasForm};
-ghost use Rattle.fault_script.specs.declared.parse_line.Opened.{Opened};
+ghost use Rattle.fault_script.specs.declared.parse_line.ConfigSoFar.{ConfigSoFar};
 ghost use Rattle.fault_script.specs.declared.parse_line.Said.{Said};
-ghost use Rattle.fault_script.specs.Saying.{said_in};
+ghost use Rattle.fault_script.specs.LineMeanings.{said_in};
 ghost use Rattle.fault_script.specs.SettingForms.{SaysBehind};
 ghost use Rattle.fault_script.specs.LineFaults.{HasWordFault};
 ghost use Rattle.file_format.specs.LineFaults.{FaultsAre};
@@ -35,7 +35,7 @@ pub fn a_command_is_read_where_its_words_say_it()
 
 /// A line's words are read, behind the lines before it, exactly where they say that there.
 pub fn a_line_is_read_where_its_words_say_it()
-    ensures { (before : Option Opened) (verb args : List ℕ) (said : Said)
+    ensures { (before : Option ConfigSoFar) (verb args : List ℕ) (said : Said)
         → (said_in before verb args ≡ Ok said)
         ↔ SaysBehind verb (words args) (behind_three args) before said }
 {}
@@ -53,7 +53,7 @@ pub fn a_command_without_a_form_is_unknown()
 /// `NoReplicas` where the first command isn't `replicas`, else `UnknownCommand` where they have no
 /// form of a line that may stand there, else `Range`, and no other.
 pub fn a_line_has_the_fault_of_its_words()
-    ensures { (before : Option Opened) (verb args : List ℕ) →
+    ensures { (before : Option ConfigSoFar) (verb args : List ℕ) →
         FaultsAre (said_in before verb args) (HasWordFault before verb args) }
 {}
 

@@ -4,7 +4,7 @@ ghost use Rattle.fault_script.specs.Lines.{ShowsBy};
 
 use crate::LineFault;
 use crate::fault::Stop;
-use crate::parse_line::{Opened, Said, text_says};
+use crate::parse_line::{ConfigSoFar, Said, text_says};
 use crate::words::without_return;
 use std::alloc::Global;
 
@@ -15,7 +15,7 @@ pub const LONGEST: usize = 65_536;
 /// nothing where it is blank or a comment.
 pub(crate) fn shown_by(
     alloc: Global,
-    before: Option<Opened>,
+    before: Option<ConfigSoFar>,
     count: usize,
     line: &[u8],
 ) -> Result<Option<Said>, Stop>

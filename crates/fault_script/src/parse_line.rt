@@ -2,7 +2,7 @@
 ghost use Rattle.std.specs.Prelude.{◌≡◌, ◌==◌, ◌<◌, slice_index, IfOk, IsSome};
 ghost use Rattle.fault_script.specs.Words.{words};
 ghost use Rattle.fault_script.specs.Says.{Gives};
-ghost use Rattle.fault_script.specs.Saying.{reads_behind, votes_set, votes_behind, first_said, said_in, command_says, text_says};
+ghost use Rattle.fault_script.specs.LineMeanings.{reads_behind, votes_set, votes_behind, first_said, said_in, command_says, text_says};
 
 use crate::LineFault;
 use crate::command::Command;
@@ -27,7 +27,7 @@ pub enum Last {
 /// The configuration so far, and the last line: `reads` may stand behind `replicas` alone, `votes`
 /// behind the two.
 #[derive(Clone, Copy, Debug)]
-pub struct Opened {
+pub struct ConfigSoFar {
     pub config: Config,
     pub last: Last,
 }
@@ -35,19 +35,19 @@ pub struct Opened {
 /// What a line says: a configuration, or a command.
 #[derive(Debug, Drop)]
 pub enum Said {
-    Opens(Opened),
+    Opens(ConfigSoFar),
     Runs(Command),
 }
 
-#[tactic(auto, unfolding(crate::specs::Saying::reads_behind))]
-fn reads_behind(opened: Opened, args: &str) -> Result<Opened, Stop>
+#[tactic(auto, unfolding(crate::specs::LineMeanings::reads_behind))]
+fn reads_behind(opened: ConfigSoFar, args: &str) -> Result<ConfigSoFar, Stop>
     ensures { Gives (λ opened. opened) result
         (reads_behind opened.config opened.last (words args.now)) }
 {
     match opened.last {
         Last::Replicas => {
             let mode = reads_in(args)?;
-            Ok(Opened {
+            Ok(ConfigSoFar {
                 config: opened.config.with_reads(mode),
                 last: Last::Reads,
             })
@@ -56,13 +56,13 @@ fn reads_behind(opened: Opened, args: &str) -> Result<Opened, Stop>
     }
 }
 
-#[tactic(auto, unfolding(crate::specs::Saying::votes_set))]
-fn votes_set(config: Config, args: &str) -> Result<Opened, Stop>
+#[tactic(auto, unfolding(crate::specs::LineMeanings::votes_set))]
+fn votes_set(config: Config, args: &str) -> Result<ConfigSoFar, Stop>
     ensures { Gives (λ opened. opened) result (votes_set config (words args.now)) }
 {
     let quorums = votes_in(config.replicas(), args)?;
     match config.with_quorums(quorums) {
-        Some(config) => Ok(Opened {
+        Some(config) => Ok(ConfigSoFar {
             config,
             last: Last::Other,
         }),
@@ -70,8 +70,8 @@ fn votes_set(config: Config, args: &str) -> Result<Opened, Stop>
     }
 }
 
-#[tactic(auto, unfolding(crate::specs::Saying::votes_behind))]
-fn votes_behind(opened: Opened, args: &str) -> Result<Opened, Stop>
+#[tactic(auto, unfolding(crate::specs::LineMeanings::votes_behind))]
+fn votes_behind(opened: ConfigSoFar, args: &str) -> Result<ConfigSoFar, Stop>
     ensures { Gives (λ opened. opened) result
         (votes_behind opened.config opened.last (words args.now)) }
 {
@@ -82,13 +82,13 @@ fn votes_behind(opened: Opened, args: &str) -> Result<Opened, Stop>
 }
 
 /// What the first command says.
-#[tactic(auto, unfolding(crate::specs::Saying::first_said))]
+#[tactic(auto, unfolding(crate::specs::LineMeanings::first_said))]
 fn first_said(verb: &str, args: &str) -> Result<Said, Stop>
     ensures { Gives (λ said. said) result (first_said verb.now (words args.now)) }
 {
     if is(verb, "replicas") {
         let config = replicas_in(args)?;
-        Ok(Said::Opens(Opened {
+        Ok(Said::Opens(ConfigSoFar {
             config,
             last: Last::Replicas,
         }))
@@ -98,8 +98,8 @@ fn first_said(verb: &str, args: &str) -> Result<Said, Stop>
 }
 
 /// What a line of that first word says behind the lines before.
-#[tactic(auto, unfolding(crate::specs::Saying::said_in))]
-fn said_in(alloc: Global, before: Option<Opened>, verb: &str, args: &str) -> Result<Said, Stop>
+#[tactic(auto, unfolding(crate::specs::LineMeanings::said_in))]
+fn said_in(alloc: Global, before: Option<ConfigSoFar>, verb: &str, args: &str) -> Result<Said, Stop>
     ensures { Gives (λ said. said) result (said_in before verb.now args.now) }
 {
     let Some(opened) = before else {
@@ -130,10 +130,10 @@ fn is_comment(word: &str) -> bool
 
 /// What a line of that first word says behind the lines before, of which so many were commands:
 /// nothing where it is a comment.
-#[tactic(auto, unfolding(crate::specs::Saying::command_says))]
+#[tactic(auto, unfolding(crate::specs::LineMeanings::command_says))]
 fn command_says(
     alloc: Global,
-    before: Option<Opened>,
+    before: Option<ConfigSoFar>,
     count: usize,
     verb: &str,
     args: &str,
@@ -155,7 +155,7 @@ fn command_says(
 /// where it is blank or a comment.
 pub(crate) fn text_says(
     alloc: Global,
-    before: Option<Opened>,
+    before: Option<ConfigSoFar>,
     count: usize,
     text: &str,
 ) -> Result<Option<Said>, Stop>

@@ -6,7 +6,7 @@ ghost use Rattle.world_steps.specs.Runs.{next};
 ghost use Rattle.world_steps.specs.Systems.{opening};
 ghost use Rattle.fault_script.specs.Running.{IsRunSoFar, Walks};
 
-use crate::command::{Command, Numbered, Script};
+use crate::command::{Command, NumberedCommand, Script};
 use crate::messages::{message_random, message_refused, message_unfinished};
 use random_steps::RandomSteps;
 use std::alloc::Global;
@@ -93,10 +93,10 @@ impl ScriptRun {
     }
 
     /// Runs the command.
-    fn run(&mut self, alloc: Global, numbered: Numbered) -> Result<(), Memory>
+    fn run(&mut self, alloc: Global, numbered: NumberedCommand) -> Result<(), Memory>
         ensures { OnOk result (RunsOn self.old numbered.line numbered.command self.new) }
     {
-        let Numbered { line, command } = numbered;
+        let NumberedCommand { line, command } = numbered;
         match command {
             Command::Step(step) => self.take(line, step),
             Command::Finish(client) => self.finish(line, client),

@@ -1,7 +1,7 @@
 use Rattle.std.proofs.Common.{ℕ, List, ap, ◌∙◌, subst}
 use Rattle.fault_script.specs.Words.{without_return}
 use Rattle.fault_script.specs.Says.{Gives}
-use Rattle.fault_script.specs.Saying.{text_says}
+use Rattle.fault_script.specs.LineMeanings.{text_says}
 use Rattle.fault_script.specs.Lines.{is_long, is_no_text}
 use Rattle.fault_script.proofs.LineLemmas.{shown}
 use Rattle.fault_script.proofs.lines.shown_by.Goals as goal

@@ -1,5 +1,5 @@
 use Rattle.std.proofs.Common.{refl}
-use Rattle.fault_script.specs.Saying.{words_say, text_says}
+use Rattle.fault_script.specs.LineMeanings.{words_say, text_says}
 use Rattle.fault_script.proofs.parse_line.text_says.Goals as goal
 
 pub returns-in-Some-clause-said : goal.returns-in-Some-clause-said

@@ -1,7 +1,7 @@
 use Rattle.std.proofs.Common.{List, sym, ap, ◌∙◌, subst}
 use Rattle.std.specs.Prelude.{option_map}
-use Rattle.fault_script.specs.declared.parse_line.Opened.{Opened}
-use Rattle.fault_script.specs.Scripts.{Placed, AreRead}
+use Rattle.fault_script.specs.declared.parse_line.ConfigSoFar.{ConfigSoFar}
+use Rattle.fault_script.specs.Scripts.{SaidLine, AreRead}
 use Rattle.fault_script.proofs.DraftLemmas.{no_command}
 use Rattle.fault_script.proofs.progress.Progress.finish.Goals as goal
 
@@ -10,12 +10,12 @@ returns-in-Some c = λ lines at. (
   at.saids,
   at.read,
   record {
-    config = ap (option_map (λ (opened : Opened). opened.config)) (sym at.drafted.opened ∙ c.in-Some.is);
+    config = ap (option_map (λ (opened : ConfigSoFar). opened.config)) (sym at.drafted.opened ∙ c.in-Some.is);
     commands = at.drafted.commands;
   },
 )
 
 pub returns-in-None : goal.returns-in-None
 returns-in-None c = λ lines at.
-    let P : List Placed → Type 0 = λ saids. AreRead lines saids in
+    let P : List SaidLine → Type 0 = λ saids. AreRead lines saids in
     (subst P (no_command lines at.saids at.read (sym at.drafted.opened ∙ c.in-None.is)) at.read, c.at.ensures.line, c.at.ensures.kind)

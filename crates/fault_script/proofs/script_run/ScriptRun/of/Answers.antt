@@ -4,7 +4,7 @@ use Rattle.std.proofs.lemmas.Iterator.Adapters.{YieldsList-from_vec}
 use Rattle.std.proofs.lemmas.Iterator.Consumers.{YieldsList-end}
 use Rattle.world_steps.specs.Systems.{opening}
 use Rattle.fault_script.specs.Running.{IsRunSoFar}
-use Rattle.fault_script.specs.declared.command.Numbered.{Numbered}
+use Rattle.fault_script.specs.declared.command.NumberedCommand.{NumberedCommand}
 use Rattle.fault_script.proofs.RunSteps.{run_begun, run_on}
 use Rattle.fault_script.proofs.script_run.ScriptRun.of.Goals as goal
 
@@ -23,4 +23,4 @@ returns c =
     let gives = c.into_iter-numbered-iterator.ensures.into_iter_gives in
     let ended = YieldsList-end (YieldsList-from_vec commands.items gives.0 (omega (arith, gives.1, commands.ok.0))) l.yielded l.numbered-iterator l.yielded_by c.next.result c.next.new.self c.in-None.is c.next.ensures.steps in
     let all : l.yielded ≡ commands.items = sym (map-id l.yielded) ∙ ended.0 in
-    subst (λ (numbereds : List Numbered). IsRunSoFar (opening c.args.script.config) numbereds l.run) all l.invariant
+    subst (λ (numbereds : List NumberedCommand). IsRunSoFar (opening c.args.script.config) numbereds l.run) all l.invariant

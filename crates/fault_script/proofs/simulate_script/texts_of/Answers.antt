@@ -1,5 +1,5 @@
 use Rattle.fault_script.proofs.RunTexts.{run_of}
-use Rattle.fault_script.proofs.simulating.texts_of.Goals as goal
+use Rattle.fault_script.proofs.simulate_script.texts_of.Goals as goal
 
 pub returns : goal.returns
 returns c =

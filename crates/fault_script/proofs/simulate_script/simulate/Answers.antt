@@ -3,7 +3,7 @@ use Rattle.counted_devices.specs.Deliveries.{Delivers}
 use Rattle.fault_script.specs.Deliveries.{ReadsAll}
 use Rattle.fault_script.specs.declared.command.Script.{Script}
 use Rattle.fault_script.proofs.RunTexts.{begun_at, parsed, simulated}
-use Rattle.fault_script.proofs.simulating.simulate.Goals as goal
+use Rattle.fault_script.proofs.simulate_script.simulate.Goals as goal
 
 pub returns-clause-written : goal.returns-clause-written
 returns-clause-written g c =

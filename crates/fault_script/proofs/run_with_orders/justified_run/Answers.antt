@@ -1,7 +1,7 @@
 use Rattle.std.proofs.Common.{rules, subst}
 use Rattle.recorder.specs.Histories.{Recorded}
 use Rattle.recorder.specs.Records.{IsPart}
-use Rattle.fault_script.proofs.justified.justified_run.Goals as goal
+use Rattle.fault_script.proofs.run_with_orders.justified_run.Goals as goal
 
 pub justified_orders-requires : goal.justified_orders-requires
 justified_orders-requires c = λ key part is.

@@ -30,7 +30,7 @@ pub enum SimulateError {
 
 impl From<Memory> for SimulateError {
     ghost use Rattle.std.specs.Prelude.{◌≡◌};
-    ghost use Rattle.fault_script.specs.declared.simulating.SimulateError.TheVariants.{Memory};
+    ghost use Rattle.fault_script.specs.declared.simulate_script.SimulateError.TheVariants.{Memory};
 
     ghost from_gives = { λ _ e. e ≡ Memory };
 

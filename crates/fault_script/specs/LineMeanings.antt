@@ -3,7 +3,7 @@ use Rattle.std.specs.Prelude.{ℕ, ◌==◌, List, [], ◌∷◌, Option, Some, 
 use Rattle.world_steps.specs.Configs.{Config}
 use Rattle.fault_script.specs.declared.parse_line.Last.{Last}
 use Rattle.fault_script.specs.declared.parse_line.Last.TheVariants as last
-use Rattle.fault_script.specs.declared.parse_line.Opened.{Opened}
+use Rattle.fault_script.specs.declared.parse_line.ConfigSoFar.{ConfigSoFar}
 use Rattle.fault_script.specs.declared.parse_line.Said.{Said}
 use Rattle.fault_script.specs.declared.parse_line.Said.TheVariants.{Opens, Runs}
 use Rattle.fault_script.specs.declared.fault.LineFault.{LineFault}
@@ -14,7 +14,7 @@ use Rattle.fault_script.specs.Settings.{replicas_in, reads_in, votes_in}
 use Rattle.fault_script.specs.Commands.{command_in}
 
 -- `reads` stands directly behind `replicas`
-unfoldable pub reads_behind : Config → Last → List (List ℕ) → Result Opened LineFault
+unfoldable pub reads_behind : Config → Last → List (List ℕ) → Result ConfigSoFar LineFault
 reads_behind config last.Replicas args = do
   mode ← reads_in args
   Ok (record { config = record config { reads = mode }; last = last.Reads })
@@ -22,12 +22,12 @@ reads_behind config last.Reads args = Err UnknownCommand
 reads_behind config last.Other args = Err UnknownCommand
 
 -- `votes` stands directly behind `replicas`, or behind `reads`
-unfoldable pub votes_set : Config → List (List ℕ) → Result Opened LineFault
+unfoldable pub votes_set : Config → List (List ℕ) → Result ConfigSoFar LineFault
 votes_set config args = do
   quorums ← votes_in (length config.quorums.votes) args
   Ok (record { config = record config { quorums = quorums }; last = last.Other })
 
-unfoldable pub votes_behind : Config → Last → List (List ℕ) → Result Opened LineFault
+unfoldable pub votes_behind : Config → Last → List (List ℕ) → Result ConfigSoFar LineFault
 votes_behind config last.Replicas args = votes_set config args
 votes_behind config last.Reads args = votes_set config args
 votes_behind config last.Other args = Err UnknownCommand
@@ -41,7 +41,7 @@ first_said verb args =
     else Err NoReplicas
 
 -- what a first word, and what stands behind it, say behind the lines before
-unfoldable pub said_in : Option Opened → List ℕ → List ℕ → Result Said LineFault
+unfoldable pub said_in : Option ConfigSoFar → List ℕ → List ℕ → Result Said LineFault
 said_in None verb args = first_said verb (words args)
 said_in (Some opened) verb args =
     if bytes_eq verb (codes "replicas") then Err UnknownCommand
@@ -56,7 +56,7 @@ said_in (Some opened) verb args =
       Ok (Runs command))
 
 -- what such a line says behind so many commands: nothing where it is a comment
-unfoldable pub command_says : Option Opened → ℕ → List ℕ → List ℕ → Result (Option Said) LineFault
+unfoldable pub command_says : Option ConfigSoFar → ℕ → List ℕ → List ℕ → Result (Option Said) LineFault
 command_says before count verb args =
     if slice_index verb 0 == 35 then Ok None
     else if nat_le 1000000 count then Err TooManyCommands
@@ -65,9 +65,9 @@ command_says before count verb args =
       Ok (Some said))
 
 -- what a text says, by its words: nothing where it is blank
-unfoldable pub words_say : Option Opened → ℕ → List (List ℕ) → List ℕ → Result (Option Said) LineFault
+unfoldable pub words_say : Option ConfigSoFar → ℕ → List (List ℕ) → List ℕ → Result (Option Said) LineFault
 words_say before count [] args = Ok None
 words_say before count (verb ∷ others) args = command_says before count verb args
 
-unfoldable pub text_says : Option Opened → ℕ → List ℕ → Result (Option Said) LineFault
+unfoldable pub text_says : Option ConfigSoFar → ℕ → List ℕ → Result (Option Said) LineFault
 text_says before count text = words_say before count (words text) (behind_word text)

@@ -1,5 +1,5 @@
 use Rattle.std.proofs.Common.{rules}
-use Rattle.fault_script.proofs.simulating.write_texts.Goals as goal
+use Rattle.fault_script.proofs.simulate_script.write_texts.Goals as goal
 
 pub returns-in-Ok-clause-written : goal.returns-in-Ok-clause-written
 returns-in-Ok-clause-written g c = search rules
