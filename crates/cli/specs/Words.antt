@@ -6,7 +6,7 @@ use Rattle.clap.specs.declared.builder.value_parser.ValueParser.TheVariants as p
 use Rattle.clap.specs.declared.error.kind.ErrorKind.{ErrorKind}
 use Rattle.clap.specs.declared.error.kind.ErrorKind.TheVariants.{DisplayHelp, DisplayVersion, OutOfMemory}
 use Rattle.parallel_keys.specs.Workers.{IsCount}
-use Rattle.run_words.specs.Asking.{AsksRun}
+use Rattle.run_words.specs.RunWords.{AsksRun}
 use Rattle.run_words.specs.Options.{run_app}
 use Rattle.cli.specs.declared.asked.Command.{Command}
 use Rattle.cli.specs.declared.asked.Command.TheVariants.{Check, Justify, Run, Simulate}

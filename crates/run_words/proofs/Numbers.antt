@@ -2,7 +2,7 @@
 use Rattle.std.proofs.Common.{◌≡◌, ℕ, List, Some, sym, subst, ◌∙◌}
 use Rattle.std.specs.Str.Parse.{digits_value, without_leading_plus}
 use Rattle.clap.specs.Words.{Row, Text, first_of}
-use Rattle.run_words.specs.Asking.{AsksNumber}
+use Rattle.run_words.specs.RunWords.{AsksNumber}
 
 pub same_text : (rows : List Row) (name a b : Text) → first_of name rows ≡ Some a → first_of name rows ≡ Some b → a ≡ b
 same_text rows name a b first second = let e : Some a ≡ Some b = sym first ∙ second in cc

@@ -1,7 +1,7 @@
 //! The quorums that words ask for.
 ghost use Rattle.std.specs.Prelude.{◌≡◌, ◌≤◌, ◌↔◌, Some, IsTrue, MatchResult, codes};
 ghost use Rattle.clap.specs.Words.{first_of, found_of, rows_of};
-ghost use Rattle.run_words.specs.Asking.{AreDigits, AsksQuorumsOf, AsksVotesOf, IsMissed};
+ghost use Rattle.run_words.specs.RunWords.{AreDigits, AsksQuorumsOf, AsksVotesOf, IsMissed};
 
 use crate::fault::RunFault;
 use crate::reading::{number_in, text_in};
@@ -32,7 +32,7 @@ fn votes_in(alloc: Global, text: &str) -> Result<Vec<u8>, RunFault>
 }
 
 /// The quorums of the votes of that text.
-fn voted<'a>(
+fn quorums_of_votes<'a>(
     alloc: Global,
     matches: &ArgMatches<'a>,
     replicas: u8,
@@ -70,7 +70,7 @@ pub(crate) fn quorums_in<'a>(
         (IsMissed (AsksQuorumsOf (rows_of (found_of matches.now)) replicas)) }
 {
     if let Some(text) = text_in(matches, "votes") {
-        return voted(alloc, matches, replicas, text);
+        return quorums_of_votes(alloc, matches, replicas, text);
     }
     if text_in(matches, "ask").is_some() {
         return Err(RunFault::Alone);

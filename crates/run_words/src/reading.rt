@@ -1,7 +1,7 @@
 //! What words that clap took ask for.
 ghost use Rattle.std.specs.Prelude.{◌≡◌, None, MatchResult, codes, option_map};
 ghost use Rattle.clap.specs.Words.{first_of, found_of, rows_of};
-ghost use Rattle.run_words.specs.Asking.{AsksNumber, AsksReads, AsksRun, AsksShown, IsMissed, IsNoNumber};
+ghost use Rattle.run_words.specs.RunWords.{AsksNumber, AsksReads, AsksRun, AsksShown, IsMissed, IsNoNumber};
 
 use crate::asked::{RunAsked, Shown};
 use crate::fault::RunFault;

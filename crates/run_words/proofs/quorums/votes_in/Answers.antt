@@ -1,5 +1,5 @@
 use Rattle.std.proofs.Common.{List, ℕ, sym, subst}
-use Rattle.run_words.specs.Asking.{AreDigits}
+use Rattle.run_words.specs.RunWords.{AreDigits}
 use Rattle.run_words.proofs.Digits.{no_digit}
 use Rattle.run_words.proofs.quorums.votes_in.Goals as goal
 

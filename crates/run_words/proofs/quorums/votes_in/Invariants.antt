@@ -1,5 +1,5 @@
 use Rattle.std.proofs.Common.{take}
-use Rattle.run_words.specs.Asking.{AreDigits}
+use Rattle.run_words.specs.RunWords.{AreDigits}
 use Rattle.run_words.proofs.quorums.votes_in.Given as goal
 
 abbrev pub invariant-loop-byte : goal.invariant-loop-byte

@@ -2,7 +2,7 @@
 use Rattle.std.proofs.Common.{◌≡◌, ℕ, List, None, inl, inr, codes}
 use Rattle.std.proofs.lemmas.Result.{err_from_is_err_and}
 use Rattle.clap.specs.Words.{Row, first_of, found_of, rows_of}
-use Rattle.run_words.specs.Asking.{AsksNumber, AsksShown}
+use Rattle.run_words.specs.RunWords.{AsksNumber, AsksShown}
 use Rattle.run_words.specs.declared.asked.Shown.{Shown}
 use Rattle.run_words.specs.declared.asked.Shown.TheVariants as shown
 use Rattle.run_words.proofs.reading.hall_in.Goals as goal

@@ -2,10 +2,10 @@
 use Rattle.std.proofs.Common.{◌≡◌, ℕ, List, codes, sym, subst, ◌∙◌}
 use Rattle.clap.specs.Words.{found_of, rows_of}
 use Rattle.quorum.specs.Quorums.{IsLawful, Quorums}
-use Rattle.run_words.specs.Asking.{AreDigits}
+use Rattle.run_words.specs.RunWords.{AreDigits}
 use Rattle.run_words.proofs.Digits.{same_votes}
 use Rattle.run_words.proofs.Numbers.{one_number, same_text}
-use Rattle.run_words.proofs.quorums.voted.Goals as goal
+use Rattle.run_words.proofs.quorums.quorums_of_votes.Goals as goal
 
 lawful_as : (q : Quorums) (votes : List ℕ) (ask put : ℕ) → votes ≡ q.votes → ask ≡ q.ask → put ≡ q.put → IsLawful q → IsLawful (record { votes = votes; ask = ask; put = put })
 lawful_as q votes ask put votes_are ask_is put_is lawful =
