@@ -1,4 +1,4 @@
 pub mod Calling
 pub mod Lists
-pub mod Parting
+pub mod EachCaller
 pub mod Seating

@@ -7,8 +7,8 @@ use Rattle.workload.specs.declared.load.LoadOptions.{LoadOptions}
 use Rattle.world_steps.specs.Configs.{Config}
 use Rattle.store_load.specs.Callers.{AreCalled}
 use Rattle.store_load.specs.declared.callers.Called.{Called}
-use Rattle.store_load.specs.declared.loaded.Loaded.{Loaded}
-use Rattle.store_load.specs.declared.loaded.Refused.{Refused}
+use Rattle.store_load.specs.declared.load_run.Loaded.{Loaded}
+use Rattle.store_load.specs.declared.load_run.Refused.{Refused}
 
 -- what is fixed of each hall's world
 abbrev pub world_of : LoadOptions → Config

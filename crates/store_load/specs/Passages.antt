@@ -12,6 +12,6 @@ abbrev pub passage_of : ℕ → ℕ → ℕ → Passage
 passage_of drop double number = if is_hit drop number then Drop else if is_hit double number then Twice else Go
 
 -- every so many-th parcel is lost, and of the others every so many-th goes twice; 0 for none
-pub record Counted : Type 0 where
+pub record ParcelCounts : Type 0 where
   pub drop : ℕ
   pub double : ℕ

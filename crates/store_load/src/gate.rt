@@ -52,9 +52,9 @@ pub struct CountingGate<L> {
 }
 
 impl<L> Model for CountingGate<L> {
-    ghost use Rattle.store_load.specs.Passages.{Counted};
+    ghost use Rattle.store_load.specs.Passages.{ParcelCounts};
 
-    ghost Value = { Counted };
+    ghost Value = { ParcelCounts };
 
     ghost view = { λ gate. record { drop = gate.drop; double = gate.double } };
 }

@@ -7,9 +7,9 @@
 mod callers;
 mod error;
 mod gate;
-mod loaded;
+mod load_run;
 
 pub use callers::Called;
 pub use error::LoadError;
 pub use gate::{CountingGate, NoWatch, Watch, passage};
-pub use loaded::{Loaded, Refused, run_load};
+pub use load_run::{Loaded, Refused, run_load};

@@ -9,7 +9,7 @@ use Rattle.node_threads.specs.declared.errors.CloseError.{CloseError}
 use Rattle.node_threads.specs.declared.errors.CloseError.TheVariants as close
 use Rattle.run_words.specs.declared.asked.RunAsked.{RunAsked}
 use Rattle.store_load.specs.Loads.{IsLoaded}
-use Rattle.store_load.specs.declared.loaded.Loaded.{Loaded}
+use Rattle.store_load.specs.declared.load_run.Loaded.{Loaded}
 use Rattle.store_run.specs.Judged.{JudgesHalls}
 use Rattle.store_run.specs.Runs.{Ends, EndsClosed, EndsRun, Sends, status_of_close, status_of_judging}
 use Rattle.store_run.specs.declared.judging.RefusedKey.{RefusedKey}

@@ -1,6 +1,6 @@
 use Rattle.std.proofs.Common.{ap, ◌∙◌}
 use Rattle.store_load.specs.Callers.{work_of}
-use Rattle.store_load.proofs.Parting.{more}
+use Rattle.store_load.proofs.EachCaller.{more}
 use Rattle.store_load.proofs.Seating.{new_left}
 use Rattle.store_load.proofs.callers.start_all.Goals as goal
 

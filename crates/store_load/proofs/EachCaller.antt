@@ -4,7 +4,7 @@ use Rattle.std.proofs.lemmas.List.{append_assoc, map-append}
 use Rattle.node_threads.specs.Seats.{Seat}
 use Rattle.store_load.specs.Loads.{refusals_of, refused_of}
 use Rattle.store_load.specs.declared.callers.Called.{Called}
-use Rattle.store_load.specs.declared.loaded.Refused.{Refused}
+use Rattle.store_load.specs.declared.load_run.Refused.{Refused}
 
 -- what is made of the elements before and of those that are left, with one more
 pub more : {X Y W : Type 0} (f : X → W) (g : Y → W) (xs now : List X) (x : X) (y : Y) (rest left : List Y) (all : List W) → map f xs ++ map g rest ≡ all → rest ≡ y ∷ left → now ≡ xs ++ x ∷ [] → f x ≡ g y

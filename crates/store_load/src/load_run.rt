@@ -84,7 +84,10 @@ fn add_refusal(
 }
 
 /// The callers' seats, and those whose calls were refused.
-fn parted(alloc: Global, callers: Vec<Called>) -> Result<(Vec<Seat>, Vec<Refused>), LoadError>
+fn split_callers(
+    alloc: Global,
+    callers: Vec<Called>,
+) -> Result<(Vec<Seat>, Vec<Refused>), LoadError>
     ensures seats { IfOk result (λ both. both.0.items ≡ map (λ c. c.seat) callers.items) }
     ensures refused { IfOk result (λ both. both.1.items ≡ refusals_of callers.items) }
 {
@@ -115,7 +118,7 @@ where
     let store = start(rt, alloc, &options, watch)?;
     let seats = join_all(rt, alloc, &store, count)?;
     let callers = call_together(rt, alloc, &store, seats, keys, calls)?;
-    let (seats, refusals) = parted(alloc, callers)?;
+    let (seats, refusals) = split_callers(alloc, callers)?;
     Ok(Loaded {
         refusals,
         closed: store.close(rt, alloc, seats),

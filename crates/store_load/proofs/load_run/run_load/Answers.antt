@@ -6,7 +6,7 @@ use Rattle.workload.specs.declared.load.LoadOptions.{LoadOptions}
 use Rattle.store_load.specs.Callers.{AreCalled}
 use Rattle.store_load.specs.Loads.{store_of}
 use Rattle.store_load.proofs.Seating.{called}
-use Rattle.store_load.proofs.loaded.run_load.Goals as goal
+use Rattle.store_load.proofs.load_run.run_load.Goals as goal
 
 pub returns : goal.returns
 returns g c =

@@ -1,7 +1,7 @@
 use Rattle.std.proofs.Common.{◌≡◌, ◌++◌, map}
 use Rattle.store_load.specs.Loads.{refusals_of}
 use Rattle.store_load.specs.declared.callers.Called.{Called}
-use Rattle.store_load.proofs.loaded.parted.Given as goal
+use Rattle.store_load.proofs.load_run.split_callers.Given as goal
 
 abbrev pub invariant-loop-called : goal.invariant-loop-called
 invariant-loop-called l =
