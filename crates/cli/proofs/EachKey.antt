@@ -22,13 +22,13 @@ use Rattle.parallel_keys.specs.Histories.{AreOn, KeyVerdicts}
 use Rattle.parallel_keys.specs.CheckedKeys.{AreDistinct, CheckedKey, KeyParts, given_order, is_other, checked_keys}
 use Rattle.parallel_keys.specs.Fronts.{place_before}
 use Rattle.parallel_keys.specs.Given.{given_at}
-use Rattle.cli.specs.Checks.{IsYes, IsNo, Judges}
-use Rattle.cli.specs.Judging.{SaysAll}
+use Rattle.cli.specs.Checks.{IsYes, IsNo, IsStatusOf}
+use Rattle.cli.specs.VerdictStatuses.{SaysAll}
 use Rattle.cli.specs.declared.status.Status.{Status}
 use Rattle.cli.specs.declared.status.Status.TheVariants.{Good, Refused, Usage, Format, Failed}
 use Rattle.cli.proofs.Entries.{contains_nothing, contains_head, contains_tail, found_entry}
 use Rattle.cli.proofs.HallParts.{HaveParts}
-use Rattle.cli.proofs.Judged.{judged_of, other_at, recorded_at}
+use Rattle.cli.proofs.CheckedKeys.{checked_of, other_at, recorded_at}
 
 -- orders that pieces were joined to have no key twice
 pub distinct : (pieces orders : List KeyOrder) → AreJoined pieces orders → AreDistinct orders
@@ -121,7 +121,7 @@ is_nothing (Some x) is = absurd (cc)
 
 module _ (halls : List Recorded) (parts : KeyParts) (have : HaveParts halls parts) where
   module _ (pieces orders : List KeyOrder) (verdicts : KeyVerdicts) (joined : AreJoined pieces orders) (on : AreOn (checked_keys parts orders) verdicts) where
-    -- where all verdicts are yes, what is judged at a place is an order
+    -- where all verdicts are yes, what is checked at a place is an order
     yes_at : SaysAll verdicts Good → (k : ℕ) (one : CheckedKey) → slice_get (checked_keys parts orders) k ≡ Some one → IsOrder one.part one.order
     yes_at all k one at =
         let within = slice_get_within (checked_keys parts orders) k one at in
@@ -135,8 +135,8 @@ module _ (halls : List Recorded) (parts : KeyParts) (have : HaveParts halls part
         unrecorded none = elim (held orders key) [
           | inl w ↦
               let other : is_other parts w.1 ≡ true = ap (λ (k : List ℕ). is_none (lookup (bytes_eq k) parts)) w.3 ∙ ap is_none none in
-              let judged = other_at parts orders w.0 w.1 w.2 other in
-              subst (λ (order : List OpId). IsOrder [] order) (order_is pieces orders joined w.0 w.1 key w.2 w.3) (yes_at all judged.0 _ judged.1)
+              let checked = other_at parts orders w.0 w.1 w.2 other in
+              subst (λ (order : List OpId). IsOrder [] order) (order_is pieces orders joined w.0 w.1 key w.2 w.3) (yes_at all checked.0 _ checked.1)
           | inr free ↦ subst (λ (order : List OpId). IsOrder [] order) (sym (free_on pieces orders joined key free)) empty_order
         ]
 
@@ -145,19 +145,19 @@ module _ (halls : List Recorded) (parts : KeyParts) (have : HaveParts halls part
         by (Some part) is =
             let h = found_entry parts key part is in
             let at = place_of parts (key, part) h in
-            let judged = recorded_at parts orders at.0 (key, part) at.1 in
-            record { part = part; recorded = have.each key part h; ordered = subst (λ (order : List OpId). IsOrder part order) (given_on pieces orders joined key) (yes_at all judged.0 _ judged.1) }
+            let checked = recorded_at parts orders at.0 (key, part) at.1 in
+            record { part = part; recorded = have.each key part h; ordered = subst (λ (order : List OpId). IsOrder part order) (given_on pieces orders joined key) (yes_at all checked.0 _ checked.1) }
 
     -- a key whose verdict is a fault has no order
     no_at : (one : CheckedKey) (fault : Fault) → IsVerdict one.part one.order (No fault) → (part : List Call) (order : List OpId) → one.part ≡ part → one.order ≡ order → IsOrder part order → ⊥
-    no_at one fault judged part order same_part same_order good = refuted one.part one.order fault judged (rw (same_part, same_order) good)
+    no_at one fault checked part order same_part same_order good = refuted one.part one.order fault checked (rw (same_part, same_order) good)
 
     some_no : SaysAll verdicts Refused → (key : List ℕ) × IsNo halls pieces key
     some_no (k, fault, refused) =
         let within = slice_get_within verdicts k (refused.key, No fault) refused.told in
         let one = get_at (checked_keys parts orders) k (omega (arith, within, on.all)) in
-        let judged = (on.each k one.0 (refused.key, No fault) one.1 refused.told).1 in
-        elim (judged_of parts orders k one.0 one.1) [
+        let checked = (on.each k one.0 (refused.key, No fault) one.1 refused.told).1 in
+        elim (checked_of parts orders k one.0 one.1) [
           | inl w ↦
               let entry = w.1 in
               let order = ap (λ (j : CheckedKey). j.order) (sym w.3) ∙ given_on pieces orders joined entry.0 in (
@@ -165,7 +165,7 @@ module _ (halls : List Recorded) (parts : KeyParts) (have : HaveParts halls part
                 record {
                   part = entry.1;
                   recorded = have.each entry.0 entry.1 (Contains-slice_get parts w.0 entry w.2);
-                  unordered = no_at one.0 fault judged entry.1 (order_on entry.0 pieces) (ap (λ (j : CheckedKey). j.part) (sym w.3)) order;
+                  unordered = no_at one.0 fault checked entry.1 (order_on entry.0 pieces) (ap (λ (j : CheckedKey). j.part) (sym w.3)) order;
                 },
               )
           | inr w ↦
@@ -174,15 +174,15 @@ module _ (halls : List Recorded) (parts : KeyParts) (have : HaveParts halls part
                 record {
                   part = [];
                   recorded = have.none w.1.key (is_nothing (lookup (bytes_eq w.1.key) parts) w.3);
-                  unordered = no_at one.0 fault judged [] (order_on w.1.key pieces) (ap (λ (j : CheckedKey). j.part) (sym w.4)) order;
+                  unordered = no_at one.0 fault checked [] (order_on w.1.key pieces) (ap (λ (j : CheckedKey). j.part) (sym w.4)) order;
                 },
               )
         ]
 
     -- the status says it
-    pub judged_status : (s : Status) → SaysAll verdicts s → Judges halls pieces s
-    judged_status Good all = all_yes all
-    judged_status Refused some = some_no some
-    judged_status Usage none = none
-    judged_status Format none = none
-    judged_status Failed none = none
+    pub status_is : (s : Status) → SaysAll verdicts s → IsStatusOf halls pieces s
+    status_is Good all = all_yes all
+    status_is Refused some = some_no some
+    status_is Usage none = none
+    status_is Format none = none
+    status_is Failed none = none

@@ -6,11 +6,11 @@ use Rattle.history_file.specs.Deliveries.{ReadsAll}
 use Rattle.file_format.specs.HistoriesFormat.{histories_format, MakesHistories}
 use Rattle.cli.specs.Checks.{Stops}
 use Rattle.cli.specs.Justifications.{Justifies, JustifiesHalls}
-use Rattle.cli.specs.Passages.{Passage, Writing}
+use Rattle.cli.specs.Passages.{Passage, WriterStates}
 use Rattle.cli.specs.declared.status.Status.{Status}
 use Rattle.cli.specs.declared.status.Status.TheVariants.{Good, Refused, Usage, Format, Failed}
 
-module _ (reader writer : Passage) (errors : Writing) where
+module _ (reader writer : Passage) (errors : WriterStates) where
   pub justified : (histories : RecordedHalls) → Delivers reader.old reader.new (ReadsAll histories_format MakesHistories reader.new histories) → (s : Status) → JustifiesHalls histories.halls writer errors s → Justifies reader writer errors s
   justified histories read Good (inl (parts, split, (orders, each, sent))) = (orders, (parts, record { histories = histories; read = read; split = split }, each), sent)
   justified histories read Refused (inl (parts, split, refuses)) = (parts, record { histories = histories; read = read; split = split }, refuses)

@@ -3,9 +3,9 @@ mod DeviceFailures
 pub mod EachKey
 pub mod Entries
 pub mod HallParts
-mod Halting
+mod HaltLemmas
 pub mod HistoryEndings
-pub mod Judged
+pub mod CheckedKeys
 mod LineSpelling
 pub mod Told
 pub mod Unmade

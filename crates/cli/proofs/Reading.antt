@@ -1,4 +1,4 @@
--- What was read, and how it was judged.
+-- What was read, and how it was checked.
 use Rattle.std.proofs.Common.{List, inr, refl}
 use Rattle.std.specs.Io.KnownBytes.{Appends}
 use Rattle.recorder.specs.declared.order.KeyOrder.{KeyOrder}
@@ -8,14 +8,14 @@ use Rattle.history_file.specs.Deliveries.{ReadsAll}
 use Rattle.file_format.specs.HistoriesFormat.{histories_format, MakesHistories}
 use Rattle.file_format.specs.OrderFormat.{order_format, MakesJoined, AreJoined}
 use Rattle.counted_devices.specs.Sendings.{Begins}
-use Rattle.cli.specs.Checks.{AreRead, Left, Judges, JudgesRead, Ends}
+use Rattle.cli.specs.Checks.{AreRead, Remainders, IsStatusOf, ChecksRead, Ends}
 use Rattle.cli.specs.Passages.{Passage}
 use Rattle.cli.specs.VerdictLines.{HasLines}
 use Rattle.cli.specs.declared.status.Status.{Status}
 use Rattle.cli.specs.declared.status.Status.TheVariants.{Good, Refused, Usage, Format, Failed}
 
 -- the files that were read: what the status says of them, and what holds of the lines
-module _ (old new : Left) (out : Passage) (histories : RecordedHalls) (orders : List KeyOrder)
+module _ (old new : Remainders) (out : Passage) (histories : RecordedHalls) (orders : List KeyOrder)
     (history_read : Delivers old.history new.history (ReadsAll histories_format MakesHistories new.history histories))
     (read : Delivers old.orders new.orders (ReadsAll order_format MakesJoined new.orders orders)) where
   are_read : AreRead old new histories read.fact.1.items
@@ -30,16 +30,16 @@ module _ (old new : Left) (out : Passage) (histories : RecordedHalls) (orders : 
         };
       }
 
-  judged : (s : Status) → Judges histories.halls read.fact.1.items s → HasLines histories.halls read.fact.1.items (Appends out.old out.new) → JudgesRead old new out s
-  judged s judges lines = record { histories = histories; pieces = read.fact.1.items; read = are_read; judges = judges; lines = lines }
+  checked : (s : Status) → IsStatusOf histories.halls read.fact.1.items s → HasLines histories.halls read.fact.1.items (Appends out.old out.new) → ChecksRead old new out s
+  checked s is lines = record { histories = histories; pieces = read.fact.1.items; read = are_read; is = is; lines = lines }
 
-  pub ends : (s : Status) → ((pieces : List KeyOrder) → AreJoined pieces orders → Judges histories.halls pieces s)
+  pub ends : (s : Status) → ((pieces : List KeyOrder) → AreJoined pieces orders → IsStatusOf histories.halls pieces s)
       → ((pieces : List KeyOrder) → AreJoined pieces orders → HasLines histories.halls pieces (Appends out.old out.new)) → Ends old new out s
-  ends Good judges lines = judged Good (judges read.fact.1.items read.fact.1.made) (lines read.fact.1.items read.fact.1.made)
-  ends Refused judges lines = judged Refused (judges read.fact.1.items read.fact.1.made) (lines read.fact.1.items read.fact.1.made)
-  ends Usage judges lines = judges read.fact.1.items read.fact.1.made
-  ends Format judges lines = absurd (judges read.fact.1.items read.fact.1.made)
-  ends Failed judges lines = absurd (judges read.fact.1.items read.fact.1.made)
+  ends Good is lines = checked Good (is read.fact.1.items read.fact.1.made) (lines read.fact.1.items read.fact.1.made)
+  ends Refused is lines = checked Refused (is read.fact.1.items read.fact.1.made) (lines read.fact.1.items read.fact.1.made)
+  ends Usage is lines = is read.fact.1.items read.fact.1.made
+  ends Format is lines = absurd (is read.fact.1.items read.fact.1.made)
+  ends Failed is lines = absurd (is read.fact.1.items read.fact.1.made)
 
   -- the output failed
   pub breaks : ((pieces : List KeyOrder) → AreJoined pieces orders → HasLines histories.halls pieces (Begins out.old out.new)) → Ends old new out Failed

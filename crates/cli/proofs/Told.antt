@@ -13,34 +13,34 @@ use Rattle.file_format.specs.OrderFormat.{AreJoined}
 use Rattle.parallel_keys.specs.CheckedKeys.{CheckedKey}
 use Rattle.parallel_keys.specs.Histories.{AreOn, AreVerdictsOnHistories, KeyVerdicts}
 use Rattle.parallel_keys.specs.Fronts.{front_more}
-use Rattle.cli.specs.Judging.{SaysAll}
+use Rattle.cli.specs.VerdictStatuses.{SaysAll}
 use Rattle.cli.specs.VerdictLines.{AreLines, AreLinesOf, line_text, lines_text}
 use Rattle.cli.specs.declared.status.Status.TheVariants.{Refused}
 
 -- the verdicts behind the first
-behind : (one : CheckedKey) (judged : List CheckedKey) (told : List ℕ × Verdict) (verdicts : KeyVerdicts) → AreOn (one ∷ judged) (told ∷ verdicts) → AreOn judged verdicts
-behind one judged told verdicts on = record {
+behind : (one : CheckedKey) (checked : List CheckedKey) (told : List ℕ × Verdict) (verdicts : KeyVerdicts) → AreOn (one ∷ checked) (told ∷ verdicts) → AreOn checked verdicts
+behind one checked told verdicts on = record {
   all = omega (arith, on.all);
   each = λ i other said at_other at. on.each (suc i) other said at_other at;
 }
 
--- the lines of verdicts on what is judged
-pub told_lines : (judged : List CheckedKey) (verdicts : KeyVerdicts) → AreOn judged verdicts → AreLines judged (lines_text verdicts)
+-- the lines of verdicts on what is checked
+pub told_lines : (checked : List CheckedKey) (verdicts : KeyVerdicts) → AreOn checked verdicts → AreLines checked (lines_text verdicts)
 told_lines [] [] on = refl
 told_lines [] (told ∷ verdicts) on = absurd (omega (arith, on.all))
-told_lines (one ∷ judged) [] on = absurd (omega (arith, on.all))
-told_lines (one ∷ judged) (told ∷ verdicts) on =
+told_lines (one ∷ checked) [] on = absurd (omega (arith, on.all))
+told_lines (one ∷ checked) (told ∷ verdicts) on =
     let first = on.each 0 one told refl refl in
-    (told.1, lines_text verdicts, first.1, told_lines judged verdicts (behind one judged told verdicts on), rw (sym first.0) refl)
+    (told.1, lines_text verdicts, first.1, told_lines checked verdicts (behind one checked told verdicts on), rw (sym first.0) refl)
 
 -- they are what a check of the history prints
 pub lines_said : (halls : List Recorded) (pieces orders : List KeyOrder) (verdicts : KeyVerdicts) (text : List ℕ) → AreJoined pieces orders → AreVerdictsOnHistories halls orders verdicts → text ≡ lines_text verdicts → AreLinesOf halls pieces text
-lines_said halls pieces orders verdicts text joined judges said = record {
-  parts = judges.parts;
+lines_said halls pieces orders verdicts text joined are said = record {
+  parts = are.parts;
   orders = orders;
-  recorded = judges.recorded;
+  recorded = are.recorded;
   joined = joined;
-  lines = rw said (told_lines _ verdicts judges.checked);
+  lines = rw said (told_lines _ verdicts are.checked);
 }
 
 append_nil : {X : Type 0} (l : List X) → l ++ [] ≡ l

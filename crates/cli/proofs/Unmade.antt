@@ -4,9 +4,9 @@ use Rattle.std.specs.Result.{MatchResult}
 use Rattle.clap.specs.Words.{Row, Text, subcommand_of}
 use Rattle.clap.specs.declared.error.kind.ErrorKind.TheVariants.{MissingSubcommand}
 use Rattle.cli.specs.Words.{abd_app, AreTaken, Asks, AsksNothing, MakesNothing, MakesOf, Says}
-use Rattle.cli.specs.declared.asked.Command.{Command}
-use Rattle.cli.specs.declared.asked.Usage.{Usage}
-use Rattle.cli.specs.declared.asked.Usage.TheVariants as usage
+use Rattle.cli.specs.declared.command_line.Command.{Command}
+use Rattle.cli.specs.declared.command_line.Usage.{Usage}
+use Rattle.cli.specs.declared.command_line.Usage.TheVariants as usage
 
 -- what says that no command is met says it where none is made
 pub nothing : (none : Type 0) (answer : Usage) → Says MissingSubcommand answer → none → MakesNothing none answer

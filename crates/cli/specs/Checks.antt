@@ -42,18 +42,18 @@ pub record IsNo (halls : List Recorded) (pieces : List KeyOrder) (key : List ℕ
   pub unordered : IsOrder part (order_on key pieces) → ⊥
 
 -- the status that says it: all is well where each key's order is one, refused where some key's isn't
-abbrev pub Judges : List Recorded → List KeyOrder → Status → Type 0
-Judges halls pieces status.Good = (key : List ℕ) → IsYes halls pieces key
-Judges halls pieces status.Refused = (key : List ℕ) × IsNo halls pieces key
-Judges halls pieces s = ⊥
+abbrev pub IsStatusOf : List Recorded → List KeyOrder → Status → Type 0
+IsStatusOf halls pieces status.Good = (key : List ℕ) → IsYes halls pieces key
+IsStatusOf halls pieces status.Refused = (key : List ℕ) × IsNo halls pieces key
+IsStatusOf halls pieces s = ⊥
 
 -- what two readers have left
-pub record Left : Type 0 where
+pub record Remainders : Type 0 where
   pub history : Option (List ℕ)
   pub orders : Option (List ℕ)
 
 -- the readers came to their ends, and gave these histories and an order file of these pieces
-pub record AreRead (old new : Left) (histories : RecordedHalls) (pieces : List KeyOrder) : Type 0 where
+pub record AreRead (old new : Remainders) (histories : RecordedHalls) (pieces : List KeyOrder) : Type 0 where
   pub history_read : Delivers old.history new.history (ReadsAll histories_format MakesHistories new.history histories)
   pub orders_read : Delivers old.orders new.orders (ReadsAll order_format (λ header items all. all ≡ items) new.orders pieces)
 
@@ -73,30 +73,30 @@ TellsFault name P (failure.File told fault) = (told.now ≡ name) × P fault
 TellsFault name P f = ⊥
 
 -- the history's reader came to its end, and gave histories
-pub record IsHistoryRead (old new : Left) : Type 0 where
+pub record IsHistoryRead (old new : Remainders) : Type 0 where
   pub histories : RecordedHalls
   pub read : Delivers old.history new.history (ReadsAll histories_format MakesHistories new.history histories)
 
 -- both files were read, and that holds of the lines that a check of them prints
-pub record PrintsRead (old new : Left) (P : List ℕ → Type 0) : Type 0 where
+pub record PrintsRead (old new : Remainders) (P : List ℕ → Type 0) : Type 0 where
   pub histories : RecordedHalls
   pub pieces : List KeyOrder
   pub read : AreRead old new histories pieces
   pub lines : HasLines histories.halls pieces P
 
--- both files were read, the status judges them, and the lines of the verdicts went out
-pub record JudgesRead (old new : Left) (out : Passage) (s : Status) : Type 0 where
+-- both files were read, the status is that of the check, and the lines of the verdicts went out
+pub record ChecksRead (old new : Remainders) (out : Passage) (s : Status) : Type 0 where
   pub histories : RecordedHalls
   pub pieces : List KeyOrder
   pub read : AreRead old new histories pieces
-  pub judges : Judges histories.halls pieces s
+  pub is : IsStatusOf histories.halls pieces s
   pub lines : HasLines histories.halls pieces (Appends out.old out.new)
 
--- what the status of a check says: the files were judged, and the lines went out; or the first of them that can't be read has
+-- what the status of a check says: the files were checked, and the lines went out; or the first of them that can't be read has
 -- a fault; or nothing went out, or a beginning of the lines
-abbrev pub Ends : Left → Left → Passage → Status → Type 0
-Ends old new out status.Good = JudgesRead old new out status.Good
-Ends old new out status.Refused = JudgesRead old new out status.Refused
+abbrev pub Ends : Remainders → Remainders → Passage → Status → Type 0
+Ends old new out status.Good = ChecksRead old new out status.Good
+Ends old new out status.Refused = ChecksRead old new out status.Refused
 Ends old new out status.Usage = ⊥
 Ends old new out status.Format = IsFaulty histories_format old.history new.history ⊎ (IsHistoryRead old new × IsFaulty order_format old.orders new.orders)
 Ends old new out status.Failed = (out.new ≡ out.old) ⊎ PrintsRead old new (Begins out.old out.new)

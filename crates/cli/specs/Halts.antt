@@ -1,12 +1,12 @@
--- Why the judging of a history's keys ends before its time.
+-- Why the check of a history's keys ends before its time.
 use Rattle.std.specs.Prelude.{ℕ, ◌≡◌}
 use Rattle.counted_devices.specs.Counts.{IsOneMore}
 use Rattle.parallel_keys.specs.declared.error.CheckError.{CheckError}
 use Rattle.parallel_keys.specs.declared.error.CheckError.TheVariants as error
-use Rattle.cli.specs.declared.judging.Halt.{Halt}
-use Rattle.cli.specs.declared.judging.Halt.TheVariants as halt
+use Rattle.cli.specs.declared.check_keys.Halt.{Halt}
+use Rattle.cli.specs.declared.check_keys.Halt.TheVariants as halt
 
--- why keys weren't judged
+-- why keys weren't checked
 abbrev pub halt_of : CheckError → Halt
 halt_of error.Memory = halt.Memory
 halt_of error.Thread = halt.Thread

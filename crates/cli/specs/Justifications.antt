@@ -22,7 +22,7 @@ use Rattle.cli.specs.declared.noted_orders.Unjustified.TheVariants as unjustifie
 use Rattle.cli.specs.declared.status.Status.{Status}
 use Rattle.cli.specs.declared.status.Status.TheVariants as status
 use Rattle.cli.specs.Checks.{IsFaulty}
-use Rattle.cli.specs.Passages.{Passage, Tells, Writing}
+use Rattle.cli.specs.Passages.{Passage, Tells, WriterStates}
 use Rattle.cli.specs.VerdictLines.{fault_text}
 
 -- a key with its part
@@ -70,7 +70,7 @@ refusal_text (unjustified.NoOrder key fault) = codes "abd: key " ++ key.now ++ c
 refusal_text unjustified.Memory = codes "abd: no memory\n"
 
 -- a key is refused, and why is told; want of memory tells nothing
-abbrev pub Refuses : Unjustified → Writing → Status → Type 0
+abbrev pub Refuses : Unjustified → WriterStates → Status → Type 0
 Refuses refusal errors status.Refused = (status_of_refusal refusal ≡ status.Refused) × Tells errors (refusal_text refusal)
 Refuses refusal errors status.Failed = Unit {0}
 Refuses refusal errors s = ⊥
@@ -82,19 +82,19 @@ SendsOrders orders writer status.Failed = (writer.new ≡ writer.old) ⊎ Begins
 SendsOrders orders writer s = ⊥
 
 -- the first key without an order is refused, and why is told
-abbrev pub RefusesFirst : List KeyPart → Writing → Type 0
+abbrev pub RefusesFirst : List KeyPart → WriterStates → Type 0
 RefusesFirst parts errors = (refusal : Unjustified) × IsFirstUnjustified parts refusal × Refuses refusal errors status.Refused
 
 -- what the status says of keys with their parts: the text of their orders went out, or one has none,
 -- or all that went out is a beginning of that text
-abbrev pub JustifiesParts : List KeyPart → Passage → Writing → Status → Type 0
+abbrev pub JustifiesParts : List KeyPart → Passage → WriterStates → Status → Type 0
 JustifiesParts parts writer errors status.Good = (orders : List KeyOrder) × AreJustified parts orders × Appends writer.old writer.new (orders_text orders)
 JustifiesParts parts writer errors status.Refused = RefusesFirst parts errors
 JustifiesParts parts writer errors status.Failed = (writer.new ≡ writer.old) ⊎ ((orders : List KeyOrder) × AreJustified parts orders × Begins writer.old writer.new (orders_text orders))
 JustifiesParts parts writer errors s = ⊥
 
 -- what it says of histories by hall: the same of the parts of their keys, hall by hall, or, where they could not be made, that nothing went out
-abbrev pub JustifiesHalls : List Recorded → Passage → Writing → Status → Type 0
+abbrev pub JustifiesHalls : List Recorded → Passage → WriterStates → Status → Type 0
 JustifiesHalls halls writer errors s = ((parts : List KeyParts) × AreHallParts halls parts × JustifiesParts (all_parts parts) writer errors s) ⊎ ((s ≡ status.Failed) × (writer.new ≡ writer.old))
 
 -- the reader came to its end, and gave histories by hall whose keys have these parts
@@ -108,12 +108,12 @@ abbrev pub HasOrders : Passage → List KeyOrder → Type 0
 HasOrders reader orders = (parts : List KeyParts) × HasParts reader parts × AreJustified (all_parts parts) orders
 
 -- the histories have a key without one: why the first such key has none is told
-abbrev pub HasNoOrders : Passage → Writing → Type 0
+abbrev pub HasNoOrders : Passage → WriterStates → Type 0
 HasNoOrders reader errors = (parts : List KeyParts) × HasParts reader parts × RefusesFirst (all_parts parts) errors
 
 -- what the status of a justification says: the text of the orders went out, or a key has none, or the file has a fault,
 -- or all that went out is a beginning of that text
-abbrev pub Justifies : Passage → Passage → Writing → Status → Type 0
+abbrev pub Justifies : Passage → Passage → WriterStates → Status → Type 0
 Justifies reader writer errors status.Good = (orders : List KeyOrder) × HasOrders reader orders × Appends writer.old writer.new (orders_text orders)
 Justifies reader writer errors status.Refused = HasNoOrders reader errors
 Justifies reader writer errors status.Usage = ⊥

@@ -1,9 +1,9 @@
 pub mod Checks
 pub mod Halts
-pub mod Judging
+pub mod VerdictStatuses
 pub mod Justifications
 pub mod Passages
-pub mod Simulated
+pub mod SimulationEndings
 pub mod Statuses
 pub mod VerdictLines
 pub mod Words

@@ -33,11 +33,11 @@ line_text key verdict = key ++ codes ": " ++ verdict_text verdict ++ codes "\n"
 abbrev pub lines_text : KeyVerdicts → List ℕ
 lines_text verdicts = flat_map (λ told. line_text told.0 told.1) verdicts
 
--- the text is a line for each key that is judged, with the verdict on its order
+-- the text is a line for each key that is checked, with the verdict on its order
 abbrev pub AreLines : List CheckedKey → List ℕ → Type 0
 AreLines [] text = text ≡ []
-AreLines (judged ∷ rest) text =
-    (verdict : Verdict) × (lines : List ℕ) × IsVerdict judged.part judged.order verdict × AreLines rest lines × (text ≡ line_text judged.key verdict ++ lines)
+AreLines (checked ∷ rest) text =
+    (verdict : Verdict) × (lines : List ℕ) × IsVerdict checked.part checked.order verdict × AreLines rest lines × (text ≡ line_text checked.key verdict ++ lines)
 
 -- what a check of these histories and pieces of orders prints: first the keys of the histories, hall by hall, in each in
 -- the order in which its rows first see them, then those that only the pieces have, in the order in which they first stand there

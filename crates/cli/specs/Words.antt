@@ -8,10 +8,10 @@ use Rattle.clap.specs.declared.error.kind.ErrorKind.TheVariants.{DisplayHelp, Di
 use Rattle.parallel_keys.specs.Workers.{IsCount}
 use Rattle.run_words.specs.RunWords.{AsksRun}
 use Rattle.run_words.specs.Options.{run_app}
-use Rattle.cli.specs.declared.asked.Command.{Command}
-use Rattle.cli.specs.declared.asked.Command.TheVariants.{Check, Justify, Run, Simulate}
-use Rattle.cli.specs.declared.asked.Usage.{Usage}
-use Rattle.cli.specs.declared.asked.Usage.TheVariants as usage
+use Rattle.cli.specs.declared.command_line.Command.{Command}
+use Rattle.cli.specs.declared.command_line.Command.TheVariants.{Check, Justify, Run, Simulate}
+use Rattle.cli.specs.declared.command_line.Usage.{Usage}
+use Rattle.cli.specs.declared.command_line.Usage.TheVariants as usage
 
 -- a word that has to be there
 abbrev pub needed_word : Text → Rule

@@ -8,7 +8,7 @@ ghost use Rattle.file_format.specs.OrderFormat.{order_format, MakesJoined};
 ghost use Rattle.cli.specs.Checks.{Ends, Stops, TellsFault};
 ghost use Rattle.cli.specs.Statuses.{status_of};
 
-use crate::judging::{Halt, judge};
+use crate::check_keys::{Halt, check_keys};
 use crate::status::{Failure, Status};
 use counted_devices::{CountedRead, CountedWrite};
 use history_file::{read_histories, read_orders};
@@ -84,11 +84,11 @@ fn orders_in<'a, R: CountedRead>(
 /// keys of the history hall by hall, in each in the order in which it first sees them, then those
 /// that only the orders have.
 ///
-/// What goes to `out` is those lines, once all keys are judged, or after a failure of `out` a
+/// What goes to `out` is those lines, once all keys are checked, or after a failure of `out` a
 /// beginning of them; nothing where either file has a fault. A fault of the orders is answered only
 /// where the history was read whole. A failure is said on `errors`. `Good` where every line says
 /// yes, `Refused` where one says no. The lines and the status are the same for every number of
-/// workers, each of which judges its share of the keys.
+/// workers, each of which checks its share of the keys.
 pub fn check_command<'a, H: CountedRead, O: CountedRead, W: CountedWrite, E: Write>(
     rt: &(impl Threads + Wait + Sync),
     alloc: Global,
@@ -121,7 +121,7 @@ pub fn check_command<'a, H: CountedRead, O: CountedRead, W: CountedWrite, E: Wri
         Ok(orders) => orders,
         Err(failure) => return failure.report(errors),
     };
-    match judge(rt, alloc, &histories, orders.as_slice(), workers, out) {
+    match check_keys(rt, alloc, &histories, orders.as_slice(), workers, out) {
         Ok(status) => status,
         Err(Halt::Output) => Failure::Output.report(errors),
         Err(Halt::Memory) => Failure::Memory.report(errors),

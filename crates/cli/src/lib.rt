@@ -4,10 +4,10 @@
 //! of a command line ask for.
 #![tactic(auto)]
 
-mod asked;
 mod check;
+mod check_keys;
+mod command_line;
 mod help;
-mod judging;
 mod justify;
 mod noted_orders;
 mod simulate;
@@ -15,8 +15,8 @@ mod status;
 mod verdict_lines;
 mod words;
 
-pub use asked::{Command, Usage};
 pub use check::{Source, check_command};
+pub use command_line::{Command, Usage};
 pub use counted_devices::Counting;
 pub use justify::justify_command;
 pub use noted_orders::{Unjustified, checked_orders};

@@ -1,6 +1,6 @@
 //! `abd simulate`: the history of a script's run.
 ghost use Rattle.std.specs.Prelude.{◌≡◌};
-ghost use Rattle.cli.specs.Simulated.{EndsSimulation};
+ghost use Rattle.cli.specs.SimulationEndings.{EndsSimulation};
 
 use crate::check::Source;
 use crate::status::{Failure, Status};

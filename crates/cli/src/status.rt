@@ -11,7 +11,7 @@ use thiserror::Error;
 /// How a command ended.
 #[derive(Clone, Copy, Debug, PartialEq, Eq)]
 pub enum Status {
-    /// All is as it should be: each key is judged yes, a script was run, or help was asked for.
+    /// All is as it should be: the verdict on each key is yes, a script was run, or help was asked for.
     Good,
     /// A key is refused.
     Refused,

@@ -1,4 +1,4 @@
-//! Verdicts as texts: a line for each key that is judged.
+//! Verdicts as texts: a line for each key that is checked.
 ghost use Rattle.std.specs.Prelude.{◌≡◌, ◌++◌, decimal, OnOk};
 ghost use Rattle.cli.specs.VerdictLines.{fault_text, line_text, verdict_text};
 

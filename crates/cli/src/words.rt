@@ -3,9 +3,9 @@ ghost use Rattle.std.specs.Prelude.{◌≡◌, false, codes, IfOk, IfErr, MatchO
 ghost use Rattle.clap.specs.Words.{app_of, found_of, kind_of, rows_of, rule_of, subcommand_rows_of};
 ghost use Rattle.clap.specs.declared.builder.command.Command.TheViews.{out-Command as fields_of};
 ghost use Rattle.cli.specs.Words.{abd_app, bare_app, check_app, justify_app, needed_word, simulate_app, workers_option, Asks, AsksNothing, MakesAs, MakesNothing, MakesOf, Says};
-ghost use Rattle.cli.specs.declared.asked.Command.{Command};
+ghost use Rattle.cli.specs.declared.command_line.Command.{Command};
 
-use crate::asked::{Command, Usage};
+use crate::command_line::{Command, Usage};
 use crate::help;
 use clap::error::ErrorKind;
 use clap::{Arg, ArgMatches, Error, value_parser};

@@ -7,16 +7,16 @@ use Rattle.cli.proofs.EachKey.{distinct}
 use Rattle.cli.proofs.Reading.{breaks, ends}
 use Rattle.cli.proofs.check.check_command.Goals as goal
 
-pub judge-requires : goal.judge-requires
-judge-requires g c =
+pub check_keys-requires : goal.check_keys-requires
+check_keys-requires g c =
     let read = c.in-Ok-orders_in.ensures.read.fact.1 in
     subst (λ (l : List KeyOrder). AreDistinct l) (sym c.as_slice.ensures.value) (distinct read.items c.in-Ok-orders_in.orders.items read.made)
 
-pub returns-in-Ok-judge-clause-ends : goal.returns-in-Ok-judge-clause-ends
-returns-in-Ok-judge-clause-ends g c =
+pub returns-in-Ok-check_keys-clause-ends : goal.returns-in-Ok-check_keys-clause-ends
+returns-in-Ok-check_keys-clause-ends g c =
     let along = λ (pieces : List KeyOrder) (joined : AreJoined pieces c.in-Ok-orders_in.orders.items). subst (λ (l : List KeyOrder). AreJoined pieces l) (sym c.as_slice.ensures.value) joined in
-    ends _ _ _ c.in-Ok.histories c.in-Ok-orders_in.orders.items c.in-Ok.ensures.read c.in-Ok-orders_in.ensures.read c.in-Ok-judge.status
-    (λ pieces joined. c.in-Ok-judge.ensures.judged pieces (along pieces joined)) (λ pieces joined. c.in-Ok-judge.ensures.said pieces (along pieces joined))
+    ends _ _ _ c.in-Ok.histories c.in-Ok-orders_in.orders.items c.in-Ok.ensures.read c.in-Ok-orders_in.ensures.read c.in-Ok-check_keys.status
+    (λ pieces joined. c.in-Ok-check_keys.ensures.checked pieces (along pieces joined)) (λ pieces joined. c.in-Ok-check_keys.ensures.said pieces (along pieces joined))
 
 pub returns-in-Err-Output-clause-ends : goal.returns-in-Err-Output-clause-ends
 returns-in-Err-Output-clause-ends g c =

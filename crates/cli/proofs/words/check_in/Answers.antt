@@ -5,8 +5,8 @@ use Rattle.clap.specs.Words.{Row, Text, first_of, found_of, one_of, rows_of}
 use Rattle.clap.proofs.WalkLemmas.{first_value-rows, one_text-rows}
 use Rattle.parallel_keys.specs.Workers.{IsCount}
 use Rattle.cli.specs.Words.{AsksWorkers, MakesAs}
-use Rattle.cli.specs.declared.asked.Command.{Command}
-use Rattle.cli.specs.declared.asked.Command.TheVariants.{Check, Justify, Run, Simulate}
+use Rattle.cli.specs.declared.command_line.Command.{Command}
+use Rattle.cli.specs.declared.command_line.Command.TheVariants.{Check, Justify, Run, Simulate}
 use Rattle.cli.proofs.CommandNames.{check_is_not_justify, check_is_not_simulate, check_is_not_run}
 use Rattle.cli.proofs.words.check_in.Goals as goal
 

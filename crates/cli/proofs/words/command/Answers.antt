@@ -5,8 +5,8 @@ use Rattle.clap.specs.declared.error.kind.ErrorKind.{ErrorKind}
 use Rattle.clap.specs.declared.error.kind.ErrorKind.TheVariants.{OutOfMemory}
 use Rattle.clap.proofs.OnLiterals.{clap_on_literals}
 use Rattle.cli.specs.Words.{abd_app, AsksNothing, Says}
-use Rattle.cli.specs.declared.asked.Usage.{Usage}
-use Rattle.cli.specs.declared.asked.Usage.TheVariants as usage
+use Rattle.cli.specs.declared.command_line.Usage.{Usage}
+use Rattle.cli.specs.declared.command_line.Usage.TheVariants as usage
 use Rattle.cli.proofs.Unmade.{asked, not_asked}
 use Rattle.cli.proofs.words.command.Goals as goal
 

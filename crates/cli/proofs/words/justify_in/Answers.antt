@@ -3,8 +3,8 @@ use Rattle.std.proofs.Common.{◌≡◌, None, codes, List, refl, sym, ◌∙◌
 use Rattle.clap.specs.Words.{first_of, found_of, rows_of, Row}
 use Rattle.clap.proofs.WalkLemmas.{first_value-rows}
 use Rattle.cli.specs.Words.{MakesAs}
-use Rattle.cli.specs.declared.asked.Command.{Command}
-use Rattle.cli.specs.declared.asked.Command.TheVariants.{Check, Justify, Run, Simulate}
+use Rattle.cli.specs.declared.command_line.Command.{Command}
+use Rattle.cli.specs.declared.command_line.Command.TheVariants.{Check, Justify, Run, Simulate}
 use Rattle.cli.proofs.CommandNames.{check_is_not_justify, justify_is_not_simulate, justify_is_not_run}
 use Rattle.cli.proofs.words.justify_in.Goals as goal
 

@@ -7,12 +7,12 @@ use Rattle.parallel_keys.specs.Histories.{KeyVerdicts}
 use Rattle.cli.specs.declared.status.Status.{Status}
 use Rattle.cli.specs.declared.status.Status.TheVariants as status
 
--- the key at a place is judged no
+-- the verdict on the key at a place is no
 pub record IsRefusedAt (verdicts : KeyVerdicts) (i : ℕ) (fault : Fault) : Type 0 where
   pub key : List ℕ
   pub told : slice_get verdicts i ≡ Some (key, No fault)
 
--- the status says it: each key is judged yes, or one is judged no
+-- the status says it: the verdict on each key is yes, or on one it is no
 abbrev pub SaysAll : KeyVerdicts → Status → Type 0
 SaysAll verdicts status.Good = (i : ℕ) (told : List ℕ × Verdict) → slice_get verdicts i ≡ Some told → told.1 ≡ Yes
 SaysAll verdicts status.Refused = (i : ℕ) × (fault : Fault) × IsRefusedAt verdicts i fault

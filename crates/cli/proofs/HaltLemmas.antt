@@ -1,8 +1,8 @@
--- Why keys weren't judged, as a judging says it.
+-- Why keys weren't checked, as a check says it.
 use Rattle.std.proofs.Common.{ℕ, ◌≡◌, refl}
 use Rattle.parallel_keys.specs.declared.error.CheckError.{CheckError}
 use Rattle.parallel_keys.specs.declared.error.CheckError.TheVariants.{Memory, Thread}
-use Rattle.cli.specs.declared.judging.Halt.TheVariants as halt
+use Rattle.cli.specs.declared.check_keys.Halt.TheVariants as halt
 use Rattle.cli.specs.Halts.{Halts, halt_of}
 
 -- nothing went out

@@ -5,7 +5,7 @@ use run_words::RunAsked;
 /// What a command line asks for.
 #[derive(Clone, Copy, Debug, PartialEq, Eq)]
 pub enum Command<'a> {
-    /// To judge the orders of a history's keys, by so many workers.
+    /// To check the orders of a history's keys, by so many workers.
     Check {
         history: &'a str,
         orders: &'a str,

@@ -1,4 +1,4 @@
--- What is judged of the keys, by place.
+-- What is checked of the keys, by place.
 use Rattle.std.proofs.Common.{ℕ, zero, suc, ◌≡◌, ◌⊎◌, inl, inr, Bool, true, false, cond, List, [], ◌∷◌, ◌++◌, Some, map, filter, refl, sym, ap, ◌∙◌}
 use Rattle.std.specs.List.{slice_get}
 use Rattle.std.specs.Option.{option_map}
@@ -54,7 +54,7 @@ made_of f (x ∷ xs) zero y h = (x, refl, cc)
 made_of f (x ∷ xs) (suc i) y h = made_of f xs i y h
 
 module _ (parts : KeyParts) (orders : List KeyOrder) where
-  -- a key that has a part is judged, and one that only the orders have
+  -- a key that has a part is checked, and one that only the orders have
   pub recorded_at : (i : ℕ) (entry : List ℕ × List Call) → slice_get parts i ≡ Some entry → (k : ℕ) × (slice_get (checked_keys parts orders) k ≡ Some (recorded_key orders entry))
   recorded_at i entry at = (i, at_first (map (recorded_key orders) parts) (map other_key (filter (is_other parts) orders)) i (recorded_key orders entry) (made_at (recorded_key orders) parts i entry at))
 
@@ -63,11 +63,11 @@ module _ (parts : KeyParts) (orders : List KeyOrder) where
       let kept = kept_at (is_other parts) orders i one at other in
       at_second (map (recorded_key orders) parts) (map other_key (filter (is_other parts) orders)) kept.0 (other_key one) (made_at other_key (filter (is_other parts) orders) kept.0 one kept.1)
 
-  -- a key that is judged is one or the other
-  pub judged_of : (k : ℕ) (one : CheckedKey) → slice_get (checked_keys parts orders) k ≡ Some one
+  -- a key that is checked is one or the other
+  pub checked_of : (k : ℕ) (one : CheckedKey) → slice_get (checked_keys parts orders) k ≡ Some one
       → ((i : ℕ) × (entry : List ℕ × List Call) × (slice_get parts i ≡ Some entry) × (recorded_key orders entry ≡ one))
       ⊎ ((i : ℕ) × (order : KeyOrder) × (slice_get orders i ≡ Some order) × (is_other parts order ≡ true) × (other_key order ≡ one))
-  judged_of k one at = elim (of_either (map (recorded_key orders) parts) (map other_key (filter (is_other parts) orders)) k one at) [
+  checked_of k one at = elim (of_either (map (recorded_key orders) parts) (map other_key (filter (is_other parts) orders)) k one at) [
     | inl w ↦ let made = made_of (recorded_key orders) parts k one w in inl (k, made.0, made.1, made.2)
     | inr w ↦
         let made = made_of other_key (filter (is_other parts) orders) w.0 one w.1 in

@@ -1,13 +1,13 @@
-//! Judging the orders of the keys of histories, with a line for each.
+//! The check of the orders of the keys of histories, with a line for each.
 ghost use Rattle.std.specs.Prelude.{◌≡◌, List, IfOk, IfErr, OnOk};
 ghost use Rattle.std.specs.Io.KnownBytes.{Appends};
 ghost use Rattle.recorder.specs.declared.order.KeyOrder.{KeyOrder};
 ghost use Rattle.counted_devices.specs.Sendings.{Begins};
 ghost use Rattle.file_format.specs.OrderFormat.{AreJoined};
 ghost use Rattle.parallel_keys.specs.CheckedKeys.{AreDistinct};
-ghost use Rattle.cli.specs.Checks.{Judges};
+ghost use Rattle.cli.specs.Checks.{IsStatusOf};
 ghost use Rattle.cli.specs.Halts.{Halts};
-ghost use Rattle.cli.specs.Judging.{SaysAll};
+ghost use Rattle.cli.specs.VerdictStatuses.{SaysAll};
 ghost use Rattle.cli.specs.VerdictLines.{HasLines, lines_text};
 
 use crate::status::Status;
@@ -21,7 +21,7 @@ use std::sync::Wait;
 use std::thread::Threads;
 use tag::{Key, Memory};
 
-/// Why judging ended before its time.
+/// Why a check ended before its time.
 #[derive(Clone, Copy, Debug)]
 pub enum Halt {
     /// The output failed.
@@ -34,7 +34,7 @@ pub enum Halt {
 
 impl From<Memory> for Halt {
     ghost use Rattle.std.specs.Prelude.{◌≡◌};
-    ghost use Rattle.cli.specs.declared.judging.Halt.TheVariants.{Memory};
+    ghost use Rattle.cli.specs.declared.check_keys.Halt.TheVariants.{Memory};
 
     ghost from_gives = { λ _ e. e ≡ Memory };
 
@@ -68,7 +68,7 @@ fn lines_of(alloc: Global, verdicts: &[(Key, Verdict)]) -> Result<Vec<u8>, Memor
     Ok(text)
 }
 
-/// How a judging ends: `Good` where each key is judged yes, `Refused` where one isn't.
+/// How a check ends: `Good` where each key's verdict is yes, `Refused` where one isn't.
 fn status_of(verdicts: &[(Key, Verdict)]) -> Status
     ensures { SaysAll verdicts.now result }
 {
@@ -81,9 +81,9 @@ fn status_of(verdicts: &[(Key, Verdict)]) -> Status
     Status::Good
 }
 
-/// Judges histories by the orders of an order file, and says a line for each key once all are
-/// judged: `Good` where every line says yes, `Refused` where one says no.
-pub(crate) fn judge<R: Threads + Wait, W: CountedWrite>(
+/// Checks the orders of an order file, and says a line for each key of the histories and the orders
+/// once all are checked: `Good` where every line says yes, `Refused` where one says no.
+pub(crate) fn check_keys<R: Threads + Wait, W: CountedWrite>(
     rt: &R,
     alloc: Global,
     histories: &Histories,
@@ -92,8 +92,8 @@ pub(crate) fn judge<R: Threads + Wait, W: CountedWrite>(
     out: &mut W,
 ) -> Result<Status, Halt>
     requires { AreDistinct orders.now }
-    ensures judged { IfOk result (λ status. (pieces : List KeyOrder) → AreJoined pieces orders.now
-        → Judges histories.now.halls pieces status) }
+    ensures checked { IfOk result (λ status. (pieces : List KeyOrder) → AreJoined pieces orders.now
+        → IsStatusOf histories.now.halls pieces status) }
     ensures said { OnOk result ((pieces : List KeyOrder) → AreJoined pieces orders.now
         → HasLines histories.now.halls pieces
         (Appends (W.contents out.old) (W.contents out.new))) }
@@ -103,8 +103,8 @@ pub(crate) fn judge<R: Threads + Wait, W: CountedWrite>(
     ensures output { IfErr result (λ halt. Halts W.failures halt out.old out.new) }
 {
     let _halls = histories.halls();
-    let judged = check_histories(rt, alloc, histories, orders, workers, &NoGate)?;
-    let verdicts = judged.as_slice();
+    let checked = check_histories(rt, alloc, histories, orders, workers, &NoGate)?;
+    let verdicts = checked.as_slice();
     let text = lines_of(alloc, verdicts)?;
     match write_text(text.as_slice(), out) {
         Ok(()) => Ok(status_of(verdicts)),
