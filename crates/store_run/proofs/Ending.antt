@@ -10,14 +10,14 @@ use Rattle.node_threads.specs.declared.errors.CloseError.TheVariants as close
 use Rattle.run_words.specs.declared.asked.RunAsked.{RunAsked}
 use Rattle.store_load.specs.Loads.{IsLoaded}
 use Rattle.store_load.specs.declared.load_run.Loaded.{Loaded}
-use Rattle.store_run.specs.Judged.{JudgesHalls}
-use Rattle.store_run.specs.Runs.{Ends, EndsClosed, EndsRun, Sends, status_of_close, status_of_judging}
-use Rattle.store_run.specs.declared.judging.RefusedKey.{RefusedKey}
+use Rattle.store_run.specs.RecordVerdicts.{IsFirstNoOfHalls}
+use Rattle.store_run.specs.Runs.{Ends, EndsClosed, EndsRun, Sends, status_of_close, status_of_check}
+use Rattle.store_run.specs.declared.check_record.RefusedKey.{RefusedKey}
 
--- the text went out, and the keys were judged
-pub ends_judged : (asked : RunAsked) (halls : List ClosedHall) (out : Passage) (first : Option RefusedKey) → JudgesHalls halls first → Sends asked halls (Appends out.old out.new) → Ends asked halls out (status_of_judging first)
-ends_judged asked halls out None judged sends = (judged, sends)
-ends_judged asked halls out (Some refused) judged sends = ((refused, judged), sends)
+-- the text went out, and the keys were checked
+pub ends_checked : (asked : RunAsked) (halls : List ClosedHall) (out : Passage) (first : Option RefusedKey) → IsFirstNoOfHalls halls first → Sends asked halls (Appends out.old out.new) → Ends asked halls out (status_of_check first)
+ends_checked asked halls out None checked sends = (checked, sends)
+ends_checked asked halls out (Some refused) checked sends = ((refused, checked), sends)
 
 -- the store was closed
 pub ends_closed : (asked : RunAsked) (out : Passage) (s : Status) → EndsClosed asked out s → EndsRun asked out s

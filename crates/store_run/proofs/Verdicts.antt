@@ -4,8 +4,8 @@ use Rattle.std.proofs.lemmas.Option.{slice_get_within}
 use Rattle.certificate_check.specs.declared.verdict.Verdict.{Verdict}
 use Rattle.certificate_check.specs.declared.verdict.Verdict.TheVariants.{Yes, No}
 use Rattle.parallel_keys.specs.Histories.{KeyVerdicts}
-use Rattle.store_run.specs.Judged.{AreYes, IsFirst, IsFirstNo}
-use Rattle.store_run.specs.declared.judging.RefusedKey.{RefusedKey}
+use Rattle.store_run.specs.RecordVerdicts.{AreYes, IsFirst, IsFirstNo}
+use Rattle.store_run.specs.declared.check_record.RefusedKey.{RefusedKey}
 use Rattle.store_run.proofs.Lists.{item_at, one_more}
 
 -- one more yes

@@ -1,4 +1,4 @@
-pub mod Judged
+pub mod RecordVerdicts
 pub mod Records
 pub mod Runs
 pub mod Shown

@@ -12,10 +12,10 @@ use Rattle.node_threads.specs.declared.errors.CloseError.TheVariants as close
 use Rattle.run_words.specs.declared.asked.RunAsked.{RunAsked}
 use Rattle.store_load.specs.Loads.{IsLoaded}
 use Rattle.store_load.specs.declared.load_run.Loaded.{Loaded}
-use Rattle.store_run.specs.Judged.{JudgesHalls}
+use Rattle.store_run.specs.RecordVerdicts.{IsFirstNoOfHalls}
 use Rattle.store_run.specs.Records.{record_of}
 use Rattle.store_run.specs.Shown.{IsShownText}
-use Rattle.store_run.specs.declared.judging.RefusedKey.{RefusedKey}
+use Rattle.store_run.specs.declared.check_record.RefusedKey.{RefusedKey}
 
 -- the status where the store wasn't closed
 abbrev pub status_of_close : CloseError → Status
@@ -23,19 +23,19 @@ status_of_close close.SeatMismatch = status.Refused
 status_of_close close.Memory = status.Failed
 
 -- the status where it was
-abbrev pub status_of_judging : Option RefusedKey → Status
-status_of_judging None = status.Good
-status_of_judging (Some refused) = status.Refused
+abbrev pub status_of_check : Option RefusedKey → Status
+status_of_check None = status.Good
+status_of_check (Some refused) = status.Refused
 
 -- that holds of the text of what is shown of the halls
 abbrev pub Sends : RunAsked → List ClosedHall → (List ℕ → Type 0) → Type 0
 Sends asked halls P = (text : List ℕ) × IsShownText (record_of halls asked.load.quorums) asked.shown text × P text
 
--- what the status says of closed halls: the text of what is shown went out, and each key of every hall is judged yes, or
--- a key is refused; or nothing went out, or a beginning of that text
+-- what the status says of closed halls: the text of what is shown went out, and the verdict on each key of every
+-- hall is yes, or a key is refused; or nothing went out, or a beginning of that text
 abbrev pub Ends : RunAsked → List ClosedHall → Passage → Status → Type 0
-Ends asked halls out status.Good = JudgesHalls halls None × Sends asked halls (Appends out.old out.new)
-Ends asked halls out status.Refused = ((refused : RefusedKey) × JudgesHalls halls (Some refused)) × Sends asked halls (Appends out.old out.new)
+Ends asked halls out status.Good = IsFirstNoOfHalls halls None × Sends asked halls (Appends out.old out.new)
+Ends asked halls out status.Refused = ((refused : RefusedKey) × IsFirstNoOfHalls halls (Some refused)) × Sends asked halls (Appends out.old out.new)
 Ends asked halls out status.Usage = ⊥
 Ends asked halls out status.Format = ⊥
 Ends asked halls out status.Failed = (out.new ≡ out.old) ⊎ Sends asked halls (Begins out.old out.new)

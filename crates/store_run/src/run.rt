@@ -5,10 +5,12 @@ ghost use Rattle.counted_devices.specs.Counts.{IsOneMore};
 ghost use Rattle.node_threads.specs.Closings.{AreClosed};
 ghost use Rattle.store_run.specs.Runs.{Ends, EndsRun};
 
-use crate::joining::{ClosedRecord, closed_record};
-use crate::judging::first_refused;
+use crate::check_record::first_refused;
+use crate::join_halls::{ClosedRecord, closed_record};
 use crate::shown::shown_text;
-use crate::telling::{tell_check, tell_close, tell_judged, tell_load, tell_no_text, tell_refusals};
+use crate::telling::{
+    tell_check, tell_close, tell_load, tell_no_text, tell_refusals, tell_refused_key,
+};
 use cli::{Failure, Status};
 use counted_devices::{CountedWrite, write_text};
 use node_threads::ClosedHall;
@@ -19,8 +21,8 @@ use std::sync::Wait;
 use std::thread::Threads;
 use store_load::{Loaded, Watch, run_load};
 
-/// Judges the keys of the closed halls, and writes what is shown of their histories.
-#[tactic(auto, using(crate::proofs::Ending::ends_judged))]
+/// Checks the keys of the closed halls, and writes what is shown of their histories.
+#[tactic(auto, using(crate::proofs::Ending::ends_checked))]
 fn finish<R: Threads + Wait, W: CountedWrite, E: Write>(
     rt: &R,
     alloc: Global,
@@ -44,7 +46,7 @@ fn finish<R: Threads + Wait, W: CountedWrite, E: Write>(
         Ok(first) => first,
         Err(error) => return tell_check(error, errors),
     };
-    let status = tell_judged(first, errors);
+    let status = tell_refused_key(first, errors);
     let text = match shown_text(alloc, &histories, asked.shown) {
         Ok(text) => text,
         Err(error) => return tell_no_text(error, errors),
@@ -55,14 +57,14 @@ fn finish<R: Threads + Wait, W: CountedWrite, E: Write>(
     }
 }
 
-/// Runs a store under the load, closes it, judges each key of each hall, and writes the history of the
+/// Runs a store under the load, closes it, checks each key of each hall, and writes the history of the
 /// hall that is shown, or the histories of all halls, by hall.
 ///
-/// `Good` where every key is judged yes. The history is written also where a key is refused; nothing is
-/// where the load wasn't run to its end, the store wasn't closed, or memory ran out. On `errors` is said,
-/// in this order: which callers' calls were refused, why the store wasn't closed, the first key that is
-/// refused, a failure. The watch is told of each call that is about to be answered, on its caller's
-/// thread, and of none once any of this is said.
+/// `Good` where the verdict on every key is yes. The history is written also where a key is refused;
+/// nothing is where the load wasn't run to its end, the store wasn't closed, or memory ran out. On
+/// `errors` is said, in this order: which callers' calls were refused, why the store wasn't closed, the
+/// first key that is refused, a failure. The watch is told of each call that is about to be answered, on
+/// its caller's thread, and of none once any of this is said.
 #[tactic(auto, using(crate::proofs::Ending::ends_closed, crate::proofs::Ending::ends_open))]
 pub fn run_command<R, L, W: CountedWrite, E: Write>(
     rt: &R,

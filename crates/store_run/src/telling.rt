@@ -1,9 +1,9 @@
 //! What is said of a run on standard error. What it refuses is lost, as there is nowhere else to say it.
 ghost use Rattle.std.specs.Prelude.{◌≡◌};
 ghost use Rattle.cli.specs.declared.status.Status.{Status};
-ghost use Rattle.store_run.specs.Runs.{status_of_close, status_of_judging};
+ghost use Rattle.store_run.specs.Runs.{status_of_close, status_of_check};
 
-use crate::judging::RefusedKey;
+use crate::check_record::RefusedKey;
 use crate::shown::NoText;
 use cli::{Failure, Status};
 use node_threads::CloseError;
@@ -46,7 +46,7 @@ pub(crate) fn tell_close<E: Write>(error: CloseError, errors: &mut E) -> Status
     }
 }
 
-/// Says why the keys weren't judged. The status.
+/// Says why the keys weren't checked. The status.
 pub(crate) fn tell_check<E: Write>(error: CheckError, errors: &mut E) -> Status
     ensures { result ≡ Status.Failed }
 {
@@ -70,8 +70,8 @@ pub(crate) fn tell_no_text<E: Write>(error: NoText, errors: &mut E) -> Status
 }
 
 /// Says the first key whose order is refused, if one is. The status.
-pub(crate) fn tell_judged<E: Write>(first: Option<RefusedKey>, errors: &mut E) -> Status
-    ensures { result ≡ status_of_judging first }
+pub(crate) fn tell_refused_key<E: Write>(first: Option<RefusedKey>, errors: &mut E) -> Status
+    ensures { result ≡ status_of_check first }
 {
     let Some(refused) = first else {
         return Status::Good;

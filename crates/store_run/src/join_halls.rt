@@ -22,7 +22,7 @@ pub(crate) struct ClosedRecord {
 
 /// The histories and the orders of closed halls, hall by hall.
 #[derive(Drop)]
-struct Joined {
+struct JoinedHalls {
     histories: Vec<History>,
     orders: Vec<KeyOrder>,
 }
@@ -39,7 +39,7 @@ pub(crate) fn closed_record(
     ensures orders { IfOk result (λ made. made.orders.items ≡ orders_in halls.items) }
     ensures distinct { IfOk result (λ made. AreDistinct made.orders.items) }
 {
-    let Joined { histories, orders } = join_halls(alloc, halls)?;
+    let JoinedHalls { histories, orders } = join_halls(alloc, halls)?;
     match Histories::new(histories, Some(quorums)) {
         Some(histories) => Ok(ClosedRecord { histories, orders }),
         None => Err(NoText::Apart),
@@ -47,7 +47,7 @@ pub(crate) fn closed_record(
 }
 
 /// The histories of the halls, and their orders.
-fn join_halls(alloc: Global, halls: Vec<ClosedHall>) -> Result<Joined, Memory>
+fn join_halls(alloc: Global, halls: Vec<ClosedHall>) -> Result<JoinedHalls, Memory>
     ensures histories { IfOk result (λ all. all.histories.items ≡ histories_in halls.items) }
     ensures orders { IfOk result (λ all. all.orders.items ≡ orders_in halls.items) }
 {
@@ -62,7 +62,7 @@ fn join_halls(alloc: Global, halls: Vec<ClosedHall>) -> Result<Joined, Memory>
         histories.push(history)?;
         append(&mut orders, own)?;
     }
-    Ok(Joined { histories, orders })
+    Ok(JoinedHalls { histories, orders })
 }
 
 /// Puts the further orders behind the others.

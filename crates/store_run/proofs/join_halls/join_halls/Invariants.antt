@@ -1,6 +1,6 @@
 use Rattle.std.proofs.Common.{◌≡◌, ◌++◌}
 use Rattle.store_run.specs.Records.{histories_in, orders_in}
-use Rattle.store_run.proofs.joining.join_halls.Given as goal
+use Rattle.store_run.proofs.join_halls.join_halls.Given as goal
 
 abbrev pub invariant-loop-closed : goal.invariant-loop-closed
 invariant-loop-closed l = record {

@@ -4,7 +4,7 @@ use Rattle.recorder.specs.Histories.{Recorded}
 use Rattle.parallel_keys.specs.CheckedKeys.{AreDistinct}
 use Rattle.store_run.specs.Records.{record_of}
 use Rattle.store_run.proofs.Distinct.{joined_distinct}
-use Rattle.store_run.proofs.joining.closed_record.Goals as goal
+use Rattle.store_run.proofs.join_halls.closed_record.Goals as goal
 
 -- the histories are those of a row of halls, so no two orders are of one key
 pub returns-in-Some-clause-distinct : goal.returns-in-Some-clause-distinct

@@ -1,7 +1,7 @@
-//! Judging the record and the orders that a closed store leaves.
+//! The check of the record and the orders that a closed store leaves.
 ghost use Rattle.std.specs.Prelude.{◌≡◌, IfOk};
 ghost use Rattle.parallel_keys.specs.CheckedKeys.{AreDistinct};
-ghost use Rattle.store_run.specs.Judged.{IsFirstNo, JudgesRecord};
+ghost use Rattle.store_run.specs.RecordVerdicts.{IsFirstNo, IsFirstNoOfRecord};
 
 use certificate_check::{Fault, Verdict};
 use parallel_keys::{CheckError, NoGate, Workers, check_histories};
@@ -46,7 +46,7 @@ pub fn first_refused<R: Threads + Wait>(
     orders: &[KeyOrder],
 ) -> Result<Option<RefusedKey>, CheckError>
     requires { AreDistinct orders.now }
-    ensures { IfOk result (JudgesRecord histories.now.halls orders.now) }
+    ensures { IfOk result (IsFirstNoOfRecord histories.now.halls orders.now) }
 {
     let Some(workers) = Workers::new(1) else {
         unreachable!()
