@@ -1,6 +1,6 @@
 //! A store of three replicas and two halls, as a program would use it: two callers in threads of their own
 //! write and read, while every fifth parcel is lost. The store is then closed, and the order of each key's
-//! calls that it leaves is judged.
+//! calls that it leaves is checked.
 #![tactic(auto)]
 
 use certificate_check::check_part;
