@@ -167,7 +167,7 @@ fn justify<T: AsRef<str> + PartialEq>(parts: &[(T, Vec<Call<T>>)]) {
     }
 }
 
-/// Judges what was read, or justifies it where there are no orders.
+/// Checks what was read, or justifies it where there are no orders.
 fn answer<T: AsRef<str> + Clone + Eq + Hash>(rows: Vec<Row<T>>, orders: Option<&str>, start: Instant) {
     let read = start.elapsed();
     let Some(orders) = orders else {
