@@ -4,7 +4,7 @@ use Rattle.tag.specs.declared.numbers.OpId.{OpId}
 use Rattle.recorder.specs.declared.part.Call.{Call}
 use Rattle.certificate_check.specs.Verdicts.{IsVerdict}
 use Rattle.certificate_check.specs.declared.verdict.Verdict.{Verdict}
-use Rattle.parallel_keys.specs.declared.check.IndexVerdict.{IndexVerdict}
+use Rattle.parallel_keys.specs.declared.check.KeyVerdict.{KeyVerdict}
 
 -- the verdict is that of the part and the order at that index
 pub record IsVerdictAt (parts : List (List Call)) (orders : List (List OpId)) (index : ℕ) (verdict : Verdict) : Type 0 where
@@ -15,9 +15,9 @@ pub record IsVerdictAt (parts : List (List Call)) (orders : List (List OpId)) (i
   pub checked : IsVerdict part order verdict
 
 -- one verdict for each index, in order of index
-pub record AreVerdicts (parts : List (List Call)) (orders : List (List OpId)) (verdicts : List IndexVerdict) : Type 0 where
+pub record AreVerdicts (parts : List (List Call)) (orders : List (List OpId)) (verdicts : List KeyVerdict) : Type 0 where
   pub all : length verdicts ≡ length parts
-  pub each : (i : ℕ) (one : IndexVerdict) → slice_get verdicts i ≡ Some one → (one.index ≡ i) × IsVerdictAt parts orders i one.verdict
+  pub each : (i : ℕ) (one : KeyVerdict) → slice_get verdicts i ≡ Some one → (one.index ≡ i) × IsVerdictAt parts orders i one.verdict
 
 -- the verdicts of worker w of k: those at the indexes w, w + k, w + 2k and so on, turn by turn
 pub record AreTurns (parts : List (List Call)) (orders : List (List OpId)) (w k : ℕ) (verdicts : List Verdict) : Type 0 where

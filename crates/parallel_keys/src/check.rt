@@ -18,7 +18,7 @@ use tag::{Memory, OpId};
 
 /// The verdict on the part and the order at an index.
 #[derive(Clone, Copy, Debug, PartialEq, Eq)]
-pub struct IndexVerdict {
+pub struct KeyVerdict {
     pub index: usize,
     pub verdict: Verdict,
 }
@@ -121,7 +121,7 @@ pub fn check_all<R: Threads + Wait, G: CheckGate + Sync>(
     orders: &[&[OpId]],
     workers: Workers,
     gate: &G,
-) -> Result<Vec<IndexVerdict>, CheckError>
+) -> Result<Vec<KeyVerdict>, CheckError>
     requires { length parts.now ≡ length orders.now }
     ensures { IfOk result (λ verdicts. AreVerdicts (map (λ p. p.now) parts.now)
         (map (λ o. o.now) orders.now) verdicts.items) }

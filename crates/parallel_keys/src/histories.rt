@@ -5,7 +5,7 @@ ghost use Rattle.parallel_keys.specs.Histories.{AreHallParts, AreOn, AreVerdicts
 ghost use Rattle.parallel_keys.specs.IndexVerdicts.{AreVerdicts};
 ghost use Rattle.parallel_keys.specs.KeysToCheck.{what_of};
 
-use crate::check::{IndexVerdict, check_all};
+use crate::check::{KeyVerdict, check_all};
 use crate::collect_keys::{KeyToCheck, keys_to_check};
 use crate::error::CheckError;
 use crate::gate::CheckGate;
@@ -45,7 +45,7 @@ fn orders_of<'a>(alloc: Global, keys: &[KeyToCheck<'a>]) -> Result<Vec<&'a [OpId
 fn with_keys(
     alloc: Global,
     keys: &[KeyToCheck<'_>],
-    verdicts: &[IndexVerdict],
+    verdicts: &[KeyVerdict],
 ) -> Result<Vec<(Key, Verdict)>, Memory>
     requires { AreVerdicts (map (λ p. p.part.now) keys.now)
         (map (λ p. p.order.now) keys.now) verdicts.now }

@@ -16,7 +16,7 @@ mod share;
 mod weave_verdicts;
 mod workers;
 
-pub use check::{IndexVerdict, check_all};
+pub use check::{KeyVerdict, check_all};
 pub use distinct::are_distinct;
 pub use error::CheckError;
 pub use gate::{CheckGate, NoGate};

@@ -2,7 +2,7 @@
 ghost use Rattle.std.specs.Prelude.{◌≡◌, ◌<◌, length, map, IfOk};
 ghost use Rattle.parallel_keys.specs.IndexVerdicts.{AreVerdicts, AreLists};
 
-use crate::check::IndexVerdict;
+use crate::check::KeyVerdict;
 use certificate_check::Verdict;
 use recorder::Part;
 use std::alloc::Global;
@@ -14,7 +14,7 @@ pub(crate) fn weave(
     parts: &[&Part],
     orders: &[&[OpId]],
     lists: &[Vec<Verdict>],
-) -> Result<Vec<IndexVerdict>, Memory>
+) -> Result<Vec<KeyVerdict>, Memory>
     requires some { 0 < length lists.now }
     requires lists { AreLists (map (λ p. p.now) parts.now) (map (λ o. o.now) orders.now)
         (length lists.now) (map (λ v. v.items) lists.now) }
@@ -25,7 +25,7 @@ pub(crate) fn weave(
     let mut verdicts = Vec::with_capacity(alloc, parts.len())?;
     for index in 0..parts.len() {
         let verdict = lists[index % workers][index / workers];
-        verdicts.push(IndexVerdict { index, verdict })?;
+        verdicts.push(KeyVerdict { index, verdict })?;
     }
     Ok(verdicts)
 }
