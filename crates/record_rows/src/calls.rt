@@ -1,10 +1,10 @@
 //! Steps on a history, and questions about it.
 
-use crate::names::{action_of, returned_of, said_equal, tag_of};
+use crate::names::{action_of, returned_of, said_equal, say_tag, tag_of};
 use crate::words::{first_word, number};
-use recorder::{Call, History, KeyOrder, Order, Part, Row, RowRefusal};
+use recorder::{Call, History, KeyOrder, Order, Part, Response, Row, RowRefusal};
 use std::alloc::{AllocError, Global};
-use tag::{Action, ClientId, Key, Memory, OpId, Returned, Tag};
+use tag::{Action, ClientId, Key, Memory, OpId, Returned};
 use witness_order::order_of;
 
 /// `invoke CLIENT KEY read`, or `write TEXT` in place of `read`.
@@ -20,7 +20,8 @@ fn invoke(alloc: Global, history: &mut History, words: &str) -> Option<Result<Op
 /// `note CALL NUMBER WRITER`.
 fn note(history: &mut History, words: &str) -> Option<Result<(), RowRefusal>> {
     let (op, tag) = first_word(words);
-    Some(history.note(OpId(number(op)?), tag_of(tag)?))
+    let (op, tag) = number(op).zip(tag_of(tag))?;
+    Some(history.note(OpId(op), tag))
 }
 
 /// `respond CALL written`, or `none` or `value TEXT` in place of `written`.
@@ -30,60 +31,45 @@ fn respond(alloc: Global, history: &mut History, words: &str) -> Option<Result<(
     Some(history.respond(op, returned_of(alloc, returned)?))
 }
 
-fn said_row_taken(alloc: Global, taken: Result<(), RowRefusal>) -> Result<String, AllocError> {
+fn say_invoked(out: &mut String, taken: Result<OpId, RowRefusal>) -> Result<(), AllocError> {
     match taken {
-        Ok(()) => String::from_str(alloc, "taken\n"),
-        Err(refusal) => format!(in alloc; "refused {refusal:?}\n"),
+        Ok(op) => {
+            let number = op.0;
+            write!(out, "call {number}\n")
+        }
+        Err(refusal) => write!(out, "refused {refusal:?}\n"),
     }
 }
 
-/// What is said of a row that is added, if the words are one.
-fn added(alloc: Global, history: &mut History, line: &str) -> Option<Result<String, AllocError>> {
-    let (word, rest) = first_word(line);
-    let taken = match word {
-        "invoke" => {
-            return match invoke(alloc, history, rest)? {
-                Ok(op) => {
-                    let number = op.0;
-                    Some(format!(in alloc; "call {number}\n"))
-                }
-                Err(refusal) => Some(said_row_taken(alloc, Err(refusal))),
-            };
-        }
-        "note" => note(history, rest)?,
-        "respond" => respond(alloc, history, rest)?,
-        _ => return None,
-    };
-    Some(said_row_taken(alloc, taken))
+fn say_row_taken(out: &mut String, taken: Result<(), RowRefusal>) -> Result<(), AllocError> {
+    match taken {
+        Ok(()) => out.push_str("taken\n"),
+        Err(refusal) => write!(out, "refused {refusal:?}\n"),
+    }
 }
 
-fn said_action(alloc: Global, action: &Action) -> Result<String, AllocError> {
+fn say_action(out: &mut String, action: &Action) -> Result<(), AllocError> {
     match action {
-        Action::Read => String::from_str(alloc, "read"),
+        Action::Read => out.push_str("read"),
         Action::Write(value) => {
             let text = value.as_str();
-            format!(in alloc; "write {text}")
+            write!(out, "write {text}")
         }
     }
 }
 
-fn said_returned(alloc: Global, returned: &Returned) -> Result<String, AllocError> {
+fn say_returned(out: &mut String, returned: &Returned) -> Result<(), AllocError> {
     match returned {
-        Returned::Written => String::from_str(alloc, "written"),
-        Returned::Value(None) => String::from_str(alloc, "none"),
+        Returned::Written => out.push_str("written"),
+        Returned::Value(None) => out.push_str("none"),
         Returned::Value(Some(value)) => {
             let text = value.as_str();
-            format!(in alloc; "value {text}")
+            write!(out, "value {text}")
         }
     }
 }
 
-fn said_tag(alloc: Global, tag: Tag) -> Result<String, AllocError> {
-    let (number, writer) = (tag.number(), tag.writer());
-    format!(in alloc; "({number}, {writer})")
-}
-
-fn said_row(alloc: Global, row: &Row) -> Result<String, AllocError> {
+fn say_row(out: &mut String, row: &Row) -> Result<(), AllocError> {
     match row {
         Row::Invoke {
             op,
@@ -92,68 +78,77 @@ fn said_row(alloc: Global, row: &Row) -> Result<String, AllocError> {
             action,
         } => {
             let (op, client, key) = (op.0, client.get(), key.as_str());
-            let action = said_action(alloc, action)?;
-            format!(in alloc; "call {op}: client {client}, {key}, {action}\n")
+            write!(out, "call {op}: client {client}, {key}, ")?;
+            say_action(out, action)
         }
         Row::Note { op, tag } => {
-            let (op, tag) = (op.0, said_tag(alloc, *tag)?);
-            format!(in alloc; "call {op}: note {tag}\n")
+            let op = op.0;
+            write!(out, "call {op}: note ")?;
+            say_tag(out, *tag)
         }
         Row::Respond { op, returned } => {
-            let (op, returned) = (op.0, said_returned(alloc, returned)?);
-            format!(in alloc; "call {op}: answer {returned}\n")
+            let op = op.0;
+            write!(out, "call {op}: answer ")?;
+            say_returned(out, returned)
         }
     }
 }
 
 /// All rows.
-fn rows(alloc: Global, history: &History) -> Result<String, AllocError> {
-    let mut text = String::new(alloc);
+fn say_rows(out: &mut String, history: &History) -> Result<(), AllocError> {
     for row in history.rows() {
-        text.push_str(said_row(alloc, row)?.as_str())?;
+        say_row(out, row)?;
+        out.push_str("\n")?;
     }
-    Ok(text)
+    Ok(())
 }
 
-fn said_note(alloc: Global, note: Option<Tag>) -> Result<String, AllocError> {
-    match note {
-        Some(tag) => said_tag(alloc, tag),
-        None => String::from_str(alloc, "none"),
+fn say_response(out: &mut String, response: Option<&Response>) -> Result<(), AllocError> {
+    match response {
+        None => out.push_str("pending\n"),
+        Some(response) => {
+            out.push_str("answer ")?;
+            say_returned(out, &response.returned)?;
+            let place = response.place;
+            write!(out, " in row {place}\n")
+        }
     }
 }
 
 /// A call as its part has it.
-fn said_call(alloc: Global, call: &Call) -> Result<String, AllocError> {
+fn say_call(out: &mut String, call: &Call) -> Result<(), AllocError> {
     let (op, client, invoked) = (call.op.0, call.client.get(), call.invoked);
-    let action = said_action(alloc, &call.action)?;
-    let note = said_note(alloc, call.note)?;
-    let answer = match &call.response {
-        None => String::from_str(alloc, "pending")?,
-        Some(response) => {
-            let place = response.place;
-            let returned = said_returned(alloc, &response.returned)?;
-            format!(in alloc; "answer {returned} in row {place}")?
-        }
-    };
-    format!(in alloc; "{op}: client {client}, {action}, in row {invoked}, note {note}, {answer}\n")
+    write!(out, "{op}: client {client}, ")?;
+    say_action(out, &call.action)?;
+    write!(out, ", in row {invoked}, note ")?;
+    match call.note {
+        Some(tag) => say_tag(out, tag)?,
+        None => out.push_str("none")?,
+    }
+    out.push_str(", ")?;
+    say_response(out, call.response.as_ref())
+}
+
+fn say_part(out: &mut String, key: &Key, part: &Part) -> Result<(), AllocError> {
+    out.push_str(key.as_str())?;
+    out.push_str("\n")?;
+    for call in part.calls() {
+        say_call(out, call)?;
+    }
+    Ok(())
 }
 
 /// The keys of the parts in their order, each with its calls.
-fn parts(alloc: Global, history: &History) -> Result<String, Memory> {
-    let mut text = String::new(alloc);
+fn say_parts(out: &mut String, history: &History) -> Result<(), Memory> {
     let parts = history.parts()?;
     for (key, part) in parts.entries() {
-        text.push_str(key.as_str())?;
-        text.push('\n')?;
-        for call in part.calls() {
-            text.push_str(said_call(alloc, call)?.as_str())?;
-        }
+        say_part(out, key, part)?;
     }
-    Ok(text)
+    Ok(())
 }
 
 /// Whether the copies of the rows, and of the history, are equal to them.
-fn copy(history: &History) -> Result<bool, Memory> {
+fn is_copied(history: &History) -> Result<bool, Memory> {
     for row in history.rows() {
         if row.copy()? != *row {
             return Ok(false);
@@ -164,46 +159,65 @@ fn copy(history: &History) -> Result<bool, Memory> {
 }
 
 /// Numbers of calls, as `[0, 1]`.
-fn said_numbers(alloc: Global, ops: &[OpId]) -> Result<String, AllocError> {
-    let mut text = String::from_str(alloc, "[")?;
-    for (i, op) in ops.iter().enumerate() {
+fn say_numbers(out: &mut String, ops: &[OpId]) -> Result<(), AllocError> {
+    let [first, others @ ..] = ops else {
+        return out.push_str("[]\n");
+    };
+    let number = first.0;
+    write!(out, "[{number}")?;
+    for op in others {
         let number = op.0;
-        let comma = if i == 0 { "" } else { ", " };
-        text.push_str(format!(in alloc; "{comma}{number}")?.as_str())?;
+        write!(out, ", {number}")?;
     }
-    text.push_str("]\n")?;
-    Ok(text)
+    out.push_str("]\n")
+}
+
+/// The tag order of a part's calls, or what is missing.
+fn say_order(alloc: Global, out: &mut String, part: &Part) -> Result<(), AllocError> {
+    match order_of(alloc, part) {
+        Ok(order) => say_numbers(out, order.as_slice()),
+        Err(error) => write!(out, "{error}\n"),
+    }
 }
 
 /// The tag order of the calls on a key, or what is missing.
-fn tag_order(alloc: Global, history: &History, key: &str) -> Result<String, Memory> {
+fn say_tag_order(
+    alloc: Global,
+    out: &mut String,
+    history: &History,
+    key: &str,
+) -> Result<(), Memory> {
     let Ok(key) = Key::new(alloc, key) else {
-        return Ok(String::from_str(alloc, "no key\n")?);
+        return Ok(out.push_str("no key\n")?);
     };
     let parts = history.parts()?;
-    let Some(part) = parts.get(&key)? else {
-        return Ok(String::from_str(alloc, "no part\n")?);
-    };
-    match order_of(alloc, part) {
-        Ok(order) => Ok(said_numbers(alloc, order.as_slice())?),
-        Err(error) => Ok(format!(in alloc; "{error}\n")?),
+    match parts.get(&key)? {
+        Some(part) => Ok(say_order(alloc, out, part)?),
+        None => Ok(out.push_str("no part\n")?),
     }
 }
 
-/// The numbers put into an order one by one, which is then taken apart and made again for a key.
-fn numbers(alloc: Global, words: &str) -> Result<String, Memory> {
+/// The numbers, put into an order one by one.
+fn numbered(alloc: Global, words: &str) -> Result<Order, Memory> {
     let mut order = Order::empty(alloc);
     for word in words.split(' ') {
         if let Some(number) = number(word) {
             order.push(OpId(number))?;
         }
     }
-    let Ok(key) = Key::new(alloc, "x") else {
-        return Ok(String::new(alloc));
-    };
-    let order = Order::from_vec(order.into_vec());
-    let named = KeyOrder { key, order };
-    Ok(said_numbers(alloc, named.order.as_slice())?)
+    Ok(order)
+}
+
+/// The numbers put into an order, which is then taken apart and made again for a key.
+fn say_numbered(alloc: Global, out: &mut String, words: &str) -> Result<(), Memory> {
+    let order = Order::from_vec(numbered(alloc, words)?.into_vec());
+    match Key::new(alloc, "x") {
+        Ok(key) => {
+            let named = KeyOrder { key, order };
+            Ok(say_numbers(out, named.order.as_slice())?)
+        }
+        Err(_) => Ok(()),
+    }
 }
 
 /// Whether the client has a pending call.
@@ -216,30 +230,83 @@ fn busy(history: &History, words: &str) -> Option<&'static str> {
     }
 }
 
-/// What is said to a question, if the words are one.
-fn answer(alloc: Global, history: &History, line: &str) -> Result<Option<String>, Memory> {
-    let (word, rest) = first_word(line);
-    Ok(Some(match word {
-        "rows?" => rows(alloc, history)?,
-        "parts?" => parts(alloc, history)?,
-        "calls?" => format!(in alloc; "{}\n", history.calls())?,
-        "limit?" => format!(in alloc; "{}\n", history.limit())?,
-        "copy?" => String::from_str(alloc, said_equal(copy(history)?))?,
-        "order?" => tag_order(alloc, history, rest)?,
-        "numbers" => numbers(alloc, rest)?,
-        "empty" => format!(in alloc; "{} calls\n", Part::empty(alloc).calls().len())?,
-        "busy?" => match busy(history, rest) {
-            Some(text) => String::from_str(alloc, text)?,
-            None => return Ok(None),
+/// Says what comes of a row that is added. Whether the words are one.
+fn say_added(
+    alloc: Global,
+    out: &mut String,
+    history: &mut History,
+    word: &str,
+    rest: &str,
+) -> Result<bool, AllocError> {
+    let taken = match word {
+        "invoke" => match invoke(alloc, history, rest) {
+            Some(taken) => {
+                say_invoked(out, taken)?;
+                return Ok(true);
+            }
+            None => None,
         },
-        _ => return Ok(None),
-    }))
+        "note" => note(history, rest),
+        "respond" => respond(alloc, history, rest),
+        _ => None,
+    };
+    match taken {
+        Some(taken) => {
+            say_row_taken(out, taken)?;
+            Ok(true)
+        }
+        None => Ok(false),
+    }
 }
 
-/// What is said of a step on a history or of a question, if the words are one.
-pub fn step(alloc: Global, history: &mut History, line: &str) -> Result<Option<String>, Memory> {
-    match added(alloc, history, line) {
-        Some(said) => Ok(Some(said?)),
-        None => answer(alloc, history, line),
+/// Says how many calls there are, or may be. Whether that was asked.
+fn say_count(out: &mut String, history: &History, word: &str) -> Result<bool, AllocError> {
+    let count = match word {
+        "calls?" => history.calls(),
+        "limit?" => history.limit() as usize,
+        _ => return Ok(false),
+    };
+    write!(out, "{count}\n")?;
+    Ok(true)
+}
+
+/// Says the answer to a question about the history. Whether the words are one.
+fn say_answer(
+    alloc: Global,
+    out: &mut String,
+    history: &History,
+    word: &str,
+    rest: &str,
+) -> Result<bool, Memory> {
+    match word {
+        "rows?" => say_rows(out, history)?,
+        "parts?" => say_parts(out, history)?,
+        "copy?" => out.push_str(said_equal(is_copied(history)?))?,
+        "order?" => say_tag_order(alloc, out, history, rest)?,
+        "numbers" => say_numbered(alloc, out, rest)?,
+        "empty" => {
+            let count = Part::empty(alloc).calls().len();
+            write!(out, "{count} calls\n")?;
+        }
+        "busy?" => match busy(history, rest) {
+            Some(text) => out.push_str(text)?,
+            None => return Ok(false),
+        },
+        _ => return Ok(say_count(out, history, word)?),
     }
+    Ok(true)
+}
+
+/// Says what comes of a step on a history or of a question. Whether the words are one.
+pub fn say(
+    alloc: Global,
+    out: &mut String,
+    history: &mut History,
+    word: &str,
+    rest: &str,
+) -> Result<bool, Memory> {
+    if say_added(alloc, out, history, word, rest)? {
+        return Ok(true);
+    }
+    say_answer(alloc, out, history, word, rest)
 }

@@ -10,26 +10,32 @@ mod small_parts;
 mod verdicts;
 mod words;
 
-use crate::words::{first_word, number};
 use recorder::History;
 use row_files::{Row, report};
 use std::alloc::Global;
 use std::process::ExitCode;
 use std::{env, fs, io};
 use tag::Memory;
+use words::{first_word, number};
 
-/// What is said of a line.
-fn said(alloc: Global, history: &mut History, line: &str) -> Result<String, Memory> {
-    if let Some(said) = names::step(alloc, line) {
-        return said;
+/// Says what comes of a line.
+fn say_line(
+    alloc: Global,
+    out: &mut String,
+    history: &mut History,
+    line: &str,
+) -> Result<(), Memory> {
+    let (word, rest) = first_word(line);
+    if names::say(alloc, out, word, rest)? {
+        return Ok(());
     }
-    if let Some(said) = verdicts::step(alloc, line) {
-        return Ok(said?);
+    if verdicts::say(alloc, out, word, rest)? {
+        return Ok(());
     }
-    match calls::step(alloc, history, line)? {
-        Some(said) => Ok(said),
-        None => Ok(format!(in alloc; "not understood: {line}\n")?),
+    if calls::say(alloc, out, history, word, rest)? {
+        return Ok(());
     }
+    Ok(write!(out, "not understood: {line}\n")?)
 }
 
 /// How many calls the history of a row may have: what its line `limit` says, else a million.
@@ -42,43 +48,39 @@ fn limit_of(input: &str) -> u32
     }
 }
 
-/// What comes out of a row.
-fn found(alloc: Global, input: &str) -> Result<String, Memory> {
+/// Says what comes of a row's lines.
+fn say_lines(alloc: Global, out: &mut String, input: &str) -> Result<(), Memory> {
     let mut history = History::new(alloc, limit_of(input));
-    let mut text = String::new(alloc);
     for line in input.lines() {
         if !line.starts_with("limit ") {
-            text.push_str(said(alloc, &mut history, line)?.as_str())?;
+            say_line(alloc, out, &mut history, line)?;
         }
     }
-    Ok(text)
+    Ok(())
 }
 
-/// The report of a block, and whether it came out as expected.
-fn told(alloc: Global, block: &str) -> Result<(String, bool), Memory> {
-    match Row::read(block) {
-        Some(row) => {
-            let found = found(alloc, row.input)?;
-            let good = found.as_str() == row.expected;
-            Ok((report(alloc, &row, found.as_str())?, good))
-        }
-        None => Ok((String::from_str(alloc, "NOT A ROW\n")?, false)),
+/// Tells what came of a row. Whether it is as expected.
+fn tell_row(rt: &HostRuntime, block: &str) -> io::Result<bool> {
+    let Some(row) = Row::read(block) else {
+        rt.println("NOT A ROW\n")?;
+        return Ok(false);
+    };
+    let mut found = String::new(rt.alloc());
+    if say_lines(rt.alloc(), &mut found, row.input).is_err() {
+        rt.println("no memory")?;
+        return Ok(false);
     }
+    let text = report(rt.alloc(), &row, found.as_str())?;
+    rt.println(text.as_str())?;
+    Ok(found.as_str() == row.expected)
 }
 
 /// Tells the rows of a file, and whether all are as expected.
-fn tell(rt: &HostRuntime, text: &str) -> io::Result<bool> {
+fn tell_rows(rt: &HostRuntime, text: &str) -> io::Result<bool> {
     let mut all_good = true;
     for block in text.split("\n### ").skip(1) {
-        match told(rt.alloc(), block) {
-            Ok((text, good)) => {
-                rt.println(text.as_str())?;
-                all_good = all_good && good;
-            }
-            Err(_) => {
-                rt.println("no memory")?;
-                all_good = false;
-            }
+        if !tell_row(rt, block)? {
+            all_good = false;
         }
     }
     Ok(all_good)
@@ -89,8 +91,9 @@ fn run(rt: &HostRuntime) -> io::Result<bool> {
     let mut all_good = true;
     for name in env::args(rt)?.skip(1) {
         let text = fs::read_to_string(rt, name.as_str())?;
-        let good = tell(rt, text.as_str())?;
-        all_good = all_good && good;
+        if !tell_rows(rt, text.as_str())? {
+            all_good = false;
+        }
     }
     Ok(all_good)
 }

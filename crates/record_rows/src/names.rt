@@ -22,29 +22,31 @@ pub fn said_equal(equal: bool) -> &'static str {
     if equal { "equal\n" } else { "another\n" }
 }
 
+/// Says a text that was taken, and whether its copy is equal.
+fn say_text(out: &mut String, text: &str, equal: bool) -> Result<(), AllocError> {
+    let equal = said_equal(equal);
+    write!(out, "taken {text}, copy {equal}")
+}
+
 /// The key that it makes of the text, and whether its copy is equal.
-fn key(alloc: Global, text: &str) -> Result<String, Memory> {
-    let text = meant(alloc, text)?;
-    match Key::new(alloc, text.as_str()) {
+fn say_key(alloc: Global, out: &mut String, text: &str) -> Result<(), Memory> {
+    match Key::new(alloc, text) {
         Ok(key) => {
-            let equal = said_equal(key.copy()? == key);
-            let name = key.as_str();
-            Ok(format!(in alloc; "taken {name}, copy {equal}")?)
+            let equal = key.copy()? == key;
+            Ok(say_text(out, key.as_str(), equal)?)
         }
-        Err(error) => Ok(format!(in alloc; "refused {error:?}\n")?),
+        Err(error) => Ok(write!(out, "refused {error:?}\n")?),
     }
 }
 
 /// The value that it makes of the text, and whether its copy is equal.
-fn value(alloc: Global, text: &str) -> Result<String, Memory> {
-    let text = meant(alloc, text)?;
-    match Value::new(alloc, text.as_str()) {
+fn say_value(alloc: Global, out: &mut String, text: &str) -> Result<(), Memory> {
+    match Value::new(alloc, text) {
         Ok(value) => {
-            let equal = said_equal(value.copy()? == value);
-            let text = value.as_str();
-            Ok(format!(in alloc; "taken {text}, copy {equal}")?)
+            let equal = value.copy()? == value;
+            Ok(say_text(out, value.as_str(), equal)?)
         }
-        Err(error) => Ok(format!(in alloc; "refused {error:?}\n")?),
+        Err(error) => Ok(write!(out, "refused {error:?}\n")?),
     }
 }
 
@@ -68,7 +70,7 @@ pub fn returned_of(alloc: Global, words: &str) -> Option<Returned> {
 }
 
 /// Whether the copy of an action or an answer is equal to it.
-fn copy(alloc: Global, words: &str) -> Option<&'static str> {
+fn copied(alloc: Global, words: &str) -> Option<&'static str> {
     if let Some(action) = action_of(alloc, words) {
         return Some(said_equal(action.copy().ok()? == action));
     }
@@ -85,7 +87,8 @@ pub fn tag_of(words: &str) -> Option<Tag> {
 /// How a tag stands to another: `NUMBER WRITER to NUMBER WRITER`.
 fn order(words: &str) -> Option<&'static str> {
     let (one, other) = words.split_once(" to ")?;
-    Some(said_order(tag_of(one)?.cmp(&tag_of(other)?)))
+    let (one, other) = tag_of(one).zip(tag_of(other))?;
+    Some(said_order(one.cmp(&other)))
 }
 
 /// How a call's number stands to another's.
@@ -109,31 +112,43 @@ fn range(word: &str, rest: &str) -> Option<&'static str> {
 }
 
 /// The tag that a client takes after the least: `next CLIENT`.
-fn next(alloc: Global, words: &str) -> Option<Result<String, AllocError>> {
+fn next(words: &str) -> Option<Tag> {
     let client = ClientId::new(number(words)?).ok()?;
-    let next = Tag::least().next(client);
-    let (number, writer) = (next.number(), next.writer());
-    Some(format!(in alloc; "({number}, {writer})\n"))
+    Some(Tag::least().next(client))
 }
 
-fn text_of(alloc: Global, text: &str) -> Option<Result<String, AllocError>> {
-    Some(String::from_str(alloc, text))
+/// Says the tag.
+pub fn say_tag(out: &mut String, tag: Tag) -> Result<(), AllocError> {
+    let (number, writer) = (tag.number(), tag.writer());
+    write!(out, "({number}, {writer})")
 }
 
-/// What is said of a step on names, if it is one.
-pub fn step(alloc: Global, line: &str) -> Option<Result<String, Memory>> {
-    let (word, rest) = first_word(line);
-    let said = match word {
-        "key" => return Some(key(alloc, rest)),
-        "value" => return Some(value(alloc, rest)),
-        "next" => next(alloc, rest),
-        "order" => text_of(alloc, order(rest)?),
-        "calls" => text_of(alloc, calls(rest)?),
-        "copy" => text_of(alloc, copy(alloc, rest)?),
-        _ => text_of(alloc, range(word, rest)?),
-    };
-    match said? {
-        Ok(text) => Some(Ok(text)),
-        Err(_) => Some(Err(Memory)),
+/// What is said of a step on names that has one of a few answers, if it is such a step.
+fn answer(alloc: Global, word: &str, rest: &str) -> Option<&'static str> {
+    match word {
+        "order" => order(rest),
+        "calls" => calls(rest),
+        "copy" => copied(alloc, rest),
+        _ => range(word, rest),
     }
+}
+
+/// Says what comes of a step on names. Whether it is one.
+pub fn say(alloc: Global, out: &mut String, word: &str, rest: &str) -> Result<bool, Memory> {
+    match word {
+        "key" => say_key(alloc, out, meant(alloc, rest)?.as_str())?,
+        "value" => say_value(alloc, out, meant(alloc, rest)?.as_str())?,
+        "next" => match next(rest) {
+            Some(tag) => {
+                say_tag(out, tag)?;
+                out.push_str("\n")?;
+            }
+            None => return Ok(false),
+        },
+        _ => match answer(alloc, word, rest) {
+            Some(text) => out.push_str(text)?,
+            None => return Ok(false),
+        },
+    }
+    Ok(true)
 }

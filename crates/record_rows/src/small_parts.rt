@@ -12,34 +12,26 @@ struct Choice {
     /// 0 and 1 write one of two values, 2 to 4 read.
     kind: u32,
     /// The response stands before the invocation of this later call; none: the call is pending.
-    before: Option<usize>,
+    before: Option<u32>,
 }
 
-/// The choice of that number for call `i` of `count`, and the number of the next calls' choices.
-fn choice_of(number: u32, i: usize, count: usize) -> (Choice, u32) {
-    let places = count.saturating_sub(i) as u64;
-    let all = (places.saturating_mul(5).saturating_add(3))
-        .min(1000)
-        .max(1) as u32;
-    let (mine, rest) = (number % all, number / all);
-    if mine < 3 {
-        return (
-            Choice {
-                kind: mine,
-                before: None,
-            },
-            rest,
-        );
-    }
-    let completed = mine - 3;
-    let before = i.saturating_add(completed as usize / 5);
-    (
-        Choice {
-            kind: completed % 5,
-            before: Some(before),
+/// How many choices there are for a call that has so many places for its response.
+fn choices_of(places: u32) -> u32 {
+    places.saturating_mul(5).saturating_add(3)
+}
+
+/// The choice of that number for call `i`: the first three are pending calls, the others completed ones.
+fn choice_of(number: u32, i: u32) -> Choice {
+    match number.checked_sub(3) {
+        None => Choice {
+            kind: number,
+            before: None,
         },
-        rest,
-    )
+        Some(completed) => Choice {
+            kind: completed % 5,
+            before: Some(i.saturating_add(completed / 5)),
+        },
+    }
 }
 
 fn text_of(kind: u32) -> &'static str {
@@ -63,33 +55,41 @@ fn answer_of(alloc: Global, kind: u32) -> Option<Returned> {
 }
 
 /// Answers the earlier calls whose response stands before the invocation of call `i + 1`.
-fn respond(alloc: Global, history: &mut History, choices: &[Choice], i: usize) -> Option<()> {
-    for (j, earlier) in choices.iter().enumerate() {
+fn respond(alloc: Global, history: &mut History, choices: &[Choice], i: u32) -> Option<()> {
+    let mut call = 0u32;
+    for earlier in choices {
         if earlier.before == Some(i) {
-            let op = OpId((j % 100) as u32);
-            history.respond(op, answer_of(alloc, earlier.kind)?).ok()?;
+            let returned = answer_of(alloc, earlier.kind)?;
+            history.respond(OpId(call), returned).ok()?;
         }
+        call = call.saturating_add(1);
     }
     Some(())
 }
 
-/// The part of that number with so many calls, each by a client of its own.
-fn small_part(alloc: Global, number: u32, count: usize) -> Option<Part> {
+/// Begins call `i`, by a client of its own.
+fn invoke(alloc: Global, history: &mut History, i: u32, kind: u32) -> Option<()> {
+    let client = ClientId::new(i.saturating_add(1)).ok()?;
+    let key = Key::new(alloc, "x").ok()?;
+    let action = action_of(alloc, kind)?;
+    history.invoke(client, key, action).ok()?;
+    Some(())
+}
+
+/// The part of that number with so many calls.
+fn small_part(alloc: Global, number: u32, count: u32) -> Option<Part> {
     let mut history = History::new(alloc, 10);
     let mut choices = Vec::new(alloc);
     let mut rest = number;
     for i in 0..count {
-        let (choice, next) = choice_of(rest, i, count);
-        rest = next;
+        let all = choices_of(count.saturating_sub(i));
+        let choice = choice_of(rest.checked_rem(all)?, i);
+        rest = rest.checked_div(all)?;
         choices.push(choice).ok()?;
-        let client = ClientId::new((i % 100) as u32 + 1).ok()?;
-        let key = Key::new(alloc, "x").ok()?;
-        let action = action_of(alloc, choice.kind)?;
-        history.invoke(client, key, action).ok()?;
+        invoke(alloc, &mut history, i, choice.kind)?;
         respond(alloc, &mut history, choices.as_slice(), i)?;
     }
-    let mut parts = history.parts().ok()?.into_entries();
-    match parts.pop() {
+    match history.parts().ok()?.into_entries().pop() {
         Some((_, part)) => Some(part),
         None => Some(Part::empty(alloc)),
     }
@@ -128,12 +128,11 @@ impl Compared {
 /// Puts the order of that number and length in place of the one before; `base` numbers are told
 /// apart.
 fn number_order(order: &mut Vec<OpId>, number: u32, length: u32, base: u32) -> Option<()> {
-    let base = base.max(1);
     order.clear();
     let mut rest = number;
     for _ in 0..length {
-        order.push(OpId(rest % base)).ok()?;
-        rest /= base;
+        order.push(OpId(rest.checked_rem(base)?)).ok()?;
+        rest = rest.checked_div(base)?;
     }
     Some(())
 }
@@ -157,7 +156,7 @@ fn compare_orders(alloc: Global, part: &Part, count: u32, compared: &mut Compare
 /// Compares both checks on the first `all` parts with so many calls.
 pub fn compare_parts(alloc: Global, count: u32, all: u32, compared: &mut Compared) -> Option<()> {
     for number in 0..all {
-        let part = small_part(alloc, number, count as usize)?;
+        let part = small_part(alloc, number, count)?;
         compare_orders(alloc, &part, count, compared)?;
         compared.parts = compared.parts.saturating_add(1);
     }

@@ -27,11 +27,10 @@ fn compared(alloc: Global, from: u32, to: u32) -> Option<Compared> {
     Some(compared)
 }
 
-/// What is said of all parts with `from` to `to` calls.
-fn all_parts(alloc: Global, words: &str) -> Option<Result<String, AllocError>> {
-    let (from, to) = two_numbers(words)?;
-    let Some(compared) = compared(alloc, from, to) else {
-        return Some(String::from_str(alloc, "a part or an order isn't made\n"));
+/// Says what was compared.
+fn say_compared(out: &mut String, compared: Option<Compared>) -> Result<(), AllocError> {
+    let Some(compared) = compared else {
+        return out.push_str("a part or an order isn't made\n");
     };
     let (parts, orders, differ) = (compared.parts, compared.orders, compared.differ);
     let yes = if compared.yes > 1000 {
@@ -39,55 +38,61 @@ fn all_parts(alloc: Global, words: &str) -> Option<Result<String, AllocError>> {
     } else {
         "few"
     };
-    Some(format!(in alloc; "{parts} parts, {orders} orders, {differ} differ, {yes} are yes\n"))
+    write!(
+        out,
+        "{parts} parts, {orders} orders, {differ} differ, {yes} are yes\n"
+    )
 }
 
-/// The fault of the words.
-fn fault_of(words: &str) -> Option<Fault> {
-    let (word, rest) = first_word(words);
-    if word == "OrderBroken" {
-        let (i, j) = two_numbers(rest)?;
-        return Some(Fault::OrderBroken(i as usize, j as usize));
-    }
-    let number = number(rest)?;
+/// The fault of a name and one or two numbers.
+fn fault_of(word: &str, first: u32, second: u32) -> Option<Fault> {
     match word {
-        "UnknownCall" => Some(Fault::UnknownCall(number as usize)),
-        "CallTwice" => Some(Fault::CallTwice(number as usize)),
-        "MissingCall" => Some(Fault::MissingCall(OpId(number))),
-        "PendingRead" => Some(Fault::PendingRead(number as usize)),
-        "WrongAnswer" => Some(Fault::WrongAnswer(number as usize)),
+        "UnknownCall" => Some(Fault::UnknownCall(first as usize)),
+        "CallTwice" => Some(Fault::CallTwice(first as usize)),
+        "MissingCall" => Some(Fault::MissingCall(OpId(first))),
+        "PendingRead" => Some(Fault::PendingRead(first as usize)),
+        "WrongAnswer" => Some(Fault::WrongAnswer(first as usize)),
+        "OrderBroken" => Some(Fault::OrderBroken(first as usize, second as usize)),
         _ => None,
     }
 }
 
-/// The verdict of the words, as a text.
-fn verdict(alloc: Global, words: &str) -> Option<Result<String, AllocError>> {
-    let verdict = if words == "Yes" {
-        Verdict::Yes
-    } else {
-        Verdict::No(fault_of(words)?)
-    };
-    Some(format!(in alloc; "{verdict}\n"))
+/// The verdict of the words.
+fn verdict_of(words: &str) -> Option<Verdict> {
+    if words == "Yes" {
+        return Some(Verdict::Yes);
+    }
+    let (word, numbers) = first_word(words);
+    let (first, second) = first_word(numbers);
+    let fault = fault_of(word, number(first)?, number(second).unwrap_or(0))?;
+    Some(Verdict::No(fault))
 }
 
-/// The error of the words, as a text.
-fn error(alloc: Global, words: &str) -> Option<Result<String, AllocError>> {
-    let (word, rest) = first_word(words);
-    let error = match word {
-        "NoNote" => WitnessError::NoNote(OpId(number(rest)?)),
-        "Memory" => WitnessError::Memory,
-        _ => return None,
-    };
-    Some(format!(in alloc; "{error}\n"))
-}
-
-/// What is said of a step on verdicts, if the words are one.
-pub fn step(alloc: Global, line: &str) -> Option<Result<String, AllocError>> {
-    let (word, rest) = first_word(line);
-    match word {
-        "verdict" => verdict(alloc, rest),
-        "error" => error(alloc, rest),
-        "compare" => all_parts(alloc, rest),
+/// The error of the words.
+fn error_of(words: &str) -> Option<WitnessError> {
+    match first_word(words) {
+        ("NoNote", call) => Some(WitnessError::NoNote(OpId(number(call)?))),
+        ("Memory", _) => Some(WitnessError::Memory),
         _ => None,
     }
+}
+
+/// Says what comes of a step on verdicts. Whether it is one.
+pub fn say(alloc: Global, out: &mut String, word: &str, rest: &str) -> Result<bool, AllocError> {
+    match word {
+        "verdict" => match verdict_of(rest) {
+            Some(verdict) => write!(out, "{verdict}\n")?,
+            None => return Ok(false),
+        },
+        "error" => match error_of(rest) {
+            Some(error) => write!(out, "{error}\n")?,
+            None => return Ok(false),
+        },
+        "compare" => match two_numbers(rest) {
+            Some((from, to)) => say_compared(out, compared(alloc, from, to))?,
+            None => return Ok(false),
+        },
+        _ => return Ok(false),
+    }
+    Ok(true)
 }

@@ -4,10 +4,7 @@ use std::alloc::{AllocError, Global};
 
 /// The first word and what follows it.
 pub fn first_word(line: &str) -> (&str, &str) {
-    match line.split_once(' ') {
-        Some(parts) => parts,
-        None => (line, ""),
-    }
+    line.split_once(' ').unwrap_or((line, ""))
 }
 
 /// The number that the text is.
@@ -17,8 +14,20 @@ pub fn number(text: &str) -> Option<u32> {
 
 /// The two numbers that the text is, one after the other.
 pub fn two_numbers(text: &str) -> Option<(u32, u32)> {
-    let (first, second) = text.split_once(' ')?;
-    Some((number(first)?, number(second)?))
+    let (first, second) = first_word(text);
+    number(first).zip(number(second))
+}
+
+/// Adds a text in which `\n` stands for the end of a line, at most once.
+fn push_unit(out: &mut String, unit: &str) -> Result<(), AllocError> {
+    match unit.split_once("\\n") {
+        Some((before, after)) => {
+            out.push_str(before)?;
+            out.push_str("\n")?;
+            out.push_str(after)
+        }
+        None => out.push_str(unit),
+    }
 }
 
 /// The text that is meant: `<65*k>` stands for 65 times `k`, and `\n` for the end of a line.
@@ -26,19 +35,19 @@ pub fn meant(alloc: Global, text: &str) -> Result<String, AllocError> {
     let mut whole = String::new(alloc);
     let (count, unit) = repeated(text).unwrap_or((1, text));
     for _ in 0..count {
-        for (i, piece) in unit.split("\\n").enumerate() {
-            if i > 0 {
-                whole.push('\n')?;
-            }
-            whole.push_str(piece)?;
-        }
+        push_unit(&mut whole, unit)?;
     }
     Ok(whole)
 }
 
 /// How often which text is meant, where it is written as `<65*k>`.
 fn repeated(text: &str) -> Option<(u32, &str)> {
-    let inside = text.strip_prefix('<')?.strip_suffix('>')?;
-    let (count, unit) = inside.split_once('*')?;
-    Some((number(count)?, unit))
+    match text.split_once('<')? {
+        ("", marked) => {
+            let (inside, _) = marked.split_once('>')?;
+            let (count, unit) = inside.split_once('*')?;
+            Some((number(count)?, unit))
+        }
+        _ => None,
+    }
 }
