@@ -4,37 +4,40 @@ use crate::texts::{say_request, say_returned, say_set, say_taken};
 use crate::words::Words;
 use client_phases::{Client, Phase};
 use replica::Reply;
-use std::alloc::Global;
-use tag::Memory;
+use std::alloc::{AllocError, Global};
+use tag::{Action, Key, OpId};
+
+/// `4 read x`, or `4 write x b`.
+fn call_of(alloc: Global, mut words: Words<'_>) -> Option<(OpId, Key, Action)> {
+    let op = words.op()?;
+    let kind = words.word();
+    let key = words.key(alloc)?;
+    Some((op, key, words.action(alloc, kind)?))
+}
 
 fn invoke(
-    alloc: Global,
     out: &mut String,
     client: &mut Client,
-    mut words: Words<'_>,
-) -> Result<(), Memory> {
-    let call = words.op();
-    let kind = words.word();
-    let key = words.key(alloc);
-    let action = words.action(alloc, kind);
+    call: Option<(OpId, Key, Action)>,
+) -> Result<(), AllocError> {
     if client.phase() != Phase::Idle {
-        return Ok(out.push_str("busy")?);
+        return out.push_str("busy");
     }
-    match (call, key, action) {
-        (Some(op), Some(key), Some(action)) => {
+    match call {
+        Some((op, key, action)) => {
             client.invoke(op, key, action);
-            Ok(out.push_str("invoked")?)
+            out.push_str("invoked")
         }
-        _ => Ok(out.push_str("NO SUCH CALL")?),
+        None => out.push_str("NO SUCH CALL"),
     }
 }
 
 /// What the client makes of a reply, and what it foresaw, where that is another.
-fn hear(out: &mut String, client: &mut Client, reply: Reply) -> Result<(), Memory> {
+fn hear(out: &mut String, client: &mut Client, reply: Reply) -> Result<(), AllocError> {
     if let Reply::Held { tag, .. } = &reply
         && tag.number() >= 1_000_000
     {
-        return Ok(out.push_str("A NUMBER TOO GREAT")?);
+        return out.push_str("A NUMBER TOO GREAT");
     }
     let foreseen = client.foresee(&reply);
     let taken = client.take(reply);
@@ -46,30 +49,32 @@ fn hear(out: &mut String, client: &mut Client, reply: Reply) -> Result<(), Memor
     Ok(())
 }
 
-fn respond(out: &mut String, client: &mut Client) -> Result<(), Memory> {
+fn respond(out: &mut String, client: &mut Client) -> Result<(), AllocError> {
     if client.phase() != Phase::Ready {
-        return Ok(out.push_str("not ready")?);
+        return out.push_str("not ready");
     }
     let returned = client.respond();
     say_returned(out, &returned)
 }
 
-fn say_next_request(out: &mut String, client: &Client) -> Result<(), Memory> {
-    match client.request()? {
-        Some(request) => say_request(out, &request),
-        None => Ok(out.push_str("nothing")?),
+fn say_next_request(out: &mut String, client: &Client) -> Result<(), AllocError> {
+    match client.request() {
+        Ok(Some(request)) => say_request(out, &request),
+        Ok(None) => out.push_str("nothing"),
+        Err(_) => out.push_str("NO MEMORY"),
     }
 }
 
-fn say_next_answer(out: &mut String, client: &Client) -> Result<(), Memory> {
-    match client.answer()? {
-        Some(returned) => say_returned(out, &returned),
-        None => Ok(out.push_str("nothing")?),
+fn say_next_answer(out: &mut String, client: &Client) -> Result<(), AllocError> {
+    match client.answer() {
+        Ok(Some(returned)) => say_returned(out, &returned),
+        Ok(None) => out.push_str("nothing"),
+        Err(_) => out.push_str("NO MEMORY"),
     }
 }
 
 /// Where the client stands, its pending call, and whom it counted in this phase.
-fn say_state(out: &mut String, client: &Client) -> Result<(), Memory> {
+fn say_state(out: &mut String, client: &Client) -> Result<(), AllocError> {
     let phase = client.phase();
     write!(out, "{phase:?}, ")?;
     match client.pending() {
@@ -90,21 +95,21 @@ pub fn client_answers(
     out: &mut String,
     client: &mut Client,
     line: &str,
-) -> Result<(), Memory> {
+) -> Result<(), AllocError> {
     let mut words = Words { rest: line };
     match words.word() {
-        "invoke" => invoke(alloc, out, client, words),
+        "invoke" => invoke(out, client, call_of(alloc, words)),
         "respond" => respond(out, client),
         "stop" => {
             client.stop();
-            Ok(out.push_str("stopped")?)
+            out.push_str("stopped")
         }
         "request?" => say_next_request(out, client),
         "answer?" => say_next_answer(out, client),
         "state?" => say_state(out, client),
         _ => match reply_of(alloc, Words { rest: line }) {
             Some(reply) => hear(out, client, reply),
-            None => Ok(out.push_str("NO SUCH STEP")?),
+            None => out.push_str("NO SUCH STEP"),
         },
     }
 }

@@ -3,7 +3,6 @@ use crate::words::Words;
 use network::Message;
 use replica::{Pair, Reply, Request};
 use std::alloc::Global;
-use tag::Memory;
 
 /// `query 7 x`, or `put 4 x (1, 1) a`.
 pub fn request_of(alloc: Global, mut words: Words<'_>) -> Option<Request> {
@@ -63,29 +62,57 @@ fn pair_of(alloc: Global, mut words: Words<'_>) -> Option<Pair> {
     })
 }
 
-/// Whether a copy of what is written equals it; none where nothing is written so.
-fn is_copied(alloc: Global, line: &str) -> Result<Option<bool>, Memory> {
-    let words = Words { rest: line };
-    if let Some(request) = request_of(alloc, words) {
-        return Ok(Some(request.copy()? == request));
+fn said_equal(equal: bool) -> &'static str {
+    if equal { "equal" } else { "different" }
+}
+
+/// How the copy of the request that is written compares with it.
+fn copied_request(alloc: Global, words: Words<'_>) -> Option<&'static str> {
+    let request = request_of(alloc, words)?;
+    match request.copy() {
+        Ok(copy) => Some(said_equal(copy == request)),
+        Err(_) => Some("NO MEMORY"),
     }
-    if let Some(reply) = reply_of(alloc, words) {
-        return Ok(Some(reply.copy()? == reply));
+}
+
+/// How the copy of the reply that is written compares with it.
+fn copied_reply(alloc: Global, words: Words<'_>) -> Option<&'static str> {
+    let reply = reply_of(alloc, words)?;
+    match reply.copy() {
+        Ok(copy) => Some(said_equal(copy == reply)),
+        Err(_) => Some("NO MEMORY"),
     }
-    if let Some(message) = message_of(alloc, words) {
-        return Ok(Some(message.copy()? == message));
+}
+
+/// How the copy of the message that is written compares with it.
+fn copied_message(alloc: Global, words: Words<'_>) -> Option<&'static str> {
+    let message = message_of(alloc, words)?;
+    match message.copy() {
+        Ok(copy) => Some(said_equal(copy == message)),
+        Err(_) => Some("NO MEMORY"),
     }
-    if let Some(pair) = pair_of(alloc, words) {
-        return Ok(Some(pair.copy()? == pair));
+}
+
+/// How the copy of the pair that is written compares with it.
+fn copied_pair(alloc: Global, words: Words<'_>) -> Option<&'static str> {
+    let pair = pair_of(alloc, words)?;
+    match pair.copy() {
+        Ok(copy) => Some(said_equal(copy == pair)),
+        Err(_) => Some("NO MEMORY"),
     }
-    Ok(None)
 }
 
 /// How the copy of what is written compares with it.
-pub fn copied(alloc: Global, line: &str) -> Result<&'static str, Memory> {
-    match is_copied(alloc, line)? {
-        Some(true) => Ok("equal"),
-        Some(false) => Ok("different"),
-        None => Ok("NOTHING TO COPY"),
+pub fn copied(alloc: Global, line: &str) -> &'static str {
+    let words = Words { rest: line };
+    if let Some(said) = copied_request(alloc, words) {
+        return said;
     }
+    if let Some(said) = copied_reply(alloc, words) {
+        return said;
+    }
+    if let Some(said) = copied_message(alloc, words) {
+        return said;
+    }
+    copied_pair(alloc, words).unwrap_or("NOTHING TO COPY")
 }

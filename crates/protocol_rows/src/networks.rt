@@ -4,46 +4,46 @@ use crate::texts::{say_message, say_net_refusal, say_pair, say_reply};
 use crate::words::Words;
 use network::{Message, NetRefusal, Pool};
 use replica::{Replica, Reply};
-use std::alloc::Global;
-use tag::{ClientId, Memory, OpId, ReplicaId};
+use std::alloc::{AllocError, Global};
+use tag::{ClientId, OpId, ReplicaId};
 
 fn say_outcome(
     out: &mut String,
     outcome: Result<(), NetRefusal>,
     word: &str,
-) -> Result<(), Memory> {
+) -> Result<(), AllocError> {
     match outcome {
-        Ok(()) => Ok(out.push_str(word)?),
+        Ok(()) => out.push_str(word),
         Err(refusal) => say_net_refusal(out, refusal),
     }
 }
 
-fn send(out: &mut String, pool: &mut Pool, message: Option<Message>) -> Result<(), Memory> {
+fn send(out: &mut String, pool: &mut Pool, message: Option<Message>) -> Result<(), AllocError> {
     let Some(message) = message else {
-        return Ok(out.push_str("NO SUCH MESSAGE")?);
+        return out.push_str("NO SUCH MESSAGE");
     };
     match pool.send(message) {
-        Ok(number) => Ok(write!(out, "sent {number}")?),
+        Ok(number) => write!(out, "sent {number}"),
         Err(refusal) => say_net_refusal(out, refusal),
     }
 }
 
-fn deliver(out: &mut String, pool: &mut Pool, number: u32) -> Result<(), Memory> {
+fn deliver(out: &mut String, pool: &mut Pool, number: u32) -> Result<(), AllocError> {
     match pool.deliver(number) {
         Ok(message) => say_message(out, &message),
         Err(refusal) => say_net_refusal(out, refusal),
     }
 }
 
-fn say_found(out: &mut String, message: Option<&Message>) -> Result<(), Memory> {
+fn say_found(out: &mut String, message: Option<&Message>) -> Result<(), AllocError> {
     match message {
         Some(message) => say_message(out, message),
-        None => Ok(out.push_str("nothing")?),
+        None => out.push_str("nothing"),
     }
 }
 
 /// Sends and loses so many messages, as long as each has the number that comes next.
-fn send_and_lose(out: &mut String, pool: &mut Pool, times: u32) -> Result<(), Memory> {
+fn send_and_lose(out: &mut String, pool: &mut Pool, times: u32) -> Result<(), AllocError> {
     let (Ok(client), Some(replica)) = (ClientId::new(1), ReplicaId::new(0)) else {
         return Ok(());
     };
@@ -55,12 +55,12 @@ fn send_and_lose(out: &mut String, pool: &mut Pool, times: u32) -> Result<(), Me
             lost = lost.saturating_add(1);
         }
     }
-    Ok(write!(out, "{lost} sent in turn and lost")?)
+    write!(out, "{lost} sent in turn and lost")
 }
 
-fn say_pool(out: &mut String, pool: &Pool) -> Result<(), Memory> {
+fn say_pool(out: &mut String, pool: &Pool) -> Result<(), AllocError> {
     let (sent, stored, limit) = (pool.sent(), pool.stored(), pool.limit());
-    Ok(write!(out, "{sent} sent of {limit}, {stored} under way")?)
+    write!(out, "{sent} sent of {limit}, {stored} under way")
 }
 
 /// What the network answers to a step or a question.
@@ -69,7 +69,7 @@ pub fn pool_answers(
     out: &mut String,
     pool: &mut Pool,
     line: &str,
-) -> Result<(), Memory> {
+) -> Result<(), AllocError> {
     let mut words = Words { rest: line };
     let kind = words.word();
     if kind == "send" {
@@ -84,11 +84,11 @@ pub fn pool_answers(
         "look?" => say_found(out, pool.look(number)),
         "copies?" => {
             let copies = pool.copies(number);
-            Ok(write!(out, "{copies}")?)
+            write!(out, "{copies}")
         }
         "send-and-lose" => send_and_lose(out, pool, number),
         "pool?" => say_pool(out, pool),
-        _ => Ok(out.push_str("NO SUCH STEP")?),
+        _ => out.push_str("NO SUCH STEP"),
     }
 }
 
@@ -98,11 +98,13 @@ pub fn replica_answers(
     out: &mut String,
     replica: &mut Replica,
     line: &str,
-) -> Result<(), Memory> {
+) -> Result<(), AllocError> {
     let mut words = Words { rest: line };
     if let Some(request) = request_of(alloc, words) {
-        let reply = replica.handle(&request)?;
-        return say_reply(out, &reply);
+        return match replica.handle(&request) {
+            Ok(reply) => say_reply(out, &reply),
+            Err(_) => out.push_str("NO MEMORY"),
+        };
     }
     let _ = words.word();
     match words.key(alloc) {
@@ -110,6 +112,6 @@ pub fn replica_answers(
             let (tag, value) = replica.held(&key);
             say_pair(out, tag, value)
         }
-        None => Ok(out.push_str("NO SUCH STEP")?),
+        None => out.push_str("NO SUCH STEP"),
     }
 }

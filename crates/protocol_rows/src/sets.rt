@@ -5,7 +5,7 @@ use network::NetRefusal;
 use quorum::Quorums;
 use rand_core::utils::NextWord;
 use rand_pcg::Lcg64Xsh32;
-use tag::Memory;
+use std::alloc::AllocError;
 use world_settle::SettleError;
 
 fn yes(truth: bool) -> &'static str {
@@ -13,10 +13,10 @@ fn yes(truth: bool) -> &'static str {
 }
 
 /// What quorums make of the set `0,2`; or, to `quorums?`, their replicas and votes.
-pub fn quorums_answer(out: &mut String, quorums: &Quorums, line: &str) -> Result<(), Memory> {
+pub fn quorums_answer(out: &mut String, quorums: &Quorums, line: &str) -> Result<(), AllocError> {
     if line == "quorums?" {
         let (replicas, ask, put) = (quorums.replicas(), quorums.ask(), quorums.put());
-        return Ok(write!(out, "replicas {replicas} ask {ask} put {put}")?);
+        return write!(out, "replicas {replicas} ask {ask} put {put}");
     }
     let mut words = Words { rest: line };
     let _ = words.word();
@@ -25,14 +25,14 @@ pub fn quorums_answer(out: &mut String, quorums: &Quorums, line: &str) -> Result
     let ask = yes(quorums.is_ask(&set));
     let put = yes(quorums.is_put(&set));
     let majority = yes(set.is_majority(quorums.replicas()));
-    Ok(write!(
+    write!(
         out,
         "votes {votes}, ask {ask}, put {put}, majority {majority}"
-    )?)
+    )
 }
 
 /// The count and the members of a set.
-pub fn say_members(out: &mut String, mut words: Words<'_>) -> Result<(), Memory> {
+pub fn say_members(out: &mut String, mut words: Words<'_>) -> Result<(), AllocError> {
     let set = words.set();
     let count = set.count();
     write!(out, "{count}:")?;
@@ -50,7 +50,7 @@ pub fn compared(mut words: Words<'_>) -> &'static str {
 }
 
 /// The numbers of the network's refusals.
-pub fn say_refusals(out: &mut String) -> Result<(), Memory> {
+pub fn say_refusals(out: &mut String) -> Result<(), AllocError> {
     let mut divider = "";
     for refusal in [
         NetRefusal::NotInFlight,
@@ -66,7 +66,7 @@ pub fn say_refusals(out: &mut String) -> Result<(), Memory> {
 }
 
 /// The numbers of the reasons why a call isn't completed.
-pub fn say_reasons(out: &mut String) -> Result<(), Memory> {
+pub fn say_reasons(out: &mut String) -> Result<(), AllocError> {
     let mut divider = "";
     for why in [
         SettleError::NoMajority,
@@ -82,7 +82,7 @@ pub fn say_reasons(out: &mut String) -> Result<(), Memory> {
 }
 
 /// The first six words of the generator of a seed and a stream.
-pub fn say_generated(out: &mut String, mut words: Words<'_>) -> Result<(), Memory> {
+pub fn say_generated(out: &mut String, mut words: Words<'_>) -> Result<(), AllocError> {
     let seed = words.number().unwrap_or(0);
     let stream = words.number().unwrap_or(0);
     let mut generator = Lcg64Xsh32::new(u64::from(seed), u64::from(stream));

@@ -2,8 +2,8 @@
 use crate::words::Words;
 use client_phases::{Client, ReadMode};
 use quorum::Quorums;
-use std::alloc::Global;
-use tag::{ClientId, Memory};
+use std::alloc::{AllocError, Global};
+use tag::ClientId;
 use world_steps::Config;
 
 /// The words `replicas 3`, `calls 10`, `flights 10`, `reads short`, `votes 1,1,3`, `ask 3` and `put 3`
@@ -20,7 +20,7 @@ pub struct Settings {
 }
 
 impl Settings {
-    pub fn read(alloc: Global, mut words: Words<'_>) -> Result<Settings, Memory> {
+    pub fn read(alloc: Global, mut words: Words<'_>) -> Result<Settings, AllocError> {
         let mut settings = Settings {
             replicas: 0,
             calls: 1000,
@@ -36,7 +36,7 @@ impl Settings {
         Ok(settings)
     }
 
-    fn take(&mut self, alloc: Global, words: &mut Words<'_>) -> Result<(), Memory> {
+    fn take(&mut self, alloc: Global, words: &mut Words<'_>) -> Result<(), AllocError> {
         match words.word() {
             "replicas" => self.replicas = words.small().unwrap_or(0),
             "calls" => self.calls = words.number().unwrap_or(0),

@@ -13,7 +13,7 @@ use network::Pool;
 use quorum::Quorums;
 use random_steps::RandomSteps;
 use replica::Replica;
-use std::alloc::Global;
+use std::alloc::{AllocError, Global};
 use tag::Memory;
 use world_steps::World;
 
@@ -27,6 +27,7 @@ pub enum Subject {
     Quorums(Quorums),
 }
 
+/// A world, and what draws its random steps.
 fn world_of(alloc: Global, words: Words<'_>) -> Result<Subject, Memory> {
     match Settings::read(alloc, words)?.config() {
         Some(config) => Ok(Subject::World(World::new(alloc, config)?, RandomSteps::new(42))),
@@ -34,7 +35,7 @@ fn world_of(alloc: Global, words: Words<'_>) -> Result<Subject, Memory> {
     }
 }
 
-fn client_of(alloc: Global, mut words: Words<'_>) -> Result<Subject, Memory> {
+fn client_of(alloc: Global, mut words: Words<'_>) -> Result<Subject, AllocError> {
     let Some(name) = words.client() else {
         return Ok(Subject::None);
     };
@@ -44,7 +45,7 @@ fn client_of(alloc: Global, mut words: Words<'_>) -> Result<Subject, Memory> {
     }
 }
 
-fn quorums_of(alloc: Global, words: Words<'_>) -> Result<Subject, Memory> {
+fn quorums_of(alloc: Global, words: Words<'_>) -> Result<Subject, AllocError> {
     match Settings::read(alloc, words)?.quorums() {
         Some(quorums) => Ok(Subject::Quorums(quorums)),
         None => Ok(Subject::None),
@@ -58,33 +59,36 @@ fn replica_of(alloc: Global, mut words: Words<'_>) -> Subject {
     }
 }
 
-/// The subject that a line makes; none where it makes none.
-fn made(alloc: Global, line: &str) -> Result<Option<Subject>, Memory> {
-    let mut words = Words { rest: line };
-    match words.word() {
-        "world" => Ok(Some(world_of(alloc, words)?)),
-        "client" => Ok(Some(client_of(alloc, words)?)),
-        "quorums" => Ok(Some(quorums_of(alloc, words)?)),
-        "replica" => Ok(Some(replica_of(alloc, words))),
-        "network" => {
+/// Whether a line of that kind makes a subject.
+fn is_made(kind: &str) -> bool {
+    matches!(kind, "world" | "client" | "quorums" | "replica" | "network")
+}
+
+/// The subject that a line makes.
+fn made(alloc: Global, kind: &str, mut words: Words<'_>) -> Result<Subject, Memory> {
+    match kind {
+        "world" => world_of(alloc, words),
+        "client" => Ok(client_of(alloc, words)?),
+        "quorums" => Ok(quorums_of(alloc, words)?),
+        "replica" => Ok(replica_of(alloc, words)),
+        _ => {
             let limit = words.number().unwrap_or(0);
-            Ok(Some(Subject::Network(Pool::new(alloc, limit))))
+            Ok(Subject::Network(Pool::new(alloc, limit)))
         }
-        _ => Ok(None),
     }
 }
 
 /// What comes of a line that needs no subject.
-fn answer_alone(alloc: Global, out: &mut String, line: &str) -> Result<(), Memory> {
+fn answer_alone(alloc: Global, out: &mut String, line: &str) -> Result<(), AllocError> {
     let mut words = Words { rest: line };
     match words.word() {
-        "copy" => Ok(out.push_str(copied(alloc, words.rest)?)?),
+        "copy" => out.push_str(copied(alloc, words.rest)),
         "members" => say_members(out, words),
-        "compare" => Ok(out.push_str(compared(words))?),
+        "compare" => out.push_str(compared(words)),
         "refusals" => say_refusals(out),
         "reasons" => say_reasons(out),
         "generator" => say_generated(out, words),
-        _ => Ok(out.push_str("NO SUCH STEP")?),
+        _ => out.push_str("NO SUCH STEP"),
     }
 }
 
@@ -100,8 +104,23 @@ impl Subject {
         }
     }
 
+    /// Puts what was made in its place, and says what it is.
+    fn replace(
+        &mut self,
+        out: &mut String,
+        made: Result<Subject, Memory>,
+    ) -> Result<(), AllocError> {
+        match made {
+            Ok(subject) => {
+                *self = subject;
+                out.push_str(self.name())
+            }
+            Err(_) => out.push_str("NO MEMORY"),
+        }
+    }
+
     /// What comes of a step or a question.
-    fn step(&mut self, alloc: Global, out: &mut String, line: &str) -> Result<(), Memory> {
+    fn step(&mut self, alloc: Global, out: &mut String, line: &str) -> Result<(), AllocError> {
         match self {
             Subject::None => answer_alone(alloc, out, line),
             Subject::World(world, steps) => world_answers(alloc, out, world, steps, line),
@@ -112,6 +131,13 @@ impl Subject {
         }
     }
 
+    /// What comes of a step or a question, as a text of its own.
+    fn said(&mut self, alloc: Global, line: &str) -> Result<String, AllocError> {
+        let mut said = String::new(alloc);
+        self.step(alloc, &mut said, line)?;
+        Ok(said)
+    }
+
     /// Takes a step so many times. It says how often the answer was the last one.
     fn repeat(
         &mut self,
@@ -119,12 +145,11 @@ impl Subject {
         out: &mut String,
         times: u32,
         line: &str,
-    ) -> Result<(), Memory> {
+    ) -> Result<(), AllocError> {
         let mut last = String::new(alloc);
         let mut alike = 0u32;
         for _ in 0..times {
-            let mut said = String::new(alloc);
-            self.step(alloc, &mut said, line)?;
+            let said = self.said(alloc, line)?;
             alike = if said == last {
                 alike.saturating_add(1)
             } else {
@@ -133,14 +158,20 @@ impl Subject {
             last = said;
         }
         let last = last.as_str();
-        Ok(write!(out, "{alike} times {last}")?)
+        write!(out, "{alike} times {last}")
     }
 
     /// What comes of a line.
-    pub fn answer(&mut self, alloc: Global, out: &mut String, line: &str) -> Result<(), Memory> {
-        if let Some(subject) = made(alloc, line)? {
-            *self = subject;
-            return Ok(out.push_str(self.name())?);
+    pub fn answer(
+        &mut self,
+        alloc: Global,
+        out: &mut String,
+        line: &str,
+    ) -> Result<(), AllocError> {
+        let mut words = Words { rest: line };
+        let kind = words.word();
+        if is_made(kind) {
+            return self.replace(out, made(alloc, kind, words));
         }
         let (times, rest) = line.split_once(" times ").unwrap_or(("", ""));
         match times.parse::<u32>() {

@@ -4,7 +4,8 @@ use network::{Message, NetRefusal};
 use quorum::ReplicaSet;
 use recorder::Row;
 use replica::{Reply, Request};
-use tag::{Action, Memory, ReplicaId, Returned, Tag, Value};
+use std::alloc::AllocError;
+use tag::{Action, ReplicaId, Returned, Tag, Value};
 use world_steps::Step;
 
 pub fn value_text(value: Option<&Value>) -> &str {
@@ -15,16 +16,16 @@ pub fn value_text(value: Option<&Value>) -> &str {
     }
 }
 
-pub fn say_tag(out: &mut String, tag: Tag) -> Result<(), Memory> {
+pub fn say_tag(out: &mut String, tag: Tag) -> Result<(), AllocError> {
     let (number, writer) = (tag.number(), tag.writer());
-    Ok(write!(out, "({number}, {writer})")?)
+    write!(out, "({number}, {writer})")
 }
 
-pub fn say_taken(out: &mut String, taken: Taken) -> Result<(), Memory> {
+pub fn say_taken(out: &mut String, taken: Taken) -> Result<(), AllocError> {
     match taken {
-        Taken::Stale => Ok(out.push_str("stale")?),
-        Taken::Counted => Ok(out.push_str("counted")?),
-        Taken::Ready => Ok(out.push_str("ready")?),
+        Taken::Stale => out.push_str("stale"),
+        Taken::Counted => out.push_str("counted"),
+        Taken::Ready => out.push_str("ready"),
         Taken::Noted(tag) => {
             out.push_str("noted ")?;
             say_tag(out, tag)
@@ -36,11 +37,11 @@ pub fn say_taken(out: &mut String, taken: Taken) -> Result<(), Memory> {
     }
 }
 
-pub fn say_request(out: &mut String, request: &Request) -> Result<(), Memory> {
+pub fn say_request(out: &mut String, request: &Request) -> Result<(), AllocError> {
     match request {
         Request::Query { op, key } => {
             let (op, key) = (op.0, key.as_str());
-            Ok(write!(out, "query {op} {key}")?)
+            write!(out, "query {op} {key}")
         }
         Request::Put {
             op,
@@ -55,13 +56,13 @@ pub fn say_request(out: &mut String, request: &Request) -> Result<(), Memory> {
     }
 }
 
-pub fn say_pair(out: &mut String, tag: Tag, value: Option<&Value>) -> Result<(), Memory> {
+pub fn say_pair(out: &mut String, tag: Tag, value: Option<&Value>) -> Result<(), AllocError> {
     say_tag(out, tag)?;
     let value = value_text(value);
-    Ok(write!(out, " {value}")?)
+    write!(out, " {value}")
 }
 
-pub fn say_reply(out: &mut String, reply: &Reply) -> Result<(), Memory> {
+pub fn say_reply(out: &mut String, reply: &Reply) -> Result<(), AllocError> {
     match reply {
         Reply::Held {
             op,
@@ -75,39 +76,39 @@ pub fn say_reply(out: &mut String, reply: &Reply) -> Result<(), Memory> {
         }
         Reply::Kept { op, replica } => {
             let (op, replica) = (op.0, replica.get());
-            Ok(write!(out, "kept {op} from {replica}")?)
+            write!(out, "kept {op} from {replica}")
         }
     }
 }
 
-pub fn say_message(out: &mut String, message: &Message) -> Result<(), Memory> {
+pub fn say_message(out: &mut String, message: &Message) -> Result<(), AllocError> {
     match message {
         Message::ToReplica(replica, request) => {
             say_request(out, request)?;
             let replica = replica.get();
-            Ok(write!(out, " to replica {replica}")?)
+            write!(out, " to replica {replica}")
         }
         Message::ToClient(client, reply) => {
             say_reply(out, reply)?;
             let client = client.get();
-            Ok(write!(out, " to client {client}")?)
+            write!(out, " to client {client}")
         }
     }
 }
 
-pub fn say_returned(out: &mut String, returned: &Returned) -> Result<(), Memory> {
+pub fn say_returned(out: &mut String, returned: &Returned) -> Result<(), AllocError> {
     match returned {
-        Returned::Written => Ok(out.push_str("written")?),
-        Returned::Value(value) => Ok(out.push_str(value_text(value.as_ref()))?),
+        Returned::Written => out.push_str("written"),
+        Returned::Value(value) => out.push_str(value_text(value.as_ref())),
     }
 }
 
-pub fn say_net_refusal(out: &mut String, refusal: NetRefusal) -> Result<(), Memory> {
+pub fn say_net_refusal(out: &mut String, refusal: NetRefusal) -> Result<(), AllocError> {
     let number = refusal as u8;
-    Ok(write!(out, "refused {number} {refusal:?}")?)
+    write!(out, "refused {number} {refusal:?}")
 }
 
-pub fn say_row(out: &mut String, row: &Row) -> Result<(), Memory> {
+pub fn say_row(out: &mut String, row: &Row) -> Result<(), AllocError> {
     match row {
         Row::Invoke {
             op,
@@ -133,7 +134,7 @@ pub fn say_row(out: &mut String, row: &Row) -> Result<(), Memory> {
 }
 
 /// The replicas of a set, each with a space before it.
-pub fn say_set(out: &mut String, set: ReplicaSet) -> Result<(), Memory> {
+pub fn say_set(out: &mut String, set: ReplicaSet) -> Result<(), AllocError> {
     for number in 0..15 {
         if let Some(replica) = ReplicaId::new(number)
             && set.contains(replica)
@@ -144,18 +145,18 @@ pub fn say_set(out: &mut String, set: ReplicaSet) -> Result<(), Memory> {
     Ok(())
 }
 
-fn say_action(out: &mut String, action: &Action) -> Result<(), Memory> {
+fn say_action(out: &mut String, action: &Action) -> Result<(), AllocError> {
     match action {
-        Action::Read => Ok(out.push_str("read")?),
+        Action::Read => out.push_str("read"),
         Action::Write(value) => {
             let value = value.as_str();
-            Ok(write!(out, "write {value}")?)
+            write!(out, "write {value}")
         }
     }
 }
 
 /// A step as rows write it, but that the key stands before the action.
-pub fn say_step(out: &mut String, step: &Step) -> Result<(), Memory> {
+pub fn say_step(out: &mut String, step: &Step) -> Result<(), AllocError> {
     let (word, actor) = match step {
         Step::Join { client } => ("join", client.get()),
         Step::Invoke {
@@ -169,7 +170,7 @@ pub fn say_step(out: &mut String, step: &Step) -> Result<(), Memory> {
         }
         Step::Send { client, replica } => {
             let (client, replica) = (client.get(), replica.get());
-            return Ok(write!(out, "send {client} {replica}")?);
+            return write!(out, "send {client} {replica}");
         }
         Step::Deliver { flight } => ("deliver", *flight),
         Step::Lose { flight } => ("lose", *flight),
@@ -179,5 +180,5 @@ pub fn say_step(out: &mut String, step: &Step) -> Result<(), Memory> {
         Step::StopReplica { replica } => ("down", u32::from(replica.get())),
         Step::StartReplica { replica } => ("up", u32::from(replica.get())),
     };
-    Ok(write!(out, "{word} {actor}")?)
+    write!(out, "{word} {actor}")
 }

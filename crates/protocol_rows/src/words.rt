@@ -1,8 +1,8 @@
 //! Words of a step.
 use client_phases::ReadMode;
 use quorum::ReplicaSet;
-use std::alloc::Global;
-use tag::{Action, ClientId, Key, Memory, OpId, ReplicaId, Tag, Value};
+use std::alloc::{AllocError, Global};
+use tag::{Action, ClientId, Key, OpId, ReplicaId, Tag, Value};
 
 /// The words of a step that aren't read yet, one space apart.
 #[derive(Clone, Copy)]
@@ -82,7 +82,7 @@ impl<'a> Words<'a> {
     }
 
     /// Votes divided by commas; none at `-`.
-    pub fn votes(&mut self, alloc: Global) -> Result<Vec<u8>, Memory> {
+    pub fn votes(&mut self, alloc: Global) -> Result<Vec<u8>, AllocError> {
         let mut votes = Vec::new(alloc);
         for word in self.word().split(',') {
             if let Ok(vote) = word.parse::<u8>() {

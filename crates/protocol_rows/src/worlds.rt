@@ -2,8 +2,8 @@
 use crate::texts::{say_row, say_step, say_taken};
 use crate::words::Words;
 use random_steps::RandomSteps;
-use std::alloc::Global;
-use tag::{ClientId, Memory};
+use std::alloc::{AllocError, Global};
+use tag::ClientId;
 use world_settle::{SettleError, settle};
 use world_steps::{Effect, Refusal, Step, World};
 
@@ -64,59 +64,59 @@ fn step_of(alloc: Global, mut words: Words<'_>) -> Option<Step> {
     }
 }
 
-fn say_effect(out: &mut String, effect: Effect) -> Result<(), Memory> {
+fn say_effect(out: &mut String, effect: Effect) -> Result<(), AllocError> {
     match effect {
-        Effect::Joined => Ok(out.push_str("joined")?),
+        Effect::Joined => out.push_str("joined"),
         Effect::Invoked(op) => {
             let op = op.0;
-            Ok(write!(out, "invoked {op}")?)
+            write!(out, "invoked {op}")
         }
-        Effect::Sent(flight) => Ok(write!(out, "sent {flight}")?),
-        Effect::Answered(flight) => Ok(write!(out, "answered {flight}")?),
+        Effect::Sent(flight) => write!(out, "sent {flight}"),
+        Effect::Answered(flight) => write!(out, "answered {flight}"),
         Effect::Taken(taken) => say_taken(out, taken),
-        Effect::Lost => Ok(out.push_str("lost")?),
-        Effect::Repeated => Ok(out.push_str("repeated")?),
+        Effect::Lost => out.push_str("lost"),
+        Effect::Repeated => out.push_str("repeated"),
         Effect::Responded(op) => {
             let op = op.0;
-            Ok(write!(out, "responded {op}")?)
+            write!(out, "responded {op}")
         }
-        Effect::Stopped => Ok(out.push_str("stopped")?),
-        Effect::Started => Ok(out.push_str("started")?),
+        Effect::Stopped => out.push_str("stopped"),
+        Effect::Started => out.push_str("started"),
     }
 }
 
-fn say_answer(out: &mut String, answer: Result<Effect, Refusal>) -> Result<(), Memory> {
+fn say_answer(out: &mut String, answer: Result<Effect, Refusal>) -> Result<(), AllocError> {
     match answer {
         Ok(effect) => say_effect(out, effect),
         Err(refusal) => {
             let number = refusal as u8;
-            Ok(write!(out, "refused {number} {refusal:?}")?)
+            write!(out, "refused {number} {refusal:?}")
         }
     }
 }
 
-fn say_settled(out: &mut String, answer: Result<u32, SettleError>) -> Result<(), Memory> {
+fn say_settled(out: &mut String, answer: Result<u32, SettleError>) -> Result<(), AllocError> {
     match answer {
-        Ok(count) => Ok(write!(out, "settled {count}")?),
+        Ok(count) => write!(out, "settled {count}"),
         Err(why) => {
             let number = why.number();
-            Ok(write!(out, "settle refused {number} {why:?}")?)
+            write!(out, "settle refused {number} {why:?}")
         }
     }
 }
 
 /// What is seen of a world: what was sent, the flights under way, the rows, and who joined.
-fn say_seen(out: &mut String, world: &World) -> Result<(), Memory> {
+fn say_seen(out: &mut String, world: &World) -> Result<(), AllocError> {
     let (sent, stored) = (world.pool().sent(), world.pool().stored());
     let rows = world.history().rows().len();
     let joined = world.joined().len();
-    Ok(write!(
+    write!(
         out,
         "{sent} sent, {stored} under way, {rows} rows, {joined} joined"
-    )?)
+    )
 }
 
-fn say_rows(out: &mut String, world: &World) -> Result<(), Memory> {
+fn say_rows(out: &mut String, world: &World) -> Result<(), AllocError> {
     let mut divider = "";
     for row in world.history().rows() {
         out.push_str(divider)?;
@@ -126,20 +126,20 @@ fn say_rows(out: &mut String, world: &World) -> Result<(), Memory> {
     Ok(())
 }
 
-fn say_phase(out: &mut String, world: &World, name: Option<ClientId>) -> Result<(), Memory> {
+fn say_phase(out: &mut String, world: &World, name: Option<ClientId>) -> Result<(), AllocError> {
     match name.and_then(|name| world.client(name)) {
         Some(client) => {
             let phase = client.phase();
-            Ok(write!(out, "{phase:?}")?)
+            write!(out, "{phase:?}")
         }
-        None => Ok(out.push_str("no such client")?),
+        None => out.push_str("no such client"),
     }
 }
 
-fn take(out: &mut String, world: &mut World, step: Option<Step>) -> Result<(), Memory> {
+fn take(out: &mut String, world: &mut World, step: Option<Step>) -> Result<(), AllocError> {
     match step {
         Some(step) => say_answer(out, world.step(step)),
-        None => Ok(out.push_str("NO SUCH STEP")?),
+        None => out.push_str("NO SUCH STEP"),
     }
 }
 
@@ -150,8 +150,10 @@ fn draw(
     world: &mut World,
     steps: &mut RandomSteps,
     is_taken: bool,
-) -> Result<(), Memory> {
-    let step = steps.next(alloc, world)?;
+) -> Result<(), AllocError> {
+    let Ok(step) = steps.next(alloc, world) else {
+        return out.push_str("NO MEMORY");
+    };
     say_step(out, &step)?;
     if is_taken {
         out.push_str(": ")?;
@@ -167,19 +169,19 @@ pub fn world_answers(
     world: &mut World,
     steps: &mut RandomSteps,
     line: &str,
-) -> Result<(), Memory> {
+) -> Result<(), AllocError> {
     let mut words = Words { rest: line };
     match words.word() {
         "settle" => match words.client() {
             Some(client) => say_settled(out, settle(world, client)),
-            None => Ok(out.push_str("NO SUCH CLIENT")?),
+            None => out.push_str("NO SUCH CLIENT"),
         },
         "seen?" => say_seen(out, world),
         "rows?" => say_rows(out, world),
         "phase?" => say_phase(out, world, words.client()),
         "copies?" => {
             let copies = world.pool().copies(words.number().unwrap_or(0));
-            Ok(write!(out, "{copies}")?)
+            write!(out, "{copies}")
         }
         "draw" => draw(alloc, out, world, steps, false),
         "take" => draw(alloc, out, world, steps, true),
