@@ -181,19 +181,29 @@ fn say_order(alloc: Global, out: &mut String, part: &Part) -> Result<(), AllocEr
 }
 
 /// The tag order of the calls on a key, or what is missing.
+fn say_key_order(
+    alloc: Global,
+    out: &mut String,
+    history: &History,
+    key: &Key,
+) -> Result<(), Memory> {
+    let parts = history.parts()?;
+    match parts.get(key)? {
+        Some(part) => Ok(say_order(alloc, out, part)?),
+        None => Ok(out.push_str("no part\n")?),
+    }
+}
+
+/// The tag order of the calls on the key of that name.
 fn say_tag_order(
     alloc: Global,
     out: &mut String,
     history: &History,
-    key: &str,
+    name: &str,
 ) -> Result<(), Memory> {
-    let Ok(key) = Key::new(alloc, key) else {
-        return Ok(out.push_str("no key\n")?);
-    };
-    let parts = history.parts()?;
-    match parts.get(&key)? {
-        Some(part) => Ok(say_order(alloc, out, part)?),
-        None => Ok(out.push_str("no part\n")?),
+    match Key::new(alloc, name) {
+        Ok(key) => say_key_order(alloc, out, history, &key),
+        Err(_) => Ok(out.push_str("no key\n")?),
     }
 }
 
@@ -218,6 +228,13 @@ fn say_numbered(alloc: Global, out: &mut String, words: &str) -> Result<(), Memo
         }
         Err(_) => Ok(()),
     }
+}
+
+/// How many calls the empty part has.
+fn say_empty(alloc: Global, out: &mut String) -> Result<(), AllocError> {
+    let part = Part::empty(alloc);
+    let count = part.calls().len();
+    write!(out, "{count} calls\n")
 }
 
 /// Whether the client has a pending call.
@@ -284,10 +301,7 @@ fn say_answer(
         "copy?" => out.push_str(said_equal(is_copied(history)?))?,
         "order?" => say_tag_order(alloc, out, history, rest)?,
         "numbers" => say_numbered(alloc, out, rest)?,
-        "empty" => {
-            let count = Part::empty(alloc).calls().len();
-            write!(out, "{count} calls\n")?;
-        }
+        "empty" => say_empty(alloc, out)?,
         "busy?" => match busy(history, rest) {
             Some(text) => out.push_str(text)?,
             None => return Ok(false),

@@ -28,8 +28,8 @@ fn say_text(out: &mut String, text: &str, equal: bool) -> Result<(), AllocError>
     write!(out, "taken {text}, copy {equal}")
 }
 
-/// The key that it makes of the text, and whether its copy is equal.
-fn say_key(alloc: Global, out: &mut String, text: &str) -> Result<(), Memory> {
+/// The key that is made of the text, and whether its copy is equal.
+fn say_key_of(alloc: Global, out: &mut String, text: &str) -> Result<(), Memory> {
     match Key::new(alloc, text) {
         Ok(key) => {
             let equal = key.copy()? == key;
@@ -39,8 +39,8 @@ fn say_key(alloc: Global, out: &mut String, text: &str) -> Result<(), Memory> {
     }
 }
 
-/// The value that it makes of the text, and whether its copy is equal.
-fn say_value(alloc: Global, out: &mut String, text: &str) -> Result<(), Memory> {
+/// The value that is made of the text, and whether its copy is equal.
+fn say_value_of(alloc: Global, out: &mut String, text: &str) -> Result<(), Memory> {
     match Value::new(alloc, text) {
         Ok(value) => {
             let equal = value.copy()? == value;
@@ -48,6 +48,40 @@ fn say_value(alloc: Global, out: &mut String, text: &str) -> Result<(), Memory> 
         }
         Err(error) => Ok(write!(out, "refused {error:?}\n")?),
     }
+}
+
+/// The key of the text that is meant.
+fn say_key(alloc: Global, out: &mut String, words: &str) -> Result<(), Memory> {
+    let text = meant(alloc, words)?;
+    say_key_of(alloc, out, text.as_str())
+}
+
+/// The value of the text that is meant.
+fn say_value(alloc: Global, out: &mut String, words: &str) -> Result<(), Memory> {
+    let text = meant(alloc, words)?;
+    say_value_of(alloc, out, text.as_str())
+}
+
+/// The tag that a client takes after the least: `next CLIENT`.
+fn next(words: &str) -> Option<Tag> {
+    let client = ClientId::new(number(words)?).ok()?;
+    Some(Tag::least().next(client))
+}
+
+/// Says the tag.
+pub fn say_tag(out: &mut String, tag: Tag) -> Result<(), AllocError> {
+    let (number, writer) = (tag.number(), tag.writer());
+    write!(out, "({number}, {writer})")
+}
+
+/// Says the tag that comes next. Whether there is one.
+fn say_next(out: &mut String, words: &str) -> Result<bool, AllocError> {
+    let Some(tag) = next(words) else {
+        return Ok(false);
+    };
+    say_tag(out, tag)?;
+    out.push_str("\n")?;
+    Ok(true)
 }
 
 /// The action of the words `read` or `write TEXT`.
@@ -111,18 +145,6 @@ fn range(word: &str, rest: &str) -> Option<&'static str> {
     Some(said_taken(taken))
 }
 
-/// The tag that a client takes after the least: `next CLIENT`.
-fn next(words: &str) -> Option<Tag> {
-    let client = ClientId::new(number(words)?).ok()?;
-    Some(Tag::least().next(client))
-}
-
-/// Says the tag.
-pub fn say_tag(out: &mut String, tag: Tag) -> Result<(), AllocError> {
-    let (number, writer) = (tag.number(), tag.writer());
-    write!(out, "({number}, {writer})")
-}
-
 /// What is said of a step on names that has one of a few answers, if it is such a step.
 fn answer(alloc: Global, word: &str, rest: &str) -> Option<&'static str> {
     match word {
@@ -133,22 +155,29 @@ fn answer(alloc: Global, word: &str, rest: &str) -> Option<&'static str> {
     }
 }
 
+/// Says such an answer. Whether there is one.
+fn say_found(out: &mut String, found: Option<&str>) -> Result<bool, AllocError> {
+    match found {
+        Some(text) => {
+            out.push_str(text)?;
+            Ok(true)
+        }
+        None => Ok(false),
+    }
+}
+
 /// Says what comes of a step on names. Whether it is one.
 pub fn say(alloc: Global, out: &mut String, word: &str, rest: &str) -> Result<bool, Memory> {
     match word {
-        "key" => say_key(alloc, out, meant(alloc, rest)?.as_str())?,
-        "value" => say_value(alloc, out, meant(alloc, rest)?.as_str())?,
-        "next" => match next(rest) {
-            Some(tag) => {
-                say_tag(out, tag)?;
-                out.push_str("\n")?;
-            }
-            None => return Ok(false),
-        },
-        _ => match answer(alloc, word, rest) {
-            Some(text) => out.push_str(text)?,
-            None => return Ok(false),
-        },
+        "key" => {
+            say_key(alloc, out, rest)?;
+            Ok(true)
+        }
+        "value" => {
+            say_value(alloc, out, rest)?;
+            Ok(true)
+        }
+        "next" => Ok(say_next(out, rest)?),
+        _ => Ok(say_found(out, answer(alloc, word, rest))?),
     }
-    Ok(true)
 }

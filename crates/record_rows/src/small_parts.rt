@@ -76,9 +76,8 @@ fn invoke(alloc: Global, history: &mut History, i: u32, kind: u32) -> Option<()>
     Some(())
 }
 
-/// The part of that number with so many calls.
-fn small_part(alloc: Global, number: u32, count: u32) -> Option<Part> {
-    let mut history = History::new(alloc, 10);
+/// Records the calls of the part of that number.
+fn record(alloc: Global, history: &mut History, number: u32, count: u32) -> Option<()> {
     let mut choices = Vec::new(alloc);
     let mut rest = number;
     for i in 0..count {
@@ -86,12 +85,26 @@ fn small_part(alloc: Global, number: u32, count: u32) -> Option<Part> {
         let choice = choice_of(rest.checked_rem(all)?, i);
         rest = rest.checked_div(all)?;
         choices.push(choice).ok()?;
-        invoke(alloc, &mut history, i, choice.kind)?;
-        respond(alloc, &mut history, choices.as_slice(), i)?;
+        invoke(alloc, history, i, choice.kind)?;
+        respond(alloc, history, choices.as_slice(), i)?;
     }
+    Some(())
+}
+
+/// The only part of a history, or the empty one.
+fn only_part(alloc: Global, history: &History) -> Option<Part> {
     match history.parts().ok()?.into_entries().pop() {
         Some((_, part)) => Some(part),
         None => Some(Part::empty(alloc)),
+    }
+}
+
+/// The part of that number with so many calls.
+fn small_part(alloc: Global, number: u32, count: u32) -> Option<Part> {
+    let mut history = History::new(alloc, 10);
+    match record(alloc, &mut history, number, count) {
+        Some(()) => only_part(alloc, &history),
+        None => None,
     }
 }
 
