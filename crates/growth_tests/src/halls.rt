@@ -1,4 +1,5 @@
 //! Steps of a hall whose journal is full: one of each kind, which finds that the journal has to grow.
+use crate::assert_kept;
 use crate::worlds::{seen, step};
 use client_phases::Taken;
 use hall_journal::Hall;
@@ -34,16 +35,27 @@ fn whole(alloc: Global, hall: &Hall) -> Result<String, Memory> {
     Ok(text)
 }
 
-/// Takes the step, and says whether it had its effect. Where it was refused for memory it is taken again,
-/// if the whole hall is as before.
-fn insist(alloc: Global, hall: &mut Hall, step: Step, wanted: Effect) -> Result<bool, Memory> {
-    let before = whole(alloc, hall)?;
-    let again = step.copy()?;
-    let first = hall.take(step);
-    if first == Err(Refusal::Memory) && whole(alloc, hall)? == before {
-        return Ok(hall.take(again) == Ok(wanted));
+/// Takes a step again that was refused for memory, if the whole hall is as before.
+fn take_again(
+    alloc: Global,
+    hall: &mut Hall,
+    step: &Step,
+    wanted: Effect,
+    before: &str,
+) -> Result<bool, Memory> {
+    if whole(alloc, hall)?.as_str() != before {
+        return Ok(false);
     }
-    Ok(first == Ok(wanted))
+    Ok(hall.take(step.copy()?) == Ok(wanted))
+}
+
+/// Takes the step, and says whether it had its effect; at the second time where it was refused for memory.
+fn insist(alloc: Global, hall: &mut Hall, step: &Step, wanted: Effect) -> Result<bool, Memory> {
+    let before = whole(alloc, hall)?;
+    match hall.take(step.copy()?) {
+        Err(Refusal::Memory) => take_again(alloc, hall, step, wanted, before.as_str()),
+        first => Ok(first == Ok(wanted)),
+    }
 }
 
 /// Takes the first steps of the write. Whether none of them was refused.
@@ -80,19 +92,34 @@ fn fill(alloc: Global, hall: &mut Hall, count: usize) -> Result<bool, Memory> {
     Ok(true)
 }
 
-/// A hall that took so many steps of the write, and then others until its journal was full.
-fn full_hall(alloc: Global, begun: usize, count: usize) -> Result<Option<Hall>, Memory> {
-    let Some(config) = Config::new(3, 1000, 1000) else {
-        return Ok(None);
-    };
-    let mut hall = Hall::new(alloc, config)?;
-    let is_begun = begin(alloc, &mut hall, begun)?;
-    let is_full = fill(alloc, &mut hall, count)?;
-    Ok(if is_begun && is_full {
-        Some(hall)
-    } else {
-        None
-    })
+/// Whether the hall takes so many steps of the write, and then others until its journal is full.
+fn is_filled(alloc: Global, hall: &mut Hall, begun: usize, count: usize) -> Result<bool, Memory> {
+    Ok(begin(alloc, hall, begun)? && fill(alloc, hall, count)?)
+}
+
+/// Whether the step of client 1 has its effect.
+fn has_effect(
+    alloc: Global,
+    hall: &mut Hall,
+    letter: (char, u32),
+    effect: Effect,
+) -> Result<bool, Memory> {
+    let step = step(alloc, letter.0, 1, letter.1)?;
+    insist(alloc, hall, &step, effect)
+}
+
+/// Whether that holds of a hall once it is filled.
+fn is_kept_by(
+    alloc: Global,
+    hall: &mut Hall,
+    (begun, count): (usize, usize),
+    letter: (char, u32),
+    effect: Effect,
+) -> Result<bool, Memory> {
+    if !is_filled(alloc, hall, begun, count)? {
+        return Ok(false);
+    }
+    has_effect(alloc, hall, letter, effect)
 }
 
 /// Whether the step of client 1 has its effect on a hall that took so many steps of the write, and whose
@@ -104,41 +131,37 @@ fn is_kept(
     letter: (char, u32),
     effect: Effect,
 ) -> Result<bool, Memory> {
-    match full_hall(alloc, begun, count)? {
-        Some(mut hall) => {
-            let step = step(alloc, letter.0, 1, letter.1)?;
-            insist(alloc, &mut hall, step, effect)
-        }
-        None => Ok(false),
-    }
+    let Some(config) = Config::new(3, 1000, 1000) else {
+        return Ok(false);
+    };
+    let mut hall = Hall::new(alloc, config)?;
+    is_kept_by(alloc, &mut hall, (begun, count), letter, effect)
 }
 
 #[test]
 fn a_refused_growth_keeps_a_hall_at_a_join(rt: HostRuntime) -> Result<(), Memory> {
-    let is_kept = is_kept(rt.alloc(), 0, 31, ('j', 0), Effect::Joined)?;
-    assert!(rt; is_kept);
-    Ok(())
+    assert_kept(&rt, is_kept(rt.alloc(), 0, 31, ('j', 0), Effect::Joined))
 }
 
 #[test]
 fn a_refused_growth_keeps_a_hall_at_an_invocation(rt: HostRuntime) -> Result<(), Memory> {
-    let is_kept = is_kept(rt.alloc(), 1, 31, ('w', 0), Effect::Invoked(OpId(0)))?;
-    assert!(rt; is_kept);
-    Ok(())
+    assert_kept(
+        &rt,
+        is_kept(rt.alloc(), 1, 31, ('w', 0), Effect::Invoked(OpId(0))),
+    )
 }
 
 #[test]
 fn a_refused_growth_keeps_a_hall_at_a_send(rt: HostRuntime) -> Result<(), Memory> {
-    let is_kept = is_kept(rt.alloc(), 2, 31, ('s', 0), Effect::Sent(0))?;
-    assert!(rt; is_kept);
-    Ok(())
+    assert_kept(&rt, is_kept(rt.alloc(), 2, 31, ('s', 0), Effect::Sent(0)))
 }
 
 #[test]
 fn a_refused_growth_keeps_a_hall_at_a_querys_delivery(rt: HostRuntime) -> Result<(), Memory> {
-    let is_kept = is_kept(rt.alloc(), 4, 31, ('d', 0), Effect::Answered(2))?;
-    assert!(rt; is_kept);
-    Ok(())
+    assert_kept(
+        &rt,
+        is_kept(rt.alloc(), 4, 31, ('d', 0), Effect::Answered(2)),
+    )
 }
 
 #[test]
@@ -147,57 +170,47 @@ fn a_refused_growth_keeps_a_hall_at_a_noted_delivery(rt: HostRuntime) -> Result<
         return Err(Memory);
     };
     let effect = Effect::Taken(Taken::Noted(tag));
-    let is_kept = is_kept(rt.alloc(), 7, 31, ('d', 3), effect)?;
-    assert!(rt; is_kept);
-    Ok(())
+    assert_kept(&rt, is_kept(rt.alloc(), 7, 31, ('d', 3), effect))
 }
 
 #[test]
 fn a_refused_growth_keeps_a_hall_at_a_puts_delivery(rt: HostRuntime) -> Result<(), Memory> {
-    let is_kept = is_kept(rt.alloc(), 10, 31, ('d', 4), Effect::Answered(6))?;
-    assert!(rt; is_kept);
-    Ok(())
+    assert_kept(
+        &rt,
+        is_kept(rt.alloc(), 10, 31, ('d', 4), Effect::Answered(6)),
+    )
 }
 
 #[test]
 fn a_refused_growth_keeps_a_hall_at_a_loss(rt: HostRuntime) -> Result<(), Memory> {
-    let is_kept = is_kept(rt.alloc(), 3, 31, ('l', 0), Effect::Lost)?;
-    assert!(rt; is_kept);
-    Ok(())
+    assert_kept(&rt, is_kept(rt.alloc(), 3, 31, ('l', 0), Effect::Lost))
 }
 
 #[test]
 fn a_refused_growth_keeps_a_hall_at_a_repetition(rt: HostRuntime) -> Result<(), Memory> {
-    let is_kept = is_kept(rt.alloc(), 3, 31, ('c', 0), Effect::Repeated)?;
-    assert!(rt; is_kept);
-    Ok(())
+    assert_kept(&rt, is_kept(rt.alloc(), 3, 31, ('c', 0), Effect::Repeated))
 }
 
 #[test]
 fn a_refused_growth_keeps_a_hall_at_a_response(rt: HostRuntime) -> Result<(), Memory> {
-    let is_kept = is_kept(rt.alloc(), 14, 31, ('a', 0), Effect::Responded(OpId(0)))?;
-    assert!(rt; is_kept);
-    Ok(())
+    assert_kept(
+        &rt,
+        is_kept(rt.alloc(), 14, 31, ('a', 0), Effect::Responded(OpId(0))),
+    )
 }
 
 /// A client's stop has its place in the journal: here no growth is met that isn't the test's own.
 #[test]
 fn a_refused_growth_keeps_a_hall_at_a_clients_stop(rt: HostRuntime) -> Result<(), Memory> {
-    let is_kept = is_kept(rt.alloc(), 1, 31, ('k', 0), Effect::Stopped)?;
-    assert!(rt; is_kept);
-    Ok(())
+    assert_kept(&rt, is_kept(rt.alloc(), 1, 31, ('k', 0), Effect::Stopped))
 }
 
 #[test]
 fn a_refused_growth_keeps_a_hall_at_a_replicas_stop(rt: HostRuntime) -> Result<(), Memory> {
-    let is_kept = is_kept(rt.alloc(), 0, 32, ('-', 2), Effect::Stopped)?;
-    assert!(rt; is_kept);
-    Ok(())
+    assert_kept(&rt, is_kept(rt.alloc(), 0, 32, ('-', 2), Effect::Stopped))
 }
 
 #[test]
 fn a_refused_growth_keeps_a_hall_at_a_replicas_start(rt: HostRuntime) -> Result<(), Memory> {
-    let is_kept = is_kept(rt.alloc(), 2, 31, ('+', 2), Effect::Started)?;
-    assert!(rt; is_kept);
-    Ok(())
+    assert_kept(&rt, is_kept(rt.alloc(), 2, 31, ('+', 2), Effect::Started))
 }

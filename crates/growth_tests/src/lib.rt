@@ -16,3 +16,16 @@ mod randoms;
 mod records;
 #[cfg(test)]
 mod worlds;
+
+#[cfg(test)]
+use std::process::Abort;
+#[cfg(test)]
+use tag::Memory;
+
+/// Ends a test: it failed where not all was kept.
+#[cfg(test)]
+fn assert_kept(rt: &impl Abort, is_kept: Result<bool, Memory>) -> Result<(), Memory> {
+    let is_kept = is_kept?;
+    assert!(rt; is_kept);
+    Ok(())
+}

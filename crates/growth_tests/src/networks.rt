@@ -1,4 +1,5 @@
 //! The network and a replica.
+use crate::assert_kept;
 use network::{Message, NetRefusal, Pool};
 use replica::{Replica, Reply, Request};
 use std::alloc::Global;
@@ -35,12 +36,11 @@ fn text(alloc: Global, pool: &Pool) -> Result<String, Memory> {
 /// left the pool as it was.
 fn is_sent(alloc: Global, pool: &mut Pool, number: u32, message: &Message) -> Result<bool, Memory> {
     let before = text(alloc, pool)?;
-    let (copy, again) = (message.copy()?, message.copy()?);
-    let first = pool.send(copy);
-    if first == Err(NetRefusal::Memory) && text(alloc, pool)? == before {
-        return Ok(pool.send(again) == Ok(number));
+    let mut sent = pool.send(message.copy()?);
+    if sent == Err(NetRefusal::Memory) && text(alloc, pool)? == before {
+        sent = pool.send(message.copy()?);
     }
-    Ok(first == Ok(number))
+    Ok(sent == Ok(number))
 }
 
 /// Whether a copy is delivered, in the same way, and leaves the other.
@@ -61,32 +61,45 @@ fn is_delivered(
     }
 }
 
-fn is_taken(alloc: Global, pool: &mut Pool, number: u32) -> Result<bool, Memory> {
-    let Some(message) = message_of(alloc, number)? else {
-        return Ok(false);
-    };
-    let is_sent = is_sent(alloc, pool, number, &message)?;
+/// Whether the message is sent, repeated and delivered.
+fn is_carried(
+    alloc: Global,
+    pool: &mut Pool,
+    number: u32,
+    message: &Message,
+) -> Result<bool, Memory> {
+    let is_sent = is_sent(alloc, pool, number, message)?;
     let is_repeated = pool.repeat(number).is_ok();
-    let is_delivered = is_delivered(alloc, pool, number, &message)?;
+    let is_delivered = is_delivered(alloc, pool, number, message)?;
     Ok(is_sent && is_repeated && is_delivered)
 }
 
-fn network_is_kept(alloc: Global) -> Result<bool, Memory> {
-    let mut pool = Pool::new(alloc, 40);
+fn is_taken(alloc: Global, pool: &mut Pool, number: u32) -> Result<bool, Memory> {
+    match message_of(alloc, number)? {
+        Some(message) => is_carried(alloc, pool, number, &message),
+        None => Ok(false),
+    }
+}
+
+/// Whether forty messages are taken.
+fn are_taken(alloc: Global, pool: &mut Pool) -> Result<bool, Memory> {
     let mut good = true;
     for number in 0..40 {
-        if !is_taken(alloc, &mut pool, number)? {
+        if !is_taken(alloc, pool, number)? {
             good = false;
         }
     }
     Ok(good && pool.sent() == 40 && pool.stored() == 40)
 }
 
+fn network_is_kept(alloc: Global) -> Result<bool, Memory> {
+    let mut pool = Pool::new(alloc, 40);
+    are_taken(alloc, &mut pool)
+}
+
 #[test]
 fn a_refused_growth_keeps_the_network(rt: HostRuntime) -> Result<(), Memory> {
-    let is_kept = network_is_kept(rt.alloc())?;
-    assert!(rt; is_kept);
-    Ok(())
+    assert_kept(&rt, network_is_kept(rt.alloc()))
 }
 
 /// The answer, at the second time where a growth was refused at the first; none where that changed
@@ -140,26 +153,29 @@ fn is_told(alloc: Global, replica: &mut Replica, name: &str, number: u32) -> Res
     Ok(told.is_some() && told == held(alloc, name, number)?)
 }
 
-fn replica_is_kept(alloc: Global) -> Result<bool, Memory> {
-    let Some(number) = ReplicaId::new(0) else {
-        return Ok(false);
-    };
-    let mut replica = Replica::new(alloc, number);
+/// Whether the replica takes five puts, and tells each.
+fn are_put(alloc: Global, replica: &mut Replica) -> Result<bool, Memory> {
     let mut good = true;
     for (name, number) in [("a", 1), ("b", 1), ("a", 2), ("c", 1), ("b", 2)] {
-        if !is_put(alloc, &mut replica, name, number)? {
+        if !is_put(alloc, replica, name, number)? {
             good = false;
         }
-        if !is_told(alloc, &mut replica, name, number)? {
+        if !is_told(alloc, replica, name, number)? {
             good = false;
         }
     }
     Ok(good)
 }
 
+fn replica_is_kept(alloc: Global) -> Result<bool, Memory> {
+    let Some(number) = ReplicaId::new(0) else {
+        return Ok(false);
+    };
+    let mut replica = Replica::new(alloc, number);
+    are_put(alloc, &mut replica)
+}
+
 #[test]
 fn a_refused_growth_keeps_a_replica(rt: HostRuntime) -> Result<(), Memory> {
-    let is_kept = replica_is_kept(rt.alloc())?;
-    assert!(rt; is_kept);
-    Ok(())
+    assert_kept(&rt, replica_is_kept(rt.alloc()))
 }

@@ -1,6 +1,7 @@
 //! A history, its parts, their orders and the verdicts on them.
+use crate::assert_kept;
 use certificate_check::{Verdict, check_part};
-use recorder::{History, Part, RowRefusal};
+use recorder::{History, Part, Parts, RowRefusal};
 use std::alloc::Global;
 use tag::{Action, ClientId, Key, Memory, OpId, Returned, Tag, Value};
 use witness_order::order_of;
@@ -21,20 +22,29 @@ fn text(alloc: Global, history: &History) -> Result<String, Memory> {
     Ok(format!(in alloc; "{rows:?}")?)
 }
 
+/// Has client 1 begin the call.
+fn begin(
+    alloc: Global,
+    history: &mut History,
+    call: u32,
+) -> Result<Result<OpId, RowRefusal>, Memory> {
+    let Ok(client) = ClientId::new(1) else {
+        return Err(Memory);
+    };
+    let name = key(alloc, call)?;
+    let action = Action::Write(value(alloc)?);
+    Ok(history.invoke(client, name, action))
+}
+
 /// Whether client 1 begins the call, at the second time where a growth was refused at the first, which
 /// left the history as it was.
 fn is_begun(alloc: Global, history: &mut History, call: u32) -> Result<bool, Memory> {
-    let Ok(client) = ClientId::new(1) else {
-        return Ok(false);
-    };
     let before = text(alloc, history)?;
-    let (name, action) = (key(alloc, call)?, Action::Write(value(alloc)?));
-    let (copy, same) = (name.copy()?, action.copy()?);
-    let first = history.invoke(client, name, action);
-    if first == Err(RowRefusal::Memory) && text(alloc, history)? == before {
-        return Ok(history.invoke(client, copy, same) == Ok(OpId(call)));
+    let mut begun = begin(alloc, history, call)?;
+    if begun == Err(RowRefusal::Memory) && text(alloc, history)? == before {
+        begun = begin(alloc, history, call)?;
     }
-    Ok(first == Ok(OpId(call)))
+    Ok(begun == Ok(OpId(call)))
 }
 
 /// Whether the call is noted, in the same way.
@@ -76,17 +86,22 @@ fn is_justified(alloc: Global, part: &Part, calls: usize) -> Result<bool, Memory
     Ok(part.calls().len() == calls && verdict == Verdict::Yes)
 }
 
+/// Whether there are the keys of all calls, and the key has its three.
+fn has_three(alloc: Global, parts: &Parts, key: &Key) -> Result<bool, Memory> {
+    match parts.get(key)? {
+        Some(part) => Ok(parts.entries().len() == 15 && is_justified(alloc, part, 3)?),
+        None => Ok(false),
+    }
+}
+
 /// Whether the first key has its three calls.
 fn is_parted(alloc: Global, history: &History) -> Result<bool, Memory> {
+    let first = key(alloc, 0)?;
     let parts = match history.parts() {
         Ok(parts) => parts,
         Err(Memory) => history.parts()?,
     };
-    let first = key(alloc, 0)?;
-    match parts.get(&first)? {
-        Some(part) => Ok(parts.entries().len() == 15 && is_justified(alloc, part, 3)?),
-        None => Ok(false),
-    }
+    has_three(alloc, &parts, &first)
 }
 
 /// Whether a copy has the same rows.
@@ -98,22 +113,31 @@ fn is_copied(alloc: Global, history: &History) -> Result<bool, Memory> {
     Ok(text(alloc, history)? == text(alloc, &copy)?)
 }
 
-fn history_is_kept(alloc: Global) -> Result<bool, Memory> {
-    let mut history = History::new(alloc, 45);
+/// Whether all calls are recorded.
+fn are_recorded(alloc: Global, history: &mut History) -> Result<bool, Memory> {
     let mut good = true;
     for call in 0..45 {
-        if !is_recorded(alloc, &mut history, call)? {
+        if !is_recorded(alloc, history, call)? {
             good = false;
         }
     }
-    let parted = is_parted(alloc, &history)?;
-    let copied = is_copied(alloc, &history)?;
-    Ok(good && parted && copied)
+    Ok(good)
+}
+
+/// Whether all calls are recorded, parted and copied.
+fn is_kept(alloc: Global, history: &mut History) -> Result<bool, Memory> {
+    let recorded = are_recorded(alloc, history)?;
+    let parted = is_parted(alloc, history)?;
+    let copied = is_copied(alloc, history)?;
+    Ok(recorded && parted && copied)
+}
+
+fn history_is_kept(alloc: Global) -> Result<bool, Memory> {
+    let mut history = History::new(alloc, 45);
+    is_kept(alloc, &mut history)
 }
 
 #[test]
 fn a_refused_growth_keeps_a_history(rt: HostRuntime) -> Result<(), Memory> {
-    let is_kept = history_is_kept(rt.alloc())?;
-    assert!(rt; is_kept);
-    Ok(())
+    assert_kept(&rt, history_is_kept(rt.alloc()))
 }

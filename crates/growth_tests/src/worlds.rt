@@ -1,4 +1,5 @@
 //! Steps of a world, and the call that `settle` completes.
+use crate::assert_kept;
 use client_phases::Taken;
 use std::alloc::Global;
 use std::fmt::Write as _;
@@ -89,8 +90,22 @@ fn is_wanted(taken: Result<Effect, Refusal>, wanted: Option<Effect>) -> bool {
     }
 }
 
-/// Takes a step, and says whether it had the effect that is wanted, if any is. Where it was refused for
-/// memory it is taken again, if the whole world is as before.
+/// Takes a step again that was refused for memory, if the whole world is as before.
+fn take_again(
+    alloc: Global,
+    world: &mut World,
+    step: &Step,
+    wanted: Option<Effect>,
+    before: &str,
+) -> Result<bool, Memory> {
+    if seen(alloc, world)?.as_str() != before {
+        return Ok(false);
+    }
+    Ok(is_wanted(world.step(step.copy()?), wanted))
+}
+
+/// Takes a step, and says whether it had the effect that is wanted, if any is; at the second time where it
+/// was refused for memory.
 pub fn insist(
     alloc: Global,
     world: &mut World,
@@ -98,12 +113,21 @@ pub fn insist(
     wanted: Option<Effect>,
 ) -> Result<bool, Memory> {
     let before = seen(alloc, world)?;
-    let again = step.copy()?;
-    let first = world.step(step.copy()?);
-    if first == Err(Refusal::Memory) && seen(alloc, world)? == before {
-        return Ok(is_wanted(world.step(again), wanted));
+    match world.step(step.copy()?) {
+        Err(Refusal::Memory) => take_again(alloc, world, step, wanted, before.as_str()),
+        first => Ok(is_wanted(first, wanted)),
     }
-    Ok(is_wanted(first, wanted))
+}
+
+/// Whether the step of that letter and those numbers has its effect.
+fn has_effect(
+    alloc: Global,
+    world: &mut World,
+    (kind, who, at): (char, u32, u32),
+    effect: Effect,
+) -> Result<bool, Memory> {
+    let step = step(alloc, kind, who, at)?;
+    insist(alloc, world, &step, Some(effect))
 }
 
 /// Whether each step has its effect.
@@ -114,8 +138,7 @@ fn are_taken(
 ) -> Result<bool, Memory> {
     let mut good = true;
     for (kind, who, at, effect) in steps {
-        let step = step(alloc, *kind, *who, *at)?;
-        if !insist(alloc, world, &step, Some(*effect))? {
+        if !has_effect(alloc, world, (*kind, *who, *at), *effect)? {
             good = false;
         }
     }
@@ -126,8 +149,7 @@ fn are_taken(
 fn all_join(alloc: Global, world: &mut World) -> Result<bool, Memory> {
     let mut good = true;
     for who in 1..14 {
-        let step = step(alloc, 'j', who, 0)?;
-        if !insist(alloc, world, &step, Some(Effect::Joined))? {
+        if !has_effect(alloc, world, ('j', who, 0), Effect::Joined)? {
             good = false;
         }
     }
@@ -206,9 +228,7 @@ fn world_is_kept(alloc: Global) -> Result<bool, Memory> {
 
 #[test]
 fn a_refused_growth_keeps_a_world(rt: HostRuntime) -> Result<(), Memory> {
-    let is_kept = world_is_kept(rt.alloc())?;
-    assert!(rt; is_kept);
-    Ok(())
+    assert_kept(&rt, world_is_kept(rt.alloc()))
 }
 
 /// The messages sent and the rows after so many steps of `settle`: of each three the first and the second
@@ -241,20 +261,25 @@ fn is_settled(world: &mut World, client: ClientId) -> bool {
     is_good && world.history().rows().len() == 3
 }
 
+/// Whether client 1 joins and begins its write.
+fn is_pending(alloc: Global, world: &mut World) -> Result<bool, Memory> {
+    let joined = has_effect(alloc, world, ('j', 1, 0), Effect::Joined)?;
+    let begun = has_effect(alloc, world, ('w', 1, 0), Effect::Invoked(OpId(0)))?;
+    Ok(joined && begun)
+}
+
 fn settling_is_kept(alloc: Global) -> Result<bool, Memory> {
     let (Some(config), Ok(client)) = (Config::new(3, 10, 1000), ClientId::new(1)) else {
         return Ok(false);
     };
     let mut world = World::new(alloc, config)?;
-    let (join, write) = (step(alloc, 'j', 1, 0)?, step(alloc, 'w', 1, 0)?);
-    let joined = insist(alloc, &mut world, &join, Some(Effect::Joined))?;
-    let begun = insist(alloc, &mut world, &write, Some(Effect::Invoked(OpId(0))))?;
-    Ok(joined && begun && is_settled(&mut world, client))
+    match is_pending(alloc, &mut world) {
+        Ok(pending) => Ok(pending && is_settled(&mut world, client)),
+        Err(Memory) => Err(Memory),
+    }
 }
 
 #[test]
 fn a_refused_growth_ends_settling_behind_the_steps_so_far(rt: HostRuntime) -> Result<(), Memory> {
-    let is_kept = settling_is_kept(rt.alloc())?;
-    assert!(rt; is_kept);
-    Ok(())
+    assert_kept(&rt, settling_is_kept(rt.alloc()))
 }
