@@ -8,25 +8,37 @@ mod runs;
 mod wording;
 
 use row_files::say_files;
-use runs::{load_row, rooms_row, run_row};
+use runs::{rooms_row, say_loads, say_runs};
 use std::alloc::{AllocError, Global};
 use std::process::ExitCode;
 use std::sync::Wait;
 use std::thread::Threads;
-use wording::words_row;
+use wording::say_words;
 
 /// What comes of a row.
-fn found<R>(rt: &R, alloc: Global, kind: &str, lines: &str) -> Result<String, AllocError>
+fn say_row<R>(rt: &R, out: &mut String, kind: &str, lines: &str) -> Result<(), AllocError>
 where
     R: Threads + Wait + Copy + Send + Sync + 'static,
 {
     match kind {
-        "words" => words_row(alloc, lines),
-        "run" => run_row(rt, alloc, lines),
-        "rooms" => rooms_row(rt, alloc, lines),
-        "load" => load_row(rt, alloc, lines),
-        _ => String::from_str(alloc, "NO SUCH KIND OF ROW\n"),
+        "words" => say_words(out, lines),
+        "run" => say_runs(rt, out, lines),
+        "load" => say_loads(rt, out, lines),
+        _ => out.push_str("NO SUCH KIND OF ROW\n"),
     }
+}
+
+/// What comes of a row, as a text of its own.
+fn found<R>(rt: &R, alloc: Global, kind: &str, lines: &str) -> Result<String, AllocError>
+where
+    R: Threads + Wait + Copy + Send + Sync + 'static,
+{
+    if kind == "rooms" {
+        return rooms_row(rt, alloc, lines);
+    }
+    let mut out = String::new(alloc);
+    say_row(rt, &mut out, kind, lines)?;
+    Ok(out)
 }
 
 fn main(rt: HostRuntime) -> ExitCode {

@@ -2,7 +2,7 @@
 use crate::commands::{Said, asked_of, checked, justified, ran};
 use cli::Counting;
 use history_file::read_histories;
-use recorder::Row;
+use recorder::{Histories, Row};
 use row_files::{AMPLE, Pieces, Spans, push_bytes};
 use run_words::RunAsked;
 use std::alloc::{AllocError, Global};
@@ -11,29 +11,37 @@ use std::thread::Threads;
 use tag::{Action, OpId, Returned};
 
 /// The status, and what went to both outputs.
-fn push_said(text: &mut String, said: &Said) -> Result<(), AllocError> {
-    let line = format!(in *text.allocator(); "status {}\n", said.status.code())?;
-    text.push_str(line.as_str())?;
-    push_bytes(text, said.out.as_slice())?;
+fn push_said(out: &mut String, said: &Said) -> Result<(), AllocError> {
+    let status = said.status.code();
+    write!(out, "status {status}\n")?;
+    push_bytes(out, said.out.as_slice())?;
     if !said.errors.is_empty() {
-        text.push_str("standard error:\n")?;
+        out.push_str("standard error:\n")?;
     }
-    push_bytes(text, said.errors.as_slice())
+    push_bytes(out, said.errors.as_slice())
 }
 
-/// Each line's run: all that it says.
-pub fn run_row<R>(rt: &R, alloc: Global, lines: &str) -> Result<String, AllocError>
+/// A line's run: all that it says.
+fn say_run<R>(rt: &R, out: &mut String, line: &str) -> Result<(), AllocError>
 where
     R: Threads + Wait + Copy + Send + Sync + 'static,
 {
-    let mut text = String::new(alloc);
-    for line in lines.lines() {
-        match asked_of(alloc, line)? {
-            Some(asked) => push_said(&mut text, &ran(rt, alloc, asked, AMPLE))?,
-            None => text.push_str("NO RUN\n")?,
-        }
+    let alloc = *out.allocator();
+    match asked_of(alloc, line)? {
+        Some(asked) => push_said(out, &ran(rt, alloc, asked, AMPLE)),
+        None => out.push_str("NO RUN\n"),
     }
-    Ok(text)
+}
+
+/// Each line's run.
+pub fn say_runs<R>(rt: &R, out: &mut String, lines: &str) -> Result<(), AllocError>
+where
+    R: Threads + Wait + Copy + Send + Sync + 'static,
+{
+    for line in lines.lines() {
+        say_run(rt, out, line)?;
+    }
+    Ok(())
 }
 
 /// What the call writes, or else the empty text.
@@ -108,71 +116,87 @@ fn reads_own_writes(rows: &[Row]) -> bool {
 }
 
 /// How many calls the histories have, and whether client 1 read its own writes.
-fn histories_said(
-    rt: &(impl Threads + Sync),
-    alloc: Global,
-    bytes: &[u8],
-) -> Result<String, AllocError> {
-    let mut reader = Counting::new(Pieces::whole(bytes));
-    let Ok(histories) = read_histories(rt, alloc, &mut reader) else {
-        return String::from_str(alloc, "NO HISTORY");
-    };
-    let mut calls = 0;
-    let mut own = false;
+fn counted(histories: &Histories) -> (usize, &'static str) {
+    let mut calls = 0usize;
+    let mut own = "caller 1 reads no write of its own";
     for history in histories.halls() {
-        calls = usize::saturating_add(calls, history.calls());
+        calls = calls.saturating_add(history.calls());
         if reads_own_writes(history.rows()) {
-            own = true;
+            own = "caller 1 reads its own writes";
         }
     }
-    let own = if own {
-        "caller 1 reads its own writes"
-    } else {
-        "caller 1 reads no write of its own"
-    };
-    let halls = histories.halls().len();
-    format!(in alloc; "{halls} halls, {calls} calls, {own}")
+    (calls, own)
 }
 
-/// What comes of a run, and of the justification and the check of what it wrote.
-fn load_said<R>(rt: &R, alloc: Global, line: &str) -> Result<String, AllocError>
+/// Says that of the histories that the bytes are.
+fn say_histories(
+    rt: &(impl Threads + Sync),
+    out: &mut String,
+    bytes: &[u8],
+) -> Result<(), AllocError> {
+    let mut reader = Counting::new(Pieces::whole(bytes));
+    match read_histories(rt, *out.allocator(), &mut reader) {
+        Ok(histories) => {
+            let halls = histories.halls().len();
+            let (calls, own) = counted(&histories);
+            write!(out, "{halls} halls, {calls} calls, {own}\n")
+        }
+        Err(_) => out.push_str("NO HISTORY\n"),
+    }
+}
+
+/// What came of a run, of the justification of its history, and of their check.
+fn say_checked(
+    rt: &(impl Threads + Sync),
+    out: &mut String,
+    run: &Said,
+    orders: &Said,
+    verdict: &Said,
+) -> Result<(), AllocError> {
+    let (run_status, justify) = (run.status.code(), orders.status.code());
+    let check = verdict.status.code();
+    write!(out, "run {run_status}, justify {justify}, check {check}, ")?;
+    say_histories(rt, out, run.out.as_slice())?;
+    push_bytes(out, verdict.out.as_slice())?;
+    push_bytes(out, run.errors.as_slice())
+}
+
+/// What comes of the justification and the check of what a run wrote.
+fn say_loaded(
+    rt: &(impl Threads + Wait + Sync),
+    out: &mut String,
+    run: &Said,
+) -> Result<(), AllocError> {
+    let alloc = *out.allocator();
+    let history = run.out.as_slice();
+    let orders = justified(rt, alloc, history);
+    match checked(rt, alloc, history, orders.out.as_slice()) {
+        Some(verdict) => say_checked(rt, out, run, &orders, &verdict),
+        None => out.push_str("NO CHECK\n"),
+    }
+}
+
+/// What comes of a line's run, and of its history.
+fn say_load<R>(rt: &R, out: &mut String, line: &str) -> Result<(), AllocError>
 where
     R: Threads + Wait + Copy + Send + Sync + 'static,
 {
-    let Some(asked) = asked_of(alloc, line)? else {
-        return String::from_str(alloc, "NO RUN\n");
-    };
-    let said = ran(rt, alloc, asked, AMPLE);
-    let history = said.out.as_slice();
-    let orders = justified(rt, alloc, history);
-    let Some(verdict) = checked(rt, alloc, history, orders.out.as_slice()) else {
-        return String::from_str(alloc, "NO CHECK\n");
-    };
-    let calls = histories_said(rt, alloc, history)?;
-    let (run, justify, check) = (
-        said.status.code(),
-        orders.status.code(),
-        verdict.status.code(),
-    );
-    let mut text = format!(in alloc;
-        "run {run}, justify {justify}, check {check}, {}\n",
-        calls.as_str()
-    )?;
-    push_bytes(&mut text, verdict.out.as_slice())?;
-    push_bytes(&mut text, said.errors.as_slice())?;
-    Ok(text)
+    let alloc = *out.allocator();
+    match asked_of(alloc, line)? {
+        Some(asked) => say_loaded(rt, out, &ran(rt, alloc, asked, AMPLE)),
+        None => out.push_str("NO RUN\n"),
+    }
 }
 
 /// Each line's run: what comes of its history.
-pub fn load_row<R>(rt: &R, alloc: Global, lines: &str) -> Result<String, AllocError>
+pub fn say_loads<R>(rt: &R, out: &mut String, lines: &str) -> Result<(), AllocError>
 where
     R: Threads + Wait + Copy + Send + Sync + 'static,
 {
-    let mut text = String::new(alloc);
     for line in lines.lines() {
-        text.push_str(load_said(rt, alloc, line)?.as_str())?;
+        say_load(rt, out, line)?;
     }
-    Ok(text)
+    Ok(())
 }
 
 /// How much went out of what goes out where there is room for all.

@@ -7,7 +7,7 @@ use run_words::{RunAsked, Shown};
 use std::alloc::{AllocError, Global};
 
 /// The load that is asked for, and what is shown of it.
-fn asked_said(alloc: Global, asked: RunAsked) -> Result<String, AllocError> {
+fn say_asked(out: &mut String, asked: RunAsked) -> Result<(), AllocError> {
     let load = asked.load.options();
     let (replicas, ask, put) = (
         load.quorums.replicas(),
@@ -21,39 +21,47 @@ fn asked_said(alloc: Global, asked: RunAsked) -> Result<String, AllocError> {
     let halls = load.halls.count();
     let (callers, calls, keys, rounds) = (load.callers, load.calls, load.keys, load.rounds);
     let (drop, double) = (load.drop, load.double);
-    let mut text = format!(in alloc;
+    write!(
+        out,
         "{replicas} replicas, ask {ask}, put {put}, {halls} halls, {reads} reads, "
     )?;
-    text.push_str(format!(in alloc;
+    write!(
+        out,
         "{callers} callers, {calls} calls, {keys} keys, {rounds} rounds, "
-    )?.as_str())?;
-    text.push_str(format!(in alloc; "drop {drop}, double {double}, ")?.as_str())?;
+    )?;
+    write!(out, "drop {drop}, double {double}, ")?;
     match asked.shown {
-        Shown::Hall(hall) => text.push_str(format!(in alloc; "hall {hall}\n")?.as_str())?,
-        Shown::All => text.push_str("all halls\n")?,
+        Shown::Hall(hall) => write!(out, "hall {hall}\n"),
+        Shown::All => out.push_str("all halls\n"),
     }
-    Ok(text)
+}
+
+/// What comes of a line that isn't a command's: after ` says ` stood the word.
+fn usage_said(alloc: Global, usage: &Usage, word: &str) -> Result<String, AllocError> {
+    match usage {
+        Usage::Help(text) => text_said(alloc, "help", text.as_str(), word),
+        Usage::Version(text) => text_said(alloc, "version", text.as_str(), word),
+        Usage::Fault(text) => text_said(alloc, "fault", text.as_str(), word),
+        Usage::Memory => String::from_str(alloc, "no memory\n"),
+    }
 }
 
 /// What a line of words asks for.
-fn line_said(alloc: Global, line: &str) -> Result<String, AllocError> {
+fn say_line(out: &mut String, line: &str) -> Result<(), AllocError> {
+    let alloc = *out.allocator();
     let (words, word) = line.split_once(" says ").unwrap_or((line, ""));
     let words = words_of(alloc, words)?;
     match command(alloc, words.as_slice()) {
-        Ok(Command::Run(asked)) => asked_said(alloc, asked),
-        Ok(_) => String::from_str(alloc, "another command\n"),
-        Err(Usage::Help(text)) => text_said(alloc, "help", text.as_str(), word),
-        Err(Usage::Version(text)) => text_said(alloc, "version", text.as_str(), word),
-        Err(Usage::Fault(text)) => text_said(alloc, "fault", text.as_str(), word),
-        Err(Usage::Memory) => String::from_str(alloc, "no memory\n"),
+        Ok(Command::Run(asked)) => say_asked(out, asked),
+        Ok(_) => out.push_str("another command\n"),
+        Err(usage) => out.push_str(usage_said(alloc, &usage, word)?.as_str()),
     }
 }
 
 /// What each line asks for; after ` says ` stands what the help or the fault has to say.
-pub fn words_row(alloc: Global, lines: &str) -> Result<String, AllocError> {
-    let mut text = String::new(alloc);
+pub fn say_words(out: &mut String, lines: &str) -> Result<(), AllocError> {
     for line in lines.lines() {
-        text.push_str(line_said(alloc, line)?.as_str())?;
+        say_line(out, line)?;
     }
-    Ok(text)
+    Ok(())
 }
