@@ -32,13 +32,11 @@ impl Agreed {
         }
     }
 
-    /// The answer, and those that differ.
-    pub fn text(&self, alloc: Global) -> Result<String, AllocError> {
-        let mut text = String::new(alloc);
+    /// Says the answer, and those that differ.
+    pub fn say(&self, out: &mut String) -> Result<(), AllocError> {
         if let Some(first) = &self.first {
-            text.push_str(first.as_str())?;
+            out.push_str(first.as_str())?;
         }
-        text.push_str(self.others.as_str())?;
-        Ok(text)
+        out.push_str(self.others.as_str())
     }
 }

@@ -137,67 +137,66 @@ fn run(
 }
 
 /// The status, and what went to both outputs.
-fn push_said(text: &mut String, name: &str, said: &Said) -> Result<(), AllocError> {
-    let line = format!(in *text.allocator(); "{name}: status {}\n", said.status.code())?;
-    text.push_str(line.as_str())?;
-    push_bytes(text, said.out.as_slice())?;
+fn push_said(out: &mut String, name: &str, said: &Said) -> Result<(), AllocError> {
+    let status = said.status.code();
+    write!(out, "{name}: status {status}\n")?;
+    push_bytes(out, said.out.as_slice())?;
     if !said.errors.is_empty() {
-        text.push_str("standard error:\n")?;
+        out.push_str("standard error:\n")?;
     }
-    push_bytes(text, said.errors.as_slice())
+    push_bytes(out, said.errors.as_slice())
 }
 
 /// A check, with what it says.
 fn push_check(
-    text: &mut String,
     rt: &(impl Threads + Wait + Sync),
+    out: &mut String,
     input: Input<'_>,
     way: Way,
-) -> Result<Status, AllocError> {
-    let said = checked(rt, *text.allocator(), input, way);
-    push_said(text, "check", &said)?;
-    Ok(said.status)
+) -> Result<(), AllocError> {
+    let said = checked(rt, *out.allocator(), input, way);
+    push_said(out, "check", &said)
 }
 
 /// A justification and, where it is good, the check of its orders.
 fn push_justification(
-    text: &mut String,
     rt: &(impl Threads + Wait + Sync),
+    out: &mut String,
     input: Input<'_>,
     way: Way,
-) -> Result<Status, AllocError> {
-    let said = justified(rt, *text.allocator(), input, way);
-    push_said(text, "justify", &said)?;
+) -> Result<(), AllocError> {
+    let said = justified(rt, *out.allocator(), input, way);
+    push_said(out, "justify", &said)?;
     if said.status != Status::Good {
-        return Ok(said.status);
+        return Ok(());
     }
     let again = Input {
         file: input.file,
         orders: said.out.as_slice(),
     };
-    push_check(text, rt, again, WELL)
+    push_check(rt, out, again, WELL)
 }
 
 /// A simulation and, where it is good, the justification of its history.
 fn push_simulation(
-    text: &mut String,
     rt: &(impl Threads + Wait + Sync),
+    out: &mut String,
     input: Input<'_>,
     way: Way,
-) -> Result<Status, AllocError> {
-    let said = simulated(*text.allocator(), input, way);
-    push_said(text, "simulate", &said)?;
+) -> Result<(), AllocError> {
+    let said = simulated(*out.allocator(), input, way);
+    push_said(out, "simulate", &said)?;
     if said.status != Status::Good {
-        return Ok(said.status);
+        return Ok(());
     }
     let again = Input {
         file: said.out.as_slice(),
         orders: &[],
     };
-    push_justification(text, rt, again, WELL)
+    push_justification(rt, out, again, WELL)
 }
 
-/// The command of that name, and those that go on with what it wrote.
+/// What comes of the command of that name, and of those that go on with what it wrote.
 fn chain(
     rt: &(impl Threads + Wait + Sync),
     alloc: Global,
@@ -206,11 +205,11 @@ fn chain(
     way: Way,
 ) -> Result<String, AllocError> {
     let mut text = String::new(alloc);
-    let _ = match name {
-        "simulate" => push_simulation(&mut text, rt, input, way)?,
-        "justify" => push_justification(&mut text, rt, input, way)?,
-        _ => push_check(&mut text, rt, input, way)?,
-    };
+    match name {
+        "simulate" => push_simulation(rt, &mut text, input, way)?,
+        "justify" => push_justification(rt, &mut text, input, way)?,
+        _ => push_check(rt, &mut text, input, way)?,
+    }
     Ok(text)
 }
 
@@ -227,18 +226,24 @@ pub fn extent<'a>(found: &'a [u8], whole: &[u8], room: usize) -> &'a str {
     }
 }
 
+/// The lines, with semicolons between them.
+fn push_lines(out: &mut String, lines: &str) -> Result<(), AllocError> {
+    for (place, line) in lines.lines().enumerate() {
+        if place > 0 {
+            out.push_str("; ")?;
+        }
+        out.push_str(line)?;
+    }
+    Ok(())
+}
+
 /// The status, and how much went to both outputs.
 fn room_answer(alloc: Global, said: &Said, whole: &Said, way: Way) -> Result<String, AllocError> {
-    let mut text = format!(in alloc;
-        "status {}, standard output: {}, standard error: ",
-        said.status.code(),
-        extent(said.out.as_slice(), whole.out.as_slice(), way.out),
-    )?;
+    let status = said.status.code();
+    let out = extent(said.out.as_slice(), whole.out.as_slice(), way.out);
     let errors = extent(said.errors.as_slice(), whole.errors.as_slice(), way.errors);
-    for (place, line) in errors.lines().enumerate() {
-        text.push_str(if place == 0 { "" } else { "; " })?;
-        text.push_str(line)?;
-    }
+    let mut text = format!(in alloc; "status {status}, standard output: {out}, standard error: ")?;
+    push_lines(&mut text, errors)?;
     Ok(text)
 }
 
@@ -270,16 +275,13 @@ fn rooms(
     spans.finish()
 }
 
-/// What comes of the row's command on one input.
-fn one(
+/// The answers of the row's command on one input, with each size of pieces and number of workers.
+fn answers_to(
     rt: &(impl Threads + Wait + Sync),
     alloc: Global,
     asked: Asked<'_>,
     input: Input<'_>,
-) -> Result<String, AllocError> {
-    if asked.has("each-room") || asked.has("each-messages") {
-        return rooms(rt, alloc, asked, input);
-    }
+) -> Result<Agreed, AllocError> {
     let mut answers = Agreed::new(alloc);
     for size in asked.sizes().split(',') {
         for workers in asked.workers().split(',') {
@@ -292,58 +294,79 @@ fn one(
             answers.take(chain(rt, alloc, asked.kind(), input, way)?)?;
         }
     }
-    answers.text(alloc)
+    Ok(answers)
 }
 
-/// `simulate`: each line is a script. `justify`: the lines are a history.
-/// `check`: the lines up to `orders:` are a history, those from each such line on are orders.
-pub fn command_row(
+/// What comes of the row's command on one input.
+fn say_one(
     rt: &(impl Threads + Wait + Sync),
-    alloc: Global,
-    asked: Asked<'_>,
-    lines: &str,
-) -> Result<String, AllocError> {
-    let mut text = String::new(alloc);
-    match asked.kind() {
-        "simulate" => {
-            for line in lines.lines() {
-                let file = bytes_of(alloc, line)?;
-                push_one(&mut text, rt, asked, file.as_slice(), &[])?;
-            }
-        }
-        "justify" => {
-            let file = bytes_of(alloc, lines)?;
-            push_one(&mut text, rt, asked, file.as_slice(), &[])?;
-        }
-        _ => push_checks(&mut text, rt, asked, lines)?,
-    }
-    Ok(text)
-}
-
-fn push_one(
-    text: &mut String,
-    rt: &(impl Threads + Wait + Sync),
+    out: &mut String,
     asked: Asked<'_>,
     file: &[u8],
     orders: &[u8],
 ) -> Result<(), AllocError> {
-    let answer = one(rt, *text.allocator(), asked, Input { file, orders })?;
-    text.push_str(answer.as_str())
+    let alloc = *out.allocator();
+    let input = Input { file, orders };
+    if asked.has("each-room") || asked.has("each-messages") {
+        return out.push_str(rooms(rt, alloc, asked, input)?.as_str());
+    }
+    answers_to(rt, alloc, asked, input)?.say(out)
 }
 
-/// The checks of one history with several orders.
-fn push_checks(
-    text: &mut String,
+/// What comes of the row's command on what the lines stand for.
+fn say_file(
     rt: &(impl Threads + Wait + Sync),
+    out: &mut String,
     asked: Asked<'_>,
     lines: &str,
 ) -> Result<(), AllocError> {
-    let alloc = *text.allocator();
+    let file = bytes_of(*out.allocator(), lines)?;
+    say_one(rt, out, asked, file.as_slice(), &[])
+}
+
+/// `simulate`: each line is a script. `justify`: the lines are a history.
+/// `check`: the lines up to `orders:` are a history, those from each such line on are orders.
+pub fn say_command_row(
+    rt: &(impl Threads + Wait + Sync),
+    out: &mut String,
+    asked: Asked<'_>,
+    lines: &str,
+) -> Result<(), AllocError> {
+    match asked.kind() {
+        "simulate" => {
+            for line in lines.lines() {
+                say_file(rt, out, asked, line)?;
+            }
+            Ok(())
+        }
+        "justify" => say_file(rt, out, asked, lines),
+        _ => say_checks(rt, out, asked, lines),
+    }
+}
+
+/// The check of one history with what those lines stand for.
+fn say_orders_checked(
+    rt: &(impl Threads + Wait + Sync),
+    out: &mut String,
+    asked: Asked<'_>,
+    file: &[u8],
+    lines: &str,
+) -> Result<(), AllocError> {
+    let orders = bytes_of(*out.allocator(), lines)?;
+    say_one(rt, out, asked, file, orders.as_slice())
+}
+
+/// The checks of one history with several orders.
+fn say_checks(
+    rt: &(impl Threads + Wait + Sync),
+    out: &mut String,
+    asked: Asked<'_>,
+    lines: &str,
+) -> Result<(), AllocError> {
     let (history, _) = lines.split_once("orders:\n").unwrap_or((lines, ""));
-    let file = bytes_of(alloc, history)?;
+    let file = bytes_of(*out.allocator(), history)?;
     for orders in lines.split("orders:\n").skip(1) {
-        let orders = bytes_of(alloc, orders)?;
-        push_one(text, rt, asked, file.as_slice(), orders.as_slice())?;
+        say_orders_checked(rt, out, asked, file.as_slice(), orders)?;
     }
     Ok(())
 }
@@ -359,42 +382,39 @@ pub fn seeds_row(
     let (before, after) = lines.split_once("SEED").unwrap_or((lines, ""));
     for seed in asked.number("first", 1)..asked.number("last", 1).saturating_add(1) {
         let script = format!(in alloc; "{before}{seed}{after}")?;
-        let script = bytes_of(alloc, script.as_str())?;
-        let input = Input {
-            file: script.as_slice(),
-            orders: &[],
-        };
-        spans.take(seed, seed_answer(rt, alloc, input)?)?;
+        spans.take(seed, seed_answer(rt, alloc, script.as_str())?)?;
     }
     spans.finish()
 }
 
-/// The three statuses, and whether there is a key.
+/// The statuses of a simulation, of the justification of its history and of the check of both, and whether
+/// there is a key.
 fn seed_answer(
     rt: &(impl Threads + Wait + Sync),
     alloc: Global,
-    script: Input<'_>,
+    lines: &str,
 ) -> Result<String, AllocError> {
-    let run = simulated(alloc, script, WELL);
-    let history = Input {
-        file: run.out.as_slice(),
-        orders: &[],
+    let script = bytes_of(alloc, lines)?;
+    let (simulate, justify, check, keys) = seed_statuses(rt, alloc, script.as_slice());
+    format!(in alloc; "simulate {simulate}, justify {justify}, check {check}, {keys}")
+}
+
+fn seed_statuses(
+    rt: &(impl Threads + Wait + Sync),
+    alloc: Global,
+    script: &[u8],
+) -> (u8, u8, u8, &'static str) {
+    let file = script;
+    let run = simulated(alloc, Input { file, orders: &[] }, WELL);
+    let file = run.out.as_slice();
+    let justified = justified(rt, alloc, Input { file, orders: &[] }, WELL);
+    let orders = justified.out.as_slice();
+    let verdict = checked(rt, alloc, Input { file, orders }, WELL);
+    let keys = if verdict.out.is_empty() {
+        "no key"
+    } else {
+        "some keys"
     };
-    let orders = justified(rt, alloc, history, WELL);
-    let both = Input {
-        file: run.out.as_slice(),
-        orders: orders.out.as_slice(),
-    };
-    let verdict = checked(rt, alloc, both, WELL);
-    format!(in alloc;
-        "simulate {}, justify {}, check {}, {}",
-        run.status.code(),
-        orders.status.code(),
-        verdict.status.code(),
-        if verdict.out.is_empty() {
-            "no key"
-        } else {
-            "some keys"
-        },
-    )
+    let (simulate, justify) = (run.status.code(), justified.status.code());
+    (simulate, justify, verdict.status.code(), keys)
 }

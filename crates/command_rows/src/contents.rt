@@ -7,7 +7,7 @@ use crate::formats::{
     write_orders, write_text,
 };
 use crate::notation::bytes_of;
-use crate::saying::{commands_said, key_orders_said, rows_said};
+use crate::saying::{say_commands, say_key_orders, say_rows};
 use fault_script::{Command, Script, justified_run, parse};
 use recorder::{History, KeyOrder};
 use row_files::{AMPLE, Bounded, Pieces, Spans, push_bytes};
@@ -23,24 +23,30 @@ fn whole(left: &[u8]) -> Counting<Pieces<'_>> {
     Counting::new(Pieces::whole(left))
 }
 
-fn fault_said(alloc: Global, written: Result<(), WriteFault>) -> Result<String, AllocError> {
+fn say_written_or_fault(
+    out: &mut String,
+    written: Result<(), WriteFault>,
+) -> Result<(), AllocError> {
     match written {
-        Ok(()) => String::from_str(alloc, "written"),
-        Err(fault) => format!(in alloc; "fault {} {fault}", fault.number()),
+        Ok(()) => out.push_str("written"),
+        Err(fault) => {
+            let number = fault.number();
+            write!(out, "fault {number} {fault}")
+        }
     }
 }
 
 /// What was written of what was read from those bytes.
-fn push_written(text: &mut String, bytes: &[u8], written: &[u8]) -> Result<(), AllocError> {
+fn say_written(out: &mut String, bytes: &[u8], written: &[u8]) -> Result<(), AllocError> {
     if bytes == written {
-        return text.push_str("written as it was read\n");
+        return out.push_str("written as it was read\n");
     }
     if written.len() > SHORT {
         let ends = written.iter().filter(|byte| **byte == b'\n').count();
-        return text.push_str(format!(in *text.allocator(); "written in {ends} lines\n")?.as_str());
+        return write!(out, "written in {ends} lines\n");
     }
-    text.push_str("written:\n")?;
-    push_bytes(text, written)
+    out.push_str("written:\n")?;
+    push_bytes(out, written)
 }
 
 /// The bytes that are written of a history.
@@ -66,63 +72,89 @@ fn has_rows(
     rows: &str,
 ) -> Result<bool, AllocError> {
     match read_history(rt, alloc, &mut whole(written)) {
-        Ok(again) => Ok(rows_said(alloc, again.rows())?.as_str() == rows),
+        Ok(again) => {
+            let mut said = String::new(alloc);
+            say_rows(&mut said, again.rows())?;
+            Ok(said.as_str() == rows)
+        }
         Err(_) => Ok(false),
     }
 }
 
-fn push_history(
-    text: &mut String,
+/// What is written of a history whose rows were said so.
+fn say_history_written(
     rt: &(impl Threads + Sync),
+    out: &mut String,
+    history: &History,
+    bytes: &[u8],
+    rows: &str,
+) -> Result<(), AllocError> {
+    let alloc = *out.allocator();
+    let written = written_history(alloc, history);
+    say_written(out, bytes, written.as_slice())?;
+    if !is_text_of(alloc, history, written.as_slice()) {
+        out.push_str("WRITERS DIFFER\n")?;
+    }
+    if !has_rows(rt, alloc, written.as_slice(), rows)? {
+        out.push_str("READ AGAIN IT DIFFERS\n")?;
+    }
+    Ok(())
+}
+
+fn say_history_read(
+    rt: &(impl Threads + Sync),
+    out: &mut String,
     history: &History,
     bytes: &[u8],
 ) -> Result<(), AllocError> {
-    let alloc = *text.allocator();
-    let rows = rows_said(alloc, history.rows())?;
-    text.push_str(rows.as_str())?;
-    let written = written_history(alloc, history);
-    push_written(text, bytes, written.as_slice())?;
-    if !is_text_of(alloc, history, written.as_slice()) {
-        text.push_str("WRITERS DIFFER\n")?;
-    }
-    if !has_rows(rt, alloc, written.as_slice(), rows.as_str())? {
-        text.push_str("READ AGAIN IT DIFFERS\n")?;
-    }
-    Ok(())
+    let mut rows = String::new(*out.allocator());
+    say_rows(&mut rows, history.rows())?;
+    out.push_str(rows.as_str())?;
+    say_history_written(rt, out, history, bytes, rows.as_str())
+}
+
+/// What comes of the history, written with that room.
+fn room_answer(
+    alloc: Global,
+    history: &History,
+    bytes: &[u8],
+    room: usize,
+) -> Result<String, AllocError> {
+    let mut answer = String::new(alloc);
+    let mut writer = Counting::new(Bounded::new(alloc, room));
+    say_written_or_fault(&mut answer, write_history(alloc, history, &mut writer))?;
+    let failures = writer.failures();
+    let taken = writer.into_inner().taken;
+    let extent = extent(taken.as_slice(), bytes, room);
+    write!(answer, ", failures {failures}, {extent}")?;
+    Ok(answer)
 }
 
 /// The history written with each room from none to that of its text.
 fn history_rooms(alloc: Global, history: &History, bytes: &[u8]) -> Result<String, AllocError> {
     let mut spans = Spans::new(alloc);
     for room in 0..bytes.len().saturating_add(1) {
-        let mut writer = Counting::new(Bounded::new(alloc, room));
-        let written = fault_said(alloc, write_history(alloc, history, &mut writer))?;
-        let failures = writer.failures();
-        let taken = writer.into_inner().taken;
-        let extent = extent(taken.as_slice(), bytes, room);
-        let answer = format!(in alloc; "{}, failures {failures}, {extent}", written.as_str())?;
-        spans.take(room, answer)?;
+        spans.take(room, room_answer(alloc, history, bytes, room)?)?;
     }
     spans.finish()
 }
 
 /// The rows of a history, and what is written of it.
-pub fn history_row(
+pub fn say_history_row(
     rt: &(impl Threads + Sync),
-    alloc: Global,
+    out: &mut String,
     asked: Asked<'_>,
     lines: &str,
-) -> Result<String, AllocError> {
+) -> Result<(), AllocError> {
+    let alloc = *out.allocator();
     let bytes = bytes_of(alloc, lines)?;
-    let mut text = String::new(alloc);
     match read_history(rt, alloc, &mut whole(bytes.as_slice())) {
         Ok(history) if asked.has("each-room") => {
-            return history_rooms(alloc, &history, bytes.as_slice());
+            out.push_str(history_rooms(alloc, &history, bytes.as_slice())?.as_str())
         }
-        Ok(history) => push_history(&mut text, rt, &history, bytes.as_slice())?,
-        Err(fault) => text.push_str(format!(in alloc; "{fault}\n")?.as_str())?,
+        Ok(history) => say_history_read(rt, out, &history, bytes.as_slice()),
+        Err(fault) => write!(out, "{fault}\n"),
     }
-    Ok(text)
 }
 
 /// Whether both have the same keys and calls.
@@ -138,45 +170,45 @@ fn are_equal(first: &[KeyOrder], second: &[KeyOrder]) -> bool {
     true
 }
 
-fn push_orders(
-    text: &mut String,
+fn say_orders_read(
     rt: &(impl Threads + Sync),
+    out: &mut String,
     orders: &[KeyOrder],
     bytes: &[u8],
 ) -> Result<(), AllocError> {
-    let alloc = *text.allocator();
-    text.push_str(key_orders_said(alloc, orders)?.as_str())?;
+    say_key_orders(out, orders)?;
+    let alloc = *out.allocator();
     let mut writer = Counting::new(Bounded::new(alloc, AMPLE));
     let _ = write_orders(alloc, orders, &mut writer);
     let written = writer.into_inner().taken;
-    push_written(text, bytes, written.as_slice())?;
+    say_written(out, bytes, written.as_slice())?;
     match read_orders(rt, alloc, &mut whole(written.as_slice())) {
         Ok(again) if are_equal(orders, again.as_slice()) => Ok(()),
-        _ => text.push_str("READ AGAIN THEY DIFFER\n"),
+        _ => out.push_str("READ AGAIN THEY DIFFER\n"),
     }
 }
 
 /// The orders that are read, and what is written of them.
-pub fn orders_row(
+pub fn say_orders_row(
     rt: &(impl Threads + Sync),
-    alloc: Global,
+    out: &mut String,
     lines: &str,
-) -> Result<String, AllocError> {
+) -> Result<(), AllocError> {
+    let alloc = *out.allocator();
     let bytes = bytes_of(alloc, lines)?;
-    let mut text = String::new(alloc);
     match read_orders(rt, alloc, &mut whole(bytes.as_slice())) {
-        Ok(orders) => push_orders(&mut text, rt, orders.as_slice(), bytes.as_slice())?,
-        Err(fault) => text.push_str(format!(in alloc; "{fault}\n")?.as_str())?,
+        Ok(orders) => say_orders_read(rt, out, orders.as_slice(), bytes.as_slice()),
+        Err(fault) => write!(out, "{fault}\n"),
     }
-    Ok(text)
 }
 
 /// The settings and commands of a script.
-pub fn script_row(alloc: Global, lines: &str) -> Result<String, AllocError> {
+pub fn say_script_row(out: &mut String, lines: &str) -> Result<(), AllocError> {
+    let alloc = *out.allocator();
     let bytes = bytes_of(alloc, lines)?;
     match parse(alloc, &mut whole(bytes.as_slice())) {
-        Ok(script) => commands_said(alloc, &script),
-        Err(error) => format!(in alloc; "{error}\n"),
+        Ok(script) => say_commands(out, &script),
+        Err(error) => write!(out, "{error}\n"),
     }
 }
 
@@ -192,49 +224,53 @@ fn steps_of(alloc: Global, script: Script) -> Result<Vec<Step>, AllocError> {
 }
 
 /// The orders that come with the run of a script's steps.
-pub fn steps_row(alloc: Global, lines: &str) -> Result<String, AllocError> {
+fn say_steps(out: &mut String, script: Script) -> Result<(), AllocError> {
+    let alloc = *out.allocator();
+    let config = script.config;
+    let steps = steps_of(alloc, script)?;
+    match justified_run(alloc, config, steps.as_slice()) {
+        Ok((_, orders)) => say_key_orders(out, orders.as_slice()),
+        Err(_) => out.push_str("no memory\n"),
+    }
+}
+
+/// The orders that come with the run of a script's steps, or its fault.
+pub fn say_steps_row(out: &mut String, lines: &str) -> Result<(), AllocError> {
+    let alloc = *out.allocator();
     let bytes = bytes_of(alloc, lines)?;
     match parse(alloc, &mut whole(bytes.as_slice())) {
-        Ok(script) => {
-            let config = script.config;
-            let steps = steps_of(alloc, script)?;
-            match justified_run(alloc, config, steps.as_slice()) {
-                Ok((_, orders)) => key_orders_said(alloc, orders.as_slice()),
-                Err(_) => String::from_str(alloc, "no memory\n"),
-            }
-        }
-        Err(error) => format!(in alloc; "{error}\n"),
+        Ok(script) => say_steps(out, script),
+        Err(error) => write!(out, "{error}\n"),
     }
 }
 
 /// What a writer with those faults makes of the orders and of a text.
-fn narrow_said(alloc: Global, orders: &[KeyOrder], asked: Asked<'_>) -> Result<String, AllocError> {
+fn say_narrow(out: &mut String, orders: &[KeyOrder], asked: Asked<'_>) -> Result<(), AllocError> {
     let width = asked.number("width", 1);
     let fails = asked.has("fails");
     let mut writer = Counting::new(Narrow { width, fails });
-    let first = fault_said(alloc, write_orders(alloc, orders, &mut writer))?;
-    let second = fault_said(alloc, write_text(b"text", &mut writer))?;
-    format!(in alloc;
-        "orders: {}, text: {}, failures {}\n",
-        first.as_str(),
-        second.as_str(),
-        writer.failures()
-    )
+    let first = write_orders(*out.allocator(), orders, &mut writer);
+    let second = write_text(b"text", &mut writer);
+    out.push_str("orders: ")?;
+    say_written_or_fault(out, first)?;
+    out.push_str(", text: ")?;
+    say_written_or_fault(out, second)?;
+    let failures = writer.failures();
+    write!(out, ", failures {failures}\n")
 }
 
 /// The order of calls 0, 1 and 2 of `x`, and a text, each line a writer that takes them.
-pub fn writers_row(
+pub fn say_writers_row(
     rt: &(impl Threads + Sync),
-    alloc: Global,
+    out: &mut String,
     lines: &str,
-) -> Result<String, AllocError> {
+) -> Result<(), AllocError> {
+    let alloc = *out.allocator();
     let bytes = bytes_of(alloc, "<orders>{\"key\":\"x\",\"order\":[0,1,2]}")?;
-    let mut text = String::new(alloc);
     if let Ok(orders) = read_orders(rt, alloc, &mut whole(bytes.as_slice())) {
         for line in lines.lines() {
-            let said = narrow_said(alloc, orders.as_slice(), Asked { line })?;
-            text.push_str(said.as_str())?;
+            say_narrow(out, orders.as_slice(), Asked { line })?;
         }
     }
-    Ok(text)
+    Ok(())
 }

@@ -4,16 +4,15 @@ use crate::devices::Narrow;
 use crate::formats::{Counted, Counting, FaultKind, FileFault, LineFault, WriteFault};
 use fault_script::{ErrorKind, ScriptError, SimulateError};
 use row_files::Pieces;
-use std::alloc::{AllocError, Global};
+use std::alloc::AllocError;
 use std::io::{Read, Write};
 
 /// What a reader has counted after each of four reads with room for 8 bytes.
-pub fn counted_reads_row(
-    alloc: Global,
+pub fn say_counted_reads(
+    out: &mut String,
     asked: Asked<'_>,
     lines: &str,
-) -> Result<String, AllocError> {
-    let mut text = String::new(alloc);
+) -> Result<(), AllocError> {
     let mut reader = Counting::new(Pieces {
         left: lines.trim_end().as_bytes(),
         size: asked.number("pieces", 1),
@@ -22,18 +21,14 @@ pub fn counted_reads_row(
     let mut room = [0u8; 8];
     for _ in 0..4 {
         let _ = reader.read(&mut room);
-        let line = format!(in alloc;
-            "given {}, failures {}\n",
-            reader.given(),
-            reader.failures()
-        )?;
-        text.push_str(line.as_str())?;
+        let (given, failures) = (reader.given(), reader.failures());
+        write!(out, "given {given}, failures {failures}\n")?;
     }
-    Ok(text)
+    Ok(())
 }
 
 /// What a writer has counted after it was given the line's text, or was flushed.
-fn counted_write(alloc: Global, asked: Asked<'_>) -> Result<String, AllocError> {
+fn say_counted_write(out: &mut String, asked: Asked<'_>) -> Result<(), AllocError> {
     let width = asked.number("width", 1);
     let fails = asked.has("fails");
     let mut writer = Counting::new(Narrow { width, fails });
@@ -48,16 +43,15 @@ fn counted_write(alloc: Global, asked: Asked<'_>) -> Result<String, AllocError> 
     } else {
         ", another writer"
     };
-    format!(in alloc; "failures {failures}{kept}\n")
+    write!(out, "failures {failures}{kept}\n")
 }
 
 /// A line for each writer.
-pub fn counted_writes_row(alloc: Global, lines: &str) -> Result<String, AllocError> {
-    let mut text = String::new(alloc);
+pub fn say_counted_writes(out: &mut String, lines: &str) -> Result<(), AllocError> {
     for line in lines.lines() {
-        text.push_str(counted_write(alloc, Asked { line })?.as_str())?;
+        say_counted_write(out, Asked { line })?;
     }
-    Ok(text)
+    Ok(())
 }
 
 const FILE_FAULTS: [FaultKind; 14] = [
@@ -78,13 +72,12 @@ const FILE_FAULTS: [FaultKind; 14] = [
 ];
 
 /// All faults of histories and orders, at line 7.
-pub fn file_faults(alloc: Global) -> Result<String, AllocError> {
-    let mut text = String::new(alloc);
+pub fn say_file_faults(out: &mut String) -> Result<(), AllocError> {
     for kind in FILE_FAULTS {
         let fault = FileFault { line: 7, kind };
-        text.push_str(format!(in alloc; "{fault}\n")?.as_str())?;
+        write!(out, "{fault}\n")?;
     }
-    Ok(text)
+    Ok(())
 }
 
 const SCRIPT_FAULTS: [ErrorKind; 8] = [
@@ -99,20 +92,18 @@ const SCRIPT_FAULTS: [ErrorKind; 8] = [
 ];
 
 /// All faults of scripts, at line 7.
-pub fn script_faults(alloc: Global) -> Result<String, AllocError> {
-    let mut text = String::new(alloc);
+pub fn say_script_faults(out: &mut String) -> Result<(), AllocError> {
     for kind in SCRIPT_FAULTS {
         let error = ScriptError { line: 7, kind };
-        text.push_str(format!(in alloc; "{error}\n")?.as_str())?;
+        write!(out, "{error}\n")?;
     }
-    Ok(text)
+    Ok(())
 }
 
 /// The faults of writing, by number, and the errors of simulations.
-pub fn other_faults(alloc: Global) -> Result<String, AllocError> {
-    let mut text = String::new(alloc);
+pub fn say_other_faults(out: &mut String) -> Result<(), AllocError> {
     for fault in [WriteFault::Device, WriteFault::Memory] {
-        text.push_str(format!(in alloc; "fault {} {fault}\n", fault.number())?.as_str())?;
+        write!(out, "fault {} {fault}\n", fault.number())?;
     }
     let kind = ErrorKind::Line(fault_script::LineFault::Range);
     for error in [
@@ -120,7 +111,7 @@ pub fn other_faults(alloc: Global) -> Result<String, AllocError> {
         SimulateError::Memory,
         SimulateError::Device,
     ] {
-        text.push_str(format!(in alloc; "{error}\n")?.as_str())?;
+        write!(out, "{error}\n")?;
     }
-    Ok(text)
+    Ok(())
 }

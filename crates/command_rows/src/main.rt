@@ -17,35 +17,57 @@ mod saying;
 mod wording;
 
 use asked::Asked;
-use commands::{command_row, seeds_row};
-use contents::{history_row, orders_row, script_row, steps_row, writers_row};
-use counts::{counted_reads_row, counted_writes_row, file_faults, other_faults, script_faults};
-use readings::{Format, cuts_row, feed_history_row, feed_orders_row, files_row};
+use commands::{say_command_row, seeds_row};
+use contents::{say_history_row, say_orders_row, say_script_row, say_steps_row, say_writers_row};
+use counts::{
+    say_counted_reads, say_counted_writes, say_file_faults, say_other_faults, say_script_faults,
+};
+use readings::{Format, cuts_row, say_files_read, say_history_fed, say_orders_fed};
 use row_files::say_files;
 use std::alloc::{AllocError, Global};
 use std::process::ExitCode;
 use std::sync::Wait;
 use std::thread::Threads;
-use wording::words_row;
+use wording::say_words;
 
 /// What comes of rows that read files.
-fn file_row(
+fn say_file_row(
     threads: &(impl Threads + Wait + Sync),
-    alloc: Global,
+    out: &mut String,
     asked: Asked<'_>,
     lines: &str,
-) -> Result<String, AllocError> {
+) -> Result<(), AllocError> {
     match asked.kind() {
-        "histories" => files_row(threads, alloc, asked, Format::History, lines),
-        "orders" => files_row(threads, alloc, asked, Format::Orders, lines),
-        "scripts" => files_row(threads, alloc, asked, Format::Script, lines),
-        "cuts" => cuts_row(threads, alloc, asked, lines),
-        "feed-history" => feed_history_row(threads, alloc, lines),
-        "feed-orders" => feed_orders_row(threads, alloc, lines),
-        "history" => history_row(threads, alloc, asked, lines),
-        "key-orders" => orders_row(threads, alloc, lines),
-        "writers" => writers_row(threads, alloc, lines),
-        _ => String::from_str(alloc, "NO SUCH KIND OF ROW\n"),
+        "histories" => say_files_read(threads, out, asked, Format::History, lines),
+        "orders" => say_files_read(threads, out, asked, Format::Orders, lines),
+        "scripts" => say_files_read(threads, out, asked, Format::Script, lines),
+        "feed-history" => say_history_fed(threads, out, lines),
+        "feed-orders" => say_orders_fed(threads, out, lines),
+        "history" => say_history_row(threads, out, asked, lines),
+        "key-orders" => say_orders_row(threads, out, lines),
+        "writers" => say_writers_row(threads, out, lines),
+        _ => out.push_str("NO SUCH KIND OF ROW\n"),
+    }
+}
+
+/// What comes of other rows.
+fn say_row(
+    threads: &(impl Threads + Wait + Sync),
+    out: &mut String,
+    asked: Asked<'_>,
+    lines: &str,
+) -> Result<(), AllocError> {
+    match asked.kind() {
+        "simulate" | "justify" | "check" => say_command_row(threads, out, asked, lines),
+        "script" => say_script_row(out, lines),
+        "steps" => say_steps_row(out, lines),
+        "words" => say_words(out, lines),
+        "counted-reads" => say_counted_reads(out, asked, lines),
+        "counted-writes" => say_counted_writes(out, lines),
+        "file-faults" => say_file_faults(out),
+        "script-faults" => say_script_faults(out),
+        "other-faults" => say_other_faults(out),
+        _ => say_file_row(threads, out, asked, lines),
     }
 }
 
@@ -57,17 +79,13 @@ fn found(
     lines: &str,
 ) -> Result<String, AllocError> {
     match asked.kind() {
-        "simulate" | "justify" | "check" => command_row(threads, alloc, asked, lines),
         "seeds" => seeds_row(threads, alloc, asked, lines),
-        "script" => script_row(alloc, lines),
-        "steps" => steps_row(alloc, lines),
-        "words" => words_row(alloc, lines),
-        "counted-reads" => counted_reads_row(alloc, asked, lines),
-        "counted-writes" => counted_writes_row(alloc, lines),
-        "file-faults" => file_faults(alloc),
-        "script-faults" => script_faults(alloc),
-        "other-faults" => other_faults(alloc),
-        _ => file_row(threads, alloc, asked, lines),
+        "cuts" => cuts_row(threads, alloc, asked, lines),
+        _ => {
+            let mut out = String::new(alloc);
+            say_row(threads, &mut out, asked, lines)?;
+            Ok(out)
+        }
     }
 }
 

@@ -5,7 +5,7 @@ use crate::formats::{
     Counted, Counting, FaultKind, FileFault, HistoryFeed, OrderFeed, read_history, read_orders,
 };
 use crate::notation::bytes_of;
-use crate::saying::{history_said, orders_said, script_said};
+use crate::saying::{say_history, say_orders, say_script};
 use fault_script::{ErrorKind, parse};
 use recorder::{History, KeyOrder};
 use row_files::{Pieces, Spans};
@@ -23,24 +23,23 @@ pub enum Format {
     Script,
 }
 
-/// Adds to an answer where the reader's counts are others than they should be: a failure
-/// after a device's fault, and all bytes after a good file.
-fn with_counts(
-    answer: String,
+/// Says where the reader's counts are others than they should be: a failure after a device's
+/// fault, and all bytes after a good file.
+fn say_counts(
+    out: &mut String,
     reader: &Counting<Pieces<'_>>,
     is_device: bool,
     whole: Option<usize>,
-) -> Result<String, AllocError> {
-    let mut text = answer;
+) -> Result<(), AllocError> {
     if is_device && reader.failures() != 1 {
-        text.push_str(", but failures aren't counted")?;
+        out.push_str(", but failures aren't counted")?;
     }
-    if let Some(length) = whole {
-        if reader.given() != length as u64 || reader.failures() != 0 {
-            text.push_str(", but bytes aren't counted")?;
+    match whole {
+        Some(length) if reader.given() != length as u64 || reader.failures() != 0 => {
+            out.push_str(", but bytes aren't counted")
         }
+        _ => Ok(()),
     }
-    Ok(text)
 }
 
 fn is_device<T>(read: &Result<T, FileFault>) -> bool {
@@ -50,45 +49,43 @@ fn is_device<T>(read: &Result<T, FileFault>) -> bool {
     }
 }
 
-fn history_answer(
+fn say_read_history(
     rt: &(impl Threads + Sync),
-    alloc: Global,
+    out: &mut String,
     reader: Pieces<'_>,
-) -> Result<String, AllocError> {
+) -> Result<(), AllocError> {
     let length = reader.left.len();
     let mut reader = Counting::new(reader);
-    let read = read_history(rt, alloc, &mut reader);
+    let read = read_history(rt, *out.allocator(), &mut reader);
     let whole = if read.is_ok() { Some(length) } else { None };
-    with_counts(
-        history_said(alloc, &read)?,
-        &reader,
-        is_device(&read),
-        whole,
-    )
+    say_history(out, &read)?;
+    say_counts(out, &reader, is_device(&read), whole)
 }
 
-fn orders_answer(
+fn say_read_orders(
     rt: &(impl Threads + Sync),
-    alloc: Global,
+    out: &mut String,
     reader: Pieces<'_>,
-) -> Result<String, AllocError> {
+) -> Result<(), AllocError> {
     let length = reader.left.len();
     let mut reader = Counting::new(reader);
-    let read = read_orders(rt, alloc, &mut reader);
+    let read = read_orders(rt, *out.allocator(), &mut reader);
     let whole = if read.is_ok() { Some(length) } else { None };
-    with_counts(orders_said(alloc, &read)?, &reader, is_device(&read), whole)
+    say_orders(out, &read)?;
+    say_counts(out, &reader, is_device(&read), whole)
 }
 
-fn script_answer(alloc: Global, reader: Pieces<'_>) -> Result<String, AllocError> {
+fn say_read_script(out: &mut String, reader: Pieces<'_>) -> Result<(), AllocError> {
     let length = reader.left.len();
     let mut reader = Counting::new(reader);
-    let read = parse(alloc, &mut reader);
+    let read = parse(*out.allocator(), &mut reader);
     let whole = if read.is_ok() { Some(length) } else { None };
     let is_device = match &read {
         Ok(_) => false,
         Err(error) => matches!(error.kind, ErrorKind::Device),
     };
-    with_counts(script_said(alloc, &read)?, &reader, is_device, whole)
+    say_script(out, &read)?;
+    say_counts(out, &reader, is_device, whole)
 }
 
 fn fed_history(
@@ -128,11 +125,13 @@ fn read_answer(
     format: Format,
     reader: Pieces<'_>,
 ) -> Result<String, AllocError> {
+    let mut answer = String::new(alloc);
     match format {
-        Format::History => history_answer(rt, alloc, reader),
-        Format::Orders => orders_answer(rt, alloc, reader),
-        Format::Script => script_answer(alloc, reader),
+        Format::History => say_read_history(rt, &mut answer, reader)?,
+        Format::Orders => say_read_orders(rt, &mut answer, reader)?,
+        Format::Script => say_read_script(&mut answer, reader)?,
     }
+    Ok(answer)
 }
 
 /// What a feed makes of them. Scripts have none, and are read.
@@ -143,73 +142,91 @@ fn fed_answer(
     left: &[u8],
     size: usize,
 ) -> Result<String, AllocError> {
+    let mut answer = String::new(alloc);
     match format {
-        Format::History => history_said(alloc, &fed_history(rt, alloc, left, size)),
-        Format::Orders => orders_said(alloc, &fed_orders(rt, alloc, left, size)),
+        Format::History => say_history(&mut answer, &fed_history(rt, alloc, left, size))?,
+        Format::Orders => say_orders(&mut answer, &fed_orders(rt, alloc, left, size))?,
         Format::Script => {
             let failure = None;
-            script_answer(
-                alloc,
+            say_read_script(
+                &mut answer,
                 Pieces {
                     left,
                     size,
                     failure,
                 },
-            )
+            )?;
         }
     }
+    Ok(answer)
 }
 
-/// What comes of the bytes, read and fed in pieces of the row's sizes.
-fn answer(
+/// The answers to the bytes, read and fed in pieces of the row's sizes.
+fn answers_to(
     rt: &(impl Threads + Sync),
     alloc: Global,
     asked: Asked<'_>,
     format: Format,
     left: &[u8],
-) -> Result<String, AllocError> {
+) -> Result<Agreed, AllocError> {
     let failure = asked.failure();
     let mut answers = Agreed::new(alloc);
     for size in asked.sizes().split(',') {
         let size = size.parse::<usize>().unwrap_or(1);
-        answers.take(read_answer(
-            rt,
-            alloc,
-            format,
-            Pieces {
-                left,
-                size,
-                failure,
-            },
-        )?)?;
+        let reader = Pieces {
+            left,
+            size,
+            failure,
+        };
+        answers.take(read_answer(rt, alloc, format, reader)?)?;
         if failure.is_none() {
             answers.take(fed_answer(rt, alloc, format, left, size)?)?;
         }
     }
-    answers.text(alloc)
+    Ok(answers)
 }
 
-/// The files of a row: each line is one, or, with `whole`, all lines together.
-pub fn files_row(
+/// A line on a file of a row.
+fn say_file(
     rt: &(impl Threads + Sync),
-    alloc: Global,
+    out: &mut String,
     asked: Asked<'_>,
     format: Format,
     lines: &str,
-) -> Result<String, AllocError> {
-    let mut text = String::new(alloc);
+) -> Result<(), AllocError> {
+    let alloc = *out.allocator();
+    let bytes = bytes_of(alloc, lines)?;
+    answers_to(rt, alloc, asked, format, bytes.as_slice())?.say(out)?;
+    out.push_str("\n")
+}
+
+/// The files of a row: each line is one, or, with `whole`, all lines together.
+pub fn say_files_read(
+    rt: &(impl Threads + Sync),
+    out: &mut String,
+    asked: Asked<'_>,
+    format: Format,
+    lines: &str,
+) -> Result<(), AllocError> {
     if asked.has("whole") {
-        let bytes = bytes_of(alloc, lines)?;
-        text.push_str(answer(rt, alloc, asked, format, bytes.as_slice())?.as_str())?;
-        text.push('\n')?;
-        return Ok(text);
+        return say_file(rt, out, asked, format, lines);
     }
     for line in lines.lines() {
-        let bytes = bytes_of(alloc, line)?;
-        text.push_str(answer(rt, alloc, asked, format, bytes.as_slice())?.as_str())?;
-        text.push('\n')?;
+        say_file(rt, out, asked, format, line)?;
     }
-    Ok(text)
+    Ok(())
+}
+
+/// What comes of the beginning of a history.
+fn cut_answer(
+    rt: &(impl Threads + Sync),
+    alloc: Global,
+    asked: Asked<'_>,
+    cut: &[u8],
+) -> Result<String, AllocError> {
+    let mut answer = String::new(alloc);
+    answers_to(rt, alloc, asked, Format::History, cut)?.say(&mut answer)?;
+    Ok(answer)
 }
 
 /// A history cut after each number of its bytes, in steps of `step` bytes.
@@ -225,87 +242,80 @@ pub fn cuts_row(
     let step = asked.number("step", 1).max(1);
     for place in 0..(left.len() / step).saturating_add(1) {
         let length = place.saturating_mul(step).min(left.len());
-        let cut = &left[..length];
-        spans.take(length, answer(rt, alloc, asked, Format::History, cut)?)?;
+        spans.take(length, cut_answer(rt, alloc, asked, &left[..length])?)?;
     }
     spans.finish()
 }
 
 /// A line on a piece: the fault, and how many bytes were taken and which line is under way.
-fn fed_said(
-    alloc: Global,
+fn say_fed(
+    out: &mut String,
     fed: Result<(), FileFault>,
     bytes: u64,
     line: u64,
-) -> Result<String, AllocError> {
+) -> Result<(), AllocError> {
     match fed {
-        Ok(()) => format!(in alloc; "fed {bytes}, line {line}\n"),
-        Err(fault) => format!(in alloc; "{fault}, fed {bytes}\n"),
+        Ok(()) => write!(out, "fed {bytes}, line {line}\n"),
+        Err(fault) => write!(out, "{fault}, fed {bytes}\n"),
     }
 }
 
-/// What a feed of a history says of a line as its next piece.
-fn fed_history_line(
+/// What a feed of a history says of a piece.
+fn say_history_piece(
     rt: &(impl Threads + Sync),
-    alloc: Global,
+    out: &mut String,
     feed: &mut HistoryFeed,
-    line: &str,
-) -> Result<String, AllocError> {
-    let piece = bytes_of(alloc, line)?;
+    piece: &[u8],
+) -> Result<(), AllocError> {
     if feed.fed() >= MOST_FED || piece.len() as u64 >= MOST_FED {
-        return Ok(String::new(alloc));
+        return Ok(());
     }
-    let fed = feed.feed(rt, piece.as_slice());
-    fed_said(alloc, fed, feed.fed(), feed.line())
+    let fed = feed.feed(rt, piece);
+    say_fed(out, fed, feed.fed(), feed.line())
 }
 
 /// A feed of a history whose pieces are the lines.
-pub fn feed_history_row(
+pub fn say_history_fed(
     rt: &(impl Threads + Sync),
-    alloc: Global,
+    out: &mut String,
     lines: &str,
-) -> Result<String, AllocError> {
+) -> Result<(), AllocError> {
+    let alloc = *out.allocator();
     let mut feed = HistoryFeed::new(alloc);
-    let mut text = String::new(alloc);
     for line in lines.lines() {
-        let said = fed_history_line(rt, alloc, &mut feed, line)?;
-        text.push_str(said.as_str())?;
+        let piece = bytes_of(alloc, line)?;
+        say_history_piece(rt, out, &mut feed, piece.as_slice())?;
     }
-    let said = history_said(alloc, &feed.finish(rt))?;
-    text.push_str(said.as_str())?;
-    text.push('\n')?;
-    Ok(text)
+    say_history(out, &feed.finish(rt))?;
+    out.push_str("\n")
 }
 
-/// What a feed of orders says of a line as its next piece.
-fn fed_orders_line(
+/// What a feed of orders says of a piece.
+fn say_orders_piece(
     rt: &(impl Threads + Sync),
-    alloc: Global,
+    out: &mut String,
     feed: &mut OrderFeed,
-    line: &str,
-) -> Result<String, AllocError> {
-    let piece = bytes_of(alloc, line)?;
+    piece: &[u8],
+) -> Result<(), AllocError> {
     if feed.fed() >= MOST_FED || piece.len() as u64 >= MOST_FED {
-        return Ok(String::new(alloc));
+        return Ok(());
     }
-    let fed = feed.feed(rt, piece.as_slice());
-    fed_said(alloc, fed, feed.fed(), feed.line())
+    let fed = feed.feed(rt, piece);
+    say_fed(out, fed, feed.fed(), feed.line())
 }
 
 /// A feed of orders whose pieces are the lines.
-pub fn feed_orders_row(
+pub fn say_orders_fed(
     rt: &(impl Threads + Sync),
-    alloc: Global,
+    out: &mut String,
     lines: &str,
-) -> Result<String, AllocError> {
+) -> Result<(), AllocError> {
+    let alloc = *out.allocator();
     let mut feed = OrderFeed::new(alloc);
-    let mut text = String::new(alloc);
     for line in lines.lines() {
-        let said = fed_orders_line(rt, alloc, &mut feed, line)?;
-        text.push_str(said.as_str())?;
+        let piece = bytes_of(alloc, line)?;
+        say_orders_piece(rt, out, &mut feed, piece.as_slice())?;
     }
-    let said = orders_said(alloc, &feed.finish(rt))?;
-    text.push_str(said.as_str())?;
-    text.push('\n')?;
-    Ok(text)
+    say_orders(out, &feed.finish(rt))?;
+    out.push_str("\n")
 }

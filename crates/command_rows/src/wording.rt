@@ -12,7 +12,7 @@ fn words_of(alloc: Global, line: &str) -> Result<Vec<String>, AllocError> {
     Ok(list)
 }
 
-fn asked_said(alloc: Global, asked: &Command<'_>) -> Result<String, AllocError> {
+fn say_asked(out: &mut String, asked: &Command<'_>) -> Result<(), AllocError> {
     match asked {
         Command::Check {
             history,
@@ -20,33 +20,43 @@ fn asked_said(alloc: Global, asked: &Command<'_>) -> Result<String, AllocError> 
             workers,
         } => {
             let count = workers.count();
-            format!(in alloc; "check of [{history}] and [{orders}], workers: {count}\n")
+            write!(
+                out,
+                "check of [{history}] and [{orders}], workers: {count}\n"
+            )
         }
-        Command::Justify { history } => format!(in alloc; "justify of [{history}]\n"),
-        Command::Simulate { script } => format!(in alloc; "simulate of [{script}]\n"),
-        Command::Run(_) => String::from_str(alloc, "run\n"),
+        Command::Justify { history } => write!(out, "justify of [{history}]\n"),
+        Command::Simulate { script } => write!(out, "simulate of [{script}]\n"),
+        Command::Run(_) => out.push_str("run\n"),
+    }
+}
+
+/// What comes of a line that isn't a command's: after ` says ` stood the word.
+fn usage_said(alloc: Global, usage: &Usage, word: &str) -> Result<String, AllocError> {
+    match usage {
+        Usage::Help(text) => text_said(alloc, "help", text.as_str(), word),
+        Usage::Version(text) => text_said(alloc, "version", text.as_str(), word),
+        Usage::Fault(text) => text_said(alloc, "fault", text.as_str(), word),
+        Usage::Memory => String::from_str(alloc, "no memory\n"),
     }
 }
 
 /// What a line of words asks for.
-fn line_said(alloc: Global, line: &str) -> Result<String, AllocError> {
+fn say_line(out: &mut String, line: &str) -> Result<(), AllocError> {
+    let alloc = *out.allocator();
     let (words, word) = line.split_once(" says ").unwrap_or((line, ""));
     let words = words_of(alloc, words)?;
     match command(alloc, words.as_slice()) {
-        Ok(asked) => asked_said(alloc, &asked),
-        Err(Usage::Help(text)) => text_said(alloc, "help", text.as_str(), word),
-        Err(Usage::Version(text)) => text_said(alloc, "version", text.as_str(), word),
-        Err(Usage::Fault(text)) => text_said(alloc, "fault", text.as_str(), word),
-        Err(Usage::Memory) => String::from_str(alloc, "no memory\n"),
+        Ok(asked) => say_asked(out, &asked),
+        Err(usage) => out.push_str(usage_said(alloc, &usage, word)?.as_str()),
     }
 }
 
 /// What each line asks for; after ` says ` stands a word that the help, the version or the fault has
 /// to have.
-pub fn words_row(alloc: Global, lines: &str) -> Result<String, AllocError> {
-    let mut text = String::new(alloc);
+pub fn say_words(out: &mut String, lines: &str) -> Result<(), AllocError> {
     for line in lines.lines() {
-        text.push_str(line_said(alloc, line)?.as_str())?;
+        say_line(out, line)?;
     }
-    Ok(text)
+    Ok(())
 }
