@@ -33,8 +33,8 @@ use Rattle.world_steps.specs.declared.step.Step.TheVariants as step
 use Rattle.world_steps.specs.declared.system.System.{System}
 use Rattle.hall_journal.specs.Halls.{Hall, IsReplay, Takes, with_step}
 use Rattle.hall_turns.specs.declared.rule.View.{View}
-use Rattle.hall_turns.specs.Turns.TookReply.{WithNote, WithoutNote}
-use Rattle.hall_turns.specs.Turns.{AddedRow, AreRecorded, IsQuiet, IsReady, Looked, MayReturn, OthersAdd, Receives, Returns, Seen, TookReply, Turned, Turns, view_at_rest, seat, seat_in}
+use Rattle.hall_turns.specs.Turns.TakesReply.{WithNote, WithoutNote}
+use Rattle.hall_turns.specs.Turns.{AddsRow, AreRecorded, IsQuiet, IsReady, AddsNoRow, MayReturn, OthersAdd, Receives, Returns, ClientView, TakesReply, TakesTurn, Turns, view_at_rest, seat, seat_in}
 use Rattle.hall_turns.proofs.Running.{delivered_runs, invoked_runs, responded_runs}
 use Rattle.hall_turns.proofs.Rows.{last_row, none_some, past_end, pushed, same_some}
 use Rattle.hall_turns.proofs.Turning.{AddsOfItsClient, StayJoined, StayStopped, kept_adds, rested, returnable, same_next, took_adds}
@@ -131,7 +131,7 @@ pub record ClientTurn (client : ℕ) (v : View) (before after : Hall) (z : View)
   pub others : OthersAdd client v.rows before.world.history.rows
   pub is : z ≡ seat_in client after.world
 
-abbrev pub seen : ℕ → View → Seen
+abbrev pub seen : ℕ → View → ClientView
 seen client v = record { client = client; rows = v.rows; is_stopped = v.is_stopped }
 
 pub client_turn : (client : ℕ) (v w z : View) (old new : Hall) → v ≡ seat client v.rows v.is_stopped → Receives v old w → Returns w new z → ClientTurn client v old new z
@@ -140,14 +140,14 @@ client_turn client v w z old new is received returned = record {
   is = rested v w z old new received.is returned ∙ ap (λ y. view_at_rest y new.world) is;
 }
 
-pub looked : (client : ℕ) (v : View) (old new : Hall) (z : View) → ClientTurn client v old new z → new.world.history.rows ≡ old.world.history.rows → Looked (seen client v) (seen client z)
+pub looked : (client : ℕ) (v : View) (old new : Hall) (z : View) → ClientTurn client v old new z → new.world.history.rows ≡ old.world.history.rows → AddsNoRow (seen client v) (seen client z)
 looked client v old new z turn same = record {
   client = refl;
   others = subst (OthersAdd client v.rows) (sym same ∙ sym (ap (λ (y : View). y.rows) turn.is)) turn.others;
 }
 
 pub added : (client : ℕ) (v : View) (old new : Hall) (z : View) (row : Row) (place : ℕ) → ClientTurn client v old new z → length old.world.history.rows ≡ place → IsRowOf old.world.history.rows client row
-    → new.world.history.rows ≡ old.world.history.rows ++ row ∷ [] → is_stopped (phase_at new.world client) ≡ false → AddedRow (seen client v) row place (seen client z)
+    → new.world.history.rows ≡ old.world.history.rows ++ row ∷ [] → is_stopped (phase_at new.world client) ≡ false → AddsRow (seen client v) row place (seen client z)
 added client v old new z row place turn at own same free = record {
   before = old.world.history.rows;
   others = turn.others;
@@ -157,7 +157,7 @@ added client v old new z row place turn at own same free = record {
 }
 
 pub took_reply : (client : ℕ) (v : View) (old new : Hall) (z : View) → ClientTurn client v old new z → IsNoted old.world.history.rows new.world.history.rows → AddsRowOf (Some client) old.world.history.rows new.world.history.rows
-    → is_stopped (phase_at new.world client) ≡ false → TookReply (seen client v) (seen client z)
+    → is_stopped (phase_at new.world client) ≡ false → TakesReply (seen client v) (seen client z)
 took_reply client v old new z turn (Same same) adds free = WithoutNote (looked client v old new z turn same)
 took_reply client v old new z turn (OneNote op tag same) (NoRow still) free =
     absurd (past_end old.world.history.rows (length old.world.history.rows) (Note op tag) (omega arith) (subst (λ l. slice_get l (length old.world.history.rows) ≡ Some (Note op tag)) (sym same ∙ still) (pushed old.world.history.rows (Note op tag))))
@@ -172,7 +172,7 @@ seat_recorded client z hall is recorded =
     (is ∙ (λ i. seat client (sym rows i) (sym stopped i)), subst AreRecorded (sym rows) recorded)
 
 -- a turn of the door, as the client's pass says it
-pub turn_seen : (client : ℕ) (v w : View) (step : Step) (result : Result Effect Refusal) → v ≡ seat client v.rows v.is_stopped → Turns v step result w → Turned (seen client v) step result (seen client w)
+pub turn_seen : (client : ℕ) (v w : View) (step : Step) (result : Result Effect Refusal) → v ≡ seat client v.rows v.is_stopped → Turns v step result w → TakesTurn (seen client v) step result (seen client w)
 turn_seen client v w step result is turn = record {
   before = turn.before;
   after = turn.after;
@@ -181,7 +181,7 @@ turn_seen client v w step result is turn = record {
   is = ap (seen client) (turn.is ∙ ap (λ y. view_at_rest y turn.after.world) is);
 }
 
-pub quiet_seen : (client : ℕ) (v w : View) (step : Step) (result : Result Effect Refusal) → IsQuiet step → v ≡ seat client v.rows v.is_stopped → Turns v step result w → Looked (seen client v) (seen client w)
+pub quiet_seen : (client : ℕ) (v w : View) (step : Step) (result : Result Effect Refusal) → IsQuiet step → v ≡ seat client v.rows v.is_stopped → Turns v step result w → AddsNoRow (seen client v) (seen client w)
 quiet_seen client v w step result quiet is turn =
     looked client v turn.before turn.after w (record { others = turn.knows.others client (ap (λ (y : View). y.client) is); is = turn.is ∙ ap (λ y. view_at_rest y turn.after.world) is }) (quiet_takes turn.before turn.after step result quiet turn.took)
 
@@ -212,14 +212,14 @@ invoked_op s name key action op is = same_op (next_call s) op (same_some (effect
     same_op a b e = cc
 
 pub begun : (client : ℕ) (v w z : View) (old new : Hall) (key : List ℕ) (action : Action) (op : OpId) (place : ℕ) → v ≡ seat client v.rows v.is_stopped → Receives v old w → Returns w new z
-    → Takes old (step.Invoke client key action) (Ok (effect.Invoked op)) new → length old.world.history.rows ≡ place → AddedRow (seen client v) (Invoke op client key action) place (seen client z)
+    → Takes old (step.Invoke client key action) (Ok (effect.Invoked op)) new → length old.world.history.rows ≡ place → AddsRow (seen client v) (Invoke op client key action) place (seen client z)
 begun client v w z old new key action op place is received returned took at =
     let joined : HasJoined old.world client = received.knows.joined client (ap (λ (y : View). y.client) is) in
     let same : new.world.history.rows ≡ old.world.history.rows ++ Invoke op client key action ∷ [] =
     invoked_rows old new client key action joined took.2 ∙ ap (λ o. old.world.history.rows ++ Invoke o client key action ∷ []) (invoked_op old.world client key action op took.1) in
     added client v old new z (Invoke op client key action) place (client_turn client v w z old new is received returned) at refl same (invoked_runs old new client key action joined took.2)
 
-pub left : (client : ℕ) (v w z : View) (old new : Hall) → v ≡ seat client v.rows v.is_stopped → Receives v old w → Returns w new z → new ≡ old → Looked (seen client v) (seen client z)
+pub left : (client : ℕ) (v w z : View) (old new : Hall) → v ≡ seat client v.rows v.is_stopped → Receives v old w → Returns w new z → new ≡ old → AddsNoRow (seen client v) (seen client z)
 left client v w z old new is received returned same = looked client v old new z (client_turn client v w z old new is received returned) (ap (λ (h : Hall). h.world.history.rows) same)
 
 -- a response is of the client's own call
@@ -230,14 +230,14 @@ own_response s name row new (OneRow other found is of one) same =
     subst (λ (y : ℕ × Row). IsRowOf s.history.rows y.0 y.1) (λ i. (same_some other name (sym is) i, same_last s.history.rows found row (sym one ∙ same) i)) of
 
 pub ended : (client : ℕ) (v w z : View) (old new : Hall) (op : OpId) (returned : Returned) (place : ℕ) → v ≡ seat client v.rows v.is_stopped → Receives v old w → Returns w new z → IsSound old.world → AddsOfItsClient
-    → refusal_of old.world (step.Respond client) ≡ None → new ≡ with_step old (step.Respond client) → IsReady old.world client op returned → length old.world.history.rows ≡ place → AddedRow (seen client v) (Respond op returned) place (seen client z)
+    → refusal_of old.world (step.Respond client) ≡ None → new ≡ with_step old (step.Respond client) → IsReady old.world client op returned → length old.world.history.rows ≡ place → AddsRow (seen client v) (Respond op returned) place (seen client z)
 ended client v w z old new op returned place is received back sound law none same ready at =
     let grew : new.world.history.rows ≡ old.world.history.rows ++ Respond op returned ∷ [] = responded_rows old new client ready.state op returned ready.there ready.pending ready.answer same in
     let adds : AddsRowOf (Some client) old.world.history.rows new.world.history.rows = subst (AddsRowOf (Some client) old.world.history.rows) (ap (λ (s : System). s.history.rows) (same_next old.world (step.Respond client) none ∙ ap (λ (h : Hall). h.world) (sym same))) (law old.world (step.Respond client) sound) in
     added client v old new z (Respond op returned) place (client_turn client v w z old new is received back) at (own_response old.world client (Respond op returned) new.world.history.rows adds grew) grew (responded_runs old new client ready.state returned ready.there ready.answer same)
 
 pub heard : (client : ℕ) (v w z : View) (old new : Hall) (flight : ℕ) → v ≡ seat client v.rows v.is_stopped → Receives v old w → Returns w new z → IsSound old.world → AddsOfItsClient
-    → receiver (message_of old.world.pool.flights flight) ≡ Some client → refusal_of old.world (step.Deliver flight) ≡ None → new ≡ with_step old (step.Deliver flight) → TookReply (seen client v) (seen client z)
+    → receiver (message_of old.world.pool.flights flight) ≡ Some client → refusal_of old.world (step.Deliver flight) ≡ None → new ≡ with_step old (step.Deliver flight) → TakesReply (seen client v) (seen client z)
 heard client v w z old new flight is received back sound law names none same =
     let moved_to : new.world.history.rows ≡ (deliver old.world flight (message_of old.world.pool.flights flight)).history.rows = ap (λ (h : Hall). h.world.history.rows) same in
     let notes : IsNoted old.world.history.rows new.world.history.rows = subst (IsNoted old.world.history.rows) (sym moved_to) (delivered_rows old.world flight client (message_of old.world.pool.flights flight) names) in

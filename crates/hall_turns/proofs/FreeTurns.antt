@@ -16,7 +16,7 @@ use Rattle.world_steps.specs.declared.refusal.Refusal.{Refusal}
 use Rattle.world_steps.specs.declared.step.Step.{Step}
 use Rattle.hall_journal.specs.Halls.{Hall, IsReplay, Takes, opening_hall}
 use Rattle.hall_turns.specs.declared.rule.View.{View}
-use Rattle.hall_turns.specs.Turns.{AreRecorded, IsCopied, IsToReplica, MayReturn, Receives, Returns, Served, Turns, guest, maker, view_at_rest}
+use Rattle.hall_turns.specs.Turns.{AreRecorded, IsCopied, IsToReplica, MayReturn, Receives, Returns, ServesStep, Turns, guest, maker, view_at_rest}
 use Rattle.hall_turns.proofs.Rows.{none_some, none_stopped, whole}
 use Rattle.hall_turns.proofs.Turning.{rested}
 
@@ -33,13 +33,13 @@ guest_recorded z hall is recorded =
 pub free_turn : (v w z : View) (old new : Hall) → v ≡ guest v.rows → Receives v old w → Returns w new z → z ≡ guest new.world.history.rows
 free_turn v w z old new is received returned = rested v w z old new received.is returned ∙ ap (λ y. view_at_rest y new.world) is
 
-pub served : (v w : View) (step : Step) (result : Result Effect Refusal) → Turns v step result w → Served v.rows step result w.rows
+pub served : (v w : View) (step : Step) (result : Result Effect Refusal) → Turns v step result w → ServesStep v.rows step result w.rows
 served v w step result turn = record { before = turn.before; after = turn.after; grown = turn.knows.seen; took = turn.took; is = ap (λ (y : View). y.rows) turn.is }
 
 pub guest_turned : (v w : View) (step : Step) (result : Result Effect Refusal) → v ≡ guest v.rows → Turns v step result w → (w ≡ guest w.rows) × AreRecorded w.rows
 guest_turned v w step result is turn = guest_recorded w turn.after (turn.is ∙ ap (λ y. view_at_rest y turn.after.world) is) turn.recorded
 
-pub served_by : (v w z : View) (old new : Hall) (step : Step) (effect : Effect) → Receives v old w → Returns w new z → Takes old step (Ok effect) new → Served v.rows step (Ok effect) z.rows
+pub served_by : (v w z : View) (old new : Hall) (step : Step) (effect : Effect) → Receives v old w → Returns w new z → Takes old step (Ok effect) new → ServesStep v.rows step (Ok effect) z.rows
 served_by v w z old new step effect received returned took = record {
   before = old;
   after = new;

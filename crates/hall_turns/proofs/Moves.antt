@@ -10,7 +10,7 @@ use Rattle.world_steps.specs.Systems.{opening}
 use Rattle.world_steps.specs.declared.system.System.{System}
 use Rattle.hall_journal.specs.Halls.{Hall}
 use Rattle.hall_turns.specs.declared.rule.View.{View}
-use Rattle.hall_turns.specs.Turns.{Adds, AreApart, AreFitting, BecomesSeat, Enters, Fits, Kept, Knows, MayReturn, OthersAdd, Placed, Receives, Returns, guest, is_client_stopped, view_with_hall, last_of, maker, view_at_rest, seat_in}
+use Rattle.hall_turns.specs.Turns.{Adds, AreApart, AreFitting, BecomesSeat, Enters, Fits, HasOneHall, Knows, MayReturn, OthersAdd, Placed, Receives, Returns, guest, is_client_stopped, view_with_hall, last_of, maker, view_at_rest, seat_in}
 use Rattle.hall_turns.proofs.Rows.{longer, more_added, none_added, none_some, none_stopped, same_some, whole}
 
 -- ---- a list in which one view was set
@@ -49,7 +49,7 @@ stay_stopped old new stay None is = is
 -- ---- the first pass
 
 -- the rule holds as the channel is made
-pub begins : Kept [] (maker ∷ [])
+pub begins : HasOneHall [] (maker ∷ [])
 begins = record {
   now = opening (config_of 1 1 1);
   holder = Some 0;
@@ -72,7 +72,7 @@ begins = record {
 -- ---- the hall is taken
 
 takes_at : (pass : ℕ) (v : View) (hall : Hall) (halls : List Hall) (views : List View) (now : System) (holder : Option ℕ) → Placed (hall ∷ halls) views now holder → AreFitting now holder views → AreApart views → get_elem? views pass ≡ some v
-    → (w : View) × Kept halls (set views pass w) × Receives v hall w
+    → (w : View) × HasOneHall halls (set views pass w) × Receives v hall w
 takes_at pass v hall halls views now (Some p) placed fitting apart at = let e : hall ∷ halls ≡ [] = placed.0 in absurd (cc)
 takes_at pass v hall halls views now None placed fitting apart at =
     let e : hall ∷ halls ≡ placed.0 ∷ [] = placed.1 in
@@ -94,7 +94,7 @@ takes_at pass v hall halls views now None placed fitting apart at =
       record { is = refl; knows = mine },
     )
 
-pub takes : (pass : ℕ) (v : View) → Pops Kept pass v (Receives v)
+pub takes : (pass : ℕ) (v : View) → Pops HasOneHall pass v (Receives v)
 takes pass v hall halls views kept at = takes_at pass v hall halls views kept.now kept.holder kept.placed kept.fitting kept.apart at
 
 -- what the rule says where this pass has the hall
@@ -102,7 +102,7 @@ record Held (pass : ℕ) (old : System) (halls : List Hall) (views : List View) 
   empty : halls ≡ []
   fitting : AreFitting old (Some pass) views
 
-held : (pass : ℕ) (v : View) (old : System) (halls : List Hall) (views : List View) → v.taken ≡ Some old → Kept halls views → get_elem? views pass ≡ some v → Held pass old halls views
+held : (pass : ℕ) (v : View) (old : System) (halls : List Hall) (views : List View) → v.taken ≡ Some old → HasOneHall halls views → get_elem? views pass ≡ some v → Held pass old halls views
 held pass v old halls views taken kept at =
     let out = (kept.fitting pass v at).out old taken in
     let placed : Placed halls views kept.now (Some pass) = subst (λ h. Placed halls views kept.now h) out.0 kept.placed in
@@ -127,7 +127,7 @@ others_know v u old new adds knows apart = record {
   stopped = λ is. stay_stopped old new adds.stopped u.client (knows.stopped is);
 }
 
-pub gives : (n pass : ℕ) (v : View) (hall : Hall) → MayReturn v hall.world → Pushes Kept n pass v hall (Returns v hall)
+pub gives : (n pass : ℕ) (v : View) (hall : Hall) → MayReturn v hall.world → Pushes HasOneHall n pass v hall (Returns v hall)
 gives n pass v hall may halls views _ kept at =
     let old = may.old in
     let adds = may.adds in
@@ -155,10 +155,10 @@ gives n pass v hall may halls views _ kept at =
 
 -- ---- a further pass, without a client
 
-pub forks : (pass : ℕ) (v : View) → Forks Kept pass v v (guest v.rows)
+pub forks : (pass : ℕ) (v : View) → Forks HasOneHall pass v v (guest v.rows)
 forks pass v halls views kept at =
     let again = set_again views pass v at in
-    subst (λ l. Kept halls (l ++ guest v.rows ∷ [])) (sym again) (record {
+    subst (λ l. HasOneHall halls (l ++ guest v.rows ∷ [])) (sym again) (record {
       now = kept.now;
       holder = kept.holder;
       placed = placed_more kept.holder kept.placed;
@@ -191,7 +191,7 @@ entered u old new client enters knows = record {
   stopped = λ is. stay_stopped old new enters.stopped u.client (knows.stopped is);
 }
 
-pub joins : (n pass : ℕ) (v : View) (hall : Hall) (old : System) (client : ℕ) → v.client ≡ None → v.taken ≡ Some old → Enters old client hall.world → Pushes Kept n pass v hall (BecomesSeat v hall)
+pub joins : (n pass : ℕ) (v : View) (hall : Hall) (old : System) (client : ℕ) → v.client ≡ None → v.taken ≡ Some old → Enters old client hall.world → Pushes HasOneHall n pass v hall (BecomesSeat v hall)
 joins n pass v hall old client unnamed taken enters halls views _ kept at =
     let h : Held pass old halls views = held pass v old halls views taken kept at in
     let last : last_of hall.world.members.joined ≡ client = ap last_of enters.names ∙ last_of-push old.members.joined client in

@@ -104,7 +104,7 @@ abbrev pub AreApart : List View → Type 0
 AreApart views = (i j : ℕ) (u v : View) (client : ℕ) → get_elem? views i ≡ some u → get_elem? views j ≡ some v → u.client ≡ Some client → v.client ≡ Some client → i ≡ j
 
 -- there is one hall, and each pass knows a beginning of its record
-pub record Kept (halls : List Hall) (views : List View) : Type 0 where
+pub record HasOneHall (halls : List Hall) (views : List View) : Type 0 where
   pub now : System
   pub holder : Option ℕ
   pub placed : Placed halls views now holder
@@ -210,14 +210,14 @@ pub record Looks (v w : View) : Type 0 where
 -- ---- what contracts say of a client's pass
 
 -- the client, the rows that it has seen, and whether it was stopped in the hall as its pass last gave it back; who is stopped there stays so
-pub record Seen : Type 0 where
+pub record ClientView : Type 0 where
   pub client : ℕ
   pub rows : List Row
   pub is_stopped : Bool
 
 -- one turn, in which the hall took the step, or refused it: behind the rows that were seen came those of other clients alone, and then
 -- what the step added
-pub record Turned (old : Seen) (step : Step) (result : Result Effect Refusal) (new : Seen) : Type 0 where
+pub record TakesTurn (old : ClientView) (step : Step) (result : Result Effect Refusal) (new : ClientView) : Type 0 where
   pub before : Hall
   pub after : Hall
   pub others : OthersAdd old.client old.rows before.world.history.rows
@@ -225,12 +225,12 @@ pub record Turned (old : Seen) (step : Step) (result : Result Effect Refusal) (n
   pub is : new ≡ record { client = old.client; rows = after.world.history.rows; is_stopped = is_stopped (phase_at after.world old.client) }
 
 -- one turn, or several, in which rows of other clients came, and no others
-pub record Looked (old new : Seen) : Type 0 where
+pub record AddsNoRow (old new : ClientView) : Type 0 where
   pub client : new.client ≡ old.client
   pub others : OthersAdd old.client old.rows new.rows
 
 -- one turn, in which that row of the client's came, at that place: before it came rows of other clients alone; and the client isn't stopped
-pub record AddedRow (old : Seen) (row : Row) (place : ℕ) (new : Seen) : Type 0 where
+pub record AddsRow (old : ClientView) (row : Row) (place : ℕ) (new : ClientView) : Type 0 where
   pub before : List Row
   pub others : OthersAdd old.client old.rows before
   pub at : length before ≡ place
@@ -238,9 +238,9 @@ pub record AddedRow (old : Seen) (row : Row) (place : ℕ) (new : Seen) : Type 0
   pub is : new ≡ record { client = old.client; rows = before ++ row ∷ []; is_stopped = false }
 
 -- one turn, in which rows of other clients came, and then perhaps a note of one of the client's calls
-pub data TookReply (old new : Seen) : Type 0 where
-  WithoutNote : Looked old new → TookReply old new
-  WithNote : (op : OpId) (tag : Tag) (place : ℕ) → AddedRow old (Note op tag) place new → TookReply old new
+pub data TakesReply (old new : ClientView) : Type 0 where
+  WithoutNote : AddsNoRow old new → TakesReply old new
+  WithNote : (op : OpId) (tag : Tag) (place : ℕ) → AddsRow old (Note op tag) place new → TakesReply old new
 
 -- a step without a row that a client's pass may take
 abbrev pub IsQuiet : Step → Type 0
@@ -257,7 +257,7 @@ HasNoCall client rows = (place : ℕ) (op : OpId) (key : List ℕ) (action : Act
 -- ---- what contracts say of a pass without a client
 
 -- one turn of a pass without a client, which had seen those rows
-pub record Served (old : List Row) (step : Step) (result : Result Effect Refusal) (new : List Row) : Type 0 where
+pub record ServesStep (old : List Row) (step : Step) (result : Result Effect Refusal) (new : List Row) : Type 0 where
   pub before : Hall
   pub after : Hall
   pub grown : Grows old before.world.history.rows

@@ -8,7 +8,7 @@ ghost use Rattle.world_steps.specs.Refusals.{refusal_of};
 ghost use Rattle.world_steps.specs.declared.effect.Effect.TheVariants as effect;
 ghost use Rattle.world_steps.specs.declared.step.Step.TheVariants as event;
 ghost use Rattle.hall_journal.specs.Halls.{Takes, with_step};
-ghost use Rattle.hall_turns.specs.Turns.{AddedRow, AreRecorded, IsQuiet, IsReady, Looked, MayTake, TookReply, Turned, seat};
+ghost use Rattle.hall_turns.specs.Turns.{AddsRow, AreRecorded, IsQuiet, IsReady, AddsNoRow, MayTake, TakesReply, TakesTurn, seat};
 
 use crate::door::{Door, known};
 use client_phases::{Phase, Taken};
@@ -30,9 +30,9 @@ pub struct ClientPass {
 
 impl Model for ClientPass {
     ghost use Rattle.std.specs.Prelude.{◌≡◌};
-    ghost use Rattle.hall_turns.specs.Turns.{AreRecorded, Seen, seat};
+    ghost use Rattle.hall_turns.specs.Turns.{AreRecorded, ClientView, seat};
 
-    ghost Value = { Seen };
+    ghost Value = { ClientView };
 
     ghost view = { λ p. record { client = p.client; rows = p.door.rows; is_stopped = p.door.is_stopped } };
 
@@ -105,8 +105,8 @@ impl ClientPass {
     pub fn take(&mut self, rt: &impl Wait, step: Step) -> Result<Effect, Refusal>
         requires may { MayTake (Some self.old.client) step }
         requires quiet { IsQuiet step }
-        ensures turned { Turned self.old step result self.new }
-        ensures looked { Looked self.old self.new }
+        ensures turned { TakesTurn self.old step result self.new }
+        ensures looked { AddsNoRow self.old self.new }
         ensures recorded { AreRecorded self.new.rows }
     {
         self.door.take(rt, step)
@@ -114,7 +114,7 @@ impl ClientPass {
 
     /// One turn: the client stops for good, where it hasn't yet. Nothing refuses that for memory.
     pub fn stop(&mut self, rt: &impl Wait)
-        ensures looked { Looked self.old self.new }
+        ensures looked { AddsNoRow self.old self.new }
         ensures stopped { self.new.is_stopped ≡ true }
         ensures recorded { AreRecorded self.new.rows }
     {
@@ -126,7 +126,7 @@ impl ClientPass {
 impl ClientPass {
     /// One turn: where the client stands. Once it was seen stopped it stands stopped.
     pub fn standing(&mut self, rt: &impl Wait) -> Standing
-        ensures looked { Looked self.old self.new }
+        ensures looked { AddsNoRow self.old self.new }
         ensures stopped { self.old.is_stopped ≡ true → result.phase ≡ Phase.Stopped }
         ensures recorded { AreRecorded self.new.rows }
     {
@@ -145,11 +145,11 @@ impl ClientPass {
         action: Action,
         seen: usize,
     ) -> Result<Begun, Delay>
-        ensures begun { IfOk result (λ begun. AddedRow self.old
+        ensures begun { IfOk result (λ begun. AddsRow self.old
             (row.Invoke begun.op self.old.client key action) begun.place self.new) }
         ensures seen { IfOk result (λ begun. seen ≤ begun.place) }
         ensures few { IfOk result (λ begun. begun.place ≤ 9223372036854775807) }
-        ensures delayed { OnErr result (Looked self.old self.new) }
+        ensures delayed { OnErr result (AddsNoRow self.old self.new) }
         ensures recorded { AreRecorded self.new.rows }
     {
         laws::a_step_adds_a_row_of_its_client();
@@ -165,8 +165,8 @@ impl ClientPass {
 
     /// One turn: a reply comes to the client, where the flight is a reply to it.
     pub fn deliver(&mut self, rt: &impl Wait, flight: u32) -> Result<Taken, Refusal>
-        ensures took { TookReply self.old self.new }
-        ensures refused { OnErr result (Looked self.old self.new) }
+        ensures took { TakesReply self.old self.new }
+        ensures refused { OnErr result (AddsNoRow self.old self.new) }
         ensures recorded { AreRecorded self.new.rows }
     {
         laws::a_step_adds_a_row_of_its_client();
@@ -184,9 +184,9 @@ impl ClientPass {
     pub fn respond(&mut self, rt: &impl Wait) -> Result<Ended, Refusal>
         ensures copy { IfOk result (λ ended. ended.copy ≡ ended.returned) }
         ensures few { IfOk result (λ ended. ended.place ≤ 9223372036854775807) }
-        ensures ended { IfOk result (λ ended. AddedRow self.old
+        ensures ended { IfOk result (λ ended. AddsRow self.old
             (row.Respond ended.op ended.returned) ended.place self.new) }
-        ensures refused { OnErr result (Looked self.old self.new) }
+        ensures refused { OnErr result (AddsNoRow self.old self.new) }
         ensures recorded { AreRecorded self.new.rows }
     {
         laws::a_step_adds_a_row_of_its_client();

@@ -10,7 +10,7 @@ ghost use Rattle.world_steps.specs.SoundSystems.{IsSound};
 ghost use Rattle.world_steps.specs.declared.effect.Effect.TheVariants as effect;
 ghost use Rattle.world_steps.specs.declared.step.Step.TheVariants as event;
 ghost use Rattle.hall_journal.specs.Halls.{IsReplay, Takes};
-ghost use Rattle.hall_turns.specs.Turns.{AreRecorded, Enters, HasNoCall, IsCopied, IsToReplica, IsTold, MayTake, Served};
+ghost use Rattle.hall_turns.specs.Turns.{AreRecorded, Enters, HasNoCall, IsCopied, IsToReplica, IsTold, MayTake, ServesStep};
 
 use crate::client_pass::ClientPass;
 use crate::door::{Door, known};
@@ -66,7 +66,7 @@ impl FreePass {
     /// One turn: the hall takes a step that names no client.
     pub fn take(&mut self, rt: &impl Wait, step: Step) -> Result<Effect, Refusal>
         requires free { MayTake None step }
-        ensures { Served self.old step result self.new }
+        ensures { ServesStep self.old step result self.new }
     {
         self.door.take(rt, step)
     }
@@ -80,7 +80,7 @@ impl FreePass {
         flight: u32,
     ) -> Result<u32, Refusal>
         ensures served { IfOk result (λ reply.
-            Served self.old (event.Deliver flight) (Ok (effect.Answered reply)) self.new) }
+            ServesStep self.old (event.Deliver flight) (Ok (effect.Answered reply)) self.new) }
         ensures refused { OnErr result (Grows self.old self.new) }
     {
         laws::a_step_adds_a_row_of_its_client();

@@ -20,9 +20,9 @@ pub struct View {
 pub struct OneHall;
 
 impl Protocol<Hall, View> for OneHall {
-    ghost use Rattle.hall_turns.specs.Turns.{Kept, maker};
+    ghost use Rattle.hall_turns.specs.Turns.{HasOneHall, maker};
 
-    ghost holds = { Kept };
+    ghost holds = { HasOneHall };
 
     ghost first = { maker };
 }

@@ -9,7 +9,7 @@ use Rattle.tag.specs.declared.numbers.OpId.{OpId}
 use Rattle.recorder.specs.declared.part.Response.{Response}
 use Rattle.recorder.specs.declared.row.Row.TheVariants.{Respond}
 use Rattle.world_steps.specs.Lasting.{Grows}
-use Rattle.hall_turns.specs.Turns.{AreRecorded, HasNoCall, Seen}
+use Rattle.hall_turns.specs.Turns.{AreRecorded, HasNoCall, ClientView}
 use Rattle.node_threads.specs.declared.entry.Entry.{Entry}
 use Rattle.node_threads.specs.declared.errors.CallError.{CallError}
 use Rattle.node_threads.specs.declared.errors.CallError.TheVariants as fault
@@ -64,15 +64,15 @@ hall_answered hall log answered k entry at = let there = from_hall hall log k en
 -- ---- a seat after a call
 
 -- the log of one hall has an entry more, the pass of that hall is another, and its place is higher
-abbrev pub with_entry : Seat → ℕ → Entry → Seen → ℕ → Bool → Seat
+abbrev pub with_entry : Seat → ℕ → Entry → ClientView → ℕ → Bool → Seat
 with_entry s hall entry after place spent = record s { is_spent = spent; log = s.log ++ entry ∷ []; passes = slice_set s.passes hall after; seen = slice_set s.seen hall place }
 
-own_after : (s : Seat) (hall : ℕ) (entry : Entry) (after : Seen) (place : ℕ) (spent : Bool) → IsSeat s → entry.hall ≡ hall → after.client ≡ s.client → AreRecorded after.rows → IsLog after.rows s.client (of_hall hall s.log ++ entry ∷ [])
-    → (k : ℕ) (pass : Seen) → slice_get (slice_set s.passes hall after) k ≡ Some pass → IsOwnPass (with_entry s hall entry after place spent) k pass
+own_after : (s : Seat) (hall : ℕ) (entry : Entry) (after : ClientView) (place : ℕ) (spent : Bool) → IsSeat s → entry.hall ≡ hall → after.client ≡ s.client → AreRecorded after.rows → IsLog after.rows s.client (of_hall hall s.log ++ entry ∷ [])
+    → (k : ℕ) (pass : ClientView) → slice_get (slice_set s.passes hall after) k ≡ Some pass → IsOwnPass (with_entry s hall entry after place spent) k pass
 own_after s hall entry after place spent is in_hall client recorded log k pass at = elim (set_cases s.passes hall after k pass at) [
   | inl here ↦
       let whole : IsLog after.rows s.client (of_hall hall (s.log ++ entry ∷ [])) = subst (IsLog after.rows s.client) (sym (hall_more hall s.log entry in_hall)) log in
-      subst (λ (y : ℕ × Seen). IsOwnPass (with_entry s hall entry after place spent) y.0 y.1) (λ i. (sym here.0 i, here.1 i)) (record { client = client; recorded = recorded; log = whole })
+      subst (λ (y : ℕ × ClientView). IsOwnPass (with_entry s hall entry after place spent) y.0 y.1) (λ i. (sym here.0 i, here.1 i)) (record { client = client; recorded = recorded; log = whole })
   | inr other ↦
       let old = is.own k pass other.1 in
       record { client = old.client; recorded = old.recorded; log = subst (IsLog pass.rows s.client) (sym (hall_same hall k s.log entry in_hall other.0)) old.log }
@@ -93,7 +93,7 @@ below_after s hall entry old place is in_hall there higher below k now i e at e_
   | inr other ↦ is.below k now i e other.1 (subst (λ l. slice_get l i ≡ Some e) (hall_same hall k s.log entry in_hall other.0) e_at)
 ]
 
-pub kept_seat : (s : Seat) (hall : ℕ) (old new : Seen) → IsSeat s → slice_get s.passes hall ≡ Some old → KeepsLog old new → IsSeat (record s { passes = slice_set s.passes hall new })
+pub kept_seat : (s : Seat) (hall : ℕ) (old new : ClientView) → IsSeat s → slice_get s.passes hall ≡ Some old → KeepsLog old new → IsSeat (record s { passes = slice_set s.passes hall new })
 kept_seat s hall old new is there kept = record {
   halls = is.halls ∙ sym (length-set s.passes hall new);
   own = λ k pass at. elim (set_cases s.passes hall new k pass at) [
@@ -101,14 +101,14 @@ kept_seat s hall old new is there kept = record {
         let was = is.own hall old there in
         let client : new.client ≡ s.client = kept.client ∙ was.client in
         let log : IsLog new.rows s.client (of_hall hall s.log) = subst (λ c. IsLog new.rows c (of_hall hall s.log)) client (kept.log (of_hall hall s.log) (subst (λ c. IsLog old.rows c (of_hall hall s.log)) (sym was.client) was.log)) in
-        subst (λ (y : ℕ × Seen). IsOwnPass (record s { passes = slice_set s.passes hall new }) y.0 y.1) (λ i. (sym here.0 i, here.1 i)) (record { client = client; recorded = kept.recorded was.recorded; log = log })
+        subst (λ (y : ℕ × ClientView). IsOwnPass (record s { passes = slice_set s.passes hall new }) y.0 y.1) (λ i. (sym here.0 i, here.1 i)) (record { client = client; recorded = kept.recorded was.recorded; log = log })
     | inr other ↦ let was = is.own k pass other.1 in record { client = was.client; recorded = was.recorded; log = was.log }
   ];
   answered = is.answered;
   below = is.below;
 }
 
-pub pending_seat : (s : Seat) (hall : ℕ) (old new : Seen) (entry : Entry) (place : ℕ) → IsSeat s → slice_get s.passes hall ≡ Some old → slice_get s.seen hall ≡ Some place → place ≤ entry.invoked → entry.hall ≡ hall → entry.response ≡ None
+pub pending_seat : (s : Seat) (hall : ℕ) (old new : ClientView) (entry : Entry) (place : ℕ) → IsSeat s → slice_get s.passes hall ≡ Some old → slice_get s.seen hall ≡ Some place → place ≤ entry.invoked → entry.hall ≡ hall → entry.response ≡ None
     → HasBegun old new (of_hall hall s.log) entry → IsSeat (with_entry s hall entry new (entry.invoked + 1) true)
 pending_seat s hall old new entry place is there seen later in_hall pending begun =
     let was = is.own hall old there in
@@ -119,7 +119,7 @@ pending_seat s hall old new entry place is there seen later in_hall pending begu
       below = λ k now i e at e_at. below_after s hall entry place (entry.invoked + 1) is in_hall seen (omega arith) (record { invoked = omega arith; answered = λ response r. none_some (sym pending ∙ r) }) k now i e at e_at;
     }
 
-pub answered_seat : (s : Seat) (hall : ℕ) (old new : Seen) (entry : Entry) (op : OpId) (returned : Returned) (at_place place : ℕ) → IsSeat s → s.is_spent ≡ false → slice_get s.passes hall ≡ Some old → slice_get s.seen hall ≡ Some place
+pub answered_seat : (s : Seat) (hall : ℕ) (old new : ClientView) (entry : Entry) (op : OpId) (returned : Returned) (at_place place : ℕ) → IsSeat s → s.is_spent ≡ false → slice_get s.passes hall ≡ Some old → slice_get s.seen hall ≡ Some place
     → place ≤ entry.invoked → entry.hall ≡ hall → HasEnded old new (of_hall hall s.log) entry op returned at_place → IsSeat (with_entry s hall (ended_entry entry at_place returned) new (at_place + 1) false)
 answered_seat s hall old new entry op returned at_place place is unspent there seen later in_hall ended =
     let was = is.own hall old there in
@@ -138,12 +138,12 @@ answered_seat s hall old new entry op returned at_place place is unspent there s
 
 -- ---- a call that didn't begin
 
-grown_none : (passes : List Seen) → HaveGrown passes passes
+grown_none : (passes : List ClientView) → HaveGrown passes passes
 grown_none passes hall before at = (before, at, grown_not before.rows)
 
-grown_one : (passes : List Seen) (hall : ℕ) (old new : Seen) → slice_get passes hall ≡ Some old → Grows old.rows new.rows → HaveGrown passes (slice_set passes hall new)
+grown_one : (passes : List ClientView) (hall : ℕ) (old new : ClientView) → slice_get passes hall ≡ Some old → Grows old.rows new.rows → HaveGrown passes (slice_set passes hall new)
 grown_one [] hall old new there grown k before at = none_some at
-grown_one (x ∷ xs) zero old new there grown zero before at = (new, refl, subst (λ (s : Seen). Grows s.rows new.rows) (same_some old before (sym there ∙ at)) grown)
+grown_one (x ∷ xs) zero old new there grown zero before at = (new, refl, subst (λ (s : ClientView). Grows s.rows new.rows) (same_some old before (sym there ∙ at)) grown)
 grown_one (x ∷ xs) zero old new there grown (suc k) before at = (before, at, grown_not before.rows)
 grown_one (x ∷ xs) (suc hall) old new there grown zero before at = (before, at, grown_not before.rows)
 grown_one (x ∷ xs) (suc hall) old new there grown (suc k) before at = grown_one xs hall old new there grown k before at
@@ -156,7 +156,7 @@ pub unbegun_log : (s : Seat) (log : List Entry) → log ≡ s.log → DidNotBegi
 unbegun_log s log same = record { store = refl; client = refl; is_spent = refl; log = same; seen = refl; grown = grown_none s.passes }
 
 -- the pass of one hall saw more
-pub unbegun_pass : (s : Seat) (log : List Entry) (at : ℕ) (old new : Seen) → log ≡ s.log → slice_get s.passes at ≡ Some old → KeepsLog old new
+pub unbegun_pass : (s : Seat) (log : List Entry) (at : ℕ) (old new : ClientView) → log ≡ s.log → slice_get s.passes at ≡ Some old → KeepsLog old new
     → DidNotBegin s (record { store = s.store; client = s.client; is_spent = s.is_spent; log = log; passes = slice_set s.passes at new; seen = s.seen })
 unbegun_pass s log at old new same there kept = record { store = refl; client = refl; is_spent = refl; log = same; seen = refl; grown = grown_one s.passes at old new there kept.grown }
 
@@ -190,7 +190,7 @@ failed_by (Err error) old hall key action new is = has_failed error old hall key
 
 -- ---- a call of a seat
 
-module _ (s : Seat) (at hall : ℕ) (old new : Seen) (key kept_key : List ℕ) (action kept_action : Action) (op : OpId) (place seen : ℕ)
+module _ (s : Seat) (at hall : ℕ) (old new : ClientView) (key kept_key : List ℕ) (action kept_action : Action) (op : OpId) (place seen : ℕ)
     (is : IsSeat s) (there : slice_get s.passes at ≡ Some old) (saw : slice_get s.seen at ≡ Some seen) (same : at ≡ hall) (key_is : kept_key ≡ key) (action_is : kept_action ≡ action) (later : seen ≤ place) where
   abbrev entry_of : Entry
   entry_of = begun_entry hall op kept_key kept_action place
@@ -198,7 +198,7 @@ module _ (s : Seat) (at hall : ℕ) (old new : Seen) (key kept_key : List ℕ) (
   own_log : IsLog old.rows old.client (of_hall at s.log)
   own_log = let was = is.own at old there in subst (λ c. IsLog old.rows c (of_hall at s.log)) (sym was.client) was.log
 
-  begun_by : (mid : Seen) → BeginsCall old key action op place mid → HasBegun old mid (of_hall at s.log) entry_of
+  begun_by : (mid : ClientView) → BeginsCall old key action op place mid → HasBegun old mid (of_hall at s.log) entry_of
   begun_by mid begins_call =
       subst (λ (y : List ℕ × Action). HasBegun old mid (of_hall at s.log) (begun_entry hall op y.0 y.1 place)) (λ i. (sym key_is i, sym action_is i))
       (begins hall old mid key action op place (of_hall at s.log) own_log begins_call)
@@ -210,7 +210,7 @@ module _ (s : Seat) (at hall : ℕ) (old new : Seen) (key kept_key : List ℕ) (
   there_by = ap (λ n. slice_get s.passes n) (sym same) ∙ there
 
   -- it began, and isn't answered
-  module _ (log : List Entry) (logged : log ≡ s.log ++ entry_of ∷ []) (mid : Seen) (begins_call : BeginsCall old key action op place mid) (kept : KeepsLog mid new) where
+  module _ (log : List Entry) (logged : log ≡ s.log ++ entry_of ∷ []) (mid : ClientView) (begins_call : BeginsCall old key action op place mid) (kept : KeepsLog mid new) where
     has_begun : HasBegun old new (of_hall at s.log) entry_of
     has_begun = still_begun old mid new (of_hall at s.log) entry_of (begun_by mid begins_call) kept
 
@@ -238,7 +238,7 @@ module _ (s : Seat) (at hall : ℕ) (old new : Seen) (key kept_key : List ℕ) (
 
   -- it was answered
   module _ (number : OpId) (returned : Returned) (end_place : ℕ) (log : List Entry) (logged : log ≡ s.log ++ ended_entry entry_of end_place returned ∷ []) (unspent : s.is_spent ≡ false)
-      (mid : Seen) (begins_call : BeginsCall old key action op place mid) (ends_call : EndsCall mid number returned end_place new) where
+      (mid : ClientView) (begins_call : BeginsCall old key action op place mid) (ends_call : EndsCall mid number returned end_place new) where
     has_ended : HasEnded old new (of_hall at s.log) entry_of number returned end_place
     has_ended = ends old mid new (of_hall at s.log) entry_of number returned end_place (begun_by mid begins_call) refl (hall_answered at s.log (is.answered unspent)) ends_call
 
@@ -269,19 +269,19 @@ module _ (s : Seat) (at hall : ℕ) (old new : Seen) (key kept_key : List ℕ) (
     }
 
 -- the seat whose log is that list
-pub same_log : (s : Seat) (log : List Entry) (passes : List Seen) → log ≡ s.log → IsSeat (record s { passes = passes }) → IsSeat (record { store = s.store; client = s.client; is_spent = s.is_spent; log = log; passes = passes; seen = s.seen })
+pub same_log : (s : Seat) (log : List Entry) (passes : List ClientView) → log ≡ s.log → IsSeat (record s { passes = passes }) → IsSeat (record { store = s.store; client = s.client; is_spent = s.is_spent; log = log; passes = passes; seen = s.seen })
 same_log s log passes same is = subst (λ l. IsSeat (record { store = s.store; client = s.client; is_spent = s.is_spent; log = l; passes = passes; seen = s.seen })) (sym same) is
 
 -- ---- a new seat
 
-pub new_log : (client : ℕ) (pass : Seen) → HasNoCall client pass.rows → IsLog pass.rows client []
+pub new_log : (client : ℕ) (pass : ClientView) → HasNoCall client pass.rows → IsLog pass.rows client []
 new_log client pass none = record {
   each = λ k entry at. none_some at;
   all = λ place op key action there. absurd (none place op key action there);
   ordered = λ i j a b lt x y. none_some x;
 }
 
-pub new_seat : (store client : ℕ) (passes : List Seen) (seen : List ℕ) (log : List Entry) → log ≡ [] → length seen ≡ length passes → AreFresh client passes
+pub new_seat : (store client : ℕ) (passes : List ClientView) (seen : List ℕ) (log : List Entry) → log ≡ [] → length seen ≡ length passes → AreFresh client passes
     → IsSeat (record { store = store; client = client; is_spent = false; log = log; passes = passes; seen = seen })
 new_seat store client passes seen log none halls fresh = subst (λ l. IsSeat (record { store = store; client = client; is_spent = false; log = l; passes = passes; seen = seen })) (sym none) (record {
   halls = halls;
@@ -291,7 +291,7 @@ new_seat store client passes seen log none halls fresh = subst (λ l. IsSeat (re
 })
 
 -- one pass more
-pub fresh_more : (client : ℕ) (passes : List Seen) (pass : Seen) → AreFresh client passes → IsFresh client pass → AreFresh client (passes ++ pass ∷ [])
+pub fresh_more : (client : ℕ) (passes : List ClientView) (pass : ClientView) → AreFresh client passes → IsFresh client pass → AreFresh client (passes ++ pass ∷ [])
 fresh_more client passes pass fresh is k one at = elim (after_push passes pass k one at) [
   | inl old ↦ fresh k one old
   | inr new ↦ subst (IsFresh client) new.1 is

@@ -7,7 +7,7 @@ use Rattle.recorder.specs.declared.part.Response.{Response}
 use Rattle.recorder.specs.declared.row.Row.{Row}
 use Rattle.recorder.specs.declared.row.Row.TheVariants.{Respond}
 use Rattle.world_steps.specs.Lasting.{Grows}
-use Rattle.hall_turns.specs.Turns.{AreRecorded, HasNoCall, Seen}
+use Rattle.hall_turns.specs.Turns.{AreRecorded, HasNoCall, ClientView}
 use Rattle.node_threads.specs.Logs.{AreAnswered, IsLog, of_hall}
 use Rattle.node_threads.specs.Receipts.{Receipt}
 use Rattle.node_threads.specs.declared.entry.Entry.{Entry}
@@ -19,7 +19,7 @@ pub record Seat : Type 0 where
   pub client : ℕ
   pub is_spent : Bool
   pub log : List Entry
-  pub passes : List Seen
+  pub passes : List ClientView
   pub seen : List ℕ
 
 -- the entry's rows stand below that place
@@ -29,7 +29,7 @@ pub record IsBelow (place : ℕ) (entry : Entry) : Type 0 where
 
 -- the pass is the client's, the rows that it has seen are the record of a world that steps reach, and the entries of its hall are the client's log in
 -- these rows
-pub record IsOwnPass (s : Seat) (hall : ℕ) (pass : Seen) : Type 0 where
+pub record IsOwnPass (s : Seat) (hall : ℕ) (pass : ClientView) : Type 0 where
   pub client : pass.client ≡ s.client
   pub recorded : AreRecorded pass.rows
   pub log : IsLog pass.rows s.client (of_hall hall s.log)
@@ -37,7 +37,7 @@ pub record IsOwnPass (s : Seat) (hall : ℕ) (pass : Seen) : Type 0 where
 -- what holds of every seat
 pub record IsSeat (s : Seat) : Type 0 where
   pub halls : length s.seen ≡ length s.passes
-  pub own : (hall : ℕ) (pass : Seen) → slice_get s.passes hall ≡ Some pass → IsOwnPass s hall pass
+  pub own : (hall : ℕ) (pass : ClientView) → slice_get s.passes hall ≡ Some pass → IsOwnPass s hall pass
   pub answered : s.is_spent ≡ false → AreAnswered s.log
   pub below : (hall place k : ℕ) (entry : Entry) → slice_get s.seen hall ≡ Some place → slice_get (of_hall hall s.log) k ≡ Some entry → IsBelow place entry
 
@@ -57,8 +57,8 @@ value_of Written = None
 -- a call of the seat was answered: one entry more, with its key and its action, begun behind all that the seat had seen; the rows that it has seen
 -- go on, and end with the response
 pub record Calls (old : Seat) (hall : ℕ) (key : List ℕ) (action : Action) (entry : Entry) (response : Response) (new : Seat) : Type 0 where
-  pub before : Seen
-  pub after : Seen
+  pub before : ClientView
+  pub after : ClientView
   pub there : slice_get old.passes hall ≡ Some before
   pub is : new ≡ record old { log = old.log ++ entry ∷ []; passes = slice_set old.passes hall after; seen = slice_set old.seen hall (response.place + 1) }
   pub hall_is : entry.hall ≡ hall
@@ -73,8 +73,8 @@ pub record Calls (old : Seat) (hall : ℕ) (key : List ℕ) (action : Action) (e
 -- a call of the seat began and isn't answered: one entry more, pending, begun behind all that the seat had seen; the client is stopped in that hall, and
 -- the seat is spent
 pub record LeavesPending (old : Seat) (hall : ℕ) (key : List ℕ) (action : Action) (entry : Entry) (new : Seat) : Type 0 where
-  pub before : Seen
-  pub after : Seen
+  pub before : ClientView
+  pub after : ClientView
   pub there : slice_get old.passes hall ≡ Some before
   pub is : new ≡ record old { is_spent = true; log = old.log ++ entry ∷ []; passes = slice_set old.passes hall after; seen = slice_set old.seen hall (entry.invoked + 1) }
   pub hall_is : entry.hall ≡ hall
@@ -86,8 +86,8 @@ pub record LeavesPending (old : Seat) (hall : ℕ) (key : List ℕ) (action : Ac
   pub stopped : after.is_stopped ≡ true
 
 -- the rows that were seen of each hall begin with those that had been seen of it
-abbrev pub HaveGrown : List Seen → List Seen → Type 0
-HaveGrown old new = (hall : ℕ) (before : Seen) → slice_get old hall ≡ Some before → (after : Seen) × (slice_get new hall ≡ Some after) × Grows before.rows after.rows
+abbrev pub HaveGrown : List ClientView → List ClientView → Type 0
+HaveGrown old new = (hall : ℕ) (before : ClientView) → slice_get old hall ≡ Some before → (after : ClientView) × (slice_get new hall ≡ Some after) × Grows before.rows after.rows
 
 -- a call of the seat didn't begin: its store, its client, its log and the places that it has seen are as before, it is no more spent than before, and
 -- it has seen the rows that it had seen, or more
@@ -114,20 +114,20 @@ abbrev pub IsForeign : Seat → Receipt → Type 0
 IsForeign s receipt = receipt.store ≡ s.store → length s.seen ≤ receipt.hall
 
 -- the pass is of a client that has no call yet and isn't stopped, and the rows that it has seen are the record of a world that steps reach
-pub record IsFresh (name : ℕ) (pass : Seen) : Type 0 where
+pub record IsFresh (name : ℕ) (pass : ClientView) : Type 0 where
   pub client : pass.client ≡ name
   pub running : pass.is_stopped ≡ false
   pub recorded : AreRecorded pass.rows
   pub unused : HasNoCall name pass.rows
 
 -- each of the passes is so
-abbrev pub AreFresh : ℕ → List Seen → Type 0
-AreFresh client passes = (k : ℕ) (pass : Seen) → slice_get passes k ≡ Some pass → IsFresh client pass
+abbrev pub AreFresh : ℕ → List ClientView → Type 0
+AreFresh client passes = (k : ℕ) (pass : ClientView) → slice_get passes k ≡ Some pass → IsFresh client pass
 
 -- none of these places is above 0
 abbrev pub AreZero : List ℕ → Type 0
 AreZero places = (hall : ℕ) → unwrap_or (slice_get places hall) 0 ≡ 0
 
 -- the client of each of the passes is stopped in the hall of the pass
-abbrev pub AreStopped : List Seen → Type 0
-AreStopped passes = (k : ℕ) (pass : Seen) → slice_get passes k ≡ Some pass → pass.is_stopped ≡ true
+abbrev pub AreStopped : List ClientView → Type 0
+AreStopped passes = (k : ℕ) (pass : ClientView) → slice_get passes k ≡ Some pass → pass.is_stopped ≡ true

@@ -1,5 +1,5 @@
 use Rattle.std.proofs.Common.{◌≡◌, ◌<◌, true, length, subst, inl, inr, arith}
-use Rattle.hall_turns.specs.Turns.{Seen}
+use Rattle.hall_turns.specs.Turns.{ClientView}
 use Rattle.node_threads.proofs.Lists.{within}
 use Rattle.node_threads.proofs.Seating.{set_cases}
 use Rattle.node_threads.proofs.store.stop_all.Goals as goal
@@ -7,7 +7,7 @@ use Rattle.node_threads.proofs.store.stop_all.Goals as goal
 pub loop-pass-preserved : goal.loop-pass-preserved
 loop-pass-preserved g c k pass lt at =
     elim (set_cases c.loop-pass.passes c.loop-pass.pass-index c.stop.new.self k pass at) [
-      | inl h ↦ subst (λ (s : Seen). s.is_stopped ≡ true) h.1 c.stop.ensures.stopped
+      | inl h ↦ subst (λ (s : ClientView). s.is_stopped ≡ true) h.1 c.stop.ensures.stopped
       | inr h ↦ c.loop-pass.invariant k pass (let other = h.0 in omega (arith, lt, other)) h.1
     ]
 

@@ -1,5 +1,5 @@
 use Rattle.world_steps.specs.declared.step.Step.TheVariants as event
-use Rattle.hall_turns.specs.Turns.TookReply.{WithoutNote}
+use Rattle.hall_turns.specs.Turns.TakesReply.{WithoutNote}
 use Rattle.hall_turns.proofs.ClientTurns.{client_returns, client_turn, heard, left, same_returns, seat_recorded}
 use Rattle.hall_turns.proofs.Results.{either, err_map}
 use Rattle.hall_turns.proofs.Turning.{recorded}

@@ -2,7 +2,7 @@ use Rattle.std.proofs.Common.{List, ap, subst, sym, ◌∙◌}
 use Rattle.recorder.specs.declared.row.Row.{Row}
 use Rattle.world_steps.specs.Lasting.{Grows}
 use Rattle.hall_turns.specs.declared.rule.View.{View}
-use Rattle.hall_turns.specs.Turns.{AreRecorded, HasNoCall, Seen}
+use Rattle.hall_turns.specs.Turns.{AreRecorded, HasNoCall, ClientView}
 use Rattle.hall_turns.proofs.ClientTurns.{same_returns}
 use Rattle.hall_turns.proofs.Joining.{entered, joins_world, seat_rows}
 use Rattle.hall_turns.proofs.Running.{joined_runs}
@@ -25,9 +25,9 @@ new-requires-clause-recorded g c =
 pub returns-in-Ok-clause-rows : goal.returns-in-Ok-clause-rows
 returns-in-Ok-clause-rows g c =
     let enters = joins_world c.receive-hall.result c.join_in-joined.new.hall c.args.client c.known.ensures.replay c.known-2.ensures.replay c.further_steps_take_nothing_away.ensures.joined c.a_stop_is_for_good.ensures.next c.in-Ok.ensures.joined.0 c.in-Ok.ensures.joined.2 in
-    subst (λ (y : List Row × List Row). Grows y.0 y.1 × HasNoCall c.args.client y.1) (λ i. (c.self.view_is i, sym (ap (λ (s : Seen). s.rows) c.new.ensures) i))
+    subst (λ (y : List Row × List Row). Grows y.0 y.1 × HasNoCall c.args.client y.1) (λ i. (c.self.view_is i, sym (ap (λ (s : ClientView). s.rows) c.new.ensures) i))
     (seat_rows c.self.inside.door c.receive-hall.new.self c.give_named.new.self c.receive-hall.result c.join_in-joined.new.hall c.args.client c.receive-hall.ensures c.known.ensures.sound enters c.give_named.ensures)
 
 pub returns-in-Ok-clause-running : goal.returns-in-Ok-clause-running
 returns-in-Ok-clause-running g c =
-    ap (λ (s : Seen). s.is_stopped) c.new.ensures ∙ ap (λ (y : View). y.is_stopped) c.give_named.ensures ∙ joined_runs c.receive-hall.result c.join_in-joined.new.hall c.args.client c.in-Ok.ensures.joined.2
+    ap (λ (s : ClientView). s.is_stopped) c.new.ensures ∙ ap (λ (y : View). y.is_stopped) c.give_named.ensures ∙ joined_runs c.receive-hall.result c.join_in-joined.new.hall c.args.client c.in-Ok.ensures.joined.2
