@@ -2,11 +2,11 @@
 ghost use Rattle.std.specs.Prelude.{◌≡◌, IfSome};
 
 use crate::gates::{FifthAndSeventh, Twins};
-use crate::scene::{are_atomic, config_of, seats_of, word};
+use crate::scene::{are_atomic, config_of, seat_of, word};
 use client_phases::ReadMode;
 use node_threads::{Closed, Gate, Seat, Store, StoreConfig};
 use quorum::Quorums;
-use recorder::{History, Row};
+use recorder::Row;
 use std::alloc::Global;
 use std::sync::Wait;
 use std::sync::atomic::AtomicU64;
@@ -145,19 +145,6 @@ where
     good && well
 }
 
-/// How many calls of the seat's client the history has.
-fn calls_by(history: &History, seat: &Seat) -> usize {
-    let mut count = 0usize;
-    for row in history.rows() {
-        if let Row::Invoke { client, .. } = row
-            && *client == seat.client()
-        {
-            count = count.saturating_add(1);
-        }
-    }
-    count
-}
-
 /// Whether each hall's record, as the seat is shown it, has as many calls of the seat's client as the seat has there.
 fn is_shown<R: Wait, G: Gate>(
     rt: &R,
@@ -166,30 +153,20 @@ fn is_shown<R: Wait, G: Gate>(
     seat: &Seat,
     halls: u8,
 ) -> bool {
-    let mut shown = 0usize;
+    let mut shown = 0;
     for hall in 0..halls {
-        match store.snapshot(rt, alloc, seat, hall) {
-            Some(Ok(history)) => shown = shown.saturating_add(calls_by(&history, seat)),
-            _ => return false,
+        let Some(Ok(history)) = store.snapshot(rt, alloc, seat, hall) else {
+            return false;
+        };
+        for row in history.rows() {
+            if let Row::Invoke { client, .. } = row
+                && *client == seat.client()
+            {
+                shown = usize::saturating_add(shown, 1);
+            }
         }
     }
     shown == seat.log().len() && shown == 50
-}
-
-/// Whether that holds of each seat.
-fn are_shown<R: Wait, G: Gate>(
-    rt: &R,
-    alloc: Global,
-    store: &Store<G>,
-    seats: &[Seat],
-    halls: u8,
-) -> bool {
-    for seat in seats {
-        if !is_shown(rt, alloc, store, seat, halls) {
-            return false;
-        }
-    }
-    true
 }
 
 /// Whether the halls have the configuration that was given.
@@ -210,37 +187,6 @@ fn has_config(closed: &Closed, config: &StoreConfig) -> bool {
 }
 
 /// Whether four callers' calls come out well, each is shown its calls, and the store closes.
-fn is_loaded<R, G>(
-    rt: &R,
-    alloc: Global,
-    store: Store<G>,
-    mut seats: Vec<Seat>,
-    config: &StoreConfig,
-) -> bool
-where
-    R: Threads + Wait + Copy + Send + Sync + 'static,
-    G: Gate + Send + Sync + Drop + 'static,
-{
-    let [one, other, next, last] = seats.as_mut_slice() else {
-        return false;
-    };
-    let shared = &store;
-    let (good, well) = thread::join(
-        rt,
-        move || pair(rt, alloc, shared, one, other, 1),
-        move || pair(rt, alloc, shared, next, last, 3),
-    );
-    let halls = config.halls.count();
-    let shown = are_shown(rt, alloc, &store, seats.as_slice(), halls);
-    match store.close(rt, alloc, seats) {
-        Ok(closed) => {
-            good && well && shown && has_config(&closed, config) && are_atomic(alloc, &closed)
-        }
-        Err(_) => false,
-    }
-}
-
-/// Whether that holds of a store of that kind.
 fn load<R, G>(rt: &R, alloc: Global, fixed: &Fixed, gate: G) -> Option<bool>
 where
     R: Threads + Wait + Copy + Send + Sync + 'static,
@@ -248,10 +194,28 @@ where
 {
     let config = store_config(fixed)?;
     let store = Store::start(rt, alloc, config, gate).ok()?;
-    match seats_of(rt, alloc, &store, 4) {
-        Some(seats) => Some(is_loaded(rt, alloc, store, seats, &config)),
-        None => None,
+    let mut first = seat_of(rt, alloc, &store, 1)?;
+    let mut second = seat_of(rt, alloc, &store, 2)?;
+    let mut third = seat_of(rt, alloc, &store, 3)?;
+    let mut fourth = seat_of(rt, alloc, &store, 4)?;
+    let shared = &store;
+    let (one, other) = (&mut first, &mut second);
+    let (next, last) = (&mut third, &mut fourth);
+    let (good, well) = thread::join(
+        rt,
+        move || pair(rt, alloc, shared, one, other, 1),
+        move || pair(rt, alloc, shared, next, last, 3),
+    );
+    let mut seats = Vec::new(alloc);
+    let mut shown = true;
+    for seat in [first, second, third, fourth] {
+        if !is_shown(rt, alloc, &store, &seat, fixed.halls) {
+            shown = false;
+        }
+        seats.push(seat).ok()?;
     }
+    let closed = store.close(rt, alloc, seats).ok()?;
+    Some(good && well && shown && has_config(&closed, &config) && are_atomic(alloc, &closed))
 }
 
 /// Every fifth parcel is lost, and of the others every seventh goes twice.

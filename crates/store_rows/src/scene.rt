@@ -97,20 +97,6 @@ pub fn gave_a(call: Result<Answer, CallError>) -> bool {
     }
 }
 
-/// Seats of clients 1 to that one.
-pub fn seats_of<R: Wait, G: Gate>(
-    rt: &R,
-    alloc: Global,
-    store: &Store<G>,
-    last: u32,
-) -> Option<Vec<Seat>> {
-    let mut seats = Vec::new(alloc);
-    for client in 1..last.saturating_add(1) {
-        seats.push(seat_of(rt, alloc, store, client)?).ok()?;
-    }
-    Some(seats)
-}
-
 /// Both seats.
 pub fn both(alloc: Global, one: Seat, other: Seat) -> Option<Vec<Seat>> {
     let mut seats = Vec::new(alloc);

@@ -1,6 +1,6 @@
 //! Rows in which threads wait for each other at a gate.
 use crate::gates::{HoldsAnswer, HoldsPlace, Meeting, MeetsAtReplies};
-use crate::scene::{closes, config_of, gave_a, read, seat_of, seats_of, word, write};
+use crate::scene::{both, closes, config_of, gave_a, read, seat_of, word, write};
 use crate::signals::{Signal, Signals};
 use node_threads::{Answer, CallError, Gate, Seat, Store};
 use std::alloc::Global;
@@ -44,58 +44,31 @@ fn write_then_read<R: Wait, G: Gate>(
     (written, found)
 }
 
-/// A gate that holds whoever comes to the place of that number.
-fn gate_at<R: Copy>(rt: &R, number: u64, signals: &Arc<Signals, Global>) -> Option<HoldsPlace<R>> {
-    let signals = Arc::try_clone(signals).ok()?;
-    Some(HoldsPlace {
-        rt: *rt,
-        number,
-        came: AtomicU64::new(0),
-        signals,
-    })
-}
-
-/// The first replicas are stopped once the gate is come to: what the calls of both seats answer, and whether the
-/// store then closes.
-fn stopped_in<R, G>(
-    rt: &R,
-    alloc: Global,
-    store: Store<G>,
-    mut seats: Vec<Seat>,
-    signals: &Signals,
-    count: u8,
-) -> Option<(Calls, bool)>
-where
-    R: Threads + Wait + Clock + Copy + Send + Sync + 'static,
-    G: Gate + Send + Sync + Drop + 'static,
-{
-    let [one, other] = seats.as_mut_slice() else {
-        return None;
-    };
-    let shared = &store;
-    let (calls, stopped) = thread::join(
-        rt,
-        move || write_then_read(rt, alloc, shared, one, other, signals),
-        move || stop(rt, shared, signals, count),
-    );
-    let closed = closes(rt, alloc, store, seats);
-    Some((calls, stopped && closed && !signals.missed.is_given()))
-}
-
 /// The first replicas are stopped when a call comes to the place of that number: what the calls answer, and whether
 /// the store then closes.
 fn stopped_at<R>(rt: &R, alloc: Global, number: u64, count: u8) -> Option<(Calls, bool)>
 where
     R: Threads + Wait + Clock + Copy + Send + Sync + 'static,
 {
-    let config = config_of(3, 3, 1)?;
     let signals = Arc::new(alloc, Signals::new()).ok()?;
-    let gate = gate_at(rt, number, &signals)?;
-    let store = Store::start(rt, alloc, config, gate).ok()?;
-    match seats_of(rt, alloc, &store, 2) {
-        Some(seats) => stopped_in(rt, alloc, store, seats, &signals, count),
-        None => None,
-    }
+    let gate = HoldsPlace {
+        rt: *rt,
+        number,
+        came: AtomicU64::new(0),
+        signals: Arc::try_clone(&signals).ok()?,
+    };
+    let store = Store::start(rt, alloc, config_of(3, 3, 1)?, gate).ok()?;
+    let mut writer = seat_of(rt, alloc, &store, 1)?;
+    let mut reader = seat_of(rt, alloc, &store, 2)?;
+    let (shared, told) = (&store, &*signals);
+    let (one, other) = (&mut writer, &mut reader);
+    let (calls, stopped) = thread::join(
+        rt,
+        move || write_then_read(rt, alloc, shared, one, other, told),
+        move || stop(rt, shared, told, count),
+    );
+    let closed = closes(rt, alloc, store, both(alloc, writer, reader)?);
+    Some((calls, stopped && closed && !signals.missed.is_given()))
 }
 
 /// Replica 0 of three is stopped at each of the first 26 places: the read gives what was written.
@@ -135,48 +108,29 @@ where
     Some(word(true))
 }
 
-/// Whether call 0 of one seat, once it is ready, is held until call 1 of the other is answered.
-fn is_held<R, G>(
-    rt: &R,
-    alloc: Global,
-    store: Store<G>,
-    mut seats: Vec<Seat>,
-    signals: &Signals,
-) -> bool
-where
-    R: Threads + Wait + Clock + Copy + Send + Sync + 'static,
-    G: Gate + Send + Sync + Drop + 'static,
-{
-    let [one, other] = seats.as_mut_slice() else {
-        return false;
-    };
-    let shared = &store;
-    let (written, found) = thread::join(
-        rt,
-        move || write(rt, alloc, shared, one),
-        move || read_then_let_go(rt, alloc, shared, other, signals),
-    );
-    let answered = written.is_ok() && gave_a(found);
-    let held = !signals.missed.is_given();
-    closes(rt, alloc, store, seats) && answered && held
-}
-
 /// Call 0 is ready, and is held until call 1 of another caller is answered.
 pub fn held_until_another_is_answered<R>(rt: &R, alloc: Global) -> Option<&'static str>
 where
     R: Threads + Wait + Clock + Copy + Send + Sync + 'static,
 {
-    let config = config_of(3, 1000, 1)?;
     let signals = Arc::new(alloc, Signals::new()).ok()?;
     let gate = HoldsAnswer {
         rt: *rt,
         signals: Arc::try_clone(&signals).ok()?,
     };
-    let store = Store::start(rt, alloc, config, gate).ok()?;
-    match seats_of(rt, alloc, &store, 2) {
-        Some(seats) => Some(word(is_held(rt, alloc, store, seats, &signals))),
-        None => None,
-    }
+    let store = Store::start(rt, alloc, config_of(3, 1000, 1)?, gate).ok()?;
+    let mut writer = seat_of(rt, alloc, &store, 1)?;
+    let mut reader = seat_of(rt, alloc, &store, 2)?;
+    let (shared, told) = (&store, &*signals);
+    let (one, other) = (&mut writer, &mut reader);
+    let (written, found) = thread::join(
+        rt,
+        move || write(rt, alloc, shared, one),
+        move || read_then_let_go(rt, alloc, shared, other, told),
+    );
+    let closed = closes(rt, alloc, store, both(alloc, writer, reader)?);
+    let held = !signals.missed.is_given();
+    Some(word(written.is_ok() && gave_a(found) && held && closed))
 }
 
 /// Reads, once the gate was come to, and has it go on.
@@ -198,7 +152,6 @@ pub fn two_replicas_at_once<R>(rt: &R, alloc: Global) -> Option<&'static str>
 where
     R: Threads + Wait + Clock + Copy + Send + Sync + 'static,
 {
-    let config = config_of(2, 1000, 1)?;
     let meeting = Meeting {
         zero: Signal::new(),
         one: Signal::new(),
@@ -209,7 +162,7 @@ where
         rt: *rt,
         meeting: Arc::try_clone(&meeting).ok()?,
     };
-    let store = Store::start(rt, alloc, config, gate).ok()?;
+    let store = Store::start(rt, alloc, config_of(2, 1000, 1)?, gate).ok()?;
     let mut seat = seat_of(rt, alloc, &store, 1)?;
     let written = write(rt, alloc, &store, &mut seat);
     let met = meeting.zero.is_given() && meeting.one.is_given() && !meeting.missed.is_given();
@@ -230,9 +183,8 @@ pub fn answered_beside_a_looker<R>(rt: &R, alloc: Global) -> Option<&'static str
 where
     R: Threads + Wait + Clock + Copy + Send + Sync + 'static,
 {
-    let config = config_of(3, 1000, 2)?;
     let signals = Signals::new();
-    let store = Store::start(rt, alloc, config, node_threads::OpenGate).ok()?;
+    let store = Store::start(rt, alloc, config_of(3, 1000, 2)?, node_threads::OpenGate).ok()?;
     let mut seat = seat_of(rt, alloc, &store, 1)?;
     let (shared, told, own) = (&store, &signals, &mut seat);
     let (seen, written) = thread::join(
