@@ -1,6 +1,6 @@
 -- What the commands of a script make of a run.
 use Rattle.std.proofs.Common.{ℕ, ◌≡◌, List, [], ◌∷◌, ◌++◌, Ok, Err, inl, inr, refl, sym, ap, ◌∙◌, subst, append_assoc, append-nil}
-use Rattle.world_settle.specs.Settled.{SettlesBy}
+use Rattle.world_settle.specs.SettleAnswers.{SettlesBy}
 use Rattle.world_settle.specs.declared.errors.SettleError.{SettleError}
 use Rattle.world_settle.specs.declared.errors.SettleError.TheVariants as settle
 use Rattle.world_steps.specs.Runs.{Steps}

@@ -9,7 +9,7 @@ use Rattle.world_steps.specs.declared.refusal.Refusal.{Refusal}
 use Rattle.world_steps.specs.declared.refusal.Refusal.TheVariants as refusal
 use Rattle.world_steps.specs.declared.step.Step.{Step}
 use Rattle.world_steps.specs.declared.system.System.{System}
-use Rattle.world_steps.specs.Taken.{next_is}
+use Rattle.world_steps.specs.StepAnswers.{next_is}
 use Rattle.fault_script.specs.ScriptRuns.{Walk, stride, walk_after}
 
 -- the steps of a step of a system: the next one, and whether it was refused

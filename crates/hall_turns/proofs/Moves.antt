@@ -10,7 +10,7 @@ use Rattle.world_steps.specs.Systems.{opening}
 use Rattle.world_steps.specs.declared.system.System.{System}
 use Rattle.hall_journal.specs.Halls.{Hall}
 use Rattle.hall_turns.specs.declared.rule.View.{View}
-use Rattle.hall_turns.specs.Turns.{Adds, AreApart, AreFitting, BecomesSeat, Enters, Fits, HasOneHall, Knows, MayReturn, OthersAdd, Placed, Receives, Returns, guest, is_client_stopped, view_with_hall, last_of, maker, view_at_rest, seat_in}
+use Rattle.hall_turns.specs.Turns.{Adds, AreApart, AreFitting, BecomesSeat, Enters, Fits, HasOneHall, Knows, MayReturn, OthersAdd, HallStands, Receives, Returns, guest, is_client_stopped, view_with_hall, last_of, maker, view_at_rest, seat_in}
 use Rattle.hall_turns.proofs.Rows.{longer, more_added, none_added, none_some, none_stopped, same_some, whole}
 
 -- ---- a list in which one view was set
@@ -71,7 +71,7 @@ begins = record {
 
 -- ---- the hall is taken
 
-takes_at : (pass : ℕ) (v : View) (hall : Hall) (halls : List Hall) (views : List View) (now : System) (holder : Option ℕ) → Placed (hall ∷ halls) views now holder → AreFitting now holder views → AreApart views → get_elem? views pass ≡ some v
+takes_at : (pass : ℕ) (v : View) (hall : Hall) (halls : List Hall) (views : List View) (now : System) (holder : Option ℕ) → HallStands (hall ∷ halls) views now holder → AreFitting now holder views → AreApart views → get_elem? views pass ≡ some v
     → (w : View) × HasOneHall halls (set views pass w) × Receives v hall w
 takes_at pass v hall halls views now (Some p) placed fitting apart at = let e : hall ∷ halls ≡ [] = placed.0 in absurd (cc)
 takes_at pass v hall halls views now None placed fitting apart at =
@@ -105,7 +105,7 @@ record Held (pass : ℕ) (old : System) (halls : List Hall) (views : List View) 
 held : (pass : ℕ) (v : View) (old : System) (halls : List Hall) (views : List View) → v.taken ≡ Some old → HasOneHall halls views → get_elem? views pass ≡ some v → Held pass old halls views
 held pass v old halls views taken kept at =
     let out = (kept.fitting pass v at).out old taken in
-    let placed : Placed halls views kept.now (Some pass) = subst (λ h. Placed halls views kept.now h) out.0 kept.placed in
+    let placed : HallStands halls views kept.now (Some pass) = subst (λ h. HallStands halls views kept.now h) out.0 kept.placed in
     record {
       empty = placed.0;
       fitting = subst (λ (y : System × Option ℕ). AreFitting y.0 y.1 views) (λ i. (sym out.1 i, out.0 i)) kept.fitting;
@@ -169,7 +169,7 @@ forks pass v halls views kept at =
       apart = λ i j u x client a b un xn. kept.apart i j u x client (old_at i u client a un) (old_at j x client b xn) un xn;
     })
   where
-    placed_more : (holder : Option ℕ) → Placed halls views kept.now holder → Placed halls (views ++ guest v.rows ∷ []) kept.now holder
+    placed_more : (holder : Option ℕ) → HallStands halls views kept.now holder → HallStands halls (views ++ guest v.rows ∷ []) kept.now holder
     placed_more None p = p
     placed_more (Some q) p = (p.0, (p.1.0, at_longer views (guest v.rows ∷ []) q p.1.0 p.1.1, p.1.2))
 

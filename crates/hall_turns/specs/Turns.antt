@@ -91,9 +91,9 @@ pub record Fits (now : System) (holder : Option ℕ) (pass : ℕ) (v : View) : T
   pub out : (s : System) → v.taken ≡ Some s → (holder ≡ Some pass) × (s ≡ now)
 
 -- the hall lies in the channel, or is out with one pass
-abbrev pub Placed : List Hall → List View → System → Option ℕ → Type 0
-Placed halls views now None = (hall : Hall) × (halls ≡ hall ∷ []) × (hall.world ≡ now)
-Placed halls views now (Some pass) = (halls ≡ []) × ((v : View) × (get_elem? views pass ≡ some v) × (v.taken ≡ Some now))
+abbrev pub HallStands : List Hall → List View → System → Option ℕ → Type 0
+HallStands halls views now None = (hall : Hall) × (halls ≡ hall ∷ []) × (hall.world ≡ now)
+HallStands halls views now (Some pass) = (halls ≡ []) × ((v : View) × (get_elem? views pass ≡ some v) × (v.taken ≡ Some now))
 
 -- each pass fits
 abbrev pub AreFitting : System → Option ℕ → List View → Type 0
@@ -107,7 +107,7 @@ AreApart views = (i j : ℕ) (u v : View) (client : ℕ) → get_elem? views i �
 pub record HasOneHall (halls : List Hall) (views : List View) : Type 0 where
   pub now : System
   pub holder : Option ℕ
-  pub placed : Placed halls views now holder
+  pub placed : HallStands halls views now holder
   pub fitting : AreFitting now holder views
   pub apart : AreApart views
 

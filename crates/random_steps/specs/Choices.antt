@@ -15,13 +15,13 @@ abbrev pub generator_of : ℕ → Lcg
 generator_of seed = started 64 multiplier_64 seed (increment_of 64 54)
 
 -- three words of a generator, and the generator behind them
-pub record Drawn : Type 0 where
+pub record Draw : Type 0 where
   pub first : ℕ
   pub second : ℕ
   pub third : ℕ
   pub rest : Lcg
 
-abbrev pub draw : Lcg → Drawn
+abbrev pub draw : Lcg → Draw
 draw g =
     let a = pcg32 g in
     let b = pcg32 a.1 in
@@ -73,5 +73,5 @@ step_by s kind.Send second third = step.Send (client_at s second) (replica_at s 
 step_by s kind.Deliver second third = step.Deliver (flight_at s second)
 
 -- the step that three words choose: the first its kind, the second its client or flight, the third its replica, or its key and action
-abbrev pub step_of : System → Drawn → Step
+abbrev pub step_of : System → Draw → Step
 step_of s words = step_by s (kind_of words.first) words.second words.third

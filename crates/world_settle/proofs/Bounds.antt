@@ -33,7 +33,7 @@ use Rattle.world_settle.specs.Agreeing.{RepliesAgree, asking_by, pair_at}
 use Rattle.world_settle.specs.Refusing.{IsLeastCount, MaySettle, Needs, NeedsAt}
 use Rattle.world_settle.specs.Settling.{Settles, candidates, round}
 use Rattle.world_settle.specs.Settling.Settles.{answers, asks}
-use Rattle.world_settle.specs.Settled.{IsWithinForMajorities, IsWithinIfAgreed, SettlesBy}
+use Rattle.world_settle.specs.SettleAnswers.{IsWithinForMajorities, IsWithinIfAgreed, SettlesBy}
 use Rattle.world_settle.specs.declared.errors.SettleError.{SettleError}
 use Rattle.world_settle.proofs.Brings.{majorities_most}
 use Rattle.world_settle.proofs.CandidateLemmas.{Candidate, candidate_first, candidates_rest}

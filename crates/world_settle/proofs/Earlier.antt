@@ -23,7 +23,7 @@ use Rattle.world_steps.specs.declared.step.Step.TheVariants as step
 use Rattle.world_steps.specs.declared.system.System.{System}
 use Rattle.world_settle.specs.Settling.{Settles, round}
 use Rattle.world_settle.specs.Settling.Settles.{answers, asks}
-use Rattle.world_settle.specs.Settled.{KeepsEarlier}
+use Rattle.world_settle.specs.SettleAnswers.{KeepsEarlier}
 use Rattle.world_settle.proofs.Rounds.{get_other, removed_other}
 
 -- a pool with no fewer messages sent, where those before a number keep their copies

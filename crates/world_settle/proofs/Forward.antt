@@ -16,7 +16,7 @@ use Rattle.world_steps.specs.Passed.{passed, client_there, request_there}
 use Rattle.world_settle.specs.Settling.{Settles, candidates, counted_at, round}
 use Rattle.world_settle.specs.Settling.Settles.{answers, asks}
 use Rattle.world_settle.specs.Refusing.{MaySettle, Needs, NeedsAt}
-use Rattle.world_settle.specs.Settled.{Completes, IsWithin, KeepsEarlier, SettlesBy, Takes, TakesAll, TakesSome}
+use Rattle.world_settle.specs.SettleAnswers.{Completes, IsWithin, KeepsEarlier, SettlesBy, Takes, TakesAll, TakesSome}
 use Rattle.world_settle.specs.declared.errors.SettleError.{SettleError}
 use Rattle.world_settle.specs.declared.errors.SettleError.TheVariants as error
 use Rattle.world_settle.specs.Counts.{few_candidates, least_within}

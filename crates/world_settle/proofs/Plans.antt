@@ -43,7 +43,7 @@ use Rattle.world_steps.specs.Passed.{phase_is}
 use Rattle.world_settle.specs.Settling.{Settles, candidates, counted_at, is_up, round}
 use Rattle.world_settle.specs.Settling.Settles.{answers, asks}
 use Rattle.world_settle.specs.Refusing.{MaySettle, Needs, NeedsAt, pending_at}
-use Rattle.world_settle.specs.Settled.{Completes, IsWithin}
+use Rattle.world_settle.specs.SettleAnswers.{Completes, IsWithin}
 use Rattle.world_settle.proofs.CandidateLemmas.{Candidate, candidate_first}
 use Rattle.world_settle.specs.Counts.{needs_once, some_candidate}
 use Rattle.world_settle.proofs.Replies.{Fewer, fewer_asked, fewer_kept, heard_pending, not_ask, not_put}

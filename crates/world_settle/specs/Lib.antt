@@ -1,6 +1,6 @@
 pub mod Agreeing
 pub mod Settling
 pub mod Refusing
-pub mod Settled
+pub mod SettleAnswers
 pub mod Numbers
 pub mod Counts

@@ -7,7 +7,7 @@ ghost use Rattle.world_steps.specs.declared.step.Step.{Step};
 ghost use Rattle.world_steps.specs.declared.system.System.{System};
 ghost use Rattle.world_settle.specs.Agreeing.{RepliesAgree};
 ghost use Rattle.world_settle.specs.Refusing.{MaySettle, NeedsAt};
-ghost use Rattle.world_settle.specs.Settled.{IsWithin};
+ghost use Rattle.world_settle.specs.SettleAnswers.{IsWithin};
 ghost use Rattle.world_settle.specs.Settling.{Settles};
 
 use world_steps::laws::steps_keep_a_system_sound;

@@ -4,7 +4,7 @@ ghost use Rattle.world_steps.specs.Refusals.{refusal_of};
 ghost use Rattle.world_steps.specs.Runs.{AreAccepted, next};
 ghost use Rattle.world_steps.specs.SoundSystems.{IsSound};
 ghost use Rattle.world_settle.specs.Refusing.{MaySettle};
-ghost use Rattle.world_settle.specs.Settled.{Completes, IsWithin, IsWithinForMajorities, IsWithinIfAgreed, KeepsEarlier, SettlesBy, Takes};
+ghost use Rattle.world_settle.specs.SettleAnswers.{Completes, IsWithin, IsWithinForMajorities, IsWithinIfAgreed, KeepsEarlier, SettlesBy, Takes};
 ghost use Rattle.world_settle.specs.Settling.{round};
 
 use crate::SettleError;

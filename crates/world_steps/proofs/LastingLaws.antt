@@ -36,7 +36,7 @@ use Rattle.world_steps.specs.declared.nodes.Node.{Node}
 use Rattle.world_steps.specs.declared.step.Step.{Step}
 use Rattle.world_steps.specs.declared.step.Step.TheVariants as step
 use Rattle.world_steps.specs.declared.system.System.{System}
-use Rattle.world_steps.proofs.Handling.{adopted_at, held_same}
+use Rattle.world_steps.proofs.ReplicaSound.{adopted_at, held_same}
 use Rattle.world_steps.proofs.Lookups.{get_cases}
 use Rattle.world_steps.proofs.SameRows.{adopted_rises}
 use Rattle.world_steps.proofs.TagLaws.{at_most_itself, at_most_trans, equal_at_most}

@@ -17,10 +17,10 @@ pub mod Finding
 pub mod Flying
 pub mod Waiting
 pub mod Named
-pub mod Turning
+pub mod ClientSound
 pub mod Sending
-pub mod Handling
-pub mod Taking
+pub mod ReplicaSound
+pub mod ReplySound
 pub mod OpeningSound
 pub mod StepsSound
 pub mod Headline

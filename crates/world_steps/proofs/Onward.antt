@@ -4,7 +4,7 @@ use Rattle.world_steps.specs.Configs.{Config}
 use Rattle.world_steps.specs.Refusals.{refusal_of}
 use Rattle.world_steps.specs.Runs.{AreAccepted, next, after, after_from}
 use Rattle.world_steps.specs.Systems.{system_after, opening}
-use Rattle.world_steps.specs.Taken.{next_by}
+use Rattle.world_steps.specs.StepAnswers.{next_by}
 use Rattle.world_steps.specs.declared.effect.Effect.{Effect}
 use Rattle.world_steps.specs.declared.refusal.Refusal.{Refusal}
 use Rattle.world_steps.specs.declared.refusal.Refusal.TheVariants as refusal

@@ -16,13 +16,13 @@ use Rattle.world_steps.specs.declared.step.Step.{Step}
 use Rattle.world_steps.specs.declared.step.Step.TheVariants as step
 use Rattle.world_steps.specs.declared.system.System.{System}
 use Rattle.world_steps.proofs.Finding.{flies}
-use Rattle.world_steps.proofs.Handling.{handle_sound, set_up_sound}
+use Rattle.world_steps.proofs.ReplicaSound.{handle_sound, set_up_sound}
 use Rattle.world_steps.proofs.Lookups.{none_of}
 use Rattle.world_steps.proofs.OpeningSound.{opening_sound}
 use Rattle.world_steps.specs.Passed.{passed, not_not, client_there, idle_there, ready_there, replica_there, room_for_call}
 use Rattle.world_steps.proofs.Sending.{send_sound, lose_sound, repeat_sound}
-use Rattle.world_steps.proofs.Taking.{take_sound}
-use Rattle.world_steps.proofs.Turning.{join_sound, invoke_sound, respond_sound, stop_sound}
+use Rattle.world_steps.proofs.ReplySound.{take_sound}
+use Rattle.world_steps.proofs.ClientSound.{join_sound, invoke_sound, respond_sound, stop_sound}
 
 module _ (s : System) (sound : IsSound s) where
   joined_sound : (name : ℕ) → refusal_of s (step.Join name) ≡ None → IsSound (join s name)

@@ -12,4 +12,4 @@ pub mod Lasting
 pub mod Numbers
 pub mod Callers
 pub mod Passed
-pub mod Taken
+pub mod StepAnswers

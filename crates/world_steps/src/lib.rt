@@ -9,7 +9,7 @@ mod config;
 mod effect;
 pub mod laws;
 mod members;
-mod moving;
+mod moves;
 mod nodes;
 mod refusal;
 mod refusing;

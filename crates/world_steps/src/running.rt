@@ -11,7 +11,7 @@ use std::alloc::Global;
 use tag::Memory;
 
 /// Takes a step, and passes over a refusal other than for memory.
-#[tactic(auto, using(crate::specs::Taken::next_is))]
+#[tactic(auto, using(crate::specs::StepAnswers::next_is))]
 fn advance(world: &mut World, step: &Step) -> Result<(), Memory>
     ensures next { OnOk result (world.new ≡ next world.old step.now) }
     ensures sound { OnOk result (IsSound world.new) }

@@ -23,7 +23,7 @@ use Rattle.world_steps.specs.declared.system.System.{System}
 use Rattle.world_steps.proofs.Heard.{op_in, rows_after, hearing}
 use Rattle.world_steps.proofs.Named.{named_insert}
 use Rattle.world_steps.proofs.RowLaws.{count_push}
-use Rattle.world_steps.proofs.Turning.{turned_system, turned_insert, there_insert}
+use Rattle.world_steps.proofs.ClientSound.{turned_system, turned_insert, there_insert}
 use Rattle.world_steps.proofs.Waiting.{heard_waits}
 
 -- ---- the record after a reply was taken
