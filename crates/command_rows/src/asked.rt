@@ -55,7 +55,7 @@ impl<'a> Asked<'a> {
         self.value(name).parse::<usize>().unwrap_or(otherwise)
     }
 
-    /// The numbers of workers that judge: 1 unless the row says others.
+    /// The numbers of workers that check orders: 1 unless the row says others.
     pub fn workers(self) -> &'a str {
         let workers = self.value("workers");
         if workers.is_empty() { "1" } else { workers }

@@ -3,8 +3,8 @@ use crate::asked::Asked;
 use crate::commands::extent;
 use crate::devices::Narrow;
 use crate::formats::{
-    Counted, Counting, WriteFault, history_text, read_history, read_orders, write_history,
-    write_orders, write_text,
+    Counted, Counting, FaultKind, FileFault, WriteFault, history_text, read_history, read_orders,
+    write_history, write_orders, write_text,
 };
 use crate::notation::bytes_of;
 use crate::saying::{say_commands, say_key_orders, say_rows};
@@ -49,18 +49,20 @@ fn say_written(out: &mut String, bytes: &[u8], written: &[u8]) -> Result<(), All
     push_bytes(out, written)
 }
 
-/// The bytes that are written of a history.
-fn written_history(alloc: Global, history: &History) -> Vec<u8> {
+/// The bytes that are written of a history. With ample room only a growth that is refused stands in the way.
+fn written_history(alloc: Global, history: &History) -> Result<Vec<u8>, AllocError> {
     let mut writer = Counting::new(Bounded::new(alloc, AMPLE));
-    let _ = write_history(alloc, history, &mut writer);
-    writer.into_inner().taken
+    match write_history(alloc, history, &mut writer) {
+        Ok(()) => Ok(writer.into_inner().taken),
+        Err(_) => Err(AllocError),
+    }
 }
 
 /// Whether the bytes are the text that is made of the history.
-fn is_text_of(alloc: Global, history: &History, written: &[u8]) -> bool {
+fn is_text_of(alloc: Global, history: &History, written: &[u8]) -> Result<bool, AllocError> {
     match history_text(alloc, history) {
-        Ok(made) => made.as_slice() == written,
-        Err(_) => false,
+        Ok(made) => Ok(made.as_slice() == written),
+        Err(_) => Err(AllocError),
     }
 }
 
@@ -77,8 +79,14 @@ fn has_rows(
             say_rows(&mut said, again.rows())?;
             Ok(said.as_str() == rows)
         }
+        Err(fault) if is_memory(&fault) => Err(AllocError),
         Err(_) => Ok(false),
     }
+}
+
+/// Whether a growth was refused.
+fn is_memory(fault: &FileFault) -> bool {
+    matches!(fault.kind, FaultKind::Memory)
 }
 
 /// What is written of a history whose rows were said so.
@@ -90,9 +98,9 @@ fn say_history_written(
     rows: &str,
 ) -> Result<(), AllocError> {
     let alloc = *out.allocator();
-    let written = written_history(alloc, history);
+    let written = written_history(alloc, history)?;
     say_written(out, bytes, written.as_slice())?;
-    if !is_text_of(alloc, history, written.as_slice()) {
+    if !is_text_of(alloc, history, written.as_slice())? {
         out.push_str("WRITERS DIFFER\n")?;
     }
     if !has_rows(rt, alloc, written.as_slice(), rows)? {
@@ -170,6 +178,15 @@ fn are_equal(first: &[KeyOrder], second: &[KeyOrder]) -> bool {
     true
 }
 
+/// The bytes that are written of orders. With ample room only a growth that is refused stands in the way.
+fn written_orders(alloc: Global, orders: &[KeyOrder]) -> Result<Vec<u8>, AllocError> {
+    let mut writer = Counting::new(Bounded::new(alloc, AMPLE));
+    match write_orders(alloc, orders, &mut writer) {
+        Ok(()) => Ok(writer.into_inner().taken),
+        Err(_) => Err(AllocError),
+    }
+}
+
 fn say_orders_read(
     rt: &(impl Threads + Sync),
     out: &mut String,
@@ -178,12 +195,11 @@ fn say_orders_read(
 ) -> Result<(), AllocError> {
     say_key_orders(out, orders)?;
     let alloc = *out.allocator();
-    let mut writer = Counting::new(Bounded::new(alloc, AMPLE));
-    let _ = write_orders(alloc, orders, &mut writer);
-    let written = writer.into_inner().taken;
+    let written = written_orders(alloc, orders)?;
     say_written(out, bytes, written.as_slice())?;
     match read_orders(rt, alloc, &mut whole(written.as_slice())) {
         Ok(again) if are_equal(orders, again.as_slice()) => Ok(()),
+        Err(fault) if is_memory(&fault) => Err(AllocError),
         _ => out.push_str("READ AGAIN THEY DIFFER\n"),
     }
 }
@@ -267,10 +283,16 @@ pub fn say_writers_row(
 ) -> Result<(), AllocError> {
     let alloc = *out.allocator();
     let bytes = bytes_of(alloc, "<orders>{\"key\":\"x\",\"order\":[0,1,2]}")?;
-    if let Ok(orders) = read_orders(rt, alloc, &mut whole(bytes.as_slice())) {
-        for line in lines.lines() {
-            say_narrow(out, orders.as_slice(), Asked { line })?;
-        }
+    match read_orders(rt, alloc, &mut whole(bytes.as_slice())) {
+        Ok(orders) => say_narrow_lines(out, orders.as_slice(), lines),
+        Err(fault) => write!(out, "{fault}\n"),
+    }
+}
+
+/// What each line's writer makes of the orders and of a text.
+fn say_narrow_lines(out: &mut String, orders: &[KeyOrder], lines: &str) -> Result<(), AllocError> {
+    for line in lines.lines() {
+        say_narrow(out, orders, Asked { line })?;
     }
     Ok(())
 }

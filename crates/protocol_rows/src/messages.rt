@@ -114,5 +114,5 @@ pub fn copied(alloc: Global, line: &str) -> &'static str {
     if let Some(said) = copied_message(alloc, words) {
         return said;
     }
-    copied_pair(alloc, words).unwrap_or("NOTHING TO COPY")
+    copied_pair(alloc, words).unwrap_or("NO SUCH COPY")
 }

@@ -3,9 +3,9 @@ use crate::messages::{message_of, request_of};
 use crate::texts::{say_message, say_net_refusal, say_pair, say_reply};
 use crate::words::Words;
 use network::{Message, NetRefusal, Pool};
-use replica::{Replica, Reply};
+use replica::{Replica, Reply, Request};
 use std::alloc::{AllocError, Global};
-use tag::{ClientId, OpId, ReplicaId};
+use tag::{ClientId, Key, OpId, ReplicaId};
 
 fn say_outcome(
     out: &mut String,
@@ -51,6 +51,9 @@ fn send_and_lose(out: &mut String, pool: &mut Pool, times: u32) -> Result<(), Al
     for number in 0..times {
         let op = OpId(number);
         let sent = pool.send(Message::ToClient(client, Reply::Kept { op, replica }));
+        if sent == Err(NetRefusal::Memory) {
+            return out.push_str("NO MEMORY");
+        }
         if sent == Ok(number) && pool.lose(number).is_ok() {
             lost = lost.saturating_add(1);
         }
@@ -92,6 +95,23 @@ pub fn pool_answers(
     }
 }
 
+fn say_held(out: &mut String, replica: &Replica, key: Option<Key>) -> Result<(), AllocError> {
+    match key {
+        Some(key) => {
+            let (tag, value) = replica.held(&key);
+            say_pair(out, tag, value)
+        }
+        None => out.push_str("NO SUCH KEY"),
+    }
+}
+
+fn handle(out: &mut String, replica: &mut Replica, request: &Request) -> Result<(), AllocError> {
+    match replica.handle(request) {
+        Ok(reply) => say_reply(out, &reply),
+        Err(_) => out.push_str("NO MEMORY"),
+    }
+}
+
 /// What a replica answers to a request, or to `held? x`.
 pub fn replica_answers(
     alloc: Global,
@@ -100,18 +120,11 @@ pub fn replica_answers(
     line: &str,
 ) -> Result<(), AllocError> {
     let mut words = Words { rest: line };
-    if let Some(request) = request_of(alloc, words) {
-        return match replica.handle(&request) {
-            Ok(reply) => say_reply(out, &reply),
-            Err(_) => out.push_str("NO MEMORY"),
-        };
+    if words.word() == "held?" {
+        return say_held(out, replica, words.key(alloc));
     }
-    let _ = words.word();
-    match words.key(alloc) {
-        Some(key) => {
-            let (tag, value) = replica.held(&key);
-            say_pair(out, tag, value)
-        }
+    match request_of(alloc, Words { rest: line }) {
+        Some(request) => handle(out, replica, &request),
         None => out.push_str("NO SUCH STEP"),
     }
 }

@@ -4,7 +4,7 @@ use crate::names::{action_of, returned_of, said_equal, say_tag, tag_of};
 use crate::words::{first_word, number};
 use recorder::{Call, History, KeyOrder, Order, Part, Response, Row, RowRefusal};
 use std::alloc::{AllocError, Global};
-use tag::{Action, ClientId, Key, Memory, OpId, Returned};
+use tag::{Action, ClientId, Key, Memory, NameError, OpId, Returned};
 use witness_order::order_of;
 
 /// `invoke CLIENT KEY read`, or `write TEXT` in place of `read`.
@@ -203,6 +203,7 @@ fn say_tag_order(
 ) -> Result<(), Memory> {
     match Key::new(alloc, name) {
         Ok(key) => say_key_order(alloc, out, history, &key),
+        Err(NameError::Memory) => Err(Memory),
         Err(_) => Ok(out.push_str("no key\n")?),
     }
 }
@@ -226,7 +227,7 @@ fn say_numbered(alloc: Global, out: &mut String, words: &str) -> Result<(), Memo
             let named = KeyOrder { key, order };
             Ok(say_numbers(out, named.order.as_slice())?)
         }
-        Err(_) => Ok(()),
+        Err(_) => Err(Memory),
     }
 }
 

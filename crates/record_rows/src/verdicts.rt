@@ -30,7 +30,7 @@ fn compared(alloc: Global, from: u32, to: u32) -> Option<Compared> {
 /// Says what was compared.
 fn say_compared(out: &mut String, compared: Option<Compared>) -> Result<(), AllocError> {
     let Some(compared) = compared else {
-        return out.push_str("a part or an order isn't made\n");
+        return out.push_str("no memory for a part or an order\n");
     };
     let (parts, orders, differ) = (compared.parts, compared.orders, compared.differ);
     let yes = if compared.yes > 1000 {
