@@ -1,12 +1,11 @@
 -- The seats and the halls of a closed store, one after another.
 use Rattle.std.proofs.Common.{◌≡◌, ◌<◌, ◌+◌, ℕ, suc, List, [], ◌∷◌, ◌++◌, Some, length, length-append, slice_get, map, inl, inr, sym, ap, ◌∙◌, subst, arith}
 use Rattle.node_threads.specs.declared.closing.ClosedHall.{ClosedHall}
-use Rattle.node_threads.specs.declared.entry.Entry.{Entry}
+use Rattle.seat_calls.specs.declared.entry.Entry.{Entry}
 use Rattle.node_threads.specs.Closings.{AreClosed, IsClosed}
-use Rattle.node_threads.specs.Logs.{IsLog, of_hall}
-use Rattle.node_threads.specs.Seats.{Seat}
-use Rattle.node_threads.proofs.Lists.{after_push, same_some}
-use Rattle.node_threads.proofs.Matching.{below_next}
+use Rattle.seat_calls.specs.Logs.{IsLog, of_hall}
+use Rattle.seat_calls.specs.Seats.{Seat}
+use Rattle.node_threads.proofs.Lists.{after_push, below_next, same_some}
 
 -- what holds of the first elements, and of the one behind them
 pub one_more : {X : Type 0} (P : ℕ → X → Type 0) (xs : List X) (count : ℕ) (x : X) → ((k : ℕ) (y : X) → k < count → slice_get xs k ≡ Some y → P k y)

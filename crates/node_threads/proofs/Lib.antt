@@ -1,9 +1,6 @@
 mod Lists
-mod Logs
-mod Matching
+mod Joining
+mod Failing
 mod Showing
 mod Leaving
-mod Keeping
-mod Answering
-mod Seating
 mod OwnSeats

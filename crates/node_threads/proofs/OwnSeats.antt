@@ -3,7 +3,7 @@ use Rattle.std.proofs.Common.{ℕ, ◌≡◌, List, length}
 use Rattle.std.proofs.lemmas.Option.{slice_get_within}
 use Rattle.node_threads.specs.declared.closing.ClosedHall.{ClosedHall}
 use Rattle.node_threads.specs.Closings.{AreClosed, AreOfStore, Closes, HasForeign, HaveLogs}
-use Rattle.node_threads.specs.Seats.{Seat}
+use Rattle.seat_calls.specs.Seats.{Seat}
 use Rattle.node_threads.specs.Stores.{Store}
 
 pub closes : (store : Store) (seats : List Seat) (halls : List ClosedHall) → length halls ≡ store.halls → AreClosed halls

@@ -4,8 +4,8 @@ use Rattle.world_steps.specs.Runs.{AreAccepted, after}
 use Rattle.world_steps.specs.Systems.{opening}
 use Rattle.witness_order.specs.Justified.{Justify}
 use Rattle.node_threads.specs.declared.closing.ClosedHall.{ClosedHall}
-use Rattle.node_threads.specs.Logs.{IsLog, of_hall}
-use Rattle.node_threads.specs.Seats.{Seat}
+use Rattle.seat_calls.specs.Logs.{IsLog, of_hall}
+use Rattle.seat_calls.specs.Seats.{Seat}
 use Rattle.node_threads.specs.Stores.{Store}
 
 -- the record is what the steps make of the opening world, each of them accepted at its place, and the orders show it atomic

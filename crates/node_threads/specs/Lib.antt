@@ -1,10 +1,4 @@
 pub mod Numbers
-pub mod Logs
-pub mod Calls
-pub mod Receipts
-pub mod Seats
-pub mod Answers
 pub mod Stores
-pub mod Comparisons
 pub mod Snapshots
 pub mod Closings

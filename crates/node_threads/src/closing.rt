@@ -2,14 +2,12 @@
 ghost use Rattle.std.specs.Prelude.{◌≡◌, length, IfOk, IsTrue};
 ghost use Rattle.node_threads.specs.Closings.{AreClosed, AreOfStore, HasLogs, HaveLogs, IsClosed};
 
-use crate::comparing::{is_log, of_this_hall};
 use crate::errors::CloseError;
-use crate::replicas::Parcel;
-use crate::seat::Seat;
 use crossbeam_channel::{Receiver, Sender};
 use hall_journal::Hall;
 use hall_turns::FreePass;
 use recorder::{History, KeyOrder};
+use seat_calls::{Parcel, Seat, entries_of_hall, is_log};
 use std::alloc::Global;
 use std::sync::{Mutex, Wait};
 use tag::{Memory, ReplicaId};
@@ -112,7 +110,7 @@ fn is_logged(alloc: Global, halls: &[ClosedHall], seat: &Seat) -> Result<bool, M
         → HasLogs halls.now (length halls.now) seat.now) }
 {
     for hall in 0..halls.len() {
-        let entries = of_this_hall(alloc, seat.log(), hall)?;
+        let entries = entries_of_hall(alloc, seat.log(), hall)?;
         if !is_log(&halls[hall].history, seat.client(), &entries) {
             return Ok(false);
         }

@@ -7,24 +7,13 @@
 #![tactic(auto)]
 
 mod closing;
-mod comparing;
 mod config;
-mod entry;
-mod errand;
 mod errors;
-mod gate;
-mod patience;
-mod receipt;
-mod replicas;
-mod seat;
 mod snapshot;
 mod store;
 
 pub use closing::{Closed, ClosedHall};
 pub use config::StoreConfig;
-pub use entry::Entry;
-pub use errors::{CallError, CloseError, JoinError, StartError};
-pub use gate::{Gate, OpenGate, Passage, Place};
-pub use receipt::Receipt;
-pub use seat::{Answer, Seat};
+pub use errors::{CloseError, JoinError, StartError};
+pub use seat_calls::{Answer, CallError, Entry, Gate, OpenGate, Passage, Place, Receipt, Seat};
 pub use store::Store;

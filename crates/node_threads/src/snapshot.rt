@@ -2,11 +2,9 @@
 ghost use Rattle.std.specs.Prelude.{IfOk};
 ghost use Rattle.node_threads.specs.Snapshots.{Shows};
 
-use crate::comparing::{is_log, of_this_hall};
-use crate::errors::CallError;
-use crate::seat::Seat;
 use hall_turns::FreePass;
 use recorder::History;
+use seat_calls::{CallError, Seat, entries_of_hall, is_log};
 use std::alloc::Global;
 use std::sync::{Mutex, Wait};
 use world_steps::laws;
@@ -24,7 +22,7 @@ pub(crate) fn shown<R: Wait>(
     laws::steps_keep_a_system_sound();
     let at = usize::from(hall);
     let history = root.lock(rt).history(rt)?;
-    let entries = of_this_hall(alloc, seat.log(), at)?;
+    let entries = entries_of_hall(alloc, seat.log(), at)?;
     if history.rows().len() < seat.seen(hall) {
         return Err(CallError::Foreign);
     }

@@ -3,22 +3,19 @@ ghost use Rattle.std.specs.Prelude.{ℕ, ◌≡◌, ◌≢◌, ◌≤◌, ◌+�
 ghost use Rattle.recorder.specs.Halls.{hall_of};
 ghost use Rattle.std.specs.Fn.{FnOnceReturnsAt};
 ghost use Rattle.hall_turns.specs.Turns.{IsTold};
-ghost use Rattle.node_threads.specs.Answers.{FailsWith, HasFailed, IsAnswered};
+ghost use Rattle.seat_calls.specs.Answers.{FailsWith, HasFailed, IsAnswered};
 ghost use Rattle.node_threads.specs.Closings.{Closes, HasForeign};
-ghost use Rattle.node_threads.specs.Seats.{AreFresh, AreStopped, AreZero, seen_in};
+ghost use Rattle.seat_calls.specs.Seats.{AreFresh, AreStopped, AreZero, seen_in};
 ghost use Rattle.node_threads.specs.Snapshots.{Shows};
 
 use crate::closing::{Closed, are_logged, are_of_store, closed_halls, end_replicas};
 use crate::config::StoreConfig;
-use crate::errand::Errand;
-use crate::errors::{CallError, CloseError, JoinError, StartError};
-use crate::gate::Gate;
-use crate::replicas::{Parcel, serve};
-use crate::seat::{Answer, Seat};
+use crate::errors::{CloseError, JoinError, StartError};
 use crate::snapshot::shown;
 use crossbeam_channel::{Receiver, Sender, unbounded};
 use hall_turns::{ClientPass, FreePass};
 use recorder::{Halls, History};
+use seat_calls::{Answer, CallError, Errand, Gate, Parcel, Seat, serve};
 use std::alloc::Global;
 use std::marker::Model;
 use std::sync::{Arc, Mutex, Wait};

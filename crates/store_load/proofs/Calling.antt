@@ -1,10 +1,10 @@
 -- A caller's log, call by call.
 use Rattle.std.proofs.Common.{◌≡◌, ◌<◌, ◌≤◌, ◌+◌, ℕ, List, [], ◌∷◌, ◌++◌, Option, Some, None, length, length-append, slice_get, inl, inr, refl, sym, ap, subst, ◌∙◌, arith}
 use Rattle.recorder.specs.declared.part.Response.{Response}
-use Rattle.node_threads.specs.Logs.{AreAnswered}
-use Rattle.node_threads.specs.Seats.{Seat}
-use Rattle.node_threads.specs.declared.entry.Entry.{Entry}
-use Rattle.node_threads.specs.declared.errors.CallError.{CallError}
+use Rattle.seat_calls.specs.Logs.{AreAnswered}
+use Rattle.seat_calls.specs.Seats.{Seat}
+use Rattle.seat_calls.specs.declared.entry.Entry.{Entry}
+use Rattle.seat_calls.specs.declared.errors.CallError.{CallError}
 use Rattle.store_load.specs.Callers.{AreOfTurns, GrowsBy, HasCalled, IsFreshSeat, IsOfTurn, LeavesCall, MakesCall, turn_of}
 use Rattle.store_load.specs.declared.callers.Work.{Work}
 use Rattle.store_load.proofs.Lists.{each_more, none_some}

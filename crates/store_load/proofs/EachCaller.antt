@@ -1,7 +1,7 @@
 -- The callers of a load, one after another.
 use Rattle.std.proofs.Common.{◌≡◌, ℕ, List, [], ◌∷◌, ◌++◌, map, sym, ap, ◌∙◌}
 use Rattle.std.proofs.lemmas.List.{append_assoc, map-append}
-use Rattle.node_threads.specs.Seats.{Seat}
+use Rattle.seat_calls.specs.Seats.{Seat}
 use Rattle.store_load.specs.Loads.{refusals_of, refused_of}
 use Rattle.store_load.specs.declared.callers.Called.{Called}
 use Rattle.store_load.specs.declared.load_run.Refused.{Refused}

@@ -4,7 +4,7 @@ use Rattle.std.specs.List.{slice_get}
 use Rattle.std.specs.Option.{option_map}
 use Rattle.std.proofs.lemmas.List.{length-map}
 use Rattle.std.proofs.lemmas.Option.{get_or_from_slice_get, slice_get-get_or, slice_get-map, slice_get_within}
-use Rattle.node_threads.specs.Seats.{Seat}
+use Rattle.seat_calls.specs.Seats.{Seat}
 use Rattle.workload.specs.declared.load.LoadOptions.{LoadOptions}
 use Rattle.store_load.specs.Callers.{AreCalled, AreNew, AreOfSeats, AreSeated, IsCalled, IsFreshSeat, work_of}
 use Rattle.store_load.specs.declared.callers.Called.{Called}

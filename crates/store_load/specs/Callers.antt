@@ -1,10 +1,10 @@
 -- What a caller's calls come to.
 use Rattle.std.specs.Prelude.{ℕ, ◌≡◌, ◌≤◌, ◌+◌, ◌⊎◌, List, [], ◌∷◌, ◌++◌, Option, Some, None, length, slice_get}
 use Rattle.recorder.specs.declared.part.Response.{Response}
-use Rattle.node_threads.specs.Logs.{AreAnswered}
-use Rattle.node_threads.specs.Seats.{Seat}
-use Rattle.node_threads.specs.declared.entry.Entry.{Entry}
-use Rattle.node_threads.specs.declared.errors.CallError.{CallError}
+use Rattle.seat_calls.specs.Logs.{AreAnswered}
+use Rattle.seat_calls.specs.Seats.{Seat}
+use Rattle.seat_calls.specs.declared.entry.Entry.{Entry}
+use Rattle.seat_calls.specs.declared.errors.CallError.{CallError}
 use Rattle.workload.specs.Turns.{action_at, key_at}
 use Rattle.workload.specs.declared.load.LoadOptions.{LoadOptions}
 use Rattle.workload.specs.declared.turns.Turn.{Turn}

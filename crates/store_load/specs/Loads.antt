@@ -2,12 +2,12 @@
 use Rattle.std.specs.Prelude.{ℕ, ◌≡◌, List, [], ◌∷◌, ◌++◌, Option, Some, None, IfOk, map}
 use Rattle.node_threads.specs.Closings.{Closes}
 use Rattle.node_threads.specs.Stores.{Store}
-use Rattle.node_threads.specs.declared.errors.CallError.{CallError}
+use Rattle.seat_calls.specs.declared.errors.CallError.{CallError}
 use Rattle.workload.specs.declared.load.LoadOptions.{LoadOptions}
 use Rattle.world_steps.specs.Configs.{Config}
 use Rattle.store_load.specs.Callers.{AreCalled}
 use Rattle.store_load.specs.declared.callers.Called.{Called}
-use Rattle.store_load.specs.declared.load_run.Loaded.{Loaded}
+use Rattle.store_load.specs.declared.load_run.LoadOutcome.{LoadOutcome}
 use Rattle.store_load.specs.declared.load_run.Refused.{Refused}
 
 -- what is fixed of each hall's world
@@ -30,7 +30,7 @@ refusals_of (called ∷ rest) = refused_of called.seat.client called.refusal ++ 
 
 -- each caller made its calls, the refusals are told, and if the store closed, each hall's record shows these calls and comes
 -- with orders that show it atomic
-pub record IsLoaded (load : LoadOptions) (loaded : Loaded) : Type 0 where
+pub record IsLoaded (load : LoadOptions) (loaded : LoadOutcome) : Type 0 where
   pub callers : List Called
   pub called : AreCalled load callers
   pub refusals : loaded.refusals.items ≡ refusals_of callers

@@ -1,7 +1,7 @@
 -- What becomes of a parcel by its number.
 use Rattle.std.specs.Prelude.{ℕ, ◌%◌, ◌&&◌, ◌==◌, Bool, not, if◌then◌else◌}
-use Rattle.node_threads.specs.declared.gate.Passage.{Passage}
-use Rattle.node_threads.specs.declared.gate.Passage.TheVariants.{Go, Drop, Twice}
+use Rattle.seat_calls.specs.declared.gate.Passage.{Passage}
+use Rattle.seat_calls.specs.declared.gate.Passage.TheVariants.{Go, Drop, Twice}
 
 -- the number is one of every so many; 0 hits none
 abbrev pub is_hit : ℕ → ℕ → Bool

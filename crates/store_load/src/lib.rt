@@ -12,4 +12,4 @@ mod load_run;
 pub use callers::Called;
 pub use error::LoadError;
 pub use gate::{CountingGate, NoWatch, Watch, passage};
-pub use load_run::{Loaded, Refused, run_load};
+pub use load_run::{LoadOutcome, Refused, run_load};

@@ -25,7 +25,7 @@ pub struct Refused {
 
 /// What a load leaves.
 #[derive(Drop)]
-pub struct Loaded {
+pub struct LoadOutcome {
     /// The callers whose calls were refused, in order of name.
     pub refusals: Vec<Refused>,
     /// The store, closed, or why it couldn't be.
@@ -107,7 +107,7 @@ fn split_callers(
 /// A caller ends early at its first call that is refused. `Memory` comes only where a growth was refused,
 /// `Thread` only where a thread couldn't be started; no store stands then, and the callers' threads have
 /// ended. The watch is told of each call that is about to be answered, on its caller's thread.
-pub fn run_load<R, L>(rt: &R, alloc: Global, load: Load, watch: L) -> Result<Loaded, LoadError>
+pub fn run_load<R, L>(rt: &R, alloc: Global, load: Load, watch: L) -> Result<LoadOutcome, LoadError>
 where
     R: Threads + Wait + Copy + Send + Sync + 'static,
     L: Watch + Send + Sync + Drop + 'static,
@@ -119,7 +119,7 @@ where
     let seats = join_all(rt, alloc, &store, count)?;
     let callers = call_together(rt, alloc, &store, seats, keys, calls)?;
     let (seats, refusals) = split_callers(alloc, callers)?;
-    Ok(Loaded {
+    Ok(LoadOutcome {
         refusals,
         closed: store.close(rt, alloc, seats),
     })

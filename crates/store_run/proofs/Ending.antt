@@ -9,7 +9,7 @@ use Rattle.node_threads.specs.declared.errors.CloseError.{CloseError}
 use Rattle.node_threads.specs.declared.errors.CloseError.TheVariants as close
 use Rattle.run_words.specs.declared.asked.RunAsked.{RunAsked}
 use Rattle.store_load.specs.Loads.{IsLoaded}
-use Rattle.store_load.specs.declared.load_run.Loaded.{Loaded}
+use Rattle.store_load.specs.declared.load_run.LoadOutcome.{LoadOutcome}
 use Rattle.store_run.specs.RecordVerdicts.{IsFirstNoOfHalls}
 use Rattle.store_run.specs.Runs.{Ends, EndsClosed, EndsRun, Sends, status_of_close, status_of_check}
 use Rattle.store_run.specs.declared.check_record.RefusedKey.{RefusedKey}
@@ -28,6 +28,6 @@ ends_closed asked out status.Format ends = ends.ends
 ends_closed asked out status.Failed ends = inr ends
 
 -- it wasn't
-pub ends_open : (asked : RunAsked) (out : Passage) (loaded : Loaded) (error : CloseError) → IsLoaded asked.load loaded → loaded.closed ≡ Err error → out.new ≡ out.old → EndsRun asked out (status_of_close error)
+pub ends_open : (asked : RunAsked) (out : Passage) (loaded : LoadOutcome) (error : CloseError) → IsLoaded asked.load loaded → loaded.closed ≡ Err error → out.new ≡ out.old → EndsRun asked out (status_of_close error)
 ends_open asked out loaded close.SeatMismatch run is quiet = inr (record { loaded = loaded; run = run; refused = is; quiet = quiet })
 ends_open asked out loaded close.Memory run is quiet = inl quiet

@@ -11,7 +11,7 @@ use Rattle.node_threads.specs.declared.errors.CloseError.{CloseError}
 use Rattle.node_threads.specs.declared.errors.CloseError.TheVariants as close
 use Rattle.run_words.specs.declared.asked.RunAsked.{RunAsked}
 use Rattle.store_load.specs.Loads.{IsLoaded}
-use Rattle.store_load.specs.declared.load_run.Loaded.{Loaded}
+use Rattle.store_load.specs.declared.load_run.LoadOutcome.{LoadOutcome}
 use Rattle.store_run.specs.RecordVerdicts.{IsFirstNoOfHalls}
 use Rattle.store_run.specs.Records.{record_of}
 use Rattle.store_run.specs.Shown.{IsShownText}
@@ -42,7 +42,7 @@ Ends asked halls out status.Failed = (out.new ≡ out.old) ⊎ Sends asked halls
 
 -- the load was run to its end, and its store was closed; it ends as the status says
 pub record EndsClosed (asked : RunAsked) (out : Passage) (s : Status) : Type 0 where
-  pub loaded : Loaded
+  pub loaded : LoadOutcome
   pub run : IsLoaded asked.load loaded
   pub closed : Closed
   pub is : loaded.closed ≡ Ok closed
@@ -50,7 +50,7 @@ pub record EndsClosed (asked : RunAsked) (out : Passage) (s : Status) : Type 0 w
 
 -- the load was run to its end, and its store wasn't closed: a seat's calls aren't those of the records
 pub record IsMismatched (asked : RunAsked) (out : Passage) : Type 0 where
-  pub loaded : Loaded
+  pub loaded : LoadOutcome
   pub run : IsLoaded asked.load loaded
   pub refused : loaded.closed ≡ Err close.SeatMismatch
   pub quiet : out.new ≡ out.old

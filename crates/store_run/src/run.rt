@@ -19,7 +19,7 @@ use std::alloc::Global;
 use std::io::Write;
 use std::sync::Wait;
 use std::thread::Threads;
-use store_load::{Loaded, Watch, run_load};
+use store_load::{LoadOutcome, Watch, run_load};
 
 /// Checks the keys of the closed halls, and writes what is shown of their histories.
 #[tactic(auto, using(crate::proofs::Ending::ends_checked))]
@@ -86,7 +86,7 @@ where
         Ok(loaded) => loaded,
         Err(error) => return tell_load(error, errors),
     };
-    let Loaded { refusals, closed } = loaded;
+    let LoadOutcome { refusals, closed } = loaded;
     tell_refusals(refusals.as_slice(), errors);
     match closed {
         Ok(closed) => finish(rt, alloc, asked, closed.halls, out, errors),

@@ -1,5 +1,5 @@
 use Rattle.std.proofs.Common.{refl, ap, ◌∙◌}
-use Rattle.node_threads.specs.Logs.{of_hall}
+use Rattle.seat_calls.specs.Logs.{of_hall}
 use Rattle.node_threads.proofs.Showing.{shown_by}
 use Rattle.node_threads.proofs.snapshot.shown.Goals as goal
 

@@ -1,8 +1,8 @@
 use Rattle.std.proofs.Common.{sym, subst, ap, length, ◌∙◌}
 use Rattle.std.proofs.lemmas.List.{length_push}
-use Rattle.node_threads.specs.Seats.{AreFresh}
+use Rattle.seat_calls.specs.Seats.{AreFresh}
 use Rattle.node_threads.proofs.Lists.{behind}
-use Rattle.node_threads.proofs.Seating.{fresh_more}
+use Rattle.node_threads.proofs.Joining.{fresh_more}
 use Rattle.node_threads.proofs.store.join_hall.Goals as goal
 
 pub returns : goal.returns

@@ -1,7 +1,7 @@
 use Rattle.std.proofs.Common.{◌≡◌, ◌<◌, true, length, subst, inl, inr, arith}
 use Rattle.hall_turns.specs.Turns.{ClientView}
-use Rattle.node_threads.proofs.Lists.{within}
-use Rattle.node_threads.proofs.Seating.{set_cases}
+use Rattle.std.proofs.lemmas.Option.{slice_get_within}
+use Rattle.node_threads.proofs.Lists.{set_cases}
 use Rattle.node_threads.proofs.store.stop_all.Goals as goal
 
 pub loop-pass-preserved : goal.loop-pass-preserved
@@ -13,6 +13,6 @@ loop-pass-preserved g c k pass lt at =
 
 pub returns : goal.returns
 returns g c k pass at =
-    let lt : k < length c.loop-pass.passes = within c.loop-pass.passes k pass at in
+    let lt : k < length c.loop-pass.passes = slice_get_within c.loop-pass.passes k pass at in
     let done = c.loop-pass-test.false in
     c.loop-pass.invariant k pass (omega (arith, lt, done)) at

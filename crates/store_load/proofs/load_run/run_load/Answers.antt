@@ -1,6 +1,6 @@
 use Rattle.std.proofs.Common.{◌≡◌, List, IfOk, map, ap, sym, subst, ◌∙◌}
 use Rattle.node_threads.specs.Closings.{Closes}
-use Rattle.node_threads.specs.Seats.{Seat}
+use Rattle.seat_calls.specs.Seats.{Seat}
 use Rattle.node_threads.specs.Stores.{Store}
 use Rattle.workload.specs.declared.load.LoadOptions.{LoadOptions}
 use Rattle.store_load.specs.Callers.{AreCalled}

@@ -1,5 +1,5 @@
 use Rattle.std.proofs.Common.{◌≡◌, length}
-use Rattle.node_threads.specs.Seats.{AreFresh}
+use Rattle.seat_calls.specs.Seats.{AreFresh}
 use Rattle.node_threads.proofs.store.Store.join.Given as goal
 
 abbrev pub invariant-loop-root : goal.invariant-loop-root

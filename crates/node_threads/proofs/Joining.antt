@@ -1,0 +1,22 @@
+-- The passes and places of a seat that is being made, hall by hall.
+use Rattle.std.proofs.Common.{◌≡◌, ℕ, zero, suc, List, [], ◌∷◌, ◌++◌, refl, sym, subst, inl, inr}
+use Rattle.hall_turns.specs.Turns.{ClientView}
+use Rattle.seat_calls.specs.Seats.{AreFresh, AreZero, IsFresh}
+use Rattle.node_threads.proofs.Lists.{after_push}
+
+-- one pass more
+pub fresh_more : (client : ℕ) (passes : List ClientView) (pass : ClientView) → AreFresh client passes → IsFresh client pass → AreFresh client (passes ++ pass ∷ [])
+fresh_more client passes pass fresh is k one at = elim (after_push passes pass k one at) [
+  | inl old ↦ fresh k one old
+  | inr new ↦ subst (IsFresh client) new.1 is
+]
+
+zero_behind : (places : List ℕ) → AreZero places → AreZero (places ++ 0 ∷ [])
+zero_behind [] none zero = refl
+zero_behind [] none (suc hall) = refl
+zero_behind (x ∷ xs) none zero = none 0
+zero_behind (x ∷ xs) none (suc hall) = zero_behind xs (λ k. none (suc k)) hall
+
+-- one place more
+pub zero_more : (places now : List ℕ) → now ≡ places ++ 0 ∷ [] → AreZero places → AreZero now
+zero_more places now is none = subst AreZero (sym is) (zero_behind places none)

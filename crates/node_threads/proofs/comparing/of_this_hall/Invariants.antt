@@ -1,6 +1,0 @@
-use Rattle.std.proofs.Common.{◌≡◌, map, take}
-use Rattle.node_threads.specs.Logs.{of_hall}
-use Rattle.node_threads.proofs.comparing.of_this_hall.Given as goal
-
-abbrev pub invariant-loop-entry : goal.invariant-loop-entry
-invariant-loop-entry l = map (λ e. e.now) l.entries.items ≡ of_hall l.hall (take l.entry-index l.log)

@@ -1,5 +1,0 @@
-use Rattle.node_threads.proofs.Keeping.{keeps_looked}
-use Rattle.node_threads.proofs.errand.counted_by.Goals as goal
-
-pub returns : goal.returns
-returns g c = keeps_looked _ _ c.standing.ensures.looked c.standing.ensures.recorded

@@ -1,5 +1,0 @@
-use Rattle.node_threads.proofs.Keeping.{keeps_reply}
-use Rattle.node_threads.proofs.errand.deliver.Goals as goal
-
-pub returns : goal.returns
-returns g c = keeps_reply _ _ c.deliver-taken.ensures.took c.deliver-taken.ensures.recorded

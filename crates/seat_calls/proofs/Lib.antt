@@ -1,0 +1,6 @@
+mod Lists
+mod Logs
+mod Matching
+mod Keeping
+mod Answering
+mod Seating

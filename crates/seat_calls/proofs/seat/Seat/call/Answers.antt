@@ -1,0 +1,85 @@
+use Rattle.std.proofs.Common.{◌≡◌, ◌<◌, ◌++◌, ◌∷◌, [], ℕ, List, length, refl, sym, ap, ◌∙◌, subst, slice_get, Some, inl}
+use Rattle.std.proofs.lemmas.Option.{slice_get_read}
+use Rattle.std.proofs.lemmas.Result.{err_from_is_err_and}
+use Rattle.tag.specs.declared.actions.Action.{Action}
+use Rattle.tag.specs.declared.numbers.OpId.{OpId}
+use Rattle.recorder.specs.declared.part.Response.{Response}
+use Rattle.seat_calls.specs.declared.entry.Entry.{Entry}
+use Rattle.seat_calls.specs.Seats.{Seat, value_of}
+use Rattle.seat_calls.proofs.Lists.{behind}
+use Rattle.seat_calls.proofs.Seating.{answered_is, answers, fails_unbegun, kept_seat, leaves_pending, pending_is, same_log, unbegun_log, unbegun_pass}
+use Rattle.seat_calls.proofs.seat.Seat.call.Goals as goal
+
+abbrev answered_entry : ℕ → OpId → List ℕ → Action → ℕ → Response → Entry
+answered_entry hall op key action invoked response = record { hall = hall; op = op; key = key; action = action; invoked = invoked; response = Some response }
+
+pub invariant_of-self-in-Refused-1 : goal.invariant_of-self-in-Refused-1
+invariant_of-self-in-Refused-1 g c =
+    let lt : c.from-at.result < length c.self.inside.passes.items = subst (λ (y : ℕ × Seat). y.0 < length y.1.passes) (λ i. (sym c.from-at.ensures i, sym c.self.view_is i)) c.requires.there in
+    let there : slice_get c.self.inside.passes.items c.from-at.result ≡ Some c.index_mut.result.now = slice_get_read c.self.inside.passes.items _ c.from-at.result c.index_mut.result.now refl lt c.index_mut.ensures.value in
+    same_log (record { store = c.self.inside.store; client = c.self.inside.client; is_spent = c.self.inside.is_spent; log = c.self.inside.log.items; passes = c.self.inside.passes.items; seen = c.self.inside.seen.items }) c.reserve.new.self.items _ c.reserve.ensures.items
+    (kept_seat (record { store = c.self.inside.store; client = c.self.inside.client; is_spent = c.self.inside.is_spent; log = c.self.inside.log.items; passes = c.self.inside.passes.items; seen = c.self.inside.seen.items }) c.from-at.result c.index_mut.result.now c.drive.new.pass c.self.invariant there c.in-Refused.ensures.drives.1)
+
+pub invariant_of-self-in-Pending : goal.invariant_of-self-in-Pending
+invariant_of-self-in-Pending g c =
+    let lt : c.from-at.result < length c.self.inside.passes.items = subst (λ (y : ℕ × Seat). y.0 < length y.1.passes) (λ i. (sym c.from-at.ensures i, sym c.self.view_is i)) c.requires.there in
+    let there : slice_get c.self.inside.passes.items c.from-at.result ≡ Some c.index_mut.result.now = slice_get_read c.self.inside.passes.items _ c.from-at.result c.index_mut.result.now refl lt c.index_mut.ensures.value in
+    let saw : slice_get c.self.inside.seen.items c.from-at.result ≡ Some c.index-seen.result.now = slice_get_read c.self.inside.seen.items _ c.from-at.result c.index-seen.result.now refl (subst (λ n. c.from-at.result < n) (sym c.self.invariant.halls) lt) c.index-seen.ensures in
+    let began = c.in-Pending.ensures.drives.1 in
+    let logged = behind c.self.inside.log.items c.reserve.new.self.items c.push_reserved.new.self.items _ c.reserve.ensures.items c.push_reserved.ensures.items ∙ ap (λ (e : Entry). c.self.inside.log.items ++ e ∷ []) c.entry.ensures in
+    pending_is (record { store = c.self.inside.store; client = c.self.inside.client; is_spent = c.self.inside.is_spent; log = c.self.inside.log.items; passes = c.self.inside.passes.items; seen = c.self.inside.seen.items }) c.from-at.result c.args.errand.now.hall c.index_mut.result.now c.drive.new.pass c.args.key c.in_ok-kept_key.kept_key c.args.action c.in_ok-kept_action.kept_action c.in-Pending.begun.op c.in-Pending.begun.place c.index-seen.result.now
+    c.self.invariant there saw c.from-at.ensures c.in_ok-kept_key.ensures c.in_ok-kept_action.ensures c.in-Pending.ensures.drives.0
+    c.push_reserved.new.self.items logged began.0 began.1 began.2
+
+pub returns-in-Pending-clause-failed : goal.returns-in-Pending-clause-failed
+returns-in-Pending-clause-failed g c =
+    let lt : c.from-at.result < length c.self.inside.passes.items = subst (λ (y : ℕ × Seat). y.0 < length y.1.passes) (λ i. (sym c.from-at.ensures i, sym c.self.view_is i)) c.requires.there in
+    let there : slice_get c.self.inside.passes.items c.from-at.result ≡ Some c.index_mut.result.now = slice_get_read c.self.inside.passes.items _ c.from-at.result c.index_mut.result.now refl lt c.index_mut.ensures.value in
+    let saw : slice_get c.self.inside.seen.items c.from-at.result ≡ Some c.index-seen.result.now = slice_get_read c.self.inside.seen.items _ c.from-at.result c.index-seen.result.now refl (subst (λ n. c.from-at.result < n) (sym c.self.invariant.halls) lt) c.index-seen.ensures in
+    let began = c.in-Pending.ensures.drives.1 in
+    let logged = behind c.self.inside.log.items c.reserve.new.self.items c.push_reserved.new.self.items _ c.reserve.ensures.items c.push_reserved.ensures.items ∙ ap (λ (e : Entry). c.self.inside.log.items ++ e ∷ []) c.entry.ensures in
+    rw (← c.self.view_is)
+    (leaves_pending (record { store = c.self.inside.store; client = c.self.inside.client; is_spent = c.self.inside.is_spent; log = c.self.inside.log.items; passes = c.self.inside.passes.items; seen = c.self.inside.seen.items }) c.from-at.result c.args.errand.now.hall c.index_mut.result.now c.drive.new.pass c.args.key c.in_ok-kept_key.kept_key c.args.action c.in_ok-kept_action.kept_action c.in-Pending.begun.op c.in-Pending.begun.place c.index-seen.result.now
+    c.self.invariant there saw c.from-at.ensures c.in_ok-kept_key.ensures c.in_ok-kept_action.ensures c.in-Pending.ensures.drives.0
+    c.push_reserved.new.self.items logged began.0 began.1 began.2 c.in-Pending.error began.4 began.3)
+
+pub invariant_of-self-in-Done : goal.invariant_of-self-in-Done
+invariant_of-self-in-Done g c =
+    let lt : c.from-at.result < length c.self.inside.passes.items = subst (λ (y : ℕ × Seat). y.0 < length y.1.passes) (λ i. (sym c.from-at.ensures i, sym c.self.view_is i)) c.requires.there in
+    let there : slice_get c.self.inside.passes.items c.from-at.result ≡ Some c.index_mut.result.now = slice_get_read c.self.inside.passes.items _ c.from-at.result c.index_mut.result.now refl lt c.index_mut.ensures.value in
+    let saw : slice_get c.self.inside.seen.items c.from-at.result ≡ Some c.index-seen.result.now = slice_get_read c.self.inside.seen.items _ c.from-at.result c.index-seen.result.now refl (subst (λ n. c.from-at.result < n) (sym c.self.invariant.halls) lt) c.index-seen.ensures in
+    let began = c.in-Done.ensures.drives.1 in
+    let logged = behind c.self.inside.log.items c.reserve.new.self.items c.push_reserved-in-Done.new.self.items _ c.reserve.ensures.items c.push_reserved-in-Done.ensures.items
+    ∙ ap (λ (e : Entry). c.self.inside.log.items ++ e ∷ []) (c.entry-in-Done.ensures ∙ ap (answered_entry c.args.errand.now.hall c.in-Done.begun.op c.in_ok-kept_key.kept_key c.in_ok-kept_action.kept_action c.in-Done.begun.place) c.told-response.ensures.response) in
+    answered_is (record { store = c.self.inside.store; client = c.self.inside.client; is_spent = c.self.inside.is_spent; log = c.self.inside.log.items; passes = c.self.inside.passes.items; seen = c.self.inside.seen.items }) c.from-at.result c.args.errand.now.hall c.index_mut.result.now c.drive.new.pass c.args.key c.in_ok-kept_key.kept_key c.args.action c.in_ok-kept_action.kept_action c.in-Done.begun.op c.in-Done.begun.place c.index-seen.result.now
+    c.self.invariant there saw c.from-at.ensures c.in_ok-kept_key.ensures c.in_ok-kept_action.ensures c.in-Done.ensures.drives.0
+    c.in-Done.ended.op c.in-Done.ended.returned c.in-Done.ended.place c.push_reserved-in-Done.new.self.items logged
+    (ap (λ (s : Seat). s.is_spent) c.self.view_is ∙ c.requires.unspent) began.0 began.1 began.2
+
+pub returns-in-Done-clause-answered : goal.returns-in-Done-clause-answered
+returns-in-Done-clause-answered g c =
+    let lt : c.from-at.result < length c.self.inside.passes.items = subst (λ (y : ℕ × Seat). y.0 < length y.1.passes) (λ i. (sym c.from-at.ensures i, sym c.self.view_is i)) c.requires.there in
+    let there : slice_get c.self.inside.passes.items c.from-at.result ≡ Some c.index_mut.result.now = slice_get_read c.self.inside.passes.items _ c.from-at.result c.index_mut.result.now refl lt c.index_mut.ensures.value in
+    let saw : slice_get c.self.inside.seen.items c.from-at.result ≡ Some c.index-seen.result.now = slice_get_read c.self.inside.seen.items _ c.from-at.result c.index-seen.result.now refl (subst (λ n. c.from-at.result < n) (sym c.self.invariant.halls) lt) c.index-seen.ensures in
+    let began = c.in-Done.ensures.drives.1 in
+    let logged = behind c.self.inside.log.items c.reserve.new.self.items c.push_reserved-in-Done.new.self.items _ c.reserve.ensures.items c.push_reserved-in-Done.ensures.items
+    ∙ ap (λ (e : Entry). c.self.inside.log.items ++ e ∷ []) (c.entry-in-Done.ensures ∙ ap (answered_entry c.args.errand.now.hall c.in-Done.begun.op c.in_ok-kept_key.kept_key c.in_ok-kept_action.kept_action c.in-Done.begun.place) c.told-response.ensures.response) in
+    rw (← c.self.view_is)
+    (answers (record { store = c.self.inside.store; client = c.self.inside.client; is_spent = c.self.inside.is_spent; log = c.self.inside.log.items; passes = c.self.inside.passes.items; seen = c.self.inside.seen.items }) c.from-at.result c.args.errand.now.hall c.index_mut.result.now c.drive.new.pass c.args.key c.in_ok-kept_key.kept_key c.args.action c.in_ok-kept_action.kept_action c.in-Done.begun.op c.in-Done.begun.place c.index-seen.result.now
+    c.self.invariant there saw c.from-at.ensures c.in_ok-kept_key.ensures c.in_ok-kept_action.ensures c.in-Done.ensures.drives.0
+    c.in-Done.ended.op c.in-Done.ended.returned c.in-Done.ended.place c.push_reserved-in-Done.new.self.items logged
+    (ap (λ (s : Seat). s.is_spent) c.self.view_is ∙ c.requires.unspent) began.0 began.1 began.2
+    (record { value = c.told-response.result.1; receipt = c.new-receipt.result }) (c.told-response.ensures.value ∙ ap value_of c.in-Done.ensures.placed.2) c.new-receipt.ensures)
+
+pub returns-in_err-reserve-clause-failed : goal.returns-in_err-reserve-clause-failed
+returns-in_err-reserve-clause-failed g c =
+    let p = err_from_is_err_and c.from_residual-in_err-reserve.result c.from_residual-in_err-reserve.ensures.1 in
+    rw (p.1, p.2, ← c.self.view_is) (inl (unbegun_log (record { store = c.self.inside.store; client = c.self.inside.client; is_spent = c.self.inside.is_spent; log = c.self.inside.log.items; passes = c.self.inside.passes.items; seen = c.self.inside.seen.items }) c.reserve.new.self.items c.reserve.ensures.items))
+
+pub returns-in-Refused-clause-failed : goal.returns-in-Refused-clause-failed
+returns-in-Refused-clause-failed g c =
+    let lt : c.from-at.result < length c.self.inside.passes.items = subst (λ (y : ℕ × Seat). y.0 < length y.1.passes) (λ i. (sym c.from-at.ensures i, sym c.self.view_is i)) c.requires.there in
+    let there : slice_get c.self.inside.passes.items c.from-at.result ≡ Some c.index_mut.result.now = slice_get_read c.self.inside.passes.items _ c.from-at.result c.index_mut.result.now refl lt c.index_mut.ensures.value in
+    rw (← c.self.view_is)
+    (fails_unbegun c.in-Refused.error (record { store = c.self.inside.store; client = c.self.inside.client; is_spent = c.self.inside.is_spent; log = c.self.inside.log.items; passes = c.self.inside.passes.items; seen = c.self.inside.seen.items }) c.args.errand.now.hall c.args.key c.args.action _ c.in-Refused.ensures.drives.0
+    (unbegun_pass (record { store = c.self.inside.store; client = c.self.inside.client; is_spent = c.self.inside.is_spent; log = c.self.inside.log.items; passes = c.self.inside.passes.items; seen = c.self.inside.seen.items }) c.reserve.new.self.items c.from-at.result c.index_mut.result.now c.drive.new.pass c.reserve.ensures.items there c.in-Refused.ensures.drives.1))

@@ -1,0 +1,34 @@
+-- What a call on a seat answers, and what it leaves.
+use Rattle.std.specs.Prelude.{ℕ, ◌≡◌, ◌⊎◌, true, List}
+use Rattle.tag.specs.declared.actions.Action.{Action}
+use Rattle.recorder.specs.declared.part.Response.{Response}
+use Rattle.seat_calls.specs.Seats.{Calls, DidNotBegin, LeavesPending, Seat, value_of}
+use Rattle.seat_calls.specs.declared.entry.Entry.{Entry}
+use Rattle.seat_calls.specs.declared.errors.CallError.{CallError}
+use Rattle.seat_calls.specs.declared.errors.CallError.TheVariants as fault
+use Rattle.seat_calls.specs.declared.seat.Answer.{Answer}
+
+-- the answer is that of the call: its value is the response's, and the receipt names the store, the hall, the call and the place of the response
+pub record Tells (s : Seat) (entry : Entry) (response : Response) (answer : Answer) : Type 0 where
+  pub value : answer.value ≡ value_of response.returned
+  pub receipt : answer.receipt ≡ record { store = s.store; hall = entry.hall; call = entry.op; place = response.place }
+
+-- the call was answered, and this tells its answer
+pub record IsAnswered (old : Seat) (hall : ℕ) (key : List ℕ) (action : Action) (answer : Answer) (new : Seat) : Type 0 where
+  pub entry : Entry
+  pub response : Response
+  pub calls : Calls old hall key action entry response new
+  pub tells : Tells old entry response answer
+
+-- the call didn't begin; or it began, is pending, and the seat is spent
+abbrev pub HasFailed : Seat → ℕ → List ℕ → Action → Seat → Type 0
+HasFailed old hall key action new = DidNotBegin old new ⊎ ((entry : Entry) × LeavesPending old hall key action entry new)
+
+-- what each error says of the call: after `Unavailable` it is pending, and the seat is spent; `SeatSpent` comes of a spent seat, which stays as it was;
+-- after `Foreign` the call didn't begin; after `Full` and `Memory` it didn't begin, or it is pending
+abbrev pub FailsWith : CallError → Seat → ℕ → List ℕ → Action → Seat → Type 0
+FailsWith fault.Unavailable old hall key action new = (entry : Entry) × LeavesPending old hall key action entry new
+FailsWith fault.SeatSpent old hall key action new = (old.is_spent ≡ true) × (new ≡ old)
+FailsWith fault.Foreign old hall key action new = DidNotBegin old new
+FailsWith fault.Full old hall key action new = HasFailed old hall key action new
+FailsWith fault.Memory old hall key action new = HasFailed old hall key action new

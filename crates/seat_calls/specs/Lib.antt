@@ -1,0 +1,7 @@
+pub mod Numbers
+pub mod Logs
+pub mod Calls
+pub mod Receipts
+pub mod Seats
+pub mod Answers
+pub mod Comparisons

@@ -1,0 +1,355 @@
+//! One call on its way: what its client sends, and what it hears.
+ghost use Rattle.std.specs.Prelude.{◌≡◌, ◌≤◌, true, Some, IfOk, OnErr};
+ghost use Rattle.hall_turns.specs.Turns.{IsQuiet, MayTake};
+ghost use Rattle.seat_calls.specs.Calls.{Drives, EndsCall, IsPlaced, KeepsLog, MayRefuse, MayStay};
+
+use crate::errors::CallError;
+use crate::gate::{Gate, Passage, Place};
+use crate::patience::next_message;
+use crate::replicas::{Parcel, Report};
+use client_phases::{Phase, Taken};
+use crossbeam_channel::{Receiver, Sender};
+use hall_turns::{Begun, ClientPass, Delay, Ended};
+use quorum::ReplicaSet;
+use std::alloc::AllocError;
+use std::sync::Wait;
+use tag::{Action, Key, OpId, ReplicaId};
+use world_steps::{Effect, Refusal, Step};
+
+/// What a call needs on its way.
+#[derive(Drop)]
+pub struct Errand<'a, G> {
+    pub gate: &'a G,
+    /// The ways to the replicas, by their numbers.
+    pub replicas: &'a [Sender<Parcel>],
+    pub hall: u8,
+    pub call: OpId,
+    /// Where the replicas report, and where it is heard.
+    pub reports: Sender<Report>,
+    pub inbox: Receiver<Report>,
+    /// How many parcels were sent and not reported on.
+    pub awaited: u64,
+}
+
+/// What became of a call.
+pub(crate) enum Outcome {
+    /// It didn't begin.
+    Refused(CallError),
+    /// It began, and isn't answered.
+    Pending(Begun, CallError),
+    /// It was answered.
+    Done(Begun, Ended),
+}
+
+/// Why a call that began isn't answered.
+#[derive(Clone, Copy, Debug, PartialEq, Eq)]
+enum Stall {
+    /// The rounds of a phase ran out, or the world refused a step.
+    Unavailable,
+    /// As many messages were sent as may be.
+    Full,
+    /// A growth was refused.
+    Memory,
+}
+
+impl<'a, G: Gate> Errand<'a, G> {
+    /// Makes a call of the pass's client, which has seen so many rows at least.
+    #[tactic(auto, using(crate::proofs::Keeping::keeps_same, crate::proofs::Keeping::keeps_then))]
+    pub(crate) fn drive<R: Wait>(
+        &mut self,
+        rt: &R,
+        pass: &mut ClientPass,
+        key: Key,
+        action: Action,
+        seen: usize,
+        rounds: u16,
+    ) -> Outcome
+        ensures drives { Drives pass.old key action seen result pass.new }
+        ensures placed { IsPlaced result }
+    {
+        let begun = match pass.invoke(rt, key, action, seen) {
+            Ok(begun) => begun,
+            Err(Delay::Foreign) => return Outcome::Refused(CallError::Foreign),
+            Err(Delay::Refused(refusal)) => return Outcome::Refused(not_begun(refusal)),
+        };
+        self.call = begun.op;
+        match self.finish(rt, pass, rounds) {
+            Ok(ended) => Outcome::Done(begun, ended),
+            Err(stall) => {
+                stop(rt, pass);
+                Outcome::Pending(begun, told_pending(stall))
+            }
+        }
+    }
+
+    /// Carries a call that began to its end.
+    #[tactic(auto, using(crate::proofs::Keeping::keeps_same, crate::proofs::Keeping::keeps_then))]
+    fn finish<R: Wait>(
+        &mut self,
+        rt: &R,
+        pass: &mut ClientPass,
+        rounds: u16,
+    ) -> Result<Ended, Stall>
+        ensures ended { IfOk result (λ ended.
+            EndsCall pass.old ended.op ended.returned ended.place pass.new) }
+        ensures placed { IfOk result (λ ended.
+            (ended.place ≤ 9223372036854775807) × (ended.copy ≡ ended.returned)) }
+        ensures failed { OnErr result (KeepsLog pass.old pass.new) }
+    {
+        self.make_ready(rt, pass, rounds)?;
+        let place = Place::Respond {
+            hall: self.hall,
+            call: self.call,
+        };
+        let _ = self.gate.at(&place);
+        match pass.respond(rt) {
+            Ok(ended) => Ok(ended),
+            Err(refusal) => Err(refused(refusal)),
+        }
+    }
+
+    /// Has the client ask, and then put where it has to.
+    #[tactic(auto, using(crate::proofs::Keeping::keeps_same, crate::proofs::Keeping::keeps_then))]
+    fn make_ready<R: Wait>(
+        &mut self,
+        rt: &R,
+        pass: &mut ClientPass,
+        rounds: u16,
+    ) -> Result<(), Stall>
+        ensures { KeepsLog pass.old pass.new }
+    {
+        match self.leave(rt, pass, rounds)? {
+            Phase::Put => match self.leave(rt, pass, rounds) {
+                Ok(_) => Ok(()),
+                Err(error) => Err(error),
+            },
+            _ => Ok(()),
+        }
+    }
+
+    /// Makes rounds until the phase is over, which has just begun. The phase that follows it.
+    #[tactic(auto, using(crate::proofs::Keeping::keeps_same, crate::proofs::Keeping::keeps_then))]
+    fn leave<R: Wait>(&mut self, rt: &R, pass: &mut ClientPass, rounds: u16) -> Result<Phase, Stall>
+        ensures { KeepsLog pass.old pass.new }
+    {
+        let mut counted = ReplicaSet::empty();
+        for _ in 0..rounds {
+            self.send_round(rt, pass, counted)?;
+            if let Some(next) = self.hear_round(rt, pass)? {
+                return Ok(next);
+            }
+            counted = counted_by(rt, pass);
+        }
+        Err(Stall::Unavailable)
+    }
+
+    /// Sends the client's request to each replica that it didn't count.
+    #[tactic(auto, using(crate::proofs::Keeping::keeps_same, crate::proofs::Keeping::keeps_then))]
+    fn send_round<R: Wait>(
+        &mut self,
+        rt: &R,
+        pass: &mut ClientPass,
+        counted: ReplicaSet,
+    ) -> Result<(), Stall>
+        ensures { KeepsLog pass.old pass.new }
+    {
+        for number in 0..15 {
+            if let Some(replica) = ReplicaId::new(number) {
+                if !counted.contains(replica) {
+                    self.send(rt, pass, replica)?;
+                }
+            }
+        }
+        Ok(())
+    }
+
+    /// Sends the client's request to a replica, where there is one of that number, as the gate says.
+    #[tactic(auto, using(crate::proofs::Keeping::keeps_same, crate::proofs::Keeping::keeps_then))]
+    fn send<R: Wait>(
+        &mut self,
+        rt: &R,
+        pass: &mut ClientPass,
+        replica: ReplicaId,
+    ) -> Result<(), Stall>
+        ensures { KeepsLog pass.old pass.new }
+    {
+        let Some(way) = self.replicas.get(usize::from(replica.get())) else {
+            return Ok(());
+        };
+        let client = pass.client();
+        let flight = match turn(rt, pass, Step::Send { client, replica }) {
+            Ok(Effect::Sent(flight)) => flight,
+            Ok(_) => return Err(Stall::Unavailable),
+            Err(refusal) => return Err(refused(refusal)),
+        };
+        let place = Place::Request {
+            hall: self.hall,
+            call: self.call,
+            replica,
+        };
+        let parcels = parcels_of(rt, pass, self.gate.at(&place), flight);
+        self.post_all(rt, way, flight, parcels)
+    }
+
+    /// Puts so many parcels of a flight on their way.
+    fn post_all<R: Wait>(
+        &mut self,
+        rt: &R,
+        way: &Sender<Parcel>,
+        flight: u32,
+        parcels: u64,
+    ) -> Result<(), Stall> {
+        for _ in 0..parcels {
+            self.post(rt, way, flight)?;
+        }
+        Ok(())
+    }
+
+    /// Puts a parcel of a flight on its way.
+    fn post<R: Wait>(&mut self, rt: &R, way: &Sender<Parcel>, flight: u32) -> Result<(), Stall> {
+        let parcel = Parcel {
+            hall: self.hall,
+            call: self.call,
+            flight,
+            reports: self.reports.clone()?,
+        };
+        if way.send(rt, parcel).is_err() {
+            return Err(Stall::Memory);
+        }
+        self.awaited = u64::saturating_add(self.awaited, 1);
+        Ok(())
+    }
+
+    /// Hears what the replicas report until the phase is over or each parcel was reported on. The phase that
+    /// follows, where it is over.
+    #[tactic(auto, using(crate::proofs::Keeping::keeps_same, crate::proofs::Keeping::keeps_then))]
+    fn hear_round<R: Wait>(&mut self, rt: &R, pass: &mut ClientPass) -> Result<Option<Phase>, Stall>
+        ensures { KeepsLog pass.old pass.new }
+    {
+        for _ in 0..self.awaited {
+            let Some(report) = next_message(rt, &self.inbox) else {
+                return Err(Stall::Unavailable);
+            };
+            self.awaited = u64::saturating_sub(self.awaited, 1);
+            let next = hear(rt, pass, report)?;
+            if next.is_some() {
+                return Ok(next);
+            }
+        }
+        Ok(None)
+    }
+}
+
+/// Loses a flight or has it come once more, as the gate says. How many parcels go their way.
+#[tactic(auto, using(crate::proofs::Keeping::keeps_same, crate::proofs::Keeping::keeps_then))]
+fn parcels_of<R: Wait>(rt: &R, pass: &mut ClientPass, passage: Passage, flight: u32) -> u64
+    ensures { KeepsLog pass.old pass.new }
+{
+    match passage {
+        Passage::Go => 1,
+        Passage::Drop => {
+            let _ = turn(rt, pass, Step::Lose { flight });
+            0
+        }
+        Passage::Twice => match turn(rt, pass, Step::Repeat { flight }) {
+            Ok(_) => 2,
+            Err(_) => 1,
+        },
+    }
+}
+
+/// Delivers what was reported. The phase that follows, where the client's phase is over.
+#[tactic(auto, using(crate::proofs::Keeping::keeps_same, crate::proofs::Keeping::keeps_then))]
+fn hear<R: Wait>(rt: &R, pass: &mut ClientPass, report: Report) -> Result<Option<Phase>, Stall>
+    ensures { KeepsLog pass.old pass.new }
+{
+    match report {
+        Report::Blank => Ok(None),
+        Report::Reply(flight) => deliver(rt, pass, flight),
+        Report::Twice(flight) => {
+            let first = deliver(rt, pass, flight)?;
+            let second = deliver(rt, pass, flight)?;
+            Ok(first.or(second))
+        }
+    }
+}
+
+/// Delivers a reply to the client. The phase that follows, where its phase is over.
+fn deliver<R: Wait>(rt: &R, pass: &mut ClientPass, flight: u32) -> Result<Option<Phase>, Stall>
+    ensures { KeepsLog pass.old pass.new }
+{
+    let taken = pass.deliver(rt, flight);
+    phase_after(taken)
+}
+
+/// The phase that a reply makes begin, if it does.
+fn phase_after(taken: Result<Taken, Refusal>) -> Result<Option<Phase>, Stall> {
+    match taken {
+        Ok(Taken::Stale | Taken::Counted) => Ok(None),
+        Ok(Taken::Noted(_)) => Ok(Some(Phase::Put)),
+        Ok(Taken::Agreed(_) | Taken::Ready) => Ok(Some(Phase::Ready)),
+        Err(Refusal::NotInFlight) => Ok(None),
+        Err(refusal) => Err(refused(refusal)),
+    }
+}
+
+/// The replicas that the client counted in its phase.
+fn counted_by<R: Wait>(rt: &R, pass: &mut ClientPass) -> ReplicaSet
+    ensures { KeepsLog pass.old pass.new }
+{
+    pass.standing(rt).counted
+}
+
+/// One turn with a step that adds no row.
+fn turn<R: Wait>(rt: &R, pass: &mut ClientPass, step: Step) -> Result<Effect, Refusal>
+    requires may { MayTake (Some pass.old.client) step }
+    requires quiet { IsQuiet step }
+    ensures { KeepsLog pass.old pass.new }
+{
+    pass.take(rt, step)
+}
+
+/// Stops the client in the pass's hall.
+fn stop<R: Wait>(rt: &R, pass: &mut ClientPass)
+    ensures kept { KeepsLog pass.old pass.new }
+    ensures stopped { pass.new.is_stopped ≡ true }
+{
+    pass.stop(rt);
+}
+
+/// What a call answers where its invocation was refused.
+fn not_begun(refusal: Refusal) -> CallError
+    ensures { MayRefuse result }
+{
+    match refusal {
+        Refusal::OpsFull | Refusal::FlightsFull => CallError::Full,
+        Refusal::Memory => CallError::Memory,
+        _ => CallError::Foreign,
+    }
+}
+
+/// Why a call isn't answered where a later step of it was refused.
+fn refused(refusal: Refusal) -> Stall {
+    match refusal {
+        Refusal::OpsFull | Refusal::FlightsFull => Stall::Full,
+        Refusal::Memory => Stall::Memory,
+        _ => Stall::Unavailable,
+    }
+}
+
+/// What a call answers that began and isn't answered.
+fn told_pending(stall: Stall) -> CallError
+    ensures { MayStay result }
+{
+    match stall {
+        Stall::Unavailable => CallError::Unavailable,
+        Stall::Full => CallError::Full,
+        Stall::Memory => CallError::Memory,
+    }
+}
+
+impl From<AllocError> for Stall {
+    fn from(_: AllocError) -> Stall {
+        Stall::Memory
+    }
+}
