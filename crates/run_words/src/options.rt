@@ -1,6 +1,6 @@
 //! The options of `abd run`, as clap takes them.
 ghost use Rattle.std.specs.Prelude.{◌≡◌, false, IfOk};
-ghost use Rattle.clap.specs.Words.{app_of, rule_of};
+ghost use Rattle.clap.specs.Words.{app_of, rule_of, with_rule};
 ghost use Rattle.clap.specs.declared.builder.command.Command.TheViews.{out-Command as fields_of};
 ghost use Rattle.run_words.specs.Options.{free_option, option, run_app, with_faults, with_halls, with_quorums, with_sizes};
 
@@ -42,25 +42,37 @@ fn option<'a>(
     free_option(alloc, name, value, parser, help).default_value(default)
 }
 
+/// The words with one option more.
+fn with_option<'a>(words: Command<'a>, option: Arg<'a>) -> Result<Command<'a>, AllocError>
+    requires words { (fields_of words).has_globals ≡ false }
+    requires option { option.global ≡ false }
+    ensures app { IfOk result (λ more.
+        app_of more ≡ with_rule (app_of words.entry) (rule_of option.entry)) }
+    ensures local { IfOk result (λ more. (fields_of more).has_globals ≡ false) }
+{
+    words.arg(option)
+}
+
 /// How large the load is.
 fn with_sizes<'a>(alloc: Global, words: Command<'a>) -> Result<Command<'a>, AllocError>
     requires { (fields_of words).has_globals ≡ false }
     ensures app { IfOk result (λ more. app_of more ≡ with_sizes (app_of words.entry)) }
     ensures local { IfOk result (λ more. (fields_of more).has_globals ≡ false) }
 {
-    let (callers, calls) = (
-        value_parser!(u8).range(1..17),
-        value_parser!(u16).range(1..10001),
-    );
-    let (keys, replicas) = (
-        value_parser!(u8).range(1..9),
-        value_parser!(u8).range(1..16),
-    );
-    words
-        .arg(option(alloc, "replicas", "N", "3", replicas, help::REPLICAS))?
-        .arg(option(alloc, "callers", "C", "4", callers, help::CALLERS))?
-        .arg(option(alloc, "calls", "T", "50", calls, help::CALLS))?
-        .arg(option(alloc, "keys", "K", "2", keys, help::KEYS))
+    let replicas = value_parser!(u8).range(1..16);
+    let callers = value_parser!(u8).range(1..17);
+    let calls = value_parser!(u16).range(1..10001);
+    let keys = value_parser!(u8).range(1..9);
+    let words = with_option(
+        words,
+        option(alloc, "replicas", "N", "3", replicas, help::REPLICAS),
+    )?;
+    let words = with_option(
+        words,
+        option(alloc, "callers", "C", "4", callers, help::CALLERS),
+    )?;
+    let words = with_option(words, option(alloc, "calls", "T", "50", calls, help::CALLS))?;
+    with_option(words, option(alloc, "keys", "K", "2", keys, help::KEYS))
 }
 
 /// What the gate does, and how long a call goes on.
@@ -70,14 +82,17 @@ fn with_faults<'a>(alloc: Global, words: Command<'a>) -> Result<Command<'a>, All
     ensures local { IfOk result (λ more. (fields_of more).has_globals ≡ false) }
 {
     let rounds = value_parser!(u16).range(1..10001);
-    let (drop, double) = (
-        value_parser!(u16).range(0..1001),
-        value_parser!(u16).range(0..1001),
-    );
-    words
-        .arg(option(alloc, "rounds", "R", "1000", rounds, help::ROUNDS))?
-        .arg(option(alloc, "drop", "D", "0", drop, help::DROP))?
-        .arg(option(alloc, "double", "E", "0", double, help::DOUBLE))
+    let drop = value_parser!(u16).range(0..1001);
+    let double = value_parser!(u16).range(0..1001);
+    let words = with_option(
+        words,
+        option(alloc, "rounds", "R", "1000", rounds, help::ROUNDS),
+    )?;
+    let words = with_option(words, option(alloc, "drop", "D", "0", drop, help::DROP))?;
+    with_option(
+        words,
+        option(alloc, "double", "E", "0", double, help::DOUBLE),
+    )
 }
 
 /// The halls, and how clients read.
@@ -88,17 +103,13 @@ fn with_halls<'a>(alloc: Global, words: Command<'a>) -> Result<Command<'a>, Allo
 {
     let halls = value_parser!(u8).range(1..65);
     let show = value_parser!(u8).range(0..64);
-    words
-        .arg(option(alloc, "halls", "H", "1", halls, help::HALLS))?
-        .arg(free_option(alloc, "show", "N", show, help::SHOW))?
-        .arg(option(
-            alloc,
-            "reads",
-            "HOW",
-            "full",
-            ValueParser::String,
-            help::READS,
-        ))
+    let reads = ValueParser::String;
+    let words = with_option(words, option(alloc, "halls", "H", "1", halls, help::HALLS))?;
+    let words = with_option(words, free_option(alloc, "show", "N", show, help::SHOW))?;
+    with_option(
+        words,
+        option(alloc, "reads", "HOW", "full", reads, help::READS),
+    )
 }
 
 /// The quorums.
@@ -109,10 +120,13 @@ fn with_quorums<'a>(alloc: Global, words: Command<'a>) -> Result<Command<'a>, Al
 {
     let ask = value_parser!(u8).range(1..136);
     let put = value_parser!(u8).range(1..136);
-    words
-        .arg(free_option(alloc, "votes", "DIGITS", ValueParser::String, help::VOTES))?
-        .arg(free_option(alloc, "ask", "A", ask, help::ASK))?
-        .arg(free_option(alloc, "put", "P", put, help::PUT))
+    let votes = ValueParser::String;
+    let words = with_option(
+        words,
+        free_option(alloc, "votes", "DIGITS", votes, help::VOTES),
+    )?;
+    let words = with_option(words, free_option(alloc, "ask", "A", ask, help::ASK))?;
+    with_option(words, free_option(alloc, "put", "P", put, help::PUT))
 }
 
 /// `abd run` with its options.
