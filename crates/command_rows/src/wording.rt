@@ -1,6 +1,8 @@
 //! Rows of command lines.
 use cli::{Command, Usage, command};
+use client_phases::ReadMode;
 use row_files::text_said;
+use run_words::{RunAsked, Shown};
 use std::alloc::{AllocError, Global};
 
 /// The words of a line, divided by bars.
@@ -10,6 +12,36 @@ fn words_of(alloc: Global, line: &str) -> Result<Vec<String>, AllocError> {
         list.push(String::from_str(alloc, word)?)?;
     }
     Ok(list)
+}
+
+/// The load that is asked for, and what is shown of it.
+fn say_run(out: &mut String, asked: &RunAsked) -> Result<(), AllocError> {
+    let load = asked.load.options();
+    let (replicas, ask, put) = (
+        load.quorums.replicas(),
+        load.quorums.ask(),
+        load.quorums.put(),
+    );
+    let reads = match load.reads {
+        ReadMode::Full => "full",
+        ReadMode::Short => "short",
+    };
+    let halls = load.halls.count();
+    let (callers, calls, keys, rounds) = (load.callers, load.calls, load.keys, load.rounds);
+    let (drop, double) = (load.drop, load.double);
+    write!(
+        out,
+        "{replicas} replicas, ask {ask}, put {put}, {halls} halls, {reads} reads, "
+    )?;
+    write!(
+        out,
+        "{callers} callers, {calls} calls, {keys} keys, {rounds} rounds, "
+    )?;
+    write!(out, "drop {drop}, double {double}, ")?;
+    match asked.shown {
+        Shown::Hall(hall) => write!(out, "hall {hall}\n"),
+        Shown::All => out.push_str("all halls\n"),
+    }
 }
 
 fn say_asked(out: &mut String, asked: &Command<'_>) -> Result<(), AllocError> {
@@ -27,7 +59,7 @@ fn say_asked(out: &mut String, asked: &Command<'_>) -> Result<(), AllocError> {
         }
         Command::Justify { history } => write!(out, "justify of [{history}]\n"),
         Command::Simulate { script } => write!(out, "simulate of [{script}]\n"),
-        Command::Run(_) => out.push_str("run\n"),
+        Command::Run(asked) => say_run(out, asked),
     }
 }
 

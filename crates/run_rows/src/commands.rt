@@ -17,7 +17,7 @@ pub struct Said {
 }
 
 /// The words of a command line, the program's own name first, divided by spaces.
-pub fn words_of(alloc: Global, line: &str) -> Result<Vec<String>, AllocError> {
+fn words_of(alloc: Global, line: &str) -> Result<Vec<String>, AllocError> {
     let mut list = Vec::new(alloc);
     list.push(String::from_str(alloc, "abd")?)?;
     for word in line.split(' ') {

@@ -5,7 +5,6 @@
 
 mod commands;
 mod runs;
-mod wording;
 
 use row_files::say_files;
 use runs::{rooms_row, say_loads, say_runs};
@@ -13,7 +12,6 @@ use std::alloc::{AllocError, Global};
 use std::process::ExitCode;
 use std::sync::Wait;
 use std::thread::Threads;
-use wording::say_words;
 
 /// What comes of a row.
 fn say_row<R>(rt: &R, out: &mut String, kind: &str, lines: &str) -> Result<(), AllocError>
@@ -21,7 +19,6 @@ where
     R: Threads + Wait + Copy + Send + Sync + 'static,
 {
     match kind {
-        "words" => say_words(out, lines),
         "run" => say_runs(rt, out, lines),
         "load" => say_loads(rt, out, lines),
         _ => out.push_str("NO SUCH KIND OF ROW\n"),
