@@ -5,8 +5,8 @@
 
 use certificate_check::check_part;
 use node_threads::{Closed, ClosedHall, Gate, Passage, Place, Seat, Store, StoreConfig};
-use recorder::Halls;
-use std::alloc::Global;
+use recorder::{Halls, KeyOrder, Parts};
+use std::alloc::{AllocError, Global};
 use std::process::ExitCode;
 use std::sync::Wait;
 use std::sync::atomic::{AtomicU64, Ordering};
@@ -113,52 +113,88 @@ where
     Store::start(rt, alloc, config, gate).ok()
 }
 
-/// Has two callers call a store, each on a key of its own, and closes it. What they saw, and what the store leaves.
-fn run<R>(rt: &R, alloc: Global) -> Option<(Tally, Tally, Closed)>
+/// Two callers at once, each on a key of its own. What they saw.
+fn callers<R, G>(
+    rt: &R,
+    alloc: Global,
+    store: &Store<G>,
+    first: &mut Seat,
+    second: &mut Seat,
+) -> Option<(Tally, Tally)>
 where
     R: Threads + Wait + Copy + Send + Sync + 'static,
+    G: Gate + Send + Sync + Drop + 'static,
 {
-    let store = start(rt, alloc)?;
-    let mut first = store.join(rt, alloc, ClientId::new(1).ok()?).ok()?;
-    let mut second = store.join(rt, alloc, ClientId::new(2).ok()?).ok()?;
     let apples = Key::new(alloc, "apples").ok()?;
     let limes = Key::new(alloc, "limes").ok()?;
-    let shared = &store;
     let (keys_one, keys_two) = (&apples, &limes);
-    let (seat_one, seat_two) = (&mut first, &mut second);
-    let (one, two) = thread::join(
+    Some(thread::join(
         rt,
-        move || caller(rt, alloc, shared, seat_one, keys_one, 25),
-        move || caller(rt, alloc, shared, seat_two, keys_two, 25),
-    );
+        move || caller(rt, alloc, store, first, keys_one, 25),
+        move || caller(rt, alloc, store, second, keys_two, 25),
+    ))
+}
+
+/// Both seats.
+fn both(alloc: Global, first: Seat, second: Seat) -> Option<Vec<Seat>> {
     let mut seats = Vec::new(alloc);
     seats.push(first).ok()?;
     seats.push(second).ok()?;
+    Some(seats)
+}
+
+/// Has two callers call a store, and closes it. What they saw, and what the store leaves.
+fn run<R>(rt: &R, alloc: Global) -> Option<((Tally, Tally), Closed)>
+where
+    R: Threads + Wait + Copy + Send + Sync + 'static,
+{
+    let (one, two) = (ClientId::new(1).ok()?, ClientId::new(2).ok()?);
+    let store = start(rt, alloc)?;
+    let mut first = store.join(rt, alloc, one).ok()?;
+    let mut second = store.join(rt, alloc, two).ok()?;
+    let seen = callers(rt, alloc, &store, &mut first, &mut second);
+    let seats = both(alloc, first, second)?;
     let closed = store.close(rt, alloc, seats).ok()?;
-    Some((one, two, closed))
-}
-
-/// The calls of an order by their numbers, a blank before each.
-fn numbers(alloc: Global, order: &[OpId]) -> Option<String> {
-    let mut text = String::new(alloc);
-    for call in order {
-        let number = format!(in alloc; " {}", call.0).ok()?;
-        text.push_str(number.as_str()).ok()?;
+    match seen {
+        Some(tallies) => Some((tallies, closed)),
+        None => None,
     }
-    Some(text)
 }
 
-/// A line for each key of a hall: the order of its calls, and the verdict on it.
-fn verdicts(alloc: Global, hall: &ClosedHall) -> Option<String> {
+/// Says the calls of an order by their numbers, a blank before each.
+fn say_calls(out: &mut String, order: &[OpId]) -> Result<(), AllocError> {
+    for call in order {
+        let number = call.0;
+        write!(out, " {number}")?;
+    }
+    Ok(())
+}
+
+/// A line for a key: the order of its calls, and the verdict on it.
+fn say_key(alloc: Global, out: &mut String, parts: &Parts, key_order: &KeyOrder) -> Option<()> {
+    let order = key_order.order.as_slice();
+    let part = parts.get(&key_order.key).ok()??;
+    let verdict = check_part(alloc, part, order).ok()?;
+    out.push_str(key_order.key.as_str()).ok()?;
+    out.push_str(":").ok()?;
+    say_calls(out, order).ok()?;
+    write!(out, ": {verdict}\n").ok()
+}
+
+/// A line for each key of a hall.
+fn say_hall(alloc: Global, out: &mut String, hall: &ClosedHall) -> Option<()> {
     let parts = hall.history.parts().ok()?;
-    let mut lines = String::new(alloc);
     for key_order in &hall.orders {
-        let order = key_order.order.as_slice();
-        let part = parts.get(&key_order.key).ok()??;
-        let verdict = check_part(alloc, part, order).ok()?;
-        let (name, calls) = (key_order.key.as_str(), numbers(alloc, order)?);
-        let line = format!(in alloc; "{name}:{}: {verdict}\n", calls.as_str()).ok()?;
-        lines.push_str(line.as_str()).ok()?;
+        say_key(alloc, out, &parts, key_order)?;
+    }
+    Some(())
+}
+
+/// The lines for the keys of all halls.
+fn lines_of(alloc: Global, closed: &Closed) -> Option<String> {
+    let mut lines = String::new(alloc);
+    for hall in &closed.halls {
+        say_hall(alloc, &mut lines, hall)?;
     }
     Some(lines)
 }
@@ -168,17 +204,14 @@ fn say<R>(rt: &HostRuntime, threads: &R) -> Option<()>
 where
     R: Threads + Wait + Copy + Send + Sync + 'static,
 {
-    let (one, two, closed) = run(threads, rt.alloc())?;
+    let ((one, two), closed) = run(threads, rt.alloc())?;
+    let lines = lines_of(rt.alloc(), &closed)?;
     rt.println(format_args!(
         "answered {} and {}, right {} and {}",
         one.answered, two.answered, one.right, two.right
     ))
     .ok()?;
-    for hall in &closed.halls {
-        let lines = verdicts(rt.alloc(), hall)?;
-        rt.print(lines.as_str()).ok()?;
-    }
-    Some(())
+    rt.print(lines.as_str()).ok()
 }
 
 fn main(rt: HostRuntime) -> ExitCode {

@@ -2,7 +2,7 @@
 ghost use Rattle.std.specs.Prelude.{◌≡◌, IfSome};
 
 use crate::gates::{FifthAndSeventh, Twins};
-use crate::scene::{are_atomic, config_of, seat_of, word};
+use crate::scene::{are_atomic, both, config_of, seat_of, word};
 use client_phases::ReadMode;
 use node_threads::{Closed, Gate, Seat, Store, StoreConfig};
 use quorum::Quorums;
@@ -198,24 +198,65 @@ where
     let mut second = seat_of(rt, alloc, &store, 2)?;
     let mut third = seat_of(rt, alloc, &store, 3)?;
     let mut fourth = seat_of(rt, alloc, &store, 4)?;
-    let shared = &store;
-    let (one, other) = (&mut first, &mut second);
-    let (next, last) = (&mut third, &mut fourth);
+    let good = all_call(
+        rt,
+        alloc,
+        &store,
+        &mut first,
+        &mut second,
+        &mut third,
+        &mut fourth,
+    );
+    let seats = four(alloc, first, second, third, fourth)?;
+    let shown = are_shown(rt, alloc, &store, seats.as_slice(), fixed.halls);
+    let closed = store.close(rt, alloc, seats).ok()?;
+    Some(good && shown && has_config(&closed, &config) && are_atomic(alloc, &closed))
+}
+
+/// Four callers at once. Whether all came out well.
+fn all_call<R, G>(
+    rt: &R,
+    alloc: Global,
+    store: &Store<G>,
+    first: &mut Seat,
+    second: &mut Seat,
+    third: &mut Seat,
+    fourth: &mut Seat,
+) -> bool
+where
+    R: Threads + Wait + Copy + Send + Sync + 'static,
+    G: Gate + Send + Sync + Drop + 'static,
+{
     let (good, well) = thread::join(
         rt,
-        move || pair(rt, alloc, shared, one, other, 1),
-        move || pair(rt, alloc, shared, next, last, 3),
+        move || pair(rt, alloc, store, first, second, 1),
+        move || pair(rt, alloc, store, third, fourth, 3),
     );
-    let mut seats = Vec::new(alloc);
-    let mut shown = true;
-    for seat in [first, second, third, fourth] {
-        if !is_shown(rt, alloc, &store, &seat, fixed.halls) {
-            shown = false;
+    good && well
+}
+
+/// The four seats.
+fn four(alloc: Global, first: Seat, second: Seat, third: Seat, fourth: Seat) -> Option<Vec<Seat>> {
+    let mut seats = both(alloc, first, second)?;
+    seats.push(third).ok()?;
+    seats.push(fourth).ok()?;
+    Some(seats)
+}
+
+/// Whether each seat is shown its calls.
+fn are_shown<R: Wait, G: Gate>(
+    rt: &R,
+    alloc: Global,
+    store: &Store<G>,
+    seats: &[Seat],
+    halls: u8,
+) -> bool {
+    for seat in seats {
+        if !is_shown(rt, alloc, store, seat, halls) {
+            return false;
         }
-        seats.push(seat).ok()?;
     }
-    let closed = store.close(rt, alloc, seats).ok()?;
-    Some(good && well && shown && has_config(&closed, &config) && are_atomic(alloc, &closed))
+    true
 }
 
 /// Every fifth parcel is lost, and of the others every seventh goes twice.

@@ -1,7 +1,7 @@
 //! The rows.
 use crate::gates::{LosesReplies, Twins};
 use crate::scene::{are_atomic, both, failed, gave_a, read, seat_of, store_of, word, write};
-use node_threads::{CallError, CloseError, JoinError, OpenGate};
+use node_threads::{Answer, CallError, CloseError, Closed, JoinError, OpenGate, Seat, Store};
 use recorder::Row;
 use std::alloc::Global;
 use std::sync::Wait;
@@ -33,14 +33,29 @@ where
     let first = failed(read(rt, alloc, &store, &mut seat), CallError::Full);
     let second = failed(read(rt, alloc, &store, &mut seat), CallError::SeatSpent);
     let spent = seat.is_spent() && seat.log().len() == 1;
+    let closed = closed_with(rt, alloc, store, seat)?;
+    let left = has_one_pending_call(&closed) && are_atomic(alloc, &closed);
+    Some(word(first && second && spent && left))
+}
+
+/// What the store leaves, closed with its only seat.
+fn closed_with<R: Wait>(
+    rt: &R,
+    alloc: Global,
+    store: Store<OpenGate>,
+    seat: Seat,
+) -> Option<Closed> {
     let mut seats = Vec::new(alloc);
     seats.push(seat).ok()?;
-    let closed = store.close(rt, alloc, seats).ok()?;
-    let [hall] = closed.halls.as_slice() else {
-        return None;
-    };
-    let pending = matches!(hall.history.rows(), [Row::Invoke { .. }]);
-    Some(word(first && second && spent && pending && are_atomic(alloc, &closed)))
+    store.close(rt, alloc, seats).ok()
+}
+
+/// Whether the record of the only hall is the invocation of one call.
+fn has_one_pending_call(closed: &Closed) -> bool {
+    match closed.halls.as_slice() {
+        [hall] => matches!(hall.history.rows(), [Row::Invoke { .. }]),
+        _ => false,
+    }
 }
 
 /// A receipt of another store isn't met, a seat makes no call in another store and is shown no record of it, and a
@@ -53,16 +68,42 @@ where
     let two = store_of(rt, alloc, 2, 1000, 1000, OpenGate)?;
     let mut own = seat_of(rt, alloc, &one, 1)?;
     let mut other = seat_of(rt, alloc, &two, 1)?;
-    let receipt = write(rt, alloc, &two, &mut other).ok()?.receipt;
-    let met = own.meet(&receipt) == Err(CallError::Foreign);
-    let called = failed(read(rt, alloc, &two, &mut own), CallError::Foreign);
-    let same = own.seen(0) == 0 && own.log().is_empty();
-    let shown = two.snapshot(rt, alloc, &own, 0);
-    let foreign = matches!(shown, Some(Err(CallError::Foreign)));
+    let foreign = is_foreign(rt, alloc, &two, &mut other, &mut own);
     let missing = one.snapshot(rt, alloc, &own, 1).is_none();
-    let closed = one.close(rt, alloc, both(alloc, own, other)?);
-    let mismatch = matches!(closed, Err(CloseError::SeatMismatch));
-    Some(word(met && called && same && foreign && missing && mismatch))
+    let mismatch = has_mismatch(rt, alloc, one, own, other);
+    Some(word(foreign && missing && mismatch))
+}
+
+/// Whether the seat meets no receipt of the store, makes no call in it and is shown no record of it.
+fn is_foreign<R: Wait>(
+    rt: &R,
+    alloc: Global,
+    store: &Store<OpenGate>,
+    own: &mut Seat,
+    seat: &mut Seat,
+) -> bool {
+    let met = match write(rt, alloc, store, own) {
+        Ok(answer) => seat.meet(&answer.receipt) == Err(CallError::Foreign),
+        Err(_) => false,
+    };
+    let called = failed(read(rt, alloc, store, seat), CallError::Foreign);
+    let same = seat.seen(0) == 0 && seat.log().is_empty();
+    let shown = store.snapshot(rt, alloc, seat, 0);
+    met && called && same && matches!(shown, Some(Err(CallError::Foreign)))
+}
+
+/// Whether the store isn't closed with a seat of another.
+fn has_mismatch<R: Wait>(
+    rt: &R,
+    alloc: Global,
+    store: Store<OpenGate>,
+    own: Seat,
+    other: Seat,
+) -> bool {
+    match both(alloc, own, other) {
+        Some(seats) => matches!(store.close(rt, alloc, seats), Err(CloseError::SeatMismatch)),
+        None => false,
+    }
 }
 
 /// Without a reply a call is unavailable, and its seat is spent.
@@ -84,9 +125,19 @@ where
     let store = store_of(rt, alloc, 1, 1000, 1000, Twins)?;
     let mut seat = seat_of(rt, alloc, &store, 1)?;
     let mut second = seat_of(rt, alloc, &store, 2)?;
-    let receipt = write(rt, alloc, &store, &mut seat).ok()?.receipt;
-    let met = second.meet(&receipt).is_ok() && second.seen(0) == receipt.place() + 1;
+    let met = has_met(write(rt, alloc, &store, &mut seat), &mut second);
     Some(word(met && gave_a(read(rt, alloc, &store, &mut second))))
+}
+
+/// Whether the call was answered, and the seat has seen its response once it met the receipt.
+fn has_met(call: Result<Answer, CallError>, seat: &mut Seat) -> bool {
+    match call {
+        Ok(answer) => {
+            let receipt = answer.receipt;
+            seat.meet(&receipt).is_ok() && seat.seen(0) == receipt.place() + 1
+        }
+        Err(_) => false,
+    }
 }
 
 /// Two of three replicas go down, a call is unavailable; they come back, and a call is answered.
@@ -94,18 +145,28 @@ pub fn stopped_replicas<R>(rt: &R, alloc: Global) -> Option<&'static str>
 where
     R: Threads + Wait + Copy + Send + 'static,
 {
+    let (zero, one, three) = (ReplicaId::new(0)?, ReplicaId::new(1)?, ReplicaId::new(3)?);
     let store = store_of(rt, alloc, 1, 1000, 1000, OpenGate)?;
     let mut first = seat_of(rt, alloc, &store, 1)?;
     let mut second = seat_of(rt, alloc, &store, 2)?;
-    let (zero, one) = (ReplicaId::new(0)?, ReplicaId::new(1)?);
-    let down = store.stop_replica(rt, zero).is_ok() && store.stop_replica(rt, one).is_ok();
-    let again = store.stop_replica(rt, zero) == Err(Refusal::ReplicaDown);
-    let none = store.stop_replica(rt, ReplicaId::new(3)?) == Err(Refusal::NoSuchReplica);
+    let down = stops_both(rt, &store, zero, one);
+    let none = store.stop_replica(rt, three) == Err(Refusal::NoSuchReplica);
     let waited = failed(read(rt, alloc, &store, &mut first), CallError::Unavailable);
-    let up = store.start_replica(rt, zero).is_ok() && store.start_replica(rt, one).is_ok();
-    let twice = store.start_replica(rt, zero) == Err(Refusal::ReplicaUp);
+    let up = starts_both(rt, &store, zero, one);
     let answered = read(rt, alloc, &store, &mut second).is_ok();
-    Some(word(down && again && none && waited && up && twice && answered))
+    Some(word(down && none && waited && up && answered))
+}
+
+/// Whether both replicas go down, once.
+fn stops_both<R: Wait>(rt: &R, store: &Store<OpenGate>, zero: ReplicaId, one: ReplicaId) -> bool {
+    let down = store.stop_replica(rt, zero).is_ok() && store.stop_replica(rt, one).is_ok();
+    down && store.stop_replica(rt, zero) == Err(Refusal::ReplicaDown)
+}
+
+/// Whether both replicas come back, once.
+fn starts_both<R: Wait>(rt: &R, store: &Store<OpenGate>, zero: ReplicaId, one: ReplicaId) -> bool {
+    let up = store.start_replica(rt, zero).is_ok() && store.start_replica(rt, one).is_ok();
+    up && store.start_replica(rt, zero) == Err(Refusal::ReplicaUp)
 }
 
 /// A name joins once.

@@ -3,7 +3,7 @@ ghost use Rattle.std.specs.Prelude.{◌≡◌, IfSome};
 
 use certificate_check::{Verdict, check_part};
 use node_threads::{Answer, CallError, Closed, ClosedHall, Gate, Seat, Store, StoreConfig};
-use recorder::Halls;
+use recorder::{Halls, KeyOrder, Parts};
 use std::alloc::Global;
 use std::sync::Wait;
 use std::thread::Threads;
@@ -121,7 +121,7 @@ pub fn closes<R: Wait, G: Gate + Drop>(
 /// Whether each key of each hall has an order that is one of its calls.
 pub fn are_atomic(alloc: Global, closed: &Closed) -> bool {
     for hall in &closed.halls {
-        if is_atomic(alloc, hall) != Some(true) {
+        if !is_atomic(alloc, hall) {
             return false;
         }
     }
@@ -129,16 +129,28 @@ pub fn are_atomic(alloc: Global, closed: &Closed) -> bool {
 }
 
 /// Whether each key of the hall has an order that is one of its calls.
-fn is_atomic(alloc: Global, hall: &ClosedHall) -> Option<bool> {
-    let parts = hall.history.parts().ok()?;
-    for key_order in &hall.orders {
-        let part = parts.get(&key_order.key).ok()??;
-        let verdict = check_part(alloc, part, key_order.order.as_slice()).ok()?;
-        if verdict != Verdict::Yes {
-            return Some(false);
+fn is_atomic(alloc: Global, hall: &ClosedHall) -> bool {
+    match hall.history.parts() {
+        Ok(parts) => have_orders(alloc, &parts, hall.orders.as_slice()),
+        Err(_) => false,
+    }
+}
+
+/// Whether these are the keys of the parts, and the order of each is one of its calls.
+fn have_orders(alloc: Global, parts: &Parts, orders: &[KeyOrder]) -> bool {
+    for key_order in orders {
+        if is_in_order(alloc, parts, key_order) != Some(true) {
+            return false;
         }
     }
-    Some(parts.entries().len() == hall.orders.len())
+    parts.entries().len() == orders.len()
+}
+
+/// Whether the order is one of its key's calls.
+fn is_in_order(alloc: Global, parts: &Parts, key_order: &KeyOrder) -> Option<bool> {
+    let part = parts.get(&key_order.key).ok()??;
+    let verdict = check_part(alloc, part, key_order.order.as_slice()).ok()?;
+    Some(verdict == Verdict::Yes)
 }
 
 /// What a row says.
