@@ -58,7 +58,7 @@ pub struct Answer {
 }
 
 impl Seat {
-    /// A seat of a client that has just joined.
+    /// A seat of a client that has just joined: a pass and a place for each hall, hall 0 first.
     pub fn new(
         alloc: Global,
         store: u64,
@@ -87,7 +87,7 @@ impl Seat {
         }
     }
 
-    /// How many halls it has joined.
+    /// How many halls it has joined, which is how many passes it has.
     pub fn halls(&self) -> usize
         ensures { result ≡ length self.now.passes }
     {
@@ -153,7 +153,8 @@ impl Seat {
 }
 
 impl Seat {
-    /// Makes a call in the errand's hall.
+    /// Makes a call in the errand's hall, in so many rounds a phase at most. It may wait for other threads.
+    /// Where a growth is refused before the call began, all is as before; later the call is pending.
     pub fn call<R: Wait, G: Gate>(
         &mut self,
         rt: &R,
