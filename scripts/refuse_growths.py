@@ -6,7 +6,7 @@ Runs built programs with the library before them that refuses one growth, the fi
   nothing on standard output and one line on standard error, which names memory and a line of the file, or the number behind
   its last where all lines were read. The first line that is named is line 1, and a later growth never names an earlier line.
 - the row programs: each row alone. What is said of it is what is expected, up to a line that names memory, or a step that the program
-  couldn't make for want of it (with what commands wrote before it), or to the program's end.
+  couldn't make for want of it, or to the program's end.
 - growth_tests and parallel_tests: each test of a refused growth. It passes (it calls again after a refused growth, and compares whole worlds, pools, replicas, clients and
   histories as they were before the call and after it, and verdicts), or it ends early, since a growth of its own was refused.
 """
@@ -20,12 +20,10 @@ import tempfile
 # A row that goes over all small parts takes millions of growths: of a row no more than so many are refused.
 MOST = 3000
 ALL = 1_000_000
-# What a row program says where it couldn't go on for want of memory. The devices of command_rows are in memory too: one that can't grow
-# fails, and a command then ends with status 4.
+# What a row program says where it couldn't go on for want of memory. command_rows isn't gone over: its standard output and standard error
+# are in memory, and one that can't grow keeps what a command says from being seen. Its commands are those of abd.
 WANT = r"(?i)memory|NO SUCH |not understood"
-ROWS = {"record_rows": WANT, "protocol_rows": WANT, "command_rows": WANT + r"|device|status 4|(simulate|justify|check) 4"}
-# Within how many lines from the first that isn't as expected it says so: commands may have written all that they write before.
-WITHIN = {"record_rows": 4, "protocol_rows": 4, "command_rows": 1000}
+ROWS = {"record_rows", "protocol_rows"}
 TESTS = ["growth_tests", "parallel_tests"]
 
 
@@ -125,7 +123,7 @@ def rows(library, top, name):
                 def judge(at, status, out, errors):
                     lines = out.splitlines()
                     other = next((k for k, line in enumerate(lines) if wanted[k : k + 1] != [line]), len(lines))
-                    wants = other == len(lines) or re.search(ROWS[name], "\n".join(lines[other : other + WITHIN[name]]))
+                    wants = other == len(lines) or re.search(WANT, "\n".join(lines[other : other + 4]))
                     if status == 0 or not wants:
                         raise Wrong(f"{name}, {data}, {block.splitlines()[0]!r}, growth {at}: status {status}, {out!r}, {errors!r}")
 
@@ -154,7 +152,7 @@ def tests(library, top, crate):
 def main():
     library, top, *names = sys.argv[1:]
     bad = False
-    for name in names or ["abd", "record_rows", "protocol_rows", "command_rows", *TESTS]:
+    for name in names or ["abd", "record_rows", "protocol_rows", *TESTS]:
         program = f"{top}/crates/{name}/out/{name}{'_tests' if name in TESTS else ''}"
         if not os.path.isfile(program):
             print(f"{name} is not built")
