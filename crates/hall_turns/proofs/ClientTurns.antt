@@ -34,7 +34,7 @@ use Rattle.world_steps.specs.declared.system.System.{System}
 use Rattle.hall_journal.specs.Halls.{Hall, IsReplay, Takes, with_step}
 use Rattle.hall_turns.specs.declared.rule.View.{View}
 use Rattle.hall_turns.specs.Turns.TakesReply.{WithNote, WithoutNote}
-use Rattle.hall_turns.specs.Turns.{AddsRow, AreRecorded, IsQuiet, IsReady, AddsNoRow, MayReturn, OthersAdd, Receives, Returns, ClientView, TakesReply, TakesTurn, Turns, view_at_rest, seat, seat_in}
+use Rattle.hall_turns.specs.Turns.{AddsRow, AreRecorded, IsQuiet, IsReady, AddsNoRow, LooksAt, MayReturn, OthersAdd, Receives, Returns, ClientView, TakesReply, TakesTurn, Turns, view_at_rest, seat, seat_in}
 use Rattle.hall_turns.proofs.Running.{delivered_runs, invoked_runs, responded_runs}
 use Rattle.hall_turns.proofs.Rows.{last_row, none_some, past_end, pushed, same_some}
 use Rattle.hall_turns.proofs.Turning.{AddsOfItsClient, StayJoined, StayStopped, kept_adds, rested, returnable, same_next, took_adds}
@@ -221,6 +221,21 @@ begun client v w z old new key action op place is received returned took at =
 
 pub left : (client : ℕ) (v w z : View) (old new : Hall) → v ≡ seat client v.rows v.is_stopped → Receives v old w → Returns w new z → new ≡ old → AddsNoRow (seen client v) (seen client z)
 left client v w z old new is received returned same = looked client v old new z (client_turn client v w z old new is received returned) (ap (λ (h : Hall). h.world.history.rows) same)
+
+pub looks_at : (client : ℕ) (v w z : View) (hall : Hall) (Told : System → Type 0) → v ≡ seat client v.rows v.is_stopped → Receives v hall w → Returns w hall z → IsReplay hall → IsSound hall.world → Told hall.world
+    → LooksAt (seen client v) Told (seen client z)
+looks_at client v w z hall Told is received returned replay sound told =
+    let named : v.client ≡ Some client = ap (λ (y : View). y.client) is in
+    let turn : ClientTurn client v hall hall z = client_turn client v w z hall hall is received returned in
+    record {
+      hall = hall;
+      replay = replay;
+      sound = sound;
+      others = turn.others;
+      joined = received.knows.joined client named;
+      told = told;
+      is = ap (seen client) turn.is;
+    }
 
 -- a response is of the client's own call
 own_response : (s : System) (name : ℕ) (row : Row) (new : List Row) → AddsRowOf (Some name) s.history.rows new → new ≡ s.history.rows ++ row ∷ [] → IsRowOf s.history.rows name row

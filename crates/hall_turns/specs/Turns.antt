@@ -7,8 +7,10 @@ use Rattle.tag.specs.declared.actions.Action.{Action}
 use Rattle.tag.specs.Tags.{Tag}
 use Rattle.tag.specs.declared.actions.Returned.{Returned}
 use Rattle.tag.specs.declared.numbers.OpId.{OpId}
-use Rattle.client_phases.specs.Clients.{answer_of, pending_of}
+use Rattle.client_phases.specs.Clients.{answer_of, counted_by, pending_of, phase_of}
 use Rattle.client_phases.specs.declared.clients.Client.{Client}
+use Rattle.client_phases.specs.declared.outcomes.Phase.{Phase}
+use Rattle.quorum.specs.Sets.{Replicas}
 use Rattle.network.specs.declared.messages.Message.{Message}
 use Rattle.network.specs.declared.messages.Message.TheVariants.{ToReplica, ToClient}
 use Rattle.recorder.specs.Histories.{IsWellFormed, Recorded}
@@ -249,6 +251,20 @@ IsQuiet (step.Lose flight) = Unit {0}
 IsQuiet (step.Repeat flight) = Unit {0}
 IsQuiet (step.StopClient name) = Unit {0}
 IsQuiet other = ⊥
+
+-- one turn, in which the hall was looked at and left as it was: that was told of its world, in which the client joined
+pub record LooksAt (old : ClientView) (Told : System → Type 0) (new : ClientView) : Type 0 where
+  pub hall : Hall
+  pub replay : IsReplay hall
+  pub sound : IsSound hall.world
+  pub others : OthersAdd old.client old.rows hall.world.history.rows
+  pub joined : HasJoined hall.world old.client
+  pub told : Told hall.world
+  pub is : new ≡ record { client = old.client; rows = hall.world.history.rows; is_stopped = is_stopped (phase_at hall.world old.client) }
+
+-- a client that joined stands so in the world: in this phase, having counted those replicas in it
+abbrev pub StandsIn : ℕ → Phase → Replicas → System → Type 0
+StandsIn client phase counted s = (state : Client) → finite.get s.members.clients client ≡ Some state → (phase ≡ phase_of state) × (counted ≡ counted_by state)
 
 -- no call of the client stands in the rows
 abbrev pub HasNoCall : ℕ → List Row → Type 0

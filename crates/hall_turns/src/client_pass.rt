@@ -8,7 +8,7 @@ ghost use Rattle.world_steps.specs.Refusals.{refusal_of};
 ghost use Rattle.world_steps.specs.declared.effect.Effect.TheVariants as effect;
 ghost use Rattle.world_steps.specs.declared.step.Step.TheVariants as event;
 ghost use Rattle.hall_journal.specs.Halls.{Takes, with_step};
-ghost use Rattle.hall_turns.specs.Turns.{AddsRow, AreRecorded, IsQuiet, IsReady, AddsNoRow, MayTake, TakesReply, TakesTurn, seat};
+ghost use Rattle.hall_turns.specs.Turns.{AddsRow, AreRecorded, IsQuiet, IsReady, AddsNoRow, LooksAt, MayTake, StandsIn, TakesReply, TakesTurn, seat};
 
 use crate::door::{Door, known};
 use client_phases::{Phase, Taken};
@@ -127,6 +127,8 @@ impl ClientPass {
     /// One turn: where the client stands. Once it was seen stopped it stands stopped.
     pub fn standing(&mut self, rt: &impl Wait) -> Standing
         ensures looked { AddsNoRow self.old self.new }
+        ensures told { LooksAt self.old
+            (StandsIn self.old.client result.phase result.counted) self.new }
         ensures stopped { self.old.is_stopped ≡ true → result.phase ≡ Phase.Stopped }
         ensures recorded { AreRecorded self.new.rows }
     {
@@ -300,7 +302,8 @@ fn answer_in(world: &World, client: ClientId) -> Result<Option<(OpId, Returned)>
 
 /// Where the client stands.
 fn standing_in(world: &World, client: ClientId) -> Standing
-    ensures { HasStopped world.now client → result.phase ≡ Phase.Stopped }
+    ensures stands { StandsIn client result.phase result.counted world.now }
+    ensures stopped { HasStopped world.now client → result.phase ≡ Phase.Stopped }
 {
     match world.client(client) {
         Some(state) => Standing {

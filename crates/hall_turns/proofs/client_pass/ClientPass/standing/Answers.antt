@@ -1,7 +1,8 @@
 use Rattle.std.proofs.Common.{refl, sym, subst}
 use Rattle.world_steps.specs.Lasting.{HasStopped}
-use Rattle.hall_turns.proofs.ClientTurns.{client_turn, left, same_returns, seat_recorded}
+use Rattle.hall_turns.proofs.ClientTurns.{client_turn, left, looks_at, same_returns, seat_recorded}
 use Rattle.hall_turns.proofs.Stopping.{found_stopped}
+use Rattle.hall_turns.specs.Turns.{StandsIn}
 use Rattle.hall_turns.proofs.Turning.{recorded}
 use Rattle.hall_turns.proofs.client_pass.ClientPass.standing.Goals as goal
 
@@ -24,4 +25,9 @@ returns-clause-looked g c = rw (← c.self.view_is)
 
 pub returns-clause-stopped : goal.returns-clause-stopped
 returns-clause-stopped g c = rw (← c.self.view_is)
-    (λ stopped. c.standing_in-standing.ensures (subst (λ s. HasStopped s c.self.inside.client) (sym c.world.ensures.world) (found_stopped c.self.inside.client c.self.inside.door c.receive-hall.new.self c.receive-hall.result c.self.invariant.0 c.receive-hall.ensures stopped)))
+    (λ stopped. c.standing_in-standing.ensures.stopped (subst (λ s. HasStopped s c.self.inside.client) (sym c.world.ensures.world) (found_stopped c.self.inside.client c.self.inside.door c.receive-hall.new.self c.receive-hall.result c.self.invariant.0 c.receive-hall.ensures stopped)))
+
+pub returns-clause-told : goal.returns-clause-told
+returns-clause-told g c = rw (← c.self.view_is)
+    (looks_at c.self.inside.client c.self.inside.door c.receive-hall.new.self c.give_back.new.self c.receive-hall.result _ c.self.invariant.0 c.receive-hall.ensures c.give_back.ensures c.known.ensures.replay c.known.ensures.sound
+        (subst (StandsIn c.self.inside.client c.standing_in-standing.result.phase c.standing_in-standing.result.counted) c.world.ensures.world c.standing_in-standing.ensures.stands))
