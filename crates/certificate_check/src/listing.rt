@@ -19,6 +19,18 @@ fn find(calls: &[Call], op: OpId) -> Option<usize>
     calls.binary_search_by_key(&op.0, |call| call.op.0).ok()
 }
 
+/// The same, where one index is looked at before the others.
+fn find_near(calls: &[Call], near: usize, op: OpId) -> Option<usize>
+    requires { IsSequence calls.now }
+    ensures found { IfSome result (λ k. HasOpAt calls.now k op) }
+    ensures none { IfNone result ((call : Call) → Contains calls.now call → call.op ≡ op → ⊥) }
+{
+    match calls.get(near) {
+        Some(call) if call.op == op => Some(near),
+        _ => find(calls, op),
+    }
+}
+
 /// An order, and beside each place the index of its call.
 #[derive(Drop)]
 pub struct Listing<'a> {
@@ -48,9 +60,14 @@ impl<'a> Listing<'a> {
             (λ i. IsLeast (IsUnknown calls.now order.now) i)) }
     {
         let mut indexes = Vec::with_capacity(alloc, order.len())?;
+        // Most orders take a key's calls nearly as they were invoked.
+        let mut next = 0;
         for (i, op) in order.iter().enumerate() {
-            match find(calls, *op) {
-                Some(index) => indexes.push(index)?,
+            match find_near(calls, next, *op) {
+                Some(index) => {
+                    indexes.push(index)?;
+                    next = index.wrapping_add(1);
+                }
                 None => return Ok(Err(i)),
             }
         }

@@ -30,4 +30,4 @@ returns-clause-stopped g c = rw (← c.self.view_is)
 pub returns-clause-told : goal.returns-clause-told
 returns-clause-told g c = rw (← c.self.view_is)
     (looks_at c.self.inside.client c.self.inside.door c.receive-hall.new.self c.give_back.new.self c.receive-hall.result _ c.self.invariant.0 c.receive-hall.ensures c.give_back.ensures c.known.ensures.replay c.known.ensures.sound
-        (subst (StandsIn c.self.inside.client c.standing_in-standing.result.phase c.standing_in-standing.result.counted) c.world.ensures.world c.standing_in-standing.ensures.stands))
+    (subst (StandsIn c.self.inside.client c.standing_in-standing.result.phase c.standing_in-standing.result.counted) c.world.ensures.world c.standing_in-standing.ensures.stands))
