@@ -10,8 +10,8 @@ use crate::fault::Stop;
 use crate::file_header::FileHeader;
 use crate::header::header_in;
 use crate::line_item::LineItem;
+use crate::line_tools::LineTools;
 use crate::quorum_header::file_header_in;
-use crate::seen::SeenTexts;
 use counted_devices::first_end;
 use json::Scratch;
 use std::alloc::Global;
@@ -34,9 +34,7 @@ pub enum Judgement<T> {
 fn item_on<T: LineItem>(
     alloc: Global,
     header: T::Header,
-    scratch: &mut Scratch,
-    text: &mut Vec<u8>,
-    seen: &mut SeenTexts,
+    tools: &mut LineTools,
     line: &[u8],
 ) -> Result<T, Stop>
     ensures { ShowsBy (T.meaning header) line.now result }
@@ -44,10 +42,10 @@ fn item_on<T: LineItem>(
     if line.len() > LONGEST {
         return Err(Stop::Fault(LineFault::TooLong));
     }
-    if let Some(item) = T::written_on(alloc, header, text, seen, line)? {
+    if let Some(item) = T::written_on(alloc, header, tools, line)? {
         return Ok(item);
     }
-    let document = Document::read(alloc, line, scratch)?;
+    let document = Document::read(alloc, line, &mut tools.scratch)?;
     T::item_in(alloc, header, &document)
 }
 
@@ -55,38 +53,35 @@ fn item_on<T: LineItem>(
 fn judge<T: LineItem>(
     alloc: Global,
     header: T::Header,
-    scratch: &mut Scratch,
-    text: &mut Vec<u8>,
-    seen: &mut SeenTexts,
+    tools: &mut LineTools,
     line: &[u8],
 ) -> Result<Judgement<T>, Memory>
     ensures { IfOk result (ShowsItem (T.meaning header) line.now) }
 {
-    match item_on::<T>(alloc, header, scratch, text, seen, line) {
+    match item_on::<T>(alloc, header, tools, line) {
         Ok(item) => Ok(Judgement::Item(item)),
         Err(Stop::Fault(fault)) => Ok(Judgement::Fault(fault)),
         Err(Stop::Memory) => Err(Memory),
     }
 }
 
-/// What the lines of a chunk, the last of them without its end, show behind that header.
+/// What the lines of a chunk, the last of them without its end, show behind that header. What is kept
+/// from them in `tools` serves later chunks.
 pub fn judge_chunk<T: LineItem>(
     alloc: Global,
     header: T::Header,
-    scratch: &mut Scratch,
+    tools: &mut LineTools,
     chunk: &[u8],
 ) -> Result<Vec<Judgement<T>>, Memory>
     ensures { IfOk result (λ run. ShowChunks (T.meaning header) (chunk.now ∷ []) run.items) }
 {
     let mut run = Vec::with_capacity(alloc, chunk.len() / USUAL)?;
-    let mut text = Vec::new(alloc);
-    let mut seen = SeenTexts::new(alloc)?;
     let mut rest = chunk;
     while let Some(end) = first_end(rest) {
-        run.push(judge::<T>(alloc, header, scratch, &mut text, &mut seen, &rest[..end])?)?;
+        run.push(judge::<T>(alloc, header, tools, &rest[..end])?)?;
         rest = &rest[end + 1..];
     }
-    run.push(judge::<T>(alloc, header, scratch, &mut text, &mut seen, rest)?)?;
+    run.push(judge::<T>(alloc, header, tools, rest)?)?;
     Ok(run)
 }
 

@@ -15,9 +15,9 @@ use crate::document::Document;
 use crate::fault::Stop;
 use crate::file_header::FileHeader;
 use crate::hall_row::{HallRow, hall_row_in};
+use crate::line_tools::LineTools;
 use crate::order_lines::piece_in;
 use crate::rows::row_in;
-use crate::seen::SeenTexts;
 use recorder::{KeyOrder, Row};
 use std::alloc::Global;
 use tag::Memory;
@@ -29,13 +29,12 @@ pub trait LineItem: Drop + Sized {
 
     ghost meaning: { Self.Header → Data → Result Self LineFault };
 
-    /// The item that the line, without its end, is written for behind that header, where `text` is
-    /// lent room for a line, and `seen` texts to share. `None` says nothing; `Memory` comes only where a growth was refused.
+    /// The item that the line, without its end, is written for behind that header. `None` says
+    /// nothing; `Memory` comes only where a growth was refused.
     fn written_on(
         alloc: Global,
         header: Self::Header,
-        text: &mut Vec<u8>,
-        seen: &mut SeenTexts,
+        tools: &mut LineTools,
         line: &[u8],
     ) -> Result<Option<Self>, Memory>
         ensures { IfOk result (λ found. IfSome found
@@ -55,11 +54,10 @@ impl LineItem for Row {
     fn written_on(
         alloc: Global,
         _header: (),
-        _text: &mut Vec<u8>,
-        seen: &mut SeenTexts,
+        tools: &mut LineTools,
         line: &[u8],
     ) -> Result<Option<Row>, Memory> {
-        written_row(alloc, seen, line)
+        written_row(alloc, &mut tools.seen, line)
     }
 
     fn item_in(alloc: Global, _header: (), document: &Document<'_>) -> Result<Row, Stop> {
@@ -75,11 +73,10 @@ impl LineItem for HallRow {
     fn written_on(
         alloc: Global,
         header: FileHeader,
-        _text: &mut Vec<u8>,
-        seen: &mut SeenTexts,
+        tools: &mut LineTools,
         line: &[u8],
     ) -> Result<Option<HallRow>, Memory> {
-        written_hall_row(alloc, header, seen, line)
+        written_hall_row(alloc, header, &mut tools.seen, line)
     }
 
     fn item_in(
@@ -99,11 +96,10 @@ impl LineItem for KeyOrder {
     fn written_on(
         alloc: Global,
         _header: (),
-        text: &mut Vec<u8>,
-        seen: &mut SeenTexts,
+        tools: &mut LineTools,
         line: &[u8],
     ) -> Result<Option<KeyOrder>, Memory> {
-        written_piece(alloc, text, seen, line)
+        written_piece(alloc, &mut tools.text, &mut tools.seen, line)
     }
 
     fn item_in(alloc: Global, _header: (), document: &Document<'_>) -> Result<KeyOrder, Stop> {

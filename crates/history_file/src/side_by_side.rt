@@ -4,8 +4,7 @@ ghost use Rattle.std.specs.Thread.{IsSync};
 ghost use Rattle.file_format.specs.Lines.{ShowChunks};
 
 use crate::judgements::Judgements;
-use file_format::{Judgement, LineItem, judge_chunk};
-use json::Scratch;
+use file_format::{Judgement, LineItem, LineTools, judge_chunk};
 use rayon::prelude::*;
 use std::alloc::Global;
 use std::thread::Threads;
@@ -28,13 +27,13 @@ where
         .par_iter()
         .with_min_len(1)
         .map_init(
-            || Box::new(alloc, Scratch::new(alloc)).ok(),
-            |scratch: &mut Option<Box<Scratch>>, chunk: &&[u8]| -> Result<Vec<Judgement<T>>, Memory>
+            || LineTools::new(alloc).ok(),
+            |tools: &mut Option<LineTools>, chunk: &&[u8]| -> Result<Vec<Judgement<T>>, Memory>
                 ensures { IfOk result (λ run. ShowChunks (T.meaning header)
                     (chunk.now.now ∷ []) run.items) }
             {
-                match scratch {
-                    Some(scratch) => judge_chunk::<T>(alloc, header, scratch, chunk),
+                match tools {
+                    Some(tools) => judge_chunk::<T>(alloc, header, tools, chunk),
                     None => Err(Memory),
                 }
             },
