@@ -17,11 +17,16 @@ use std::thread::Threads;
 use std::{env, fs};
 use store_run::{NoWatch, Watch, run_command};
 
+/// Says the failure on standard error. Its status.
+fn fail(rt: &HostRuntime, failure: Failure<'_>) -> Status {
+    failure.report(&mut Counting::new(rt.stderr()))
+}
+
 /// Shows the help or the version that was asked for.
 fn show(rt: &HostRuntime, text: &str) -> Status {
     match rt.print(text) {
         Ok(()) => Status::Good,
-        Err(_) => Failure::Output.report(&mut rt.stderr()),
+        Err(_) => fail(rt, Failure::Output),
     }
 }
 
@@ -33,7 +38,7 @@ fn refuse(rt: &HostRuntime, usage: Usage) -> Status {
             let _ = rt.eprint(text.as_str());
             Status::Usage
         }
-        Usage::Memory => Failure::Memory.report(&mut rt.stderr()),
+        Usage::Memory => fail(rt, Failure::Memory),
     }
 }
 
@@ -45,7 +50,7 @@ fn check(
     orders: &str,
     workers: Workers,
 ) -> Status {
-    let mut errors = rt.stderr();
+    let mut errors = Counting::new(rt.stderr());
     let Ok(history_file) = fs::open(rt, history) else {
         return Failure::Closed { name: history }.report(&mut errors);
     };
@@ -94,7 +99,7 @@ where
     R: Threads + Wait + Copy + Send + Sync + 'static,
     L: Watch + Send + Sync + Drop + 'static,
 {
-    let mut errors = rt.stderr();
+    let mut errors = Counting::new(rt.stderr());
     let mut out = Counting::new(rt.stdout());
     run_command(threads, rt.alloc(), asked, watch, &mut out, &mut errors)
 }
@@ -140,7 +145,7 @@ where
     let words = match env::args(rt) {
         Ok(words) => words,
         Err(error) if error.kind() == ErrorKind::OutOfMemory => {
-            return Failure::Memory.report(&mut rt.stderr());
+            return fail(rt, Failure::Memory);
         }
         Err(_) => {
             let _ = rt.eprintln("abd: the arguments aren't text; see abd --help");
@@ -149,7 +154,7 @@ where
     };
     let words: Vec<String> = match words.collect(rt.alloc()) {
         Ok(words) => words,
-        Err(_) => return Failure::Memory.report(&mut rt.stderr()),
+        Err(_) => return fail(rt, Failure::Memory),
     };
     match command(rt.alloc(), words.as_slice()) {
         Ok(asked) => obey(rt, threads, &asked),

@@ -2,12 +2,14 @@ mod CommandNames
 mod DeviceFailures
 pub mod EachKey
 pub mod Entries
+mod FailureSpelling
 pub mod HallParts
 mod HaltLemmas
 pub mod HistoryEndings
 pub mod CheckedKeys
 mod LineSpelling
 pub mod Told
+mod ToldEndings
 pub mod Unmade
 pub mod Noted
 pub mod Prefixes

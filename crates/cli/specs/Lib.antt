@@ -1,9 +1,11 @@
 pub mod Checks
+pub mod FailureLines
 pub mod Halts
 pub mod VerdictStatuses
 pub mod Justifications
 pub mod Passages
 pub mod SimulationEndings
 pub mod Statuses
+pub mod ToldFailures
 pub mod VerdictLines
 pub mod Words

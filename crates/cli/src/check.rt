@@ -1,12 +1,13 @@
 //! `abd check`: the verdict on each key's order.
 ghost use Rattle.std.specs.Prelude.{◌≡◌, ◌⊎◌, IfOk, IfErr};
 ghost use Rattle.counted_devices.specs.Counts.{IsOneMore};
-ghost use Rattle.counted_devices.specs.ReadFaults.{FailsFrom};
 ghost use Rattle.history_file.specs.Deliveries.{ReadsFrom};
 ghost use Rattle.file_format.specs.HistoriesFormat.{histories_format, MakesHistories};
 ghost use Rattle.file_format.specs.OrderFormat.{order_format, MakesJoined};
-ghost use Rattle.cli.specs.Checks.{Ends, Stops, TellsFault};
+ghost use Rattle.cli.specs.Checks.{Ends, Stops};
+ghost use Rattle.cli.specs.Passages.{file_states, states};
 ghost use Rattle.cli.specs.Statuses.{status_of};
+ghost use Rattle.cli.specs.ToldFailures.{IsFaultOf, IsOfCheck, TellsEnd};
 
 use crate::check_keys::{Halt, check_keys};
 use crate::status::{Failure, Status};
@@ -15,7 +16,6 @@ use history_file::{read_histories, read_orders};
 use parallel_keys::Workers;
 use recorder::{Histories, KeyOrder};
 use std::alloc::Global;
-use std::io::Write;
 use std::sync::Wait;
 use std::thread::Threads;
 
@@ -46,8 +46,8 @@ pub(crate) fn histories_in<'a, R: CountedRead>(
         R.remaining source.old.reader source.new.reader) }
     ensures fault { IfErr result (λ failure. Stops histories_format (R.remaining source.old.reader)
         (R.remaining source.new.reader) (status_of failure)) }
-    ensures told { IfErr result (λ failure. TellsFault source.old.name.now
-        (FailsFrom R.failures source.old.reader source.new.reader) failure) }
+    ensures told { IfErr result (IsFaultOf histories_format
+        (file_states R.remaining R.failures source.old source.new)) }
 {
     match read_histories(rt, alloc, &mut source.reader) {
         Ok(histories) => Ok(histories),
@@ -68,8 +68,8 @@ fn orders_in<'a, R: CountedRead>(
         R.remaining source.old.reader source.new.reader orders.items) }
     ensures fault { IfErr result (λ failure. Stops order_format (R.remaining source.old.reader)
         (R.remaining source.new.reader) (status_of failure)) }
-    ensures told { IfErr result (λ failure. TellsFault source.old.name.now
-        (FailsFrom R.failures source.old.reader source.new.reader) failure) }
+    ensures told { IfErr result (IsFaultOf order_format
+        (file_states R.remaining R.failures source.old source.new)) }
 {
     match read_orders(rt, alloc, &mut source.reader) {
         Ok(orders) => Ok(orders),
@@ -89,7 +89,7 @@ fn orders_in<'a, R: CountedRead>(
 /// where the history was read whole. A failure is said on `errors`. `Good` where every line says
 /// yes, `Refused` where one says no. The lines and the status are the same for every number of
 /// workers, each of which checks its share of the keys.
-pub fn check_command<'a, H: CountedRead, O: CountedRead, W: CountedWrite, E: Write>(
+pub fn check_command<'a, H: CountedRead, O: CountedRead, W: CountedWrite, E: CountedWrite>(
     rt: &(impl Threads + Wait + Sync),
     alloc: Global,
     history: &mut Source<'a, H>,
@@ -112,6 +112,13 @@ pub fn check_command<'a, H: CountedRead, O: CountedRead, W: CountedWrite, E: Wri
     ensures quiet { result ≡ Status.Format → out.new ≡ out.old }
     ensures failed { result ≡ Status.Failed
         → (out.new ≡ out.old) ⊎ IsOneMore (W.failures out.old) (W.failures out.new) }
+    ensures said { TellsEnd (errors.new ≡ errors.old) (errors.new ≡ errors.old)
+        (IsOfCheck
+        (file_states H.remaining H.failures history.old history.new)
+        (file_states O.remaining O.failures orders.old orders.new)
+        (states W.contents W.failures out.old out.new))
+        (states E.contents E.failures errors.old errors.new)
+        result }
 {
     let histories = match histories_in(rt, alloc, history) {
         Ok(histories) => histories,

@@ -3,7 +3,10 @@ ghost use Rattle.std.specs.Prelude.{◌≡◌, ◌⊎◌, map, IfOk};
 ghost use Rattle.counted_devices.specs.Counts.{IsOneMore};
 ghost use Rattle.file_format.specs.Texts.{orders_text};
 ghost use Rattle.parallel_keys.specs.CheckedKeys.{all_parts};
+ghost use Rattle.cli.specs.FailureLines.{failure_line};
 ghost use Rattle.cli.specs.Justifications.{Justifies, JustifiesParts, JustifiesHalls, Refuses, SendsOrders};
+ghost use Rattle.cli.specs.Passages.{Tells, file_states, states};
+ghost use Rattle.cli.specs.ToldFailures.{IsOfJustification, IsOfOutput, TellsEnd};
 
 use crate::check::{Source, histories_in};
 use crate::noted_orders::{Unjustified, checked_orders};
@@ -40,6 +43,10 @@ fn send_orders<W: CountedWrite, E: CountedWrite>(
         result }
     ensures failed { result ≡ Status.Failed
         → (out.new ≡ out.old) ⊎ IsOneMore (W.failures out.old) (W.failures out.new) }
+    ensures said { TellsEnd (errors.new ≡ errors.old) (Unit {0})
+        (IsOfOutput (states W.contents W.failures out.old out.new))
+        (states E.contents E.failures errors.old errors.new)
+        result }
 {
     let Ok(text) = order_file(alloc, orders) else {
         return Failure::Memory.report(errors);
@@ -52,7 +59,7 @@ fn send_orders<W: CountedWrite, E: CountedWrite>(
 
 /// Says why a key has no order. What `errors` refuses is lost.
 fn refuse<E: CountedWrite>(alloc: Global, refusal: Unjustified<'_>, errors: &mut E) -> Status
-    ensures { Refuses refusal.entry
+    ensures refuses { Refuses refusal.entry
         (record {
           old = E.contents errors.old;
           new = E.contents errors.new;
@@ -60,6 +67,8 @@ fn refuse<E: CountedWrite>(alloc: Global, refusal: Unjustified<'_>, errors: &mut
           failures_now = E.failures errors.new;
         })
         result }
+    ensures memory { result ≡ Status.Failed
+        → Tells (states E.contents E.failures errors.old errors.new) (failure_line Failure.Memory) }
 {
     let mut text = Vec::new(alloc);
     if refusal.append_to(&mut text).is_err() {
@@ -88,6 +97,10 @@ fn justify_parts<W: CountedWrite, E: CountedWrite>(
     ensures refused { result ≡ Status.Refused → out.new ≡ out.old }
     ensures failed { result ≡ Status.Failed
         → (out.new ≡ out.old) ⊎ IsOneMore (W.failures out.old) (W.failures out.new) }
+    ensures said { TellsEnd (errors.new ≡ errors.old) (Unit {0})
+        (IsOfOutput (states W.contents W.failures out.old out.new))
+        (states E.contents E.failures errors.old errors.new)
+        result }
 {
     match checked_orders(alloc, parts) {
         Ok(orders) => send_orders(alloc, orders.as_slice(), out, errors),
@@ -114,6 +127,10 @@ fn justify_histories<W: CountedWrite, E: CountedWrite>(
     ensures refused { result ≡ Status.Refused → out.new ≡ out.old }
     ensures failed { result ≡ Status.Failed
         → (out.new ≡ out.old) ⊎ IsOneMore (W.failures out.old) (W.failures out.new) }
+    ensures said { TellsEnd (errors.new ≡ errors.old) (Unit {0})
+        (IsOfOutput (states W.contents W.failures out.old out.new))
+        (states E.contents E.failures errors.old errors.new)
+        result }
 {
     match hall_parts(alloc, histories.halls()) {
         Ok(parts) => justify_parts(alloc, parts.as_slice(), out, errors),
@@ -148,6 +165,12 @@ pub fn justify_command<'a, H: CountedRead, W: CountedWrite, E: CountedWrite>(
     ensures faulty { result ≡ Status.Format → out.new ≡ out.old }
     ensures failed { result ≡ Status.Failed
         → (out.new ≡ out.old) ⊎ IsOneMore (W.failures out.old) (W.failures out.new) }
+    ensures said { TellsEnd (errors.new ≡ errors.old) (Unit {0})
+        (IsOfJustification
+        (file_states H.remaining H.failures history.old history.new)
+        (states W.contents W.failures out.old out.new))
+        (states E.contents E.failures errors.old errors.new)
+        result }
 {
     match histories_in(rt, alloc, history) {
         Ok(histories) => justify_histories(alloc, &histories, out, errors),

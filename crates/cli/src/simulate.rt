@@ -1,6 +1,8 @@
 //! `abd simulate`: the history of a script's run.
 ghost use Rattle.std.specs.Prelude.{◌≡◌};
+ghost use Rattle.cli.specs.Passages.{file_states, states};
 ghost use Rattle.cli.specs.SimulationEndings.{EndsSimulation};
+ghost use Rattle.cli.specs.ToldFailures.{TellsSimulation};
 
 use crate::check::Source;
 use crate::status::{Failure, Status};
@@ -31,6 +33,11 @@ pub fn simulate_command<'a, S: CountedRead, W: CountedWrite, E: CountedWrite>(
         (record { old = E.contents errors.old; new = E.contents errors.new })
         result }
     ensures faulty { result ≡ Status.Format → out.new ≡ out.old }
+    ensures said { TellsSimulation
+        (file_states S.remaining S.failures script.old script.new)
+        (states W.contents W.failures out.old out.new)
+        (states E.contents E.failures errors.old errors.new)
+        result }
 {
     match simulate(alloc, &mut script.reader, out, errors) {
         Ok(()) => Status::Good,

@@ -1,11 +1,14 @@
 //! How a command ends: its exit status, and what it says of a failure.
-ghost use Rattle.std.specs.Prelude.{◌≡◌};
+ghost use Rattle.std.specs.Prelude.{◌≡◌, ◌++◌, codes};
+ghost use Rattle.counted_devices.specs.Sendings.{joined};
+ghost use Rattle.cli.specs.FailureLines.{failure_line, fault_line};
+ghost use Rattle.cli.specs.Passages.{Tells, states};
 ghost use Rattle.cli.specs.Statuses.{code_of, status_of, status_of_kind};
 
-use counted_devices::FaultKind;
+use counted_devices::{CountedWrite, FaultKind, FaultNumbers, ReadFault, write_pieces};
 use fault_script::ScriptError;
 use file_format::FileFault;
-use std::io::Write;
+use itoa::Buffer;
 use thiserror::Error;
 
 /// How a command ended.
@@ -65,6 +68,57 @@ fn kind_status<L: Copy>(kind: FaultKind<L>) -> Status
     }
 }
 
+/// Says the text that is given in these pieces. What the writer refuses is lost, as there is nowhere
+/// else to say it.
+fn say<E: CountedWrite>(pieces: &[&str], errors: &mut E)
+    ensures { Tells (states E.contents E.failures errors.old errors.new) (joined pieces.now) }
+{
+    let _ = write_pieces(pieces, errors);
+}
+
+/// Says at which line the reading of the file of that name ended, and with what fault, one line.
+fn say_at<'a, E: CountedWrite>(
+    name: &'a str,
+    line: &'a str,
+    title: &'a str,
+    number: &'a str,
+    text: &'a str,
+    errors: &mut E,
+)
+    ensures { Tells (states E.contents E.failures errors.old errors.new)
+        (codes "abd: " ++ name.now ++ codes ": line " ++ line.now ++ codes ": " ++ title.now
+        ++ codes " " ++ number.now ++ codes " " ++ text.now ++ codes "\n") }
+{
+    let pieces = [
+        "abd: ", name, ": line ", line, ": ", title, " ", number, " ", text, "\n",
+    ];
+    say(&pieces, errors);
+}
+
+/// Says with what fault the reading of the file of that name ended, one line.
+fn say_fault<L: FaultNumbers, E: CountedWrite>(name: &str, fault: ReadFault<L>, errors: &mut E)
+    ensures { Tells (states E.contents E.failures errors.old errors.new)
+        (fault_line
+        (record {
+          number = L.number;
+          text = L.text;
+          title = L.title;
+          device = L.DEVICE;
+          memory = L.MEMORY;
+        })
+        name.now fault) }
+{
+    let (mut line, mut number) = (Buffer::new(), Buffer::new());
+    say_at(
+        name,
+        line.format(fault.line),
+        L::title(),
+        number.format(fault.kind.number()),
+        fault.kind.text(),
+        errors,
+    );
+}
+
 impl Failure<'_> {
     /// The status that the program ends with.
     pub fn status(self) -> Status
@@ -78,12 +132,21 @@ impl Failure<'_> {
         }
     }
 
-    /// Says it on the writer, one line, and answers its status. What the writer refuses is lost,
-    /// as there is nowhere else to say it.
-    pub fn report<E: Write>(self, errors: &mut E) -> Status
-        ensures { result ≡ status_of self.entry }
+    /// Says it on the writer, one line, and answers its status. What the writer refuses is lost, as
+    /// there is nowhere else to say it. It takes no memory.
+    pub fn report<E: CountedWrite>(self, errors: &mut E) -> Status
+        ensures status { result ≡ status_of self.entry }
+        ensures told { Tells (states E.contents E.failures errors.old errors.new)
+            (failure_line self.entry) }
     {
-        let _ = writeln!(errors, "abd: {self}");
+        match self {
+            Failure::Closed { name } => say(&["abd: ", name, ": cannot open\n"], errors),
+            Failure::File { name, fault } => say_fault(name, fault, errors),
+            Failure::Script { name, error } => say_fault(name, error, errors),
+            Failure::Output => say(&["abd: output failed\n"], errors),
+            Failure::Memory => say(&["abd: no memory\n"], errors),
+            Failure::Thread => say(&["abd: no thread\n"], errors),
+        }
         self.status()
     }
 }

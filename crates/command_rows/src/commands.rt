@@ -104,7 +104,7 @@ fn checked(rt: &(impl Threads + Wait + Sync), alloc: Global, input: Input<'_>, w
     let mut history = Source::new("h", Counting::new(history));
     let mut orders = Source::new("o", Counting::new(orders));
     let mut out = Counting::new(Bounded::new(alloc, way.out));
-    let mut errors = Bounded::new(alloc, way.errors);
+    let mut errors = Counting::new(Bounded::new(alloc, way.errors));
     let status = check_command(
         rt,
         alloc,
@@ -117,7 +117,7 @@ fn checked(rt: &(impl Threads + Wait + Sync), alloc: Global, input: Input<'_>, w
     Said {
         status,
         out: out.into_inner().taken,
-        errors: errors.taken,
+        errors: errors.into_inner().taken,
     }
 }
 
@@ -256,6 +256,10 @@ fn rooms(
     input: Input<'_>,
 ) -> Result<String, AllocError> {
     let whole = run(rt, alloc, asked.kind(), input, WELL);
+    // With ample room only a growth that is refused stands in the way.
+    if whole.status == Status::Failed {
+        return Err(AllocError);
+    }
     let messages = asked.has("each-messages");
     let most = if messages {
         whole.errors.len()

@@ -1,4 +1,5 @@
 pub mod Numbers
+pub mod FaultTexts
 pub mod Cuts
 pub mod Counts
 pub mod Devices

@@ -1,5 +1,7 @@
 -- What went out to a writer, and what waits behind it.
 use Rattle.std.specs.Prelude.{ℕ, ◌≡◌, List, ◌++◌, Option}
+use Rattle.std.specs.Borrow.{Bor}
+use Rattle.std.specs.List.{flat_map}
 use Rattle.std.specs.Io.KnownBytes.{Appends}
 use Rattle.counted_devices.specs.declared.write_fault.WriteFault.{WriteFault}
 use Rattle.counted_devices.specs.declared.write_fault.WriteFault.TheVariants as fault
@@ -39,3 +41,7 @@ FailsBy failures old new fault = HasFailedBy fault (failures old) (failures new)
 -- the fault is the device's, and the writer's count of failures grew
 abbrev pub FailsByDevice : {W : Type 0} → (W → ℕ) → W → W → WriteFault → Type 0
 FailsByDevice failures old new why = (why ≡ fault.Device) × IsOneMore (failures old) (failures new)
+
+-- the text that is given in these pieces
+abbrev pub joined : List (Bor (List ℕ)) → List ℕ
+joined pieces = flat_map (λ piece. piece.now) pieces

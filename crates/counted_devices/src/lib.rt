@@ -15,5 +15,5 @@ pub use count_failures::Counting;
 pub use device_traits::{Counted, CountedRead, CountedWrite};
 pub use lines::{Cut, cut_chunks, first_end};
 pub use read_fault::{FaultKind, FaultNumbers, ReadFault, Stop};
-pub use sending::{relieve, write_text};
+pub use sending::{relieve, write_pieces, write_text};
 pub use write_fault::WriteFault;

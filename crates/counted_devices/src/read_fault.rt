@@ -1,5 +1,6 @@
 //! Faults of reading.
-ghost use Rattle.std.specs.Prelude.{ℕ, ◌≡◌};
+ghost use Rattle.std.specs.Prelude.{ℕ, ◌≡◌, List};
+ghost use Rattle.counted_devices.specs.FaultTexts.{kind_text};
 ghost use Rattle.counted_devices.specs.Numbers.{fault_number};
 ghost use Rattle.counted_devices.specs.ReadFaults.{kind_of};
 
@@ -11,12 +12,13 @@ use thiserror::Error;
 pub trait FaultNumbers: Copy + Display {
     ghost number: { Self → ℕ };
 
+    ghost text: { Self → List ℕ };
+
+    ghost title: { List ℕ };
+
     ghost DEVICE: { ℕ };
 
     ghost MEMORY: { ℕ };
-
-    /// What a fault is called where it is printed, as "fault".
-    const TITLE: &'static str;
 
     /// The number of a reader's failure.
     const DEVICE: u8;
@@ -27,6 +29,14 @@ pub trait FaultNumbers: Copy + Display {
     /// The number of a line's fault.
     fn number(self) -> u8
         ensures { result ≡ number self };
+
+    /// What a fault is called where it is printed, as "fault".
+    fn title() -> &'static str
+        ensures { result.now ≡ title };
+
+    /// What a line's fault is called where it is printed, behind its number.
+    fn text(self) -> &'static str
+        ensures { result.now ≡ text self };
 }
 
 /// What is wrong with what was read, or with its reading.
@@ -47,7 +57,7 @@ pub enum FaultKind<L> {
 /// What is wrong with what was read, and the number of the line, from 1, that has the fault or was
 /// under way when it came.
 #[derive(Clone, Copy, Debug, PartialEq, Eq, Error)]
-#[error("line {line}: {} {} {kind}", L::TITLE, .kind.number())]
+#[error("line {line}: {} {} {kind}", L::title(), .kind.number())]
 #[error_bound(L: FaultNumbers)]
 pub struct ReadFault<L> {
     pub line: u64,
@@ -70,6 +80,17 @@ impl<L: FaultNumbers> FaultKind<L> {
             FaultKind::Line(fault) => fault.number(),
             FaultKind::Device => L::DEVICE,
             FaultKind::Memory => L::MEMORY,
+        }
+    }
+
+    /// What the fault is called: the text of the line's fault, or `device` or `memory`.
+    pub fn text(self) -> &'static str
+        ensures { result.now ≡ kind_text L.text self }
+    {
+        match self {
+            FaultKind::Line(fault) => fault.text(),
+            FaultKind::Device => "device",
+            FaultKind::Memory => "memory",
         }
     }
 }

@@ -1,6 +1,6 @@
 //! Texts on their way to a writer.
 ghost use Rattle.std.specs.Prelude.{◌≡◌, [], OnOk, OnErr, IfErr};
-ghost use Rattle.counted_devices.specs.Sendings.{FailsBy, FailsByDevice, Sends, SendsBut, SendsStart};
+ghost use Rattle.counted_devices.specs.Sendings.{FailsBy, FailsByDevice, Sends, SendsBut, SendsStart, joined};
 
 use crate::{CountedWrite, WriteFault};
 
@@ -55,4 +55,23 @@ pub fn write_text<W: CountedWrite>(text: &[u8], writer: &mut W) -> Result<(), Wr
         Ok(()) => Ok(()),
         Err(_) => Err(WriteFault::Device),
     }
+}
+
+/// Writes a text that is given in pieces, one after another, all of it, and passes it on. It takes no
+/// memory.
+///
+/// What went out is the text or, after a fault, a beginning of it. `Memory` doesn't come.
+pub fn write_pieces<W: CountedWrite>(pieces: &[&str], writer: &mut W) -> Result<(), WriteFault>
+    ensures written { OnOk result (Sends W.contents writer.old writer.new (joined pieces.now)) }
+    ensures begun { OnErr result (SendsStart W.contents writer.old writer.new (joined pieces.now)) }
+    ensures device { IfErr result (FailsByDevice W.failures writer.old writer.new) }
+    ensures counted { OnOk result (W.failures writer.new ≡ W.failures writer.old) }
+{
+    for piece in pieces {
+        write_all(writer, piece.as_bytes())?;
+    }
+    if writer.flush_counted().is_err() {
+        return Err(WriteFault::Device);
+    }
+    Ok(())
 }

@@ -1,6 +1,6 @@
 //! Faults of scripts.
-ghost use Rattle.std.specs.Prelude.{◌≡◌};
-ghost use Rattle.fault_script.specs.Numbers.{line_fault_number};
+ghost use Rattle.std.specs.Prelude.{◌≡◌, codes};
+ghost use Rattle.fault_script.specs.Numbers.{line_fault_number, line_fault_text};
 
 use counted_devices::{FaultKind, FaultNumbers, ReadFault};
 use thiserror::Error;
@@ -54,16 +54,32 @@ impl LineFault {
             LineFault::TooManyCommands => 6,
         }
     }
+
+    /// The fault's text, as programs print it.
+    pub fn text(self) -> &'static str
+        ensures { result.now ≡ line_fault_text self }
+    {
+        match self {
+            LineFault::NotUtf8 => "not UTF-8",
+            LineFault::NoReplicas => "no replicas",
+            LineFault::UnknownCommand => "unknown command",
+            LineFault::Range => "range",
+            LineFault::TooLong => "line too long",
+            LineFault::TooManyCommands => "too many commands",
+        }
+    }
 }
 
 impl FaultNumbers for LineFault {
     ghost number = { line_fault_number };
 
+    ghost text = { line_fault_text };
+
+    ghost title = { codes "script fault" };
+
     ghost DEVICE = { 7 };
 
     ghost MEMORY = { 8 };
-
-    const TITLE: &'static str = "script fault";
 
     const DEVICE: u8 = 7;
 
@@ -71,5 +87,13 @@ impl FaultNumbers for LineFault {
 
     fn number(self) -> u8 {
         LineFault::number(self)
+    }
+
+    fn title() -> &'static str {
+        "script fault"
+    }
+
+    fn text(self) -> &'static str {
+        LineFault::text(self)
     }
 }

@@ -3,6 +3,7 @@ ghost use Rattle.std.specs.Prelude.{◌≡◌, ◌⊎◌, IfErr, IfOk, IsErrOf, 
 ghost use Rattle.counted_devices.specs.ReadFaults.{FailsFrom};
 ghost use Rattle.counted_devices.specs.Sendings.{Sends};
 ghost use Rattle.fault_script.specs.Deliveries.{StopsFrom};
+ghost use Rattle.fault_script.specs.Numbers.{simulate_error_name, simulate_error_number};
 ghost use Rattle.fault_script.specs.Simulations.{AreTextsOf, FailsBehind, FailsFirst, IfScript, SendsBoth, Simulates};
 
 use crate::command::Script;
@@ -26,6 +27,30 @@ pub enum SimulateError {
     /// A writer failed.
     #[error("device")]
     Device,
+}
+
+impl SimulateError {
+    /// Its number as the reasons stand here, 1 to 3.
+    pub fn number(self) -> u8
+        ensures { result ≡ simulate_error_number self }
+    {
+        match self {
+            SimulateError::Script(_) => 1,
+            SimulateError::Memory => 2,
+            SimulateError::Device => 3,
+        }
+    }
+
+    /// Its name, as it stands here.
+    pub fn name(self) -> &'static str
+        ensures { result.now ≡ simulate_error_name self }
+    {
+        match self {
+            SimulateError::Script(_) => "Script",
+            SimulateError::Memory => "Memory",
+            SimulateError::Device => "Device",
+        }
+    }
 }
 
 impl From<Memory> for SimulateError {

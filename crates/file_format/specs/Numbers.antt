@@ -1,5 +1,5 @@
--- The numbers of faults of lines, as programs print them.
-use Rattle.std.specs.Prelude.{ℕ}
+-- The numbers and the texts of faults of lines, as programs print them.
+use Rattle.std.specs.Prelude.{ℕ, List, codes}
 use Rattle.file_format.specs.declared.fault.LineFault.{LineFault}
 use Rattle.file_format.specs.declared.fault.LineFault.TheVariants.{NotJson, NoHeader, Version, Member, Range, CallOutOfTurn, ClientBusy, CallNotPending, WrongKind, NoteTwice, TooLong, TooManyCalls, KeyInAnotherHall}
 
@@ -18,3 +18,19 @@ line_fault_number NoteTwice = 10
 line_fault_number TooLong = 11
 line_fault_number TooManyCalls = 12
 line_fault_number KeyInAnotherHall = 15
+
+-- the text of a line's fault
+abbrev pub line_fault_text : LineFault → List ℕ
+line_fault_text NotJson = codes "not JSON"
+line_fault_text NoHeader = codes "no header"
+line_fault_text Version = codes "version"
+line_fault_text Member = codes "member"
+line_fault_text Range = codes "range"
+line_fault_text CallOutOfTurn = codes "call out of turn"
+line_fault_text ClientBusy = codes "client busy"
+line_fault_text CallNotPending = codes "call not pending"
+line_fault_text WrongKind = codes "response of the wrong kind"
+line_fault_text NoteTwice = codes "note twice"
+line_fault_text TooLong = codes "line too long"
+line_fault_text TooManyCalls = codes "too many calls"
+line_fault_text KeyInAnotherHall = codes "key in another hall"

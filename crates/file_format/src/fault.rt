@@ -1,6 +1,6 @@
 //! Faults of files.
-ghost use Rattle.std.specs.Prelude.{◌≡◌};
-ghost use Rattle.file_format.specs.Numbers.{line_fault_number};
+ghost use Rattle.std.specs.Prelude.{◌≡◌, codes};
+ghost use Rattle.file_format.specs.Numbers.{line_fault_number, line_fault_text};
 
 use counted_devices::{FaultNumbers, ReadFault};
 use thiserror::Error;
@@ -82,16 +82,39 @@ impl LineFault {
             LineFault::KeyInAnotherHall => 15,
         }
     }
+
+    /// The fault's text, as programs print it.
+    pub fn text(self) -> &'static str
+        ensures { result.now ≡ line_fault_text self }
+    {
+        match self {
+            LineFault::NotJson => "not JSON",
+            LineFault::NoHeader => "no header",
+            LineFault::Version => "version",
+            LineFault::Member => "member",
+            LineFault::Range => "range",
+            LineFault::CallOutOfTurn => "call out of turn",
+            LineFault::ClientBusy => "client busy",
+            LineFault::CallNotPending => "call not pending",
+            LineFault::WrongKind => "response of the wrong kind",
+            LineFault::NoteTwice => "note twice",
+            LineFault::TooLong => "line too long",
+            LineFault::TooManyCalls => "too many calls",
+            LineFault::KeyInAnotherHall => "key in another hall",
+        }
+    }
 }
 
 impl FaultNumbers for LineFault {
     ghost number = { line_fault_number };
 
+    ghost text = { line_fault_text };
+
+    ghost title = { codes "fault" };
+
     ghost DEVICE = { 13 };
 
     ghost MEMORY = { 14 };
-
-    const TITLE: &'static str = "fault";
 
     const DEVICE: u8 = 13;
 
@@ -99,5 +122,13 @@ impl FaultNumbers for LineFault {
 
     fn number(self) -> u8 {
         LineFault::number(self)
+    }
+
+    fn title() -> &'static str {
+        "fault"
+    }
+
+    fn text(self) -> &'static str {
+        LineFault::text(self)
     }
 }

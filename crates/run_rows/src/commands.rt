@@ -41,12 +41,12 @@ where
     R: Threads + Wait + Copy + Send + Sync + 'static,
 {
     let mut out = Counting::new(Bounded::new(alloc, room));
-    let mut errors = Bounded::new(alloc, AMPLE);
+    let mut errors = Counting::new(Bounded::new(alloc, AMPLE));
     let status = run_command(rt, alloc, asked, NoWatch, &mut out, &mut errors);
     Said {
         status,
         out: out.into_inner().taken,
-        errors: errors.taken,
+        errors: errors.into_inner().taken,
     }
 }
 
@@ -77,7 +77,7 @@ pub fn checked(
 ) -> Option<Said> {
     let workers = Workers::new(1)?;
     let mut out = Counting::new(Bounded::new(alloc, AMPLE));
-    let mut errors = Bounded::new(alloc, AMPLE);
+    let mut errors = Counting::new(Bounded::new(alloc, AMPLE));
     let (mut history, mut orders) = (file_of(history), file_of(orders));
     let status = check_command(
         rt,
@@ -91,6 +91,6 @@ pub fn checked(
     Some(Said {
         status,
         out: out.into_inner().taken,
-        errors: errors.taken,
+        errors: errors.into_inner().taken,
     })
 }

@@ -16,14 +16,13 @@ use counted_devices::{CountedWrite, write_text};
 use node_threads::ClosedHall;
 use run_words::RunAsked;
 use std::alloc::Global;
-use std::io::Write;
 use std::sync::Wait;
 use std::thread::Threads;
 use store_load::{LoadOutcome, Watch, run_load};
 
 /// Checks the keys of the closed halls, and writes what is shown of their histories.
 #[tactic(auto, using(crate::proofs::Ending::ends_checked))]
-fn finish<R: Threads + Wait, W: CountedWrite, E: Write>(
+fn finish<R: Threads + Wait, W: CountedWrite, E: CountedWrite>(
     rt: &R,
     alloc: Global,
     asked: RunAsked,
@@ -66,7 +65,7 @@ fn finish<R: Threads + Wait, W: CountedWrite, E: Write>(
 /// first key that is refused, a failure. The watch is told of each call that is about to be answered, on
 /// its caller's thread, and of none once any of this is said.
 #[tactic(auto, using(crate::proofs::Ending::ends_closed, crate::proofs::Ending::ends_open))]
-pub fn run_command<R, L, W: CountedWrite, E: Write>(
+pub fn run_command<R, L, W: CountedWrite, E: CountedWrite>(
     rt: &R,
     alloc: Global,
     asked: RunAsked,

@@ -6,13 +6,14 @@ ghost use Rattle.store_run.specs.Runs.{status_of_close, status_of_check};
 use crate::check_record::RefusedKey;
 use crate::shown::NoText;
 use cli::{Failure, Status};
+use counted_devices::CountedWrite;
 use node_threads::CloseError;
 use parallel_keys::CheckError;
 use std::io::Write;
 use store_load::{LoadError, Refused};
 
 /// Says of each caller whose call was refused why, in order of name.
-pub(crate) fn tell_refusals<E: Write>(refusals: &[Refused], errors: &mut E) {
+pub(crate) fn tell_refusals<E: CountedWrite>(refusals: &[Refused], errors: &mut E) {
     for refused in refusals {
         let (caller, error) = (refused.caller.get(), refused.error);
         let (number, name) = (error.number(), error.name());
@@ -21,7 +22,7 @@ pub(crate) fn tell_refusals<E: Write>(refusals: &[Refused], errors: &mut E) {
 }
 
 /// Says why the load wasn't run to its end. The status.
-pub(crate) fn tell_load<E: Write>(error: LoadError, errors: &mut E) -> Status
+pub(crate) fn tell_load<E: CountedWrite>(error: LoadError, errors: &mut E) -> Status
     ensures { result ≡ Status.Failed }
 {
     match error {
@@ -35,7 +36,7 @@ pub(crate) fn tell_load<E: Write>(error: LoadError, errors: &mut E) -> Status
 }
 
 /// Says why the store wasn't closed. The status.
-pub(crate) fn tell_close<E: Write>(error: CloseError, errors: &mut E) -> Status
+pub(crate) fn tell_close<E: CountedWrite>(error: CloseError, errors: &mut E) -> Status
     ensures { result ≡ status_of_close error }
 {
     let (number, name) = (error.number(), error.name());
@@ -47,7 +48,7 @@ pub(crate) fn tell_close<E: Write>(error: CloseError, errors: &mut E) -> Status
 }
 
 /// Says why the keys weren't checked. The status.
-pub(crate) fn tell_check<E: Write>(error: CheckError, errors: &mut E) -> Status
+pub(crate) fn tell_check<E: CountedWrite>(error: CheckError, errors: &mut E) -> Status
     ensures { result ≡ Status.Failed }
 {
     match error {
@@ -57,7 +58,7 @@ pub(crate) fn tell_check<E: Write>(error: CheckError, errors: &mut E) -> Status
 }
 
 /// Says why there is no text to write. The status.
-pub(crate) fn tell_no_text<E: Write>(error: NoText, errors: &mut E) -> Status
+pub(crate) fn tell_no_text<E: CountedWrite>(error: NoText, errors: &mut E) -> Status
     ensures { result ≡ Status.Failed }
 {
     match error {
@@ -70,7 +71,7 @@ pub(crate) fn tell_no_text<E: Write>(error: NoText, errors: &mut E) -> Status
 }
 
 /// Says the first key whose order is refused, if one is. The status.
-pub(crate) fn tell_refused_key<E: Write>(first: Option<RefusedKey>, errors: &mut E) -> Status
+pub(crate) fn tell_refused_key<E: CountedWrite>(first: Option<RefusedKey>, errors: &mut E) -> Status
     ensures { result ≡ status_of_check first }
 {
     let Some(refused) = first else {
