@@ -20,10 +20,9 @@ import tempfile
 # A row that goes over all small parts takes millions of growths: of a row no more than so many are refused.
 MOST = 3000
 ALL = 1_000_000
-# What a row program says where it couldn't go on for want of memory. command_rows isn't gone over: its standard output and standard error
-# are in memory, and one that can't grow keeps what a command says from being seen. Its commands are those of abd.
-WANT = r"(?i)memory|NO SUCH |not understood"
-ROWS = {"record_rows", "protocol_rows"}
+# What a row program says where it couldn't go on for want of memory; of the rows of seeds it says statuses alone.
+WANT = r"(?i)memory|NO SUCH |not understood|(simulate|justify|check) 4\b"
+ROWS = {"record_rows", "protocol_rows", "command_rows"}
 TESTS = ["growth_tests", "parallel_tests"]
 
 
@@ -152,7 +151,7 @@ def tests(library, top, crate):
 def main():
     library, top, *names = sys.argv[1:]
     bad = False
-    for name in names or ["abd", "record_rows", "protocol_rows", *TESTS]:
+    for name in names or ["abd", *sorted(ROWS), *TESTS]:
         program = f"{top}/crates/{name}/out/{name}{'_tests' if name in TESTS else ''}"
         if not os.path.isfile(program):
             print(f"{name} is not built")

@@ -45,7 +45,13 @@ impl Read for Pieces<'_> {
     }
 }
 
+/// How many bytes a writer over memory makes ready for at first: about what any row writes.
+const READY: usize = 1_048_576;
+
 /// A writer with room for so many bytes, which then fails.
+///
+/// It makes its memory ready at once, and does without where that is refused: so where one growth
+/// alone is refused, it is one of what writes, and not of the writer.
 #[derive(Drop)]
 pub struct Bounded {
     pub taken: Vec<u8>,
@@ -58,10 +64,11 @@ impl Bounded {
         ensures taken { result.taken.items ≡ [] }
         ensures room { result.room ≡ room }
     {
-        Bounded {
-            taken: Vec::new(alloc),
-            room,
-        }
+        let taken = match Vec::with_capacity(alloc, room.min(READY)) {
+            Ok(taken) => taken,
+            Err(_) => Vec::new(alloc),
+        };
+        Bounded { taken, room }
     }
 }
 
