@@ -1,6 +1,6 @@
 //! The words of a command line.
 ghost use Rattle.std.specs.Prelude.{◌≡◌, false, codes, IfOk, IfErr, MatchOption, MatchResult, map, string_bytes};
-ghost use Rattle.clap.specs.Words.{app_of, found_of, kind_of, rows_of, rule_of, subcommand_rows_of};
+ghost use Rattle.clap.specs.Words.{app_of, found_of, kind_of, rows_of, rule_of, subcommand_rows_of, with_subcommand};
 ghost use Rattle.clap.specs.declared.builder.command.Command.TheViews.{out-Command as fields_of};
 ghost use Rattle.cli.specs.Words.{abd_app, bare_app, check_app, justify_app, needed_word, simulate_app, workers_option, Asks, AsksNothing, MakesAs, MakesNothing, MakesOf, Says};
 ghost use Rattle.cli.specs.declared.command_line.Command.{Command};
@@ -39,16 +39,17 @@ fn check_words<'a>(alloc: Global) -> Result<clap::Command<'a>, AllocError>
     ensures app { IfOk result (λ words. app_of words ≡ check_app) }
     ensures local { IfOk result (λ words. (fields_of words).has_globals ≡ false) }
 {
+    let check = clap::Command::new(alloc, "check")
+        .about("Check, key by key, whether the orders show that the history is atomic")
+        .after_help(help::CHECK);
     let history = needed_word(alloc, "HISTORY", "The recorded calls: a history file");
+    let check = check.arg(history)?;
     let orders = needed_word(
         alloc,
         "ORDERS",
         "For each key an order of its calls: an order file",
     );
-    let check = clap::Command::new(alloc, "check")
-        .about("Check, key by key, whether the orders show that the history is atomic")
-        .after_help(help::CHECK);
-    check.arg(history)?.arg(orders)?.arg(workers_option(alloc))
+    check.arg(orders)?.arg(workers_option(alloc))
 }
 
 /// `abd justify HISTORY`.
@@ -96,19 +97,26 @@ fn bare_words<'a>(alloc: Global) -> clap::Command<'a>
         .subcommand_required(true)
 }
 
+/// The words with one command more.
+fn with_command<'a>(
+    words: clap::Command<'a>,
+    command: clap::Command<'a>,
+) -> Result<clap::Command<'a>, AllocError>
+    requires { (fields_of command).has_globals ≡ false }
+    ensures { IfOk result (λ more.
+        app_of more ≡ with_subcommand (app_of words.entry) (app_of command.entry).top) }
+{
+    words.subcommand(command)
+}
+
 /// `abd` with its commands.
 fn abd_words<'a>(alloc: Global) -> Result<clap::Command<'a>, AllocError>
     ensures { IfOk result (λ words. app_of words ≡ abd_app) }
 {
-    let check = check_words(alloc)?;
-    let justify = justify_words(alloc)?;
-    let simulate = simulate_words(alloc)?;
-    let running = run_words(alloc)?;
-    bare_words(alloc)
-        .subcommand(check)?
-        .subcommand(justify)?
-        .subcommand(simulate)?
-        .subcommand(running)
+    let words = with_command(bare_words(alloc), check_words(alloc)?)?;
+    let words = with_command(words, justify_words(alloc)?)?;
+    let words = with_command(words, simulate_words(alloc)?)?;
+    with_command(words, run_words(alloc)?)
 }
 
 /// What an error of clap's says.

@@ -60,18 +60,15 @@ fn with_sizes<'a>(alloc: Global, words: Command<'a>) -> Result<Command<'a>, Allo
     ensures local { IfOk result (λ more. (fields_of more).has_globals ≡ false) }
 {
     let replicas = value_parser!(u8).range(1..16);
+    let replicas = option(alloc, "replicas", "N", "3", replicas, help::REPLICAS);
+    let words = with_option(words, replicas)?;
     let callers = value_parser!(u8).range(1..17);
+    let callers = option(alloc, "callers", "C", "4", callers, help::CALLERS);
+    let words = with_option(words, callers)?;
     let calls = value_parser!(u16).range(1..10001);
+    let calls = option(alloc, "calls", "T", "50", calls, help::CALLS);
+    let words = with_option(words, calls)?;
     let keys = value_parser!(u8).range(1..9);
-    let words = with_option(
-        words,
-        option(alloc, "replicas", "N", "3", replicas, help::REPLICAS),
-    )?;
-    let words = with_option(
-        words,
-        option(alloc, "callers", "C", "4", callers, help::CALLERS),
-    )?;
-    let words = with_option(words, option(alloc, "calls", "T", "50", calls, help::CALLS))?;
     with_option(words, option(alloc, "keys", "K", "2", keys, help::KEYS))
 }
 
@@ -82,13 +79,11 @@ fn with_faults<'a>(alloc: Global, words: Command<'a>) -> Result<Command<'a>, All
     ensures local { IfOk result (λ more. (fields_of more).has_globals ≡ false) }
 {
     let rounds = value_parser!(u16).range(1..10001);
+    let rounds = option(alloc, "rounds", "R", "1000", rounds, help::ROUNDS);
+    let words = with_option(words, rounds)?;
     let drop = value_parser!(u16).range(0..1001);
-    let double = value_parser!(u16).range(0..1001);
-    let words = with_option(
-        words,
-        option(alloc, "rounds", "R", "1000", rounds, help::ROUNDS),
-    )?;
     let words = with_option(words, option(alloc, "drop", "D", "0", drop, help::DROP))?;
+    let double = value_parser!(u16).range(0..1001);
     with_option(
         words,
         option(alloc, "double", "E", "0", double, help::DOUBLE),
@@ -102,10 +97,10 @@ fn with_halls<'a>(alloc: Global, words: Command<'a>) -> Result<Command<'a>, Allo
     ensures local { IfOk result (λ more. (fields_of more).has_globals ≡ false) }
 {
     let halls = value_parser!(u8).range(1..65);
-    let show = value_parser!(u8).range(0..64);
-    let reads = ValueParser::String;
     let words = with_option(words, option(alloc, "halls", "H", "1", halls, help::HALLS))?;
+    let show = value_parser!(u8).range(0..64);
     let words = with_option(words, free_option(alloc, "show", "N", show, help::SHOW))?;
+    let reads = ValueParser::String;
     with_option(
         words,
         option(alloc, "reads", "HOW", "full", reads, help::READS),
@@ -118,14 +113,11 @@ fn with_quorums<'a>(alloc: Global, words: Command<'a>) -> Result<Command<'a>, Al
     ensures app { IfOk result (λ more. app_of more ≡ with_quorums (app_of words.entry)) }
     ensures local { IfOk result (λ more. (fields_of more).has_globals ≡ false) }
 {
+    let votes = free_option(alloc, "votes", "DIGITS", ValueParser::String, help::VOTES);
+    let words = with_option(words, votes)?;
     let ask = value_parser!(u8).range(1..136);
-    let put = value_parser!(u8).range(1..136);
-    let votes = ValueParser::String;
-    let words = with_option(
-        words,
-        free_option(alloc, "votes", "DIGITS", votes, help::VOTES),
-    )?;
     let words = with_option(words, free_option(alloc, "ask", "A", ask, help::ASK))?;
+    let put = value_parser!(u8).range(1..136);
     with_option(words, free_option(alloc, "put", "P", put, help::PUT))
 }
 
