@@ -3,13 +3,12 @@ ghost use Rattle.std.specs.Prelude.{◌≡◌, ◌⊎◌, map, IfOk};
 ghost use Rattle.counted_devices.specs.Counts.{IsOneMore};
 ghost use Rattle.file_format.specs.Texts.{orders_text};
 ghost use Rattle.parallel_keys.specs.CheckedKeys.{all_parts};
-ghost use Rattle.cli.specs.FailureLines.{failure_line};
-ghost use Rattle.cli.specs.Justifications.{Justifies, JustifiesParts, JustifiesHalls, Refuses, SendsOrders};
-ghost use Rattle.cli.specs.Passages.{Tells, file_states, states};
+ghost use Rattle.cli.specs.Justifications.{Justifies, JustifiesParts, JustifiesHalls, SendsOrders};
+ghost use Rattle.cli.specs.Passages.{file_states, states};
 ghost use Rattle.cli.specs.ToldFailures.{IsOfJustification, IsOfOutput, TellsEnd};
 
 use crate::check::{Source, histories_in};
-use crate::noted_orders::{Unjustified, checked_orders};
+use crate::noted_orders::checked_orders;
 use crate::status::{Failure, Status};
 use counted_devices::{CountedRead, CountedWrite, Counting, write_text};
 use file_format::write_orders;
@@ -57,27 +56,6 @@ fn send_orders<W: CountedWrite, E: CountedWrite>(
     }
 }
 
-/// Says why a key has no order. What `errors` refuses is lost.
-fn refuse<E: CountedWrite>(alloc: Global, refusal: Unjustified<'_>, errors: &mut E) -> Status
-    ensures refuses { Refuses refusal.entry
-        (record {
-          old = E.contents errors.old;
-          new = E.contents errors.new;
-          failures = E.failures errors.old;
-          failures_now = E.failures errors.new;
-        })
-        result }
-    ensures memory { result ≡ Status.Failed
-        → Tells (states E.contents E.failures errors.old errors.new) (failure_line Failure.Memory) }
-{
-    let mut text = Vec::new(alloc);
-    if refusal.append_to(&mut text).is_err() {
-        return Failure::Memory.report(errors);
-    }
-    let _ = write_text(text.as_slice(), errors);
-    refusal.status()
-}
-
 /// Makes each key's order from the notes of its part, checks it, and writes the order file.
 fn justify_parts<W: CountedWrite, E: CountedWrite>(
     alloc: Global,
@@ -104,7 +82,7 @@ fn justify_parts<W: CountedWrite, E: CountedWrite>(
 {
     match checked_orders(alloc, parts) {
         Ok(orders) => send_orders(alloc, orders.as_slice(), out, errors),
-        Err(refusal) => refuse(alloc, refusal, errors),
+        Err(refusal) => refusal.report(alloc, errors),
     }
 }
 

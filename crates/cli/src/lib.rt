@@ -21,5 +21,5 @@ pub use counted_devices::Counting;
 pub use justify::justify_command;
 pub use noted_orders::{Unjustified, checked_orders};
 pub use simulate::simulate_command;
-pub use status::{Failure, Status};
+pub use status::{Failure, Status, say};
 pub use words::command;

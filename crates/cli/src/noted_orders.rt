@@ -1,11 +1,14 @@
 //! The orders that the notes of a history give its keys, each checked.
 ghost use Rattle.std.specs.Prelude.{◌≡◌, ◌++◌, List, map, IfOk, IfErr, OnOk};
 ghost use Rattle.parallel_keys.specs.CheckedKeys.{all_parts};
-ghost use Rattle.cli.specs.Justifications.{AreJustified, KeyPart, IsJustifiedOrder, IsUnjustified, IsFirstUnjustified, refusal_text, status_of_refusal};
+ghost use Rattle.cli.specs.FailureLines.{failure_line};
+ghost use Rattle.cli.specs.Justifications.{AreJustified, KeyPart, IsJustifiedOrder, IsUnjustified, IsFirstUnjustified, Refuses, refusal_text, status_of_refusal};
+ghost use Rattle.cli.specs.Passages.{Tells, states};
 
-use crate::status::Status;
+use crate::status::{Failure, Status};
 use crate::verdict_lines::{append, append_fault, append_number};
 use certificate_check::{Fault, Verdict, check_part};
+use counted_devices::{CountedWrite, write_text};
 use recorder::{KeyOrder, Part, Parts};
 use std::alloc::{AllocFailed, Global};
 use tag::{Key, Memory, OpId};
@@ -24,7 +27,7 @@ pub enum Unjustified<'k> {
 
 impl Unjustified<'_> {
     /// Adds why to the text, a line.
-    pub(crate) fn append_to(self, text: &mut Vec<u8>) -> Result<(), Memory>
+    fn append_to(self, text: &mut Vec<u8>) -> Result<(), Memory>
         ensures { OnOk result (text.new.items ≡ text.old.items ++ refusal_text self.entry) }
     {
         match self {
@@ -53,6 +56,23 @@ impl Unjustified<'_> {
             Unjustified::NoNote { .. } | Unjustified::NoOrder { .. } => Status::Refused,
             Unjustified::Memory => Status::Failed,
         }
+    }
+
+    /// Says why on the writer, one line, and answers its status; where a growth is refused, that memory
+    /// is wanted, and `Failed`. What the writer refuses is lost, as there is nowhere else to say it.
+    pub fn report<E: CountedWrite>(self, alloc: Global, errors: &mut E) -> Status
+        ensures refuses { Refuses self.entry
+            (states E.contents E.failures errors.old errors.new) result }
+        ensures memory { result ≡ Status.Failed
+            → Tells (states E.contents E.failures errors.old errors.new)
+            (failure_line Failure.Memory) }
+    {
+        let mut text = Vec::new(alloc);
+        if self.append_to(&mut text).is_err() {
+            return Failure::Memory.report(errors);
+        }
+        let _ = write_text(text.as_slice(), errors);
+        self.status()
     }
 }
 

@@ -70,7 +70,7 @@ fn kind_status<L: Copy>(kind: FaultKind<L>) -> Status
 
 /// Says the text that is given in these pieces. What the writer refuses is lost, as there is nowhere
 /// else to say it.
-fn say<E: CountedWrite>(pieces: &[&str], errors: &mut E)
+pub fn say<E: CountedWrite>(pieces: &[&str], errors: &mut E)
     ensures { Tells (states E.contents E.failures errors.old errors.new) (joined pieces.now) }
 {
     let _ = write_pieces(pieces, errors);

@@ -1,12 +1,11 @@
 -- The orders that justify the records of a row of halls are of different keys, since each key has one hall, and one part there.
-use Rattle.std.proofs.Common.{◌≡◌, ◌<◌, ◌+◌, ◌⊎◌, ℕ, zero, suc, List, [], ◌∷◌, ◌++◌, Option, Some, None, inl, inr, length, sym, subst, ap, refl, ◌∙◌, arith}
+use Rattle.std.proofs.Common.{◌≡◌, ◌<◌, ◌+◌, ◌⊎◌, ℕ, zero, suc, List, [], ◌∷◌, ◌++◌, Some, None, inl, inr, length, sym, subst, ap, refl, ◌∙◌, arith}
 use Rattle.std.specs.List.{slice_get}
 use Rattle.std.specs.Option.{option_map}
 use Rattle.std.proofs.lemmas.List.Elements.{All-get_or}
 use Rattle.std.proofs.lemmas.Option.{get_or_from_slice_get, slice_get-map, slice_get_within}
 use Rattle.quorum.specs.Quorums.{Quorums}
 use Rattle.recorder.specs.Halls.{AreHalls, FallsTo, IsHallOf, hall_of}
-use Rattle.recorder.specs.Histories.{Recorded}
 use Rattle.recorder.specs.Records.{IsFirstSeen}
 use Rattle.recorder.specs.declared.order.KeyOrder.{KeyOrder}
 use Rattle.recorder.specs.declared.part.Call.{Call}

@@ -1,33 +1,38 @@
 -- What a run's status says.
-use Rattle.std.proofs.Common.{◌≡◌, List, Option, Some, None, Err, inl, inr}
+use Rattle.std.proofs.Common.{◌≡◌, List, Option, Some, None, inl, inr, subst, sym}
 use Rattle.std.specs.Io.KnownBytes.{Appends}
-use Rattle.cli.specs.Passages.{Passage}
+use Rattle.cli.specs.Passages.{Tells, WriterStates}
 use Rattle.cli.specs.declared.status.Status.{Status}
 use Rattle.cli.specs.declared.status.Status.TheVariants as status
 use Rattle.node_threads.specs.declared.closing.ClosedHall.{ClosedHall}
 use Rattle.node_threads.specs.declared.errors.CloseError.{CloseError}
 use Rattle.node_threads.specs.declared.errors.CloseError.TheVariants as close
 use Rattle.run_words.specs.declared.asked.RunAsked.{RunAsked}
-use Rattle.store_load.specs.Loads.{IsLoaded}
-use Rattle.store_load.specs.declared.load_run.LoadOutcome.{LoadOutcome}
+use Rattle.store_load.specs.declared.error.LoadError.{LoadError}
+use Rattle.store_run.specs.Messages.{load_line}
 use Rattle.store_run.specs.RecordVerdicts.{IsFirstNoOfHalls}
-use Rattle.store_run.specs.Runs.{Ends, EndsClosed, EndsRun, Sends, status_of_close, status_of_check}
+use Rattle.store_run.specs.Runs.{Ends, EndsClosed, EndsRun, IsUnclosed, Sends, status_of_close, status_of_check}
 use Rattle.store_run.specs.declared.check_record.RefusedKey.{RefusedKey}
 
 -- the text went out, and the keys were checked
-pub ends_checked : (asked : RunAsked) (halls : List ClosedHall) (out : Passage) (first : Option RefusedKey) → IsFirstNoOfHalls halls first → Sends asked halls (Appends out.old out.new) → Ends asked halls out (status_of_check first)
+pub ends_checked : (asked : RunAsked) (halls : List ClosedHall) (out : WriterStates) (first : Option RefusedKey) → IsFirstNoOfHalls halls first → Sends asked halls (Appends out.old out.new) → Ends asked halls out (status_of_check first)
 ends_checked asked halls out None checked sends = (checked, sends)
 ends_checked asked halls out (Some refused) checked sends = ((refused, checked), sends)
 
 -- the store was closed
-pub ends_closed : (asked : RunAsked) (out : Passage) (s : Status) → EndsClosed asked out s → EndsRun asked out s
-ends_closed asked out status.Good ends = ends
-ends_closed asked out status.Refused ends = inl ends
-ends_closed asked out status.Usage ends = ends.ends
-ends_closed asked out status.Format ends = ends.ends
-ends_closed asked out status.Failed ends = inr ends
+pub ends_closed : (asked : RunAsked) (out errors : WriterStates) (s : Status) → EndsClosed asked out errors s → EndsRun asked out errors s
+ends_closed asked out errors status.Good ends = ends
+ends_closed asked out errors status.Refused ends = inl ends
+ends_closed asked out errors status.Usage ends = ends.ends
+ends_closed asked out errors status.Format ends = ends.ends
+ends_closed asked out errors status.Failed ends = inl ends
 
 -- it wasn't
-pub ends_open : (asked : RunAsked) (out : Passage) (loaded : LoadOutcome) (error : CloseError) → IsLoaded asked.load loaded → loaded.closed ≡ Err error → out.new ≡ out.old → EndsRun asked out (status_of_close error)
-ends_open asked out loaded close.SeatMismatch run is quiet = inr (record { loaded = loaded; run = run; refused = is; quiet = quiet })
-ends_open asked out loaded close.Memory run is quiet = inl quiet
+pub ends_open : (asked : RunAsked) (out errors : WriterStates) (error : CloseError) → IsUnclosed asked out errors error → EndsRun asked out errors (status_of_close error)
+ends_open asked out errors close.SeatMismatch ends = inr ends
+ends_open asked out errors close.Memory ends = inr (inl ends)
+
+-- the load wasn't run to its end
+pub ends_unloaded : (asked : RunAsked) (out errors : WriterStates) (error : LoadError) (s : Status) → s ≡ status.Failed → out.new ≡ out.old → Tells errors (load_line error) → EndsRun asked out errors s
+ends_unloaded asked out errors error s is quiet told =
+    subst (λ (t : Status). EndsRun asked out errors t) (sym is) (inr (inr (record { quiet = quiet; error = error; said = told })))

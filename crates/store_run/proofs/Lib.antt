@@ -1,4 +1,6 @@
 pub mod Distinct
 pub mod Ending
+pub mod Saying
+pub mod Spelling
 pub mod Verdicts
 pub mod Lists

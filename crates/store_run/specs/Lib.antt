@@ -1,3 +1,4 @@
+pub mod Messages
 pub mod RecordVerdicts
 pub mod Records
 pub mod Runs

@@ -1,8 +1,8 @@
 -- What a run of a store comes to.
-use Rattle.std.specs.Prelude.{ℕ, ◌≡◌, ◌⊎◌, List, Option, Some, None, Ok, Err}
+use Rattle.std.specs.Prelude.{ℕ, ◌≡◌, ◌⊎◌, List, [], ◌∷◌, ◌++◌, Option, Some, None, Ok, Err}
 use Rattle.std.specs.Io.KnownBytes.{Appends}
 use Rattle.counted_devices.specs.Sendings.{Begins}
-use Rattle.cli.specs.Passages.{Passage}
+use Rattle.cli.specs.Passages.{Tells, WriterStates}
 use Rattle.cli.specs.declared.status.Status.{Status}
 use Rattle.cli.specs.declared.status.Status.TheVariants as status
 use Rattle.node_threads.specs.declared.closing.Closed.{Closed}
@@ -11,7 +11,9 @@ use Rattle.node_threads.specs.declared.errors.CloseError.{CloseError}
 use Rattle.node_threads.specs.declared.errors.CloseError.TheVariants as close
 use Rattle.run_words.specs.declared.asked.RunAsked.{RunAsked}
 use Rattle.store_load.specs.Loads.{IsLoaded}
+use Rattle.store_load.specs.declared.error.LoadError.{LoadError}
 use Rattle.store_load.specs.declared.load_run.LoadOutcome.{LoadOutcome}
+use Rattle.store_run.specs.Messages.{AreEnding, Says, close_line, load_line, refusal_lines}
 use Rattle.store_run.specs.RecordVerdicts.{IsFirstNoOfHalls}
 use Rattle.store_run.specs.Records.{record_of}
 use Rattle.store_run.specs.Shown.{IsShownText}
@@ -33,32 +35,43 @@ Sends asked halls P = (text : List ℕ) × IsShownText (record_of halls asked.lo
 
 -- what the status says of closed halls: the text of what is shown went out, and the verdict on each key of every
 -- hall is yes, or a key is refused; or nothing went out, or a beginning of that text
-abbrev pub Ends : RunAsked → List ClosedHall → Passage → Status → Type 0
+abbrev pub Ends : RunAsked → List ClosedHall → WriterStates → Status → Type 0
 Ends asked halls out status.Good = IsFirstNoOfHalls halls None × Sends asked halls (Appends out.old out.new)
 Ends asked halls out status.Refused = ((refused : RefusedKey) × IsFirstNoOfHalls halls (Some refused)) × Sends asked halls (Appends out.old out.new)
 Ends asked halls out status.Usage = ⊥
 Ends asked halls out status.Format = ⊥
 Ends asked halls out status.Failed = (out.new ≡ out.old) ⊎ Sends asked halls (Begins out.old out.new)
 
--- the load was run to its end, and its store was closed; it ends as the status says
-pub record EndsClosed (asked : RunAsked) (out : Passage) (s : Status) : Type 0 where
+-- the load was run to its end, and its store was closed; it ends as the status says, and the lines of the callers whose calls
+-- were refused were said, in order of name, and then those of that end
+pub record EndsClosed (asked : RunAsked) (out errors : WriterStates) (s : Status) : Type 0 where
   pub loaded : LoadOutcome
   pub run : IsLoaded asked.load loaded
   pub closed : Closed
   pub is : loaded.closed ≡ Ok closed
   pub ends : Ends asked closed.halls.items out s
+  pub lines : List (List ℕ)
+  pub ending : AreEnding closed.halls.items out s lines
+  pub said : Says errors (refusal_lines loaded.refusals.items ++ lines)
 
--- the load was run to its end, and its store wasn't closed: a seat's calls aren't those of the records
-pub record IsMismatched (asked : RunAsked) (out : Passage) : Type 0 where
+-- the load was run to its end, and its store wasn't closed, for that reason, which was said behind the callers' lines
+pub record IsUnclosed (asked : RunAsked) (out errors : WriterStates) (error : CloseError) : Type 0 where
   pub loaded : LoadOutcome
   pub run : IsLoaded asked.load loaded
-  pub refused : loaded.closed ≡ Err close.SeatMismatch
+  pub refused : loaded.closed ≡ Err error
   pub quiet : out.new ≡ out.old
+  pub said : Says errors (refusal_lines loaded.refusals.items ++ close_line error ∷ [])
+
+-- the load wasn't run to its end, and why was said
+pub record IsUnloaded (out errors : WriterStates) : Type 0 where
+  pub quiet : out.new ≡ out.old
+  pub error : LoadError
+  pub said : Tells errors (load_line error)
 
 -- what the status of a run says
-abbrev pub EndsRun : RunAsked → Passage → Status → Type 0
-EndsRun asked out status.Good = EndsClosed asked out status.Good
-EndsRun asked out status.Refused = EndsClosed asked out status.Refused ⊎ IsMismatched asked out
-EndsRun asked out status.Usage = ⊥
-EndsRun asked out status.Format = ⊥
-EndsRun asked out status.Failed = (out.new ≡ out.old) ⊎ EndsClosed asked out status.Failed
+abbrev pub EndsRun : RunAsked → WriterStates → WriterStates → Status → Type 0
+EndsRun asked out errors status.Good = EndsClosed asked out errors status.Good
+EndsRun asked out errors status.Refused = EndsClosed asked out errors status.Refused ⊎ IsUnclosed asked out errors close.SeatMismatch
+EndsRun asked out errors status.Usage = ⊥
+EndsRun asked out errors status.Format = ⊥
+EndsRun asked out errors status.Failed = EndsClosed asked out errors status.Failed ⊎ IsUnclosed asked out errors close.Memory ⊎ IsUnloaded out errors

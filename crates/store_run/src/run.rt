@@ -1,8 +1,9 @@
 //! `abd run`.
 ghost use Rattle.std.specs.Prelude.{◌≡◌, ◌⊎◌};
-ghost use Rattle.cli.specs.Passages.{Passage};
+ghost use Rattle.cli.specs.Passages.{states};
 ghost use Rattle.counted_devices.specs.Counts.{IsOneMore};
 ghost use Rattle.node_threads.specs.Closings.{AreClosed};
+ghost use Rattle.store_run.specs.Messages.{SaysEnding};
 ghost use Rattle.store_run.specs.Runs.{Ends, EndsRun};
 
 use crate::check_record::first_refused;
@@ -32,7 +33,10 @@ fn finish<R: Threads + Wait, W: CountedWrite, E: CountedWrite>(
 ) -> Status
     requires { AreClosed halls.items }
     ensures ends { Ends asked halls.items
-        (record { old = W.contents out.old; new = W.contents out.new }) result }
+        (states W.contents W.failures out.old out.new) result }
+    ensures said { SaysEnding halls.items
+        (states W.contents W.failures out.old out.new)
+        (states E.contents E.failures errors.old errors.new) result }
     ensures failed { result ≡ Status.Failed
         → (out.new ≡ out.old) ⊎ IsOneMore (W.failures out.old) (W.failures out.new) }
 {
@@ -45,7 +49,10 @@ fn finish<R: Threads + Wait, W: CountedWrite, E: CountedWrite>(
         Ok(first) => first,
         Err(error) => return tell_check(error, errors),
     };
-    let status = tell_refused_key(first, errors);
+    let status = tell_refused_key(alloc, &first, errors);
+    if matches!(status, Status::Failed) {
+        return status;
+    }
     let text = match shown_text(alloc, &histories, asked.shown) {
         Ok(text) => text,
         Err(error) => return tell_no_text(error, errors),
@@ -77,7 +84,8 @@ where
     R: Threads + Wait + Copy + Send + Sync + 'static,
     L: Watch + Send + Sync + Drop + 'static,
     ensures ends { EndsRun asked
-        (record { old = W.contents out.old; new = W.contents out.new }) result }
+        (states W.contents W.failures out.old out.new)
+        (states E.contents E.failures errors.old errors.new) result }
     ensures failed { result ≡ Status.Failed
         → (out.new ≡ out.old) ⊎ IsOneMore (W.failures out.old) (W.failures out.new) }
 {

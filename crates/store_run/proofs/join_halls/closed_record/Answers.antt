@@ -1,4 +1,4 @@
-use Rattle.std.proofs.Common.{◌≡◌, Some, List, refl, sym, subst}
+use Rattle.std.proofs.Common.{Some, List, refl, sym, subst}
 use Rattle.recorder.specs.Halls.{AreHalls}
 use Rattle.recorder.specs.Histories.{Recorded}
 use Rattle.parallel_keys.specs.CheckedKeys.{AreDistinct}
