@@ -51,16 +51,30 @@ fn is_lawful(written: Result<(), WriteFault>, writer: Counting<Room>, text: &str
     }
 }
 
+/// Client 1 begins to write `a` to `x`.
+fn begin_write(alloc: Global, history: &mut History) -> Option<OpId> {
+    let client = ClientId::new(1).ok()?;
+    let key = Key::new(alloc, "x").ok()?;
+    match Value::new(alloc, "a") {
+        Ok(value) => history.invoke(client, key, Action::Write(value)).ok(),
+        Err(_) => None,
+    }
+}
+
 /// Client 1 writes `a` to `x`.
+fn add_write(alloc: Global, history: &mut History) -> Option<()> {
+    let op = begin_write(alloc, history)?;
+    history.note(op, Tag::new(1, 1)?).ok()?;
+    history.respond(op, Returned::Written).ok()
+}
+
+/// The history of that write.
 fn written_history(alloc: Global) -> Option<History> {
     let mut history = History::new(alloc, 10);
-    let action = Action::Write(Value::new(alloc, "a").ok()?);
-    let op = history
-        .invoke(ClientId::new(1).ok()?, Key::new(alloc, "x").ok()?, action)
-        .ok()?;
-    history.note(op, Tag::new(1, 1)?).ok()?;
-    history.respond(op, Returned::Written).ok()?;
-    Some(history)
+    match add_write(alloc, &mut history) {
+        Some(()) => Some(history),
+        None => None,
+    }
 }
 
 fn only_order(alloc: Global) -> Result<KeyOrder, Memory> {

@@ -7,21 +7,43 @@ use std::sync::Wait;
 use std::thread::Threads;
 use tag::{Action, ClientId, Key, Memory, OpId, Returned, Value};
 
+/// Adds a completed call on `x`: the first is a write of `a`, the other a read of it.
+fn add_call(
+    alloc: Global,
+    history: &mut History,
+    client: ClientId,
+    number: u32,
+) -> Result<(), Memory> {
+    let value = Value::new(alloc, "a").map_err(|_| Memory)?;
+    let (action, returned) = match number {
+        0 => (Action::Write(value), Returned::Written),
+        _ => (Action::Read, Returned::Value(Some(value))),
+    };
+    let op = begin(alloc, history, client, action)?;
+    history.respond(op, returned).map_err(|_| Memory)
+}
+
+/// Begins a call on `x`.
+fn begin(
+    alloc: Global,
+    history: &mut History,
+    client: ClientId,
+    action: Action,
+) -> Result<OpId, Memory> {
+    let Ok(key) = Key::new(alloc, "x") else {
+        return Err(Memory);
+    };
+    history.invoke(client, key, action).map_err(|_| Memory)
+}
+
 /// A write of `a` to `x`, and then a read of it.
 fn two_calls(alloc: Global) -> Result<Option<History>, Memory> {
     let Ok(client) = ClientId::new(1) else {
         return Ok(None);
     };
     let mut history = History::new(alloc, 2);
-    for call in 0..2 {
-        let key = Key::new(alloc, "x").map_err(|_| Memory)?;
-        let value = Value::new(alloc, "a").map_err(|_| Memory)?;
-        let (action, returned) = match call {
-            0 => (Action::Write(value), Returned::Written),
-            _ => (Action::Read, Returned::Value(Some(value))),
-        };
-        let op = history.invoke(client, key, action).map_err(|_| Memory)?;
-        history.respond(op, returned).map_err(|_| Memory)?;
+    for number in 0..2 {
+        add_call(alloc, &mut history, client, number)?;
     }
     Ok(Some(history))
 }

@@ -1,7 +1,8 @@
 //! Worked orders of one history.
+use certificate_check::Verdict;
 use parallel_keys::{NoGate, Workers, are_distinct, check_history};
 use recorder::{History, KeyOrder, Order};
-use std::alloc::Global;
+use std::alloc::{AllocError, Global};
 use std::sync::Wait;
 use std::thread::Threads;
 use tag::{Action, ClientId, Key, OpId, Returned, Tag, Value};
@@ -42,23 +43,34 @@ const ROWS: [Worked; 6] = [
 /// What is said of an order of call 0 for `z`, on which no call is.
 const SAID_OF_Z: &str = "z no 1 unknown call at 0;";
 
-/// Call 0, a completed write of `a` to `x`, and call 1, a pending read of `x`.
-fn history(alloc: Global) -> Option<History> {
-    let mut history = History::new(alloc, 10);
-    let action = Action::Write(Value::new(alloc, "a").ok()?);
-    let write = history
-        .invoke(ClientId::new(1).ok()?, Key::new(alloc, "x").ok()?, action)
-        .ok()?;
+/// Begins a call on `x`.
+fn begin(alloc: Global, history: &mut History, client: u32, action: Action) -> Option<OpId> {
+    let Ok(client) = ClientId::new(client) else {
+        return None;
+    };
+    let Ok(key) = Key::new(alloc, "x") else {
+        return None;
+    };
+    history.invoke(client, key, action).ok()
+}
+
+/// Begins a write of `a` to `x`.
+fn begin_write(alloc: Global, history: &mut History) -> Option<OpId> {
+    let value = Value::new(alloc, "a").ok()?;
+    begin(alloc, history, 1, Action::Write(value))
+}
+
+/// Notes a tag of the write, and answers it.
+fn complete(history: &mut History, write: OpId) -> Option<()> {
     history.note(write, Tag::new(1, 1)?).ok()?;
-    history.respond(write, Returned::Written).ok()?;
-    history
-        .invoke(
-            ClientId::new(2).ok()?,
-            Key::new(alloc, "x").ok()?,
-            Action::Read,
-        )
-        .ok()?;
-    Some(history)
+    history.respond(write, Returned::Written).ok()
+}
+
+/// Adds call 0, a completed write of `a` to `x`, and call 1, a pending read of `x`.
+fn add_calls(alloc: Global, history: &mut History) -> Option<OpId> {
+    let write = begin_write(alloc, history)?;
+    complete(history, write)?;
+    begin(alloc, history, 2, Action::Read)
 }
 
 fn key_order(alloc: Global, key: &str, ops: &[u32]) -> Option<KeyOrder> {
@@ -80,25 +92,47 @@ fn orders(alloc: Global, ops: &[u32], has_z: bool) -> Option<Vec<KeyOrder>> {
     Some(orders)
 }
 
-/// What so many workers say of the history's keys and of those that only the orders have.
-fn said<R: Threads + Wait>(
+/// Says the verdicts.
+fn say(said: &mut String, verdicts: &[(Key, Verdict)]) -> Result<(), AllocError> {
+    for (key, verdict) in verdicts {
+        let name = key.as_str();
+        write!(said, "{name} {verdict};")?;
+    }
+    Ok(())
+}
+
+/// Whether that was said: what has to be said of `x`, and then of `z` if it is asked for.
+fn is_right(said: &str, row: &Worked, has_z: bool) -> bool {
+    match said.strip_prefix(row.said) {
+        Some(rest) => rest == if has_z { SAID_OF_Z } else { "" },
+        None => false,
+    }
+}
+
+/// Whether so many workers say of the row's order what has to be said.
+fn is_checked<R: Threads + Wait>(
     rt: &R,
     alloc: Global,
     orders: &[KeyOrder],
+    row: &Worked,
     workers: u8,
-) -> Option<String> {
-    let history = history(alloc)?;
-    let workers = Workers::new(workers)?;
-    if !are_distinct(alloc, orders).ok()? {
-        return None;
+) -> bool {
+    let Some(workers) = Workers::new(workers) else {
+        return false;
+    };
+    let Ok(true) = are_distinct(alloc, orders) else {
+        return false;
+    };
+    let mut history = History::new(alloc, 10);
+    if add_calls(alloc, &mut history).is_none() {
+        return false;
     }
+    let checked = check_history(rt, alloc, &history, orders, workers, &NoGate);
+    let Ok(verdicts) = checked else {
+        return false;
+    };
     let mut said = String::new(alloc);
-    for (key, verdict) in check_history(rt, alloc, &history, orders, workers, &NoGate).ok()? {
-        let name = key.as_str();
-        let line = format!(in alloc; "{name} {verdict};").ok()?;
-        said.push_str(line.as_str()).ok()?;
-    }
-    Some(said)
+    say(&mut said, verdicts.as_slice()).is_ok() && is_right(said.as_str(), row, orders.len() > 1)
 }
 
 /// Whether so many workers say of the row what has to be said.
@@ -112,13 +146,7 @@ fn is_said<R: Threads + Wait>(
     let Some(orders) = orders(alloc, row.order, has_z) else {
         return false;
     };
-    let Some(said) = said(rt, alloc, orders.as_slice(), workers) else {
-        return false;
-    };
-    match said.as_str().strip_prefix(row.said) {
-        Some(rest) => rest == if has_z { SAID_OF_Z } else { "" },
-        None => false,
-    }
+    is_checked(rt, alloc, orders.as_slice(), row, workers)
 }
 
 #[test]

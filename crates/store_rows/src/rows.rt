@@ -145,16 +145,28 @@ pub fn stopped_replicas<R>(rt: &R, alloc: Global) -> Option<&'static str>
 where
     R: Threads + Wait + Copy + Send + 'static,
 {
-    let (zero, one, three) = (ReplicaId::new(0)?, ReplicaId::new(1)?, ReplicaId::new(3)?);
     let store = store_of(rt, alloc, 1, 1000, 1000, OpenGate)?;
     let mut first = seat_of(rt, alloc, &store, 1)?;
     let mut second = seat_of(rt, alloc, &store, 2)?;
-    let down = stops_both(rt, &store, zero, one);
+    let good = go_down_and_up(rt, alloc, &store, &mut first, &mut second);
+    Some(word(good == Some(true)))
+}
+
+/// Whether the first call is unavailable while two replicas are down, and the second, once they are up, is answered.
+fn go_down_and_up<R: Wait>(
+    rt: &R,
+    alloc: Global,
+    store: &Store<OpenGate>,
+    first: &mut Seat,
+    second: &mut Seat,
+) -> Option<bool> {
+    let (zero, one, three) = (ReplicaId::new(0)?, ReplicaId::new(1)?, ReplicaId::new(3)?);
+    let down = stops_both(rt, store, zero, one);
     let none = store.stop_replica(rt, three) == Err(Refusal::NoSuchReplica);
-    let waited = failed(read(rt, alloc, &store, &mut first), CallError::Unavailable);
-    let up = starts_both(rt, &store, zero, one);
-    let answered = read(rt, alloc, &store, &mut second).is_ok();
-    Some(word(down && none && waited && up && answered))
+    let waited = failed(read(rt, alloc, store, first), CallError::Unavailable);
+    let up = starts_both(rt, store, zero, one);
+    let answered = read(rt, alloc, store, second).is_ok();
+    Some(down && none && waited && up && answered)
 }
 
 /// Whether both replicas go down, once.

@@ -118,6 +118,20 @@ pub fn closes<R: Wait, G: Gate + Drop>(
     }
 }
 
+/// Whether the store closes with both seats, and leaves for each key an order of its calls.
+pub fn closes_both<R: Wait, G: Gate + Drop>(
+    rt: &R,
+    alloc: Global,
+    store: Store<G>,
+    one: Seat,
+    other: Seat,
+) -> bool {
+    match both(alloc, one, other) {
+        Some(seats) => closes(rt, alloc, store, seats),
+        None => false,
+    }
+}
+
 /// Whether each key of each hall has an order that is one of its calls.
 pub fn are_atomic(alloc: Global, closed: &Closed) -> bool {
     for hall in &closed.halls {

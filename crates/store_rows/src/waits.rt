@@ -1,6 +1,6 @@
 //! Rows in which threads wait for each other at a gate.
 use crate::gates::{HoldsAnswer, HoldsPlace, Meeting, MeetsAtReplies};
-use crate::scene::{both, closes, config_of, gave_a, read, seat_of, word, write};
+use crate::scene::{closes_both, config_of, gave_a, read, seat_of, word, write};
 use crate::signals::{Signal, Signals};
 use node_threads::{Answer, CallError, Gate, Seat, Store};
 use std::alloc::Global;
@@ -44,12 +44,35 @@ fn write_then_read<R: Wait, G: Gate>(
     (written, found)
 }
 
+/// Writes and reads while the first replicas are stopped, once the gate was come to: what the calls answer, and
+/// whether the replicas were stopped.
+fn call_and_stop<R, G>(
+    rt: &R,
+    alloc: Global,
+    store: &Store<G>,
+    writer: &mut Seat,
+    reader: &mut Seat,
+    signals: &Signals,
+    count: u8,
+) -> (Calls, bool)
+where
+    R: Threads + Wait + Clock + Copy + Send + Sync + 'static,
+    G: Gate + Send + Sync + Drop + 'static,
+{
+    thread::join(
+        rt,
+        move || write_then_read(rt, alloc, store, writer, reader, signals),
+        move || stop(rt, store, signals, count),
+    )
+}
+
 /// The first replicas are stopped when a call comes to the place of that number: what the calls answer, and whether
 /// the store then closes.
 fn stopped_at<R>(rt: &R, alloc: Global, number: u64, count: u8) -> Option<(Calls, bool)>
 where
     R: Threads + Wait + Clock + Copy + Send + Sync + 'static,
 {
+    let config = config_of(3, 3, 1)?;
     let signals = Arc::new(alloc, Signals::new()).ok()?;
     let gate = HoldsPlace {
         rt: *rt,
@@ -57,17 +80,12 @@ where
         came: AtomicU64::new(0),
         signals: Arc::try_clone(&signals).ok()?,
     };
-    let store = Store::start(rt, alloc, config_of(3, 3, 1)?, gate).ok()?;
+    let store = Store::start(rt, alloc, config, gate).ok()?;
     let mut writer = seat_of(rt, alloc, &store, 1)?;
     let mut reader = seat_of(rt, alloc, &store, 2)?;
-    let (shared, told) = (&store, &*signals);
     let (one, other) = (&mut writer, &mut reader);
-    let (calls, stopped) = thread::join(
-        rt,
-        move || write_then_read(rt, alloc, shared, one, other, told),
-        move || stop(rt, shared, told, count),
-    );
-    let closed = closes(rt, alloc, store, both(alloc, writer, reader)?);
+    let (calls, stopped) = call_and_stop(rt, alloc, &store, one, other, &signals, count);
+    let closed = closes_both(rt, alloc, store, writer, reader);
     Some((calls, stopped && closed && !signals.missed.is_given()))
 }
 
@@ -108,29 +126,44 @@ where
     Some(word(true))
 }
 
+/// Whether a write that is held at its answer, and a read of another caller that has it go on, come out well.
+fn are_answered<R, G>(
+    rt: &R,
+    alloc: Global,
+    store: &Store<G>,
+    writer: &mut Seat,
+    reader: &mut Seat,
+    signals: &Signals,
+) -> bool
+where
+    R: Threads + Wait + Clock + Copy + Send + Sync + 'static,
+    G: Gate + Send + Sync + Drop + 'static,
+{
+    let (written, found) = thread::join(
+        rt,
+        move || write(rt, alloc, store, writer),
+        move || read_then_let_go(rt, alloc, store, reader, signals),
+    );
+    written.is_ok() && gave_a(found)
+}
+
 /// Call 0 is ready, and is held until call 1 of another caller is answered.
 pub fn held_until_another_is_answered<R>(rt: &R, alloc: Global) -> Option<&'static str>
 where
     R: Threads + Wait + Clock + Copy + Send + Sync + 'static,
 {
+    let config = config_of(3, 1000, 1)?;
     let signals = Arc::new(alloc, Signals::new()).ok()?;
     let gate = HoldsAnswer {
         rt: *rt,
         signals: Arc::try_clone(&signals).ok()?,
     };
-    let store = Store::start(rt, alloc, config_of(3, 1000, 1)?, gate).ok()?;
+    let store = Store::start(rt, alloc, config, gate).ok()?;
     let mut writer = seat_of(rt, alloc, &store, 1)?;
     let mut reader = seat_of(rt, alloc, &store, 2)?;
-    let (shared, told) = (&store, &*signals);
-    let (one, other) = (&mut writer, &mut reader);
-    let (written, found) = thread::join(
-        rt,
-        move || write(rt, alloc, shared, one),
-        move || read_then_let_go(rt, alloc, shared, other, told),
-    );
-    let closed = closes(rt, alloc, store, both(alloc, writer, reader)?);
-    let held = !signals.missed.is_given();
-    Some(word(written.is_ok() && gave_a(found) && held && closed))
+    let answered = are_answered(rt, alloc, &store, &mut writer, &mut reader, &signals);
+    let closed = closes_both(rt, alloc, store, writer, reader);
+    Some(word(answered && !signals.missed.is_given() && closed))
 }
 
 /// Reads, once the gate was come to, and has it go on.
@@ -178,22 +211,33 @@ fn look_on<R: Wait + Clock, G: Gate>(rt: &R, store: &Store<G>, signals: &Signals
     seen == Some(true)
 }
 
+/// Whether a call in hall 0 is answered while somebody looks on in hall 1.
+fn is_answered_beside<R, G>(rt: &R, alloc: Global, store: &Store<G>, seat: &mut Seat) -> bool
+where
+    R: Threads + Wait + Clock + Copy + Send + Sync + 'static,
+    G: Gate + Send + Sync + Drop + 'static,
+{
+    let signals = Signals::new();
+    let told = &signals;
+    let (seen, written) = thread::join(
+        rt,
+        move || look_on(rt, store, told),
+        move || write_then_let_go(rt, alloc, store, seat, told),
+    );
+    seen && written.is_ok()
+}
+
 /// A call in hall 0 is answered while somebody looks on in hall 1.
 pub fn answered_beside_a_looker<R>(rt: &R, alloc: Global) -> Option<&'static str>
 where
     R: Threads + Wait + Clock + Copy + Send + Sync + 'static,
 {
-    let signals = Signals::new();
-    let store = Store::start(rt, alloc, config_of(3, 1000, 2)?, node_threads::OpenGate).ok()?;
+    let config = config_of(3, 1000, 2)?;
+    let store = Store::start(rt, alloc, config, node_threads::OpenGate).ok()?;
     let mut seat = seat_of(rt, alloc, &store, 1)?;
-    let (shared, told, own) = (&store, &signals, &mut seat);
-    let (seen, written) = thread::join(
-        rt,
-        move || look_on(rt, shared, told),
-        move || write_then_let_go(rt, alloc, shared, own, told),
-    );
+    let answered = is_answered_beside(rt, alloc, &store, &mut seat);
     let missing = store.look(rt, 2, |_| true).is_none();
-    Some(word(seen && written.is_ok() && missing))
+    Some(word(answered && missing))
 }
 
 /// Writes, once somebody looks on, and tells him.
