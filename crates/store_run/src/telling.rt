@@ -48,7 +48,8 @@ fn tell_refused<E: CountedWrite>(refused: Refused, errors: &mut E)
 
 /// Says of each caller whose call was refused why, in order of name.
 pub(crate) fn tell_refusals<E: CountedWrite>(refusals: &[Refused], errors: &mut E)
-    ensures { Says (states E.contents E.failures errors.old errors.new) (refusal_lines refusals.now) }
+    ensures { Says (states E.contents E.failures errors.old errors.new)
+        (refusal_lines refusals.now) }
 {
     for refused in refusals {
         tell_refused(*refused, errors);
