@@ -5,10 +5,11 @@ Runs built programs with the library before them that refuses one growth, the fi
 - abd: a check, a justify and a simulate of an example. With a refusal a run has the very answer of a run without one, or status 4,
   nothing on standard output and one line on standard error, which names memory and a line of the file, or the number behind
   its last where all lines were read. The first line that is named is line 1, and a later growth never names an earlier line.
-- the row programs: each row alone. What is said of it is what is expected, up to a line that names memory, or a step that the program
-  couldn't make for want of it, or to the program's end.
-- growth_tests and parallel_tests: each test of a refused growth. It passes (it calls again after a refused growth, and compares whole worlds, pools, replicas, clients and
-  histories as they were before the call and after it, and verdicts), or it ends early, since a growth of its own was refused.
+- the row programs: each row alone. What is said of it is what is expected, up to a line that names memory, or that a thread couldn't be
+  started for want of it, or a step that the program couldn't make, or to the program's end.
+- growth_tests and parallel_tests: each test of a refused growth. It passes (it calls again after a refused growth, and compares whole
+  worlds, pools, replicas, clients and histories as they were before the call and after it, and verdicts), or it ends early, since a growth
+  of its own was refused.
 """
 
 import os
@@ -20,8 +21,9 @@ import tempfile
 # A row that goes over all small parts takes millions of growths: of a row no more than so many are refused.
 MOST = 3000
 ALL = 1_000_000
-# What a row program says where it couldn't go on for want of memory; of the rows of seeds it says statuses alone.
-WANT = r"(?i)memory|NO SUCH |not understood|(simulate|justify|check) 4\b"
+# What a row program says where it couldn't go on for want of memory, which a thread's start wants too; of the rows of seeds it says
+# statuses alone.
+WANT = r"(?i)memory|no thread|NO SUCH |not understood|(simulate|justify|check) 4\b"
 ROWS = {"record_rows", "protocol_rows", "command_rows"}
 TESTS = ["growth_tests", "parallel_tests"]
 
