@@ -38,7 +38,7 @@ says_both a b c f g h (x ∷ xs) ys (now, failures, told, more) rest = (now, fai
 module _ (halls : List ClosedHall) (out : WriterStates) where
   -- something was wanted before the keys were checked
   pub ends_wanting : (errors : WriterStates) → TellsWant errors → SaysEnding halls out errors status.Failed
-  ends_wanting errors (line, want, told) = (line ∷ [], ([], line, inr refl, inl want, refl), says_one errors line told)
+  ends_wanting errors (line, want, told) = (line ∷ [], ([], line, inl (inr refl, want), refl), says_one errors line told)
 
   -- memory was wanted for the line of a key
   pub ends_untold : (first : Option RefusedKey) (errors : WriterStates) (s : Status) → TellsKey first errors s → s ≡ status.Failed → SaysEnding halls out errors s
@@ -49,13 +49,13 @@ module _ (halls : List ClosedHall) (out : WriterStates) where
     -- something was wanted once they were
     pub ends_wanting_then : TellsWant (between b c g h) → SaysEnding halls out (between a c f h) status.Failed
     ends_wanting_then (line, want, told) =
-        (key_lines first ++ line ∷ [], (key_lines first, line, inl (first, checked, refl), inl want, refl), says_both a b c f g h (key_lines first) (line ∷ []) keys (says_one (between b c g h) line told))
+        (key_lines first ++ line ∷ [], (key_lines first, line, inl (inl (first, checked, refl), want), refl), says_both a b c f g h (key_lines first) (line ∷ []) keys (says_one (between b c g h) line told))
 
     -- the output failed
     pub ends_without_output : IsOneMore out.failures out.failures_now → Tells (between b c g h) (failure_line failure.Output) → SaysEnding halls out (between a c f h) status.Failed
     ends_without_output more told =
         let line = failure_line failure.Output in
-        (key_lines first ++ line ∷ [], (key_lines first, line, inl (first, checked, refl), inr (refl, more), refl), says_both a b c f g h (key_lines first) (line ∷ []) keys (says_one (between b c g h) line told))
+        (key_lines first ++ line ∷ [], (key_lines first, line, inr ((first, checked, refl), (refl, more)), refl), says_both a b c f g h (key_lines first) (line ∷ []) keys (says_one (between b c g h) line told))
 
 -- the status of a first key that was told
 pub key_status : (first : Option RefusedKey) (errors : WriterStates) (s : Status) → TellsKey first errors s → (s ≡ status.Failed → ⊥) → s ≡ status_of_check first

@@ -71,9 +71,14 @@ TellsKey first errors status.Usage = ⊥
 TellsKey first errors status.Format = ⊥
 TellsKey first errors status.Failed = Tells errors (failure_line failure.Memory)
 
--- the line of the first key that is refused, or none where none is, or the keys weren't checked
+-- the line of the first key that is refused, and none where none is
 abbrev pub AreOfKeys : List ClosedHall → List (List ℕ) → Type 0
-AreOfKeys halls lines = ((first : Option RefusedKey) × IsFirstNoOfHalls halls first × (lines ≡ key_lines first)) ⊎ (lines ≡ [])
+AreOfKeys halls lines = (first : Option RefusedKey) × IsFirstNoOfHalls halls first × (lines ≡ key_lines first)
+
+-- the lines before a failure's and that one: the output's stands behind the line of the first key that is refused, one of
+-- want behind that or alone
+abbrev pub AreFailing : List ClosedHall → WriterStates → List (List ℕ) → List ℕ → Type 0
+AreFailing halls out keys line = ((AreOfKeys halls keys ⊎ (keys ≡ [])) × IsWant line) ⊎ (AreOfKeys halls keys × IsOutput out line)
 
 -- the lines that end a run that closed its store: none where all is well, the first key that is refused, and behind it a failure
 abbrev pub AreEnding : List ClosedHall → WriterStates → Status → List (List ℕ) → Type 0
@@ -82,7 +87,7 @@ AreEnding halls out status.Refused lines = (refused : RefusedKey) × IsFirstNoOf
 AreEnding halls out status.Usage lines = ⊥
 AreEnding halls out status.Format lines = ⊥
 AreEnding halls out status.Failed lines =
-    (keys : List (List ℕ)) × (line : List ℕ) × AreOfKeys halls keys × (IsWant line ⊎ IsOutput out line) × (lines ≡ keys ++ line ∷ [])
+    (keys : List (List ℕ)) × (line : List ℕ) × AreFailing halls out keys line × (lines ≡ keys ++ line ∷ [])
 
 -- such lines went out
 abbrev pub SaysEnding : List ClosedHall → WriterStates → WriterStates → Status → Type 0
