@@ -29,3 +29,4 @@ pub mod Zips
 pub mod Chunks
 pub mod PieceByPiece
 pub mod RowTexts
+pub mod CanonicalLines

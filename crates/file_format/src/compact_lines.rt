@@ -4,14 +4,11 @@
 //! a line that is written otherwise isn't taken, and is left to the JSON reader. The line of a
 //! piece of an order is guessed from its bytes, and taken only where the line that is written for
 //! the guess is the very same; so nothing rests on the guess but the time that it takes.
-ghost use Rattle.std.specs.Prelude.{◌≡◌, ◌<◌, ◌≤◌, ◌++◌, codes, decimal, length, slice_index, Ok, IfOk, IfSome, IsTrue};
+ghost use Rattle.std.specs.Prelude.{◌≡◌, ◌<◌, ◌≤◌, ◌++◌, codes, decimal, length, slice_index, IfOk, IfSome, IsTrue};
 ghost use Rattle.json.specs.Print.{quoted};
 ghost use Rattle.counted_devices.specs.Cuts.{with_end};
-ghost use Rattle.file_format.specs.HallRows.{hall_row_in};
-ghost use Rattle.file_format.specs.Lines.{Shows};
-ghost use Rattle.file_format.specs.OrderLines.{piece_in};
+ghost use Rattle.file_format.specs.CanonicalLines.{IsHallRowLine, IsPieceLine, IsRowLine};
 ghost use Rattle.file_format.specs.Ranges.{HasAnswerIn, HasValueIn, IsInRange, IsInvocation, IsNote, IsOp, IsResponse, IsValue};
-ghost use Rattle.file_format.specs.Rows.{row_in};
 ghost use Rattle.file_format.specs.RowTexts.{asked_text, noted_text, returned_text, row_bytes};
 ghost use Rattle.file_format.specs.Texts.{hall_text};
 
@@ -417,7 +414,7 @@ pub(crate) fn written_row(
     seen: &mut SeenTexts,
     line: &[u8],
 ) -> Result<Option<Row>, Memory>
-    ensures { IfOk result (λ found. IfSome found (λ row. Shows row_in line.now (Ok row))) }
+    ensures { IfOk result (λ found. IfSome found (IsRowLine line.now)) }
 {
     let Some(PlacedRow { place, row }) = placed_row(alloc, seen, line)? else {
         return Ok(None);
@@ -447,8 +444,7 @@ pub(crate) fn written_hall_row(
     seen: &mut SeenTexts,
     line: &[u8],
 ) -> Result<Option<HallRow>, Memory>
-    ensures { IfOk result (λ found. IfSome found
-        (λ item. Shows (hall_row_in header) line.now (Ok item))) }
+    ensures { IfOk result (λ found. IfSome found (IsHallRowLine header line.now)) }
 {
     let Some(PlacedRow { place, row }) = placed_row(alloc, seen, line)? else {
         return Ok(None);
@@ -519,7 +515,7 @@ pub(crate) fn written_piece(
     seen: &mut SeenTexts,
     line: &[u8],
 ) -> Result<Option<KeyOrder>, Memory>
-    ensures { IfOk result (λ found. IfSome found (λ piece. Shows piece_in line.now (Ok piece))) }
+    ensures { IfOk result (λ found. IfSome found (IsPieceLine line.now)) }
 {
     let Some(piece) = guessed_piece(alloc, seen, line)? else {
         return Ok(None);

@@ -6,6 +6,7 @@ ghost use Rattle.recorder.specs.declared.order.KeyOrder.{KeyOrder};
 ghost use Rattle.recorder.specs.Histories.{Recorded};
 ghost use Rattle.file_format.specs.declared.fault.LineFault.{LineFault};
 ghost use Rattle.file_format.specs.declared.fault.LineFault.TheVariants.{Version};
+ghost use Rattle.file_format.specs.CanonicalLines.{IsRowLine, IsHallRowLine, IsPieceLine};
 ghost use Rattle.file_format.specs.Lines.{Shows};
 ghost use Rattle.file_format.specs.LineFaults.{FaultsAre, HasRowFault, HasHallRowFault, HasPieceFault, HasHeaderFault, HasFileHeaderFault};
 ghost use Rattle.file_format.specs.Readings.{Reads, FirstFaultInAll};
@@ -86,6 +87,23 @@ pub fn a_row_of_a_hall_has_the_fault_of_its_members()
 pub fn a_line_shows_one_row_or_fault()
     ensures { (line : List ℕ) (a b : Result Row LineFault) → Shows row_in line a
         → Shows row_in line b → a ≡ b }
+{}
+
+/// A line that is the one written for a row shows that row.
+pub fn a_line_written_for_a_row_shows_it()
+    ensures { (line : List ℕ) (row : Row) → IsRowLine line row → Shows row_in line (Ok row) }
+{}
+
+/// Behind a header, a line that is the one written for a row of a hall shows that row.
+pub fn a_line_written_for_a_row_of_a_hall_shows_it()
+    ensures { (header : FileHeader) (line : List ℕ) (item : HallRow)
+        → IsHallRowLine header line item → Shows (hall_row_in header) line (Ok item) }
+{}
+
+/// A line that is the one written for a piece of an order shows that piece.
+pub fn a_line_written_for_a_piece_shows_it()
+    ensures { (line : List ℕ) (piece : KeyOrder) → IsPieceLine line piece
+        → Shows piece_in line (Ok piece) }
 {}
 
 /// Bytes are read as one history.

@@ -1,0 +1,28 @@
+-- Lines that are byte for byte what is written for a row, for a row of a hall, or for a piece of an order.
+use Rattle.std.specs.Prelude.{ℕ, ◌≡◌, ◌<◌, ◌≤◌, List, length}
+use Rattle.recorder.specs.declared.row.Row.{Row}
+use Rattle.recorder.specs.declared.order.KeyOrder.{KeyOrder}
+use Rattle.counted_devices.specs.Cuts.{with_end}
+use Rattle.file_format.specs.declared.file_header.FileHeader.{FileHeader}
+use Rattle.file_format.specs.declared.hall_row.HallRow.{HallRow}
+use Rattle.file_format.specs.FileHeaders.{halls_in, place_in}
+use Rattle.file_format.specs.Ranges.{IsInRange, IsOrderInRange}
+use Rattle.file_format.specs.Texts.{placed_text, piece_text, row_text}
+
+-- the line, with its end, is the one that is written for the row, whose fields are in their ranges
+pub record IsRowLine (line : List ℕ) (row : Row) : Type 0 where
+  pub text : with_end line ≡ row_text row
+  pub range : IsInRange row
+
+-- the same of a row of one of the halls behind that header
+pub record IsHallRowLine (header : FileHeader) (line : List ℕ) (item : HallRow) : Type 0 where
+  pub text : with_end line ≡ placed_text (place_in header item.hall) item.row
+  pub hall : item.hall < halls_in header
+  pub few : item.hall < 64
+  pub range : IsInRange item.row
+
+-- the same of a piece of an order, of at most 1,000 calls
+pub record IsPieceLine (line : List ℕ) (piece : KeyOrder) : Type 0 where
+  pub text : with_end line ≡ piece_text piece
+  pub range : IsOrderInRange piece
+  pub few : length piece.order ≤ 1000
