@@ -25,14 +25,15 @@ fn follow_invoke(
     if op.0 as usize != history.calls() {
         return Err(Stop::Fault(LineFault::CallOutOfTurn));
     }
-    if history.is_busy(client) {
-        return Err(Stop::Fault(LineFault::ClientBusy));
-    }
     if earlier >= MOST_CALLS as usize {
+        if history.is_busy(client) {
+            return Err(Stop::Fault(LineFault::ClientBusy));
+        }
         return Err(Stop::Fault(LineFault::TooManyCalls));
     }
     match history.invoke(client, key, action) {
         Ok(_) => Ok(()),
+        Err(RowRefusal::ClientBusy) => Err(Stop::Fault(LineFault::ClientBusy)),
         Err(_) => Err(Stop::Memory),
     }
 }
