@@ -34,7 +34,7 @@ hall_ahead header batch halls hall history lt at =
     ∙ ap (λ (s : List ℕ). batch ++ s) (lines_more header hall history (drop (hall + 1) halls) ∙ ap (λ (n : ℕ). flat_map (placed_text (place_in header hall)) history.rows ++ lines_from header n (drop (hall + 1) halls)) next)
     ∙ sym (append_assoc batch (flat_map (placed_text (place_in header hall)) history.rows) (lines_from header (hall + 1) (drop (hall + 1) halls)))
 
-none_ahead : (header : FileHeader) (batch : List ℕ) (halls : List Recorded) (hall : ℕ) → length halls ≤ hall → batch ++ lines_from header hall (drop hall halls) ≡ batch
+pub none_ahead : (header : FileHeader) (batch : List ℕ) (halls : List Recorded) (hall : ℕ) → length halls ≤ hall → batch ++ lines_from header hall (drop hall halls) ≡ batch
 none_ahead header batch halls hall over = ap (λ (hs : List Recorded). batch ++ lines_from header hall hs) (dropped halls hall over) ∙ append-nil batch
   where
     dropped : (hs : List Recorded) (n : ℕ) → length hs ≤ n → drop n hs ≡ []
@@ -54,13 +54,3 @@ module _ (header : FileHeader) (a b c : Option (List ℕ)) (text batch : List �
   Begins-hall history lt at left begun =
       let P : List ℕ → Type 0 = λ r. Leaves a b text r in
       Begins-more a b c text (batch ++ flat_map (placed_text (place_in header hall)) history.rows) (lines_from header (hall + 1) (drop (hall + 1) halls)) (subst P (hall_ahead header batch halls hall history lt at) left) begun
-
-  pub Begins-none-left : length halls ≤ hall → Leaves a b text (batch ++ lines_from header hall (drop hall halls)) → Begins b c batch → Begins a c text
-  Begins-none-left over left begun =
-      let P : List ℕ → Type 0 = λ r. Leaves a b text r in
-      Begins-more a b c text batch [] (subst P (none_ahead header batch halls hall over ∙ sym (append-nil batch)) left) begun
-
-  pub Leaves-none-left : length halls ≤ hall → Leaves a b text (batch ++ lines_from header hall (drop hall halls)) → Leaves a b text batch
-  Leaves-none-left over left =
-      let P : List ℕ → Type 0 = λ r. Leaves a b text r in
-      subst P (none_ahead header batch halls hall over) left

@@ -29,3 +29,4 @@ pub mod HallTexts
 pub mod OneRowMore
 pub mod Votes
 pub mod OneHall
+mod WritingOn

@@ -30,3 +30,4 @@ pub mod Chunks
 pub mod PieceByPiece
 pub mod RowTexts
 pub mod CanonicalLines
+pub mod Writings

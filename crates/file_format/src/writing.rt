@@ -1,12 +1,12 @@
 //! Files to writers.
-ghost use Rattle.std.specs.Prelude.{◌≡◌, ◌++◌, OnOk, OnErr, IfOk, IfErr};
+ghost use Rattle.std.specs.Prelude.{◌≡◌, ◌++◌, OnOk, IfOk, IfErr};
 ghost use Rattle.std.specs.List.{flat_map};
-ghost use Rattle.counted_devices.specs.Sendings.{FailsBy, Sends, SendsBut, SendsStart};
 ghost use Rattle.file_format.specs.HistoryFormat.{IsHistory};
 ghost use Rattle.file_format.specs.OrderFormat.{AreFew};
 ghost use Rattle.file_format.specs.Ranges.{IsInRange, IsWritten, IsOrderInRange, HaveDistinctKeys};
 ghost use Rattle.file_format.specs.ReadAgain.{IsTextOf, IsTextOfHistories, IsTextOfOrders};
 ghost use Rattle.file_format.specs.Texts.{placed_text, piece_text, order_text, history_text, histories_text, orders_text};
+ghost use Rattle.file_format.specs.Writings.{BreaksOff, Writes, WritesBut};
 
 use crate::file_header::FileHeader;
 use crate::texts::{MOST_IN_PIECE, append_file_header, append_header, append_piece, append_row};
@@ -48,12 +48,10 @@ fn write_row<W: CountedWrite>(
     batch: &mut Vec<u8>,
     writer: &mut W,
 ) -> Result<(), WriteFault>
-    ensures sent { OnOk result (SendsBut W.contents writer.old writer.new
+    ensures sent { OnOk result (WritesBut W.contents W.failures writer.old writer.new
         (batch.old.items ++ placed_text hall row.now) batch.new.items) }
-    ensures begun { OnErr result (SendsStart W.contents writer.old writer.new
+    ensures broken { IfErr result (BreaksOff W.contents W.failures writer.old writer.new
         (batch.old.items ++ placed_text hall row.now)) }
-    ensures device { IfErr result (FailsBy W.failures writer.old writer.new) }
-    ensures counted { OnOk result (W.failures writer.new ≡ W.failures writer.old) }
     ensures range { OnOk result (IsInRange row.now) }
 {
     append_row(batch, hall, row)?;
@@ -70,12 +68,10 @@ pub fn write_history<W: CountedWrite>(
     history: &History,
     writer: &mut W,
 ) -> Result<(), WriteFault>
-    ensures written { OnOk result (Sends W.contents writer.old writer.new
+    ensures written { OnOk result (Writes W.contents W.failures writer.old writer.new
         (history_text history.now.rows)) }
-    ensures begun { OnErr result (SendsStart W.contents writer.old writer.new
+    ensures broken { IfErr result (BreaksOff W.contents W.failures writer.old writer.new
         (history_text history.now.rows)) }
-    ensures device { IfErr result (FailsBy W.failures writer.old writer.new) }
-    ensures counted { OnOk result (W.failures writer.new ≡ W.failures writer.old) }
     ensures read { OnOk result (IsTextOf (history_text history.now.rows) history.now.rows) }
 {
     let mut batch = Vec::new(alloc);
@@ -93,12 +89,10 @@ fn write_hall<W: CountedWrite>(
     batch: &mut Vec<u8>,
     writer: &mut W,
 ) -> Result<(), WriteFault>
-    ensures sent { OnOk result (SendsBut W.contents writer.old writer.new
+    ensures sent { OnOk result (WritesBut W.contents W.failures writer.old writer.new
         (batch.old.items ++ flat_map (placed_text hall) history.now.rows) batch.new.items) }
-    ensures begun { OnErr result (SendsStart W.contents writer.old writer.new
+    ensures broken { IfErr result (BreaksOff W.contents W.failures writer.old writer.new
         (batch.old.items ++ flat_map (placed_text hall) history.now.rows)) }
-    ensures device { IfErr result (FailsBy W.failures writer.old writer.new) }
-    ensures counted { OnOk result (W.failures writer.new ≡ W.failures writer.old) }
     ensures range { OnOk result (IsWritten history.now) }
 {
     for row in history.rows() {
@@ -117,12 +111,10 @@ pub fn write_histories<W: CountedWrite>(
     histories: &Histories,
     writer: &mut W,
 ) -> Result<(), WriteFault>
-    ensures written { OnOk result (Sends W.contents writer.old writer.new
+    ensures written { OnOk result (Writes W.contents W.failures writer.old writer.new
         (histories_text histories.now)) }
-    ensures begun { OnErr result (SendsStart W.contents writer.old writer.new
+    ensures broken { IfErr result (BreaksOff W.contents W.failures writer.old writer.new
         (histories_text histories.now)) }
-    ensures device { IfErr result (FailsBy W.failures writer.old writer.new) }
-    ensures counted { OnOk result (W.failures writer.new ≡ W.failures writer.old) }
     ensures read { OnOk result (IsTextOfHistories (histories_text histories.now) histories.now) }
 {
     let header = FileHeader::of(histories);
@@ -142,13 +134,11 @@ fn write_piece<W: CountedWrite>(
     batch: &mut Vec<u8>,
     writer: &mut W,
 ) -> Result<(), WriteFault>
-    ensures sent { OnOk result (SendsBut W.contents writer.old writer.new
-        (batch.old.items ++ piece_text
-        (record { key = key.now; order = calls.now })) batch.new.items) }
-    ensures begun { OnErr result (SendsStart W.contents writer.old writer.new
+    ensures sent { OnOk result (WritesBut W.contents W.failures writer.old writer.new
+        (batch.old.items ++ piece_text (record { key = key.now; order = calls.now }))
+        batch.new.items) }
+    ensures broken { IfErr result (BreaksOff W.contents W.failures writer.old writer.new
         (batch.old.items ++ piece_text (record { key = key.now; order = calls.now }))) }
-    ensures device { IfErr result (FailsBy W.failures writer.old writer.new) }
-    ensures counted { OnOk result (W.failures writer.new ≡ W.failures writer.old) }
     ensures range { OnOk result (IsOrderInRange (record { key = key.now; order = calls.now })) }
 {
     append_piece(batch, key, calls)?;
@@ -161,12 +151,10 @@ fn write_order<W: CountedWrite>(
     batch: &mut Vec<u8>,
     writer: &mut W,
 ) -> Result<(), WriteFault>
-    ensures sent { OnOk result (SendsBut W.contents writer.old writer.new
+    ensures sent { OnOk result (WritesBut W.contents W.failures writer.old writer.new
         (batch.old.items ++ order_text order.now) batch.new.items) }
-    ensures begun { OnErr result (SendsStart W.contents writer.old writer.new
+    ensures broken { IfErr result (BreaksOff W.contents W.failures writer.old writer.new
         (batch.old.items ++ order_text order.now)) }
-    ensures device { IfErr result (FailsBy W.failures writer.old writer.new) }
-    ensures counted { OnOk result (W.failures writer.new ≡ W.failures writer.old) }
     ensures range { OnOk result (IsOrderInRange order.now) }
 {
     let mut rest = order.order.as_slice();
@@ -187,12 +175,10 @@ pub fn write_orders<W: CountedWrite>(
     orders: &[KeyOrder],
     writer: &mut W,
 ) -> Result<(), WriteFault>
-    ensures written { OnOk result (Sends W.contents writer.old writer.new
+    ensures written { OnOk result (Writes W.contents W.failures writer.old writer.new
         (orders_text orders.now)) }
-    ensures begun { OnErr result (SendsStart W.contents writer.old writer.new
+    ensures broken { IfErr result (BreaksOff W.contents W.failures writer.old writer.new
         (orders_text orders.now)) }
-    ensures device { IfErr result (FailsBy W.failures writer.old writer.new) }
-    ensures counted { OnOk result (W.failures writer.new ≡ W.failures writer.old) }
     ensures read { OnOk result (HaveDistinctKeys orders.now → AreFew orders.now
         → IsTextOfOrders (orders_text orders.now) orders.now) }
 {
