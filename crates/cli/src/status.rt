@@ -1,6 +1,6 @@
 //! How a command ends: its exit status, and what it says of a failure.
 ghost use Rattle.std.specs.Prelude.{◌≡◌, ◌++◌, codes};
-ghost use Rattle.counted_devices.specs.Sendings.{joined};
+ghost use Rattle.counted_devices.specs.Sendings.{pieces_text};
 ghost use Rattle.cli.specs.FailureLines.{failure_line, fault_line};
 ghost use Rattle.cli.specs.Passages.{Tells, states};
 ghost use Rattle.cli.specs.Statuses.{code_of, status_of, status_of_kind};
@@ -71,7 +71,7 @@ fn kind_status<L: Copy>(kind: FaultKind<L>) -> Status
 /// Says the text that is given in these pieces. What the writer refuses is lost, as there is nowhere
 /// else to say it.
 pub fn say<E: CountedWrite>(pieces: &[&str], errors: &mut E)
-    ensures { Tells (states E.contents E.failures errors.old errors.new) (joined pieces.now) }
+    ensures { Tells (states E.contents E.failures errors.old errors.new) (pieces_text pieces.now) }
 {
     let _ = write_pieces(pieces, errors);
 }

@@ -43,5 +43,5 @@ abbrev pub FailsByDevice : {W : Type 0} → (W → ℕ) → W → W → WriteFau
 FailsByDevice failures old new why = (why ≡ fault.Device) × IsOneMore (failures old) (failures new)
 
 -- the text that is given in these pieces
-abbrev pub joined : List (Bor (List ℕ)) → List ℕ
-joined pieces = flat_map (λ piece. piece.now) pieces
+abbrev pub pieces_text : List (Bor (List ℕ)) → List ℕ
+pieces_text pieces = flat_map (λ piece. piece.now) pieces

@@ -1,6 +1,6 @@
 //! Texts on their way to a writer.
 ghost use Rattle.std.specs.Prelude.{◌≡◌, [], OnOk, OnErr, IfErr};
-ghost use Rattle.counted_devices.specs.Sendings.{FailsBy, FailsByDevice, Sends, SendsBut, SendsStart, joined};
+ghost use Rattle.counted_devices.specs.Sendings.{FailsBy, FailsByDevice, Sends, SendsBut, SendsStart, pieces_text};
 
 use crate::{CountedWrite, WriteFault};
 
@@ -62,8 +62,8 @@ pub fn write_text<W: CountedWrite>(text: &[u8], writer: &mut W) -> Result<(), Wr
 ///
 /// What went out is the text or, after a fault, a beginning of it. `Memory` doesn't come.
 pub fn write_pieces<W: CountedWrite>(pieces: &[&str], writer: &mut W) -> Result<(), WriteFault>
-    ensures written { OnOk result (Sends W.contents writer.old writer.new (joined pieces.now)) }
-    ensures begun { OnErr result (SendsStart W.contents writer.old writer.new (joined pieces.now)) }
+    ensures written { OnOk result (Sends W.contents writer.old writer.new (pieces_text pieces.now)) }
+    ensures begun { OnErr result (SendsStart W.contents writer.old writer.new (pieces_text pieces.now)) }
     ensures device { IfErr result (FailsByDevice W.failures writer.old writer.new) }
     ensures counted { OnOk result (W.failures writer.new ≡ W.failures writer.old) }
 {

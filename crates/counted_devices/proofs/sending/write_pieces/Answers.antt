@@ -3,7 +3,7 @@ use Rattle.std.proofs.lemmas.List.{at_drop_more}
 use Rattle.std.proofs.lemmas.Result.{err_from_is_err_and}
 use Rattle.std.specs.Borrow.{Bor}
 use Rattle.counted_devices.specs.Leaving.{Begins-more, Leaves-more, Leaves-none, on_err}
-use Rattle.counted_devices.specs.Sendings.{Begins, Leaves, joined}
+use Rattle.counted_devices.specs.Sendings.{Begins, Leaves, pieces_text}
 use Rattle.counted_devices.proofs.sending.write_pieces.Goals as goal
 
 pub returns-in_err-write_all-clause-begun : goal.returns-in_err-write_all-clause-begun
@@ -14,11 +14,11 @@ returns-in_err-write_all-clause-begun g c =
     let after = g.W.Write.contents c.write_all.new.writer in
     let pieces = c.args.pieces.now in
     let none : Bor (List ℕ) = record { ref_ptr = (0, 0); now = [] } in
-    let P : List ℕ → Type 0 = λ text. Leaves old before (joined pieces) text in
+    let P : List ℕ → Type 0 = λ text. Leaves old before (pieces_text pieces) text in
     let Q : List ℕ → Type 0 = λ text. Begins before after text in
     on_err c.from_residual.result
-    (Begins-more old before after (joined pieces) (get_or pieces at.piece-index none).now (joined (drop (at.piece-index + 1) pieces))
-    (subst P (at_drop_more joined pieces at.piece-index none c.loop-piece-test.true) at.invariant.left)
+    (Begins-more old before after (pieces_text pieces) (get_or pieces at.piece-index none).now (pieces_text (drop (at.piece-index + 1) pieces))
+    (subst P (at_drop_more pieces_text pieces at.piece-index none c.loop-piece-test.true) at.invariant.left)
     (subst Q c.as_bytes.ensures.value c.in_err-write_all.ensures.begun))
 
 pub returns-in_err-write_all-clause-device : goal.returns-in_err-write_all-clause-device
@@ -34,11 +34,11 @@ loop-piece-preserved g c =
     let after = g.W.Write.contents c.write_all.new.writer in
     let pieces = c.args.pieces.now in
     let none : Bor (List ℕ) = record { ref_ptr = (0, 0); now = [] } in
-    let P : List ℕ → Type 0 = λ text. Leaves old before (joined pieces) text in
+    let P : List ℕ → Type 0 = λ text. Leaves old before (pieces_text pieces) text in
     let Q : List ℕ → Type 0 = λ text. Leaves before after text [] in
     record {
-      left = Leaves-more old before after (joined pieces) (get_or pieces at.piece-index none).now (joined (drop (at.piece-index + 1) pieces)) []
-          (subst P (at_drop_more joined pieces at.piece-index none c.loop-piece-test.true) at.invariant.left)
+      left = Leaves-more old before after (pieces_text pieces) (get_or pieces at.piece-index none).now (pieces_text (drop (at.piece-index + 1) pieces)) []
+          (subst P (at_drop_more pieces_text pieces at.piece-index none c.loop-piece-test.true) at.invariant.left)
           (subst Q c.as_bytes.ensures.value (Leaves-none before after c.as_bytes.result.now c.in_ok-write_all.ensures.sent));
       same = c.in_ok-write_all.ensures.counted ∙ at.invariant.same;
     }
