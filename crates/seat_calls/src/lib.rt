@@ -19,6 +19,7 @@ pub use entry::Entry;
 pub use errand::Errand;
 pub use errors::CallError;
 pub use gate::{Gate, OpenGate, Passage, Place};
+pub use patience::send_awaited;
 pub use receipt::Receipt;
 pub use replicas::{Parcel, Report, serve};
 pub use seat::{Answer, Seat};

@@ -1,6 +1,6 @@
 //! Replicas, each served by a thread of its own.
 use crate::gate::{Gate, Passage, Place};
-use crate::patience::next_message;
+use crate::patience::{next_message, send_awaited};
 use crossbeam_channel::{Receiver, Sender};
 use hall_turns::FreePass;
 use std::sync::Wait;
@@ -47,7 +47,7 @@ pub fn serve<R: Wait, G: Gate>(
             Some(pass) => handle(rt, gate, replica, pass, &parcel),
             None => Report::Blank,
         };
-        let _ = parcel.reports.send(rt, report);
+        send_awaited(rt, &parcel.reports, report);
     }
 }
 
