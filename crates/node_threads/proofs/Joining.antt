@@ -2,6 +2,7 @@
 use Rattle.std.proofs.Common.{◌≡◌, ℕ, zero, suc, List, [], ◌∷◌, ◌++◌, refl, sym, subst, inl, inr}
 use Rattle.hall_turns.specs.Turns.{ClientView}
 use Rattle.seat_calls.specs.Seats.{AreFresh, AreZero, IsFresh}
+use Rattle.node_threads.specs.Joins.{AreOfClient}
 use Rattle.node_threads.proofs.Lists.{after_push}
 
 -- one pass more
@@ -10,6 +11,10 @@ fresh_more client passes pass fresh is k one at = elim (after_push passes pass k
   | inl old ↦ fresh k one old
   | inr new ↦ subst (IsFresh client) new.1 is
 ]
+
+-- fresh passes are their client's
+pub are_of_client : (client : ℕ) (passes : List ClientView) → AreFresh client passes → AreOfClient client passes
+are_of_client client passes fresh k pass at = (fresh k pass at).client
 
 zero_behind : (places : List ℕ) → AreZero places → AreZero (places ++ 0 ∷ [])
 zero_behind [] none zero = refl

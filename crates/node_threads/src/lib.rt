@@ -9,11 +9,14 @@
 mod closing;
 mod config;
 mod errors;
+mod join;
 mod snapshot;
 mod store;
 
 pub use closing::{Closed, ClosedHall};
 pub use config::StoreConfig;
 pub use errors::{CloseError, JoinError, StartError};
+pub use hall_turns::ClientPass;
+pub use join::JoinRefused;
 pub use seat_calls::{Answer, CallError, Entry, Gate, OpenGate, Passage, Place, Receipt, Seat};
 pub use store::Store;

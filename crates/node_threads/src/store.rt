@@ -5,17 +5,18 @@ ghost use Rattle.std.specs.Fn.{FnOnceReturnsAt};
 ghost use Rattle.hall_turns.specs.Turns.{IsTold};
 ghost use Rattle.seat_calls.specs.Answers.{FailsWith, HasFailed, IsAnswered};
 ghost use Rattle.node_threads.specs.Closings.{Closes, HasForeign};
-ghost use Rattle.seat_calls.specs.Seats.{AreFresh, AreStopped, AreZero, seen_in};
+ghost use Rattle.node_threads.specs.Joins.{IsNewSeat, IsStoppedBelow};
 ghost use Rattle.node_threads.specs.Snapshots.{Shows};
 
 use crate::closing::{Closed, are_logged, are_of_store, closed_halls, end_replicas};
 use crate::config::StoreConfig;
 use crate::errors::{CloseError, JoinError, StartError};
+use crate::join::{JoinRefused, join_halls, none_seen, stop_all};
 use crate::snapshot::shown;
 use crossbeam_channel::{Receiver, Sender, unbounded};
-use hall_turns::{ClientPass, FreePass};
+use hall_turns::FreePass;
 use recorder::{Halls, History};
-use seat_calls::{Answer, CallError, Errand, Gate, Parcel, Seat, serve};
+use seat_calls::{Answer, CallError, Errand, Gate, Parcel, Seat, send_awaited, serve};
 use std::alloc::Global;
 use std::marker::Model;
 use std::sync::{Arc, Mutex, Wait};
@@ -140,7 +141,7 @@ where
     let theirs = Arc::try_clone(gate).map_err(|_| StartError::Memory)?;
     let started = thread::spawn(rt, move || {
         serve(&own, &*theirs, replica, passes, parcels);
-        let _ = ended.send(&own, replica);
+        send_awaited(&own, &ended, replica);
     });
     if started.is_err() {
         return Err(StartError::Thread);
@@ -163,21 +164,42 @@ fn others<R: Wait>(
 
 impl<G: Gate> Store<G> {
     /// A seat for a new client, in all halls. After an error the client is stopped in the halls that it
-    /// had joined, and its name is spent there.
+    /// had joined, and its name is spent there; `join_every_hall` hands back the ways to these.
     pub fn join<R: Wait>(&self, rt: &R, alloc: Global, client: ClientId) -> Result<Seat, JoinError>
-        ensures store { IfOk result (λ seat. seat.store ≡ self.now.number) }
-        ensures client { IfOk result (λ seat. seat.client ≡ client) }
-        ensures fresh { IfOk result (λ seat. (seat.log ≡ []) × (seat.is_spent ≡ false)) }
-        ensures seen { IfOk result (λ seat. (hall : ℕ) → seen_in seat hall ≡ 0) }
-        ensures halls { IfOk result (λ seat. length seat.passes ≡ self.now.halls) }
+        ensures seated { IfOk result (IsNewSeat self.now client) }
     {
-        let seen = none_seen(alloc, self.roots.len())?;
+        match self.join_every_hall(rt, alloc, client) {
+            Ok(seat) => Ok(seat),
+            Err(refused) => Err(refused.error),
+        }
+    }
+
+    /// As `join`, which is this call without what a refusal leaves: the ways to the halls below the one
+    /// that refused, in each of which the client is stopped.
+    pub fn join_every_hall<R: Wait>(
+        &self,
+        rt: &R,
+        alloc: Global,
+        client: ClientId,
+    ) -> Result<Seat, JoinRefused>
+        ensures seated { IfOk result (IsNewSeat self.now client) }
+        ensures stopped { IfErr result (λ refused.
+            IsStoppedBelow self.now client refused.stopped.items) }
+    {
         let mut passes = Vec::new(alloc);
-        for root in &self.roots {
-            if let Err(error) = join_hall(rt, root, &mut passes, client) {
-                stop_all(rt, &mut passes);
-                return Err(error);
-            }
+        let seen = match none_seen(alloc, self.roots.len()) {
+            Ok(seen) => seen,
+            Err(error) => return Err(JoinRefused {
+                error,
+                stopped: passes,
+            }),
+        };
+        if let Err(error) = join_halls(rt, &self.roots, client, &mut passes) {
+            stop_all(rt, client, &mut passes);
+            return Err(JoinRefused {
+                error,
+                stopped: passes,
+            });
         }
         Ok(Seat::new(alloc, self.number, client, passes, seen))
     }
@@ -330,45 +352,5 @@ impl<G: Gate + Drop> Store<G> {
             return Err(CloseError::SeatMismatch);
         }
         Ok(Closed { halls })
-    }
-}
-
-/// The places that a new seat has seen of so many halls: 0 of each.
-fn none_seen(alloc: Global, halls: usize) -> Result<Vec<usize>, JoinError>
-    ensures count { IfOk result (λ seen. length seen.items ≡ halls) }
-    ensures zero { IfOk result (λ seen. AreZero seen.items) }
-{
-    let mut seen = Vec::new(alloc);
-    for _ in 0..halls {
-        seen.push(0)?;
-    }
-    Ok(seen)
-}
-
-/// Has the client join a hall, whose pass comes behind those of the halls before.
-fn join_hall<R: Wait>(
-    rt: &R,
-    root: &Mutex<FreePass>,
-    passes: &mut Vec<ClientPass>,
-    client: ClientId,
-) -> Result<(), JoinError>
-    requires { AreFresh client passes.old.items }
-    ensures fresh { AreFresh client passes.new.items }
-    ensures one { OnOk result (length passes.new.items ≡ length passes.old.items + 1) }
-{
-    passes.reserve(1)?;
-    let free = root.lock(rt).another()?;
-    let pass = free.join(rt, client)?;
-    let _ = pass.client();
-    passes.push_reserved(pass);
-    Ok(())
-}
-
-/// Stops the client in the halls of these passes.
-fn stop_all<R: Wait>(rt: &R, passes: &mut [ClientPass])
-    ensures { AreStopped passes.new }
-{
-    for pass in passes.iter_mut() {
-        pass.stop(rt);
     }
 }

@@ -3,7 +3,7 @@ use Rattle.std.proofs.lemmas.List.{length_push}
 use Rattle.seat_calls.specs.Seats.{AreFresh}
 use Rattle.node_threads.proofs.Lists.{behind}
 use Rattle.node_threads.proofs.Joining.{fresh_more}
-use Rattle.node_threads.proofs.store.join_hall.Goals as goal
+use Rattle.node_threads.proofs.join.join_hall.Goals as goal
 
 pub returns : goal.returns
 returns g c =
@@ -12,6 +12,7 @@ returns g c =
       fresh = subst (AreFresh c.args.client) (sym more)
           (fresh_more c.args.client c.args.passes.now.items _ c.requires (record { client = c.in_ok-pass.ensures.client; running = c.in_ok-pass.ensures.running; recorded = c.client.ensures.recorded; unused = c.in_ok-pass.ensures.rows.1 }));
       one = ap length more ∙ length_push c.args.passes.now.items _;
+      none = tt;
     }
 
 pub returns-in_err-reserve-clause-fresh : goal.returns-in_err-reserve-clause-fresh

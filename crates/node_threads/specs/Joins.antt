@@ -1,0 +1,28 @@
+-- What becomes of a client that joins.
+use Rattle.std.specs.Prelude.{ℕ, ◌≡◌, ◌≤◌, false, List, [], Some, length, slice_get}
+use Rattle.hall_turns.specs.Turns.{ClientView}
+use Rattle.node_threads.specs.Stores.{Store}
+use Rattle.seat_calls.specs.Seats.{AreStopped, Seat, seen_in}
+
+-- the seat is of the client of that name in this store, in all its halls; it has made no call and seen nothing
+pub record IsNewSeat (place : Store) (name : ℕ) (s : Seat) : Type 0 where
+  pub store : s.store ≡ place.number
+  pub client : s.client ≡ name
+  pub unspent : s.is_spent ≡ false
+  pub log : s.log ≡ []
+  pub seen : (hall : ℕ) → seen_in s hall ≡ 0
+  pub halls : length s.passes ≡ place.halls
+
+-- the passes are the client's
+abbrev pub AreOfClient : ℕ → List ClientView → Type 0
+AreOfClient client passes = (k : ℕ) (pass : ClientView) → slice_get passes k ≡ Some pass → pass.client ≡ client
+
+-- the passes are the client's, and it is stopped in the hall of each
+pub record AreOfStoppedClient (client : ℕ) (passes : List ClientView) : Type 0 where
+  pub own : AreOfClient client passes
+  pub stopped : AreStopped passes
+
+-- these are ways to some of the store's halls, or to none, and the client is stopped in each of them
+pub record IsStoppedBelow (store : Store) (client : ℕ) (passes : List ClientView) : Type 0 where
+  pub halls : length passes ≤ store.halls
+  pub stopped : AreOfStoppedClient client passes

@@ -1,0 +1,81 @@
+//! How a client joins the halls of a store, and what is left of it where one refuses.
+ghost use Rattle.std.specs.Prelude.{◌≡◌, ◌≤◌, ◌+◌, [], length, IfOk, OnErr, OnOk};
+ghost use Rattle.node_threads.specs.Joins.{AreOfClient, AreOfStoppedClient};
+ghost use Rattle.seat_calls.specs.Seats.{AreFresh, AreZero};
+
+use crate::errors::JoinError;
+use hall_turns::{ClientPass, FreePass};
+use std::alloc::Global;
+use std::sync::{Mutex, Wait};
+use tag::ClientId;
+
+/// Why a client has no seat, and what is left of it.
+#[derive(Drop)]
+pub struct JoinRefused {
+    /// Why.
+    pub error: JoinError,
+    /// The ways to the halls below the one that refused, hall 0 first. The client is stopped in each.
+    pub stopped: Vec<ClientPass>,
+}
+
+/// The places that a new seat has seen of so many halls: 0 of each.
+pub(crate) fn none_seen(alloc: Global, halls: usize) -> Result<Vec<usize>, JoinError>
+    ensures count { IfOk result (λ seen. length seen.items ≡ halls) }
+    ensures zero { IfOk result (λ seen. AreZero seen.items) }
+{
+    let mut seen = Vec::new(alloc);
+    for _ in 0..halls {
+        seen.push(0)?;
+    }
+    Ok(seen)
+}
+
+/// Has the client join these halls, one after another, up to the first that refuses. The passes of those
+/// that it joined come in their order.
+pub(crate) fn join_halls<R: Wait>(
+    rt: &R,
+    roots: &[Mutex<FreePass>],
+    client: ClientId,
+    passes: &mut Vec<ClientPass>,
+) -> Result<(), JoinError>
+    requires { passes.old.items ≡ [] }
+    ensures fresh { AreFresh client passes.new.items }
+    ensures most { length passes.new.items ≤ length roots.now }
+    ensures all { OnOk result (length passes.new.items ≡ length roots.now) }
+{
+    for root in roots {
+        join_hall(rt, root, passes, client)?;
+    }
+    Ok(())
+}
+
+/// Has the client join a hall, whose pass comes behind those of the halls before.
+fn join_hall<R: Wait>(
+    rt: &R,
+    root: &Mutex<FreePass>,
+    passes: &mut Vec<ClientPass>,
+    client: ClientId,
+) -> Result<(), JoinError>
+    requires { AreFresh client passes.old.items }
+    ensures fresh { AreFresh client passes.new.items }
+    ensures one { OnOk result (length passes.new.items ≡ length passes.old.items + 1) }
+    ensures none { OnErr result (length passes.new.items ≡ length passes.old.items) }
+{
+    passes.reserve(1)?;
+    let free = root.lock(rt).another()?;
+    let pass = free.join(rt, client)?;
+    let _ = pass.client();
+    passes.push_reserved(pass);
+    Ok(())
+}
+
+/// Stops the client in the halls of these passes, which are its own.
+pub(crate) fn stop_all<R: Wait>(rt: &R, client: ClientId, passes: &mut [ClientPass])
+    requires { AreOfClient client passes.old }
+    ensures stopped { AreOfStoppedClient client passes.new }
+    ensures count { length passes.new ≡ length passes.old }
+{
+    for pass in passes.iter_mut() {
+        pass.stop(rt);
+    }
+}
