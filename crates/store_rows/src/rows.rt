@@ -1,6 +1,8 @@
 //! The rows.
 use crate::gates::{LosesReplies, Twins};
-use crate::scene::{are_atomic, both, failed, gave_a, read, seat_of, store_of, word, write};
+use crate::scene::{
+    AMPLE, Limits, are_atomic, both, failed, gave_a, read, seat_of, store_of, word, write,
+};
 use node_threads::{Answer, CallError, CloseError, Closed, JoinError, OpenGate, Seat, Store};
 use recorder::Row;
 use std::alloc::Global;
@@ -9,12 +11,21 @@ use std::thread::Threads;
 use tag::{ClientId, ReplicaId};
 use world_steps::Refusal;
 
+const ONE_CALL: Limits = Limits { calls: 1, ..AMPLE };
+
+const FOUR_FLIGHTS: Limits = Limits {
+    flights: 4,
+    ..AMPLE
+};
+
+const TWO_ROUNDS: Limits = Limits { rounds: 2, ..AMPLE };
+
 /// A second call finds the record full, its seat isn't spent, and a third finds the same.
 pub fn few_calls<R>(rt: &R, alloc: Global) -> Option<&'static str>
 where
     R: Threads + Wait + Copy + Send + 'static,
 {
-    let store = store_of(rt, alloc, 1, 1, 1000, OpenGate)?;
+    let store = store_of(rt, alloc, 1, ONE_CALL, OpenGate)?;
     let mut seat = seat_of(rt, alloc, &store, 1)?;
     let first = write(rt, alloc, &store, &mut seat).is_ok();
     let second = failed(read(rt, alloc, &store, &mut seat), CallError::Full);
@@ -28,7 +39,7 @@ pub fn few_flights<R>(rt: &R, alloc: Global) -> Option<&'static str>
 where
     R: Threads + Wait + Copy + Send + 'static,
 {
-    let store = store_of(rt, alloc, 1, 1000, 4, OpenGate)?;
+    let store = store_of(rt, alloc, 1, FOUR_FLIGHTS, OpenGate)?;
     let mut seat = seat_of(rt, alloc, &store, 1)?;
     let first = failed(read(rt, alloc, &store, &mut seat), CallError::Full);
     let second = failed(read(rt, alloc, &store, &mut seat), CallError::SeatSpent);
@@ -64,8 +75,8 @@ pub fn two_stores<R>(rt: &R, alloc: Global) -> Option<&'static str>
 where
     R: Threads + Wait + Copy + Send + 'static,
 {
-    let one = store_of(rt, alloc, 1, 1000, 1000, OpenGate)?;
-    let two = store_of(rt, alloc, 2, 1000, 1000, OpenGate)?;
+    let one = store_of(rt, alloc, 1, AMPLE, OpenGate)?;
+    let two = store_of(rt, alloc, 2, AMPLE, OpenGate)?;
     let mut own = seat_of(rt, alloc, &one, 1)?;
     let mut other = seat_of(rt, alloc, &two, 1)?;
     let foreign = is_foreign(rt, alloc, &two, &mut other, &mut own);
@@ -111,7 +122,7 @@ pub fn lost_replies<R>(rt: &R, alloc: Global) -> Option<&'static str>
 where
     R: Threads + Wait + Copy + Send + 'static,
 {
-    let store = store_of(rt, alloc, 1, 1000, 1000, LosesReplies)?;
+    let store = store_of(rt, alloc, 1, TWO_ROUNDS, LosesReplies)?;
     let mut seat = seat_of(rt, alloc, &store, 1)?;
     let first = failed(read(rt, alloc, &store, &mut seat), CallError::Unavailable);
     Some(word(first && seat.is_spent()))
@@ -122,7 +133,7 @@ pub fn written_twice<R>(rt: &R, alloc: Global) -> Option<&'static str>
 where
     R: Threads + Wait + Copy + Send + 'static,
 {
-    let store = store_of(rt, alloc, 1, 1000, 1000, Twins)?;
+    let store = store_of(rt, alloc, 1, AMPLE, Twins)?;
     let mut seat = seat_of(rt, alloc, &store, 1)?;
     let mut second = seat_of(rt, alloc, &store, 2)?;
     let met = has_met(write(rt, alloc, &store, &mut seat), &mut second);
@@ -145,7 +156,7 @@ pub fn stopped_replicas<R>(rt: &R, alloc: Global) -> Option<&'static str>
 where
     R: Threads + Wait + Copy + Send + 'static,
 {
-    let store = store_of(rt, alloc, 1, 1000, 1000, OpenGate)?;
+    let store = store_of(rt, alloc, 1, TWO_ROUNDS, OpenGate)?;
     let mut first = seat_of(rt, alloc, &store, 1)?;
     let mut second = seat_of(rt, alloc, &store, 2)?;
     let good = go_down_and_up(rt, alloc, &store, &mut first, &mut second);
@@ -186,7 +197,7 @@ pub fn name_taken<R>(rt: &R, alloc: Global) -> Option<&'static str>
 where
     R: Threads + Wait + Copy + Send + 'static,
 {
-    let store = store_of(rt, alloc, 1, 1000, 1000, OpenGate)?;
+    let store = store_of(rt, alloc, 1, AMPLE, OpenGate)?;
     let seat = seat_of(rt, alloc, &store, 7)?;
     let taken = match store.join(rt, alloc, ClientId::new(7).ok()?) {
         Ok(_) => false,

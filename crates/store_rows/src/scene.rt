@@ -1,5 +1,5 @@
 //! Stores, seats and calls as rows name them.
-ghost use Rattle.std.specs.Prelude.{◌≡◌, IfSome};
+ghost use Rattle.std.specs.Prelude.{◌≡◌, ◌≤◌, IfSome};
 
 use certificate_check::{Verdict, check_part};
 use node_threads::{Answer, CallError, Closed, ClosedHall, Gate, Seat, Store, StoreConfig};
@@ -22,23 +22,38 @@ pub fn config_of(replicas: u8, rounds: u16, halls: u8) -> Option<StoreConfig>
     })
 }
 
+/// How much a store may do.
+#[derive(Clone, Copy)]
+pub struct Limits {
+    pub calls: u32,
+    pub flights: u32,
+    pub rounds: u16,
+}
+
+/// The limits of a row that needs no others.
+pub const AMPLE: Limits = Limits {
+    calls: 1000,
+    flights: 1000,
+    rounds: 1000,
+};
+
 /// A store of three replicas and one hall.
 pub fn store_of<R, G>(
     rt: &R,
     alloc: Global,
     number: u64,
-    calls: u32,
-    flights: u32,
+    limits: Limits,
     gate: G,
 ) -> Option<Store<G>>
 where
     R: Threads + Wait + Copy + Send + 'static,
     G: Gate + Send + Sync + Drop + 'static,
+    requires { (1 ≤ limits.rounds) × (limits.rounds ≤ 10000) }
 {
     let config = StoreConfig {
         store: number,
-        world: Config::new(3, calls, flights)?,
-        rounds: 2,
+        world: Config::new(3, limits.calls, limits.flights)?,
+        rounds: limits.rounds,
         halls: Halls::new(1)?,
     };
     Store::start(rt, alloc, config, gate).ok()

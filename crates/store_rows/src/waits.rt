@@ -1,4 +1,6 @@
 //! Rows in which threads wait for each other at a gate.
+ghost use Rattle.std.specs.Prelude.{◌≤◌};
+
 use crate::gates::{HoldsAnswer, HoldsPlace, Meeting, MeetsAtReplies};
 use crate::scene::{closes_both, config_of, gave_a, read, seat_of, word, write};
 use crate::signals::{Signal, Signals};
@@ -66,13 +68,20 @@ where
     )
 }
 
-/// The first replicas are stopped when a call comes to the place of that number: what the calls answer, and whether
-/// the store then closes.
-fn stopped_at<R>(rt: &R, alloc: Global, number: u64, count: u8) -> Option<(Calls, bool)>
+/// So many first replicas are stopped when a call comes to the place of that number: what the calls answer, and
+/// whether the store then closes.
+fn stopped_at<R>(
+    rt: &R,
+    alloc: Global,
+    number: u64,
+    count: u8,
+    rounds: u16,
+) -> Option<(Calls, bool)>
 where
     R: Threads + Wait + Clock + Copy + Send + Sync + 'static,
+    requires { (1 ≤ rounds) × (rounds ≤ 10000) }
 {
-    let config = config_of(3, 3, 1)?;
+    let config = config_of(3, rounds, 1)?;
     let signals = Arc::new(alloc, Signals::new()).ok()?;
     let gate = HoldsPlace {
         rt: *rt,
@@ -95,7 +104,7 @@ where
     R: Threads + Wait + Clock + Copy + Send + Sync + 'static,
 {
     for number in 1..27 {
-        let ((written, found), good) = stopped_at(rt, alloc, number, 1)?;
+        let ((written, found), good) = stopped_at(rt, alloc, number, 1, 1000)?;
         if written.is_err() || !gave_a(found) || !good {
             return Some(word(false));
         }
@@ -118,7 +127,7 @@ where
     R: Threads + Wait + Clock + Copy + Send + Sync + 'static,
 {
     for number in 1..27 {
-        let ((written, found), good) = stopped_at(rt, alloc, number, 2)?;
+        let ((written, found), good) = stopped_at(rt, alloc, number, 2, 3)?;
         if !is_answered_or_not(written) || !is_answered_or_not(found) || !good {
             return Some(word(false));
         }
