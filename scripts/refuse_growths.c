@@ -16,7 +16,7 @@ static int refused(void)
         const char *text = getenv("REFUSE_AT");
         at = text ? strtoul(text, NULL, 10) : (unsigned long)-1;
     }
-    if (++seen != at)
+    if (__atomic_add_fetch(&seen, 1, __ATOMIC_RELAXED) != at)
         return 0;
     if (write(9, "refused\n", 8) < 0)
         _exit(99);

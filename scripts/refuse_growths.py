@@ -5,11 +5,18 @@ Runs built programs with the library before them that refuses one growth, the fi
 - abd: a check, a justify and a simulate of an example. With a refusal a run has the very answer of a run without one, or status 4,
   nothing on standard output and one line on standard error, which names memory and a line of the file, or the number behind
   its last where all lines were read. The first line that is named is line 1, and a later growth never names an earlier line.
+- abd run: with a refusal it writes a history that justify and check say yes of, and of its callers no more is said than that a call
+  was refused, or that one was unavailable (a replica's thread may have met the refusal); or status 4, nothing on standard output, and
+  behind such lines one that names memory or a thread.
 - the row programs: each row alone. What is said of it is what is expected, up to a line that names memory, or that a thread couldn't be
   started for want of it, or a step that the program couldn't make, or to the program's end.
+- running_store: a key that it names has the verdict yes, whatever was refused.
 - growth_tests and parallel_tests: each test of a refused growth. It passes (it calls again after a refused growth, and compares whole
   worlds, pools, replicas, clients and histories as they were before the call and after it, and verdicts), or it ends early, since a growth
   of its own was refused.
+- world_twin: its test ends early, and names memory; as a row it takes many growths.
+
+store_rows isn't gone over: a run of all its rows, most of which wait for threads, takes too long.
 """
 
 import os
@@ -23,9 +30,10 @@ MOST = 3000
 ALL = 1_000_000
 # What a row program says where it couldn't go on for want of memory, which a thread's start wants too; of the rows of seeds it says
 # statuses alone.
-WANT = r"(?i)memory|no thread|NO SUCH |not understood|(simulate|justify|check) 4\b"
-ROWS = {"record_rows", "protocol_rows", "command_rows"}
-TESTS = ["growth_tests", "parallel_tests"]
+WANT = r"(?i)memory|no thread|NO SUCH |NO RUN|NO CHECK|NO HISTORY|not understood|unavailable|(run|simulate|justify|check) 4\b"
+ROWS = ["command_rows", "protocol_rows", "record_rows", "run_rows"]
+# The tests that are gone over, by what their names have, and how many growths of each.
+TESTS = {"growth_tests": ("refused_growth", ALL), "parallel_tests": ("refused_growth", ALL), "world_twin": ("both_worlds", MOST)}
 
 
 class Wrong(Exception):
@@ -35,8 +43,8 @@ class Wrong(Exception):
 class Runs:
     """Runs of one program in one folder."""
 
-    def __init__(self, library, program, folder):
-        self.library, self.program, self.folder = library, program, folder
+    def __init__(self, library, program, folder, seconds=600):
+        self.library, self.program, self.folder, self.seconds = library, program, folder, seconds
 
     def run(self, words, at):
         """Whether the growth of that number was met, the status, and what came out on the two outputs."""
@@ -44,7 +52,11 @@ class Runs:
             def report():
                 os.dup2(told.fileno(), 9)
             env = {**os.environ, "LD_PRELOAD": self.library, "REFUSE_AT": str(at)}
-            ran = subprocess.run([self.program, *words], cwd=self.folder, env=env, preexec_fn=report, pass_fds=[9], capture_output=True)
+            given = {"cwd": self.folder, "env": env, "preexec_fn": report, "pass_fds": [9]}
+            try:
+                ran = subprocess.run([self.program, *words], **given, capture_output=True, timeout=self.seconds)
+            except subprocess.TimeoutExpired:
+                raise Wrong(f"{self.program} {' '.join(words)}, growth {at}: it didn't end in {self.seconds} s") from None
             met = told.seek(0, os.SEEK_END) > 0
         return met, ran.returncode, ran.stdout.decode(errors="replace"), ran.stderr.decode(errors="replace")
 
@@ -102,6 +114,64 @@ def commands(library, top):
         print(f"abd {' '.join(words)}: {count} growths, the right answer all the same at {same} of them, else status 4; lines named: {where}", flush=True)
 
 
+# Loads for abd run: one caller, and two callers in two halls while parcels are lost and doubled.
+LOADS = [
+    ["run", "--callers", "1", "--calls", "2", "--keys", "1"],
+    ["run", "--callers", "2", "--calls", "3", "--halls", "2", "--drop", "5", "--double", "7"],
+]
+CALL_REFUSED = r"abd: caller \d+: call refused (?:1 Unavailable|5 Memory)"
+RUN_FAILED = r"abd: (?:no memory|no thread|close refused 2 Memory)"
+
+
+def is_atomic(abd, history):
+    """Whether justify makes orders of the history, on which check says yes."""
+    with tempfile.TemporaryDirectory() as place:
+        with open(f"{place}/h", "w", encoding="utf-8") as file:
+            file.write(history)
+        justified = subprocess.run([abd, "justify", "h"], cwd=place, capture_output=True)
+        with open(f"{place}/o", "wb") as file:
+            file.write(justified.stdout)
+        checked = subprocess.run([abd, "check", "h", "o"], cwd=place, capture_output=True, text=True)
+    return justified.returncode == 0 and checked.returncode == 0 and all(line.endswith(": yes") for line in checked.stdout.splitlines())
+
+
+def loads(library, top):
+    """Runs of a store under a load."""
+    abd = os.path.abspath(f"{top}/crates/abd/out/abd")
+    runs = Runs(library, abd, top, 60)
+    for words in LOADS:
+        ends = {"written whole": 0, "written, calls refused": 0, "not written": 0}
+        met, at = True, 0
+        while met:
+            at += 1
+            met, status, out, errors = runs.run(words, at)
+            said = errors.splitlines()
+            if status == 4 and not out and said and re.fullmatch(RUN_FAILED, said[-1]):
+                ends["not written"] += 1
+                said.pop()
+            elif status == 0 and is_atomic(abd, out):
+                ends["written, calls refused" if said else "written whole"] += 1
+            else:
+                raise Wrong(f"abd {' '.join(words)}, growth {at}: status {status}, {out!r}, {errors!r}")
+            if any(not re.fullmatch(CALL_REFUSED, line) for line in said) or not met and (status, said) != (0, []):
+                raise Wrong(f"abd {' '.join(words)}, growth {at}: status {status}, {out!r}, {errors!r}")
+        print(f"abd {' '.join(words)}: {at - 1} growths; {', '.join(f'{end} {count}' for end, count in ends.items())}", flush=True)
+
+
+def store(library, top):
+    """The program that runs a store."""
+    runs = Runs(library, os.path.abspath(f"{top}/crates/running_store/out/running_store"), top, 60)
+    met, at, good = True, 0, 0
+    while met and at < MOST:
+        at += 1
+        met, status, out, errors = runs.run([], at)
+        lines = out.splitlines()
+        if status not in (0, 1) or errors or any(not line.endswith(": yes") for line in lines[1:]) or not met and status:
+            raise Wrong(f"running_store, growth {at}: status {status}, {out!r}, {errors!r}")
+        good += status == 0
+    print(f"running_store: {at - (not met)} growths; it ended well at {good - (not met)} of them", flush=True)
+
+
 def rows(library, top, name):
     """The rows of a row program, each alone."""
     folder = f"{top}/crates/{name}"
@@ -125,7 +195,7 @@ def rows(library, top, name):
                     lines = out.splitlines()
                     other = next((k for k, line in enumerate(lines) if wanted[k : k + 1] != [line]), len(lines))
                     # what a command wrote before it wanted memory may stand before that
-                    told = lines[other:] if name == "command_rows" else lines[other : other + 4]
+                    told = lines[other:] if name in ("command_rows", "run_rows") else lines[other : other + 4]
                     wants = not told or re.search(WANT, "\n".join(told))
                     if status == 0 or not wants:
                         raise Wrong(f"{name}, {data}, {block.splitlines()[0]!r}, growth {at}: status {status}, {out!r}, {errors!r}")
@@ -136,26 +206,28 @@ def rows(library, top, name):
 
 
 def tests(library, top, crate):
-    """The tests of a crate whose names say that a growth is refused."""
+    """The tests of a crate of which it is said what a refused growth leaves."""
+    named, most = TESTS[crate]
     runs = Runs(library, f"{top}/crates/{crate}/out/{crate}_tests", top)
     listed = subprocess.run([runs.program, "--list"], capture_output=True, text=True).stdout
-    names = [name for name in re.findall(r"^(\S+): test$", listed, re.M) if "refused_growth" in name]
+    names = [name for name in re.findall(r"^(\S+): test$", listed, re.M) if named in name]
     if not names:
-        raise Wrong(f"{crate}: it has no test of refused growths")
+        raise Wrong(f"{crate}: it has no such test")
     for name in names:
 
         def judge(at, status, out, errors):
-            if "Error: Memory" not in out + errors:
+            if not re.search(r"(?i)error: \"?(memory|no memory|allocfailed)", out + errors):
                 raise Wrong(f"{name}, growth {at}: status {status}, {out!r}, {errors!r}")
 
-        count, same, _ = runs.go_over([name], judge, ALL)
-        print(f"{name}: {count} growths; at {same} of them all was as it was, and the rest are the test's own", flush=True)
+        count, same, is_whole = runs.go_over([name], judge, most)
+        more = "" if is_whole else ", and more than these"
+        print(f"{name}: {count} growths{more}; at {same} of them all was as it was, and the rest are the test's own", flush=True)
 
 
 def main():
     library, top, *names = sys.argv[1:]
     bad = False
-    for name in names or ["abd", *sorted(ROWS), *TESTS]:
+    for name in names or ["abd", *ROWS, "running_store", *TESTS]:
         program = f"{top}/crates/{name}/out/{name}{'_tests' if name in TESTS else ''}"
         if not os.path.isfile(program):
             print(f"{name} is not built")
@@ -164,6 +236,9 @@ def main():
         try:
             if name == "abd":
                 commands(library, top)
+                loads(library, top)
+            elif name == "running_store":
+                store(library, top)
             elif name in ROWS:
                 rows(library, top, name)
             else:
