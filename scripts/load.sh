@@ -1,7 +1,7 @@
 #!/usr/bin/env bash
 # Loads of random options: each run's history is justified and checked, every key has to be yes, and each read of k0 by
-# caller 1 has to give what caller 1 wrote there last. Then 16 callers of 10,000 calls each, with parcels lost and doubled:
-# its time and its memory.
+# caller 1 has to give what caller 1 wrote there last. Then 16 callers of 10,000 calls each, and 16 of 2,000 calls each in
+# four halls of 15 replicas, with parcels lost and doubled: their time and their memory.
 #
 #   scripts/load.sh [SEED [RUNS]]     with the built program, crates/abd/out/abd; by hand, not in the gate
 set -euo pipefail
@@ -56,6 +56,12 @@ for ((run = 1; run <= runs; run++)); do
 done
 echo "$runs loads of seed $seed: all yes"
 
-/usr/bin/time -f "%e s, %M KiB" $abd run --callers 16 --calls 10000 --drop 5 --double 7 > "$work/h"
-$abd justify "$work/h" > "$work/o"
-$abd check "$work/h" "$work/o"
+# Runs with these options, and says what it took; each key has to be yes.
+large() {
+    /usr/bin/time -f "%e s, %M KiB" $abd run "$@" --drop 5 --double 7 > "$work/h"
+    $abd justify "$work/h" > "$work/o"
+    $abd check "$work/h" "$work/o"
+}
+
+large --callers 16 --calls 10000
+large --callers 16 --calls 2000 --replicas 15 --keys 8 --halls 4

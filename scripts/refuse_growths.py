@@ -147,14 +147,15 @@ def loads(library, top):
             met, status, out, errors = runs.run(words, at)
             said = errors.splitlines()
             if status == 4 and not out and said and re.fullmatch(RUN_FAILED, said[-1]):
-                ends["not written"] += 1
+                end = "not written"
                 said.pop()
             elif status == 0 and is_atomic(abd, out):
-                ends["written, calls refused" if said else "written whole"] += 1
+                end = "written, calls refused" if said else "written whole"
             else:
                 raise Wrong(f"abd {' '.join(words)}, growth {at}: status {status}, {out!r}, {errors!r}")
-            if any(not re.fullmatch(CALL_REFUSED, line) for line in said) or not met and (status, said) != (0, []):
+            if any(not re.fullmatch(CALL_REFUSED, line) for line in said) or not met and end != "written whole":
                 raise Wrong(f"abd {' '.join(words)}, growth {at}: status {status}, {out!r}, {errors!r}")
+            ends[end] += met
         print(f"abd {' '.join(words)}: {at - 1} growths; {', '.join(f'{end} {count}' for end, count in ends.items())}", flush=True)
 
 
