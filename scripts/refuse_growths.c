@@ -1,6 +1,8 @@
-/* Preloaded before a program: the growth numbered REFUSE_AT, from 1, is refused, and file descriptor 9 is told so. */
+/* Preloaded before a program: the growth numbered REFUSE_AT, from 1, is refused, and file descriptor 9 is told so. With REFUSE_AT=0 none is
+   refused, and as the program ends file descriptor 9 is told how many there were. */
 #include <stddef.h>
 #include <errno.h>
+#include <stdio.h>
 #include <stdlib.h>
 #include <unistd.h>
 
@@ -9,14 +11,23 @@ extern void *__libc_calloc(size_t, size_t);
 extern void *__libc_realloc(void *, size_t);
 extern void *__libc_memalign(size_t, size_t);
 
+static unsigned long at, seen;
+
+__attribute__((constructor)) static void begin(void)
+{
+    const char *text = getenv("REFUSE_AT");
+    at = text ? strtoul(text, NULL, 10) : (unsigned long)-1;
+}
+
+__attribute__((destructor)) static void end(void)
+{
+    if (at == 0)
+        dprintf(9, "%lu\n", seen);
+}
+
 static int refused(void)
 {
-    static unsigned long at, seen;
-    if (at == 0) {
-        const char *text = getenv("REFUSE_AT");
-        at = text ? strtoul(text, NULL, 10) : (unsigned long)-1;
-    }
-    if (__atomic_add_fetch(&seen, 1, __ATOMIC_RELAXED) != at)
+    if (__atomic_add_fetch(&seen, 1, __ATOMIC_RELAXED) != at || at == 0)
         return 0;
     if (write(9, "refused\n", 8) < 0)
         _exit(99);

@@ -1,6 +1,7 @@
 """refuse_growths.py LIBRARY TOP [NAME ..]
 
-Runs built programs with the library before them that refuses one growth, the first, the second and so on until a run meets none.
+Runs built programs with the library before them that refuses one growth, the first, the second and so on until a run meets none. Of a row
+with more than 600 growths, and of world_twin, the first 300 are refused and 300 more, evenly spread up to the last.
 
 - abd: a check, a justify and a simulate of an example. With a refusal a run has the very answer of a run without one, or status 4,
   nothing on standard output and one line on standard error, which names memory and a line of the file, or the number behind
@@ -14,9 +15,9 @@ Runs built programs with the library before them that refuses one growth, the fi
 - growth_tests and parallel_tests: each test of a refused growth. It passes (it calls again after a refused growth, and compares whole
   worlds, pools, replicas, clients and histories as they were before the call and after it, and verdicts), or it ends early, since a growth
   of its own was refused.
-- world_twin: its test ends early, and names memory; as a row it takes many growths.
-
-store_rows isn't gone over: a run of all its rows, most of which wait for threads, takes too long.
+- world_twin: its test ends early, and names memory.
+- store_rows: 300 growths, evenly spread over a run of all rows, most of which wait for threads. Each run ends, and at most one row, the
+  one that met the refusal, comes out otherwise.
 """
 
 import os
@@ -25,9 +26,12 @@ import subprocess
 import sys
 import tempfile
 
-# A row that goes over all small parts takes millions of growths: of a row no more than so many are refused.
-MOST = 3000
-ALL = 1_000_000
+# A row that goes over all small parts takes millions of growths: where there are more than both together, so many first ones are refused,
+# and so many others.
+FIRST = 300
+SPREAD = 300
+# What threads do differs from run to run: so many growths more than were counted may be met.
+MORE = 1000
 # What a row program says where it couldn't go on for want of memory, which a thread's start wants too; of the rows of seeds it says
 # statuses alone, and where there is little room for what is said, a beginning of it.
 WANT = (
@@ -35,12 +39,24 @@ WANT = (
     r"|standard error: a(b(d(:( (n(o( .*)?)?)?)?)?)?)?$"
 )
 ROWS = ["command_rows", "protocol_rows", "record_rows", "run_rows"]
-# The tests that are gone over, by what their names have, and how many growths of each.
-TESTS = {"growth_tests": ("refused_growth", ALL), "parallel_tests": ("refused_growth", ALL), "world_twin": ("both_worlds", MOST)}
+# The tests that are gone over, by what their names have, and whether all growths of each are.
+TESTS = {"growth_tests": ("refused_growth", True), "parallel_tests": ("refused_growth", True), "world_twin": ("both_worlds", False)}
 
 
 class Wrong(Exception):
     """Something came out that mustn't."""
+
+
+def spread(first, last, count):
+    """So many numbers behind the first, evenly spread up to the last."""
+    return [first + (last - first) * k // count for k in range(1, count + 1)]
+
+
+def chosen(count, all_of_them):
+    """Which growths of so many are refused."""
+    if all_of_them or count <= FIRST + SPREAD:
+        return list(range(1, count + 1))
+    return [*range(1, FIRST + 1), *spread(FIRST, count, SPREAD)]
 
 
 class Runs:
@@ -50,7 +66,7 @@ class Runs:
         self.library, self.program, self.folder, self.seconds = library, program, folder, seconds
 
     def run(self, words, at):
-        """Whether the growth of that number was met, the status, and what came out on the two outputs."""
+        """What was told of growths, the status, and what came out on the two outputs."""
         with tempfile.TemporaryFile() as told:
             def report():
                 os.dup2(told.fileno(), 9)
@@ -60,28 +76,33 @@ class Runs:
                 ran = subprocess.run([self.program, *words], **given, capture_output=True, timeout=self.seconds)
             except subprocess.TimeoutExpired:
                 raise Wrong(f"{self.program} {' '.join(words)}, growth {at}: it didn't end in {self.seconds} s") from None
-            met = told.seek(0, os.SEEK_END) > 0
-        return met, ran.returncode, ran.stdout.decode(errors="replace"), ran.stderr.decode(errors="replace")
+            told.seek(0)
+            said = told.read().decode()
+        return said, ran.returncode, ran.stdout.decode(errors="replace"), ran.stderr.decode(errors="replace")
 
-    def go_over(self, words, judge, most):
-        """Refuses each growth in turn. How many there are, of how many the answer was the one without a refusal, and whether these are all."""
-        wanted = self.run(words, 0)[1:]
-        if wanted[0] != 0:
-            raise Wrong(f"{' '.join(words)} fails without a refusal: {wanted}")
-        same = 0
-        for at in range(1, most + 1):
+    def whole(self, words):
+        """How many growths a run without a refusal has, the status, and what came out."""
+        count, *wanted = self.run(words, 0)
+        if wanted[0] != 0 or not count.strip().isdigit() or int(count) == 0:
+            raise Wrong(f"{' '.join(words)} fails without a refusal, or meets no growth: {wanted}, {count!r}")
+        return int(count), wanted
+
+    def go_over(self, words, judge, all_of_them):
+        """Refuses growths in turn. How many were, of how many the answer was the one without a refusal, and how many there are."""
+        count, wanted = self.whole(words)
+        refused = same = 0
+        for at in [*chosen(count, all_of_them), *range(count + 1, count + MORE)]:
             met, *found = self.run(words, at)
-            if tuple(found) == wanted:
-                same += 1
-            elif met:
+            if found != wanted and met:
                 judge(at, *found)
-            else:
+            elif found != wanted:
                 raise Wrong(f"growth {at} was not met, but the answer is another: {found}")
-            if not met:
-                if at == 1:
-                    raise Wrong(f"{' '.join(words)} meets no growth")
-                return at - 1, same - 1, True
-        return most, same, False
+            if met:
+                refused += 1
+                same += found == wanted
+            elif at > count:
+                return refused, same, at - 1
+        raise Wrong(f"{' '.join(words)} meets more than {count + MORE} growths")
 
 
 def lines_of(path):
@@ -109,7 +130,7 @@ def commands(library, top):
                 if lines != sorted(lines) or list(named)[-1] != found[1]:
                     raise Wrong(f"abd {' '.join(words)}, growth {at}: a later growth names an earlier line: {errors!r}")
 
-        count, same, _ = runs.go_over(words, judge, ALL)
+        count, same, _ = runs.go_over(words, judge, True)
         for file, lines in named.items():
             if lines[0] != 1:
                 raise Wrong(f"abd {' '.join(words)}: the first line of {file} that is named is {lines[0]}")
@@ -166,7 +187,7 @@ def store(library, top):
     """The program that runs a store."""
     runs = Runs(library, os.path.abspath(f"{top}/crates/running_store/out/running_store"), top, 60)
     met, at, good = True, 0, 0
-    while met and at < MOST:
+    while met:
         at += 1
         met, status, out, errors = runs.run([], at)
         lines = out.splitlines()
@@ -179,7 +200,7 @@ def store(library, top):
 def rows(library, top, name):
     """The rows of a row program, each alone."""
     folder = f"{top}/crates/{name}"
-    total = equal = many = 0
+    total = equal = left = 0
     with open(f"{folder}/args", encoding="utf-8") as file:
         files = file.read().split()
     for data in files:
@@ -207,14 +228,29 @@ def rows(library, top, name):
                     if status == 0 or not wants:
                         raise Wrong(f"{name}, {data}, {block.splitlines()[0]!r}, growth {at}: status {status}, {out!r}, {errors!r}")
 
-                count, same, is_whole = runs.go_over(["one.row"], judge, MOST)
-                total, equal, many = total + count, equal + same, many + (not is_whole)
-    print(f"{name}: {total} growths of its rows, each row alone; as expected all the same at {equal} of them, else memory is named; {many} rows with more than {MOST}", flush=True)
+                refused, same, count = runs.go_over(["one.row"], judge, False)
+                total, equal, left = total + refused, equal + same, left + (refused < count)
+    print(f"{name}: {total} growths of its rows, each row alone; as expected all the same at {equal} of them, else memory is named; {left} rows have more", flush=True)
+
+
+def hostile_rows(library, top):
+    """The rows of hostile gates, seats and stores."""
+    runs = Runs(library, os.path.abspath(f"{top}/crates/store_rows/out/store_rows"), top, 120)
+    count, (_, out, _) = runs.whole([])
+    wanted, same = out.splitlines(), 0
+    for at in spread(0, count, SPREAD):
+        _, status, out, errors = runs.run([], at)
+        lines = out.splitlines()
+        others = sum(line != expected for line, expected in zip(lines, wanted))
+        if status or errors or len(lines) != len(wanted) or others > 1:
+            raise Wrong(f"store_rows, growth {at}: status {status}, {out!r}, {errors!r}")
+        same += others == 0
+    print(f"store_rows: {SPREAD} of {count} growths; each run ended, and every row came out as expected at {same} of them", flush=True)
 
 
 def tests(library, top, crate):
     """The tests of a crate of which it is said what a refused growth leaves."""
-    named, most = TESTS[crate]
+    named, all_of_them = TESTS[crate]
     runs = Runs(library, f"{top}/crates/{crate}/out/{crate}_tests", top)
     listed = subprocess.run([runs.program, "--list"], capture_output=True, text=True).stdout
     names = [name for name in re.findall(r"^(\S+): test$", listed, re.M) if named in name]
@@ -226,15 +262,14 @@ def tests(library, top, crate):
             if not re.search(r"(?i)error: \"?(memory|no memory|allocfailed)", out + errors):
                 raise Wrong(f"{name}, growth {at}: status {status}, {out!r}, {errors!r}")
 
-        count, same, is_whole = runs.go_over([name], judge, most)
-        more = "" if is_whole else ", and more than these"
-        print(f"{name}: {count} growths{more}; at {same} of them all was as it was, and the rest are the test's own", flush=True)
+        refused, same, count = runs.go_over([name], judge, all_of_them)
+        print(f"{name}: {refused} of {count} growths; at {same} of them all was as it was, and the rest are the test's own", flush=True)
 
 
 def main():
     library, top, *names = sys.argv[1:]
     bad = False
-    for name in names or ["abd", *ROWS, "running_store", *TESTS]:
+    for name in names or ["abd", *ROWS, "running_store", "store_rows", *TESTS]:
         program = f"{top}/crates/{name}/out/{name}{'_tests' if name in TESTS else ''}"
         if not os.path.isfile(program):
             print(f"{name} is not built")
@@ -246,6 +281,8 @@ def main():
                 loads(library, top)
             elif name == "running_store":
                 store(library, top)
+            elif name == "store_rows":
+                hostile_rows(library, top)
             elif name in ROWS:
                 rows(library, top, name)
             else:

@@ -2,7 +2,8 @@
 # Refuses each growth of the built programs in turn, from the first until a run meets none, and compares what came out
 # (refuse_growths.py says how). Without words it goes over all of these:
 #
-#   scripts/refuse_growths.sh abd command_rows protocol_rows record_rows run_rows running_store growth_tests parallel_tests world_twin
+#   scripts/refuse_growths.sh abd command_rows protocol_rows record_rows run_rows running_store store_rows growth_tests parallel_tests \
+#     world_twin
 #
 # A program is built by `rt run` in its folder, the tests by `rt test`. One that isn't built is named, and the status is then 1.
 set -eu

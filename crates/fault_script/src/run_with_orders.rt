@@ -1,7 +1,7 @@
 //! Runs with their orders.
 ghost use Rattle.std.specs.Prelude.{◌≡◌, IfOk};
 ghost use Rattle.world_steps.specs.Runs.{after};
-ghost use Rattle.witness_order.specs.Justified.{Justify};
+ghost use Rattle.witness_order.specs.RecordOrders.{Justify};
 
 use recorder::{History, KeyOrder};
 use std::alloc::Global;

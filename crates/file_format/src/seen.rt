@@ -6,7 +6,7 @@ use std::str;
 use tag::{Key, Memory, NameError, Value};
 
 /// How many keys are kept.
-const KEYS: usize = 256;
+const KEYS: usize = 4096;
 
 /// How many values are kept.
 const VALUES: usize = 1024;
@@ -41,9 +41,9 @@ fn last_bytes(text: &[u8]) -> u64 {
     number
 }
 
-/// A number below 1,024 that texts with other last bytes mostly don't have.
+/// A number below 4,096 that texts with other last bytes mostly don't have.
 fn mark_of(text: &[u8]) -> usize {
-    (last_bytes(text).wrapping_mul(FACTOR) >> 54) as usize
+    (last_bytes(text).wrapping_mul(FACTOR) >> 52) as usize
 }
 
 /// The key that was kept at the place, where it has that text.

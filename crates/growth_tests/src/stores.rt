@@ -50,33 +50,47 @@ fn stands(rt: &impl Wait, store: &Store<OpenGate>, client: ClientId, phase: Phas
     true
 }
 
-/// Whether the client joined some first halls, or none, is stopped in these, and joined no other.
-fn is_stopped_below(rt: &impl Wait, store: &Store<OpenGate>, client: ClientId) -> bool {
-    let mut is_below = true;
+/// Whether the client is stopped in so many first halls, and joined no other.
+fn is_stopped_below(
+    rt: &impl Wait,
+    store: &Store<OpenGate>,
+    client: ClientId,
+    halls: usize,
+) -> bool {
     for hall in 0..HALLS {
-        match phase_in(rt, store, client, hall) {
-            Some(Phase::Stopped) if is_below => {}
-            Some(_) => return false,
-            None => is_below = false,
+        let expected = if usize::from(hall) < halls {
+            Some(Phase::Stopped)
+        } else {
+            None
+        };
+        if phase_in(rt, store, client, hall) != expected {
+            return false;
         }
     }
     true
 }
 
-/// Joins again with a name that was refused for memory: it has a seat now, unless it is spent in hall 0.
-fn join_again(rt: &impl Wait, alloc: Global, store: &Store<OpenGate>, client: ClientId) -> bool {
-    if !is_stopped_below(rt, store, client) {
+/// Joins again with a name that was refused for memory, and had joined so many halls: it has a seat now, unless
+/// it is spent in hall 0.
+fn join_again(
+    rt: &impl Wait,
+    alloc: Global,
+    store: &Store<OpenGate>,
+    client: ClientId,
+    halls: usize,
+) -> bool {
+    if !is_stopped_below(rt, store, client, halls) {
         return false;
     }
-    let is_spent = phase_in(rt, store, client, 0).is_some();
     match store.join(rt, alloc, client) {
-        Ok(_) => !is_spent && stands(rt, store, client, Phase::Idle),
-        Err(error) => is_spent && error == JoinError::ClientTaken,
+        Ok(_) => halls == 0 && stands(rt, store, client, Phase::Idle),
+        Err(JoinError::ClientTaken(stopped)) => halls > 0 && stopped.is_empty(),
+        Err(JoinError::Memory(_)) => false,
     }
 }
 
 /// Whether a client that joins stands idle in each hall, or, where a growth was refused, is stopped in those that
-/// it had joined.
+/// it had joined, whose ways are handed back.
 fn is_kept<R>(rt: &R, alloc: Global) -> Result<bool, Memory>
 where
     R: Threads + Wait + Copy + Send + 'static,
@@ -87,8 +101,10 @@ where
     };
     match store.join(rt, alloc, client) {
         Ok(_) => Ok(stands(rt, &store, client, Phase::Idle)),
-        Err(JoinError::Memory) => Ok(join_again(rt, alloc, &store, client)),
-        Err(JoinError::ClientTaken) => Ok(false),
+        Err(JoinError::Memory(stopped)) => {
+            Ok(join_again(rt, alloc, &store, client, stopped.len()))
+        }
+        Err(JoinError::ClientTaken(_)) => Ok(false),
     }
 }
 

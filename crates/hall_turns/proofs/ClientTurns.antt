@@ -37,7 +37,7 @@ use Rattle.hall_turns.specs.Turns.TakesReply.{WithNote, WithoutNote}
 use Rattle.hall_turns.specs.Turns.{AddsRow, AreRecorded, IsQuiet, IsReady, AddsNoRow, LooksAt, MayReturn, OthersAdd, Receives, Returns, ClientView, TakesReply, TakesTurn, Turns, view_at_rest, seat, seat_in}
 use Rattle.hall_turns.proofs.Running.{delivered_runs, invoked_runs, responded_runs}
 use Rattle.hall_turns.proofs.Rows.{last_row, none_some, past_end, pushed, same_some}
-use Rattle.hall_turns.proofs.Turning.{AddsOfItsClient, StayJoined, StayStopped, kept_adds, rested, returnable, same_next, took_adds}
+use Rattle.hall_turns.proofs.OneTurn.{AddsOfItsClient, StayJoined, StayStopped, kept_adds, rested, returnable, same_next, took_adds}
 
 -- ---- the rows after a step
 

@@ -18,7 +18,7 @@ use Rattle.hall_journal.specs.Halls.{Hall, IsReplay, Takes, opening_hall}
 use Rattle.hall_turns.specs.declared.rule.View.{View}
 use Rattle.hall_turns.specs.Turns.{AreRecorded, IsCopied, IsToReplica, MayReturn, Receives, Returns, ServesStep, Turns, guest, maker, view_at_rest}
 use Rattle.hall_turns.proofs.Rows.{none_some, none_stopped, whole}
-use Rattle.hall_turns.proofs.Turning.{rested}
+use Rattle.hall_turns.proofs.OneTurn.{rested}
 
 pub to_replica : (message : Option Message) → IsToReplica message → receiver message ≡ None
 to_replica None is = absurd is

@@ -19,7 +19,7 @@ use Rattle.hall_journal.specs.Halls.{Hall, IsReplay, with_step}
 use Rattle.hall_turns.specs.declared.rule.View.{View}
 use Rattle.hall_turns.specs.Turns.{Enters, HasEntered, HasNoCall, Receives, guest, seat_in}
 use Rattle.hall_turns.proofs.Rows.{none_some}
-use Rattle.hall_turns.proofs.Turning.{StayJoined, StayStopped, joined_on, stopped_on}
+use Rattle.hall_turns.proofs.OneTurn.{StayJoined, StayStopped, joined_on, stopped_on}
 
 -- a name has the client that it was given last
 pub there_now : (m : finite.FinMap nat_cmp Client) (name : ℕ) (client : Client) → finite.get (finite.insert m name client) name ≡ Some client

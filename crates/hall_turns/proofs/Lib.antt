@@ -1,7 +1,7 @@
 mod Results
 mod Rows
 mod Moves
-mod Turning
+mod OneTurn
 mod Joining
 mod Running
 mod ClientTurns

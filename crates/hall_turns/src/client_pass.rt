@@ -10,11 +10,12 @@ ghost use Rattle.world_steps.specs.declared.step.Step.TheVariants as event;
 ghost use Rattle.hall_journal.specs.Halls.{Takes, with_step};
 ghost use Rattle.hall_turns.specs.Turns.{AddsRow, AreRecorded, IsQuiet, IsReady, AddsNoRow, LooksAt, MayTake, StandsIn, TakesReply, TakesTurn, seat};
 
-use crate::door::{Door, known};
+use crate::door::{Door, attest};
 use client_phases::{Phase, Taken};
 use hall_journal::Hall;
 use network::Message;
 use quorum::ReplicaSet;
+use std::fmt;
 use std::marker::Model;
 use std::sync::Wait;
 use tag::{Action, ClientId, Key, Memory, OpId, Returned};
@@ -37,6 +38,14 @@ impl Model for ClientPass {
     ghost view = { λ p. record { client = p.client; rows = p.door.rows; is_stopped = p.door.is_stopped } };
 
     ghost invariant = { λ p. (p.door ≡ seat p.client p.door.rows p.door.is_stopped) × AreRecorded p.door.rows };
+}
+
+impl fmt::Debug for ClientPass {
+    fn fmt<W: fmt::Write>(&self, f: &mut fmt::Formatter<W>) -> fmt::Result {
+        f.debug_struct("ClientPass")
+            .field("client", &self.client)
+            .finish_non_exhaustive()
+    }
 }
 
 /// A call that began.
@@ -133,7 +142,7 @@ impl ClientPass {
         ensures recorded { AreRecorded self.new.rows }
     {
         let hall = self.door.receive(rt);
-        known(&hall);
+        attest(&hall);
         let standing = standing_in(hall.world(), self.client);
         self.door.give_back(rt, hall);
         standing
@@ -158,9 +167,9 @@ impl ClientPass {
         laws::further_steps_take_nothing_away();
         laws::a_stop_is_for_good();
         let mut hall = self.door.receive(rt);
-        known(&hall);
+        attest(&hall);
         let begun = begin_in(&mut hall, self.client, key, action, seen);
-        known(&hall);
+        attest(&hall);
         self.door.give_back(rt, hall);
         begun
     }
@@ -175,9 +184,9 @@ impl ClientPass {
         laws::further_steps_take_nothing_away();
         laws::a_stop_is_for_good();
         let mut hall = self.door.receive(rt);
-        known(&hall);
+        attest(&hall);
         let taken = deliver_in(&mut hall, self.client, flight);
-        known(&hall);
+        attest(&hall);
         self.door.give_back(rt, hall);
         taken
     }
@@ -195,9 +204,9 @@ impl ClientPass {
         laws::further_steps_take_nothing_away();
         laws::a_stop_is_for_good();
         let mut hall = self.door.receive(rt);
-        known(&hall);
+        attest(&hall);
         let ended = respond_in(&mut hall, self.client);
-        known(&hall);
+        attest(&hall);
         self.door.give_back(rt, hall);
         ended
     }

@@ -167,9 +167,9 @@ impl Door {
         laws::further_steps_take_nothing_away();
         laws::a_stop_is_for_good();
         let mut hall = self.receive(rt);
-        known(&hall);
+        attest(&hall);
         let taken = hall.take(step);
-        known(&hall);
+        attest(&hall);
         self.give_back(rt, hall);
         taken
     }
@@ -183,7 +183,7 @@ fn pause() {
 }
 
 /// What holds of every hall.
-pub(crate) fn known(hall: &Hall)
+pub(crate) fn attest(hall: &Hall)
     ensures replay { IsReplay hall.now }
     ensures sound { IsSound hall.now.world }
     ensures formed { IsWellFormed hall.now.world.history.rows }

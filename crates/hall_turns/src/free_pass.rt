@@ -13,7 +13,7 @@ ghost use Rattle.hall_journal.specs.Halls.{IsReplay, Takes};
 ghost use Rattle.hall_turns.specs.Turns.{AreRecorded, Enters, HasNoCall, IsCopied, IsToReplica, IsTold, MayTake, ServesStep};
 
 use crate::client_pass::ClientPass;
-use crate::door::{Door, known};
+use crate::door::{Door, attest};
 use hall_journal::Hall;
 use network::Message;
 use recorder::History;
@@ -49,7 +49,7 @@ impl FreePass {
     {
         let hall = Hall::new(alloc, config)?;
         let mut door = Door::new(alloc)?;
-        known(&hall);
+        attest(&hall);
         door.give_back(rt, hall);
         Ok(FreePass { door })
     }
@@ -87,9 +87,9 @@ impl FreePass {
         laws::further_steps_take_nothing_away();
         laws::a_stop_is_for_good();
         let mut hall = self.door.receive(rt);
-        known(&hall);
+        attest(&hall);
         let served = serve_in(&mut hall, replica, flight);
-        known(&hall);
+        attest(&hall);
         self.door.give_back(rt, hall);
         served
     }
@@ -100,7 +100,7 @@ impl FreePass {
         ensures seen { Grows self.old self.new }
     {
         let hall = self.door.receive(rt);
-        known(&hall);
+        attest(&hall);
         let copy = hall.world().history().copy();
         self.door.give_back(rt, hall);
         copy
@@ -113,7 +113,7 @@ impl FreePass {
         ensures seen { Grows self.old self.new }
     {
         let hall = self.door.receive(rt);
-        known(&hall);
+        attest(&hall);
         let told = look(hall.world());
         self.door.give_back(rt, hall);
         told
@@ -129,9 +129,9 @@ impl FreePass {
         laws::a_stop_is_for_good();
         let FreePass { mut door } = self;
         let mut hall = door.receive(rt);
-        known(&hall);
+        attest(&hall);
         let joined = join_in(&mut hall, client);
-        known(&hall);
+        attest(&hall);
         match joined {
             Ok(()) => {
                 door.give_named(rt, hall, client);

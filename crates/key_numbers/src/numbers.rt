@@ -112,13 +112,13 @@ impl KeyNumbers {
         if let Some(number) = self.at_hand(mark, key) {
             return Ok(number);
         }
-        let number = self.sought(mark, key)?;
+        let number = self.look_up(mark, key)?;
         self.keep_at_hand(mark, number);
         Ok(number)
     }
 
     /// The number of that key, whose mark that is, by the map of all.
-    fn sought(&mut self, mark: u64, key: &Key) -> Result<usize, Memory>
+    fn look_up(&mut self, mark: u64, key: &Key) -> Result<usize, Memory>
         requires { mark ≡ mark_of key.now }
         ensures ok { IfOk result (λ number. Numbers self.old key.now number self.new) }
         ensures err { OnErr result (self.new ≡ self.old) }

@@ -1,9 +1,9 @@
 -- The seats and the halls of a closed store, one after another.
 use Rattle.std.proofs.Common.{◌≡◌, ◌<◌, ◌+◌, ℕ, suc, List, [], ◌∷◌, ◌++◌, Some, length, length-append, slice_get, map, inl, inr, sym, ap, ◌∙◌, subst, arith}
 use Rattle.node_threads.specs.declared.closing.ClosedHall.{ClosedHall}
-use Rattle.seat_calls.specs.declared.entry.Entry.{Entry}
+use Rattle.recorder.specs.declared.log_entry.Entry.{Entry}
 use Rattle.node_threads.specs.Closings.{AreClosed, IsClosed}
-use Rattle.seat_calls.specs.Logs.{IsLog, of_hall}
+use Rattle.recorder.specs.Logs.{IsLog, of_hall}
 use Rattle.seat_calls.specs.Seats.{Seat}
 use Rattle.node_threads.proofs.Lists.{after_push, below_next, same_some}
 

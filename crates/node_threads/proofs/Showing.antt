@@ -8,8 +8,8 @@ use Rattle.recorder.specs.declared.row.Row.{Row}
 use Rattle.hall_turns.specs.Turns.{IsCopied}
 use Rattle.world_steps.specs.SoundSystems.{IsSound}
 use Rattle.world_steps.specs.declared.system.System.{System}
-use Rattle.seat_calls.specs.declared.entry.Entry.{Entry}
-use Rattle.seat_calls.specs.Logs.{IsLog, of_hall}
+use Rattle.recorder.specs.declared.log_entry.Entry.{Entry}
+use Rattle.recorder.specs.Logs.{IsLog, of_hall}
 use Rattle.seat_calls.specs.Seats.{Seat, seen_in}
 use Rattle.node_threads.specs.Snapshots.{Shows}
 

@@ -2,9 +2,9 @@
 use Rattle.std.specs.Prelude.{ℕ, ◌≡◌, ◌≢◌, ◌<◌, List, Some, length, slice_get}
 use Rattle.world_steps.specs.Runs.{AreAccepted, after}
 use Rattle.world_steps.specs.Systems.{opening}
-use Rattle.witness_order.specs.Justified.{Justify}
+use Rattle.witness_order.specs.RecordOrders.{Justify}
 use Rattle.node_threads.specs.declared.closing.ClosedHall.{ClosedHall}
-use Rattle.seat_calls.specs.Logs.{IsLog, of_hall}
+use Rattle.recorder.specs.Logs.{IsLog, of_hall}
 use Rattle.seat_calls.specs.Seats.{Seat}
 use Rattle.node_threads.specs.Stores.{Store}
 

@@ -1,7 +1,9 @@
 -- What becomes of a client that joins.
-use Rattle.std.specs.Prelude.{ℕ, ◌≡◌, ◌≤◌, false, List, [], Some, length, slice_get}
+use Rattle.std.specs.Prelude.{ℕ, ◌≡◌, ◌<◌, false, List, [], Some, length, slice_get}
 use Rattle.hall_turns.specs.Turns.{ClientView}
 use Rattle.node_threads.specs.Stores.{Store}
+use Rattle.node_threads.specs.declared.errors.JoinError.{JoinError}
+use Rattle.node_threads.specs.declared.errors.JoinError.TheVariants as join
 use Rattle.seat_calls.specs.Seats.{AreStopped, Seat, seen_in}
 
 -- the seat is of the client of that name in this store, in all its halls; it has made no call and seen nothing
@@ -22,7 +24,12 @@ pub record AreOfStoppedClient (client : ℕ) (passes : List ClientView) : Type 0
   pub own : AreOfClient client passes
   pub stopped : AreStopped passes
 
--- these are ways to some of the store's halls, or to none, and the client is stopped in each of them
+-- the ways that an error of a join has
+abbrev pub stopped_in : JoinError → List ClientView
+stopped_in (join.ClientTaken stopped) = stopped.items
+stopped_in (join.Memory stopped) = stopped.items
+
+-- these are ways to some of the store's halls, but not to all, and the client is stopped in each of them
 pub record IsStoppedBelow (store : Store) (client : ℕ) (passes : List ClientView) : Type 0 where
-  pub halls : length passes ≤ store.halls
+  pub halls : length passes < store.halls
   pub stopped : AreOfStoppedClient client passes

@@ -5,7 +5,7 @@ use Rattle.recorder.specs.Records.{IsPart}
 use Rattle.recorder.specs.Sound.{TagSound}
 use Rattle.recorder.specs.declared.part.Call.{Call}
 use Rattle.hall_turns.specs.Turns.{IsCopied}
-use Rattle.seat_calls.specs.Logs.{IsLog, of_hall}
+use Rattle.recorder.specs.Logs.{IsLog, of_hall}
 use Rattle.seat_calls.specs.Seats.{Seat, seen_in}
 
 -- a hall's record, the tags of whose parts are sound: it has as many rows as the seat has seen, and of the seat's client the calls that the seat

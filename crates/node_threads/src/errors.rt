@@ -2,10 +2,10 @@
 ghost use Rattle.std.specs.Prelude.{◌≡◌};
 ghost use Rattle.node_threads.specs.Numbers.{close_error_name, close_error_number, join_error_number, start_error_number};
 
+use hall_turns::ClientPass;
 use std::alloc::{AllocError, AllocFailed};
 use tag::Memory;
 use thiserror::Error;
-use world_steps::Refusal;
 
 /// Why a store couldn't be started.
 #[derive(Clone, Copy, Debug, PartialEq, Eq, Error)]
@@ -18,15 +18,16 @@ pub enum StartError {
     Thread,
 }
 
-/// Why a client has no seat.
-#[derive(Clone, Copy, Debug, PartialEq, Eq, Error)]
+/// Why a client has no seat, with the ways to the halls below the one that refused it, hall 0 first. The
+/// client is stopped in each of these.
+#[derive(Debug, Drop, Error)]
 pub enum JoinError {
     /// The name joined before, in some hall.
     #[error("client taken")]
-    ClientTaken,
+    ClientTaken(Vec<ClientPass>),
     /// A growth was refused.
     #[error("memory")]
-    Memory,
+    Memory(Vec<ClientPass>),
 }
 
 /// Why a closed store leaves nothing.
@@ -54,12 +55,12 @@ impl StartError {
 
 impl JoinError {
     /// Its number in the order of the reasons, 1 or 2.
-    pub fn number(self) -> u8
-        ensures { result ≡ join_error_number self }
+    pub fn number(&self) -> u8
+        ensures { result ≡ join_error_number self.now }
     {
         match self {
-            JoinError::ClientTaken => 1,
-            JoinError::Memory => 2,
+            JoinError::ClientTaken(_) => 1,
+            JoinError::Memory(_) => 2,
         }
     }
 }
@@ -107,32 +108,5 @@ impl From<Memory> for StartError {
 impl<T: Drop> From<AllocFailed<T>> for StartError {
     fn from(_: AllocFailed<T>) -> StartError {
         StartError::Memory
-    }
-}
-
-impl From<AllocError> for JoinError {
-    fn from(_: AllocError) -> JoinError {
-        JoinError::Memory
-    }
-}
-
-impl From<Memory> for JoinError {
-    fn from(_: Memory) -> JoinError {
-        JoinError::Memory
-    }
-}
-
-impl<T: Drop> From<AllocFailed<T>> for JoinError {
-    fn from(_: AllocFailed<T>) -> JoinError {
-        JoinError::Memory
-    }
-}
-
-impl From<Refusal> for JoinError {
-    fn from(refusal: Refusal) -> JoinError {
-        match refusal {
-            Refusal::Memory => JoinError::Memory,
-            _ => JoinError::ClientTaken,
-        }
     }
 }

@@ -17,6 +17,5 @@ pub use closing::{Closed, ClosedHall};
 pub use config::StoreConfig;
 pub use errors::{CloseError, JoinError, StartError};
 pub use hall_turns::ClientPass;
-pub use join::JoinRefused;
 pub use seat_calls::{Answer, CallError, Entry, Gate, OpenGate, Passage, Place, Receipt, Seat};
 pub use store::Store;

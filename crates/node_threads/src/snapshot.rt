@@ -10,7 +10,7 @@ use std::sync::{Mutex, Wait};
 use world_steps::laws;
 
 /// A copy of the hall's record, where it has what the seat has seen of it, and its client's calls.
-pub(crate) fn shown<R: Wait>(
+pub(crate) fn snapshot_of<R: Wait>(
     rt: &R,
     alloc: Global,
     root: &Mutex<FreePass>,

@@ -5,14 +5,14 @@ ghost use Rattle.std.specs.Fn.{FnOnceReturnsAt};
 ghost use Rattle.hall_turns.specs.Turns.{IsTold};
 ghost use Rattle.seat_calls.specs.Answers.{FailsWith, HasFailed, IsAnswered};
 ghost use Rattle.node_threads.specs.Closings.{Closes, HasForeign};
-ghost use Rattle.node_threads.specs.Joins.{IsNewSeat, IsStoppedBelow};
+ghost use Rattle.node_threads.specs.Joins.{IsNewSeat, IsStoppedBelow, stopped_in};
 ghost use Rattle.node_threads.specs.Snapshots.{Shows};
 
 use crate::closing::{Closed, are_logged, are_of_store, closed_halls, end_replicas};
 use crate::config::StoreConfig;
 use crate::errors::{CloseError, JoinError, StartError};
-use crate::join::{JoinRefused, join_halls, none_seen, stop_all};
-use crate::snapshot::shown;
+use crate::join::{join_halls, none_seen, stop_all};
+use crate::snapshot::snapshot_of;
 use crossbeam_channel::{Receiver, Sender, unbounded};
 use hall_turns::FreePass;
 use recorder::{Halls, History};
@@ -164,42 +164,19 @@ fn others<R: Wait>(
 
 impl<G: Gate> Store<G> {
     /// A seat for a new client, in all halls. After an error the client is stopped in the halls that it
-    /// had joined, and its name is spent there; `join_every_hall` hands back the ways to these.
+    /// had joined, whose ways the error has, and its name is spent there.
     pub fn join<R: Wait>(&self, rt: &R, alloc: Global, client: ClientId) -> Result<Seat, JoinError>
         ensures seated { IfOk result (IsNewSeat self.now client) }
-    {
-        match self.join_every_hall(rt, alloc, client) {
-            Ok(seat) => Ok(seat),
-            Err(refused) => Err(refused.error),
-        }
-    }
-
-    /// As `join`, which is this call without what a refusal leaves: the ways to the halls below the one
-    /// that refused, in each of which the client is stopped.
-    pub fn join_every_hall<R: Wait>(
-        &self,
-        rt: &R,
-        alloc: Global,
-        client: ClientId,
-    ) -> Result<Seat, JoinRefused>
-        ensures seated { IfOk result (IsNewSeat self.now client) }
-        ensures stopped { IfErr result (λ refused.
-            IsStoppedBelow self.now client refused.stopped.items) }
+        ensures stopped { IfErr result (λ error.
+            IsStoppedBelow self.now client (stopped_in error)) }
     {
         let mut passes = Vec::new(alloc);
-        let seen = match none_seen(alloc, self.roots.len()) {
-            Ok(seen) => seen,
-            Err(error) => return Err(JoinRefused {
-                error,
-                stopped: passes,
-            }),
+        let Ok(seen) = none_seen(alloc, usize::from(self.halls.count())) else {
+            return Err(JoinError::Memory(passes));
         };
-        if let Err(error) = join_halls(rt, &self.roots, client, &mut passes) {
+        if let Err(refusal) = join_halls(rt, &self.roots, client, &mut passes) {
             stop_all(rt, client, &mut passes);
-            return Err(JoinRefused {
-                error,
-                stopped: passes,
-            });
+            return Err(refusal.leaving(passes));
         }
         Ok(Seat::new(alloc, self.number, client, passes, seen))
     }
@@ -266,7 +243,7 @@ impl<G: Gate> Store<G> {
     {
         match self.roots.get(usize::from(hall)) {
             Some(root) if seat.store() == self.number => {
-                Some(shown(rt, alloc, root, seat, hall))
+                Some(snapshot_of(rt, alloc, root, seat, hall))
             }
             Some(_) => Some(Err(CallError::Foreign)),
             None => None,

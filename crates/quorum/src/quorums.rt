@@ -72,7 +72,7 @@ fn votes_of(votes: &[u8], set: ReplicaSet) -> u8
     total
 }
 
-fn padded(votes: &[u8]) -> [u8; 15]
+fn pad_votes(votes: &[u8]) -> [u8; 15]
     requires { length votes.now ≤ 15 }
     ensures { result ≡ votes.now ++ replicate (15 - length votes.now) 0 }
 {
@@ -94,7 +94,7 @@ impl Quorums {
         if is_lawful(votes, ask, put) {
             Some(Quorums {
                 replicas: votes.len(),
-                votes: padded(votes),
+                votes: pad_votes(votes),
                 ask,
                 put,
             })
@@ -113,7 +113,7 @@ impl Quorums {
         let half = replicas as u8 / 2;
         Quorums {
             replicas,
-            votes: padded(&[1; 15][..replicas]),
+            votes: pad_votes(&[1; 15][..replicas]),
             ask: half + 1,
             put: half + 1,
         }

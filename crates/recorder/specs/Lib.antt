@@ -12,3 +12,4 @@ pub mod Halls
 pub mod Clients
 pub mod Lists
 pub mod Entries
+pub mod Logs

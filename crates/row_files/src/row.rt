@@ -23,7 +23,7 @@ impl<'a> Row<'a> {
         let Some((name, body)) = block.split_once('\n') else {
             return None;
         };
-        let Some((input, expected)) = divided(body) else {
+        let Some((input, expected)) = split_body(body) else {
             return None;
         };
         Some(Row {
@@ -35,7 +35,7 @@ impl<'a> Row<'a> {
 }
 
 /// The lines before the first line `---`, and what comes after it.
-fn divided(text: &str) -> Option<(&str, &str)>
+fn split_body(text: &str) -> Option<(&str, &str)>
     ensures { MatchOption result ((input expected : List ℕ) → IsDivided text.now input expected → ⊥)
         (λ parts. IsDivided text.now parts.0.now parts.1.now) }
 {

@@ -8,9 +8,9 @@ use Rattle.recorder.specs.declared.row.Row.TheVariants.{Invoke, Respond}
 use Rattle.world_steps.specs.Lasting.{Began, Grows}
 use Rattle.world_steps.specs.Sound.{RowsSound}
 use Rattle.hall_turns.specs.Turns.{AreRecorded, ClientView}
-use Rattle.seat_calls.specs.declared.entry.Entry.{Entry}
+use Rattle.recorder.specs.declared.log_entry.Entry.{Entry}
 use Rattle.seat_calls.specs.Calls.{BeginsCall, EndsCall, KeepsLog}
-use Rattle.seat_calls.specs.Logs.{AreAnswered, IsLog}
+use Rattle.recorder.specs.Logs.{AreAnswered, IsLog}
 use Rattle.seat_calls.specs.Seats.{EndsWith}
 use Rattle.seat_calls.proofs.Keeping.{grown_then}
 use Rattle.seat_calls.proofs.Lists.{pushed, within}

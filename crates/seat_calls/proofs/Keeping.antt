@@ -8,7 +8,7 @@ use Rattle.world_steps.specs.Lasting.{Grows}
 use Rattle.hall_turns.specs.Turns.{AddsRow, AreRecorded, AddsNoRow, ClientView, TakesReply}
 use Rattle.hall_turns.specs.Turns.TakesReply.{WithNote, WithoutNote}
 use Rattle.seat_calls.specs.Calls.{KeepsLog}
-use Rattle.seat_calls.specs.Logs.{IsLog}
+use Rattle.recorder.specs.Logs.{IsLog}
 use Rattle.seat_calls.proofs.Logs.{log_grown, log_noted, rows_sound}
 
 pub grown_then : (a b c : List Row) → Grows a b → Grows b c → Grows a c

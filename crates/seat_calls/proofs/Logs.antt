@@ -13,8 +13,8 @@ use Rattle.recorder.specs.declared.row.Row.TheVariants.{Invoke, Note, Respond}
 use Rattle.world_steps.specs.Lasting.{Began, Grows}
 use Rattle.world_steps.specs.Sound.{At, RowsSound}
 use Rattle.hall_turns.specs.Turns.{AreRecorded, IsOfAnother, OthersAdd}
-use Rattle.seat_calls.specs.declared.entry.Entry.{Entry}
-use Rattle.seat_calls.specs.Logs.{AreAnswered, IsLog, IsLogged}
+use Rattle.recorder.specs.declared.log_entry.Entry.{Entry}
+use Rattle.recorder.specs.Logs.{AreAnswered, IsLog, IsLogged}
 use Rattle.seat_calls.proofs.Lists.{after_append, after_push, front_keeps, in_front, kept_by_append, kept_by_push, none_some, place_of, pushed, same_some, within}
 
 -- ---- what records are

@@ -11,8 +11,8 @@ use Rattle.recorder.specs.declared.row.Row.{Row}
 use Rattle.recorder.specs.declared.row.Row.TheVariants.{Invoke, Respond}
 use Rattle.world_steps.specs.Sound.{At, NotCompleted}
 use Rattle.seat_calls.specs.Comparisons.{AreInvocations, Begins, HasResponse, HaveResponses}
-use Rattle.seat_calls.specs.declared.entry.Entry.{Entry}
-use Rattle.seat_calls.specs.Logs.{IsLog}
+use Rattle.recorder.specs.declared.log_entry.Entry.{Entry}
+use Rattle.recorder.specs.Logs.{IsLog}
 use Rattle.seat_calls.proofs.Lists.{front_keeps, none_some, same_some, within}
 
 -- ---- invocations

@@ -10,14 +10,14 @@ use Rattle.recorder.specs.declared.part.Response.{Response}
 use Rattle.recorder.specs.declared.row.Row.TheVariants.{Respond}
 use Rattle.world_steps.specs.Lasting.{Grows}
 use Rattle.hall_turns.specs.Turns.{AreRecorded, HasNoCall, ClientView}
-use Rattle.seat_calls.specs.declared.entry.Entry.{Entry}
+use Rattle.recorder.specs.declared.log_entry.Entry.{Entry}
 use Rattle.seat_calls.specs.declared.errors.CallError.{CallError}
 use Rattle.seat_calls.specs.declared.errors.CallError.TheVariants as fault
 use Rattle.seat_calls.specs.declared.seat.Answer.{Answer}
 use Rattle.seat_calls.specs.Answers.{FailsWith, HasFailed, IsAnswered}
 use Rattle.seat_calls.specs.Calls.{BeginsCall, EndsCall, KeepsLog, MayRefuse, MayStay}
 use Rattle.seat_calls.specs.Receipts.{Receipt}
-use Rattle.seat_calls.specs.Logs.{AreAnswered, IsLog, of_hall}
+use Rattle.recorder.specs.Logs.{AreAnswered, IsLog, of_hall}
 use Rattle.seat_calls.specs.Seats.{AreFresh, AreZero, DidNotBegin, EndsWith, HasMet, HaveGrown, IsBelow, IsFresh, IsOwnPass, IsSeat, LeavesPending, Seat, greater, seen_in, value_of}
 use Rattle.seat_calls.proofs.Answering.{HasBegun, HasEnded, begins, ends, still_begun}
 use Rattle.seat_calls.proofs.Keeping.{grown_not}

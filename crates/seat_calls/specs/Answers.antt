@@ -3,7 +3,7 @@ use Rattle.std.specs.Prelude.{ℕ, ◌≡◌, ◌⊎◌, true, List}
 use Rattle.tag.specs.declared.actions.Action.{Action}
 use Rattle.recorder.specs.declared.part.Response.{Response}
 use Rattle.seat_calls.specs.Seats.{Calls, DidNotBegin, LeavesPending, Seat, value_of}
-use Rattle.seat_calls.specs.declared.entry.Entry.{Entry}
+use Rattle.recorder.specs.declared.log_entry.Entry.{Entry}
 use Rattle.seat_calls.specs.declared.errors.CallError.{CallError}
 use Rattle.seat_calls.specs.declared.errors.CallError.TheVariants as fault
 use Rattle.seat_calls.specs.declared.seat.Answer.{Answer}

@@ -6,12 +6,12 @@ use Rattle.tag.specs.declared.numbers.OpId.{OpId}
 use Rattle.recorder.specs.declared.row.Row.TheVariants.{Invoke, Respond}
 use Rattle.hall_turns.specs.Turns.{AddsRow, AreRecorded, ClientView}
 use Rattle.world_steps.specs.Lasting.{Grows}
-use Rattle.seat_calls.specs.declared.entry.Entry.{Entry}
+use Rattle.recorder.specs.declared.log_entry.Entry.{Entry}
 use Rattle.seat_calls.specs.declared.errors.CallError.{CallError}
 use Rattle.seat_calls.specs.declared.errors.CallError.TheVariants as fault
 use Rattle.seat_calls.specs.declared.errand.Outcome.{Outcome}
 use Rattle.seat_calls.specs.declared.errand.Outcome.TheVariants as outcome
-use Rattle.seat_calls.specs.Logs.{IsLog}
+use Rattle.recorder.specs.Logs.{IsLog}
 
 -- rows came, but none that begins or ends a call of the client: its log stays; and the rows are still the record of a world that steps reach
 pub record KeepsLog (old new : ClientView) : Type 0 where

@@ -1,5 +1,4 @@
 pub mod Numbers
-pub mod Logs
 pub mod Calls
 pub mod Receipts
 pub mod Seats

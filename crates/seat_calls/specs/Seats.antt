@@ -8,9 +8,9 @@ use Rattle.recorder.specs.declared.row.Row.{Row}
 use Rattle.recorder.specs.declared.row.Row.TheVariants.{Respond}
 use Rattle.world_steps.specs.Lasting.{Grows}
 use Rattle.hall_turns.specs.Turns.{AreRecorded, HasNoCall, ClientView}
-use Rattle.seat_calls.specs.Logs.{AreAnswered, IsLog, of_hall}
+use Rattle.recorder.specs.Logs.{AreAnswered, IsLog, of_hall}
 use Rattle.seat_calls.specs.Receipts.{Receipt}
-use Rattle.seat_calls.specs.declared.entry.Entry.{Entry}
+use Rattle.recorder.specs.declared.log_entry.Entry.{Entry}
 
 -- what contracts see of a seat: its store, its client, whether it may make no more calls, its calls, and by hall the rows that it has seen and
 -- how many rows its calls and all that it met stand below

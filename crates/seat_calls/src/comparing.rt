@@ -5,10 +5,9 @@ ghost use Rattle.tag.specs.declared.actions.Returned.{Returned};
 ghost use Rattle.recorder.specs.declared.row.Row.TheVariants as event;
 ghost use Rattle.world_steps.specs.Sound.{NotCompleted};
 ghost use Rattle.seat_calls.specs.Comparisons.{AreInvocations, Begins, HasResponse, HaveResponses, IsInvocation};
-ghost use Rattle.seat_calls.specs.Logs.{IsLog, of_hall};
+ghost use Rattle.recorder.specs.Logs.{IsLog, of_hall};
 
-use crate::entry::Entry;
-use recorder::{History, Row};
+use recorder::{Entry, History, Row};
 use std::alloc::Global;
 use tag::{ClientId, Memory, OpId, Returned};
 

@@ -104,7 +104,7 @@ impl<'a, G: Gate> Errand<'a, G> {
         let _ = self.gate.at(&place);
         match pass.respond(rt) {
             Ok(ended) => Ok(ended),
-            Err(refusal) => Err(refused(refusal)),
+            Err(refusal) => Err(stall_of(refusal)),
         }
     }
 
@@ -180,7 +180,7 @@ impl<'a, G: Gate> Errand<'a, G> {
         let flight = match turn(rt, pass, Step::Send { client, replica }) {
             Ok(Effect::Sent(flight)) => flight,
             Ok(_) => return Err(Stall::Unavailable),
-            Err(refusal) => return Err(refused(refusal)),
+            Err(refusal) => return Err(stall_of(refusal)),
         };
         let place = Place::Request {
             hall: self.hall,
@@ -289,7 +289,7 @@ fn phase_after(taken: Result<Taken, Refusal>) -> Result<Option<Phase>, Stall> {
         Ok(Taken::Noted(_)) => Ok(Some(Phase::Put)),
         Ok(Taken::Agreed(_) | Taken::Ready) => Ok(Some(Phase::Ready)),
         Err(Refusal::NotInFlight) => Ok(None),
-        Err(refusal) => Err(refused(refusal)),
+        Err(refusal) => Err(stall_of(refusal)),
     }
 }
 
@@ -329,7 +329,7 @@ fn not_begun(refusal: Refusal) -> CallError
 }
 
 /// Why a call isn't answered where a later step of it was refused.
-fn refused(refusal: Refusal) -> Stall {
+fn stall_of(refusal: Refusal) -> Stall {
     match refusal {
         Refusal::OpsFull | Refusal::FlightsFull => Stall::Full,
         Refusal::Memory => Stall::Memory,

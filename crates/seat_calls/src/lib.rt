@@ -5,7 +5,6 @@
 #![tactic(auto)]
 
 mod comparing;
-mod entry;
 mod errand;
 mod errors;
 mod gate;
@@ -15,11 +14,11 @@ mod replicas;
 mod seat;
 
 pub use comparing::{entries_of_hall, is_log};
-pub use entry::Entry;
 pub use errand::Errand;
 pub use errors::CallError;
 pub use gate::{Gate, OpenGate, Passage, Place};
 pub use patience::send_awaited;
 pub use receipt::Receipt;
+pub use recorder::Entry;
 pub use replicas::{Parcel, Report, serve};
 pub use seat::{Answer, Seat};

@@ -3,13 +3,12 @@ ghost use Rattle.std.specs.Prelude.{◌≡◌, ◌<◌, [], false, length, IfOk,
 ghost use Rattle.seat_calls.specs.Answers.{FailsWith, IsAnswered};
 ghost use Rattle.seat_calls.specs.Seats.{AreFresh, HasMet, IsForeign, IsSeat, greater, seen_in, value_of};
 
-use crate::entry::Entry;
 use crate::errand::{Errand, Outcome};
 use crate::errors::CallError;
 use crate::gate::Gate;
 use crate::receipt::Receipt;
 use hall_turns::{Begun, ClientPass, Ended};
-use recorder::Response;
+use recorder::{Entry, Response};
 use std::alloc::Global;
 use std::marker::Model;
 use std::sync::Wait;
@@ -187,7 +186,7 @@ impl Seat {
             }
             Outcome::Done(begun, ended) => {
                 let place = ended.place;
-                let (response, value) = told(ended);
+                let (response, value) = response_of(ended);
                 self.log
                     .push_reserved(entry(hall, begun, kept_key, kept_action, Some(response)));
                 self.seen[at] = place + 1;
@@ -220,7 +219,7 @@ fn entry(hall: u8, begun: Begun, key: Key, action: Action, response: Option<Resp
 }
 
 /// What an answered call leaves: its log the response, its caller the value.
-fn told(ended: Ended) -> (Response, Option<Value>)
+fn response_of(ended: Ended) -> (Response, Option<Value>)
     ensures response { result.0 ≡ record { place = ended.place; returned = ended.returned } }
     ensures value { result.1 ≡ value_of ended.copy }
 {

@@ -1,9 +1,9 @@
 -- A caller's log, call by call.
 use Rattle.std.proofs.Common.{◌≡◌, ◌<◌, ◌≤◌, ◌+◌, ℕ, List, [], ◌∷◌, ◌++◌, Option, Some, None, length, length-append, slice_get, inl, inr, refl, sym, ap, subst, ◌∙◌, arith}
 use Rattle.recorder.specs.declared.part.Response.{Response}
-use Rattle.seat_calls.specs.Logs.{AreAnswered}
+use Rattle.recorder.specs.Logs.{AreAnswered}
 use Rattle.seat_calls.specs.Seats.{Seat}
-use Rattle.seat_calls.specs.declared.entry.Entry.{Entry}
+use Rattle.recorder.specs.declared.log_entry.Entry.{Entry}
 use Rattle.seat_calls.specs.declared.errors.CallError.{CallError}
 use Rattle.store_load.specs.Callers.{AreOfTurns, GrowsBy, HasCalled, IsFreshSeat, IsOfTurn, LeavesCall, MakesCall, turn_of}
 use Rattle.store_load.specs.declared.callers.Work.{Work}

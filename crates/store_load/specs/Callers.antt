@@ -1,9 +1,9 @@
 -- What a caller's calls come to.
 use Rattle.std.specs.Prelude.{ℕ, ◌≡◌, ◌≤◌, ◌+◌, ◌⊎◌, List, [], ◌∷◌, ◌++◌, Option, Some, None, length, slice_get}
 use Rattle.recorder.specs.declared.part.Response.{Response}
-use Rattle.seat_calls.specs.Logs.{AreAnswered}
+use Rattle.recorder.specs.Logs.{AreAnswered}
 use Rattle.seat_calls.specs.Seats.{Seat}
-use Rattle.seat_calls.specs.declared.entry.Entry.{Entry}
+use Rattle.recorder.specs.declared.log_entry.Entry.{Entry}
 use Rattle.seat_calls.specs.declared.errors.CallError.{CallError}
 use Rattle.workload.specs.Turns.{action_at, key_at}
 use Rattle.workload.specs.declared.load.LoadOptions.{LoadOptions}

@@ -30,8 +30,8 @@ impl From<StartError> for LoadError {
 impl From<JoinError> for LoadError {
     fn from(error: JoinError) -> LoadError {
         match error {
-            JoinError::ClientTaken => LoadError::ClientTaken,
-            JoinError::Memory => LoadError::Memory,
+            JoinError::ClientTaken(_) => LoadError::ClientTaken,
+            JoinError::Memory(_) => LoadError::Memory,
         }
     }
 }

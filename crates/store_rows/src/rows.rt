@@ -201,7 +201,7 @@ where
     let seat = seat_of(rt, alloc, &store, 7)?;
     let taken = match store.join(rt, alloc, ClientId::new(7).ok()?) {
         Ok(_) => false,
-        Err(error) => error == JoinError::ClientTaken,
+        Err(error) => matches!(error, JoinError::ClientTaken(_)),
     };
     Some(word(taken && seat.log().is_empty()))
 }

@@ -12,7 +12,7 @@ use Rattle.recorder.specs.declared.part.Call.{Call}
 use Rattle.recorder.specs.declared.row.Row.{Row}
 use Rattle.recorder.specs.declared.row.Row.TheVariants.{Invoke}
 use Rattle.recorder.specs.Lists.{Contains-slice_get}
-use Rattle.witness_order.specs.Justified.{AreOrdersOf, Justify}
+use Rattle.witness_order.specs.RecordOrders.{AreOrdersOf, Justify}
 use Rattle.node_threads.specs.declared.closing.ClosedHall.{ClosedHall}
 use Rattle.node_threads.specs.Closings.{AreClosed}
 use Rattle.parallel_keys.specs.CheckedKeys.{AreDistinct}

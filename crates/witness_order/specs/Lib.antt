@@ -1,3 +1,3 @@
 pub mod Keys
 pub mod Notes
-pub mod Justified
+pub mod RecordOrders

@@ -6,11 +6,11 @@
 #![tactic(auto)]
 
 mod error;
-mod justified;
 pub mod laws;
+mod record_orders;
 mod sort_key;
 mod tag_order;
 
 pub use error::WitnessError;
-pub use justified::justified_orders;
+pub use record_orders::justified_orders;
 pub use tag_order::order_of;

@@ -12,9 +12,9 @@ mod members;
 mod moves;
 mod nodes;
 mod refusal;
-mod refusing;
 mod running;
 mod step;
+mod step_conditions;
 mod system;
 mod world;
 

@@ -1,8 +1,8 @@
 //! The slow world: lists alone, each found by going through it, as the definitions read.
 mod clients;
 mod moving;
-mod refusing;
 mod replicas;
+mod step_conditions;
 
 use client_phases::Phase;
 pub(crate) use clients::Rules;

@@ -1,5 +1,5 @@
 use Rattle.std.proofs.Common.{refl}
-use Rattle.seat_calls.specs.Logs.{IsLog, of_hall}
+use Rattle.recorder.specs.Logs.{IsLog, of_hall}
 use Rattle.node_threads.proofs.Leaving.{logged, one_more}
 use Rattle.node_threads.proofs.Lists.{item_at}
 use Rattle.node_threads.proofs.closing.is_logged.Goals as goal

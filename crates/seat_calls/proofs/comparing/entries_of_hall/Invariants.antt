@@ -1,5 +1,5 @@
 use Rattle.std.proofs.Common.{◌≡◌, map, take}
-use Rattle.seat_calls.specs.Logs.{of_hall}
+use Rattle.recorder.specs.Logs.{of_hall}
 use Rattle.seat_calls.proofs.comparing.entries_of_hall.Given as goal
 
 abbrev pub invariant-loop-entry : goal.invariant-loop-entry

@@ -2,23 +2,23 @@ use Rattle.std.proofs.Common.{refl}
 use Rattle.world_steps.specs.declared.step.Step.TheVariants as event
 use Rattle.hall_turns.proofs.ClientTurns.{begun, client_returns, client_turn, left, same_returns, seat_recorded}
 use Rattle.hall_turns.proofs.Results.{either, err_map, ok_both, ok_map}
-use Rattle.hall_turns.proofs.Turning.{recorded}
+use Rattle.hall_turns.proofs.OneTurn.{recorded}
 use Rattle.hall_turns.proofs.client_pass.ClientPass.invoke.Goals as goal
 
 pub give_back-requires : goal.give_back-requires
 give_back-requires g c = either c.begin_in-begun.result c.begin_in-begun.ensures.began
-    (λ b took. client_returns c.self.inside.client c.self.inside.door c.receive-hall.new.self c.receive-hall.result c.begin_in-begun.new.hall (event.Invoke c.self.inside.client c.args.key c.args.action) c.self.invariant.0 c.receive-hall.ensures c.known.ensures.sound c.known.ensures.replay c.known-2.ensures.replay c.a_step_adds_a_row_of_its_client.ensures c.further_steps_take_nothing_away.ensures.joined c.a_stop_is_for_good.ensures.next refl took.0 took.2)
+    (λ b took. client_returns c.self.inside.client c.self.inside.door c.receive-hall.new.self c.receive-hall.result c.begin_in-begun.new.hall (event.Invoke c.self.inside.client c.args.key c.args.action) c.self.invariant.0 c.receive-hall.ensures c.attest.ensures.sound c.attest.ensures.replay c.attest-2.ensures.replay c.a_step_adds_a_row_of_its_client.ensures c.further_steps_take_nothing_away.ensures.joined c.a_stop_is_for_good.ensures.next refl took.0 took.2)
     c.begin_in-begun.ensures.delayed (λ same. same_returns c.self.inside.door c.receive-hall.new.self c.receive-hall.result c.begin_in-begun.new.hall c.receive-hall.ensures same)
 
 pub invariant_of-self : goal.invariant_of-self
 invariant_of-self g c =
     seat_recorded c.self.inside.client c.give_back.new.self c.begin_in-begun.new.hall (client_turn c.self.inside.client c.self.inside.door c.receive-hall.new.self c.give_back.new.self c.receive-hall.result c.begin_in-begun.new.hall c.self.invariant.0 c.receive-hall.ensures c.give_back.ensures).is
-    (recorded c.begin_in-begun.new.hall c.known-2.ensures.replay c.known-2.ensures.sound c.known-2.ensures.formed)
+    (recorded c.begin_in-begun.new.hall c.attest-2.ensures.replay c.attest-2.ensures.sound c.attest-2.ensures.formed)
 
 pub returns-clause-recorded : goal.returns-clause-recorded
 returns-clause-recorded g c =
     (seat_recorded c.self.inside.client c.give_back.new.self c.begin_in-begun.new.hall (client_turn c.self.inside.client c.self.inside.door c.receive-hall.new.self c.give_back.new.self c.receive-hall.result c.begin_in-begun.new.hall c.self.invariant.0 c.receive-hall.ensures c.give_back.ensures).is
-    (recorded c.begin_in-begun.new.hall c.known-2.ensures.replay c.known-2.ensures.sound c.known-2.ensures.formed)).1
+    (recorded c.begin_in-begun.new.hall c.attest-2.ensures.replay c.attest-2.ensures.sound c.attest-2.ensures.formed)).1
 
 pub returns-clause-begun : goal.returns-clause-begun
 returns-clause-begun g c = rw (← c.self.view_is)

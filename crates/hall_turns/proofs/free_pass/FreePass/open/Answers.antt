@@ -1,7 +1,7 @@
 use Rattle.std.proofs.Common.{◌∙◌, ap}
 use Rattle.hall_turns.specs.Turns.{view_at_rest}
 use Rattle.hall_turns.proofs.FreeTurns.{guest_recorded, opens}
-use Rattle.hall_turns.proofs.Turning.{recorded}
+use Rattle.hall_turns.proofs.OneTurn.{recorded}
 use Rattle.hall_turns.proofs.free_pass.FreePass.open.Goals as goal
 
 pub give_back-requires : goal.give_back-requires
@@ -10,4 +10,4 @@ give_back-requires g c = opens c.args.config c.in_ok-hall.hall c.in_ok-door.door
 pub invariant_of-result : goal.invariant_of-result
 invariant_of-result g c =
     guest_recorded c.give_back.new.self c.in_ok-hall.hall (c.give_back.ensures ∙ ap (λ y. view_at_rest y c.in_ok-hall.hall.world) c.in_ok-door.ensures)
-    (recorded c.in_ok-hall.hall c.known.ensures.replay c.known.ensures.sound c.known.ensures.formed)
+    (recorded c.in_ok-hall.hall c.attest.ensures.replay c.attest.ensures.sound c.attest.ensures.formed)

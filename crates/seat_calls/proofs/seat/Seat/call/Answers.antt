@@ -4,7 +4,7 @@ use Rattle.std.proofs.lemmas.Result.{err_from_is_err_and}
 use Rattle.tag.specs.declared.actions.Action.{Action}
 use Rattle.tag.specs.declared.numbers.OpId.{OpId}
 use Rattle.recorder.specs.declared.part.Response.{Response}
-use Rattle.seat_calls.specs.declared.entry.Entry.{Entry}
+use Rattle.recorder.specs.declared.log_entry.Entry.{Entry}
 use Rattle.seat_calls.specs.Seats.{Seat, value_of}
 use Rattle.seat_calls.proofs.Lists.{behind}
 use Rattle.seat_calls.proofs.Seating.{answered_is, answers, fails_unbegun, kept_seat, leaves_pending, pending_is, same_log, unbegun_log, unbegun_pass}
@@ -50,7 +50,7 @@ invariant_of-self-in-Done g c =
     let saw : slice_get c.self.inside.seen.items c.from-at.result ≡ Some c.index-seen.result.now = slice_get_read c.self.inside.seen.items _ c.from-at.result c.index-seen.result.now refl (subst (λ n. c.from-at.result < n) (sym c.self.invariant.halls) lt) c.index-seen.ensures in
     let began = c.in-Done.ensures.drives.1 in
     let logged = behind c.self.inside.log.items c.reserve.new.self.items c.push_reserved-in-Done.new.self.items _ c.reserve.ensures.items c.push_reserved-in-Done.ensures.items
-    ∙ ap (λ (e : Entry). c.self.inside.log.items ++ e ∷ []) (c.entry-in-Done.ensures ∙ ap (answered_entry c.args.errand.now.hall c.in-Done.begun.op c.in_ok-kept_key.kept_key c.in_ok-kept_action.kept_action c.in-Done.begun.place) c.told-response.ensures.response) in
+    ∙ ap (λ (e : Entry). c.self.inside.log.items ++ e ∷ []) (c.entry-in-Done.ensures ∙ ap (answered_entry c.args.errand.now.hall c.in-Done.begun.op c.in_ok-kept_key.kept_key c.in_ok-kept_action.kept_action c.in-Done.begun.place) c.response_of-response.ensures.response) in
     answered_is (record { store = c.self.inside.store; client = c.self.inside.client; is_spent = c.self.inside.is_spent; log = c.self.inside.log.items; passes = c.self.inside.passes.items; seen = c.self.inside.seen.items }) c.from-at.result c.args.errand.now.hall c.index_mut.result.now c.drive.new.pass c.args.key c.in_ok-kept_key.kept_key c.args.action c.in_ok-kept_action.kept_action c.in-Done.begun.op c.in-Done.begun.place c.index-seen.result.now
     c.self.invariant there saw c.from-at.ensures c.in_ok-kept_key.ensures c.in_ok-kept_action.ensures c.in-Done.ensures.drives.0
     c.in-Done.ended.op c.in-Done.ended.returned c.in-Done.ended.place c.push_reserved-in-Done.new.self.items logged
@@ -63,13 +63,13 @@ returns-in-Done-clause-answered g c =
     let saw : slice_get c.self.inside.seen.items c.from-at.result ≡ Some c.index-seen.result.now = slice_get_read c.self.inside.seen.items _ c.from-at.result c.index-seen.result.now refl (subst (λ n. c.from-at.result < n) (sym c.self.invariant.halls) lt) c.index-seen.ensures in
     let began = c.in-Done.ensures.drives.1 in
     let logged = behind c.self.inside.log.items c.reserve.new.self.items c.push_reserved-in-Done.new.self.items _ c.reserve.ensures.items c.push_reserved-in-Done.ensures.items
-    ∙ ap (λ (e : Entry). c.self.inside.log.items ++ e ∷ []) (c.entry-in-Done.ensures ∙ ap (answered_entry c.args.errand.now.hall c.in-Done.begun.op c.in_ok-kept_key.kept_key c.in_ok-kept_action.kept_action c.in-Done.begun.place) c.told-response.ensures.response) in
+    ∙ ap (λ (e : Entry). c.self.inside.log.items ++ e ∷ []) (c.entry-in-Done.ensures ∙ ap (answered_entry c.args.errand.now.hall c.in-Done.begun.op c.in_ok-kept_key.kept_key c.in_ok-kept_action.kept_action c.in-Done.begun.place) c.response_of-response.ensures.response) in
     rw (← c.self.view_is)
     (answers (record { store = c.self.inside.store; client = c.self.inside.client; is_spent = c.self.inside.is_spent; log = c.self.inside.log.items; passes = c.self.inside.passes.items; seen = c.self.inside.seen.items }) c.from-at.result c.args.errand.now.hall c.index_mut.result.now c.drive.new.pass c.args.key c.in_ok-kept_key.kept_key c.args.action c.in_ok-kept_action.kept_action c.in-Done.begun.op c.in-Done.begun.place c.index-seen.result.now
     c.self.invariant there saw c.from-at.ensures c.in_ok-kept_key.ensures c.in_ok-kept_action.ensures c.in-Done.ensures.drives.0
     c.in-Done.ended.op c.in-Done.ended.returned c.in-Done.ended.place c.push_reserved-in-Done.new.self.items logged
     (ap (λ (s : Seat). s.is_spent) c.self.view_is ∙ c.requires.unspent) began.0 began.1 began.2
-    (record { value = c.told-response.result.1; receipt = c.new-receipt.result }) (c.told-response.ensures.value ∙ ap value_of c.in-Done.ensures.placed.2) c.new-receipt.ensures)
+    (record { value = c.response_of-response.result.1; receipt = c.new-receipt.result }) (c.response_of-response.ensures.value ∙ ap value_of c.in-Done.ensures.placed.2) c.new-receipt.ensures)
 
 pub returns-in_err-reserve-clause-failed : goal.returns-in_err-reserve-clause-failed
 returns-in_err-reserve-clause-failed g c =

@@ -2,9 +2,9 @@ use Rattle.std.proofs.Common.{◌≡◌, suc, ◌+◌, [], ◌∷◌, ◌++◌, 
 use Rattle.std.proofs.lemmas.Option.{slice_get_read}
 use Rattle.recorder.specs.Orders.{IsOrder}
 use Rattle.witness_order.proofs.Lists.{Contains-slice_get}
-use Rattle.witness_order.specs.Justified.{AreOrdersOf}
+use Rattle.witness_order.specs.RecordOrders.{AreOrdersOf}
 use Rattle.witness_order.proofs.Zips.{AllZip-next}
-use Rattle.witness_order.proofs.justified.key_orders.Goals as goal
+use Rattle.witness_order.proofs.record_orders.key_orders.Goals as goal
 
 pub key_order-requires : goal.key_order-requires
 key_order-requires c =

@@ -3,7 +3,7 @@ use Rattle.std.specs.List.{Contains}
 use Rattle.key_numbers.specs.Marks.{mark_of}
 use Rattle.key_numbers.specs.Kept.{ArePlaced}
 use Rattle.key_numbers.proofs.Placing.{placed_by, unseen}
-use Rattle.key_numbers.proofs.numbers.KeyNumbers.sought.Goals as goal
+use Rattle.key_numbers.proofs.numbers.KeyNumbers.look_up.Goals as goal
 
 pub invariant_of-self-2 : goal.invariant_of-self-2
 invariant_of-self-2 c =

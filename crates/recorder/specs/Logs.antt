@@ -7,18 +7,17 @@ use Rattle.tag.specs.declared.numbers.OpId.{OpId}
 use Rattle.recorder.specs.declared.part.Response.{Response}
 use Rattle.recorder.specs.declared.row.Row.{Row}
 use Rattle.recorder.specs.declared.row.Row.TheVariants.{Invoke, Respond}
-use Rattle.world_steps.specs.Sound.{At}
-use Rattle.seat_calls.specs.declared.entry.Entry.{Entry}
+use Rattle.recorder.specs.declared.log_entry.Entry.{Entry}
 
 -- the entry is what the rows say of the client's call: where it was invoked, and where and how it was answered, if it was
 pub record IsLogged (rows : List Row) (client : ℕ) (entry : Entry) : Type 0 where
-  pub begun : At rows entry.invoked (Invoke entry.op client entry.key entry.action)
-  pub answered : (place : ℕ) (returned : Returned) → (entry.response ≡ Some (record { place = place; returned = returned })) ↔ At rows place (Respond entry.op returned)
+  pub begun : slice_get rows entry.invoked ≡ Some (Invoke entry.op client entry.key entry.action)
+  pub answered : (place : ℕ) (returned : Returned) → (entry.response ≡ Some (record { place = place; returned = returned })) ↔ (slice_get rows place ≡ Some (Respond entry.op returned))
 
 -- the entries are the client's calls in the rows, in order
 pub record IsLog (rows : List Row) (client : ℕ) (log : List Entry) : Type 0 where
   pub each : (k : ℕ) (entry : Entry) → slice_get log k ≡ Some entry → IsLogged rows client entry
-  pub all : (place : ℕ) (op : OpId) (key : List ℕ) (action : Action) → At rows place (Invoke op client key action) → (k : ℕ) × (entry : Entry) × (slice_get log k ≡ Some entry) × (entry.invoked ≡ place)
+  pub all : (place : ℕ) (op : OpId) (key : List ℕ) (action : Action) → slice_get rows place ≡ Some (Invoke op client key action) → (k : ℕ) × (entry : Entry) × (slice_get log k ≡ Some entry) × (entry.invoked ≡ place)
   pub ordered : (i j : ℕ) (a b : Entry) → i < j → slice_get log i ≡ Some a → slice_get log j ≡ Some b → a.invoked < b.invoked
 
 -- the entries of one hall

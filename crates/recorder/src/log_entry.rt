@@ -1,5 +1,5 @@
 //! What a client's log has of a call.
-use recorder::Response;
+use crate::Response;
 use tag::{Action, Key, OpId};
 
 /// A call of a client.

@@ -1,7 +1,7 @@
 use Rattle.std.proofs.lemmas.Str.Pattern.{split_text_parts}
 use Rattle.std.proofs.Common.{codes, None, Some}
 use Rattle.row_files.proofs.Dividing.{undivided, divided_below}
-use Rattle.row_files.proofs.row.divided.Goals as goal
+use Rattle.row_files.proofs.row.split_body.Goals as goal
 
 pub returns-in_default-split_once : goal.returns-in_default-split_once
 returns-in_default-split_once c = λ input expected d.

@@ -3,7 +3,7 @@ ghost use Rattle.std.specs.Prelude.{◌≡◌, IfOk, List, ℕ, Contains};
 ghost use Rattle.recorder.specs.Orders.{IsOrder};
 ghost use Rattle.recorder.specs.Sound.{TagSound};
 ghost use Rattle.recorder.specs.declared.part.Call.{Call};
-ghost use Rattle.witness_order.specs.Justified.{AreOrdersOf, HaveSoundTags, Justify};
+ghost use Rattle.witness_order.specs.RecordOrders.{AreOrdersOf, HaveSoundTags, Justify};
 
 use crate::{WitnessError, order_of};
 use recorder::{History, KeyOrder, Part};

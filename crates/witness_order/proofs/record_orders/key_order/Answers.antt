@@ -1,7 +1,7 @@
 use Rattle.std.proofs.Common.{Err, ap, ◌∙◌}
 use Rattle.witness_order.proofs.SoundOrder.{IsOrder-by_tag}
 use Rattle.witness_order.proofs.Unnoted.{none_unnoted}
-use Rattle.witness_order.proofs.justified.key_order.Goals as goal
+use Rattle.witness_order.proofs.record_orders.key_order.Goals as goal
 
 pub unreachable-requires : goal.unreachable-requires
 unreachable-requires c =

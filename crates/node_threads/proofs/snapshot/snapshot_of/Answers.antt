@@ -1,7 +1,7 @@
 use Rattle.std.proofs.Common.{refl, ap, ◌∙◌}
-use Rattle.seat_calls.specs.Logs.{of_hall}
+use Rattle.recorder.specs.Logs.{of_hall}
 use Rattle.node_threads.proofs.Showing.{shown_by}
-use Rattle.node_threads.proofs.snapshot.shown.Goals as goal
+use Rattle.node_threads.proofs.snapshot.snapshot_of.Goals as goal
 
 pub returns : goal.returns
 returns g c = shown_by c.steps_keep_a_system_sound.ensures.parts (λ e. e.now) _ _ c.in_ok-history.history c.args.seat.now c.args.hall _ _ c.in_ok-entries.entries.items _ _
