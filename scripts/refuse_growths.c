@@ -1,9 +1,9 @@
 /* Preloaded before a program: the growth numbered REFUSE_AT, from 1, is refused, and file descriptor 9 is told so. With REFUSE_AT=0 none is
-   refused, and as the program ends file descriptor 9 is told how many there were. */
+   refused, and the file of descriptor 9 has how many there were, as a number of eight bytes. */
 #include <stddef.h>
 #include <errno.h>
-#include <stdio.h>
 #include <stdlib.h>
+#include <sys/mman.h>
 #include <unistd.h>
 
 extern void *__libc_malloc(size_t);
@@ -11,23 +11,24 @@ extern void *__libc_calloc(size_t, size_t);
 extern void *__libc_realloc(void *, size_t);
 extern void *__libc_memalign(size_t, size_t);
 
-static unsigned long at, seen;
+static unsigned long at, own, *seen = &own;
 
 __attribute__((constructor)) static void begin(void)
 {
     const char *text = getenv("REFUSE_AT");
     at = text ? strtoul(text, NULL, 10) : (unsigned long)-1;
-}
-
-__attribute__((destructor)) static void end(void)
-{
-    if (at == 0)
-        dprintf(9, "%lu\n", seen);
+    if (at == 0 && ftruncate(9, sizeof own) == 0) {
+        void *shared = mmap(NULL, sizeof own, PROT_READ | PROT_WRITE, MAP_SHARED, 9, 0);
+        if (shared != MAP_FAILED) {
+            *(unsigned long *)shared = own;
+            seen = shared;
+        }
+    }
 }
 
 static int refused(void)
 {
-    if (__atomic_add_fetch(&seen, 1, __ATOMIC_RELAXED) != at || at == 0)
+    if (__atomic_add_fetch(seen, 1, __ATOMIC_RELAXED) != at || at == 0)
         return 0;
     if (write(9, "refused\n", 8) < 0)
         _exit(99);

@@ -77,15 +77,15 @@ class Runs:
             except subprocess.TimeoutExpired:
                 raise Wrong(f"{self.program} {' '.join(words)}, growth {at}: it didn't end in {self.seconds} s") from None
             told.seek(0)
-            said = told.read().decode()
+            said = told.read()
         return said, ran.returncode, ran.stdout.decode(errors="replace"), ran.stderr.decode(errors="replace")
 
     def whole(self, words):
         """How many growths a run without a refusal has, the status, and what came out."""
         count, *wanted = self.run(words, 0)
-        if wanted[0] != 0 or not count.strip().isdigit() or int(count) == 0:
-            raise Wrong(f"{' '.join(words)} fails without a refusal, or meets no growth: {wanted}, {count!r}")
-        return int(count), wanted
+        if wanted[0] != 0 or not any(count):
+            raise Wrong(f"{' '.join(words)} fails without a refusal, or meets no growth: {wanted}")
+        return int.from_bytes(count, "little"), wanted
 
     def go_over(self, words, judge, all_of_them):
         """Refuses growths in turn. How many were, of how many the answer was the one without a refusal, and how many there are."""
