@@ -33,10 +33,10 @@ SPREAD = 300
 # What threads do differs from run to run: so many growths more than were counted may be met.
 MORE = 1000
 # What a row program says where it couldn't go on for want of memory, which a thread's start wants too; of the rows of seeds it says
-# statuses alone, and where there is little room for what is said, a beginning of it.
+# statuses alone, and where there is little room for what is said, a beginning of it, the name of the file at most.
 WANT = (
     r"(?im)memory|no thread|NO SUCH |NO RUN|NO CHECK|NO HISTORY|not understood|unavailable|(run|simulate|justify|check) 4\b"
-    r"|standard error: a(b(d(:( (n(o( .*)?)?)?)?)?)?)?$"
+    r"|standard error: a(b(d(:( (n(o( .*)?)?|[a-z.]*:?)?)?)?)?)?$"
 )
 ROWS = ["command_rows", "protocol_rows", "record_rows", "run_rows"]
 # The tests that are gone over, by what their names have, and whether all growths of each are.
@@ -179,7 +179,7 @@ def loads(library, top):
                 raise Wrong(f"abd {' '.join(words)}, growth {at}: status {status}, {out!r}, {errors!r}")
             if any(not re.fullmatch(CALL_REFUSED, line) for line in said) or not met and end != "written whole":
                 raise Wrong(f"abd {' '.join(words)}, growth {at}: status {status}, {out!r}, {errors!r}")
-            ends[end] += met
+            ends[end] += bool(met)
         print(f"abd {' '.join(words)}: {at - 1} growths; {', '.join(f'{end} {count}' for end, count in ends.items())}", flush=True)
 
 
