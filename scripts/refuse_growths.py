@@ -32,11 +32,22 @@ FIRST = 300
 SPREAD = 300
 # What threads do differs from run to run: so many growths more than were counted may be met.
 MORE = 1000
+
+
+def beginning(told):
+    """A pattern for each beginning of a line that tells of a failure, of any file and line."""
+    pattern = ""
+    for part in reversed(["a", "b", "d", ":", " ", *re.findall("NAME|LINE|.", told)]):
+        part = {"NAME": r"[\w.]+", "LINE": r"\d+"}.get(part, re.escape(part))
+        pattern = f"{part}({pattern})?" if pattern else part
+    return pattern
+
+
 # What a row program says where it couldn't go on for want of memory, which a thread's start wants too; of the rows of seeds it says
-# statuses alone, and where there is little room for what is said, a beginning of it, the name of the file at most.
+# statuses alone, and where there is little room for what is said, a beginning of it.
 WANT = (
     r"(?im)memory|no thread|NO SUCH |NO RUN|NO CHECK|NO HISTORY|not understood|unavailable|(run|simulate|justify|check) 4\b"
-    r"|standard error: a(b(d(:( (n(o( .*)?)?|[a-z.]*:?)?)?)?)?)?$"
+    f"|standard error: ({beginning('no memory')}|{beginning('NAME: line LINE: fault 14 memory')}|{beginning('NAME: line LINE: script fault 8 memory')})$"
 )
 ROWS = ["command_rows", "protocol_rows", "record_rows", "run_rows"]
 # The tests that are gone over, by what their names have, and whether all growths of each are.
