@@ -1,6 +1,6 @@
 #!/usr/bin/env bash
-# Refuses each growth of the built programs in turn, from the first until a run meets none, and compares what came out
-# (refuse_growths.py says how). Without words it goes over all of these:
+# Refuses growths of the built programs, one a run, and compares what came out (refuse_growths.py says which growths, and how it compares).
+# Without words it goes over all of these:
 #
 #   scripts/refuse_growths.sh abd command_rows protocol_rows record_rows run_rows running_store store_rows growth_tests parallel_tests \
 #     world_twin
