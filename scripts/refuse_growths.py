@@ -47,7 +47,8 @@ def beginning(told):
 # statuses alone, and where there is little room for what is said, a beginning of it.
 WANT = (
     r"(?im)memory|no thread|NO SUCH |NO RUN|NO CHECK|NO HISTORY|not understood|unavailable|(run|simulate|justify|check) 4\b"
-    f"|standard error: ({beginning('no memory')}|{beginning('NAME: line LINE: fault 14 memory')}|{beginning('NAME: line LINE: script fault 8 memory')})$"
+    f"|standard error: ({beginning('no memory')}|{beginning('NAME: line LINE: fault 14 memory')}"
+    f"|{beginning('NAME: line LINE: script fault 8 memory')})$"
 )
 ROWS = ["command_rows", "protocol_rows", "record_rows", "run_rows"]
 # The tests that are gone over, by what their names have, and whether all growths of each are.
