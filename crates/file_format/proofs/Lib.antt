@@ -11,7 +11,7 @@ pub mod Converting
 pub mod Looking
 pub mod OrderPieces
 pub mod Showing
-mod OrderEntries
+mod OrdersByNumber
 pub mod SayingRows
 pub mod SayingPieces
 pub mod QuorumRules

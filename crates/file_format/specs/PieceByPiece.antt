@@ -11,7 +11,7 @@ use Rattle.std.proofs.lemmas.Grind.{flat_map-append}
 use Rattle.tag.specs.declared.numbers.OpId.{OpId}
 use Rattle.recorder.specs.declared.order.KeyOrder.{KeyOrder}
 use Rattle.file_format.specs.OrderFormat.{key_in, order_in, order_on, IsFirstAt, AreFirsts, AreJoined}
-use Rattle.file_format.specs.Joins.{order_of, Joins}
+use Rattle.file_format.specs.Joins.{Joins}
 use Rattle.recorder.specs.Lists.{slice_get-push_left, slice_get-push_last, push_cases, slice_get-set}
 
 wide : (names : List (List ℕ)) (more name : List ℕ) (place : ℕ) → IsFirstAt names name place → IsFirstAt (names ++ more ∷ []) name place
@@ -129,7 +129,7 @@ map_at f [] i x h = absurd (none-some x h)
 map_at f (y ∷ xs) zero x h = ap (option_map f) h
 map_at f (y ∷ xs) (suc i) x h = map_at f xs i x h
 
-set_there : {X : Type 0} (xs : List X) (i : ℕ) (x : X) → slice_get xs i ≡ Some x → set xs i x ≡ xs
+pub set_there : {X : Type 0} (xs : List X) (i : ℕ) (x : X) → slice_get xs i ≡ Some x → set xs i x ≡ xs
 set_there [] i x h = refl
 set_there {X} (y ∷ xs) zero x h = ap (λ (z : X). z ∷ xs) (sym (same_Some y x h))
 set_there {X} (y ∷ xs) (suc i) x h = ap (λ (l : List X). y ∷ l) (set_there xs i x h)
@@ -189,18 +189,10 @@ joined_begun pieces orders piece h none =
     }
 
 -- a piece more
-pub joined_more : (pieces : List KeyOrder) (piece : KeyOrder) (old new : List (List ℕ × List OpId)) → AreJoined pieces (map order_of old) → Joins old piece new → AreJoined (pieces ++ piece ∷ []) (map order_of new)
+pub joined_more : (pieces : List KeyOrder) (piece : KeyOrder) (old new : List KeyOrder) → AreJoined pieces old → Joins old piece new → AreJoined (pieces ++ piece ∷ []) new
 joined_more pieces piece old new h (inl w) =
     let Orders : List KeyOrder → Type 0 = λ os. AreJoined (pieces ++ piece ∷ []) os in
-    subst Orders (sym (ap (map order_of) w.has ∙ map-set order_of old w.slot (piece.key, w.order ++ piece.order))) (joined_extended pieces (map order_of old) piece w.slot w.order h (map_at order_of old w.slot (piece.key, w.order) w.had))
+    subst Orders (sym w.has) (joined_extended pieces old piece w.slot w.order h w.had)
 joined_more pieces piece old new h (inr w) =
     let Orders : List KeyOrder → Type 0 = λ os. AreJoined (pieces ++ piece ∷ []) os in
-    subst Orders (sym (ap (map order_of) w.has ∙ map-append order_of old ((piece.key, piece.order) ∷ []))) (joined_begun pieces (map order_of old) piece h (λ i at. absent_from old piece w.absent i at))
-  where
-    absent_from : (old : List (List ℕ × List OpId)) (piece : KeyOrder) → ((i : ℕ) (order : List OpId) → slice_get old i ≡ Some (piece.key, order) → ⊥) → (i : ℕ) → slice_get (map key_in (map order_of old)) i ≡ Some piece.key → ⊥
-    absent_from old piece absent i at =
-        let o = mapped_at key_in (map order_of old) i piece.key at in
-        let e = mapped_at order_of old i o.0 o.1 in
-        let same : e.0.0 ≡ piece.key = ap key_in e.2 ∙ o.2 in
-        let entry : List ℕ → Option (List ℕ × List OpId) = λ k. Some (k, e.0.1) in
-        absent i e.0.1 (e.1 ∙ ap entry same)
+    subst Orders (sym w.has) (joined_begun pieces old piece h (λ i at. let o = mapped_at key_in old i piece.key at in w.absent i o.0 o.1 o.2))

@@ -10,11 +10,13 @@ use crate::fault::Stop;
 use crate::file_header::FileHeader;
 use crate::header::header_in;
 use crate::line_item::LineItem;
-use crate::line_tools::LineTools;
+use crate::line_tools::{LineTools, ToolSets};
 use crate::quorum_header::file_header_in;
 use counted_devices::first_end;
 use json::Scratch;
+use key_numbers::KeyNumbers;
 use std::alloc::Global;
+use std::sync::RwLock;
 use tag::Memory;
 
 /// The most bytes of a line, its end not counted.
@@ -65,9 +67,9 @@ fn judge<T: LineItem>(
     }
 }
 
-/// What the lines of a chunk, the last of them without its end, show behind that header. What is kept
-/// from them in `tools` serves later chunks.
-pub fn judge_chunk<T: LineItem>(
+/// What the lines of a chunk, the last of them without its end, show behind that header, judged with
+/// these tools.
+fn judge_with<T: LineItem>(
     alloc: Global,
     header: T::Header,
     tools: &mut LineTools,
@@ -83,6 +85,46 @@ pub fn judge_chunk<T: LineItem>(
     }
     run.push(judge::<T>(alloc, header, tools, rest)?)?;
     Ok(run)
+}
+
+/// The same with the set that is kept there, which is made where there is none. What all know is
+/// learned before, and what is new is handed on.
+fn judge_with_set<T: LineItem>(
+    alloc: Global,
+    header: T::Header,
+    set: &mut Option<LineTools>,
+    known: &RwLock<KeyNumbers>,
+    chunk: &[u8],
+) -> Result<Vec<Judgement<T>>, Memory>
+    ensures { IfOk result (λ run. ShowChunks (T.meaning header) (chunk.now ∷ []) run.items) }
+{
+    let mut tools = match set.take() {
+        Some(tools) => tools,
+        None => LineTools::new(alloc)?,
+    };
+    tools.seen.learn(known)?;
+    let run = judge_with::<T>(alloc, header, &mut tools, chunk);
+    tools.seen.teach(known)?;
+    *set = Some(tools);
+    run
+}
+
+/// What the lines of a chunk, the last of them without its end, show behind that header. It takes one
+/// of the sets of tools that no other thread has, and makes one of its own where all are taken.
+pub fn judge_chunk<T: LineItem>(
+    alloc: Global,
+    header: T::Header,
+    tools: &ToolSets,
+    chunk: &[u8],
+) -> Result<Vec<Judgement<T>>, Memory>
+    ensures { IfOk result (λ run. ShowChunks (T.meaning header) (chunk.now ∷ []) run.items) }
+{
+    for set in &tools.sets {
+        if let Some(mut free) = set.try_write() {
+            return judge_with_set::<T>(alloc, header, &mut free, &tools.known, chunk);
+        }
+    }
+    judge_with_set::<T>(alloc, header, &mut None, &tools.known, chunk)
 }
 
 /// What the line, without its end, says as the header of a history file of either version.

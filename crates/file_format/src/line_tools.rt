@@ -1,8 +1,14 @@
 //! What is kept from line to line while lines are judged.
 use crate::seen::SeenTexts;
 use json::Scratch;
+use key_numbers::KeyNumbers;
 use std::alloc::Global;
+use std::array;
+use std::sync::RwLock;
 use tag::Memory;
+
+/// How many sets of tools are kept: as many threads judge lines side by side without making others.
+const SETS: usize = 32;
 
 /// Room to read JSON in, room for a line's text, and texts that earlier lines had.
 ///
@@ -16,11 +22,31 @@ pub struct LineTools {
 
 impl LineTools {
     /// Nothing is kept yet.
-    pub fn new(alloc: Global) -> Result<LineTools, Memory> {
+    pub(crate) fn new(alloc: Global) -> Result<LineTools, Memory> {
         Ok(LineTools {
             scratch: Box::new(alloc, Scratch::new(alloc))?,
             text: Vec::new(alloc),
             seen: SeenTexts::new(alloc)?,
         })
+    }
+}
+
+/// Sets of tools for threads that judge lines side by side, kept for a whole file: a thread takes
+/// one that no other has, and leaves it with what it learned. A key that a line had with one set is
+/// known with the others from their next chunk on.
+#[derive(Drop)]
+pub struct ToolSets {
+    pub(crate) sets: [RwLock<Option<LineTools>>; SETS],
+    /// The keys that all know.
+    pub(crate) known: RwLock<KeyNumbers>,
+}
+
+impl ToolSets {
+    /// No set is made yet.
+    pub fn new(alloc: Global) -> ToolSets {
+        ToolSets {
+            sets: array::from_fn(|_| RwLock::new(None)),
+            known: RwLock::new(KeyNumbers::new(alloc)),
+        }
     }
 }

@@ -1,43 +1,51 @@
 //! Pieces of orders, joined by key.
-ghost use Rattle.std.specs.Prelude.{◌≡◌, [], ◌++◌, map, OnOk, IfOk};
-ghost use Rattle.file_format.specs.Joins.{Joins, order_of};
+ghost use Rattle.std.specs.Prelude.{◌≡◌, [], ◌++◌, OnOk};
+ghost use Rattle.file_format.specs.Joins.{Joins};
 
 use key_numbers::KeyNumbers;
 use recorder::{KeyOrder, Order};
 use std::alloc::Global;
 use std::marker::Model;
-use tag::{Key, Memory, OpId};
+use tag::{Memory, OpId};
 
 /// Orders by key, each key once, in the order in which they were first seen.
 ///
 /// A key is found in a time that grows with the logarithm of their count, whatever the keys are.
 #[derive(Drop)]
 pub struct JoinedOrders {
-    entries: Vec<(Key, Order)>,
+    list: Vec<KeyOrder>,
     /// The keys: a key's number is the place of its order.
     places: KeyNumbers,
 }
 
 impl Model for JoinedOrders {
-    ghost use Rattle.std.specs.Prelude.{◌≡◌, map};
-    ghost use Rattle.file_format.specs.Joins.{JoinedEntries};
+    ghost use Rattle.std.specs.Prelude.{◌≡◌, List, map};
+    ghost use Rattle.recorder.specs.declared.order.KeyOrder.{KeyOrder};
 
-    ghost Value = { JoinedEntries };
+    ghost Value = { List KeyOrder };
 
-    ghost view = { λ o. record { entries = o.entries.items } };
+    ghost view = { λ o. o.list.items };
 
-    ghost invariant = { λ o. o.places ≡ map (λ e. e.0) o.entries.items };
+    ghost invariant = { λ o. o.places ≡ map (λ one. one.key) o.list.items };
 }
 
 impl JoinedOrders {
     /// No order.
     pub fn new(alloc: Global) -> JoinedOrders
-        ensures { result ≡ record { entries = [] } }
+        ensures { result ≡ [] }
     {
         JoinedOrders {
-            entries: Vec::new(alloc),
+            list: Vec::new(alloc),
             places: KeyNumbers::new(alloc),
         }
+    }
+
+    /// The orders, in the order of their keys.
+    pub fn into_list(self) -> Vec<KeyOrder>
+        ensures { result.items ≡ self }
+    {
+        let JoinedOrders { list, .. } = self;
+        list
     }
 }
 
@@ -53,27 +61,15 @@ fn append(order: &mut Order, calls: &[OpId]) -> Result<(), Memory>
 
 /// Joins the piece to the order of its key, which it begins where the key has none.
 pub fn join(orders: &mut JoinedOrders, piece: KeyOrder) -> Result<(), Memory>
-    ensures { OnOk result (Joins orders.old.entries piece orders.new.entries) }
+    ensures { OnOk result (Joins orders.old piece orders.new) }
 {
-    let KeyOrder { key, order } = piece;
     // Whatever can be refused comes first, so that each key keeps its place.
-    orders.entries.reserve(1)?;
-    let slot = orders.places.number(&key)?;
-    if slot < orders.entries.len() {
-        append(&mut orders.entries[slot].1, order.as_slice())?;
+    orders.list.reserve(1)?;
+    let slot = orders.places.number(&piece.key)?;
+    if slot < orders.list.len() {
+        append(&mut orders.list[slot].order, piece.order.as_slice())?;
     } else {
-        orders.entries.push((key, order))?;
+        orders.list.push(piece)?;
     }
     Ok(())
-}
-
-/// The orders as a list.
-pub fn list_orders(alloc: Global, orders: JoinedOrders) -> Result<Vec<KeyOrder>, Memory>
-    ensures { IfOk result (λ listed. listed.items ≡ map order_of orders.entries) }
-{
-    let mut listed = Vec::with_capacity(alloc, orders.entries.len())?;
-    for (key, order) in orders.entries {
-        listed.push(KeyOrder { key, order })?;
-    }
-    Ok(listed)
 }

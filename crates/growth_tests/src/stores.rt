@@ -84,13 +84,12 @@ fn join_again(
     }
     match store.join(rt, alloc, client) {
         Ok(_) => halls == 0 && stands(rt, store, client, Phase::Idle),
-        Err(JoinError::ClientTaken(stopped)) => halls > 0 && stopped.is_empty(),
-        Err(JoinError::Memory(_)) => false,
+        Err(error) => halls > 0 && error.hall() == 0 && matches!(error, JoinError::ClientTaken(_)),
     }
 }
 
 /// Whether a client that joins stands idle in each hall, or, where a growth was refused, is stopped in those that
-/// it had joined, whose ways are handed back.
+/// it had joined, below the one that refused.
 fn is_kept<R>(rt: &R, alloc: Global) -> Result<bool, Memory>
 where
     R: Threads + Wait + Copy + Send + 'static,
@@ -101,10 +100,10 @@ where
     };
     match store.join(rt, alloc, client) {
         Ok(_) => Ok(stands(rt, &store, client, Phase::Idle)),
-        Err(JoinError::Memory(stopped)) => {
-            Ok(join_again(rt, alloc, &store, client, stopped.len()))
-        }
-        Err(JoinError::ClientTaken(_)) => Ok(false),
+        Err(error) => Ok(
+            matches!(error, JoinError::Memory(_))
+                && join_again(rt, alloc, &store, client, error.hall()),
+        ),
     }
 }
 

@@ -3,7 +3,6 @@ use Rattle.std.specs.Prelude.{◌≡◌, List, map, Option, Some, None}
 use Rattle.recorder.specs.Halls.{RecordedHalls}
 use Rattle.recorder.specs.declared.order.KeyOrder.{KeyOrder}
 use Rattle.file_format.specs.OrderFormat.{AreJoined, call_total}
-use Rattle.file_format.specs.Joins.{order_of}
 use Rattle.file_format.specs.declared.file_header.FileHeader.{FileHeader}
 use Rattle.file_format.specs.declared.hall_row.HallRow.{HallRow}
 use Rattle.file_format.specs.HistoriesFormat.{MakesHistories}
@@ -11,7 +10,7 @@ use Rattle.history_file.specs.KeyedOrders.{KeyedOrders}
 
 -- the orders that the pieces make, and how many calls they have
 pub record MakesOrders (header : Unit {0}) (pieces : List KeyOrder) (orders : KeyedOrders) : Type 0 where
-  pub joined : AreJoined pieces (map order_of orders.entries)
+  pub joined : AreJoined pieces orders.orders
   pub counted : orders.calls ≡ call_total pieces
 
 -- the histories of halls that the rows make behind that header; before one came there are none

@@ -8,7 +8,7 @@ use crate::format::Contents;
 use crate::judge_blocks::{JudgedLines, judge_block};
 use crate::judgements::Judgements;
 use crate::progress::Progress;
-use file_format::{FaultKind, FileFault, LONGEST, LineFault, Stop};
+use file_format::{FaultKind, FileFault, LONGEST, LineFault, Stop, ToolSets};
 use std::alloc::Global;
 use std::thread::{Threads, join};
 use tag::Memory;
@@ -98,6 +98,7 @@ impl<C: Contents> Ahead<C, C::Item> {
     fn take_at_once(
         self,
         rt: &(impl Threads + Sync),
+        tools: &ToolSets,
         block: &[u8],
     ) -> Result<Ahead<C, C::Item>, FileFault>
         requires { self.fed + length block.now ≤ 2 ^ 62 }
@@ -106,7 +107,7 @@ impl<C: Contents> Ahead<C, C::Item> {
         ensures count { IfOk result (λ new. new.fed ≡ self.fed + length block.now) }
     {
         let mut feed = self.settle()?;
-        feed.feed(rt, block)?;
+        feed.feed(rt, tools, block)?;
         let Feed {
             progress,
             rest,
@@ -142,6 +143,7 @@ impl<C: Contents> Ahead<C, C::Item> {
     pub(crate) fn advance<R: Threads + Sync>(
         self,
         rt: &R,
+        tools: &ToolSets,
         block: &[u8],
     ) -> Result<Ahead<C, C::Item>, FileFault>
         requires { self.fed + length block.now ≤ 2 ^ 62 }
@@ -150,7 +152,7 @@ impl<C: Contents> Ahead<C, C::Item> {
         ensures count { IfOk result (λ new. new.fed ≡ self.fed + length block.now) }
     {
         if self.progress.lines == 0 || block.len() < LEAST {
-            return self.take_at_once(rt, block);
+            return self.take_at_once(rt, tools, block);
         }
         let Ahead {
             progress,
@@ -173,7 +175,7 @@ impl<C: Contents> Ahead<C, C::Item> {
                     → IsJudged C.format header (rest.items ++ block.entry.now) judged) }
                 ensures room { IfOk result (λ judged. length judged.judgements
                     + length judged.rest.items ≤ length rest.items + length block.entry.now) }
-            { judge_block::<C, R>(rt, alloc, header, rest.as_slice(), block) },
+            { judge_block::<C, R>(rt, alloc, header, tools, rest.as_slice(), block) },
         );
         let progress = taken?;
         let Ok(judged) = next else {

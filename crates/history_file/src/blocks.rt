@@ -6,7 +6,7 @@ ghost use Rattle.history_file.specs.Feeds.{IsShort, Passes};
 use crate::format::Contents;
 use crate::progress::Progress;
 use counted_devices::{FaultKind, cut_chunks, first_end};
-use file_format::{FileFault, LONGEST, LineFault};
+use file_format::{FileFault, LONGEST, LineFault, ToolSets};
 use std::alloc::Global;
 use std::thread::Threads;
 
@@ -38,6 +38,7 @@ fn check_length(lines: u64, rest: &[u8]) -> Result<(), FileFault>
 fn pass<C: Contents>(
     rt: &(impl Threads + Sync),
     alloc: Global,
+    tools: &ToolSets,
     progress: &mut Progress<C>,
     bytes: &[u8],
 ) -> Result<Vec<u8>, FileFault>
@@ -51,7 +52,7 @@ fn pass<C: Contents>(
     let Ok(found) = cut_chunks(alloc, bytes) else {
         return Err(memory_at(progress.lines + 1));
     };
-    progress.take_chunks(rt, alloc, found.chunks.as_slice())?;
+    progress.take_chunks(rt, alloc, tools, found.chunks.as_slice())?;
     check_length(progress.lines, found.rest)?;
     match Vec::from_slice(alloc, found.rest) {
         Ok(rest) => Ok(rest),
@@ -76,6 +77,7 @@ fn lengthen(lines: u64, rest: &mut Vec<u8>, bytes: &[u8]) -> Result<(), FileFaul
 /// The block's first line is put behind the rest; the others are taken where they lie.
 pub(crate) fn take_block<C: Contents>(
     rt: &(impl Threads + Sync),
+    tools: &ToolSets,
     progress: &mut Progress<C>,
     rest: &mut Vec<u8>,
     block: &[u8],
@@ -93,7 +95,7 @@ pub(crate) fn take_block<C: Contents>(
     };
     lengthen(progress.lines, rest, &block[..end])?;
     let alloc = *rest.allocator();
-    progress.take_line(rt, alloc, rest.as_slice())?;
-    *rest = pass(rt, alloc, progress, &block[end + 1..])?;
+    progress.take_line(rt, alloc, tools, rest.as_slice())?;
+    *rest = pass(rt, alloc, tools, progress, &block[end + 1..])?;
     Ok(())
 }

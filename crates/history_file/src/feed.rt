@@ -4,7 +4,7 @@ ghost use Rattle.std.specs.Prelude.{ℕ, ◌≡◌, ◌≤◌, ◌+◌, ◌^◌,
 use crate::blocks::take_block;
 use crate::format::Contents;
 use crate::progress::Progress;
-use file_format::{FaultKind, FileFault, LineFault};
+use file_format::{FaultKind, FileFault, LineFault, ToolSets};
 use std::alloc::Global;
 use std::thread::Threads;
 
@@ -45,7 +45,12 @@ impl<C: Contents> Feed<C> {
     }
 
     /// Takes the next block.
-    pub(crate) fn feed(&mut self, rt: &(impl Threads + Sync), block: &[u8]) -> Result<(), FileFault>
+    pub(crate) fn feed(
+        &mut self,
+        rt: &(impl Threads + Sync),
+        tools: &ToolSets,
+        block: &[u8],
+    ) -> Result<(), FileFault>
         requires { self.old.fed + length block.now ≤ 2 ^ 62 }
         ensures fed { (bytes : List ℕ) → Stands C.format C.Makes bytes self.old
             → FeedAnswers C.format C.Makes (bytes ++ block.now) result self.new }
@@ -59,7 +64,7 @@ impl<C: Contents> Feed<C> {
         if let Some(fault) = self.fault {
             return Err(fault);
         }
-        match take_block(rt, &mut self.progress, &mut self.rest, block) {
+        match take_block(rt, tools, &mut self.progress, &mut self.rest, block) {
             Ok(()) => {
                 self.fed += block.len() as u64;
                 Ok(())
@@ -72,7 +77,7 @@ impl<C: Contents> Feed<C> {
     }
 
     /// Ends the file.
-    pub(crate) fn finish(self, rt: &(impl Threads + Sync)) -> Result<C, FileFault>
+    pub(crate) fn finish(self, rt: &(impl Threads + Sync), tools: &ToolSets) -> Result<C, FileFault>
         ensures ends { (bytes : List ℕ) → Stands C.format C.Makes bytes self
             → Ends C.format C.Makes bytes result }
         ensures kept { (fault : _) → self.fault ≡ Some fault → result ≡ Err fault }
@@ -87,7 +92,7 @@ impl<C: Contents> Feed<C> {
             return Err(fault);
         }
         if !rest.is_empty() {
-            progress.take_line(rt, *rest.allocator(), rest.as_slice())?;
+            progress.take_line(rt, *rest.allocator(), tools, rest.as_slice())?;
         }
         if progress.lines == 0 {
             return Err(FileFault {

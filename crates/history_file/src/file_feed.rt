@@ -4,7 +4,7 @@ ghost use Rattle.history_file.specs.Feeds.{Stands, FeedAnswers};
 
 use crate::feed::Feed;
 use crate::format::Contents;
-use file_format::FileFault;
+use file_format::{FileFault, ToolSets};
 use std::alloc::Global;
 use std::marker::Model;
 use std::thread::Threads;
@@ -13,6 +13,7 @@ use std::thread::Threads;
 #[derive(Drop)]
 pub struct FileFeed<C> {
     pub(crate) feed: Feed<C>,
+    pub(crate) tools: ToolSets,
 }
 
 impl<C> Model for FileFeed<C> {
@@ -30,6 +31,7 @@ impl<C: Contents> FileFeed<C> {
     {
         FileFeed {
             feed: Feed::new(alloc),
+            tools: ToolSets::new(alloc),
         }
     }
 
@@ -60,6 +62,6 @@ impl<C: Contents> FileFeed<C> {
         ensures stays { (fault : _) → self.old.fault ≡ Some fault
             → (result ≡ Err fault) × (self.new ≡ self.old) }
     {
-        self.feed.feed(rt, block)
+        self.feed.feed(rt, &self.tools, block)
     }
 }

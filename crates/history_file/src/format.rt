@@ -6,7 +6,7 @@ ghost use Rattle.file_format.specs.Formats.{Format, Follows};
 ghost use Rattle.history_file.specs.Beginnings.{Begins};
 
 use crate::judgements::Judgements;
-use file_format::Stop;
+use file_format::{Stop, ToolSets};
 use std::alloc::Global;
 use std::thread::Threads;
 use tag::Memory;
@@ -40,11 +40,12 @@ pub trait Contents: Drop + Send {
             → result ≡ header };
 
     /// What the lines of the chunks show behind that header, in order. Chunks are judged side by
-    /// side.
+    /// side, each with one of the sets of tools.
     fn judge_all<R: Threads + Sync>(
         rt: &R,
         alloc: Global,
         header: Self::Header,
+        tools: &ToolSets,
         chunks: &[&[u8]],
     ) -> Result<Judgements<Self::Item>, Memory>
         requires { IsSync R.row }

@@ -4,7 +4,7 @@ ghost use Rattle.history_file.specs.PublicFeeds.{StandsForHalls, EndsHalls};
 
 use crate::feed::Feed;
 use crate::file_feed::FileFeed;
-use file_format::{FaultKind, FileFault, HallHistories, LineFault};
+use file_format::{FaultKind, FileFault, HallHistories, LineFault, ToolSets};
 use recorder::Histories;
 use std::thread::Threads;
 
@@ -19,19 +19,21 @@ impl FileFeed<Option<HallHistories>> {
         ensures ends { (bytes : List ℕ) → StandsForHalls bytes self → EndsHalls bytes result }
         ensures kept { (fault : _) → self.fault ≡ Some fault → result ≡ Err fault }
     {
-        finish_histories(rt, self.feed)
+        let FileFeed { feed, tools } = self;
+        finish_histories(rt, &tools, feed)
     }
 }
 
 /// The histories of a feed, at the end of the file.
 pub(crate) fn finish_histories(
     rt: &(impl Threads + Sync),
+    tools: &ToolSets,
     feed: Feed<Option<HallHistories>>,
 ) -> Result<Histories, FileFault>
     ensures ends { (bytes : List ℕ) → StandsForHalls bytes feed → EndsHalls bytes result }
     ensures kept { (fault : _) → feed.fault ≡ Some fault → result ≡ Err fault }
 {
-    match feed.finish(rt)? {
+    match feed.finish(rt, tools)? {
         Some(histories) => Ok(histories.into_histories()),
         None => Err(FileFault {
             line: 1,

@@ -5,7 +5,9 @@ ghost use Rattle.history_file.specs.Making.{MakesHalls};
 use crate::format::Contents;
 use crate::judgements::Judgements;
 use crate::side_by_side::judge_chunks;
-use file_format::{FileHeader, HallHistories, HallRow, LineFault, Stop, judge_file_header};
+use file_format::{
+    FileHeader, HallHistories, HallRow, LineFault, Stop, ToolSets, judge_file_header,
+};
 use std::alloc::Global;
 use std::thread::Threads;
 use tag::Memory;
@@ -43,9 +45,10 @@ impl Contents for Option<HallHistories> {
         rt: &R,
         alloc: Global,
         header: FileHeader,
+        tools: &ToolSets,
         chunks: &[&[u8]],
     ) -> Result<Judgements<HallRow>, Memory> {
-        judge_chunks::<HallRow, R>(rt, alloc, header, chunks)
+        judge_chunks::<HallRow, R>(rt, alloc, header, tools, chunks)
     }
 
     fn follow(&mut self, item: HallRow) -> Result<(), Stop> {

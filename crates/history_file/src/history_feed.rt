@@ -17,6 +17,7 @@ impl FileFeed<History> {
         ensures ends { (bytes : List ℕ) → StandsForRows bytes self → EndsRows bytes result }
         ensures kept { (fault : _) → self.fault ≡ Some fault → result ≡ Err fault }
     {
-        self.feed.finish(rt)
+        let FileFeed { feed, tools } = self;
+        feed.finish(rt, &tools)
     }
 }

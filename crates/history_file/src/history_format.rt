@@ -4,7 +4,7 @@ ghost use Rattle.file_format.specs.HistoryFormat.{history_format, MakesHistory};
 use crate::format::Contents;
 use crate::judgements::Judgements;
 use crate::side_by_side::judge_chunks;
-use file_format::{MOST_CALLS, Stop, follow, judge_header};
+use file_format::{MOST_CALLS, Stop, ToolSets, follow, judge_header};
 use recorder::{History, Row};
 use std::alloc::Global;
 use std::thread::Threads;
@@ -34,9 +34,10 @@ impl Contents for History {
         rt: &R,
         alloc: Global,
         header: (),
+        tools: &ToolSets,
         chunks: &[&[u8]],
     ) -> Result<Judgements<Row>, Memory> {
-        judge_chunks::<Row, R>(rt, alloc, header, chunks)
+        judge_chunks::<Row, R>(rt, alloc, header, tools, chunks)
     }
 
     fn follow(&mut self, row: Row) -> Result<(), Stop> {

@@ -6,6 +6,7 @@ ghost use Rattle.counted_devices.specs.Cuts.{HasNoEnd};
 use crate::format::Contents;
 use crate::judgements::Judgements;
 use counted_devices::{cut_chunks, first_end};
+use file_format::ToolSets;
 use std::alloc::Global;
 use std::thread::Threads;
 use tag::Memory;
@@ -24,6 +25,7 @@ pub(crate) fn judge_block<C: Contents, R: Threads + Sync>(
     rt: &R,
     alloc: Global,
     header: C::Header,
+    tools: &ToolSets,
     rest: &[u8],
     block: &[u8],
 ) -> Result<JudgedLines<C::Item>, Memory>
@@ -43,7 +45,7 @@ pub(crate) fn judge_block<C: Contents, R: Threads + Sync>(
     first.extend_from_slice(&block[..end])?;
     let mut found = cut_chunks(alloc, &block[end + 1..])?;
     found.chunks.insert(0, first.as_slice())?;
-    let judgements = C::judge_all(rt, alloc, header, found.chunks.as_slice())?;
+    let judgements = C::judge_all(rt, alloc, header, tools, found.chunks.as_slice())?;
     Ok(JudgedLines {
         judgements,
         rest: Vec::from_slice(alloc, found.rest)?,

@@ -5,7 +5,7 @@ ghost use Rattle.history_file.specs.PublicFeeds.{EndsOrders, StandsForOrders};
 use crate::feed::Feed;
 use crate::file_feed::FileFeed;
 use crate::order_format::Orders;
-use file_format::{FaultKind, FileFault, list_orders};
+use file_format::{FileFault, ToolSets};
 use recorder::KeyOrder;
 use std::thread::Threads;
 
@@ -19,26 +19,20 @@ impl FileFeed<Orders> {
         ensures ends { (bytes : List ℕ) → StandsForOrders bytes self → EndsOrders bytes result }
         ensures kept { (fault : _) → self.fault ≡ Some fault → result ≡ Err fault }
     {
-        finish_orders(rt, self.feed)
+        let FileFeed { feed, tools } = self;
+        finish_orders(rt, &tools, feed)
     }
 }
 
 /// The orders of a feed, at the end of the file.
 pub(crate) fn finish_orders(
     rt: &(impl Threads + Sync),
+    tools: &ToolSets,
     feed: Feed<Orders>,
 ) -> Result<Vec<KeyOrder>, FileFault>
     ensures ends { (bytes : List ℕ) → StandsForOrders bytes feed → EndsOrders bytes result }
     ensures kept { (fault : _) → feed.fault ≡ Some fault → result ≡ Err fault }
 {
-    let alloc = *feed.rest.allocator();
-    let line = feed.line();
-    let orders = feed.finish(rt)?;
-    match list_orders(alloc, orders.into_map()) {
-        Ok(orders) => Ok(orders),
-        Err(_) => Err(FileFault {
-            line,
-            kind: FaultKind::Memory,
-        }),
-    }
+    let orders = feed.finish(rt, tools)?;
+    Ok(orders.into_list())
 }

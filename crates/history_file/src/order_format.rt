@@ -5,7 +5,7 @@ ghost use Rattle.file_format.specs.OrderFormat.{order_format};
 use crate::format::Contents;
 use crate::judgements::Judgements;
 use crate::side_by_side::judge_chunks;
-use file_format::{JoinedOrders, LineFault, MOST_CALLS, Stop, join, judge_header};
+use file_format::{JoinedOrders, LineFault, MOST_CALLS, Stop, ToolSets, join, judge_header};
 use recorder::KeyOrder;
 use std::alloc::Global;
 use std::marker::Model;
@@ -25,7 +25,7 @@ impl Model for Orders {
 
     ghost Value = { KeyedOrders };
 
-    ghost view = { λ all. record { entries = all.orders.entries; calls = all.calls } };
+    ghost view = { λ all. record { orders = all.orders; calls = all.calls } };
 
     ghost invariant = { λ all. all.calls ≤ 1000000 };
 }
@@ -33,7 +33,7 @@ impl Model for Orders {
 impl Orders {
     /// No order yet.
     fn new(alloc: Global) -> Orders
-        ensures { result ≡ record { entries = []; calls = 0 } }
+        ensures { result ≡ record { orders = []; calls = 0 } }
     {
         Orders {
             orders: JoinedOrders::new(alloc),
@@ -41,11 +41,11 @@ impl Orders {
         }
     }
 
-    /// The orders by key.
-    pub(crate) fn into_map(self) -> JoinedOrders
-        ensures { result.entries ≡ self.entries }
+    /// The orders, in the order of their keys.
+    pub(crate) fn into_list(self) -> Vec<KeyOrder>
+        ensures { result.items ≡ self.orders }
     {
-        self.orders
+        self.orders.into_list()
     }
 }
 
@@ -75,9 +75,10 @@ impl Contents for Orders {
         rt: &R,
         alloc: Global,
         header: (),
+        tools: &ToolSets,
         chunks: &[&[u8]],
     ) -> Result<Judgements<KeyOrder>, Memory> {
-        judge_chunks::<KeyOrder, R>(rt, alloc, header, chunks)
+        judge_chunks::<KeyOrder, R>(rt, alloc, header, tools, chunks)
     }
 
     fn follow(&mut self, piece: KeyOrder) -> Result<(), Stop> {

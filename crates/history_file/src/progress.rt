@@ -7,7 +7,7 @@ ghost use Rattle.history_file.specs.Takings.{AreTaken, TakesJudged, TakesLine, T
 
 use crate::format::Contents;
 use crate::judgements::Judgements;
-use file_format::{FileFault, Judgement, Stop};
+use file_format::{FileFault, Judgement, Stop, ToolSets};
 use std::alloc::Global;
 use std::thread::Threads;
 
@@ -97,6 +97,7 @@ impl<C: Contents> Progress<C> {
         &mut self,
         rt: &(impl Threads + Sync),
         alloc: Global,
+        tools: &ToolSets,
         chunks: &[&[u8]],
     ) -> Result<(), FileFault>
         requires { self.old.lines + length
@@ -107,7 +108,7 @@ impl<C: Contents> Progress<C> {
         ensures lines { OnOk result (self.new.lines ≤ self.old.lines + length
             (flat_map with_end (map (λ chunk. chunk.now) chunks.now))) }
     {
-        match C::judge_all(rt, alloc, self.contents.header(), chunks) {
+        match C::judge_all(rt, alloc, self.contents.header(), tools, chunks) {
             Ok(judgements) => self.record(judgements),
             Err(_) => Err(FileFault::at(self.lines + 1, Stop::Memory)),
         }
@@ -118,6 +119,7 @@ impl<C: Contents> Progress<C> {
         &mut self,
         rt: &(impl Threads + Sync),
         alloc: Global,
+        tools: &ToolSets,
         line: &[u8],
     ) -> Result<(), FileFault>
         requires { self.old.lines + length line.now + 1 < 2 ^ 63 }
@@ -130,6 +132,6 @@ impl<C: Contents> Progress<C> {
         if self.lines == 0 {
             return self.take_header(alloc, line);
         }
-        self.take_chunks(rt, alloc, &[line])
+        self.take_chunks(rt, alloc, tools, &[line])
     }
 }

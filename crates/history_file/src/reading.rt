@@ -15,7 +15,7 @@ use crate::histories_feed::finish_histories;
 use crate::order_feed::finish_orders;
 use crate::order_format::Orders;
 use counted_devices::CountedRead;
-use file_format::{FaultKind, FileFault, HallHistories};
+use file_format::{FaultKind, FileFault, HallHistories, ToolSets};
 use recorder::{Histories, History, KeyOrder};
 use std::alloc::{AllocError, Global};
 use std::thread::Threads;
@@ -33,6 +33,7 @@ fn room_for(alloc: Global, size: usize) -> Result<Vec<u8>, AllocError>
 /// Judges the next bytes of the reader, and says whether there were some.
 fn read_next<C: Contents, R: CountedRead, T: Threads + Sync>(
     rt: &T,
+    tools: &ToolSets,
     ahead: Ahead<C, C::Item>,
     reader: &mut R,
     room: &mut [u8],
@@ -48,7 +49,7 @@ fn read_next<C: Contents, R: CountedRead, T: Threads + Sync>(
     ensures counted { IfOk result (λ _. R.failures reader.new ≡ R.failures reader.old) }
 {
     let batch = read_batch(reader, room);
-    let next = ahead.advance(rt, &room[..batch.count])?;
+    let next = ahead.advance(rt, tools, &room[..batch.count])?;
     match batch.behind {
         Behind::More => Ok((next, true)),
         Behind::End => Ok((next, false)),
@@ -66,6 +67,7 @@ fn read_next<C: Contents, R: CountedRead, T: Threads + Sync>(
 fn feed_in_blocks<C: Contents, R: CountedRead, T: Threads + Sync>(
     rt: &T,
     alloc: Global,
+    tools: &ToolSets,
     reader: &mut R,
     room: &mut [u8],
 ) -> Result<Feed<C>, FileFault>
@@ -77,7 +79,7 @@ fn feed_in_blocks<C: Contents, R: CountedRead, T: Threads + Sync>(
 {
     let mut ahead = Ahead::<C, C::Item>::new(alloc);
     'reads: loop {
-        let (next, more) = read_next(rt, ahead, reader, room)?;
+        let (next, more) = read_next(rt, tools, ahead, reader, room)?;
         if !more {
             return next.settle();
         }
@@ -89,6 +91,7 @@ fn feed_in_blocks<C: Contents, R: CountedRead, T: Threads + Sync>(
 fn feed_all<C: Contents, R: CountedRead>(
     rt: &(impl Threads + Sync),
     alloc: Global,
+    tools: &ToolSets,
     reader: &mut R,
 ) -> Result<Feed<C>, FileFault>
     ensures holds { IfOk result (HoldsAll C.format C.Makes R.remaining reader.old reader.new) }
@@ -102,7 +105,7 @@ fn feed_all<C: Contents, R: CountedRead>(
             kind: FaultKind::Memory,
         });
     };
-    feed_in_blocks(rt, alloc, reader, room.as_mut_slice())
+    feed_in_blocks(rt, alloc, tools, reader, room.as_mut_slice())
 }
 
 /// The history that the reader's bytes are, all of them up to its end.
@@ -120,8 +123,9 @@ pub fn read_history<R: CountedRead>(
     ensures fault { IfErr result (StopsFrom history_format R.remaining reader.old reader.new) }
     ensures device { IfErr result (FailsFrom R.failures reader.old reader.new) }
 {
-    let feed = feed_all::<History, R>(rt, alloc, reader)?;
-    feed.finish(rt)
+    let tools = ToolSets::new(alloc);
+    let feed = feed_all::<History, R>(rt, alloc, &tools, reader)?;
+    feed.finish(rt, &tools)
 }
 
 /// The histories by hall that the reader's bytes are, all of them up to its end: of version 2, or
@@ -138,8 +142,9 @@ pub fn read_histories<R: CountedRead>(
     ensures fault { IfErr result (StopsFrom histories_format R.remaining reader.old reader.new) }
     ensures device { IfErr result (FailsFrom R.failures reader.old reader.new) }
 {
-    let feed = feed_all::<Option<HallHistories>, R>(rt, alloc, reader)?;
-    finish_histories(rt, feed)
+    let tools = ToolSets::new(alloc);
+    let feed = feed_all::<Option<HallHistories>, R>(rt, alloc, &tools, reader)?;
+    finish_histories(rt, &tools, feed)
 }
 
 /// The orders that the reader's bytes are, all of them up to its end: the keys in the order of
@@ -156,6 +161,7 @@ pub fn read_orders<R: CountedRead>(
     ensures fault { IfErr result (StopsFrom order_format R.remaining reader.old reader.new) }
     ensures device { IfErr result (FailsFrom R.failures reader.old reader.new) }
 {
-    let feed = feed_all::<Orders, R>(rt, alloc, reader)?;
-    finish_orders(rt, feed)
+    let tools = ToolSets::new(alloc);
+    let feed = feed_all::<Orders, R>(rt, alloc, &tools, reader)?;
+    finish_orders(rt, &tools, feed)
 }

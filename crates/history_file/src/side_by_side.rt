@@ -4,17 +4,19 @@ ghost use Rattle.std.specs.Thread.{IsSync};
 ghost use Rattle.file_format.specs.Lines.{ShowChunks};
 
 use crate::judgements::Judgements;
-use file_format::{Judgement, LineItem, LineTools, judge_chunk};
+use file_format::{Judgement, LineItem, ToolSets, judge_chunk};
 use rayon::prelude::*;
 use std::alloc::Global;
 use std::thread::Threads;
 use tag::Memory;
 
-/// What the lines of the chunks show behind that header, in order.
+/// What the lines of the chunks show behind that header, in order, each chunk judged with one of the
+/// sets of tools.
 pub(crate) fn judge_chunks<T: LineItem + Send, R: Threads + Sync>(
     rt: &R,
     alloc: Global,
     header: T::Header,
+    tools: &ToolSets,
     chunks: &[&[u8]],
 ) -> Result<Judgements<T>, Memory>
 where
@@ -26,17 +28,11 @@ where
     let runs: Result<Vec<Vec<Judgement<T>>>, Memory> = chunks
         .par_iter()
         .with_min_len(1)
-        .map_init(
-            || LineTools::new(alloc).ok(),
-            |tools: &mut Option<LineTools>, chunk: &&[u8]| -> Result<Vec<Judgement<T>>, Memory>
+        .map(
+            |chunk: &&[u8]| -> Result<Vec<Judgement<T>>, Memory>
                 ensures { IfOk result (λ run. ShowChunks (T.meaning header)
                     (chunk.now.now ∷ []) run.items) }
-            {
-                match tools {
-                    Some(tools) => judge_chunk::<T>(alloc, header, tools, chunk),
-                    None => Err(Memory),
-                }
-            },
+            { judge_chunk::<T>(alloc, header, tools, chunk) },
         )
         .collect(rt, alloc)?;
     Ok(Judgements::of(runs?))

@@ -24,12 +24,16 @@ pub record AreOfStoppedClient (client : ℕ) (passes : List ClientView) : Type 0
   pub own : AreOfClient client passes
   pub stopped : AreStopped passes
 
--- the ways that an error of a join has
+-- the ways that an error of a join has, by hall: one to each hall below the one that refused
 abbrev pub stopped_in : JoinError → List ClientView
 stopped_in (join.ClientTaken stopped) = stopped.items
 stopped_in (join.Memory stopped) = stopped.items
 
--- these are ways to some of the store's halls, but not to all, and the client is stopped in each of them
-pub record IsStoppedBelow (store : Store) (client : ℕ) (passes : List ClientView) : Type 0 where
-  pub halls : length passes < store.halls
-  pub stopped : AreOfStoppedClient client passes
+-- the hall that refused, as the error tells it
+abbrev pub refusing_hall : JoinError → ℕ
+refusing_hall error = length (stopped_in error)
+
+-- a hall of the store refused, and in each hall below it the client is stopped
+pub record IsStoppedBelow (store : Store) (client : ℕ) (error : JoinError) : Type 0 where
+  pub there : refusing_hall error < store.halls
+  pub stopped : AreOfStoppedClient client (stopped_in error)

@@ -1,5 +1,6 @@
 //! Why a store isn't started or joined, or leaves nothing.
 ghost use Rattle.std.specs.Prelude.{◌≡◌};
+ghost use Rattle.node_threads.specs.Joins.{refusing_hall};
 ghost use Rattle.node_threads.specs.Numbers.{close_error_name, close_error_number, join_error_number, start_error_number};
 
 use hall_turns::ClientPass;
@@ -61,6 +62,16 @@ impl JoinError {
         match self {
             JoinError::ClientTaken(_) => 1,
             JoinError::Memory(_) => 2,
+        }
+    }
+
+    /// The hall that refused. In those below it the client is stopped.
+    pub fn hall(&self) -> usize
+        ensures { result ≡ refusing_hall self.now }
+    {
+        match self {
+            JoinError::ClientTaken(stopped) => stopped.len(),
+            JoinError::Memory(stopped) => stopped.len(),
         }
     }
 }

@@ -5,7 +5,7 @@ ghost use Rattle.std.specs.Fn.{FnOnceReturnsAt};
 ghost use Rattle.hall_turns.specs.Turns.{IsTold};
 ghost use Rattle.seat_calls.specs.Answers.{FailsWith, HasFailed, IsAnswered};
 ghost use Rattle.node_threads.specs.Closings.{Closes, HasForeign};
-ghost use Rattle.node_threads.specs.Joins.{IsNewSeat, IsStoppedBelow, stopped_in};
+ghost use Rattle.node_threads.specs.Joins.{IsNewSeat, IsStoppedBelow};
 ghost use Rattle.node_threads.specs.Snapshots.{Shows};
 
 use crate::closing::{Closed, are_logged, are_of_store, closed_halls, end_replicas};
@@ -163,12 +163,11 @@ fn others<R: Wait>(
 }
 
 impl<G: Gate> Store<G> {
-    /// A seat for a new client, in all halls. After an error the client is stopped in the halls that it
-    /// had joined, whose ways the error has, and its name is spent there.
+    /// A seat for a new client, in all halls, which it joins one after another. After an error the client
+    /// is stopped in the halls below the one that refused, and its name is spent there.
     pub fn join<R: Wait>(&self, rt: &R, alloc: Global, client: ClientId) -> Result<Seat, JoinError>
         ensures seated { IfOk result (IsNewSeat self.now client) }
-        ensures stopped { IfErr result (λ error.
-            IsStoppedBelow self.now client (stopped_in error)) }
+        ensures stopped { IfErr result (λ error. IsStoppedBelow self.now client error) }
     {
         let mut passes = Vec::new(alloc);
         let Ok(seen) = none_seen(alloc, usize::from(self.halls.count())) else {

@@ -9,7 +9,9 @@ use Rattle.recorder.specs.Lists.{Contains-slice_get, push_cases, slice_get-take}
 use Rattle.key_numbers.specs.Numbers.{Numbers, known, first}
 use Rattle.parallel_keys.specs.CheckedKeys.{AreDistinct}
 use Rattle.parallel_keys.specs.Fronts.{front_more, mapped_more, place_before}
-use Rattle.parallel_keys.proofs.Given.{key_in}
+
+abbrev key_in : KeyOrder → List ℕ
+key_in one = one.key
 
 -- the orders so far are of different keys, which are numbered
 pub record ApartSoFar (orders : List KeyOrder) (place : ℕ) (keys : List (List ℕ)) : Type 0 where

@@ -1,8 +1,9 @@
 //! The keys of histories and of orders, with what is checked of each.
-ghost use Rattle.std.specs.Prelude.{◌≡◌, [], ◌∷◌, ◌++◌, map, filter, IfOk, OnOk};
-ghost use Rattle.parallel_keys.specs.CheckedKeys.{AreDistinct, KeyParts, all_parts, given_order, keys_in};
-ghost use Rattle.parallel_keys.specs.CheckedKeys.{checked_keys, is_other, other_key, recorded_key};
-ghost use Rattle.parallel_keys.specs.KeysToCheck.{HasKeys, key_of, what_of};
+ghost use Rattle.std.specs.Prelude.{◌≡◌, [], ◌++◌, List, length, map, IfOk, OnOk};
+ghost use Rattle.parallel_keys.specs.CheckedKeys.{AreDistinct, all_parts, checked_keys};
+ghost use Rattle.parallel_keys.specs.CheckedKeys.{other_key, recorded_key};
+ghost use Rattle.parallel_keys.specs.KeysToCheck.{AreNumbered, IsOrderTable, TakesUp};
+ghost use Rattle.parallel_keys.specs.KeysToCheck.{entry_of, what_of};
 
 use key_numbers::KeyNumbers;
 use recorder::{KeyOrder, Part, Parts};
@@ -17,105 +18,138 @@ pub struct KeyToCheck<'a> {
     pub order: &'a [OpId],
 }
 
-/// Orders, found by key.
+/// A key that has a part, with its number among all such keys.
+#[derive(Clone, Copy)]
+struct NumberedKey<'a> {
+    key: &'a Key,
+    part: &'a Part,
+    number: usize,
+}
+
+/// The keys that have parts, in order. Equal keys have one number.
 #[derive(Drop)]
-struct Orders<'a> {
-    list: &'a [KeyOrder],
-    /// The orders' keys: a key's number is its order's place.
-    places: KeyNumbers,
-    ghost distinct: { AreDistinct list.now },
-    ghost placed: { places ≡ map (λ one. one.key) list.now },
+struct RecordedKeys<'a> {
+    list: Vec<NumberedKey<'a>>,
+    numbers: KeyNumbers,
 }
 
-impl<'a> Orders<'a> {
-    /// The orders by key.
-    fn new(alloc: Global, list: &'a [KeyOrder]) -> Result<Orders<'a>, Memory>
-        requires { AreDistinct list.now }
-        ensures { IfOk result (λ orders. orders.list.now ≡ list.now) }
+impl<'a> RecordedKeys<'a> {
+    /// The keys of these parts.
+    fn new(alloc: Global, parts: &'a [Parts]) -> Result<RecordedKeys<'a>, Memory>
+        ensures entries { IfOk result (λ keys. map entry_of keys.list.items
+            ≡ all_parts (map (λ p. p.entries) parts.now)) }
+        ensures numbers { IfOk result (λ keys. AreNumbered keys.numbers keys.list.items) }
     {
-        let mut places = KeyNumbers::new(alloc);
-        for one in list {
-            places.number(&one.key)?;
+        let mut list = Vec::new(alloc);
+        let mut numbers = KeyNumbers::new(alloc);
+        for own in parts {
+            number_keys(own.entries(), &mut list, &mut numbers)?;
         }
-        Ok(Orders { list, places })
-    }
-
-    /// The key's order, or the empty one where none is given.
-    fn of(&self, key: &Key) -> Result<&'a [OpId], Memory>
-        ensures { IfOk result (λ order. order.now ≡ given_order self.now.list.now key.now) }
-    {
-        match self.places.find(key)? {
-            Some(place) => Ok(self.list[place].order.as_slice()),
-            None => Ok(&[]),
-        }
+        Ok(RecordedKeys { list, numbers })
     }
 }
 
-/// Adds keys that have parts, each with the order that is given for it.
-fn add_recorded<'a>(
-    keys: &mut Vec<KeyToCheck<'a>>,
+/// Adds the keys of a history's parts, each with its number.
+fn number_keys<'a>(
     parts: &'a [(Key, Part)],
-    orders: &Orders<'a>,
+    list: &mut Vec<NumberedKey<'a>>,
+    numbers: &mut KeyNumbers,
 ) -> Result<(), Memory>
-    ensures { OnOk result (map what_of keys.new.items ≡ map what_of keys.old.items
-        ++ map (recorded_key orders.now.list.now) parts.now) }
+    requires { AreNumbered numbers.old list.old.items }
+    ensures entries { OnOk result (map entry_of list.new.items
+        ≡ map entry_of list.old.items ++ parts.now) }
+    ensures numbers { OnOk result (AreNumbered numbers.new list.new.items) }
 {
     for (key, part) in parts {
-        let order = orders.of(key)?;
-        keys.push(KeyToCheck { key, part, order })?;
+        let number = numbers.number(key)?;
+        list.push(NumberedKey { key, part, number })?;
     }
     Ok(())
 }
 
-/// The numbers of the keys, each key once.
-fn keys_of(alloc: Global, keys: &[KeyToCheck<'_>]) -> Result<KeyNumbers, Memory>
-    ensures { IfOk result (λ numbers. HasKeys numbers (map key_of keys.now)) }
-{
-    let mut numbers = KeyNumbers::new(alloc);
-    for key in keys {
-        numbers.number(key.key)?;
-    }
-    Ok(numbers)
+/// Orders by the numbers of the keys that have parts.
+#[derive(Drop)]
+struct OrderTable<'a> {
+    /// At each key's number the first order that is given for it, if any.
+    given: Vec<Option<&'a [OpId]>>,
+    /// The orders of all other keys, in order.
+    others: Vec<&'a KeyOrder>,
 }
 
-/// Adds the order's key, with a part without a call, where none has a part.
-fn add_other<'a>(
+impl<'a> OrderTable<'a> {
+    /// The table of these orders, for keys with these numbers.
+    fn new(
+        alloc: Global,
+        numbers: &KeyNumbers,
+        orders: &'a [KeyOrder],
+    ) -> Result<OrderTable<'a>, Memory>
+        ensures { IfOk result (λ table. IsOrderTable numbers.now orders.now table) }
+    {
+        let mut given = Vec::new(alloc);
+        given.resize(numbers.keys().len(), None)?;
+        let others = Vec::new(alloc);
+        let mut table = OrderTable { given, others };
+        for one in orders {
+            table.add(numbers, one)?;
+        }
+        Ok(table)
+    }
+
+    /// Adds the next order. A key that has an order keeps it.
+    fn add(&mut self, numbers: &KeyNumbers, one: &'a KeyOrder) -> Result<(), Memory>
+        requires { length self.old.given.items ≡ length numbers.now }
+        ensures { OnOk result (TakesUp numbers.now one.now self.old self.new) }
+    {
+        let Some(number) = numbers.find(&one.key)? else {
+            self.others.push(one)?;
+            return Ok(());
+        };
+        if self.given[number].is_none() {
+            self.given[number] = Some(one.order.as_slice());
+        }
+        Ok(())
+    }
+}
+
+/// Adds the keys that have parts, each with the order that is given for it, or the empty one.
+fn add_recorded<'a>(
     keys: &mut Vec<KeyToCheck<'a>>,
-    recorded: &KeyNumbers,
-    one: &'a KeyOrder,
-    nothing: &'a Part,
+    recorded: &RecordedKeys<'a>,
+    table: &OrderTable<'a>,
 ) -> Result<(), Memory>
-    requires { nothing.now ≡ [] }
-    ensures { OnOk result ((parts : KeyParts) → HasKeys recorded.now (keys_in parts)
-        → map what_of keys.new.items
-        ≡ map what_of keys.old.items ++ map other_key (filter (is_other parts) (one.now ∷ []))) }
+    requires numbers { AreNumbered recorded.now.numbers recorded.now.list.items }
+    requires given { length table.now.given.items ≡ length recorded.now.numbers }
+    ensures { OnOk result ((orders : List KeyOrder)
+        → IsOrderTable recorded.now.numbers orders table.now
+        → map what_of keys.new.items ≡ map what_of keys.old.items
+        ++ map (recorded_key orders) (map entry_of recorded.now.list.items)) }
 {
-    if recorded.find(&one.key)?.is_some() {
-        return Ok(());
+    for own in &recorded.list {
+        keys.push(KeyToCheck {
+            key: own.key,
+            part: own.part,
+            order: table.given[own.number].unwrap_or(&[]),
+        })?;
     }
-    keys.push(KeyToCheck {
-        key: &one.key,
-        part: nothing,
-        order: one.order.as_slice(),
-    })?;
     Ok(())
 }
 
-/// Adds the keys that only the orders have, each with a part without a call.
+/// Adds the keys of these orders, each with a part without a call.
 fn add_others<'a>(
-    alloc: Global,
     keys: &mut Vec<KeyToCheck<'a>>,
-    orders: &'a [KeyOrder],
+    others: &[&'a KeyOrder],
     nothing: &'a Part,
 ) -> Result<(), Memory>
     requires { nothing.now ≡ [] }
-    ensures { OnOk result ((parts : KeyParts)
-        → map what_of keys.old.items ≡ map (recorded_key orders.now) parts
-        → map what_of keys.new.items ≡ checked_keys parts orders.now) }
+    ensures { OnOk result (map what_of keys.new.items ≡ map what_of keys.old.items
+        ++ map other_key (map (λ one. one.now) others.now)) }
 {
-    let recorded = keys_of(alloc, keys)?;
-    for one in orders {
-        add_other(keys, &recorded, one, nothing)?;
+    for one in others {
+        keys.push(KeyToCheck {
+            key: &one.key,
+            part: nothing,
+            order: one.order.as_slice(),
+        })?;
     }
     Ok(())
 }
@@ -133,25 +167,10 @@ pub(crate) fn keys_to_check<'a>(
     ensures { IfOk result (λ keys. map what_of keys.items
         ≡ checked_keys (all_parts (map (λ p. p.entries) parts.now)) orders.now) }
 {
-    let mut keys = recorded_keys(alloc, parts, orders)?;
-    add_others(alloc, &mut keys, orders, nothing)?;
-    Ok(keys)
-}
-
-/// The keys that have parts, in order, each with the order that is given for it.
-fn recorded_keys<'a>(
-    alloc: Global,
-    parts: &'a [Parts],
-    orders: &'a [KeyOrder],
-) -> Result<Vec<KeyToCheck<'a>>, Memory>
-    requires { AreDistinct orders.now }
-    ensures { IfOk result (λ keys. map what_of keys.items
-        ≡ map (recorded_key orders.now) (all_parts (map (λ p. p.entries) parts.now))) }
-{
-    let by_key = Orders::new(alloc, orders)?;
-    let mut keys = Vec::new(alloc);
-    for own in parts {
-        add_recorded(&mut keys, own.entries(), &by_key)?;
-    }
+    let recorded = RecordedKeys::new(alloc, parts)?;
+    let table = OrderTable::new(alloc, &recorded.numbers, orders)?;
+    let mut keys = Vec::with_capacity(alloc, recorded.list.len())?;
+    add_recorded(&mut keys, &recorded, &table)?;
+    add_others(&mut keys, &table.others, nothing)?;
     Ok(keys)
 }

@@ -5,7 +5,6 @@ use Rattle.std.specs.declared.alloc.Global.{Global}
 use Rattle.tag.specs.declared.memory.Memory.{Memory}
 use Rattle.file_format.specs.declared.judge_lines.Judgement.{Judgement}
 use Rattle.file_format.specs.Lines.{ShowChunks}
-use Rattle.rayon.proofs.ListFacts.{AllZip-weaken}
 use Rattle.rayon.proofs.ToStd.{slice-AllZip}
 use Rattle.file_format.specs.Chunks.{show_all}
 use Rattle.history_file.proofs.SideBySide.{collected}
@@ -13,13 +12,13 @@ use Rattle.history_file.proofs.side_by_side.judge_chunks.Goals as goal
 
 pub returns : goal.returns
 returns g c =
-    let lent = c.map_init.result.f.1.now in
-    let known : lent ≡ c.args.header = ap (λ f. f.1.now) c.map_init.ensures.f in
-    let slice = ap (λ it. it.base.slice.now) c.map_init.ensures.base ∙ (ap (λ it. it.slice.now) c.with_min_len.ensures.base ∙ c.par_iter.ensures) in
+    let lent = c.map.result.f.1.now in
+    let known : lent ≡ c.args.header = ap (λ f. f.1.now) c.map.ensures.f in
+    let slice = ap (λ it. it.base.slice.now) c.map.ensures.base ∙ (ap (λ it. it.slice.now) c.with_min_len.ensures.base ∙ c.par_iter.ensures) in
     let Shows : Bor (List ℕ) → Vec (Judgement g.row.T.Denot) Global → Type 0 = λ chunk run. ShowChunks (g.T.LineItem.meaning lent) (chunk.now ∷ []) run.items in
     let h = c.in_ok-runs.ensures in
     let chain = h.1 in
-    let shown = slice-AllZip chain.0 c.args.chunks.now (chain.1 ∙ slice) (λ (chunk : Bor (List ℕ)) (run : Result (Vec (Judgement g.row.T.Denot) Global) Memory). IfOk run (Shows chunk)) h.0 (AllZip-weaken _ _ (λ x y p. p.2) _ _ chain.2) in
+    let shown = slice-AllZip chain.0 c.args.chunks.now (chain.1 ∙ slice) (λ (chunk : Bor (List ℕ)) (run : Result (Vec (Judgement g.row.T.Denot) Global) Memory). IfOk run (Shows chunk)) h.0 chain.2 in
     let runs = c.in_ok-runs-2.field-0.items in
     let I : Result (Vec (Vec (Judgement g.row.T.Denot) Global) Global) Memory → Type 0 = λ r. IfOk r (λ found. AllZip Shows c.args.chunks.now found.items) in
     let all : AllZip Shows c.args.chunks.now runs = subst I c.in_ok-runs-2.was (collected Shows (λ (found : Vec (Vec (Judgement g.row.T.Denot) Global) Global). found.items) c.args.chunks.now h.0 c.in_ok-runs.runs _ shown h.2) in

@@ -8,12 +8,12 @@ use Rattle.history_file.proofs.order_format.OrdersContents.follow.Goals as goal
 pub returns : goal.returns
 returns c = λ header pieces made fits.
     let piece = c.args.piece in
-    let before : MakesOrders header pieces (record { entries = c.self.inside.orders.entries; calls = c.self.inside.calls }) = rw (← c.self.view_is) at made in
+    let before : MakesOrders header pieces (record { orders = c.self.inside.orders; calls = c.self.inside.calls }) = rw (← c.self.view_is) at made in
     let grown = sum_by-append (λ (p : KeyOrder). length p.order) pieces (piece ∷ []) in
     let count = ap length c.as_slice-count.ensures in (
       omega (arith, grown, count, before.counted, c.if-count-self.false),
       record {
-        joined = joined_more pieces piece c.self.inside.orders.entries c.join.new.orders.entries before.joined c.in_ok-join.ensures;
+        joined = joined_more pieces piece c.self.inside.orders c.join.new.orders before.joined c.in_ok-join.ensures;
         counted = omega (arith, grown, count, before.counted);
       },
     )

@@ -3,7 +3,7 @@ use Rattle.file_format.specs.declared.judge_lines.Judgement.{Judgement}
 use Rattle.file_format.specs.Lines.{ShowChunks}
 use Rattle.counted_devices.specs.CutLemmas.{behind, cut_at}
 use Rattle.file_format.specs.Chunks.{Shown, Shown-line, Shown-last}
-use Rattle.file_format.proofs.judge_lines.judge_chunk.Goals as goal
+use Rattle.file_format.proofs.judge_lines.judge_with.Goals as goal
 
 pub loop-end-preserved : goal.loop-end-preserved
 loop-end-preserved g c =

@@ -1,6 +1,6 @@
 use Rattle.std.proofs.Common.{length}
 use Rattle.file_format.specs.Chunks.{Shown}
-use Rattle.file_format.proofs.judge_lines.judge_chunk.Given as goal
+use Rattle.file_format.proofs.judge_lines.judge_with.Given as goal
 
 abbrev pub invariant-loop-end : goal.invariant-loop-end
 invariant-loop-end g l = record {
