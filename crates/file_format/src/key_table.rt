@@ -30,25 +30,29 @@ pub(crate) struct KeyTable {
     mask: usize,
 }
 
-/// The last eight bytes of the text as a number, or all where there are fewer.
-fn last_bytes(text: &[u8]) -> u64 {
-    if let Some(last) = text.last_chunk::<8>() {
-        return u64::from_le_bytes(*last);
+/// At most eight bytes as a number.
+fn number_of(bytes: &[u8]) -> u64 {
+    if let Some(eight) = bytes.as_array::<8>() {
+        return u64::from_le_bytes(*eight);
     }
-    if let (Some(first), Some(last)) = (text.first_chunk::<4>(), text.last_chunk::<4>()) {
+    if let (Some(first), Some(last)) = (bytes.first_chunk::<4>(), bytes.last_chunk::<4>()) {
         let first = u64::from(u32::from_le_bytes(*first));
         return (first << 32) | u64::from(u32::from_le_bytes(*last));
     }
     let mut number: u64 = 0;
-    for byte in text {
+    for byte in bytes {
         number = (number << 8) | u64::from(*byte);
     }
     number
 }
 
-/// A number that texts with other last bytes mostly don't have, above all in its first bits.
+/// A number that other texts mostly don't have, above all in its first bits.
 pub(crate) fn mark_of(text: &[u8]) -> u64 {
-    last_bytes(text).wrapping_mul(FACTOR)
+    let mut mark: u64 = 0;
+    for bytes in text.chunks(8) {
+        mark = (mark ^ number_of(bytes)).wrapping_mul(FACTOR);
+    }
+    mark
 }
 
 impl KeyTable {
