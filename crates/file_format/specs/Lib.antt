@@ -21,6 +21,8 @@ pub mod OrderFormat
 pub mod Joins
 pub mod Says
 pub mod LineFaults
+pub mod LineKeys
+pub mod LineRows
 pub mod Texts
 pub mod PlainTexts
 pub mod Ranges

@@ -9,16 +9,20 @@ ghost use Rattle.json.specs.Print.{quoted};
 ghost use Rattle.counted_devices.specs.Cuts.{with_end};
 ghost use Rattle.file_format.specs.CanonicalLines.{IsHallRowLine, IsPieceLine, IsRowLine};
 ghost use Rattle.file_format.specs.Ranges.{HasAnswerIn, HasValueIn, IsInRange, IsInvocation, IsNote, IsOp, IsResponse, IsValue};
+ghost use Rattle.file_format.specs.LineRows.{row_said};
 ghost use Rattle.file_format.specs.RowTexts.{asked_text, noted_text, returned_text, row_bytes};
 ghost use Rattle.file_format.specs.Texts.{hall_text};
 
 use crate::file_header::FileHeader;
 use crate::hall_row::HallRow;
-use crate::seen::SeenTexts;
+use crate::line_key::{LineKey, LinePlace};
+use crate::line_row::{LineRow, SaidRow};
+use crate::order_piece::OrderPiece;
+use crate::seen::SeenValues;
 use crate::texts::{MOST_IN_PIECE, append_piece, plain_length};
-use recorder::{KeyOrder, Order, Row};
+use recorder::Order;
 use std::alloc::Global;
-use tag::{Action, ClientId, Key, Memory, OpId, Returned, Tag, Value};
+use tag::{Action, ClientId, Memory, OpId, Returned, Tag, Value};
 
 /// The most digits of a number of 32 bits.
 const MOST_DIGITS: usize = 10;
@@ -26,15 +30,15 @@ const MOST_DIGITS: usize = 10;
 /// A row, and what its line has as its member `hall`.
 #[derive(Debug, Drop)]
 struct PlacedRow {
-    place: Option<u8>,
-    row: Row,
+    hall: Option<u8>,
+    said: SaidRow,
 }
 
 /// What an invocation's line says behind its client.
 #[derive(Debug, Drop)]
 struct Asked {
-    place: Option<u8>,
-    key: Key,
+    hall: Option<u8>,
+    key: LineKey,
     action: Action,
 }
 
@@ -129,12 +133,8 @@ fn first_hall(bytes: &[u8]) -> Option<(Option<u8>, &[u8])>
     Some((Some(hall as u8), rest))
 }
 
-/// The key that the bytes begin with as a member, and what is behind it.
-fn first_key<'a>(
-    alloc: Global,
-    seen: &mut SeenTexts,
-    bytes: &'a [u8],
-) -> Result<Option<(Key, &'a [u8])>, Memory>
+/// The key that the bytes begin with as a member, where the line ends with them, and what is behind it.
+fn first_key<'a>(place: &LinePlace, bytes: &'a [u8]) -> Result<Option<(LineKey, &'a [u8])>, Memory>
     ensures { IfOk result (λ found. IfSome found
         (λ p. bytes.now ≡ codes ",\"key\":" ++ (quoted p.0 ++ p.1.now))) }
 {
@@ -144,14 +144,14 @@ fn first_key<'a>(
     let Some((name, rest)) = first_text(rest) else {
         return Ok(None);
     };
-    match seen.key(alloc, name)? {
+    match place.key(name, rest.len().saturating_add(1))? {
         Some(key) => Ok(Some((key, rest))),
         None => Ok(None),
     }
 }
 
 /// The value in quotation marks that is all that the bytes have before a brace.
-fn last_value(alloc: Global, seen: &mut SeenTexts, bytes: &[u8]) -> Result<Option<Value>, Memory>
+fn last_value(alloc: Global, seen: &mut SeenValues, bytes: &[u8]) -> Result<Option<Value>, Memory>
     ensures { IfOk result (λ found. IfSome found
         (λ value. bytes.now ≡ quoted value ++ codes "}")) }
 {
@@ -165,17 +165,17 @@ fn last_value(alloc: Global, seen: &mut SeenTexts, bytes: &[u8]) -> Result<Optio
 }
 
 /// The read, behind what says that it is one.
-fn asked_read(alloc: Global, seen: &mut SeenTexts, bytes: &[u8]) -> Result<Option<Asked>, Memory>
+fn asked_read(place: &LinePlace, bytes: &[u8]) -> Result<Option<Asked>, Memory>
     ensures { IfOk result (λ found. IfSome found
         (λ asked. codes ",\"do\":\"read\"" ++ bytes.now
-        ≡ asked_text asked.place asked.key asked.action)) }
+        ≡ asked_text asked.hall asked.key asked.action)) }
 {
-    let Some((place, rest)) = first_hall(bytes) else {
+    let Some((hall, rest)) = first_hall(bytes) else {
         return Ok(None);
     };
-    match first_key(alloc, seen, rest)? {
+    match first_key(place, rest)? {
         Some((key, rest)) if is_all(rest, b",\"row\":\"invoke\"}") => Ok(Some(Asked {
-            place,
+            hall,
             key,
             action: Action::Read,
         })),
@@ -184,15 +184,20 @@ fn asked_read(alloc: Global, seen: &mut SeenTexts, bytes: &[u8]) -> Result<Optio
 }
 
 /// The write, behind what says that it is one.
-fn asked_write(alloc: Global, seen: &mut SeenTexts, bytes: &[u8]) -> Result<Option<Asked>, Memory>
+fn asked_write(
+    alloc: Global,
+    place: &LinePlace,
+    seen: &mut SeenValues,
+    bytes: &[u8],
+) -> Result<Option<Asked>, Memory>
     ensures { IfOk result (λ found. IfSome found
         (λ asked. codes ",\"do\":\"write\"" ++ bytes.now
-        ≡ asked_text asked.place asked.key asked.action)) }
+        ≡ asked_text asked.hall asked.key asked.action)) }
 {
-    let Some((place, rest)) = first_hall(bytes) else {
+    let Some((hall, rest)) = first_hall(bytes) else {
         return Ok(None);
     };
-    let Some((key, rest)) = first_key(alloc, seen, rest)? else {
+    let Some((key, rest)) = first_key(place, rest)? else {
         return Ok(None);
     };
     let Some(rest) = behind(rest, b",\"row\":\"invoke\",\"value\":") else {
@@ -200,7 +205,7 @@ fn asked_write(alloc: Global, seen: &mut SeenTexts, bytes: &[u8]) -> Result<Opti
     };
     match last_value(alloc, seen, rest)? {
         Some(value) => Ok(Some(Asked {
-            place,
+            hall,
             key,
             action: Action::Write(value),
         })),
@@ -209,15 +214,20 @@ fn asked_write(alloc: Global, seen: &mut SeenTexts, bytes: &[u8]) -> Result<Opti
 }
 
 /// What an invocation's line says behind its client.
-fn request(alloc: Global, seen: &mut SeenTexts, bytes: &[u8]) -> Result<Option<Asked>, Memory>
+fn request(
+    alloc: Global,
+    place: &LinePlace,
+    seen: &mut SeenValues,
+    bytes: &[u8],
+) -> Result<Option<Asked>, Memory>
     ensures { IfOk result (λ found. IfSome found
-        (λ asked. bytes.now ≡ asked_text asked.place asked.key asked.action)) }
+        (λ asked. bytes.now ≡ asked_text asked.hall asked.key asked.action)) }
 {
     if let Some(rest) = behind(bytes, b",\"do\":\"write\"") {
-        return asked_write(alloc, seen, rest);
+        return asked_write(alloc, place, seen, rest);
     }
     if let Some(rest) = behind(bytes, b",\"do\":\"read\"") {
-        return asked_read(alloc, seen, rest);
+        return asked_read(place, rest);
     }
     Ok(None)
 }
@@ -225,13 +235,14 @@ fn request(alloc: Global, seen: &mut SeenTexts, bytes: &[u8]) -> Result<Option<A
 /// The invocation whose line has these bytes behind `"client":`.
 fn invocation(
     alloc: Global,
-    seen: &mut SeenTexts,
+    place: &LinePlace,
+    seen: &mut SeenValues,
     op: OpId,
     bytes: &[u8],
 ) -> Result<Option<PlacedRow>, Memory>
     ensures { IfOk result (λ found. IfSome found
         (λ placed. codes "{\"call\":" ++ (decimal op.0 ++ (codes ",\"client\":" ++ bytes.now))
-        ≡ row_bytes placed.place placed.row)) }
+        ≡ row_bytes placed.hall (row_said placed.said))) }
 {
     let Some((name, rest)) = first_number(bytes) else {
         return Ok(None);
@@ -239,16 +250,16 @@ fn invocation(
     let Ok(client) = ClientId::new(name) else {
         return Ok(None);
     };
-    let Some(Asked { place, key, action }) = request(alloc, seen, rest)? else {
+    let Some(Asked { hall, key, action }) = request(alloc, place, seen, rest)? else {
         return Ok(None);
     };
-    let row = Row::Invoke {
+    let said = SaidRow::Invoke {
         op,
         client,
         key,
         action,
     };
-    Ok(Some(PlacedRow { place, row }))
+    Ok(Some(PlacedRow { hall, said }))
 }
 
 /// The tag of a note whose line has these bytes behind `"number":`.
@@ -266,7 +277,7 @@ fn note_tag(bytes: &[u8]) -> Option<Tag>
 }
 
 /// What a response answers whose line has these bytes behind its kind.
-fn answer(alloc: Global, seen: &mut SeenTexts, bytes: &[u8]) -> Result<Option<Returned>, Memory>
+fn answer(alloc: Global, seen: &mut SeenValues, bytes: &[u8]) -> Result<Option<Returned>, Memory>
     ensures { IfOk result (λ found. IfSome found
         (λ returned. bytes.now ≡ returned_text returned)) }
 {
@@ -288,22 +299,22 @@ fn answer(alloc: Global, seen: &mut SeenTexts, bytes: &[u8]) -> Result<Option<Re
 /// The note or the response whose line has these bytes behind its call.
 fn later(
     alloc: Global,
-    seen: &mut SeenTexts,
+    seen: &mut SeenValues,
     op: OpId,
     bytes: &[u8],
 ) -> Result<Option<PlacedRow>, Memory>
     ensures { IfOk result (λ found. IfSome found
         (λ placed. codes "{\"call\":" ++ (decimal op.0 ++ bytes.now)
-        ≡ row_bytes placed.place placed.row)) }
+        ≡ row_bytes placed.hall (row_said placed.said))) }
 {
-    let Some((place, rest)) = first_hall(bytes) else {
+    let Some((hall, rest)) = first_hall(bytes) else {
         return Ok(None);
     };
     if let Some(rest) = behind(rest, b",\"number\":") {
         return match note_tag(rest) {
             Some(tag) => Ok(Some(PlacedRow {
-                place,
-                row: Row::Note { op, tag },
+                hall,
+                said: SaidRow::Note { op, tag },
             })),
             None => Ok(None),
         };
@@ -313,17 +324,22 @@ fn later(
     };
     match answer(alloc, seen, rest)? {
         Some(returned) => Ok(Some(PlacedRow {
-            place,
-            row: Row::Respond { op, returned },
+            hall,
+            said: SaidRow::Respond { op, returned },
         })),
         None => Ok(None),
     }
 }
 
 /// The row that the line is written for, and what the line has as its member `hall`.
-fn placed_row(alloc: Global, seen: &mut SeenTexts, line: &[u8]) -> Result<Option<PlacedRow>, Memory>
+fn placed_row(
+    alloc: Global,
+    place: &LinePlace,
+    seen: &mut SeenValues,
+    line: &[u8],
+) -> Result<Option<PlacedRow>, Memory>
     ensures { IfOk result (λ found. IfSome found
-        (λ placed. line.now ≡ row_bytes placed.place placed.row)) }
+        (λ placed. line.now ≡ row_bytes placed.hall (row_said placed.said))) }
 {
     let Some(rest) = behind(line, b"{\"call\":") else {
         return Ok(None);
@@ -332,7 +348,7 @@ fn placed_row(alloc: Global, seen: &mut SeenTexts, line: &[u8]) -> Result<Option
         return Ok(None);
     };
     match behind(rest, b",\"client\":") {
-        Some(rest) => invocation(alloc, seen, OpId(call), rest),
+        Some(rest) => invocation(alloc, place, seen, OpId(call), rest),
         None => later(alloc, seen, OpId(call), rest),
     }
 }
@@ -368,7 +384,7 @@ fn look_at_answer(returned: &Returned)
     }
 }
 
-fn look_at_invocation(op: OpId, client: ClientId, key: &Key, action: &Action)
+fn look_at_invocation(op: OpId, client: ClientId, key: &LineKey, action: &Action)
     ensures { IsInvocation op client key.now action.now }
 {
     look_at_call(op);
@@ -392,36 +408,37 @@ fn look_at_response(op: OpId, returned: &Returned)
     look_at_answer(returned);
 }
 
-fn look_at_row(row: &Row)
-    ensures { IsInRange row.now }
+fn look_at_row(said: &SaidRow)
+    ensures { IsInRange (row_said said.now) }
 {
-    match row {
-        Row::Invoke {
+    match said {
+        SaidRow::Invoke {
             op,
             client,
             key,
             action,
         } => look_at_invocation(*op, *client, key, action),
-        Row::Note { op, tag } => look_at_note(*op, *tag),
-        Row::Respond { op, returned } => look_at_response(*op, returned),
+        SaidRow::Note { op, tag } => look_at_note(*op, *tag),
+        SaidRow::Respond { op, returned } => look_at_response(*op, returned),
     }
 }
 
-/// The row that the line, without its end, is written for, where `seen` has texts to share. `None`
-/// says nothing; `Memory` comes only where a growth was refused.
+/// The row that the line, without its end, is written for, which stands at that place, where `seen`
+/// has values to share. `None` says nothing; `Memory` comes only where a growth was refused.
 pub(crate) fn written_row(
     alloc: Global,
-    seen: &mut SeenTexts,
+    place: &LinePlace,
+    seen: &mut SeenValues,
     line: &[u8],
-) -> Result<Option<Row>, Memory>
+) -> Result<Option<LineRow>, Memory>
     ensures { IfOk result (λ found. IfSome found (IsRowLine line.now)) }
 {
-    let Some(PlacedRow { place, row }) = placed_row(alloc, seen, line)? else {
+    let Some(PlacedRow { hall, said }) = placed_row(alloc, place, seen, line)? else {
         return Ok(None);
     };
-    look_at_row(&row);
-    match place {
-        None => Ok(Some(row)),
+    look_at_row(&said);
+    match hall {
+        None => Ok(Some(LineRow { said })),
         Some(_) => Ok(None),
     }
 }
@@ -441,22 +458,24 @@ fn is_same(one: Option<u8>, other: Option<u8>) -> bool
 pub(crate) fn written_hall_row(
     alloc: Global,
     header: FileHeader,
-    seen: &mut SeenTexts,
+    place: &LinePlace,
+    seen: &mut SeenValues,
     line: &[u8],
 ) -> Result<Option<HallRow>, Memory>
     ensures { IfOk result (λ found. IfSome found (IsHallRowLine header line.now)) }
 {
-    let Some(PlacedRow { place, row }) = placed_row(alloc, seen, line)? else {
+    let Some(PlacedRow { hall: member, said }) = placed_row(alloc, place, seen, line)? else {
         return Ok(None);
     };
-    let hall = place.unwrap_or(0);
+    let hall = member.unwrap_or(0);
     if hall >= header.halls() {
         return Ok(None);
     }
-    if !is_same(header.place(hall), place) {
+    if !is_same(header.place(hall), member) {
         return Ok(None);
     }
-    look_at_row(&row);
+    look_at_row(&said);
+    let row = LineRow { said };
     Ok(Some(HallRow { hall, row }))
 }
 
@@ -485,39 +504,38 @@ fn guessed_calls(alloc: Global, bytes: &[u8]) -> Result<Vec<OpId>, Memory> {
 /// The piece of an order that the line may be.
 fn guessed_piece(
     alloc: Global,
-    seen: &mut SeenTexts,
+    place: &LinePlace,
     line: &[u8],
-) -> Result<Option<KeyOrder>, Memory> {
+) -> Result<Option<OrderPiece>, Memory> {
     let named = line
         .strip_prefix(b"{\"key\":".as_slice())
         .and_then(first_text);
     let Some((name, rest)) = named else {
         return Ok(None);
     };
+    let behind_key = rest.len().saturating_add(1);
     let Some(rest) = rest.strip_prefix(b",\"order\":[".as_slice()) else {
         return Ok(None);
     };
-    let calls = guessed_calls(alloc, rest)?;
-    match seen.key(alloc, name)? {
-        Some(key) => Ok(Some(KeyOrder {
-            key,
-            order: Order::from_vec(calls),
-        })),
-        None => Ok(None),
-    }
+    let Some(key) = place.key(name, behind_key)? else {
+        return Ok(None);
+    };
+    let order = Order::from_vec(guessed_calls(alloc, rest)?);
+    Ok(Some(OrderPiece { key, order }))
 }
 
-/// The piece of an order that the line, without its end, is written for, where `text` is lent room
-/// for a line, and `seen` texts to share. `None` says nothing; `Memory` comes only where a growth was refused.
+/// The piece of an order that the line, without its end, is written for, which stands at that place,
+/// where `text` is lent room for a line. `None` says nothing; `Memory` comes only where a growth was
+/// refused.
 pub(crate) fn written_piece(
     alloc: Global,
+    place: &LinePlace,
     text: &mut Vec<u8>,
-    seen: &mut SeenTexts,
     line: &[u8],
-) -> Result<Option<KeyOrder>, Memory>
+) -> Result<Option<OrderPiece>, Memory>
     ensures { IfOk result (λ found. IfSome found (IsPieceLine line.now)) }
 {
-    let Some(piece) = guessed_piece(alloc, seen, line)? else {
+    let Some(piece) = guessed_piece(alloc, place, line)? else {
         return Ok(None);
     };
     let calls = piece.order.as_slice();
@@ -525,7 +543,7 @@ pub(crate) fn written_piece(
         return Ok(None);
     }
     text.clear();
-    append_piece(text, &piece.key, calls)?;
+    append_piece(text, piece.key.as_str(), calls)?;
     if is_line(text, line) {
         Ok(Some(piece))
     } else {

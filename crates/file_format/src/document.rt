@@ -3,22 +3,25 @@ ghost use Rattle.std.specs.Prelude.{◌≡◌, true, option_map};
 ghost use Rattle.json.specs.Find.{as_array};
 ghost use Rattle.json.specs.Value.{value_view, items_view};
 ghost use Rattle.serde_json.specs.Find.{get};
-ghost use Rattle.file_format.specs.Members.{Gives, needed_member, text_at, number_at, numbers_at};
+ghost use Rattle.file_format.specs.Members.{Gives, key_of, needed_member, text_at, number_at, numbers_at};
 ghost use Rattle.file_format.specs.Trees.{has_numbers, unsigned_of, all_unsigned};
 
 use crate::LineFault;
 use crate::fault::Stop;
+use crate::line_key::{LineKey, LinePlace};
 use crate::numerals::unsigned_in;
 use crate::tree::{has_numbers, tree_in};
 use json::{Scratch, Value as Json};
 use std::alloc::Global;
 use std::str;
-use tag::Memory;
+use tag::{Memory, is_key};
 
 /// The JSON value of a line, as `serde_json` reads it; its texts stay where they lie.
 #[derive(Drop)]
 pub struct Document<'a> {
     value: Json<'a>,
+    line: &'a [u8],
+    place: &'a LinePlace,
     ghost numbers: { has_numbers (value_view value) ≡ true },
 }
 
@@ -37,6 +40,7 @@ impl<'a> Document<'a> {
     pub(crate) fn read(
         alloc: Global,
         line: &'a [u8],
+        place: &'a LinePlace,
         scratch: &'a mut Scratch,
     ) -> Result<Document<'a>, Stop>
         ensures { IsRead line.now result }
@@ -48,7 +52,7 @@ impl<'a> Document<'a> {
         if !has_numbers(&value) {
             return Err(Stop::Fault(LineFault::NotJson));
         }
-        Ok(Document { value })
+        Ok(Document { value, line, place })
     }
 
     /// The text that is the member of that name.
@@ -87,6 +91,16 @@ impl<'a> Document<'a> {
             (needed_member (text_at name.now (data_in self.now))) }
     {
         self.text(name).ok_or(Stop::Fault(LineFault::Member))
+    }
+
+    /// The key of that text, which is a text of the line; another text has the fault `Range`.
+    pub(crate) fn key(&self, alloc: Global, text: &str) -> Result<LineKey, Stop>
+        ensures { Gives (λ key. key) result (key_of text.now) }
+    {
+        if !is_key(text.as_bytes()) {
+            return Err(Stop::Fault(LineFault::Range));
+        }
+        Ok(self.place.key_anywhere(alloc, self.line, text)?)
     }
 
     /// The number that is the member of that name; without one the line has the fault `Member`.

@@ -5,9 +5,9 @@ ghost use Rattle.file_format.specs.Ranges.{HasLawful};
 ghost use Rattle.file_format.specs.Texts.{header_of};
 ghost use Rattle.file_format.specs.FileHeaders.{halls_in, quorums_in, place_in};
 
+use crate::line_key::LineKey;
 use quorum::Quorums;
 use recorder::{Halls, Histories};
-use tag::Key;
 
 /// What the first line of a history file says of the others.
 #[derive(Clone, Copy, Debug, PartialEq, Eq)]
@@ -60,12 +60,12 @@ impl FileHeader {
     }
 
     /// The number of the key's hall.
-    pub(crate) fn hall_of(&self, key: &Key) -> u8
+    pub(crate) fn hall_of(&self, key: &LineKey) -> u8
         ensures { result ≡ hall_of (halls_in self.now) key.now }
     {
         match self {
             FileHeader::Version1 => 0,
-            FileHeader::Version2 { halls, .. } => halls.of(key),
+            FileHeader::Version2 { halls, .. } => halls.of_text(key.as_str()),
         }
     }
 

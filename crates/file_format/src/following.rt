@@ -1,12 +1,15 @@
 //! Rows that follow one another.
 ghost use Rattle.std.specs.Prelude.{ℕ, ◌≡◌, ◌≤◌};
+ghost use Rattle.recorder.specs.declared.row.Row.{Row};
 ghost use Rattle.recorder.specs.Histories.{IsWellFormed, call_count};
 ghost use Rattle.file_format.specs.Places.{FollowsBehind, FollowsInHall, FollowsRow};
 
 use crate::LineFault;
 use crate::fault::Stop;
-use recorder::{History, Row, RowRefusal};
-use tag::{Action, ClientId, Key, OpId, Returned, Tag};
+use crate::line_key::LineKey;
+use crate::line_row::{LineRow, SaidRow};
+use recorder::{History, RowRefusal};
+use tag::{Action, ClientId, OpId, Returned, Tag};
 
 /// The most calls of a file.
 pub const MOST_CALLS: u32 = 1_000_000;
@@ -16,7 +19,7 @@ fn follow_invoke(
     earlier: usize,
     op: OpId,
     client: ClientId,
-    key: Key,
+    key: LineKey,
     action: Action,
 ) -> Result<(), Stop>
     ensures { FollowsInHall earlier history.old
@@ -31,7 +34,7 @@ fn follow_invoke(
         }
         return Err(Stop::Fault(LineFault::TooManyCalls));
     }
-    match history.invoke(client, key, action) {
+    match history.invoke_on(client, key.as_str(), action) {
         Ok(_) => Ok(()),
         Err(RowRefusal::ClientBusy) => Err(Stop::Fault(LineFault::ClientBusy)),
         Err(_) => Err(Stop::Memory),
@@ -62,24 +65,29 @@ fn follow_respond(history: &mut History, op: OpId, returned: Returned) -> Result
     }
 }
 
-fn follow_row(history: &mut History, earlier: usize, row: Row) -> Result<(), Stop>
+fn follow_row(history: &mut History, earlier: usize, row: LineRow) -> Result<(), Stop>
     ensures { FollowsInHall earlier history.old row result history.new }
 {
-    match row {
-        Row::Invoke {
+    let LineRow { said } = row;
+    match said {
+        SaidRow::Invoke {
             op,
             client,
             key,
             action,
         } => follow_invoke(history, earlier, op, client, key, action),
-        Row::Note { op, tag } => follow_note(history, op, tag),
-        Row::Respond { op, returned } => follow_respond(history, op, returned),
+        SaidRow::Note { op, tag } => follow_note(history, op, tag),
+        SaidRow::Respond { op, returned } => follow_respond(history, op, returned),
     }
 }
 
 /// Adds the row at the end of its hall's history, where so many calls began in all halls, or says
 /// which fault it has there.
-pub(crate) fn follow_in_hall(history: &mut History, earlier: usize, row: Row) -> Result<(), Stop>
+pub(crate) fn follow_in_hall(
+    history: &mut History,
+    earlier: usize,
+    row: LineRow,
+) -> Result<(), Stop>
     ensures follows { FollowsInHall earlier history.old row result history.new }
     ensures formed { IsWellFormed history.new.rows }
     ensures few { call_count history.new.rows ≤ history.new.limit }
@@ -91,7 +99,7 @@ pub(crate) fn follow_in_hall(history: &mut History, earlier: usize, row: Row) ->
 }
 
 /// Adds the row at the end, or says which fault it has there.
-pub fn follow(history: &mut History, row: Row) -> Result<(), Stop>
+pub fn follow(history: &mut History, row: LineRow) -> Result<(), Stop>
     ensures follows { history.old.limit ≡ 1000000 → FollowsRow history.old row result history.new }
     ensures formed { IsWellFormed history.new.rows }
     ensures few { call_count history.new.rows ≤ history.new.limit }

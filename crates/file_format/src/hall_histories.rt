@@ -12,7 +12,8 @@ use crate::fault::Stop;
 use crate::file_header::FileHeader;
 use crate::following::{MOST_CALLS, follow_in_hall};
 use crate::hall_row::HallRow;
-use recorder::{Histories, History, Row};
+use crate::line_row::{LineRow, SaidRow};
+use recorder::{Histories, History};
 use std::alloc::Global;
 use std::marker::Model;
 use tag::Memory;
@@ -92,11 +93,11 @@ impl HallHistories {
 }
 
 /// Whether the row, where it begins a call, is on a key of that hall.
-fn falls_to(row: &Row, header: &FileHeader, hall: u8) -> bool
+fn falls_to(row: &LineRow, header: &FileHeader, hall: u8) -> bool
     ensures { IsTrue result ↔ FallsTo (halls_in header.now) hall row.now }
 {
-    match row {
-        Row::Invoke { key, .. } => header.hall_of(key) == hall,
-        Row::Note { .. } | Row::Respond { .. } => true,
+    match &row.said {
+        SaidRow::Invoke { key, .. } => header.hall_of(key) == hall,
+        SaidRow::Note { .. } | SaidRow::Respond { .. } => true,
     }
 }

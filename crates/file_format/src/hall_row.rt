@@ -8,15 +8,15 @@ use crate::LineFault;
 use crate::document::Document;
 use crate::fault::Stop;
 use crate::file_header::FileHeader;
+use crate::line_row::LineRow;
 use crate::rows::row_in;
-use recorder::Row;
 use std::alloc::Global;
 
 /// A row, and the number of the hall that it is of.
 #[derive(Debug, Drop)]
 pub struct HallRow {
     pub hall: u8,
-    pub row: Row,
+    pub row: LineRow,
 }
 
 /// The number of one of so many halls.

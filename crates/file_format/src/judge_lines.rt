@@ -10,13 +10,12 @@ use crate::fault::Stop;
 use crate::file_header::FileHeader;
 use crate::header::header_in;
 use crate::line_item::LineItem;
+use crate::line_key::{LinePlace, shared};
 use crate::line_tools::{LineTools, ToolSets};
 use crate::quorum_header::file_header_in;
 use counted_devices::first_end;
 use json::Scratch;
-use key_numbers::KeyNumbers;
 use std::alloc::Global;
-use std::sync::RwLock;
 use tag::Memory;
 
 /// The most bytes of a line, its end not counted.
@@ -47,7 +46,7 @@ fn item_on<T: LineItem>(
     if let Some(item) = T::written_on(alloc, header, tools, line)? {
         return Ok(item);
     }
-    let document = Document::read(alloc, line, &mut tools.scratch)?;
+    let document = Document::read(alloc, line, &tools.place, &mut tools.scratch)?;
     T::item_in(alloc, header, &document)
 }
 
@@ -77,23 +76,24 @@ fn judge_with<T: LineItem>(
 ) -> Result<Vec<Judgement<T>>, Memory>
     ensures { IfOk result (λ run. ShowChunks (T.meaning header) (chunk.now ∷ []) run.items) }
 {
+    tools.place.bytes = shared(alloc, chunk)?;
     let mut run = Vec::with_capacity(alloc, chunk.len() / USUAL)?;
     let mut rest = chunk;
     while let Some(end) = first_end(rest) {
+        tools.place.end = chunk.len().saturating_sub(rest.len() - end);
         run.push(judge::<T>(alloc, header, tools, &rest[..end])?)?;
         rest = &rest[end + 1..];
     }
+    tools.place.end = chunk.len();
     run.push(judge::<T>(alloc, header, tools, rest)?)?;
     Ok(run)
 }
 
-/// The same with the set that is kept there, which is made where there is none. What all know is
-/// learned before, and what is new is handed on.
+/// The same with the set that is kept there, which is made where there is none.
 fn judge_with_set<T: LineItem>(
     alloc: Global,
     header: T::Header,
     set: &mut Option<LineTools>,
-    known: &RwLock<KeyNumbers>,
     chunk: &[u8],
 ) -> Result<Vec<Judgement<T>>, Memory>
     ensures { IfOk result (λ run. ShowChunks (T.meaning header) (chunk.now ∷ []) run.items) }
@@ -102,9 +102,7 @@ fn judge_with_set<T: LineItem>(
         Some(tools) => tools,
         None => LineTools::new(alloc)?,
     };
-    tools.seen.learn(known)?;
     let run = judge_with::<T>(alloc, header, &mut tools, chunk);
-    tools.seen.teach(known)?;
     *set = Some(tools);
     run
 }
@@ -121,10 +119,10 @@ pub fn judge_chunk<T: LineItem>(
 {
     for set in &tools.sets {
         if let Some(mut free) = set.try_write() {
-            return judge_with_set::<T>(alloc, header, &mut free, &tools.known, chunk);
+            return judge_with_set::<T>(alloc, header, &mut free, chunk);
         }
     }
-    judge_with_set::<T>(alloc, header, &mut None, &tools.known, chunk)
+    judge_with_set::<T>(alloc, header, &mut None, chunk)
 }
 
 /// What the line, without its end, says as the header of a history file of either version.
@@ -135,7 +133,8 @@ pub fn judge_file_header(alloc: Global, line: &[u8]) -> Result<FileHeader, Stop>
         return Err(Stop::Fault(LineFault::TooLong));
     }
     let mut scratch = Scratch::new(alloc);
-    let document = Document::read(alloc, line, &mut scratch)?;
+    let place = LinePlace::new(alloc)?;
+    let document = Document::read(alloc, line, &place, &mut scratch)?;
     file_header_in(alloc, &document)
 }
 
@@ -147,6 +146,7 @@ pub fn judge_header(alloc: Global, name: &str, line: &[u8]) -> Result<(), Stop>
         return Err(Stop::Fault(LineFault::TooLong));
     }
     let mut scratch = Scratch::new(alloc);
-    let document = Document::read(alloc, line, &mut scratch)?;
+    let place = LinePlace::new(alloc)?;
+    let document = Document::read(alloc, line, &place, &mut scratch)?;
     header_in(name, &document)
 }

@@ -15,10 +15,11 @@ use crate::document::Document;
 use crate::fault::Stop;
 use crate::file_header::FileHeader;
 use crate::hall_row::{HallRow, hall_row_in};
+use crate::line_row::LineRow;
 use crate::line_tools::LineTools;
 use crate::order_lines::piece_in;
+use crate::order_piece::OrderPiece;
 use crate::rows::row_in;
-use recorder::{KeyOrder, Row};
 use std::alloc::Global;
 use tag::Memory;
 
@@ -46,7 +47,7 @@ pub trait LineItem: Drop + Sized {
         ensures fine { IsFine (meaning header (data_in document.now)) };
 }
 
-impl LineItem for Row {
+impl LineItem for LineRow {
     type Header = ();
 
     ghost meaning = { λ header. row_in };
@@ -56,11 +57,11 @@ impl LineItem for Row {
         _header: (),
         tools: &mut LineTools,
         line: &[u8],
-    ) -> Result<Option<Row>, Memory> {
-        written_row(alloc, &mut tools.seen, line)
+    ) -> Result<Option<LineRow>, Memory> {
+        written_row(alloc, &tools.place, &mut tools.seen, line)
     }
 
-    fn item_in(alloc: Global, _header: (), document: &Document<'_>) -> Result<Row, Stop> {
+    fn item_in(alloc: Global, _header: (), document: &Document<'_>) -> Result<LineRow, Stop> {
         row_in(alloc, document)
     }
 }
@@ -76,7 +77,7 @@ impl LineItem for HallRow {
         tools: &mut LineTools,
         line: &[u8],
     ) -> Result<Option<HallRow>, Memory> {
-        written_hall_row(alloc, header, &mut tools.seen, line)
+        written_hall_row(alloc, header, &tools.place, &mut tools.seen, line)
     }
 
     fn item_in(
@@ -88,7 +89,7 @@ impl LineItem for HallRow {
     }
 }
 
-impl LineItem for KeyOrder {
+impl LineItem for OrderPiece {
     type Header = ();
 
     ghost meaning = { λ header. piece_in };
@@ -98,11 +99,11 @@ impl LineItem for KeyOrder {
         _header: (),
         tools: &mut LineTools,
         line: &[u8],
-    ) -> Result<Option<KeyOrder>, Memory> {
-        written_piece(alloc, &mut tools.text, &mut tools.seen, line)
+    ) -> Result<Option<OrderPiece>, Memory> {
+        written_piece(alloc, &tools.place, &mut tools.text, line)
     }
 
-    fn item_in(alloc: Global, _header: (), document: &Document<'_>) -> Result<KeyOrder, Stop> {
+    fn item_in(alloc: Global, _header: (), document: &Document<'_>) -> Result<OrderPiece, Stop> {
         piece_in(alloc, document)
     }
 }

@@ -8,8 +8,8 @@ ghost use Rattle.file_format.specs.OrderLines.{calls_of, piece_in};
 use crate::LineFault;
 use crate::document::Document;
 use crate::fault::Stop;
-use crate::ranges::key_of;
-use recorder::{KeyOrder, Order};
+use crate::order_piece::OrderPiece;
+use recorder::Order;
 use std::alloc::Global;
 use tag::OpId;
 
@@ -35,12 +35,12 @@ fn calls_of(alloc: Global, numbers: &[u64]) -> Result<Order, Stop>
 
 /// The key and the piece of its order that the value says.
 #[tactic(auto, unfolding(crate::specs::OrderLines::piece_in))]
-pub(crate) fn piece_in(alloc: Global, document: &Document<'_>) -> Result<KeyOrder, Stop>
+pub(crate) fn piece_in(alloc: Global, document: &Document<'_>) -> Result<OrderPiece, Stop>
     ensures { Gives (λ piece. piece) result (piece_in (data_in document.now)) }
 {
     let text = document.needed_text("key")?;
     let numbers = document.needed_numbers(alloc, "order")?;
-    let key = key_of(alloc, text)?;
+    let key = document.key(alloc, text)?;
     let order = calls_of(alloc, numbers.as_slice())?;
-    Ok(KeyOrder { key, order })
+    Ok(OrderPiece { key, order })
 }

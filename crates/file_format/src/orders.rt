@@ -2,6 +2,7 @@
 ghost use Rattle.std.specs.Prelude.{◌≡◌, [], ◌++◌, OnOk};
 ghost use Rattle.file_format.specs.Joins.{Joins};
 
+use crate::order_piece::OrderPiece;
 use key_numbers::KeyNumbers;
 use recorder::{KeyOrder, Order};
 use std::alloc::Global;
@@ -60,16 +61,17 @@ fn append(order: &mut Order, calls: &[OpId]) -> Result<(), Memory>
 }
 
 /// Joins the piece to the order of its key, which it begins where the key has none.
-pub fn join(orders: &mut JoinedOrders, piece: KeyOrder) -> Result<(), Memory>
+pub fn join(orders: &mut JoinedOrders, piece: OrderPiece) -> Result<(), Memory>
     ensures { OnOk result (Joins orders.old piece orders.new) }
 {
-    // Whatever can be refused comes first, so that each key keeps its place.
-    orders.list.reserve(1)?;
-    let slot = orders.places.number(&piece.key)?;
-    if slot < orders.list.len() {
-        append(&mut orders.list[slot].order, piece.order.as_slice())?;
-    } else {
-        orders.list.push(piece)?;
+    let OrderPiece { key, order } = piece;
+    if let Some(slot) = orders.places.find_text(key.as_str()) {
+        return append(&mut orders.list[slot].order, order.as_slice());
     }
+    // Whatever can be refused comes first, so that each key keeps its place.
+    let key = key.to_key(*orders.list.allocator())?;
+    orders.list.reserve(1)?;
+    orders.places.number(&key)?;
+    orders.list.push(KeyOrder { key, order })?;
     Ok(())
 }

@@ -1,11 +1,11 @@
 //! Numbers and texts in their ranges.
 ghost use Rattle.std.specs.Prelude.{◌≡◌};
-ghost use Rattle.file_format.specs.Members.{Gives, op_of, client_of, key_of, value_of, tag_of};
+ghost use Rattle.file_format.specs.Members.{Gives, op_of, client_of, value_of, tag_of};
 
 use crate::LineFault;
 use crate::fault::Stop;
 use std::alloc::Global;
-use tag::{ClientId, Key, NameError, OpId, Tag, Value};
+use tag::{ClientId, NameError, OpId, Tag, Value};
 
 pub(crate) fn op_of(call: u64) -> Result<OpId, Stop>
     ensures { Gives (λ op. op) result (op_of call) }
@@ -26,16 +26,6 @@ pub(crate) fn client_of(client: u64) -> Result<ClientId, Stop>
     match ClientId::new(client as u32) {
         Ok(client) => Ok(client),
         Err(_) => Err(Stop::Fault(LineFault::Range)),
-    }
-}
-
-pub(crate) fn key_of(alloc: Global, text: &str) -> Result<Key, Stop>
-    ensures { Gives (λ key. key) result (key_of text.now) }
-{
-    match Key::new(alloc, text) {
-        Ok(key) => Ok(key),
-        Err(NameError::BadKey) => Err(Stop::Fault(LineFault::Range)),
-        Err(_) => Err(Stop::Memory),
     }
 }
 

@@ -8,30 +8,26 @@ ghost use Rattle.file_format.specs.Rows.{invocation_of, written_in, action_of, i
 use crate::LineFault;
 use crate::document::{Document, Member};
 use crate::fault::Stop;
-use crate::ranges::{client_of, key_of, op_of, tag_of, value_of};
-use recorder::Row;
+use crate::line_row::LineRow;
+use crate::ranges::{client_of, op_of, tag_of, value_of};
 use std::alloc::Global;
 use tag::{Action, Returned};
 
 #[tactic(auto, unfolding(crate::specs::Rows::invocation_of))]
 fn invocation_of(
     alloc: Global,
+    document: &Document<'_>,
     call: u64,
     client: u64,
     key: &str,
     action: Action,
-) -> Result<Row, Stop>
+) -> Result<LineRow, Stop>
     ensures { Gives (λ row. row) result (invocation_of call client key.now action) }
 {
     let op = op_of(call)?;
     let client = client_of(client)?;
-    let key = key_of(alloc, key)?;
-    Ok(Row::Invoke {
-        op,
-        client,
-        key,
-        action,
-    })
+    let key = document.key(alloc, key)?;
+    Ok(LineRow::invoke(op, client, key, action))
 }
 
 #[tactic(auto, unfolding(crate::specs::Rows::written_in))]
@@ -57,7 +53,7 @@ fn action_of(alloc: Global, action: &str, document: &Document<'_>) -> Result<Act
 }
 
 #[tactic(auto, unfolding(crate::specs::Rows::invoke_in))]
-fn invoke_in(alloc: Global, document: &Document<'_>) -> Result<Row, Stop>
+fn invoke_in(alloc: Global, document: &Document<'_>) -> Result<LineRow, Stop>
     ensures { Gives (λ row. row) result (invoke_in (data_in document.now)) }
 {
     let call = document.needed_number("call")?;
@@ -65,11 +61,11 @@ fn invoke_in(alloc: Global, document: &Document<'_>) -> Result<Row, Stop>
     let key = document.needed_text("key")?;
     let name = document.needed_text("do")?;
     let action = action_of(alloc, name, document)?;
-    invocation_of(alloc, call, client, key, action)
+    invocation_of(alloc, document, call, client, key, action)
 }
 
 #[tactic(auto, unfolding(crate::specs::Rows::note_in))]
-fn note_in(document: &Document<'_>) -> Result<Row, Stop>
+fn note_in(document: &Document<'_>) -> Result<LineRow, Stop>
     ensures { Gives (λ row. row) result (note_in (data_in document.now)) }
 {
     let call = document.needed_number("call")?;
@@ -77,7 +73,7 @@ fn note_in(document: &Document<'_>) -> Result<Row, Stop>
     let writer = document.needed_number("writer")?;
     let op = op_of(call)?;
     let tag = tag_of(number, writer)?;
-    Ok(Row::Note { op, tag })
+    Ok(LineRow::note(op, tag))
 }
 
 #[tactic(auto, unfolding(crate::specs::Rows::answer_of))]
@@ -102,17 +98,17 @@ fn returned_in(alloc: Global, document: &Document<'_>) -> Result<Returned, Stop>
 }
 
 #[tactic(auto, unfolding(crate::specs::Rows::respond_in))]
-fn respond_in(alloc: Global, document: &Document<'_>) -> Result<Row, Stop>
+fn respond_in(alloc: Global, document: &Document<'_>) -> Result<LineRow, Stop>
     ensures { Gives (λ row. row) result (respond_in (data_in document.now)) }
 {
     let call = document.needed_number("call")?;
     let returned = returned_in(alloc, document)?;
     let op = op_of(call)?;
-    Ok(Row::Respond { op, returned })
+    Ok(LineRow::respond(op, returned))
 }
 
 #[tactic(auto, unfolding(crate::specs::Rows::row_of))]
-fn row_of(alloc: Global, kind: &str, document: &Document<'_>) -> Result<Row, Stop>
+fn row_of(alloc: Global, kind: &str, document: &Document<'_>) -> Result<LineRow, Stop>
     ensures { Gives (λ row. row) result (row_of kind.now (data_in document.now)) }
 {
     if kind == "invoke" {
@@ -128,7 +124,7 @@ fn row_of(alloc: Global, kind: &str, document: &Document<'_>) -> Result<Row, Sto
 
 /// The row that the value says.
 #[tactic(auto, unfolding(crate::specs::Rows::row_in))]
-pub(crate) fn row_in(alloc: Global, document: &Document<'_>) -> Result<Row, Stop>
+pub(crate) fn row_in(alloc: Global, document: &Document<'_>) -> Result<LineRow, Stop>
     ensures { Gives (λ row. row) result (row_in (data_in document.now)) }
 {
     let kind = document.needed_text("row")?;

@@ -1,33 +1,49 @@
-//! Texts of keys and of values that earlier lines had.
+//! Values that earlier lines had.
 ghost use Rattle.std.specs.Prelude.{◌≡◌, IfOk, IfSome};
 
-use crate::key_table::{KeyTable, mark_of};
-use key_numbers::KeyNumbers;
 use std::alloc::Global;
 use std::str;
-use std::sync::RwLock;
-use tag::{Key, Memory, NameError, Value};
-
-/// How many keys all know at most: the first of a file.
-const KNOWN: usize = 4096;
+use tag::{Memory, NameError, Value};
 
 /// How many values are kept, one for each beginning of a mark.
 const VALUES: usize = 1024;
 
-/// Keys and values of the lines before. A later line that has one shares its text, and takes no
-/// memory for it. The first keys of a file are shared with those who judge its other lines; of the
-/// values the last one at each place stays, a place being chosen by the text.
+/// A factor that spreads the bytes of texts over the whole number.
+const FACTOR: u64 = 0x9e37_79b9_7f4a_7c15;
+
+/// Values of the lines before: the last one at each place, a place being chosen by the text. A later
+/// line that has one shares its text, and takes no memory for it.
 ///
 /// What is kept is compared before it is shared, so it costs time and memory, and changes no
 /// answer, whatever the texts are.
 #[derive(Debug, Drop)]
-pub struct SeenTexts {
-    keys: KeyTable,
-    /// The keys that were first seen here and weren't handed on yet.
-    fresh: Vec<Key>,
-    /// How many of the keys that all know are among these.
-    learned: usize,
+pub struct SeenValues {
     values: Vec<Option<Value>>,
+}
+
+/// At most eight bytes as a number.
+fn number_of(bytes: &[u8]) -> u64 {
+    if let Some(eight) = bytes.as_array::<8>() {
+        return u64::from_le_bytes(*eight);
+    }
+    if let (Some(first), Some(last)) = (bytes.first_chunk::<4>(), bytes.last_chunk::<4>()) {
+        let first = u64::from(u32::from_le_bytes(*first));
+        return (first << 32) | u64::from(u32::from_le_bytes(*last));
+    }
+    let mut number: u64 = 0;
+    for byte in bytes {
+        number = (number << 8) | u64::from(*byte);
+    }
+    number
+}
+
+/// A number that other texts mostly don't have, above all in its first bits.
+fn mark_of(text: &[u8]) -> u64 {
+    let mut mark: u64 = 0;
+    for bytes in text.chunks(8) {
+        mark = (mark ^ number_of(bytes)).wrapping_mul(FACTOR);
+    }
+    mark
 }
 
 /// The value that was kept at the place, where it has that text.
@@ -40,75 +56,14 @@ fn value_at(values: &[Option<Value>], place: usize, text: &[u8]) -> Result<Optio
     }
 }
 
-impl SeenTexts {
-    /// No text.
-    pub(crate) fn new(alloc: Global) -> Result<SeenTexts, Memory> {
+impl SeenValues {
+    /// No value.
+    pub(crate) fn new(alloc: Global) -> Result<SeenValues, Memory> {
         let mut values = Vec::with_capacity(alloc, VALUES)?;
         for _ in 0..VALUES {
             values.push(None)?;
         }
-        Ok(SeenTexts {
-            keys: KeyTable::new(alloc),
-            fresh: Vec::new(alloc),
-            learned: 0,
-            values,
-        })
-    }
-
-    /// Takes over the keys that all know by now, unless somebody adds to them just then.
-    pub(crate) fn learn(&mut self, known: &RwLock<KeyNumbers>) -> Result<(), Memory> {
-        let Some(known) = known.try_read() else {
-            return Ok(());
-        };
-        let keys = known.keys();
-        for place in self.learned..keys.len() {
-            let key = &keys[place];
-            if self.keys.find(key.as_str().as_bytes())?.is_none() {
-                self.keys.add(key.copy()?)?;
-            }
-        }
-        self.learned = keys.len();
-        Ok(())
-    }
-
-    /// Hands the keys on that were first seen here, unless somebody looks at those that all know just
-    /// then.
-    pub(crate) fn teach(&mut self, known: &RwLock<KeyNumbers>) -> Result<(), Memory> {
-        if self.fresh.is_empty() {
-            return Ok(());
-        }
-        let Some(mut known) = known.try_write() else {
-            return Ok(());
-        };
-        for key in &self.fresh {
-            if known.keys().len() < KNOWN {
-                known.number(key)?;
-            }
-        }
-        self.fresh.clear();
-        Ok(())
-    }
-
-    /// The key of that text, if it is one's.
-    pub(crate) fn key(&mut self, alloc: Global, text: &[u8]) -> Result<Option<Key>, Memory>
-        ensures { IfOk result (λ found. IfSome found (λ key. key ≡ text.now)) }
-    {
-        if let Some(key) = self.keys.find(text)? {
-            return Ok(Some(key));
-        }
-        let Ok(name) = str::from_utf8(text) else {
-            return Ok(None);
-        };
-        let key = match Key::new(alloc, name) {
-            Ok(key) => key,
-            Err(NameError::Memory) => return Err(Memory),
-            Err(_) => return Ok(None),
-        };
-        if self.keys.has_room() {
-            self.keys.add(key.copy()?)?;
-            self.fresh.push(key.copy()?)?;
-        }
-        Ok(Some(key))
+        Ok(SeenValues { values })
     }
 
     /// The value of that text, if it is one's.

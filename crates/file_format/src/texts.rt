@@ -5,6 +5,7 @@ ghost use Rattle.json.specs.Print.{quoted};
 ghost use Rattle.serde_json.specs.Data.{string, member};
 ghost use Rattle.serde_json.specs.Written.{items_text, members_text};
 ghost use Rattle.counted_devices.specs.Cuts.{with_end};
+ghost use Rattle.tag.specs.Names.{is_key};
 ghost use Rattle.file_format.specs.PlainTexts.{is_plain};
 ghost use Rattle.file_format.specs.Ranges.{IsOp, HasAnswerIn, AreOps, IsInvocation, IsNote, IsResponse, IsInRange, IsOrderInRange};
 ghost use Rattle.file_format.specs.Texts.{header_data, file_header_data, hall_text, answered_value, calls_data, numbers_data, line_text, placed_text, piece_text};
@@ -277,12 +278,13 @@ fn append_calls(out: &mut Vec<u8>, calls: &[OpId]) -> Result<(), Memory>
 }
 
 /// Adds the line of a piece of the key's order.
-pub(crate) fn append_piece(out: &mut Vec<u8>, key: &Key, calls: &[OpId]) -> Result<(), Memory>
+pub(crate) fn append_piece(out: &mut Vec<u8>, key: &str, calls: &[OpId]) -> Result<(), Memory>
+    requires { is_key key.now ≡ true }
     ensures text { OnOk result (out.new.items
         ≡ out.old.items ++ piece_text (record { key = key.now; order = calls.now })) }
     ensures range { OnOk result (IsOrderInRange (record { key = key.now; order = calls.now })) }
 {
-    append_quoted(out, b"{\"key\":", key.as_str())?;
+    append_quoted(out, b"{\"key\":", key)?;
     append(out, b",\"order\":[")?;
     append_calls(out, calls)?;
     append(out, b"}\n")

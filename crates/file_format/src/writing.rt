@@ -141,7 +141,7 @@ fn write_piece<W: CountedWrite>(
         (batch.old.items ++ piece_text (record { key = key.now; order = calls.now }))) }
     ensures range { OnOk result (IsOrderInRange (record { key = key.now; order = calls.now })) }
 {
-    append_piece(batch, key, calls)?;
+    append_piece(batch, key.as_str(), calls)?;
     relieve(batch, writer)
 }
 

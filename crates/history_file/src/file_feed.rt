@@ -31,7 +31,7 @@ impl<C: Contents> FileFeed<C> {
     {
         FileFeed {
             feed: Feed::new(alloc),
-            tools: ToolSets::new(alloc),
+            tools: ToolSets::new(),
         }
     }
 

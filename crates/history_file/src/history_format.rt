@@ -4,8 +4,8 @@ ghost use Rattle.file_format.specs.HistoryFormat.{history_format, MakesHistory};
 use crate::format::Contents;
 use crate::judgements::Judgements;
 use crate::side_by_side::judge_chunks;
-use file_format::{MOST_CALLS, Stop, ToolSets, follow, judge_header};
-use recorder::{History, Row};
+use file_format::{LineRow, MOST_CALLS, Stop, ToolSets, follow, judge_header};
+use recorder::History;
 use std::alloc::Global;
 use std::thread::Threads;
 use tag::Memory;
@@ -13,7 +13,7 @@ use tag::Memory;
 impl Contents for History {
     type Header = ();
 
-    type Item = Row;
+    type Item = LineRow;
 
     ghost format = { history_format };
 
@@ -36,11 +36,11 @@ impl Contents for History {
         header: (),
         tools: &ToolSets,
         chunks: &[&[u8]],
-    ) -> Result<Judgements<Row>, Memory> {
-        judge_chunks::<Row, R>(rt, alloc, header, tools, chunks)
+    ) -> Result<Judgements<LineRow>, Memory> {
+        judge_chunks::<LineRow, R>(rt, alloc, header, tools, chunks)
     }
 
-    fn follow(&mut self, row: Row) -> Result<(), Stop> {
+    fn follow(&mut self, row: LineRow) -> Result<(), Stop> {
         follow(self, row)
     }
 }

@@ -5,7 +5,9 @@ ghost use Rattle.file_format.specs.OrderFormat.{order_format};
 use crate::format::Contents;
 use crate::judgements::Judgements;
 use crate::side_by_side::judge_chunks;
-use file_format::{JoinedOrders, LineFault, MOST_CALLS, Stop, ToolSets, join, judge_header};
+use file_format::{
+    JoinedOrders, LineFault, MOST_CALLS, OrderPiece, Stop, ToolSets, join, judge_header,
+};
 use recorder::KeyOrder;
 use std::alloc::Global;
 use std::marker::Model;
@@ -54,7 +56,7 @@ impl Contents for Orders {
 
     type Header = ();
 
-    type Item = KeyOrder;
+    type Item = OrderPiece;
 
     ghost format = { order_format };
 
@@ -77,12 +79,12 @@ impl Contents for Orders {
         header: (),
         tools: &ToolSets,
         chunks: &[&[u8]],
-    ) -> Result<Judgements<KeyOrder>, Memory> {
-        judge_chunks::<KeyOrder, R>(rt, alloc, header, tools, chunks)
+    ) -> Result<Judgements<OrderPiece>, Memory> {
+        judge_chunks::<OrderPiece, R>(rt, alloc, header, tools, chunks)
     }
 
-    fn follow(&mut self, piece: KeyOrder) -> Result<(), Stop> {
-        let count = piece.order.as_slice().len();
+    fn follow(&mut self, piece: OrderPiece) -> Result<(), Stop> {
+        let count = piece.calls().len();
         if count > MOST_CALLS as usize - self.calls {
             return Err(Stop::Fault(LineFault::TooManyCalls));
         }

@@ -123,7 +123,7 @@ pub fn read_history<R: CountedRead>(
     ensures fault { IfErr result (StopsFrom history_format R.remaining reader.old reader.new) }
     ensures device { IfErr result (FailsFrom R.failures reader.old reader.new) }
 {
-    let tools = ToolSets::new(alloc);
+    let tools = ToolSets::new();
     let feed = feed_all::<History, R>(rt, alloc, &tools, reader)?;
     feed.finish(rt, &tools)
 }
@@ -142,7 +142,7 @@ pub fn read_histories<R: CountedRead>(
     ensures fault { IfErr result (StopsFrom histories_format R.remaining reader.old reader.new) }
     ensures device { IfErr result (FailsFrom R.failures reader.old reader.new) }
 {
-    let tools = ToolSets::new(alloc);
+    let tools = ToolSets::new();
     let feed = feed_all::<Option<HallHistories>, R>(rt, alloc, &tools, reader)?;
     finish_histories(rt, &tools, feed)
 }
@@ -161,7 +161,7 @@ pub fn read_orders<R: CountedRead>(
     ensures fault { IfErr result (StopsFrom order_format R.remaining reader.old reader.new) }
     ensures device { IfErr result (FailsFrom R.failures reader.old reader.new) }
 {
-    let tools = ToolSets::new(alloc);
+    let tools = ToolSets::new();
     let feed = feed_all::<Orders, R>(rt, alloc, &tools, reader)?;
     finish_orders(rt, &tools, feed)
 }

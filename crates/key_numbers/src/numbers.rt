@@ -1,13 +1,15 @@
 //! Keys and their numbers.
-ghost use Rattle.std.specs.Prelude.{◌≡◌, [], Some, slice_get, IfOk, IfSome, OnErr};
+ghost use Rattle.std.specs.Prelude.{◌≡◌, ◌↔◌, [], true, Some, IfOk, IfSome, IsTrue, OnErr};
+ghost use Rattle.std.specs.List.{slice_get, Contains};
 ghost use Rattle.key_numbers.specs.Numbers.{AreDistinct, IsPlace, Numbers};
 ghost use Rattle.key_numbers.specs.Marks.{mark_of};
+ghost use Rattle.tag.specs.Names.{is_key};
 
 use crate::marks::mark_of;
 use std::alloc::Global;
 use std::collections::BTreeMap;
 use std::marker::Model;
-use tag::{Key, Memory};
+use tag::{Key, KeyText, Memory};
 
 /// How many numbers are at hand at first.
 const LEAST_AT_HAND: usize = 1024;
@@ -17,10 +19,14 @@ const MOST_AT_HAND: usize = 131_072;
 
 /// Keys, each once, in the order in which they were first seen. A key's number is its place.
 ///
-/// The keys' texts are shared with those that were given.
+/// A key's text is shared with the key that was given. To look for a key takes no memory.
 #[derive(Debug, Drop)]
 pub struct KeyNumbers {
-    places: BTreeMap<(u64, Key), usize>,
+    /// For each mark, the number of the first key that has it.
+    marked: BTreeMap<u64, usize>,
+    /// The numbers of the keys whose mark another key had before: next to none, unless somebody
+    /// chose them. To look here takes a time that grows with the logarithm of their count.
+    others: BTreeMap<KeyText, usize>,
     keys: Vec<Key>,
     /// The mark and the number of the last key that was asked for of those whose marks leave this
     /// place. The key is compared before its number is taken, so what stands here costs time and
@@ -46,7 +52,8 @@ impl KeyNumbers {
         ensures { result ≡ [] }
     {
         KeyNumbers {
-            places: BTreeMap::new(alloc),
+            marked: BTreeMap::new(alloc),
+            others: BTreeMap::new(alloc),
             keys: Vec::new(alloc),
             at_hand: Vec::new(alloc),
         }
@@ -60,6 +67,16 @@ impl KeyNumbers {
         self.keys.as_slice()
     }
 
+    /// Whether the key of that number has that text.
+    fn is_at(&self, number: usize, text: &str) -> bool
+        ensures { IsTrue result ↔ (slice_get self.now number ≡ Some text.now) }
+    {
+        match self.keys.get(number) {
+            Some(key) => key.as_str() == text,
+            None => false,
+        }
+    }
+
     /// The number that is at hand for that mark, if any.
     fn marked_at_hand(&self, mark: u64) -> Option<usize> {
         let place = place_at_hand(mark, self.at_hand.len());
@@ -69,15 +86,12 @@ impl KeyNumbers {
         }
     }
 
-    /// The number of that key, whose mark that is, where it is at hand.
-    fn at_hand(&self, mark: u64, key: &Key) -> Option<usize>
-        ensures { IfSome result (λ number. slice_get self.now number ≡ Some key.now) }
+    /// The number of the key of that text, whose mark that is, where it is at hand.
+    fn at_hand(&self, mark: u64, text: &str) -> Option<usize>
+        ensures { IfSome result (λ number. slice_get self.now number ≡ Some text.now) }
     {
         let number = self.marked_at_hand(mark)?;
-        match self.keys.get(number) {
-            Some(known) if known == key => Some(number),
-            _ => None,
-        }
+        self.is_at(number, text).then_some(number)
     }
 
     /// Has the number at hand for keys of that mark.
@@ -90,16 +104,53 @@ impl KeyNumbers {
         }
     }
 
-    /// The key's number, if it was seen.
-    pub fn find(&self, key: &Key) -> Result<Option<usize>, Memory>
-        ensures { IfOk result (λ found. IsPlace self.now key.now found) }
+    /// The number of the key of that text, whose mark that is, by the maps of all.
+    fn look_up(&self, mark: u64, text: &str) -> Option<usize>
+        requires mark { mark ≡ mark_of text.now }
+        requires lawful { is_key text.now ≡ true }
+        ensures { IsPlace self.now text.now result }
     {
-        let mark = mark_of(key.as_str().as_bytes());
-        if let Some(number) = self.at_hand(mark, key) {
-            return Ok(Some(number));
+        let first = *self.marked.get(&mark)?;
+        if self.is_at(first, text) {
+            return Some(first);
         }
-        let marked = (mark, key.copy()?);
-        Ok(self.places.get(&marked).copied())
+        let text = KeyText::new(text)?;
+        self.others.get(&text).copied()
+    }
+
+    /// The key's number, if it was seen.
+    pub fn find(&self, key: &Key) -> Option<usize>
+        ensures { IsPlace self.now key.now result }
+    {
+        self.find_text(key.as_str())
+    }
+
+    /// The number of the key of that text, if it was seen.
+    pub fn find_text(&self, text: &str) -> Option<usize>
+        requires { is_key text.now ≡ true }
+        ensures { IsPlace self.now text.now result }
+    {
+        let mark = mark_of(text.as_bytes());
+        match self.at_hand(mark, text) {
+            Some(number) => Some(number),
+            None => self.look_up(mark, text),
+        }
+    }
+
+    /// The number of the key of that text, whose mark that is, if it was seen. It is at hand from
+    /// then on.
+    fn seen(&mut self, mark: u64, text: &str) -> Option<usize>
+        requires mark { mark ≡ mark_of text.now }
+        requires lawful { is_key text.now ≡ true }
+        ensures number { IsPlace self.old text.now result }
+        ensures same { self.new ≡ self.old }
+    {
+        if let Some(number) = self.at_hand(mark, text) {
+            return Some(number);
+        }
+        let number = self.look_up(mark, text)?;
+        self.keep_at_hand(mark, number);
+        Some(number)
     }
 
     /// The key's number. A key that wasn't seen gets the next one, and is seen from then on. On
@@ -109,31 +160,47 @@ impl KeyNumbers {
         ensures err { OnErr result (self.new ≡ self.old) }
     {
         let mark = mark_of(key.as_str().as_bytes());
-        if let Some(number) = self.at_hand(mark, key) {
-            return Ok(number);
+        match self.seen(mark, key.as_str()) {
+            Some(number) => Ok(number),
+            None => self.add(mark, key.copy()?),
         }
-        let number = self.look_up(mark, key)?;
-        self.keep_at_hand(mark, number);
-        Ok(number)
     }
 
-    /// The number of that key, whose mark that is, by the map of all.
-    fn look_up(&mut self, mark: u64, key: &Key) -> Result<usize, Memory>
-        requires { mark ≡ mark_of key.now }
-        ensures ok { IfOk result (λ number. Numbers self.old key.now number self.new) }
+    /// The same of the key of that text, which is made only where it wasn't seen.
+    pub fn number_text(&mut self, text: &str) -> Result<usize, Memory>
+        requires { is_key text.now ≡ true }
+        ensures ok { IfOk result (λ number. Numbers self.old text.now number self.new) }
         ensures err { OnErr result (self.new ≡ self.old) }
     {
-        if let Some(number) = self.find(key)? {
+        let alloc = *self.keys.allocator();
+        let mark = mark_of(text.as_bytes());
+        if let Some(number) = self.seen(mark, text) {
             return Ok(number);
         }
+        match Key::new(alloc, text) {
+            Ok(key) => self.add(mark, key),
+            Err(_) => Err(Memory),
+        }
+    }
+
+    /// Numbers that key, whose mark that is and which wasn't seen. On `Memory` nothing changed.
+    fn add(&mut self, mark: u64, key: Key) -> Result<usize, Memory>
+        requires mark { mark ≡ mark_of key }
+        requires unseen { Contains self.old key → ⊥ }
+        ensures ok { IfOk result (λ number. Numbers self.old key number self.new) }
+        ensures err { OnErr result (self.new ≡ self.old) }
+    {
         let number = self.keys.len();
         // Whatever can be refused comes first.
         self.keys.reserve(1)?;
         make_room_at_hand(&mut self.at_hand, number)?;
-        let name = key.copy()?;
-        let marked = (mark, key.copy()?);
-        self.places.insert(marked, number)?;
-        self.keys.push(name)?;
+        if self.marked.contains_key(&mark) {
+            self.others.insert(KeyText::of(&key), number)?;
+        } else {
+            self.marked.insert(mark, number)?;
+        }
+        self.keys.push(key)?;
+        self.keep_at_hand(mark, number);
         Ok(number)
     }
 }
@@ -149,10 +216,7 @@ fn make_room_at_hand(numbers: &mut Vec<(u64, usize)>, keys: usize) -> Result<(),
     Ok(())
 }
 
-/// Where, of so many places, the number of a key of that mark is at hand.
+/// Where, of so many places, a power of two, the number of a key of that mark is at hand.
 fn place_at_hand(mark: u64, places: usize) -> usize {
-    if places == 0 {
-        return 0;
-    }
-    (mark % places as u64) as usize
+    mark as usize & places.saturating_sub(1)
 }

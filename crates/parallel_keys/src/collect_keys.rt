@@ -100,7 +100,7 @@ impl<'a> OrderTable<'a> {
         requires { length self.old.given.items ≡ length numbers.now }
         ensures { OnOk result (TakesUp numbers.now one.now self.old self.new) }
     {
-        let Some(number) = numbers.find(&one.key)? else {
+        let Some(number) = numbers.find(&one.key) else {
             self.others.push(one)?;
             return Ok(());
         };

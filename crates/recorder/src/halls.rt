@@ -1,5 +1,6 @@
 //! Rows of halls, and the hall of a key.
-ghost use Rattle.std.specs.Prelude.{◌≡◌, ◌<◌, ◌≤◌, ◌↔◌, ℕ, sum, length, IsSome, IfSome};
+ghost use Rattle.std.specs.Prelude.{◌≡◌, ◌<◌, ◌≤◌, ◌↔◌, ℕ, true, sum, length, IsSome, IfSome};
+ghost use Rattle.tag.specs.Names.{is_key};
 ghost use Rattle.recorder.specs.Halls.{IsCount, hall_of};
 
 use std::marker::Model;
@@ -61,6 +62,24 @@ impl Halls {
         ensures hall { result ≡ hall_of self.now key.now }
         ensures below { result < self.now }
     {
-        (total(key.as_str().as_bytes()) % u32::from(self.count)) as u8
+        self.of_bytes(key.as_str().as_bytes())
+    }
+
+    /// The same of the key of that text.
+    pub fn of_text(&self, key: &str) -> u8
+        requires { is_key key.now ≡ true }
+        ensures hall { result ≡ hall_of self.now key.now }
+        ensures below { result < self.now }
+    {
+        self.of_bytes(key.as_bytes())
+    }
+
+    /// The number of the hall of the key of these bytes.
+    fn of_bytes(&self, key: &[u8]) -> u8
+        requires { length key.now ≤ 64 }
+        ensures hall { result ≡ hall_of self.now key.now }
+        ensures below { result < self.now }
+    {
+        (total(key) % u32::from(self.count)) as u8
     }
 }

@@ -1,5 +1,6 @@
 //! Histories: rows of calls as they come.
-ghost use Rattle.std.specs.Prelude.{ℕ, ◌≡◌, ◌≤◌, ◌<◌, List, [], IfOk, OnOk, OnErr, IfSome, IfNone, IsSome, Some, None, slice_get, true, false, IsTrue, ◌↔◌, vec_len, vec_capacity};
+ghost use Rattle.std.specs.Prelude.{ℕ, ◌≡◌, ◌≤◌, ◌<◌, List, [], IfOk, IfErr, OnOk, OnErr, IfSome, IfNone, IsSome, Some, None, slice_get, true, false, IsTrue, ◌↔◌, length, vec_len, vec_capacity};
+ghost use Rattle.tag.specs.Names.{is_key};
 ghost use Rattle.recorder.specs.declared.history.CallState.{CallState};
 ghost use Rattle.recorder.specs.Histories.{IsBusy, IsWellFormed, call_count, caller_of};
 ghost use Rattle.recorder.specs.Answers.{Adds, IsRefused, MayBegin, with_row};
@@ -142,29 +143,55 @@ impl History {
         ensures may { OnOk result (MayBegin self.old client) }
         ensures err { OnErr result (self.new ≡ self.old) }
     {
-        if let Some(refusal) = self.invoke_refusal(client) {
-            return Err(refusal);
-        }
-        let op = OpId(self.calls() as u32);
+        self.check_begin(client)?;
+        let op = self.next_call();
         let key = shared_key(&mut self.keys, &mut self.key_calls, &key)?;
         self.begin(op, client, key, action)?;
         Ok(op)
     }
 
-    /// Why the client can't begin a call, if it can't.
-    fn invoke_refusal(&self, client: ClientId) -> Option<RowRefusal>
-        ensures some { IfSome result
+    /// The same on the key of that text. Where an earlier call has the key, it takes no memory for it.
+    pub fn invoke_on(
+        &mut self,
+        client: ClientId,
+        key: &str,
+        action: Action,
+    ) -> Result<OpId, RowRefusal>
+        requires { is_key key.now ≡ true }
+        ensures row { Adds self.old (Row.Invoke
+            (record { 0 = call_count self.old.rows }) client key.now action) result self.new }
+        ensures number { IfOk result (λ op. op.0 ≡ call_count self.old.rows) }
+        ensures may { OnOk result (MayBegin self.old client) }
+        ensures err { OnErr result (self.new ≡ self.old) }
+    {
+        self.check_begin(client)?;
+        let op = self.next_call();
+        let key = key_of(&mut self.keys, &mut self.key_calls, key)?;
+        self.begin(op, client, key, action)?;
+        Ok(op)
+    }
+
+    /// The number of the next call.
+    fn next_call(&self) -> OpId
+        ensures { result.0 ≡ call_count self.now.rows }
+    {
+        OpId(self.calls() as u32)
+    }
+
+    /// Refuses a call that the client can't begin, whatever it asks.
+    fn check_begin(&self, client: ClientId) -> Result<(), RowRefusal>
+        ensures err { IfErr result
             (λ refusal. (op : OpId) (key : List ℕ) (action : Action)
             → IsRefused self.now (Row.Invoke op client key action) refusal) }
-        ensures none { IfNone result (MayBegin self.now client) }
+        ensures ok { OnOk result (MayBegin self.now client) }
     {
         if self.calls() >= self.limit as usize {
-            return Some(RowRefusal::OpsFull);
+            return Err(RowRefusal::OpsFull);
         }
         if self.is_busy(client) {
-            return Some(RowRefusal::ClientBusy);
+            return Err(RowRefusal::ClientBusy);
         }
-        None
+        Ok(())
     }
 
     /// Begins a call that nothing refuses. On `Memory` nothing changed.
@@ -252,13 +279,30 @@ fn count_call(key_calls: &mut Vec<u32>, number: usize) -> Result<(), Memory> {
     Ok(())
 }
 
+/// The key of that number, of which a call more is counted.
+fn counted_key(keys: &KeyNumbers, key_calls: &mut Vec<u32>, number: usize) -> Result<Key, Memory>
+    requires { number < length keys.now }
+    ensures { IfOk result (λ key. slice_get keys.now number ≡ Some key) }
+{
+    count_call(key_calls, number)?;
+    keys.keys()[number].copy()
+}
+
 /// The key, its text shared with the one that is known, if any. Its call is counted.
 fn shared_key(keys: &mut KeyNumbers, key_calls: &mut Vec<u32>, key: &Key) -> Result<Key, Memory>
     ensures { IfOk result (λ shared. shared ≡ key.now) }
 {
     let number = keys.number(key)?;
-    count_call(key_calls, number)?;
-    keys.keys()[number].copy()
+    counted_key(keys, key_calls, number)
+}
+
+/// The key of that text, which is made where it isn't known. Its call is counted.
+fn key_of(keys: &mut KeyNumbers, key_calls: &mut Vec<u32>, text: &str) -> Result<Key, Memory>
+    requires { is_key text.now ≡ true }
+    ensures { IfOk result (λ key. key ≡ text.now) }
+{
+    let number = keys.number_text(text)?;
+    counted_key(keys, key_calls, number)
 }
 
 /// Copies of the rows.

@@ -60,7 +60,7 @@ impl Parts {
             (λ found. IfNone found ((part : List Call) → Contains self.now.entries (key.now, part)
             → ⊥)) }
     {
-        match self.places.find(key)? {
+        match self.places.find(key) {
             Some(place) => Ok(Some(&self.entries[place].1)),
             None => Ok(None),
         }

@@ -5,6 +5,7 @@
 #![tactic(auto)]
 
 mod actions;
+mod key_text;
 pub mod laws;
 mod memory;
 mod names;
@@ -12,7 +13,8 @@ mod numbers;
 mod tags;
 
 pub use actions::{Action, Returned};
+pub use key_text::KeyText;
 pub use memory::Memory;
-pub use names::{Key, NameError, Value};
+pub use names::{Key, NameError, Value, is_key};
 pub use numbers::{ClientId, OpId, ReplicaId};
 pub use tags::Tag;

@@ -57,13 +57,14 @@ fn is_key_byte(byte: u8) -> bool
     byte.is_ascii_alphanumeric() || byte == b'.' || byte == b'_' || byte == b'-'
 }
 
-fn has_key_bytes(text: &str) -> bool
+fn has_key_bytes(text: &[u8]) -> bool
     ensures { result ≡ list_all is_key_byte text.now }
 {
-    text.as_bytes().iter().all(|b| is_key_byte(*b))
+    text.iter().all(|b| is_key_byte(*b))
 }
 
-fn is_key(text: &str) -> bool
+/// Whether the bytes are the text of a key.
+pub fn is_key(text: &[u8]) -> bool
     ensures { result ≡ is_key text.now }
 {
     !text.is_empty() && text.len() <= 64 && has_key_bytes(text)
@@ -86,7 +87,7 @@ impl Key {
         ensures only { IfErr result
             (λ error. (error ≡ NameError.BadKey) ⊎ (error ≡ NameError.Memory)) }
     {
-        if !is_key(text) {
+        if !is_key(text.as_bytes()) {
             return Err(NameError::BadKey);
         }
         match ArcStr::from_str(alloc, text) {

@@ -49,7 +49,7 @@ impl History {
         if has_room {
             return Ok(0);
         }
-        let Some(number) = self.keys.find(key)? else {
+        let Some(number) = self.keys.find(key) else {
             return Ok(0);
         };
         match self.key_calls.get(number) {

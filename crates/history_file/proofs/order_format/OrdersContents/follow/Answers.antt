@@ -10,7 +10,7 @@ returns c = λ header pieces made fits.
     let piece = c.args.piece in
     let before : MakesOrders header pieces (record { orders = c.self.inside.orders; calls = c.self.inside.calls }) = rw (← c.self.view_is) at made in
     let grown = sum_by-append (λ (p : KeyOrder). length p.order) pieces (piece ∷ []) in
-    let count = ap length c.as_slice-count.ensures in (
+    let count = ap length c.calls-count.ensures in (
       omega (arith, grown, count, before.counted, c.if-count-self.false),
       record {
         joined = joined_more pieces piece c.self.inside.orders c.join.new.orders before.joined c.in_ok-join.ensures;

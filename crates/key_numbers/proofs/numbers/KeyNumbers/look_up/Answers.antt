@@ -1,15 +1,21 @@
-use Rattle.std.proofs.Common.{ℕ, ◌≡◌, ap₂, sym, ◌∙◌, List, ◌∷◌, [], ◌++◌, subst, arith}
-use Rattle.std.specs.List.{Contains}
-use Rattle.key_numbers.specs.Marks.{mark_of}
-use Rattle.key_numbers.specs.Kept.{ArePlaced}
-use Rattle.key_numbers.proofs.Placing.{placed_by, unseen}
+use Rattle.std.proofs.Common.{ap, sym, ◌∙◌}
+use Rattle.std.specs.Ordering.{nat_cmp}
+use Rattle.std.specs.Cmp.Lexicographic.{slice_cmp}
+use Rattle.std.specs.BTreeMap.{get}
+use Rattle.std.proofs.lemmas.Bool.{false≢true}
+use Rattle.key_numbers.proofs.Placing.{unmarked, place_found}
 use Rattle.key_numbers.proofs.numbers.KeyNumbers.look_up.Goals as goal
 
-pub invariant_of-self-2 : goal.invariant_of-self-2
-invariant_of-self-2 c =
-    let keys = c.self.inside.keys.items in
-    let mark : c.args.mark ≡ mark_of c.args.key.now = c.requires in
-    let longer : c.push.new.self.items ≡ keys ++ c.args.key.now ∷ [] = c.in_ok-push.ensures.items ∙ ap₂ (λ (k : List (List ℕ)) (n : List ℕ). k ++ n ∷ []) c.reserve.ensures.items c.in_ok-name.ensures in
-    let new : Contains keys c.args.key.now → ⊥ = rw (sym c.self.view_is) at (unseen c.args.self.now c.args.key.now c.in_ok-number.field-0 c.in_ok-number.ensures c.in_default.not-Some) in
-    subst (λ (l : List (List ℕ)). ArePlaced c.insert.new.self l) (sym longer)
-    (placed_by c.self.inside.places c.insert.new.self keys c.args.key.now _ _ c.len-number.result c.self.invariant new mark c.in_ok-copy.ensures (omega (arith, c.len-number.ensures, c.self.inside.keys.ok.0)) c.in_ok-insert.ensures.updates)
+pub returns-in_err-first : goal.returns-in_err-first
+returns-in_err-first c =
+    let k = c.self.inside in
+    let none = ap (get nat_cmp k.marked) (sym c.requires.mark) ∙ sym c.in_err-first.ensures.value in
+    rw (← c.self.view_is, c.from_residual.ensures) (unmarked k.marked k.others k.keys.items c.args.text.now c.self.invariant none)
+
+pub returns : goal.returns
+returns c =
+    let k = c.self.inside in
+    let has_first = ap (get nat_cmp k.marked) (sym c.requires.mark) ∙ sym c.in_ok-first.ensures.value in
+    let at = rw (sym c.self.view_is) at c.is_at.ensures.1 in
+    let found = c.copied.ensures ∙ c.get-2.ensures.value ∙ ap (get (slice_cmp nat_cmp) k.others) c.in_ok-text.ensures.value in
+    rw (← c.self.view_is) (place_found k.marked k.others k.keys.items c.args.text.now c.in_ok-first.field-0.now c.self.invariant has_first (λ is. false≢true (sym c.if-is_at.false ∙ at is)) c.copied.result found)

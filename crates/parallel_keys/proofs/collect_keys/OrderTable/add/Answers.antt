@@ -5,7 +5,7 @@ use Rattle.std.proofs.lemmas.List.{map-append}
 use Rattle.std.proofs.lemmas.Option.{slice_get_within}
 use Rattle.recorder.specs.declared.order.KeyOrder.{KeyOrder}
 use Rattle.recorder.specs.Lists.{Contains-slice_get}
-use Rattle.parallel_keys.proofs.Given.{empty_at, first_passed, first_put, first_stays, not_found, taken_at}
+use Rattle.parallel_keys.proofs.Given.{empty_at, first_passed, first_put, first_stays, taken_at}
 use Rattle.parallel_keys.proofs.Recorded.{other_added, other_passed}
 use Rattle.parallel_keys.proofs.collect_keys.OrderTable.add.Goals as goal
 
@@ -13,7 +13,7 @@ pub returns-in_default : goal.returns-in_default
 returns-in_default c = λ orders is.
     let keys = c.args.numbers.now in
     let one = c.args.one.now in
-    let unknown : Contains keys one.key → ⊥ = not_found keys one.key c.in_ok-number.field-0 c.in_ok-number.ensures c.in_default.not-Some in
+    let unknown : Contains keys one.key → ⊥ = c.in_default.ensures in
     record {
       given = first_passed keys orders one c.args.self.now.given.items is.given unknown;
       others = λ parts has.
@@ -23,12 +23,12 @@ returns-in_default c = λ orders is.
 
 pub index-requires : goal.index-requires
 index-requires c =
-    let at : slice_get c.args.numbers.now c.in-Some.number ≡ Some c.args.one.now.key = rw c.in-Some.is at c.in_ok-number.ensures in
+    let at : slice_get c.args.numbers.now c.in-Some.number ≡ Some c.args.one.now.key = c.in-Some.ensures in
     omega (arith, slice_get_within c.args.numbers.now c.in-Some.number c.args.one.now.key at)
 
 pub index_mut-requires : goal.index_mut-requires
 index_mut-requires c =
-    let at : slice_get c.args.numbers.now c.in-Some.number ≡ Some c.args.one.now.key = rw c.in-Some.is at c.in_ok-number.ensures in
+    let at : slice_get c.args.numbers.now c.in-Some.number ≡ Some c.args.one.now.key = c.in-Some.ensures in
     omega (arith, slice_get_within c.args.numbers.now c.in-Some.number c.args.one.now.key at)
 
 pub returns-then-is_none : goal.returns-then-is_none
@@ -36,7 +36,7 @@ returns-then-is_none c = λ orders is.
     let keys = c.args.numbers.now in
     let one = c.args.one.now in
     let number = c.in-Some.number in
-    let at : slice_get keys number ≡ Some one.key = rw c.in-Some.is at c.in_ok-number.ensures in
+    let at : slice_get keys number ≡ Some one.key = c.in-Some.ensures in
     let below : number < length c.args.self.now.given.items = omega (arith, slice_get_within keys number one.key at) in
     let empty = empty_at c.args.self.now.given.items number c.index.result.now below c.index.ensures (c.is_none.ensures ∙ ap not c.if-is_none.true) in
     record {
@@ -49,7 +49,7 @@ returns-else-is_none c = λ orders is.
     let keys = c.args.numbers.now in
     let one = c.args.one.now in
     let number = c.in-Some.number in
-    let at : slice_get keys number ≡ Some one.key = rw c.in-Some.is at c.in_ok-number.ensures in
+    let at : slice_get keys number ≡ Some one.key = c.in-Some.ensures in
     let below : number < length c.args.self.now.given.items = omega (arith, slice_get_within keys number one.key at) in
     let taken = taken_at c.args.self.now.given.items number c.index.result.now below c.index.ensures (c.is_none.ensures ∙ ap not c.if-is_none.false) in
     record {

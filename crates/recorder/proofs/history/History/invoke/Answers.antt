@@ -1,18 +1,11 @@
-use Rattle.std.proofs.Common.{rules, refl}
+use Rattle.std.proofs.Common.{refl}
+use Rattle.std.proofs.lemmas.Result.{err_from_is_err_and}
 use Rattle.tag.specs.declared.numbers.OpId.{OpId}
 use Rattle.recorder.specs.Histories.{call_count}
 use Rattle.recorder.proofs.history.History.invoke.Goals as goal
 
-pub returns-in-Some-clause-row : goal.returns-in-Some-clause-row
-returns-in-Some-clause-row c =
+pub returns-in_err-check_begin-clause-row : goal.returns-in_err-check_begin-clause-row
+returns-in_err-check_begin-clause-row c =
+    let p = err_from_is_err_and c.from_residual.result c.from_residual.ensures.1 in
     let op : OpId = record { 0 = call_count c.args.self.now.rows } in
-    (c.in-Some.ensures.some op c.args.key c.args.action, refl)
-
-pub begin-requires-clause-next : goal.begin-requires-clause-next
-begin-requires-clause-next c = search rules
-
-pub returns-clause-row : goal.returns-clause-row
-returns-clause-row c = search rules
-
-pub returns-clause-number : goal.returns-clause-number
-returns-clause-number c = search rules
+    rw (p.1, p.2) (c.in_err-check_begin.ensures.err op c.args.key c.args.action, refl)

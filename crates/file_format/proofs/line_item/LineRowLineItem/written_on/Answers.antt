@@ -3,7 +3,7 @@ use Rattle.file_format.specs.CanonicalLines.{IsRowLine}
 use Rattle.file_format.specs.Lines.{Shows}
 use Rattle.file_format.specs.Rows.{row_in}
 use Rattle.file_format.proofs.TakenLines.{row_taken, found_shows}
-use Rattle.file_format.proofs.line_item.RowLineItem.written_on.Goals as goal
+use Rattle.file_format.proofs.line_item.LineRowLineItem.written_on.Goals as goal
 
 pub returns : goal.returns
 returns c =

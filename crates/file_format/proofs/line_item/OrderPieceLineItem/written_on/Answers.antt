@@ -3,7 +3,7 @@ use Rattle.file_format.specs.CanonicalLines.{IsPieceLine}
 use Rattle.file_format.specs.Lines.{Shows}
 use Rattle.file_format.specs.OrderLines.{piece_in}
 use Rattle.file_format.proofs.TakenLines.{piece_taken, found_shows}
-use Rattle.file_format.proofs.line_item.KeyOrderLineItem.written_on.Goals as goal
+use Rattle.file_format.proofs.line_item.OrderPieceLineItem.written_on.Goals as goal
 
 pub returns : goal.returns
 returns c =
