@@ -10,7 +10,7 @@ use tag::Memory;
 const END: u8 = 10;
 
 /// How many bytes of lines are worth a chunk of their own.
-const CHUNK: usize = 262_144;
+const CHUNK: usize = 65_536;
 
 /// Bytes as chunks of whole lines, each of which had its end, and a rest without one.
 #[derive(Debug, Drop)]

@@ -21,7 +21,7 @@ use std::alloc::{AllocError, Global};
 use std::thread::Threads;
 
 /// The most blocks of a batch.
-const BLOCKS: usize = 4;
+const BLOCKS: usize = 2;
 
 /// Room for batches of that size.
 fn room_for(alloc: Global, size: usize) -> Result<Vec<u8>, AllocError>
