@@ -1,8 +1,9 @@
 """altered_lines.py ABD [SHARE]
 
-Lines that are written as `abd` writes them are read without JSON. Here each byte of a line of each kind is given each of 256 values, and
-`abd` is asked twice: of the line, and of the line behind a blank, which JSON allows and `abd` never writes, so that the JSON reader answers.
-Both have to answer the same. SHARE, 1 by default, is how many of the alterations are tried, in a hundred.
+Lines that are written as `abd` writes them are read without JSON. Here each byte of a line of each kind, in a history of either version
+and in orders, is given each of 256 values, and `abd` is asked twice: of the line, and of the line behind a blank, which JSON allows and
+`abd` never writes, so that the JSON reader answers. Both have to answer the same: `check`, and of a history's line `justify` too, since it
+looks at the tags of notes. SHARE, 1 by default, is how many of the alterations are tried, in a hundred.
 """
 
 import os
@@ -25,40 +26,69 @@ HISTORY = [
     b'{"call":2,"row":"respond","value":null}',
 ]
 ORDERS = [b'{"abd":"orders","version":1}', b'{"key":"x","order":[0,1]}', b'{"key":"y","order":[2]}']
+# x is of hall 0 and y of hall 1, whose calls have numbers of their own.
+HALLS = [
+    b'{"abd":"history","ask":2,"halls":2,"put":2,"version":2,"votes":[1,1,1]}',
+    b'{"call":0,"client":1,"do":"write","hall":0,"key":"x","row":"invoke","value":"a"}',
+    b'{"call":0,"hall":0,"number":1,"row":"note","writer":1}',
+    b'{"call":0,"hall":0,"row":"respond"}',
+    b'{"call":1,"client":2,"do":"read","hall":0,"key":"x","row":"invoke"}',
+    b'{"call":1,"hall":0,"number":1,"row":"note","writer":1}',
+    b'{"call":1,"hall":0,"row":"respond","value":"a"}',
+    b'{"call":0,"client":2,"do":"read","hall":1,"key":"y","row":"invoke"}',
+    b'{"call":0,"hall":1,"number":0,"row":"note","writer":0}',
+    b'{"call":0,"hall":1,"row":"respond","value":null}',
+]
+# The files of a check, by what is altered in them: the history, its orders, and which of the two it is.
+FILES = {
+    "history": (HISTORY, ORDERS, 0),
+    "halls": (HALLS, [ORDERS[0], ORDERS[1], b'{"key":"y","order":[0]}'], 0),
+    "orders": (HISTORY, ORDERS, 1),
+}
 
 
-def answer(abd, folder, history, orders):
-    """What `abd check` says of these lines."""
+def answers(abd, folder, history, orders, commands):
+    """What `abd` says of these lines."""
     with tempfile.TemporaryDirectory(dir=folder) as place:
         for name, lines in (("h", history), ("o", orders)):
             with open(f"{place}/{name}", "wb") as file:
                 file.write(b"".join(line + b"\n" for line in lines))
-        ran = subprocess.run([abd, "check", "h", "o"], cwd=place, capture_output=True)
-        return ran.returncode, ran.stdout, ran.stderr
+        ran = [subprocess.run([abd, *words], cwd=place, capture_output=True) for words in commands]
+        return [(it.returncode, it.stdout, it.stderr) for it in ran]
 
 
-def differs(abd, folder, of_orders, at, line):
+def differs(abd, folder, kind, at, line):
     """Whether the line is answered otherwise behind a blank."""
+    history, orders, altered = FILES[kind]
+    commands = [("check", "h", "o"), ("justify", "h")][: 2 - altered]
     said = []
     for text in (line, b" " + line):
-        history, orders = list(HISTORY), list(ORDERS)
-        (orders if of_orders else history)[at] = text
-        said.append(answer(abd, folder, history, orders))
+        files = [list(history), list(orders)]
+        files[altered][at] = text
+        said.append(answers(abd, folder, *files, commands))
     return said if said[0] != said[1] else None
 
 
 def alterations(share):
-    """The altered lines: whether of the orders, which line, and its bytes."""
+    """The altered lines: of which kind of files, which line, and its bytes."""
     draw = random.Random(1)
-    for of_orders, lines in ((False, HISTORY), (True, ORDERS)):
-        for at, line in enumerate(lines):
+    for kind, (history, orders, altered) in FILES.items():
+        for at, line in enumerate((history, orders)[altered]):
             if at == 0:
                 continue
-            yield of_orders, at, line
+            yield kind, at, line
             for place in range(len(line)):
                 for value in range(256):
                     if value != line[place] and draw.random() * 100 < share:
-                        yield of_orders, at, line[:place] + bytes([value]) + line[place + 1 :]
+                        yield kind, at, line[:place] + bytes([value]) + line[place + 1 :]
+
+
+def check_files(abd, folder):
+    """The files as they stand have to be well: else the alterations would show nothing."""
+    for kind, (history, orders, _) in FILES.items():
+        for status, output, said in answers(abd, folder, history, orders, [("check", "h", "o"), ("justify", "h")]):
+            if status != 0:
+                sys.exit(f"{kind}: status {status} {output} {said}")
 
 
 def main():
@@ -66,6 +96,7 @@ def main():
     share = float(sys.argv[2]) if len(sys.argv) > 2 else 1.0
     tried = other = 0
     with tempfile.TemporaryDirectory() as folder, ThreadPoolExecutor(os.cpu_count()) as pool:
+        check_files(abd, folder)
         asked = list(alterations(share))
         for one, said in zip(asked, pool.map(lambda it: differs(abd, folder, *it), asked)):
             tried += 1
