@@ -1,5 +1,5 @@
 -- Pieces that are joined one after another.
-use Rattle.std.proofs.Common.{ℕ, zero, suc, ◌≡◌, ◌<◌, inl, inr, List, [], ◌∷◌, ◌++◌, Option, Some, Bool, true, false, cond, length, map, filter, set, sym, ◌∙◌, ap, subst, refl, append-nil, bytes_eq, lt_irrefl, lt_trans, le_antisymm, ne_of_lt}
+use Rattle.std.proofs.Common.{ℕ, zero, suc, ◌≡◌, ◌<◌, inl, inr, List, [], ◌∷◌, ◌++◌, Some, Bool, true, false, cond, length, map, filter, set, sym, ◌∙◌, ap, subst, refl, append-nil, bytes_eq, lt_irrefl, lt_trans, le_antisymm, ne_of_lt}
 use Rattle.std.specs.List.{slice_get, flat_map}
 use Rattle.std.specs.Option.{option_map}
 use Rattle.std.specs.Cmp.Lexicographic.{bytes_decides}

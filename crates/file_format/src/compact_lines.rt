@@ -486,12 +486,13 @@ fn is_line(text: &mut Vec<u8>, line: &[u8]) -> bool
     text.pop() == Some(b'\n') && text.as_slice() == line
 }
 
-/// The numbers of at most 1,000 calls that the bytes begin with, a comma between two.
+/// The numbers of at most 1,000 calls that the bytes begin with, a comma between two. It ends where
+/// no number stands, so a line that is written otherwise costs no more than its own bytes.
 fn guessed_calls(alloc: Global, bytes: &[u8]) -> Result<Vec<OpId>, Memory> {
     let mut calls = Vec::new(alloc);
     let mut rest = bytes;
     for _ in 0..MOST_IN_PIECE {
-        if rest.is_empty() || rest[0] == b']' {
+        if rest.is_empty() || !rest[0].is_ascii_digit() {
             return Ok(calls);
         }
         let (call, after) = guessed_number(rest);

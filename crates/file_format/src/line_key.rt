@@ -11,7 +11,7 @@ use std::sync::{Arc, RwLock};
 use tag::{Key, Memory, is_key};
 
 /// A key as its line has it: a part of the bytes that the line is of, which all keys there share. It
-/// takes no memory of its own.
+/// takes no memory of its own, but where the line has it with an escape.
 #[derive(Debug, Drop)]
 pub struct LineKey {
     bytes: Arc<Vec<u8>>,

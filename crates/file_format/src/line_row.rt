@@ -28,7 +28,7 @@ pub(crate) enum SaidRow {
     },
 }
 
-/// A row as its line says it. It takes no memory for its key; what is kept of it is a row whose
+/// A row as its line says it. Its key is the line's (`LineKey`); what is kept of it is a row whose
 /// key's text is made once.
 #[derive(Debug, Drop)]
 pub struct LineRow {

@@ -6,7 +6,7 @@ use recorder::Order;
 use std::marker::Model;
 use tag::OpId;
 
-/// A piece of a key's order, as a line of an order file has it. It takes no memory for its key.
+/// A piece of a key's order, as a line of an order file has it. Its key is the line's (`LineKey`).
 #[derive(Debug, Drop)]
 pub struct OrderPiece {
     pub(crate) key: LineKey,

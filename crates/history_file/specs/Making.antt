@@ -1,5 +1,5 @@
 -- What the lines of a file make.
-use Rattle.std.specs.Prelude.{◌≡◌, List, map, Option, Some, None}
+use Rattle.std.specs.Prelude.{◌≡◌, List, Option, Some, None}
 use Rattle.recorder.specs.Halls.{RecordedHalls}
 use Rattle.recorder.specs.declared.order.KeyOrder.{KeyOrder}
 use Rattle.file_format.specs.OrderFormat.{AreJoined, call_total}

@@ -13,8 +13,8 @@ use std::alloc::Global;
 use std::thread::{Threads, join};
 use tag::Memory;
 
-/// The least bytes of a block that is worth a thread.
-const LEAST: usize = 65_536;
+/// The least bytes of a batch that is worth a thread.
+pub const LEAST: usize = 65_536;
 
 /// What the lines so far made but for the last block's, which were judged and are taken while the
 /// next block is judged.

@@ -3,7 +3,8 @@
 //!
 //! A file comes in blocks of any size, from a reader or from the caller. What was read is what the
 //! lines say one for one, to the reader's end; a file with a fault is refused with its first one.
-//! A line is read where it lies, and only what it adds to the answer is copied.
+//! A line is read where it lies. Of each chunk of lines one copy is made, which the keys of its
+//! lines share until the lines are taken; beside it only what a line adds to the answer is copied.
 #![tactic(auto)]
 
 mod ahead;

@@ -7,7 +7,7 @@ ghost use Rattle.file_format.specs.HistoryFormat.{history_format, MakesHistory};
 ghost use Rattle.file_format.specs.HistoriesFormat.{histories_format, MakesHistories};
 ghost use Rattle.file_format.specs.OrderFormat.{order_format, MakesJoined};
 
-use crate::ahead::Ahead;
+use crate::ahead::{Ahead, LEAST};
 use crate::batches::{BLOCK, Behind, read_batch};
 use crate::feed::Feed;
 use crate::format::Contents;
@@ -20,8 +20,13 @@ use recorder::{Histories, History, KeyOrder};
 use std::alloc::{AllocError, Global};
 use std::thread::Threads;
 
-/// The most blocks of a batch.
-const BLOCKS: usize = 2;
+/// How many bytes are judged together: two blocks where threads share them. A single thread judges
+/// less than is worth one, so that it starts none, and what it has under way stays at hand.
+fn batch_size(threads: usize) -> usize
+    ensures { 0 < result }
+{
+    if threads > 1 { 2 * BLOCK } else { LEAST - 1 }
+}
 
 /// Room for batches of that size.
 fn room_for(alloc: Global, size: usize) -> Result<Vec<u8>, AllocError>
@@ -98,8 +103,8 @@ fn feed_all<C: Contents, R: CountedRead>(
     ensures fault { IfErr result (StopsFrom C.format R.remaining reader.old reader.new) }
     ensures device { IfErr result (FailsFrom R.failures reader.old reader.new) }
 {
-    let blocks = rayon::current_num_threads(rt).clamp(1, BLOCKS);
-    let Ok(mut room) = room_for(alloc, blocks * BLOCK) else {
+    let size = batch_size(rayon::current_num_threads(rt));
+    let Ok(mut room) = room_for(alloc, size) else {
         return Err(FileFault {
             line: 1,
             kind: FaultKind::Memory,

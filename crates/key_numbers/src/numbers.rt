@@ -19,7 +19,8 @@ const MOST_AT_HAND: usize = 131_072;
 
 /// Keys, each once, in the order in which they were first seen. A key's number is its place.
 ///
-/// A key's text is shared with the key that was given. To look for a key takes no memory.
+/// A key's text is shared with the key that was given, or made where a text was. To look for a key
+/// takes no memory.
 #[derive(Debug, Drop)]
 pub struct KeyNumbers {
     /// For each mark, the number of the first key that has it.

@@ -1,5 +1,5 @@
 -- Equality of values that may be missing.
-use Rattle.std.specs.Prelude.{◌≡◌, Bool, true, false, Option, None, Some}
+use Rattle.std.specs.Prelude.{◌≡◌, Bool, true, Option, None, Some}
 use Rattle.std.specs.Option.{option_eq}
 use Rattle.std.specs.Cmp.{IsPartialEquivalence}
 use Rattle.std.proofs.lemmas.Bool.{false≢true}

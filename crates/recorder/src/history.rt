@@ -31,7 +31,7 @@ struct CallState {
 /// Calls are numbered 0, 1, 2 and so on as they begin. A client has one pending call at most. A
 /// call gets one note and one response at most, both while it is pending, and an answer of its
 /// kind. A row that breaks a rule is refused and leaves the history as it was; adding one takes
-/// the same time however many there are.
+/// the same time however many rows there are, but for the look-up of an invocation's key.
 #[derive(Debug, Drop)]
 pub struct History {
     rows: Vec<Row>,
@@ -150,7 +150,8 @@ impl History {
         Ok(op)
     }
 
-    /// The same on the key of that text. Where an earlier call has the key, it takes no memory for it.
+    /// The same on the key of that text. It takes no memory for a key that this history was given
+    /// before (what it is a copy of doesn't count).
     pub fn invoke_on(
         &mut self,
         client: ClientId,

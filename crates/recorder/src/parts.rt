@@ -52,7 +52,7 @@ impl Parts {
         self.entries
     }
 
-    /// The key's part, if it has one. `Memory` comes only where a growth was refused.
+    /// The key's part, if it has one.
     pub fn get(&self, key: &Key) -> Result<Option<&Part>, Memory>
         ensures some { IfOk result
             (λ found. IfSome found (λ part. Contains self.now.entries (key.now, part.now))) }

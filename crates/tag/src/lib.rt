@@ -1,7 +1,8 @@
 //! Names, keys, values and tags: what calls speak of.
 //!
 //! Each type holds only what the limits allow: a `Key` that exists is a key, a `Tag` is in range.
-//! Keys and values own their text; all other types are plain numbers and take no memory.
+//! Copies of a key, or of a value, share one text; a `KeyText` has its bytes in itself. Of the other
+//! types only those that hold a value take memory.
 #![tactic(auto)]
 
 mod actions;

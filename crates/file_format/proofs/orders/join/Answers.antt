@@ -1,11 +1,10 @@
-use Rattle.std.proofs.Common.{ℕ, ◌≡◌, ◌<◌, inl, inr, refl, sym, ◌∙◌, ap, subst, Some, List, ◌++◌, ◌∷◌, [], map, length, set, arith}
+use Rattle.std.proofs.Common.{ℕ, ◌≡◌, ◌<◌, inl, inr, refl, sym, ◌∙◌, ap, subst, Some, List, ◌++◌, ◌∷◌, [], map, length, arith}
 use Rattle.std.specs.List.{slice_get}
 use Rattle.std.proofs.lemmas.List.{length-map}
 use Rattle.std.proofs.lemmas.Option.{slice_get_read, slice_get_within}
 use Rattle.std.proofs.lemmas.Result.{on_ok_weaker}
 use Rattle.tag.specs.declared.numbers.OpId.{OpId}
 use Rattle.recorder.specs.declared.order.KeyOrder.{KeyOrder}
-use Rattle.key_numbers.specs.Numbers.{Numbers}
 use Rattle.key_numbers.specs.Numbers.Numbers.{known}
 use Rattle.file_format.specs.OrderFormat.{key_in}
 use Rattle.file_format.specs.Joins.{Joins}
