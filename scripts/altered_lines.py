@@ -11,7 +11,8 @@ import random
 import subprocess
 import sys
 import tempfile
-from concurrent.futures import ThreadPoolExecutor
+from concurrent.futures import ProcessPoolExecutor
+from functools import partial
 
 HISTORY = [
     b'{"abd":"history","version":1}',
@@ -57,8 +58,9 @@ def answers(abd, folder, history, orders, commands):
         return [(it.returncode, it.stdout, it.stderr) for it in ran]
 
 
-def differs(abd, folder, kind, at, line):
-    """Whether the line is answered otherwise behind a blank."""
+def differs(abd, folder, alteration):
+    """Whether the altered line is answered otherwise behind a blank."""
+    kind, at, line = alteration
     history, orders, altered = FILES[kind]
     commands = [("check", "h", "o"), ("justify", "h")][: 2 - altered]
     said = []
@@ -95,10 +97,10 @@ def main():
     abd = os.path.abspath(sys.argv[1])
     share = float(sys.argv[2]) if len(sys.argv) > 2 else 1.0
     tried = other = 0
-    with tempfile.TemporaryDirectory() as folder, ThreadPoolExecutor(os.cpu_count()) as pool:
+    with tempfile.TemporaryDirectory() as folder, ProcessPoolExecutor() as pool:
         check_files(abd, folder)
         asked = list(alterations(share))
-        for one, said in zip(asked, pool.map(lambda it: differs(abd, folder, *it), asked)):
+        for one, said in zip(asked, pool.map(partial(differs, abd, folder), asked, chunksize=100)):
             tried += 1
             if said:
                 other += 1
