@@ -13,16 +13,16 @@ use crate::config::StoreConfig;
 use crate::errors::{CloseError, JoinError, StartError};
 use crate::join::{join_halls, none_seen, stop_all};
 use crate::snapshot::snapshot_of;
-use crossbeam_channel::{Receiver, Sender, unbounded};
+use crossbeam_channel::{Receiver, Sender, bounded, unbounded};
 use hall_turns::FreePass;
 use recorder::{Halls, History};
-use seat_calls::{Answer, CallError, Errand, Gate, Parcel, Seat, send_awaited, serve};
+use seat_calls::{Answer, CallError, Errand, Gate, Parcel, Seat, serve};
 use std::alloc::Global;
 use std::marker::Model;
 use std::sync::{Arc, Mutex, Wait};
 use std::thread;
 use std::thread::Threads;
-use tag::{Action, ClientId, Key, OpId, ReplicaId};
+use tag::{Action, ClientId, Key, ReplicaId};
 use world_steps::{Config, Refusal, Step, World};
 
 /// A running store. Each replica is served by a thread of its own, in all halls; they end when the store
@@ -67,7 +67,8 @@ impl<G: Gate + Send + Sync + Drop + 'static> Store<G> {
     {
         let gate = Arc::new(alloc, gate).map_err(|_| StartError::Memory)?;
         let roots = open_halls(rt, alloc, config.halls, config.world)?;
-        let (ended, ends) = unbounded(alloc).map_err(|_| StartError::Memory)?;
+        let replicas = usize::from(config.world.replicas());
+        let (ended, ends) = bounded(alloc, replicas).map_err(|_| StartError::Memory)?;
         let ways = start_replicas(rt, alloc, &config, &roots, &gate, &ended)?;
         Ok(Store {
             number: config.store,
@@ -141,7 +142,8 @@ where
     let theirs = Arc::try_clone(gate).map_err(|_| StartError::Memory)?;
     let started = thread::spawn(rt, move || {
         serve(&own, &*theirs, replica, passes, parcels);
-        send_awaited(&own, &ended, replica);
+        // Each replica's end has its room from the start, so this neither waits nor takes memory.
+        let _ = ended.send(&own, replica);
     });
     if started.is_err() {
         return Err(StartError::Thread);
@@ -211,16 +213,7 @@ impl<G: Gate> Store<G> {
             return Err(CallError::Foreign);
         }
         let hall = self.halls.of(&key);
-        let (reports, inbox) = unbounded(alloc)?;
-        let mut errand = Errand {
-            gate: &*self.gate,
-            replicas: self.ways.as_slice(),
-            hall,
-            call: OpId(0),
-            reports,
-            inbox,
-            awaited: 0,
-        };
+        let mut errand = Errand::new(alloc, &*self.gate, self.ways.as_slice(), hall)?;
         seat.call(rt, &mut errand, key, action, self.rounds)
     }
 

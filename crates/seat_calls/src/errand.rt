@@ -8,12 +8,12 @@ use crate::gate::{Gate, Passage, Place};
 use crate::patience::next_message;
 use crate::replicas::{Parcel, Report};
 use client_phases::{Phase, Taken};
-use crossbeam_channel::{Receiver, Sender};
+use crossbeam_channel::{Receiver, SendError, Sender, bounded};
 use hall_turns::{Begun, ClientPass, Delay, Ended};
 use quorum::ReplicaSet;
-use std::alloc::AllocError;
+use std::alloc::{AllocError, Global};
 use std::sync::Wait;
-use tag::{Action, Key, OpId, ReplicaId};
+use tag::{Action, Key, Memory, OpId, ReplicaId};
 use world_steps::{Effect, Refusal, Step};
 
 /// What a call needs on its way.
@@ -24,11 +24,20 @@ pub struct Errand<'a, G> {
     pub replicas: &'a [Sender<Parcel>],
     pub hall: u8,
     pub call: OpId,
-    /// Where the replicas report, and where it is heard.
+    /// Where the replicas report, and where it is heard. It has room for all reports that can be under way.
     pub reports: Sender<Report>,
     pub inbox: Receiver<Report>,
     /// How many parcels were sent and not reported on.
     pub awaited: u64,
+}
+
+/// How many reports of a call can be under way at most, with so many replicas.
+///
+/// A replica reports once on each parcel, and a round sends each replica two parcels at most. A round begins
+/// only where each parcel was reported on, but for the first of the second phase: then those of one round of
+/// the first phase may still be under way.
+fn report_room(replicas: usize) -> usize {
+    replicas.saturating_mul(4)
 }
 
 /// What became of a call.
@@ -53,6 +62,28 @@ enum Stall {
 }
 
 impl<'a, G: Gate> Errand<'a, G> {
+    /// An errand in that hall, for a call that has no number yet. What is reported to it has its room from now
+    /// on, so no report needs memory, and none waits.
+    pub fn new(
+        alloc: Global,
+        gate: &'a G,
+        replicas: &'a [Sender<Parcel>],
+        hall: u8,
+    ) -> Result<Errand<'a, G>, Memory>
+        ensures { IfOk result (λ errand. errand.hall ≡ hall) }
+    {
+        let (reports, inbox) = bounded(alloc, report_room(replicas.len()))?;
+        Ok(Errand {
+            gate,
+            replicas,
+            hall,
+            call: OpId(0),
+            reports,
+            inbox,
+            awaited: 0,
+        })
+    }
+
     /// Makes a call of the pass's client, which has seen so many rows at least.
     #[tactic(auto, using(crate::proofs::Keeping::keeps_same, crate::proofs::Keeping::keeps_then))]
     pub(crate) fn drive<R: Wait>(
@@ -213,11 +244,14 @@ impl<'a, G: Gate> Errand<'a, G> {
             flight,
             reports: self.reports.clone()?,
         };
-        if way.send(rt, parcel).is_err() {
-            return Err(Stall::Memory);
+        match way.send(rt, parcel) {
+            Ok(()) => {
+                self.awaited = u64::saturating_add(self.awaited, 1);
+                Ok(())
+            }
+            Err(SendError::OutOfMemory(_)) => Err(Stall::Memory),
+            Err(SendError::Disconnected(_)) => Err(Stall::Unavailable),
         }
-        self.awaited = u64::saturating_add(self.awaited, 1);
-        Ok(())
     }
 
     /// Hears what the replicas report until the phase is over or each parcel was reported on. The phase that

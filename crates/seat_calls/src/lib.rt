@@ -17,7 +17,6 @@ pub use comparing::{entries_of_hall, is_log};
 pub use errand::Errand;
 pub use errors::CallError;
 pub use gate::{Gate, OpenGate, Passage, Place};
-pub use patience::send_awaited;
 pub use receipt::Receipt;
 pub use recorder::Entry;
 pub use replicas::{Parcel, Report, serve};

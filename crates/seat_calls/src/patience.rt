@@ -1,5 +1,5 @@
-//! How a thread waits for a message, and sends one that another waits for.
-use crossbeam_channel::{Receiver, SendError, Sender, TryRecvError};
+//! How a thread waits for a message.
+use crossbeam_channel::{Receiver, TryRecvError};
 use std::sync::Wait;
 use std::thread;
 
@@ -19,15 +19,4 @@ pub(crate) fn next_message<T: Drop, R: Wait>(rt: &R, receiver: &Receiver<T>) -> 
         }
     }
     receiver.recv(rt).ok()
-}
-
-/// Sends a message that somebody waits for, who would wait for ever if it were lost: where there is no
-/// memory for it, it is sent again.
-pub fn send_awaited<T: Copy + Drop, R: Wait>(rt: &R, way: &Sender<T>, message: T) {
-    for _ in rt.forever() {
-        match way.send(rt, message) {
-            Err(SendError::OutOfMemory(_)) => thread::yield_now(),
-            Ok(()) | Err(SendError::Disconnected(_)) => return,
-        }
-    }
 }

@@ -1,6 +1,6 @@
 //! Replicas, each served by a thread of its own.
 use crate::gate::{Gate, Passage, Place};
-use crate::patience::{next_message, send_awaited};
+use crate::patience::next_message;
 use crossbeam_channel::{Receiver, Sender};
 use hall_turns::FreePass;
 use std::sync::Wait;
@@ -47,7 +47,9 @@ pub fn serve<R: Wait, G: Gate>(
             Some(pass) => handle(rt, gate, replica, pass, &parcel),
             None => Report::Blank,
         };
-        send_awaited(rt, &parcel.reports, report);
+        // The report has its room (`report_room`), so this neither waits nor takes memory; a caller that
+        // has ended hears no more.
+        let _ = parcel.reports.send(rt, report);
     }
 }
 
