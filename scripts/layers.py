@@ -1,14 +1,105 @@
-"""Writes the column "Stands on" of docs/LAYERS.md from crates.txt: run it at the top when crates.txt has changed.
+"""layers.py
 
-A row that names several crates, or none of crates.txt, is left as it is, and a crate that has no row is named.
+Run it at the top when crates.txt has changed. It writes, from crates.txt:
+
+- the column "Stands on" of docs/LAYERS.md. A row that names several crates, or none of crates.txt, is left as it is, and a crate that has no row is
+  named;
+- docs/layers.svg: a band for each group of crates.txt (its comments), the lowest at the bottom, and in each crate's box the crates right below it:
+  those that no other crate below it stands on.
 """
 
 import re
+from xml.sax.saxutils import escape
+
+WIDTH, LEFT, GAP, BOX, LINE = 1000, 150, 10, 200, 14
+STYLE = """
+  text { font: 13px sans-serif; fill: #1a1a1a }
+  .group { font-weight: bold }
+  .below { font-size: 10.5px; fill: #555 }
+  .band { fill: #f2f4f7 }
+  .crate { fill: #fff; stroke: #8a94a6 }
+  @media (prefers-color-scheme: dark) {
+    text { fill: #e8e8e8 } .below { fill: #aab } .band { fill: #22262d } .crate { fill: #2e343d; stroke: #6b7688 }
+  }
+"""
 
 
-def main():
+def read_groups():
+    """The groups of crates.txt with their crates, the lowest first; and what each crate stands on."""
+    groups, below = [], {}
     with open("crates.txt", encoding="utf-8") as file:
-        below = {line.split(":")[0].split()[0]: line.split(":")[1].split() for line in file if re.match(r"\w.*:", line)}
+        for line in file:
+            if line.startswith("#"):
+                groups.append((line[1:].strip(), []))
+            elif ":" in line:
+                crate, stands_on = line.split(":")
+                below[crate.split()[0]] = stands_on.split()
+                if not groups:
+                    groups.append(("", []))
+                groups[-1][1].append(crate.split()[0])
+    return groups, below
+
+
+def all_below(crate, below):
+    """All crates of the repository that the crate stands on, however far below."""
+    found = set()
+    todo = [it for it in below[crate] if it in below]
+    while todo:
+        one = todo.pop()
+        if one not in found:
+            found.add(one)
+            todo += [it for it in below[one] if it in below]
+    return found
+
+
+def right_below(crate, below):
+    """The crates that the crate stands on and no other crate below it does."""
+    own = [it for it in below[crate] if it in below]
+    return [it for it in own if not any(it in all_below(other, below) for other in own)]
+
+
+def in_lines(names, width):
+    """The names, as lines of at most so many characters."""
+    lines = [""]
+    for name in names:
+        more = f"{lines[-1]}, {name}" if lines[-1] else name
+        if len(more) > width and lines[-1]:
+            lines[-1] += ","
+            lines.append(name)
+        else:
+            lines[-1] = more
+    return lines
+
+
+def draw_box(crate, lines, x, y, height):
+    """The elements of a crate's box."""
+    yield f'<rect class="crate" x="{x}" y="{y}" width="{BOX}" height="{height}" rx="5"/>'
+    yield f'<text x="{x + 10}" y="{y + 19}">{escape(crate)}</text>'
+    for number, line in enumerate(lines):
+        yield f'<text class="below" x="{x + 10}" y="{y + 35 + LINE * number}">{escape(line)}</text>'
+
+
+def draw(groups, below):
+    """The picture."""
+    columns = (WIDTH - LEFT) // (BOX + GAP)
+    shapes, y = [], GAP
+    for name, crates in reversed(groups):
+        lines = {crate: in_lines(right_below(crate, below), 34) for crate in crates}
+        box = 30 + LINE * max(len(it) for it in lines.values())
+        rows = -(-len(crates) // columns)
+        height = rows * (box + GAP) + GAP
+        shapes.append(f'<rect class="band" x="0" y="{y}" width="{WIDTH}" height="{height}" rx="6"/>')
+        shapes.append(f'<text class="group" x="12" y="{y + 30}">{escape(name)}</text>')
+        for place, crate in enumerate(crates):
+            row, column = divmod(place, columns)
+            shapes += draw_box(crate, lines[crate], LEFT + column * (BOX + GAP), y + GAP + row * (box + GAP), box)
+        y += height + GAP
+    head = f'<svg xmlns="http://www.w3.org/2000/svg" viewBox="0 0 {WIDTH} {y}" role="img" aria-labelledby="title">'
+    return "\n".join([head, '<title id="title">The crates by layer, the lowest at the bottom</title>', f"<style>{STYLE}</style>", *shapes, "</svg>", ""])
+
+
+def write_column(below):
+    """Writes the column of docs/LAYERS.md."""
     with open("docs/LAYERS.md", encoding="utf-8") as file:
         lines = file.read().split("\n")
     seen = set()
@@ -24,6 +115,13 @@ def main():
     for crate in below:
         if crate not in seen:
             print(f"docs/LAYERS.md has no row for {crate}")
+
+
+def main():
+    groups, below = read_groups()
+    write_column(below)
+    with open("docs/layers.svg", "w", encoding="utf-8") as file:
+        file.write(draw(groups, below))
 
 
 if __name__ == "__main__":

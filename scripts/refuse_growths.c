@@ -1,5 +1,6 @@
-/* Preloaded before a program: the growth numbered REFUSE_AT, from 1, is refused, and file descriptor 9 is told so. With REFUSE_AT=0 none is
-   refused, and the file of descriptor 9 has how many there were, as a number of eight bytes. */
+/* Preloaded before a program: the allocation numbered REFUSE_AT, from 1, is refused, and file descriptor 9 is told so. With REFUSE_ALL set,
+   all from that one on are refused. With REFUSE_AT=0 none is refused, and the file of descriptor 9 has how many there were, as a number of
+   eight bytes. */
 #include <stddef.h>
 #include <errno.h>
 #include <stdlib.h>
@@ -12,11 +13,13 @@ extern void *__libc_realloc(void *, size_t);
 extern void *__libc_memalign(size_t, size_t);
 
 static unsigned long at, own, *seen = &own;
+static int lasts;
 
 __attribute__((constructor)) static void begin(void)
 {
     const char *text = getenv("REFUSE_AT");
     at = text ? strtoul(text, NULL, 10) : (unsigned long)-1;
+    lasts = getenv("REFUSE_ALL") != NULL;
     if (at == 0 && ftruncate(9, sizeof own) == 0) {
         void *shared = mmap(NULL, sizeof own, PROT_READ | PROT_WRITE, MAP_SHARED, 9, 0);
         if (shared != MAP_FAILED) {
@@ -28,9 +31,10 @@ __attribute__((constructor)) static void begin(void)
 
 static int refused(void)
 {
-    if (__atomic_add_fetch(seen, 1, __ATOMIC_RELAXED) != at || at == 0)
+    unsigned long number = __atomic_add_fetch(seen, 1, __ATOMIC_RELAXED);
+    if (at == 0 || number < at || (number > at && !lasts))
         return 0;
-    if (write(9, "refused\n", 8) < 0)
+    if (number == at && write(9, "refused\n", 8) < 0)
         _exit(99);
     errno = ENOMEM;
     return 1;

@@ -5,6 +5,7 @@
 #   scripts/refuse_growths.sh abd command_rows protocol_rows record_rows run_rows running_store store_rows growth_tests parallel_tests \
 #     world_twin
 #
+# With `all` as the first word every growth from that one on is refused, of abd, running_store and store_rows.
 # A program is built by `rt run` in its folder, the tests by `rt test`. One that isn't built is named, and the status is then 1.
 set -eu
 here=$(cd "$(dirname "$0")" && pwd)

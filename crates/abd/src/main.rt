@@ -1,9 +1,11 @@
 //! The program `abd`: it opens files, hands them to the commands, and ends with their status.
 #![tactic(auto)]
 
+mod names;
 mod progress;
 
-use crate::progress::Progress;
+use crate::names::FileName;
+use crate::progress::{Progress, SharedProgress};
 use cli::{
     Command, Counting, Failure, Source, Status, Usage, check_command, command, justify_command,
     simulate_command,
@@ -15,7 +17,7 @@ use std::process::ExitCode;
 use std::sync::Wait;
 use std::thread::Threads;
 use std::{env, fs};
-use store_run::{NoWatch, Watch, run_command};
+use store_run::{KeyWatch, NoWatch, Watch, run_command};
 
 /// Says the failure on standard error. Its status.
 fn fail(rt: &HostRuntime, failure: Failure<'_>) -> Status {
@@ -50,15 +52,20 @@ fn check(
     orders: &str,
     workers: Workers,
 ) -> Status {
+    let (Ok(history), Ok(orders)) = (FileName::new(rt, history), FileName::new(rt, orders)) else {
+        return fail(rt, Failure::Memory);
+    };
     let mut errors = Counting::new(rt.stderr());
-    let Ok(history_file) = fs::open(rt, history) else {
-        return Failure::Closed { name: history }.report(&mut errors);
+    let Ok(history_file) = fs::open(rt, history.given) else {
+        let name = history.told();
+        return Failure::Closed { name }.report(&mut errors);
     };
-    let Ok(orders_file) = fs::open(rt, orders) else {
-        return Failure::Closed { name: orders }.report(&mut errors);
+    let Ok(orders_file) = fs::open(rt, orders.given) else {
+        let name = orders.told();
+        return Failure::Closed { name }.report(&mut errors);
     };
-    let mut history = Source::new(history, Counting::new(history_file));
-    let mut orders = Source::new(orders, Counting::new(orders_file));
+    let mut history = Source::new(history.told(), Counting::new(history_file));
+    let mut orders = Source::new(orders.told(), Counting::new(orders_file));
     let mut out = Counting::new(rt.stdout());
     check_command(
         threads,
@@ -73,50 +80,100 @@ fn check(
 
 /// Opens the history, and justifies it.
 fn justify(rt: &HostRuntime, threads: &(impl Threads + Sync), history: &str) -> Status {
-    let mut errors = Counting::new(rt.stderr());
-    let Ok(history_file) = fs::open(rt, history) else {
-        return Failure::Closed { name: history }.report(&mut errors);
+    let Ok(history) = FileName::new(rt, history) else {
+        return fail(rt, Failure::Memory);
     };
-    let mut history = Source::new(history, Counting::new(history_file));
+    let mut errors = Counting::new(rt.stderr());
+    let Ok(history_file) = fs::open(rt, history.given) else {
+        let name = history.told();
+        return Failure::Closed { name }.report(&mut errors);
+    };
+    let mut history = Source::new(history.told(), Counting::new(history_file));
     let mut out = Counting::new(rt.stdout());
     justify_command(threads, rt.alloc(), &mut history, &mut out, &mut errors)
 }
 
 /// Opens the script, and simulates it.
 fn simulate(rt: &HostRuntime, script: &str) -> Status {
-    let mut errors = Counting::new(rt.stderr());
-    let Ok(script_file) = fs::open(rt, script) else {
-        return Failure::Closed { name: script }.report(&mut errors);
+    let Ok(script) = FileName::new(rt, script) else {
+        return fail(rt, Failure::Memory);
     };
-    let mut script = Source::new(script, Counting::new(script_file));
+    let mut errors = Counting::new(rt.stderr());
+    let Ok(script_file) = fs::open(rt, script.given) else {
+        let name = script.told();
+        return Failure::Closed { name }.report(&mut errors);
+    };
+    let mut script = Source::new(script.told(), Counting::new(script_file));
     let mut out = Counting::new(rt.stdout());
     simulate_command(rt.alloc(), &mut script, &mut out, &mut errors)
 }
 
 /// Runs a store under a load that is watched.
-fn run_watched<R, L>(rt: &HostRuntime, threads: &R, asked: RunAsked, watch: L) -> Status
+fn run_watched<R, L>(
+    rt: &HostRuntime,
+    threads: &R,
+    asked: RunAsked,
+    watch: L,
+    key_watch: &impl KeyWatch,
+) -> Status
 where
     R: Threads + Wait + Copy + Send + Sync + 'static,
     L: Watch + Send + Sync + Drop + 'static,
 {
     let mut errors = Counting::new(rt.stderr());
     let mut out = Counting::new(rt.stdout());
-    run_command(threads, rt.alloc(), asked, watch, &mut out, &mut errors)
+    run_command(
+        threads,
+        rt.alloc(),
+        asked,
+        watch,
+        key_watch,
+        &mut out,
+        &mut errors,
+    )
 }
 
-/// Runs a store under a load. Where standard error is a terminal, it is said there how far the load is.
+/// A progress of the run, twice: for its load and for its end. None where its clock can't be read or
+/// memory is wanted.
+fn progress_of(
+    rt: &HostRuntime,
+    asked: &RunAsked,
+) -> Option<(SharedProgress<HostRuntime>, SharedProgress<HostRuntime>)> {
+    let load = asked.load.options();
+    let calls = u32::from(load.callers) * u32::from(load.calls);
+    let progress = Progress::new(*rt, calls).ok()?;
+    let own = SharedProgress::new(rt.alloc(), progress).ok()?;
+    let watch = own.again().ok()?;
+    Some((own, watch))
+}
+
+/// Runs a store under a load, and says how it ended.
+fn run_to_end<R>(
+    rt: &HostRuntime,
+    threads: &R,
+    asked: RunAsked,
+    progress: SharedProgress<HostRuntime>,
+    watch: SharedProgress<HostRuntime>,
+) -> Status
+where
+    R: Threads + Wait + Copy + Send + Sync + 'static,
+{
+    let status = run_watched(rt, threads, asked, watch, &progress);
+    progress.say_end();
+    status
+}
+
+/// Runs a store under a load. Only a terminal is told how far it is, and how it ended.
 fn run<R>(rt: &HostRuntime, threads: &R, asked: RunAsked) -> Status
 where
     R: Threads + Wait + Copy + Send + Sync + 'static,
 {
     if !rt.stderr().is_terminal() {
-        return run_watched(rt, threads, asked, NoWatch);
+        return run_watched(rt, threads, asked, NoWatch, &NoWatch);
     }
-    let load = asked.load.options();
-    let calls = u32::from(load.callers) * u32::from(load.calls);
-    match Progress::new(*rt, calls) {
-        Ok(progress) => run_watched(rt, threads, asked, progress),
-        Err(_) => run_watched(rt, threads, asked, NoWatch),
+    match progress_of(rt, &asked) {
+        Some((progress, watch)) => run_to_end(rt, threads, asked, progress, watch),
+        None => run_watched(rt, threads, asked, NoWatch, &NoWatch),
     }
 }
 

@@ -1,4 +1,7 @@
 //! What a check answers.
+ghost use Rattle.std.specs.Prelude.{◌≡◌};
+ghost use Rattle.certificate_check.specs.Numbers.{order_fault_number};
+
 use std::fmt;
 use tag::OpId;
 
@@ -27,6 +30,22 @@ pub enum Fault {
 pub enum Verdict {
     Yes,
     No(Fault),
+}
+
+impl Fault {
+    /// Its number in the order of the faults, 1 to 6. Its text begins with it.
+    pub fn number(self) -> u8
+        ensures { result ≡ order_fault_number self }
+    {
+        match self {
+            Fault::UnknownCall(_) => 1,
+            Fault::CallTwice(_) => 2,
+            Fault::MissingCall(_) => 3,
+            Fault::PendingRead(_) => 4,
+            Fault::WrongAnswer(_) => 5,
+            Fault::OrderBroken(_, _) => 6,
+        }
+    }
 }
 
 impl fmt::Display for Fault {

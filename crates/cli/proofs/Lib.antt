@@ -9,6 +9,8 @@ pub mod HistoryEndings
 pub mod CheckedKeys
 mod LineSpelling
 pub mod Told
+mod Escapes
+pub mod ShownNames
 mod ToldEndings
 pub mod Unmade
 pub mod Noted

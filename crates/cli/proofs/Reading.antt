@@ -1,5 +1,5 @@
 -- What was read, and how it was checked.
-use Rattle.std.proofs.Common.{List, inr, refl}
+use Rattle.std.proofs.Common.{ℕ, ◌≡◌, List, inl, inr, refl}
 use Rattle.std.specs.Io.KnownBytes.{Appends}
 use Rattle.recorder.specs.declared.order.KeyOrder.{KeyOrder}
 use Rattle.recorder.specs.Halls.{RecordedHalls}
@@ -8,6 +8,9 @@ use Rattle.history_file.specs.Deliveries.{ReadsAll}
 use Rattle.file_format.specs.HistoriesFormat.{histories_format, MakesHistories}
 use Rattle.file_format.specs.OrderFormat.{order_format, MakesJoined, AreJoined}
 use Rattle.counted_devices.specs.Sendings.{Begins}
+use Rattle.cli.specs.declared.check_keys.Halt.{Halt}
+use Rattle.cli.specs.declared.check_keys.Halt.TheVariants as halt
+use Rattle.cli.specs.Halts.{Halts}
 use Rattle.cli.specs.Checks.{AreRead, Remainders, IsStatusOf, ChecksRead, Ends}
 use Rattle.cli.specs.Passages.{Passage}
 use Rattle.cli.specs.VerdictLines.{HasLines}
@@ -44,3 +47,10 @@ module _ (old new : Remainders) (out : Passage) (histories : RecordedHalls) (ord
   -- the output failed
   pub breaks : ((pieces : List KeyOrder) → AreJoined pieces orders → HasLines histories.halls pieces (Begins out.old out.new)) → Ends old new out Failed
   breaks lines = inr (record { histories = histories; pieces = read.fact.1.items; read = are_read; lines = lines read.fact.1.items read.fact.1.made })
+
+  -- a check that ended so had put nothing out, or its output failed
+  pub halted_ends : {W : Type 0} (workers : ℕ) (failures : W → ℕ) (w_old w_new : W) (why : Halt) → Halts workers failures why w_old w_new → (w_new ≡ w_old → out.new ≡ out.old)
+      → (why ≡ halt.Output → (pieces : List KeyOrder) → AreJoined pieces orders → HasLines histories.halls pieces (Begins out.old out.new)) → Ends old new out Failed
+  halted_ends workers failures w_old w_new halt.Output failed same begun = breaks (begun refl)
+  halted_ends workers failures w_old w_new halt.Memory rests same begun = inl (same rests)
+  halted_ends workers failures w_old w_new halt.Thread rests same begun = inl (same rests.1)

@@ -1,5 +1,5 @@
 -- Failures that are told, as a status says them.
-use Rattle.std.proofs.Common.{ℕ, ◌≡◌, ◌⊎◌, inl, inr, List, Result, Ok, Err, refl, sym, subst, ◌∙◌}
+use Rattle.std.proofs.Common.{ℕ, ◌≡◌, ◌⊎◌, inl, inr, List, Option, Result, Ok, Err, refl, sym, ap, subst, ◌∙◌}
 use Rattle.std.specs.Prelude.{OnOk, OnErr, IfErr, true}
 use Rattle.std.specs.Result.{is_ok}
 use Rattle.std.specs.Io.KnownBytes.{Appends}
@@ -16,13 +16,16 @@ use Rattle.file_format.specs.OrderFormat.{order_format}
 use Rattle.cli.specs.Checks.{IsHistoryRead, IsStatusOf}
 use Rattle.cli.specs.FailureLines.{failure_line}
 use Rattle.cli.specs.Justifications.{Refuses, refusal_text, status_of_refusal}
-use Rattle.cli.specs.Passages.{FileStates, Tells, WriterStates}
+use Rattle.cli.specs.Passages.{FileStates, IsUntouched, Tells, WriterStates, states}
 use Rattle.cli.specs.Statuses.{status_of, status_of_kind}
 use Rattle.cli.specs.ToldFailures.{IsFaultOf, IsOfCheck, IsOfJustification, IsOfOutput, IsOfScript, TellsEnd, TellsSimulation}
 use Rattle.cli.specs.declared.noted_orders.Unjustified.{Unjustified}
 use Rattle.cli.specs.declared.noted_orders.Unjustified.TheVariants as unjustified
 use Rattle.cli.specs.declared.status.Failure.{Failure}
 use Rattle.cli.specs.declared.status.Failure.TheVariants as failure
+use Rattle.cli.specs.declared.check_keys.Halt.{Halt}
+use Rattle.cli.specs.declared.check_keys.Halt.TheVariants as halt
+use Rattle.cli.specs.Halts.{Halts, failure_of}
 use Rattle.cli.specs.declared.status.Status.{Status}
 use Rattle.cli.specs.declared.status.Status.TheVariants.{Good, Refused, Usage, Format, Failed}
 
@@ -67,15 +70,15 @@ quiet_end halls pieces quiet Holds errors Format is same = absurd is
 quiet_end halls pieces quiet Holds errors Failed is same = absurd is
 
 -- a key was refused, or memory was wanted
-pub refused_end : (refusal : Unjustified) (good : Type 0) (out errors : WriterStates) (s : Status) → Refuses refusal errors s → (s ≡ Failed → Tells errors (failure_line failure.Memory)) → TellsEnd good (Unit {0}) (IsOfOutput out) errors s
-refused_end refusal good out errors Good refuses memory = absurd refuses
-refused_end refusal good out errors Refused refuses memory = tt
-refused_end refusal good out errors Usage refuses memory = refuses
-refused_end refusal good out errors Format refuses memory = absurd refuses
-refused_end refusal good out errors Failed refuses memory = record { failure = failure.Memory; ends = refl; holds = tt; told = memory refl }
+pub refused_end : (refusal : Unjustified) (good : Type 0) (out errors : WriterStates) (s : Status) → Refuses refusal errors s → IsUntouched out → (s ≡ Failed → Tells errors (failure_line failure.Memory)) → TellsEnd good (Unit {0}) (IsOfOutput out) errors s
+refused_end refusal good out errors Good refuses same memory = absurd refuses
+refused_end refusal good out errors Refused refuses same memory = tt
+refused_end refusal good out errors Usage refuses same memory = refuses
+refused_end refusal good out errors Format refuses same memory = absurd refuses
+refused_end refusal good out errors Failed refuses same memory = record { failure = failure.Memory; ends = refl; holds = same; told = memory refl }
 
-module _ (history orders : FileStates) (out : WriterStates) where
-  pub of_history : (why : Failure) → IsFaultOf histories_format history why → IsOfCheck history orders out why
+module _ (history orders : FileStates) (workers : ℕ) (out : WriterStates) where
+  pub of_history : (why : Failure) → IsFaultOf histories_format history why → IsOfCheck history orders workers out why
   of_history (failure.Closed name) h = absurd h
   of_history (failure.File name fault) h = inl h
   of_history (failure.Script name error) h = absurd h
@@ -84,7 +87,7 @@ module _ (history orders : FileStates) (out : WriterStates) where
   of_history failure.Thread h = absurd h
 
   pub of_orders : IsHistoryRead (record { history = history.old; orders = orders.old }) (record { history = history.new; orders = orders.new })
-      → (why : Failure) → IsFaultOf order_format orders why → IsOfCheck history orders out why
+      → (why : Failure) → IsFaultOf order_format orders why → IsOfCheck history orders workers out why
   of_orders read (failure.Closed name) h = absurd h
   of_orders read (failure.File name fault) h = inr (read, h)
   of_orders read (failure.Script name error) h = absurd h
@@ -92,6 +95,7 @@ module _ (history orders : FileStates) (out : WriterStates) where
   of_orders read failure.Memory h = absurd h
   of_orders read failure.Thread h = absurd h
 
+module _ (history : FileStates) (out : WriterStates) where
   pub history_justified : (why : Failure) → IsFaultOf histories_format history why → IsOfJustification history out why
   history_justified (failure.Closed name) h = absurd h
   history_justified (failure.File name fault) h = h
@@ -107,6 +111,18 @@ module _ (history orders : FileStates) (out : WriterStates) where
   output_justified failure.Output h = h
   output_justified failure.Memory h = h
   output_justified failure.Thread h = absurd h
+
+-- a check that ended so is told by a failure of its own
+pub halted_told : {W : Type 0} (contents : W → Option (List ℕ)) (failures : W → ℕ) (history orders : FileStates) (workers : ℕ) (old new : W) (why : Halt)
+    → Halts workers failures why old new → IsOfCheck history orders workers (states contents failures old new) (failure_of why)
+halted_told contents failures history orders workers old new halt.Output failed = failed
+halted_told contents failures history orders workers old new halt.Memory same = (ap contents same, ap failures same)
+halted_told contents failures history orders workers old new halt.Thread h = (h.0, (ap contents h.1, ap failures h.1))
+
+pub halted_fails : (why : Halt) → status_of (failure_of why) ≡ Failed
+halted_fails halt.Output = refl
+halted_fails halt.Memory = refl
+halted_fails halt.Thread = refl
 
 -- the failure's line was told of a simulation
 pub told_simulation : (file : FileStates) (out errors : WriterStates) (why : Failure) (s : Status) → s ≡ status_of why → IsOfScript file why → Tells errors (failure_line why) → TellsSimulation file out errors s

@@ -4,6 +4,7 @@ pub mod Halts
 pub mod VerdictStatuses
 pub mod Justifications
 pub mod Passages
+pub mod ShownNames
 pub mod SimulationEndings
 pub mod Statuses
 pub mod ToldFailures

@@ -1,5 +1,5 @@
 -- What is said of a device before and after a command.
-use Rattle.std.specs.Prelude.{ℕ, ◌⊎◌, List, Option}
+use Rattle.std.specs.Prelude.{ℕ, ◌≡◌, ◌⊎◌, List, Option}
 use Rattle.std.specs.Io.KnownBytes.{Appends}
 use Rattle.counted_devices.specs.Counts.{IsOneMore}
 use Rattle.counted_devices.specs.Sendings.{Begins}
@@ -20,6 +20,10 @@ pub record WriterStates : Type 0 where
 -- the text went out, or, where the writer failed, a beginning of it
 abbrev pub Tells : WriterStates → List ℕ → Type 0
 Tells w text = Appends w.old w.new text ⊎ (Begins w.old w.new text × IsOneMore w.failures w.failures_now)
+
+-- nothing went out to the writer, and it failed at nothing
+abbrev pub IsUntouched : WriterStates → Type 0
+IsUntouched w = (w.new ≡ w.old) × (w.failures_now ≡ w.failures)
 
 -- the two states of a writer, by what went out to it and by its count of failures
 abbrev pub states : {W : Type 0} → (W → Option (List ℕ)) → (W → ℕ) → W → W → WriterStates

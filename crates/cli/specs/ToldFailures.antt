@@ -1,5 +1,5 @@
 -- What a command says of its failure on standard error.
-use Rattle.std.specs.Prelude.{ℕ, ◌≡◌, ◌⊎◌, List, Option}
+use Rattle.std.specs.Prelude.{ℕ, ◌≡◌, ◌≤◌, ◌⊎◌, List, Option}
 use Rattle.std.specs.Io.KnownBytes.{Appends}
 use Rattle.counted_devices.specs.Counts.{IsOneMore}
 use Rattle.counted_devices.specs.Deliveries.{Delivers}
@@ -13,7 +13,7 @@ use Rattle.fault_script.specs.Deliveries as script
 use Rattle.fault_script.specs.Simulations.{Simulates}
 use Rattle.cli.specs.Checks.{IsHistoryRead, TellsFault}
 use Rattle.cli.specs.FailureLines.{failure_line}
-use Rattle.cli.specs.Passages.{FileStates, Tells, WriterStates}
+use Rattle.cli.specs.Passages.{FileStates, IsUntouched, Tells, WriterStates}
 use Rattle.cli.specs.Statuses.{status_of}
 use Rattle.cli.specs.declared.status.Failure.{Failure}
 use Rattle.cli.specs.declared.status.Failure.TheVariants as failure
@@ -41,22 +41,22 @@ TellsEnd good refused Holds errors status.Failed = TellsFailure Holds errors sta
 abbrev pub IsFaultOf : {Header Item : Type 0} → Format Header Item → FileStates → Failure → Type 0
 IsFaultOf format file why = TellsFault file.name (λ fault. Delivers file.old file.new (StopsAt format file.new fault) × HasFailed fault.kind file.failures file.failures_now) why
 
--- the output failed, and the count of its failures grew; or memory was wanted, of which no more is said
+-- the output failed, and the count of its failures grew; or memory was wanted, and the output was left as it was
 abbrev pub IsOfOutput : WriterStates → Failure → Type 0
 IsOfOutput out failure.Output = IsOneMore out.failures out.failures_now
-IsOfOutput out failure.Memory = Unit {0}
+IsOfOutput out failure.Memory = IsUntouched out
 IsOfOutput out why = ⊥
 
 -- the failure is one of a check: a fault of the history, or one of the orders where the history was read to its end; or it is
--- of the output; or memory or a thread was wanted, of which no more is said
-abbrev pub IsOfCheck : FileStates → FileStates → WriterStates → Failure → Type 0
-IsOfCheck history orders out (failure.File name fault) =
+-- of the output; or memory was wanted, or a thread for the second of so many workers, and the output was left as it was
+abbrev pub IsOfCheck : FileStates → FileStates → ℕ → WriterStates → Failure → Type 0
+IsOfCheck history orders workers out (failure.File name fault) =
     IsFaultOf histories_format history (failure.File name fault)
     ⊎ (IsHistoryRead (record { history = history.old; orders = orders.old }) (record { history = history.new; orders = orders.new }) × IsFaultOf order_format orders (failure.File name fault))
-IsOfCheck history orders out failure.Thread = Unit {0}
-IsOfCheck history orders out failure.Output = IsOfOutput out failure.Output
-IsOfCheck history orders out failure.Memory = IsOfOutput out failure.Memory
-IsOfCheck history orders out why = ⊥
+IsOfCheck history orders workers out failure.Thread = (2 ≤ workers) × IsUntouched out
+IsOfCheck history orders workers out failure.Output = IsOfOutput out failure.Output
+IsOfCheck history orders workers out failure.Memory = IsOfOutput out failure.Memory
+IsOfCheck history orders workers out why = ⊥
 
 -- it is one of a justification: a fault of the history, or it is of the output, or memory was wanted
 abbrev pub IsOfJustification : FileStates → WriterStates → Failure → Type 0

@@ -9,7 +9,7 @@ ghost use Rattle.cli.specs.Passages.{file_states, states};
 ghost use Rattle.cli.specs.Statuses.{status_of};
 ghost use Rattle.cli.specs.ToldFailures.{IsFaultOf, IsOfCheck, TellsEnd};
 
-use crate::check_keys::{Halt, check_keys};
+use crate::check_keys::check_keys;
 use crate::status::{Failure, Status};
 use counted_devices::{CountedRead, CountedWrite};
 use history_file::{read_histories, read_orders};
@@ -116,6 +116,7 @@ pub fn check_command<'a, H: CountedRead, O: CountedRead, W: CountedWrite, E: Cou
         (IsOfCheck
         (file_states H.remaining H.failures history.old history.new)
         (file_states O.remaining O.failures orders.old orders.new)
+        workers
         (states W.contents W.failures out.old out.new))
         (states E.contents E.failures errors.old errors.new)
         result }
@@ -130,8 +131,6 @@ pub fn check_command<'a, H: CountedRead, O: CountedRead, W: CountedWrite, E: Cou
     };
     match check_keys(rt, alloc, &histories, orders.as_slice(), workers, out) {
         Ok(status) => status,
-        Err(Halt::Output) => Failure::Output.report(errors),
-        Err(Halt::Memory) => Failure::Memory.report(errors),
-        Err(Halt::Thread) => Failure::Thread.report(errors),
+        Err(halt) => Failure::from(halt).report(errors),
     }
 }

@@ -10,7 +10,7 @@ ghost use Rattle.cli.specs.Halts.{Halts};
 ghost use Rattle.cli.specs.VerdictStatuses.{SaysAll};
 ghost use Rattle.cli.specs.VerdictLines.{HasLines, lines_text};
 
-use crate::status::Status;
+use crate::status::{Failure, Status};
 use crate::verdict_lines::append_line;
 use certificate_check::Verdict;
 use counted_devices::{CountedWrite, write_text};
@@ -53,6 +53,21 @@ impl From<CheckError> for Halt {
         match error {
             CheckError::Memory => Halt::Memory,
             CheckError::Thread => Halt::Thread,
+        }
+    }
+}
+
+impl From<Halt> for Failure<'_> {
+    ghost use Rattle.std.specs.Prelude.{◌≡◌};
+    ghost use Rattle.cli.specs.Halts.{failure_of};
+
+    ghost from_gives = { λ halt failure. failure ≡ failure_of halt };
+
+    fn from(halt: Halt) -> Self {
+        match halt {
+            Halt::Output => Failure::Output,
+            Halt::Memory => Failure::Memory,
+            Halt::Thread => Failure::Thread,
         }
     }
 }
@@ -100,7 +115,7 @@ pub(crate) fn check_keys<R: Threads + Wait, W: CountedWrite>(
     ensures begun { IfErr result (λ halt. (pieces : List KeyOrder) → AreJoined pieces orders.now
         → halt ≡ Halt.Output → HasLines histories.now.halls pieces
         (Begins (W.contents out.old) (W.contents out.new))) }
-    ensures output { IfErr result (λ halt. Halts W.failures halt out.old out.new) }
+    ensures output { IfErr result (λ halt. Halts workers W.failures halt out.old out.new) }
 {
     let _halls = histories.halls();
     let checked = check_histories(rt, alloc, histories, orders, workers, &NoGate)?;

@@ -262,9 +262,7 @@ pub fn say_steps_row(out: &mut String, lines: &str) -> Result<(), AllocError> {
 
 /// What a writer with those faults makes of the orders and of a text.
 fn say_narrow(out: &mut String, orders: &[KeyOrder], asked: Asked<'_>) -> Result<(), AllocError> {
-    let width = asked.number("width", 1);
-    let fails = asked.has("fails");
-    let mut writer = Counting::new(Narrow { width, fails });
+    let mut writer = Counting::new(Narrow::asked(asked));
     let first = write_orders(*out.allocator(), orders, &mut writer);
     let second = write_text(b"text", &mut writer);
     out.push_str("orders: ")?;

@@ -29,9 +29,8 @@ pub fn say_counted_reads(
 
 /// What a writer has counted after it was given the line's text, or was flushed.
 fn say_counted_write(out: &mut String, asked: Asked<'_>) -> Result<(), AllocError> {
-    let width = asked.number("width", 1);
     let fails = asked.has("fails");
-    let mut writer = Counting::new(Narrow { width, fails });
+    let mut writer = Counting::new(Narrow::asked(asked));
     if asked.has("flush") {
         let _ = writer.flush();
     } else {

@@ -11,6 +11,7 @@ mod contents;
 mod counts;
 mod devices;
 mod formats;
+mod names;
 mod notation;
 mod readings;
 mod saying;
@@ -22,13 +23,14 @@ use contents::{say_history_row, say_orders_row, say_script_row, say_steps_row, s
 use counts::{
     say_counted_reads, say_counted_writes, say_file_faults, say_other_faults, say_script_faults,
 };
+use names::say_names;
 use readings::{Format, cuts_row, say_files_read, say_history_fed, say_orders_fed};
 use row_files::say_files;
 use std::alloc::{AllocError, Global};
 use std::process::ExitCode;
 use std::sync::Wait;
 use std::thread::Threads;
-use wording::say_words;
+use wording::{say_first_lines, say_words};
 
 /// What comes of rows that read files.
 fn say_file_row(
@@ -62,6 +64,8 @@ fn say_row(
         "script" => say_script_row(out, lines),
         "steps" => say_steps_row(out, lines),
         "words" => say_words(out, lines),
+        "first-lines" => say_first_lines(out, lines),
+        "names" => say_names(out, lines),
         "counted-reads" => say_counted_reads(out, asked, lines),
         "counted-writes" => say_counted_writes(out, lines),
         "file-faults" => say_file_faults(out),

@@ -21,10 +21,14 @@ pub fn range_of(text: &str) -> Option<(u32, u32)> {
 fn push_reads(bytes: &mut Vec<u8>, range: &str) -> Result<(), AllocError> {
     let (first, last) = range_of(range).unwrap_or((0, 0));
     for call in first..last {
-        let lines = format!(in *bytes.allocator();
-            "{{\"call\":{call},\"client\":1,\"do\":\"read\",\"key\":\"x\",\"row\":\"invoke\"}}\n{{\"call\":{call},\"row\":\"respond\",\"value\":null}}\n"
+        let invoked = format!(in *bytes.allocator();
+            "{{\"call\":{call},\"client\":1,\"do\":\"read\",\"key\":\"x\",\"row\":\"invoke\"}}\n"
         )?;
-        bytes.extend_from_slice(lines.as_bytes())?;
+        bytes.extend_from_slice(invoked.as_bytes())?;
+        let answered = format!(in *bytes.allocator();
+            "{{\"call\":{call},\"row\":\"respond\",\"value\":null}}\n"
+        )?;
+        bytes.extend_from_slice(answered.as_bytes())?;
     }
     Ok(())
 }

@@ -92,3 +92,25 @@ pub fn say_words(out: &mut String, lines: &str) -> Result<(), AllocError> {
     }
     Ok(())
 }
+
+/// The first line of what the words have said in place of a command.
+fn first_line_of(usage: &Usage) -> &str {
+    let text = match usage {
+        Usage::Help(text) | Usage::Version(text) | Usage::Fault(text) => text.as_str(),
+        Usage::Memory => "no memory",
+    };
+    text.lines().next().unwrap_or("")
+}
+
+/// What each line asks for, and the first line of what is said in place of a command.
+pub fn say_first_lines(out: &mut String, lines: &str) -> Result<(), AllocError> {
+    let alloc = *out.allocator();
+    for line in lines.lines() {
+        let words = words_of(alloc, line)?;
+        match command(alloc, words.as_slice()) {
+            Ok(asked) => say_asked(out, &asked)?,
+            Err(usage) => write!(out, "{}\n", first_line_of(&usage))?,
+        }
+    }
+    Ok(())
+}

@@ -1,6 +1,8 @@
 //! Readers and writers that count their failures.
-ghost use Rattle.std.specs.Prelude.{◌≡◌, ◌≤◌, ◌+◌, ◌^◌};
-ghost use Rattle.counted_devices.specs.Counts.{IsOneMore};
+ghost use Rattle.std.specs.Prelude.{◌≡◌, ◌≤◌, ◌+◌, ◌^◌, false, is_ok};
+ghost use Rattle.std.specs.Io.{ReadsAtMost, WritesAtMost};
+ghost use Rattle.std.specs.Io.KnownBytes.{ReadConsumes, WriteAppends, Keeps};
+ghost use Rattle.counted_devices.specs.Counts.{CountsBytes, CountsErrors, CountsWrite, IsOneMore};
 
 use crate::{Counted, CountedRead, CountedWrite};
 use std::io::{Error, ErrorKind, Read, Result, Write};
@@ -8,13 +10,15 @@ use std::io::{Error, ErrorKind, Read, Result, Write};
 /// The most bytes that a reader gives: 2^62.
 const MOST: u64 = 4_611_686_018_427_387_904;
 
-/// A reader or a writer, with the count of the errors that it answered. The count stays at its
-/// greatest value. A reader so wrapped gives at most 2^62 bytes, and then only errors.
+/// A reader or a writer, with the count of the errors that it answered, and whether the last that was
+/// done was a flush that succeeded. The count stays at its greatest value. A reader so wrapped gives at
+/// most 2^62 bytes, and then only errors.
 #[derive(Drop)]
 pub struct Counting<T> {
     inner: T,
     failures: u64,
     given: u64,
+    is_flushed: bool,
     ghost most: { given ≤ 2 ^ 62 },
 }
 
@@ -31,6 +35,7 @@ impl<T> Counting<T> {
             inner,
             failures: 0,
             given: 0,
+            is_flushed: false,
         }
     }
 
@@ -46,6 +51,7 @@ impl<T> Counting<T> {
     fn fail(&mut self)
         ensures inner { self.new.inner ≡ self.old.inner }
         ensures given { self.new.given ≡ self.old.given }
+        ensures flushed { self.new.is_flushed ≡ self.old.is_flushed }
         ensures counted { IsOneMore self.old.failures self.new.failures }
     {
         self.failures = self.failures.saturating_add(1);
@@ -71,7 +77,15 @@ impl<T> Counted for Counting<T> {
 impl<R: Read> Read for Counting<R> {
     ghost remaining = { λ reader. R.remaining reader.inner };
 
-    fn read(&mut self, block: &mut [u8]) -> Result<usize> {
+    /// Reads from the inner reader. Its errors are counted, one each, and the bytes that it gave; after
+    /// 2^62 bytes each read is an error, and is counted as one.
+    fn read(&mut self, block: &mut [u8]) -> Result<usize>
+        ensures bound { ReadsAtMost result block.new }
+        ensures bytes { ReadConsumes (R.remaining self.old.inner)
+            (R.remaining self.new.inner) result block.new }
+        ensures given { CountsBytes (λ reader. reader.given) self.old self.new result }
+        ensures counted { CountsErrors (λ reader. reader.failures) self.old self.new result }
+    {
         self.read_counted(block)
     }
 }
@@ -99,17 +113,35 @@ impl<R: Read> CountedRead for Counting<R> {
 impl<W: Write> Write for Counting<W> {
     ghost contents = { λ writer. W.contents writer.inner };
 
-    fn write(&mut self, text: &[u8]) -> Result<usize> {
+    /// Writes to the inner writer. Its errors are counted, one each, and so is a write that takes
+    /// nothing of a text that isn't empty.
+    fn write(&mut self, text: &[u8]) -> Result<usize>
+        ensures bound { WritesAtMost result text.now }
+        ensures bytes { WriteAppends (W.contents self.old.inner)
+            (W.contents self.new.inner) result text.now }
+        ensures given { self.new.given ≡ self.old.given }
+        ensures held { self.new.is_flushed ≡ false }
+        ensures counted { CountsWrite (λ writer. writer.failures) self.old self.new text.now result }
+    {
         self.write_counted(text)
     }
 
-    fn flush(&mut self) -> Result<()> {
+    /// Flushes the inner writer. An error is counted.
+    fn flush(&mut self) -> Result<()>
+        ensures bytes { Keeps (W.contents self.old.inner) (W.contents self.new.inner) }
+        ensures given { self.new.given ≡ self.old.given }
+        ensures passed_on { self.new.is_flushed ≡ is_ok result }
+        ensures counted { CountsErrors (λ writer. writer.failures) self.old self.new result }
+    {
         self.flush_counted()
     }
 }
 
 impl<W: Write> CountedWrite for Counting<W> {
+    ghost is_flushed = { λ writer. writer.is_flushed };
+
     fn write_counted(&mut self, text: &[u8]) -> Result<usize> {
+        self.is_flushed = false;
         match self.inner.write(text) {
             Ok(count) => {
                 if count == 0 && !text.is_empty() {
@@ -125,7 +157,9 @@ impl<W: Write> CountedWrite for Counting<W> {
     }
 
     fn flush_counted(&mut self) -> Result<()> {
-        match self.inner.flush() {
+        let flushed = self.inner.flush();
+        self.is_flushed = flushed.is_ok();
+        match flushed {
             Ok(()) => Ok(()),
             Err(error) => {
                 self.fail();

@@ -1,5 +1,5 @@
 //! Devices with the count of their failures.
-ghost use Rattle.std.specs.Prelude.{ℕ, ◌≡◌, ◌≤◌, ◌^◌};
+ghost use Rattle.std.specs.Prelude.{ℕ, Bool, ◌≡◌, ◌≤◌, ◌^◌, false, is_ok};
 ghost use Rattle.std.specs.Io.{ReadsAtMost, WritesAtMost};
 ghost use Rattle.std.specs.Io.KnownBytes.{ReadConsumes, WriteAppends, Keeps};
 ghost use Rattle.counted_devices.specs.Counts.{CountsBytes, CountsErrors, CountsWrite};
@@ -36,20 +36,25 @@ pub trait CountedRead: Read + Counted {
         ensures counted { CountsErrors Self.failures self.old self.new result };
 }
 
-/// A writer that counts.
+/// A writer that counts. It may hold back what it takes until it is flushed: it is flushed if the last
+/// call of it was a flush that succeeded.
 pub trait CountedWrite: Write + Counted {
+    ghost is_flushed: { Self → Bool };
+
     /// Writes some of the text. Each error is counted, and so is a write that takes nothing of a
-    /// text that isn't empty.
+    /// text that isn't empty. What is taken isn't passed on yet: the writer isn't flushed.
     fn write_counted(&mut self, text: &[u8]) -> Result<usize>
         ensures bound { WritesAtMost result text.now }
         ensures bytes { WriteAppends (Self.contents self.old)
             (Self.contents self.new) result text.now }
         ensures given { Self.given self.new ≡ Self.given self.old }
+        ensures held { is_flushed self.new ≡ false }
         ensures counted { CountsWrite Self.failures self.old self.new text.now result };
 
-    /// Passes on what was written. An error is counted.
+    /// Passes on what was written, and counts an error. The writer is flushed if it succeeds.
     fn flush_counted(&mut self) -> Result<()>
         ensures bytes { Keeps (Self.contents self.old) (Self.contents self.new) }
         ensures given { Self.given self.new ≡ Self.given self.old }
+        ensures passed_on { is_flushed self.new ≡ is_ok result }
         ensures counted { CountsErrors Self.failures self.old self.new result };
 }

@@ -1,5 +1,5 @@
 //! Texts on their way to a writer.
-ghost use Rattle.std.specs.Prelude.{◌≡◌, [], OnOk, OnErr, IfErr};
+ghost use Rattle.std.specs.Prelude.{◌≡◌, [], true, OnOk, OnErr, IfErr};
 ghost use Rattle.counted_devices.specs.Sendings.{FailsBy, FailsByDevice, Sends, SendsBut, SendsStart, pieces_text};
 
 use crate::{CountedWrite, WriteFault};
@@ -41,11 +41,13 @@ pub fn relieve<W: CountedWrite>(batch: &mut Vec<u8>, writer: &mut W) -> Result<(
     Ok(())
 }
 
-/// Writes the text, all of it, and passes it on.
+/// Writes the text, all of it, and flushes the writer: a writer whose flush fails has failed, though it
+/// took all of the text.
 ///
 /// What went out is the text or, after a fault, a beginning of it. `Memory` doesn't come.
 pub fn write_text<W: CountedWrite>(text: &[u8], writer: &mut W) -> Result<(), WriteFault>
     ensures written { OnOk result (Sends W.contents writer.old writer.new text.now) }
+    ensures passed_on { OnOk result (W.is_flushed writer.new ≡ true) }
     ensures begun { OnErr result (SendsStart W.contents writer.old writer.new text.now) }
     ensures device { IfErr result (FailsByDevice W.failures writer.old writer.new) }
     ensures counted { OnOk result (W.failures writer.new ≡ W.failures writer.old) }
@@ -57,12 +59,13 @@ pub fn write_text<W: CountedWrite>(text: &[u8], writer: &mut W) -> Result<(), Wr
     }
 }
 
-/// Writes a text that is given in pieces, one after another, all of it, and passes it on. It takes no
-/// memory.
+/// Writes a text that is given in pieces, one after another, all of it, and flushes the writer: a writer
+/// whose flush fails has failed, though it took all of the text. It takes no memory.
 ///
 /// What went out is the text or, after a fault, a beginning of it. `Memory` doesn't come.
 pub fn write_pieces<W: CountedWrite>(pieces: &[&str], writer: &mut W) -> Result<(), WriteFault>
     ensures written { OnOk result (Sends W.contents writer.old writer.new (pieces_text pieces.now)) }
+    ensures passed_on { OnOk result (W.is_flushed writer.new ≡ true) }
     ensures begun { OnErr result (SendsStart W.contents writer.old writer.new (pieces_text pieces.now)) }
     ensures device { IfErr result (FailsByDevice W.failures writer.old writer.new) }
     ensures counted { OnOk result (W.failures writer.new ≡ W.failures writer.old) }

@@ -1,5 +1,5 @@
 //! Scripts from readers.
-ghost use Rattle.std.specs.Prelude.{ℕ, ◌≡◌, ◌<◌, ◌≤◌, ◌+◌, ◌^◌, List, Option, length, true, false, IfOk, IfErr};
+ghost use Rattle.std.specs.Prelude.{ℕ, ◌≡◌, ◌<◌, ◌≤◌, ◌+◌, ◌^◌, List, Option, length, true, false, IfOk, IfErr, OnOk};
 ghost use Rattle.std.specs.Io.KnownBytes.{IsAtEnd};
 ghost use Rattle.counted_devices.specs.ReadFaults.{FailsFrom};
 ghost use Rattle.fault_script.specs.Deliveries.{GoesOn, Holds, HoldsAll, ReadsFrom, StopsFrom};
@@ -58,6 +58,7 @@ fn feed_in_blocks<R: CountedRead>(
 ) -> Result<Feed, ScriptError>
     requires { 0 < length room.old }
     ensures holds { IfOk result (HoldsAll R.remaining reader.old reader.new) }
+    ensures counted { OnOk result (R.failures reader.new ≡ R.failures reader.old) }
     ensures error { IfErr result (λ error. StopsFrom R.remaining reader.old reader.new error
         × FailsFrom R.failures reader.old reader.new error) }
     ensures room { IfOk result (λ feed. feed.progress.lines < 2 ^ 63) }
@@ -75,6 +76,7 @@ fn feed_in_blocks<R: CountedRead>(
 /// a growth was refused. The reader keeps what follows the bytes that were read.
 pub fn parse<R: CountedRead>(alloc: Global, reader: &mut R) -> Result<Script, ScriptError>
     ensures read { IfOk result (ReadsFrom R.remaining reader.old reader.new) }
+    ensures counted { OnOk result (R.failures reader.new ≡ R.failures reader.old) }
     ensures fault { IfErr result (StopsFrom R.remaining reader.old reader.new) }
     ensures device { IfErr result (FailsFrom R.failures reader.old reader.new) }
 {

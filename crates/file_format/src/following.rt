@@ -99,8 +99,13 @@ pub(crate) fn follow_in_hall(
 }
 
 /// Adds the row at the end, or says which fault it has there.
+///
+/// The history is one of a file, and so may have 1,000,000 calls, as `History::new(alloc,
+/// MOST_CALLS)` makes it; that stays so.
 pub fn follow(history: &mut History, row: LineRow) -> Result<(), Stop>
-    ensures follows { history.old.limit ≡ 1000000 → FollowsRow history.old row result history.new }
+    requires limit { history.old.limit ≡ 1000000 }
+    ensures follows { FollowsRow history.old row result history.new }
+    ensures limit { history.new.limit ≡ 1000000 }
     ensures formed { IsWellFormed history.new.rows }
     ensures few { call_count history.new.rows ≤ history.new.limit }
 {

@@ -15,6 +15,8 @@ mod randoms;
 #[cfg(test)]
 mod records;
 #[cfg(test)]
+mod store_calls;
+#[cfg(test)]
 mod stores;
 #[cfg(test)]
 mod worlds;

@@ -70,21 +70,27 @@ fn is_stopped_below(
     true
 }
 
-/// Joins again with a name that was refused for memory, and had joined so many halls: it has a seat now, unless
-/// it is spent in hall 0.
-fn join_again(
-    rt: &impl Wait,
-    alloc: Global,
-    store: &Store<OpenGate>,
-    client: ClientId,
-    halls: usize,
-) -> bool {
+/// How many halls from hall 0 on the client has joined.
+fn joined_halls(rt: &impl Wait, store: &Store<OpenGate>, client: ClientId) -> usize {
+    let mut halls = 0;
+    for hall in 0..HALLS {
+        if phase_in(rt, store, client, hall).is_some() {
+            halls = usize::from(hall) + 1;
+        }
+    }
+    halls
+}
+
+/// Joins again with a name that was refused for memory: it has a seat now, unless it joined hall 0, where its
+/// name is spent.
+fn join_again(rt: &impl Wait, alloc: Global, store: &Store<OpenGate>, client: ClientId) -> bool {
+    let halls = joined_halls(rt, store, client);
     if !is_stopped_below(rt, store, client, halls) {
         return false;
     }
     match store.join(rt, alloc, client) {
         Ok(_) => halls == 0 && stands(rt, store, client, Phase::Idle),
-        Err(error) => halls > 0 && error.hall() == 0 && matches!(error, JoinError::ClientTaken(_)),
+        Err(error) => halls > 0 && error == JoinError::ClientTaken,
     }
 }
 
@@ -100,10 +106,9 @@ where
     };
     match store.join(rt, alloc, client) {
         Ok(_) => Ok(stands(rt, &store, client, Phase::Idle)),
-        Err(error) => Ok(
-            matches!(error, JoinError::Memory(_))
-                && join_again(rt, alloc, &store, client, error.hall()),
-        ),
+        Err(error) => {
+            Ok(error == JoinError::Memory && join_again(rt, alloc, &store, client))
+        }
     }
 }
 

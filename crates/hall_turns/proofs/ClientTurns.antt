@@ -1,5 +1,5 @@
 -- What a client's turn leaves, as its pass sees it.
-use Rattle.std.proofs.Common.{◌≡◌, ℕ, false, List, [], ◌∷◌, ◌++◌, Option, Some, None, Result, Ok, Err, length, slice_get, refl, sym, ap, ◌∙◌, subst, arith}
+use Rattle.std.proofs.Common.{◌≡◌, ◌≤◌, ◌<◌, ℕ, false, List, [], ◌∷◌, ◌++◌, Option, Some, None, Result, Ok, Err, length, slice_get, refl, sym, ap, ◌∙◌, subst, arith}
 use Rattle.std.specs.FinMap as finite
 use Rattle.tag.specs.Tags.{Tag}
 use Rattle.tag.specs.declared.actions.Action.{Action}
@@ -32,9 +32,11 @@ use Rattle.world_steps.specs.declared.step.Step.{Step}
 use Rattle.world_steps.specs.declared.step.Step.TheVariants as step
 use Rattle.world_steps.specs.declared.system.System.{System}
 use Rattle.hall_journal.specs.Halls.{Hall, IsReplay, Takes, with_step}
+use Rattle.hall_turns.specs.declared.client_pass.Delay.{Delay}
+use Rattle.hall_turns.specs.declared.client_pass.Delay.TheVariants.{Foreign, Refused}
 use Rattle.hall_turns.specs.declared.rule.View.{View}
 use Rattle.hall_turns.specs.Turns.TakesReply.{WithNote, WithoutNote}
-use Rattle.hall_turns.specs.Turns.{AddsRow, AreRecorded, IsQuiet, IsReady, AddsNoRow, LooksAt, MayReturn, OthersAdd, Receives, Returns, ClientView, TakesReply, TakesTurn, Turns, view_at_rest, seat, seat_in}
+use Rattle.hall_turns.specs.Turns.{AddsRow, AreRecorded, Delivers, HoldsBack, IsDelayed, IsQuiet, IsReady, IsToClient, AddsNoRow, LooksAt, MayReturn, OthersAdd, Receives, Returns, ClientView, TakesFlight, TakesReply, TakesTurn, Turns, view_at_rest, seat, seat_in}
 use Rattle.hall_turns.proofs.Running.{delivered_runs, invoked_runs, responded_runs}
 use Rattle.hall_turns.proofs.Rows.{last_row, none_some, past_end, pushed, same_some}
 use Rattle.hall_turns.proofs.OneTurn.{AddsOfItsClient, StayJoined, StayStopped, kept_adds, rested, returnable, same_next, took_adds}
@@ -236,6 +238,46 @@ looks_at client v w z hall Told is received returned replay sound told =
       told = told;
       is = ap (seen client) turn.is;
     }
+
+-- a reply is for the client that it names
+pub to_client : (client : ℕ) (message : Option Message) → IsToClient client message → receiver message ≡ Some client
+to_client client None is = absurd is
+to_client client (Some (ToReplica number request)) is = absurd is
+to_client client (Some (ToClient name reply)) is = ap (λ n. Some n) is
+
+pub takes_flight : (client : ℕ) (v w z : View) (old new : Hall) (flight : ℕ) (result : Result Effect Refusal) → v ≡ seat client v.rows v.is_stopped → Receives v old w → Returns w new z
+    → Delivers (IsToClient client) old flight result new → TakesFlight (seen client v) flight result (seen client z)
+takes_flight client v w z old new flight result is received returned delivered =
+    let turn : ClientTurn client v old new z = client_turn client v w z old new is received returned in
+    record { before = old; after = new; others = turn.others; delivered = delivered; is = ap (seen client) turn.is }
+
+-- a turn in which the hall took a step or refused it
+pub took_turn : (client : ℕ) (v w z : View) (old new : Hall) (step : Step) (result : Result Effect Refusal) → v ≡ seat client v.rows v.is_stopped → Receives v old w → Returns w new z
+    → Takes old step result new → TakesTurn (seen client v) step result (seen client z)
+took_turn client v w z old new step result is received returned took =
+    let turn : ClientTurn client v old new z = client_turn client v w z old new is received returned in
+    record { before = old; after = new; others = turn.others; took = took; is = ap (seen client) turn.is }
+
+pub delayed : (client : ℕ) (v w z : View) (old new : Hall) (step : Step) (count : ℕ) (delay : Delay) → v ≡ seat client v.rows v.is_stopped → Receives v old w → Returns w new z → IsReplay old → IsSound old.world
+    → HoldsBack old step count delay new → IsDelayed (seen client v) step count delay (seen client z)
+delayed client v w z old new step count Foreign is received returned replay sound held =
+    looks_at client v w z old (λ s. length s.history.rows < count) is received (subst (λ h. Returns w h z) held.1 returned) replay sound held.0
+delayed client v w z old new step count (Refused why) is received returned replay sound held =
+    let turn : ClientTurn client v old new z = client_turn client v w z old new is received returned in
+    (subst (λ l. count ≤ length l) (sym (ap (λ (y : View). y.rows) turn.is ∙ ap (λ (h : Hall). h.world.history.rows) held.1.1)) held.0, took_turn client v w z old new step (Err why) is received returned held.1)
+
+-- a client that is ready responds with its call's number
+ready_effect : (s : System) (name : ℕ) (op : OpId) (returned : Returned) (rules : Rules) (state : State) → finite.get s.members.clients name ≡ Some (record { rules = rules; state = state })
+    → Some op ≡ pending_of (record { rules = rules; state = state }) → Some returned ≡ answer_of (record { rules = rules; state = state }) → effect_of s (step.Respond name) ≡ Some (effect.Responded op)
+ready_effect s name op returned rules Idle there pending answer = none_some (sym answer)
+ready_effect s name op returned rules (Ask asking) there pending answer = none_some (sym answer)
+ready_effect s name op returned rules (Put chosen counted) there pending answer = none_some (sym answer)
+ready_effect s name op returned rules (Ready chosen) there pending answer = rw there (ap (λ o. Some (effect.Responded o)) (sym (same_some op chosen.call.op pending)))
+ready_effect s name op returned rules Stopped there pending answer = none_some (sym answer)
+
+pub responds : (old new : Hall) (name : ℕ) (op : OpId) (returned : Returned) → refusal_of old.world (step.Respond name) ≡ None → new ≡ with_step old (step.Respond name) → IsReady old.world name op returned
+    → Takes old (step.Respond name) (Ok (effect.Responded op)) new
+responds old new name op returned none same ready = (none, ready_effect old.world name op returned ready.state.rules ready.state.state ready.there ready.pending ready.answer, same)
 
 -- a response is of the client's own call
 own_response : (s : System) (name : ℕ) (row : Row) (new : List Row) → AddsRowOf (Some name) s.history.rows new → new ≡ s.history.rows ++ row ∷ [] → IsRowOf s.history.rows name row

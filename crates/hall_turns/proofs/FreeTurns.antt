@@ -1,5 +1,5 @@
 -- What a turn of a pass without a client leaves.
-use Rattle.std.proofs.Common.{◌≡◌, ℕ, [], Option, Some, None, option_map, Result, Ok, refl, sym, ap, ◌∙◌, subst}
+use Rattle.std.proofs.Common.{◌≡◌, ℕ, [], Option, Some, None, option_map, Result, refl, sym, ap, ◌∙◌, subst}
 use Rattle.std.specs.FinMap as finite
 use Rattle.std.specs.Ordering.{nat_cmp}
 use Rattle.client_phases.specs.Clients.{phase_of}
@@ -14,16 +14,17 @@ use Rattle.world_steps.specs.Systems.{opening}
 use Rattle.world_steps.specs.declared.effect.Effect.{Effect}
 use Rattle.world_steps.specs.declared.refusal.Refusal.{Refusal}
 use Rattle.world_steps.specs.declared.step.Step.{Step}
-use Rattle.hall_journal.specs.Halls.{Hall, IsReplay, Takes, opening_hall}
+use Rattle.hall_journal.specs.Halls.{Hall, IsReplay, opening_hall}
 use Rattle.hall_turns.specs.declared.rule.View.{View}
-use Rattle.hall_turns.specs.Turns.{AreRecorded, IsCopied, IsToReplica, MayReturn, Receives, Returns, ServesStep, Turns, guest, maker, view_at_rest}
+use Rattle.hall_turns.specs.Turns.{AreRecorded, Delivers, IsCopied, IsToReplica, MayReturn, Receives, Returns, ServesFlight, ServesStep, Turns, guest, maker, view_at_rest}
 use Rattle.hall_turns.proofs.Rows.{none_some, none_stopped, whole}
 use Rattle.hall_turns.proofs.OneTurn.{rested}
 
-pub to_replica : (message : Option Message) → IsToReplica message → receiver message ≡ None
-to_replica None is = absurd is
-to_replica (Some (ToReplica number request)) is = refl
-to_replica (Some (ToClient name reply)) is = absurd is
+-- a request is for no client
+pub to_replica : (replica : ℕ) (message : Option Message) → IsToReplica replica message → receiver message ≡ None
+to_replica replica None is = absurd is
+to_replica replica (Some (ToReplica number request)) is = refl
+to_replica replica (Some (ToClient name reply)) is = absurd is
 
 pub guest_recorded : (z : View) (hall : Hall) → z ≡ guest hall.world.history.rows → AreRecorded hall.world.history.rows → (z ≡ guest z.rows) × AreRecorded z.rows
 guest_recorded z hall is recorded =
@@ -39,12 +40,12 @@ served v w step result turn = record { before = turn.before; after = turn.after;
 pub guest_turned : (v w : View) (step : Step) (result : Result Effect Refusal) → v ≡ guest v.rows → Turns v step result w → (w ≡ guest w.rows) × AreRecorded w.rows
 guest_turned v w step result is turn = guest_recorded w turn.after (turn.is ∙ ap (λ y. view_at_rest y turn.after.world) is) turn.recorded
 
-pub served_by : (v w z : View) (old new : Hall) (step : Step) (effect : Effect) → Receives v old w → Returns w new z → Takes old step (Ok effect) new → ServesStep v.rows step (Ok effect) z.rows
-served_by v w z old new step effect received returned took = record {
+pub served_flight : (v w z : View) (old new : Hall) (replica flight : ℕ) (result : Result Effect Refusal) → Receives v old w → Returns w new z → Delivers (IsToReplica replica) old flight result new → ServesFlight v.rows replica flight result z.rows
+served_flight v w z old new replica flight result received returned delivered = record {
   before = old;
   after = new;
   grown = received.knows.seen;
-  took = took;
+  delivered = delivered;
   is = ap (λ (y : View). y.rows) (rested v w z old new received.is returned);
 }
 

@@ -10,7 +10,7 @@ use Rattle.world_steps.specs.Systems.{opening}
 use Rattle.world_steps.specs.declared.system.System.{System}
 use Rattle.hall_journal.specs.Halls.{Hall}
 use Rattle.hall_turns.specs.declared.rule.View.{View}
-use Rattle.hall_turns.specs.Turns.{Adds, AreApart, AreFitting, BecomesSeat, Enters, Fits, HasOneHall, Knows, MayReturn, OthersAdd, HallStands, Receives, Returns, guest, is_client_stopped, view_with_hall, last_of, maker, view_at_rest, seat_in}
+use Rattle.hall_turns.specs.Turns.{Adds, AreApart, AreFitting, BecomesSeat, Enters, Fits, HasOneHall, KeepsStopped, Knows, MayReturn, OthersAdd, HallStands, Receives, Returns, guest, is_client_stopped, view_with_hall, last_of, maker, view_at_rest, seat_in}
 use Rattle.hall_turns.proofs.Rows.{longer, more_added, none_added, none_some, none_stopped, same_some, whole}
 
 -- ---- a list in which one view was set
@@ -152,6 +152,10 @@ gives n pass v hall may halls views _ kept at =
       },
       refl,
     )
+
+-- who is stopped stays so, as the hall is given back
+pub keeps_stopped : (v : View) (new : System) → MayReturn v new → KeepsStopped v new
+keeps_stopped v new may old client taken stopped = may.adds.stopped client (subst (λ s. HasStopped s client) (same_some old may.old (sym taken ∙ may.taken)) stopped)
 
 -- ---- a further pass, without a client
 

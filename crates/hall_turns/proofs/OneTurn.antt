@@ -18,7 +18,7 @@ use Rattle.world_steps.specs.declared.step.Step.TheVariants as step
 use Rattle.world_steps.specs.declared.system.System.{System}
 use Rattle.hall_journal.specs.Halls.{Hall, IsReplay, Takes, with_step}
 use Rattle.hall_turns.specs.declared.rule.View.{View}
-use Rattle.hall_turns.specs.Turns.{Adds, AreRecorded, IsOwn, MayReturn, MayTake, Receives, Returns, Turns, view_with_hall, view_at_rest}
+use Rattle.hall_turns.specs.Turns.{Adds, AreRecorded, IsOwn, IsStepOfClient, IsStepOfNoClient, KeepsStopped, MayReturn, MayTake, Receives, Returns, Turns, view_with_hall, view_at_rest}
 use Rattle.hall_turns.proofs.Rows.{last_row, none_some, past_end, row_grown, whole}
 
 -- the laws of the world that a turn rests on
@@ -31,18 +31,34 @@ StayJoined = (config : Config) (steps later : List Step) (name : ℕ) → HasJoi
 abbrev pub StayStopped : Type 0
 StayStopped = (s : System) (step : Step) (name : ℕ) → HasStopped s name → HasStopped (next s step) name
 
--- whose row a step may add
+-- whose row a step of a client, or of no client, may add
+owner_named : (client : ℕ) (s : System) (step : Step) → IsStepOfClient client step → (name : ℕ) → client_in s step ≡ Some name → Some client ≡ Some name
+owner_named client s (step.Join name) may other is = absurd may
+owner_named client s (step.Invoke name key action) may other is = ap (λ n. Some n) may ∙ is
+owner_named client s (step.Send name replica) may other is = ap (λ n. Some n) may ∙ is
+owner_named client s (step.Deliver flight) may other is = absurd may
+owner_named client s (step.Lose flight) may other is = none_some is
+owner_named client s (step.Repeat flight) may other is = none_some is
+owner_named client s (step.Respond name) may other is = ap (λ n. Some n) may ∙ is
+owner_named client s (step.StopClient name) may other is = ap (λ n. Some n) may ∙ is
+owner_named client s (step.StopReplica number) may other is = absurd may
+owner_named client s (step.StartReplica number) may other is = absurd may
+
+owner_none : (s : System) (step : Step) → IsStepOfNoClient step → (name : ℕ) → client_in s step ≡ Some name → None ≡ Some name
+owner_none s (step.Join name) may other is = absurd may
+owner_none s (step.Invoke name key action) may other is = absurd may
+owner_none s (step.Send name replica) may other is = absurd may
+owner_none s (step.Deliver flight) may other is = absurd may
+owner_none s (step.Lose flight) may other is = is
+owner_none s (step.Repeat flight) may other is = is
+owner_none s (step.Respond name) may other is = absurd may
+owner_none s (step.StopClient name) may other is = absurd may
+owner_none s (step.StopReplica number) may other is = is
+owner_none s (step.StartReplica number) may other is = is
+
 owner : (client : Option ℕ) (s : System) (step : Step) → MayTake client step → (name : ℕ) → client_in s step ≡ Some name → client ≡ Some name
-owner client s (step.Join name) may other is = absurd may
-owner client s (step.Invoke name key action) may other is = may ∙ is
-owner client s (step.Send name replica) may other is = may ∙ is
-owner client s (step.Deliver flight) may other is = absurd may
-owner client s (step.Lose flight) may other is = none_some is
-owner client s (step.Repeat flight) may other is = none_some is
-owner client s (step.Respond name) may other is = may ∙ is
-owner client s (step.StopClient name) may other is = may ∙ is
-owner client s (step.StopReplica number) may other is = none_some is
-owner client s (step.StartReplica number) may other is = none_some is
+owner (Some client) s step may name is = owner_named client s step may name is
+owner None s step may name is = owner_none s step may name is
 
 -- the rows that a step adds are those of the pass's client
 record OwnAdded (v : View) (old new : List Row) : Type 0 where
@@ -116,12 +132,14 @@ rested v w z old hall is returned = returned ∙ ap (λ y. view_at_rest y hall.w
 pub recorded : (hall : Hall) → IsReplay hall → IsSound hall.world → IsWellFormed hall.world.history.rows → AreRecorded hall.world.history.rows
 recorded hall replay sound formed = record { hall = hall; replay = replay; sound = sound; is = refl; formed = formed }
 
-pub turned : (v w z : View) (old new : Hall) (step : Step) (result : Result Effect Refusal) → Receives v old w → Takes old step result new → IsReplay new → AreRecorded new.world.history.rows → Returns w new z → Turns v step result z
-turned v w z old new step result received took replay sound returned = record {
+pub turned : (v w z : View) (old new : Hall) (step : Step) (result : Result Effect Refusal) → Receives v old w → Takes old step result new → IsReplay new → AreRecorded new.world.history.rows → Returns w new z → KeepsStopped w new.world
+    → Turns v step result z
+turned v w z old new step result received took replay sound returned keeps = record {
   before = old;
   after = new;
   knows = received.knows;
   took = took;
+  stays = λ client stopped. keeps old.world client (ap (λ (y : View). y.taken) received.is) stopped;
   replay = replay;
   recorded = sound;
   is = rested v w z old new received.is returned;

@@ -1,6 +1,6 @@
 -- Results, by what they are.
 use Rattle.std.proofs.Common.{Result, Ok, Err}
-use Rattle.std.specs.Prelude.{IfOk, OnErr}
+use Rattle.std.specs.Prelude.{IfOk, IfErr, OnErr}
 
 pub either : {T E A B : Type 0} {P : T → Type 0} (r : Result T E) → IfOk r P → ((x : T) → P x → A) → OnErr r B → (B → A) → A
 either (Ok x) ok good err bad = good x ok
@@ -21,3 +21,7 @@ err_map (Err e) err bad = bad err
 pub ok_all : {T E : Type 0} {P Q R S : T → Type 0} (r : Result T E) → IfOk r P → IfOk r Q → IfOk r R → ((x : T) → P x → Q x → R x → S x) → IfOk r S
 ok_all (Ok x) p q s good = good x p q s
 ok_all (Err e) p q s good = tt
+
+pub err_if : {T E : Type 0} {P Q : E → Type 0} (r : Result T E) → IfErr r P → ((e : E) → P e → Q e) → IfErr r Q
+err_if (Ok x) err bad = tt
+err_if (Err e) err bad = bad e err

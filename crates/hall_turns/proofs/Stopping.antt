@@ -11,11 +11,13 @@ use Rattle.world_steps.specs.Systems.{stop, system_after}
 use Rattle.world_steps.specs.declared.effect.Effect.{Effect}
 use Rattle.world_steps.specs.declared.refusal.Refusal.{Refusal}
 use Rattle.world_steps.specs.declared.refusal.Refusal.TheVariants as refusal
+use Rattle.world_steps.specs.declared.step.Step.{Step}
 use Rattle.world_steps.specs.declared.step.Step.TheVariants as step
 use Rattle.world_steps.specs.declared.system.System.{System}
 use Rattle.hall_journal.specs.Halls.{Hall, IsRefused, Takes}
 use Rattle.hall_turns.specs.declared.rule.View.{View}
-use Rattle.hall_turns.specs.Turns.{Receives, Turns, is_client_stopped, seat}
+use Rattle.hall_turns.specs.Turns.{KeepsStopped, Receives, Returns, StaysStopped, Turns, is_client_stopped, seat, view_at_rest}
+use Rattle.hall_turns.proofs.ClientTurns.{client_turn, seen}
 use Rattle.hall_turns.proofs.Joining.{there_now}
 use Rattle.hall_turns.proofs.Rows.{none_some}
 
@@ -54,3 +56,14 @@ only_stopped phase.Stopped is = refl
 -- a client that was seen stopped is stopped as the hall is taken
 pub found_stopped : (client : ℕ) (v w : View) (hall : Hall) → v ≡ seat client v.rows v.is_stopped → Receives v hall w → v.is_stopped ≡ true → HasStopped hall.world client
 found_stopped client v w hall is received stopped = subst (λ c. is_client_stopped c hall.world ≡ true) (ap (λ (y : View). y.client) is) (received.knows.stopped stopped)
+
+-- the client that a pass saw stopped is stopped as the hall is given back
+pub stays_stopped : (client : ℕ) (v w z : View) (old new : Hall) → v ≡ seat client v.rows v.is_stopped → Receives v old w → Returns w new z → KeepsStopped w new.world → StaysStopped (seen client v) (seen client z)
+stays_stopped client v w z old new is received returned keeps stopped =
+    ap (λ (y : View). y.is_stopped) (client_turn client v w z old new is received returned).is
+    ∙ keeps old.world client (ap (λ (y : View). y.taken) received.is) (found_stopped client v w old is received stopped)
+
+pub turn_stays : (client : ℕ) (v w : View) (step : Step) (result : Result Effect Refusal) → v ≡ seat client v.rows v.is_stopped → Turns v step result w → StaysStopped (seen client v) (seen client w)
+turn_stays client v w step result is turn stopped =
+    ap (λ (y : View). y.is_stopped) (turn.is ∙ ap (λ y. view_at_rest y turn.after.world) is)
+    ∙ turn.stays client (subst (λ c. is_client_stopped c turn.before.world ≡ true) (ap (λ (y : View). y.client) is) (turn.knows.stopped stopped))

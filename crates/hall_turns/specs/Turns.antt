@@ -1,5 +1,5 @@
 -- A hall that threads take in turns: it lies in a channel or is out with one pass, and each pass knows what it has seen.
-use Rattle.std.specs.Prelude.{ℕ, ◌≡◌, ◌≤◌, Bool, true, false, List, [], ◌∷◌, ◌++◌, Option, Some, None, Result, length}
+use Rattle.std.specs.Prelude.{ℕ, ◌≡◌, ◌≤◌, ◌<◌, Bool, true, false, List, [], ◌∷◌, ◌++◌, Option, Some, None, Result, Err, length}
 use Rattle.std.specs.FinMap as finite
 use mathlib.Core.Option.{some}
 use lib.ListN.{get_elem?}
@@ -11,6 +11,7 @@ use Rattle.client_phases.specs.Clients.{answer_of, counted_by, pending_of, phase
 use Rattle.client_phases.specs.declared.clients.Client.{Client}
 use Rattle.client_phases.specs.declared.outcomes.Phase.{Phase}
 use Rattle.quorum.specs.Sets.{Replicas}
+use Rattle.network.specs.Flights.{message_of}
 use Rattle.network.specs.declared.messages.Message.{Message}
 use Rattle.network.specs.declared.messages.Message.TheVariants.{ToReplica, ToClient}
 use Rattle.recorder.specs.Histories.{IsWellFormed, Recorded}
@@ -26,8 +27,11 @@ use Rattle.world_steps.specs.declared.effect.Effect.{Effect}
 use Rattle.world_steps.specs.declared.step.Step.{Step}
 use Rattle.world_steps.specs.declared.step.Step.TheVariants as step
 use Rattle.world_steps.specs.declared.refusal.Refusal.{Refusal}
+use Rattle.world_steps.specs.declared.refusal.Refusal.TheVariants as refusal
 use Rattle.world_steps.specs.declared.system.System.{System}
 use Rattle.hall_journal.specs.Halls.{Hall, IsReplay, Takes}
+use Rattle.hall_turns.specs.declared.client_pass.Delay.{Delay}
+use Rattle.hall_turns.specs.declared.client_pass.Delay.TheVariants.{Foreign, Refused}
 use Rattle.hall_turns.specs.declared.rule.View.{View}
 
 -- ---- what a pass knows
@@ -144,6 +148,11 @@ pub record MayReturn (v : View) (new : System) : Type 0 where
   pub taken : v.taken ≡ Some old
   pub adds : Adds v old new
 
+-- who was stopped in the world that the pass took is stopped in this one
+abbrev pub KeepsStopped : View → System → Type 0
+KeepsStopped v new = (old : System) (client : ℕ)
+    → v.taken ≡ Some old → HasStopped old client → HasStopped new client
+
 -- a client joins the world, no row comes, and who joined or is stopped stays so
 pub record Enters (old : System) (client : ℕ) (new : System) : Type 0 where
   pub fresh : HasJoined old client → ⊥
@@ -171,18 +180,29 @@ BecomesSeat v hall w = w ≡ seat_in (last_of hall.world.members.joined) hall.wo
 
 -- ---- turns
 
--- a step that a pass may take, whose client, if it has one, this is: one that names nobody else
+-- a step of this client: it invokes, sends, responds and stops as itself, and its thread loses or
+-- repeats a flight, as the gate says
+abbrev pub IsStepOfClient : ℕ → Step → Type 0
+IsStepOfClient client (step.Invoke name key action) = client ≡ name
+IsStepOfClient client (step.Send name replica) = client ≡ name
+IsStepOfClient client (step.Respond name) = client ≡ name
+IsStepOfClient client (step.StopClient name) = client ≡ name
+IsStepOfClient client (step.Lose flight) = Unit {0}
+IsStepOfClient client (step.Repeat flight) = Unit {0}
+IsStepOfClient client other = ⊥
+
+-- a step of no client: a replica stops or starts, or a flight is lost or repeated
+abbrev pub IsStepOfNoClient : Step → Type 0
+IsStepOfNoClient (step.StopReplica number) = Unit {0}
+IsStepOfNoClient (step.StartReplica number) = Unit {0}
+IsStepOfNoClient (step.Lose flight) = Unit {0}
+IsStepOfNoClient (step.Repeat flight) = Unit {0}
+IsStepOfNoClient other = ⊥
+
+-- a pass with a client takes steps of this client, one without takes steps of no client
 abbrev pub MayTake : Option ℕ → Step → Type 0
-MayTake client (step.Join name) = ⊥
-MayTake client (step.Invoke name key action) = client ≡ Some name
-MayTake client (step.Send name replica) = client ≡ Some name
-MayTake client (step.Deliver flight) = ⊥
-MayTake client (step.Lose flight) = Unit {0}
-MayTake client (step.Repeat flight) = Unit {0}
-MayTake client (step.Respond name) = client ≡ Some name
-MayTake client (step.StopClient name) = client ≡ Some name
-MayTake client (step.StopReplica number) = Unit {0}
-MayTake client (step.StartReplica number) = Unit {0}
+MayTake (Some client) step = IsStepOfClient client step
+MayTake None step = IsStepOfNoClient step
 
 -- the rows are the record of a world that steps reach, and each may follow those before it
 pub record AreRecorded (rows : List Row) : Type 0 where
@@ -198,6 +218,7 @@ pub record Turns (v : View) (step : Step) (result : Result Effect Refusal) (w : 
   pub after : Hall
   pub knows : Knows v before.world
   pub took : Takes before step result after
+  pub stays : (client : ℕ) → HasStopped before.world client → HasStopped after.world client
   pub replay : IsReplay after
   pub recorded : AreRecorded after.world.history.rows
   pub is : w ≡ view_at_rest v after.world
@@ -208,6 +229,27 @@ pub record Looks (v w : View) : Type 0 where
   pub knows : Knows v hall.world
   pub recorded : AreRecorded hall.world.history.rows
   pub is : w ≡ view_at_rest v hall.world
+
+-- ---- deliveries
+
+-- the message is a request to that replica
+abbrev pub IsToReplica : ℕ → Option Message → Type 0
+IsToReplica replica (Some (ToReplica number request)) = number ≡ replica
+IsToReplica replica other = ⊥
+
+-- the message is a reply to that client
+abbrev pub IsToClient : ℕ → Option Message → Type 0
+IsToClient client (Some (ToClient name reply)) = name ≡ client
+IsToClient client other = ⊥
+
+-- a flight's delivery to those that the message has to be for: if it is for them, the hall takes or
+-- refuses the step; if not, the answer is `NotInFlight`, and the hall stays as it was
+pub data Delivers (IsForThem : Option Message → Type 0) (old : Hall) (flight : ℕ)
+    (result : Result Effect Refusal) (new : Hall) : Type 0 where
+  Theirs : IsForThem (message_of old.world.pool.flights flight)
+      → Takes old (step.Deliver flight) result new → Delivers IsForThem old flight result new
+  Anothers : (IsForThem (message_of old.world.pool.flights flight) → ⊥)
+      → result ≡ Err refusal.NotInFlight → new ≡ old → Delivers IsForThem old flight result new
 
 -- ---- what contracts say of a client's pass
 
@@ -225,6 +267,23 @@ pub record TakesTurn (old : ClientView) (step : Step) (result : Result Effect Re
   pub others : OthersAdd old.client old.rows before.world.history.rows
   pub took : Takes before step result after
   pub is : new ≡ record { client = old.client; rows = after.world.history.rows; is_stopped = is_stopped (phase_at after.world old.client) }
+
+-- one turn, in which the flight was delivered to the client, or wasn't
+pub record TakesFlight (old : ClientView) (flight : ℕ) (result : Result Effect Refusal)
+    (new : ClientView) : Type 0 where
+  pub before : Hall
+  pub after : Hall
+  pub others : OthersAdd old.client old.rows before.world.history.rows
+  pub delivered : Delivers (IsToClient old.client) before flight result after
+  pub is : new ≡ record {
+    client = old.client;
+    rows = after.world.history.rows;
+    is_stopped = is_stopped (phase_at after.world old.client);
+  }
+
+-- once stopped, the client stays stopped
+abbrev pub StaysStopped : ClientView → ClientView → Type 0
+StaysStopped old new = old.is_stopped ≡ true → new.is_stopped ≡ true
 
 -- one turn, or several, in which rows of other clients came, and no others
 pub record AddsNoRow (old new : ClientView) : Type 0 where
@@ -262,6 +321,19 @@ pub record LooksAt (old : ClientView) (Told : System → Type 0) (new : ClientVi
   pub told : Told hall.world
   pub is : new ≡ record { client = old.client; rows = hall.world.history.rows; is_stopped = is_stopped (phase_at hall.world old.client) }
 
+-- why a hall doesn't begin a call: it has fewer rows than were seen, and stays as it was; or it has
+-- as many, and refuses the invocation
+abbrev pub HoldsBack : Hall → Step → ℕ → Delay → Hall → Type 0
+HoldsBack old step seen Foreign new = (length old.world.history.rows < seen) × (new ≡ old)
+HoldsBack old step seen (Refused why) new =
+    (seen ≤ length old.world.history.rows) × Takes old step (Err why) new
+
+-- one turn, in which a call didn't begin for that reason
+abbrev pub IsDelayed : ClientView → Step → ℕ → Delay → ClientView → Type 0
+IsDelayed old step seen Foreign new = LooksAt old (λ s. length s.history.rows < seen) new
+IsDelayed old step seen (Refused why) new =
+    (seen ≤ length new.rows) × TakesTurn old step (Err why) new
+
 -- a client that joined stands so in the world: in this phase, having counted those replicas in it
 abbrev pub StandsIn : ℕ → Phase → Replicas → System → Type 0
 StandsIn client phase counted s = (state : Client) → finite.get s.members.clients client ≡ Some state → (phase ≡ phase_of state) × (counted ≡ counted_by state)
@@ -280,6 +352,16 @@ pub record ServesStep (old : List Row) (step : Step) (result : Result Effect Ref
   pub took : Takes before step result after
   pub is : new ≡ after.world.history.rows
 
+-- one turn of a pass without a client, which had seen those rows: the flight was delivered to the
+-- replica, or wasn't
+pub record ServesFlight (old : List Row) (replica flight : ℕ) (result : Result Effect Refusal)
+    (new : List Row) : Type 0 where
+  pub before : Hall
+  pub after : Hall
+  pub grown : Grows old before.world.history.rows
+  pub delivered : Delivers (IsToReplica replica) before flight result after
+  pub is : new ≡ after.world.history.rows
+
 -- the history is a copy of a hall's, whose rows begin with those
 pub record IsCopied (seen : List Row) (history : Recorded) : Type 0 where
   pub hall : Hall
@@ -295,12 +377,6 @@ pub record IsTold (seen : List Row) (Told : System → Type 0) : Type 0 where
   pub sound : IsSound hall.world
   pub grown : Grows seen hall.world.history.rows
   pub told : Told hall.world
-
--- the message is for a replica
-abbrev pub IsToReplica : Option Message → Type 0
-IsToReplica (Some (ToReplica number request)) = Unit {0}
-IsToReplica (Some (ToClient name reply)) = ⊥
-IsToReplica None = ⊥
 
 -- the client is ready to answer that call so
 pub record IsReady (s : System) (client : ℕ) (op : OpId) (returned : Returned) : Type 0 where

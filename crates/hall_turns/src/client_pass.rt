@@ -1,14 +1,16 @@
 //! A client's way to a hall.
-ghost use Rattle.std.specs.Prelude.{◌≡◌, ◌≤◌, true, Ok, Err, Some, None, IfOk, IfSome, OnErr, IsTrue, length, ℕ};
+ghost use Rattle.std.specs.Prelude.{◌≡◌, ◌≤◌, ◌↔◌, true, Result, Ok, Err, Some, None, IfOk, IfErr, IfSome, OnErr, IsTrue, length, ℕ};
 ghost use Rattle.std.specs.Option.{option_copied};
 ghost use Rattle.network.specs.Flights.{message_of};
 ghost use Rattle.recorder.specs.declared.row.Row.TheVariants as row;
-ghost use Rattle.world_steps.specs.Lasting.{HasStopped, receiver};
+ghost use Rattle.world_steps.specs.Lasting.{HasStopped};
 ghost use Rattle.world_steps.specs.Refusals.{refusal_of};
+ghost use Rattle.world_steps.specs.declared.effect.Effect.{Effect};
 ghost use Rattle.world_steps.specs.declared.effect.Effect.TheVariants as effect;
+ghost use Rattle.world_steps.specs.declared.refusal.Refusal.{Refusal};
 ghost use Rattle.world_steps.specs.declared.step.Step.TheVariants as event;
 ghost use Rattle.hall_journal.specs.Halls.{Takes, with_step};
-ghost use Rattle.hall_turns.specs.Turns.{AddsRow, AreRecorded, IsQuiet, IsReady, AddsNoRow, LooksAt, MayTake, StandsIn, TakesReply, TakesTurn, seat};
+ghost use Rattle.hall_turns.specs.Turns.{AddsRow, AreRecorded, Delivers, HoldsBack, IsDelayed, IsQuiet, IsReady, IsToClient, AddsNoRow, LooksAt, MayTake, StandsIn, StaysStopped, TakesFlight, TakesReply, TakesTurn, seat};
 
 use crate::door::{Door, attest};
 use client_phases::{Phase, Taken};
@@ -116,6 +118,7 @@ impl ClientPass {
         requires quiet { IsQuiet step }
         ensures turned { TakesTurn self.old step result self.new }
         ensures looked { AddsNoRow self.old self.new }
+        ensures stays { StaysStopped self.old self.new }
         ensures recorded { AreRecorded self.new.rows }
     {
         self.door.take(rt, step)
@@ -123,6 +126,8 @@ impl ClientPass {
 
     /// One turn: the client stops for good, where it hasn't yet. Nothing refuses that for memory.
     pub fn stop(&mut self, rt: &impl Wait)
+        ensures turned { (result : Result Effect Refusal)
+            × TakesTurn self.old (event.StopClient self.old.client) result self.new }
         ensures looked { AddsNoRow self.old self.new }
         ensures stopped { self.new.is_stopped ≡ true }
         ensures recorded { AreRecorded self.new.rows }
@@ -139,6 +144,7 @@ impl ClientPass {
         ensures told { LooksAt self.old
             (StandsIn self.old.client result.phase result.counted) self.new }
         ensures stopped { self.old.is_stopped ≡ true → result.phase ≡ Phase.Stopped }
+        ensures stays { StaysStopped self.old self.new }
         ensures recorded { AreRecorded self.new.rows }
     {
         let hall = self.door.receive(rt);
@@ -160,7 +166,13 @@ impl ClientPass {
             (row.Invoke begun.op self.old.client key action) begun.place self.new) }
         ensures seen { IfOk result (λ begun. seen ≤ begun.place) }
         ensures few { IfOk result (λ begun. begun.place ≤ 9223372036854775807) }
+        ensures turned { IfOk result (λ begun.
+            TakesTurn self.old (event.Invoke self.old.client key action)
+            (Ok (effect.Invoked begun.op)) self.new) }
+        ensures why { IfErr result (λ delay. IsDelayed self.old
+            (event.Invoke self.old.client key action) seen delay self.new) }
         ensures delayed { OnErr result (AddsNoRow self.old self.new) }
+        ensures stays { StaysStopped self.old self.new }
         ensures recorded { AreRecorded self.new.rows }
     {
         laws::a_step_adds_a_row_of_its_client();
@@ -174,10 +186,15 @@ impl ClientPass {
         begun
     }
 
-    /// One turn: a reply comes to the client, where the flight is a reply to it.
+    /// One turn: a reply comes to the client, where the flight is a reply to it. `NotInFlight`, and
+    /// the hall as it was, where it is none.
     pub fn deliver(&mut self, rt: &impl Wait, flight: u32) -> Result<Taken, Refusal>
+        ensures delivered { IfOk result (λ taken.
+            TakesFlight self.old flight (Ok (effect.Taken taken)) self.new) }
+        ensures kept { IfErr result (λ why. TakesFlight self.old flight (Err why) self.new) }
         ensures took { TakesReply self.old self.new }
         ensures refused { OnErr result (AddsNoRow self.old self.new) }
+        ensures stays { StaysStopped self.old self.new }
         ensures recorded { AreRecorded self.new.rows }
     {
         laws::a_step_adds_a_row_of_its_client();
@@ -197,7 +214,13 @@ impl ClientPass {
         ensures few { IfOk result (λ ended. ended.place ≤ 9223372036854775807) }
         ensures ended { IfOk result (λ ended. AddsRow self.old
             (row.Respond ended.op ended.returned) ended.place self.new) }
+        ensures turned { IfOk result (λ ended.
+            TakesTurn self.old (event.Respond self.old.client)
+            (Ok (effect.Responded ended.op)) self.new) }
+        ensures why { IfErr result (λ why.
+            TakesTurn self.old (event.Respond self.old.client) (Err why) self.new) }
         ensures refused { OnErr result (AddsNoRow self.old self.new) }
+        ensures stays { StaysStopped self.old self.new }
         ensures recorded { AreRecorded self.new.rows }
     {
         laws::a_step_adds_a_row_of_its_client();
@@ -225,6 +248,8 @@ fn begin_in(
     ensures place { IfOk result (λ begun.
         (length hall.old.world.history.rows ≡ begun.place) × (seen ≤ begun.place)) }
     ensures few { IfOk result (λ begun. begun.place ≤ 9223372036854775807) }
+    ensures why { IfErr result (λ delay.
+        HoldsBack hall.old (event.Invoke client key action) seen delay hall.new) }
     ensures delayed { OnErr result (hall.new ≡ hall.old) }
 {
     let place = hall.world().history().rows().len();
@@ -246,8 +271,10 @@ fn begin_in(
 fn deliver_in(hall: &mut Hall, client: ClientId, flight: u32) -> Result<Taken, Refusal>
     ensures took { IfOk result (λ taken.
         Takes hall.old (event.Deliver flight) (Ok (effect.Taken taken)) hall.new
-        × (receiver (message_of hall.old.world.pool.flights flight) ≡ Some client)) }
+        × IsToClient client (message_of hall.old.world.pool.flights flight)) }
     ensures refused { OnErr result (hall.new ≡ hall.old) }
+    ensures why { IfErr result (λ why.
+        Delivers (IsToClient client) hall.old flight (Err why) hall.new) }
 {
     if !is_for(hall.world().pool().look(flight), client) {
         return Err(Refusal::NotInFlight);
@@ -261,7 +288,7 @@ fn deliver_in(hall: &mut Hall, client: ClientId, flight: u32) -> Result<Taken, R
 
 /// Whether the message is for the client.
 fn is_for(message: Option<&Message>, client: ClientId) -> bool
-    ensures { IsTrue result → receiver (option_copied message.entry) ≡ Some client }
+    ensures { IsTrue result ↔ IsToClient client (option_copied message.entry) }
 {
     match message {
         Some(Message::ToClient(name, _)) => *name == client,
@@ -273,16 +300,19 @@ fn is_for(message: Option<&Message>, client: ClientId) -> bool
 fn respond_in(hall: &mut Hall, client: ClientId) -> Result<Ended, Refusal>
     ensures ended { IfOk result (λ ended. (refusal_of hall.old.world (event.Respond client) ≡ None)
         × (hall.new ≡ with_step hall.old (event.Respond client))) }
+    ensures why { IfErr result (λ why.
+        Takes hall.old (event.Respond client) (Err why) hall.new) }
     ensures answer { IfOk result (λ ended. IsReady hall.old.world client ended.op ended.returned) }
     ensures place { IfOk result (λ ended. length hall.old.world.history.rows ≡ ended.place) }
     ensures copy { IfOk result (λ ended. ended.copy ≡ ended.returned) }
     ensures few { IfOk result (λ ended. ended.place ≤ 9223372036854775807) }
     ensures refused { OnErr result (hall.new ≡ hall.old) }
 {
+    if let Some(refusal) = hall.world().refusal(&Step::Respond { client }) {
+        return Err(refusal);
+    }
     let place = hall.world().history().rows().len();
-    let Some((op, returned)) = answer_in(hall.world(), client)? else {
-        return Err(Refusal::NotReady);
-    };
+    let (op, returned) = answer_in(hall.world(), client)?;
     let copy = returned.copy()?;
     match hall.take(Step::Respond { client }) {
         Ok(_) => Ok(Ended {
@@ -295,17 +325,17 @@ fn respond_in(hall: &mut Hall, client: ClientId) -> Result<Ended, Refusal>
     }
 }
 
-/// The number of the client's call and a copy of its answer, where it is ready.
-fn answer_in(world: &World, client: ClientId) -> Result<Option<(OpId, Returned)>, Memory>
-    ensures { IfOk result (λ found.
-        IfSome found (λ answer. IsReady world.now client answer.0 answer.1)) }
+/// The number of the client's call and a copy of its answer: the client is ready.
+fn answer_in(world: &World, client: ClientId) -> Result<(OpId, Returned), Memory>
+    requires ready { refusal_of world.now (event.Respond client) ≡ None }
+    ensures { IfOk result (λ answer. IsReady world.now client answer.0 answer.1) }
 {
     let Some(state) = world.client(client) else {
-        return Ok(None);
+        unreachable!()
     };
     match (state.pending(), state.answer()?) {
-        (Some(op), Some(returned)) => Ok(Some((op, returned))),
-        _ => Ok(None),
+        (Some(op), Some(returned)) => Ok((op, returned)),
+        _ => unreachable!(),
     }
 }
 

@@ -1,6 +1,6 @@
 //! The way to a hall: the ends of its channel, and a pass of the rule.
 ghost use Rattle.std.specs.Prelude.{◌≡◌, None, IfOk, IfSome, IsNone};
-ghost use Rattle.hall_turns.specs.Turns.{HasEntered, IsAtRest, MayReturn, MayTake, Receives, Returns, Turns, guest, maker, seat_in};
+ghost use Rattle.hall_turns.specs.Turns.{HasEntered, IsAtRest, KeepsStopped, MayReturn, MayTake, Receives, Returns, Turns, guest, maker, seat_in};
 ghost use Rattle.recorder.specs.Histories.{IsWellFormed};
 ghost use Rattle.hall_journal.specs.Halls.{IsReplay};
 ghost use Rattle.world_steps.specs.SoundSystems.{IsSound};
@@ -143,7 +143,8 @@ impl Door {
     /// Gives the hall back.
     pub(crate) fn give_back(&mut self, rt: &impl Wait, hall: Hall)
         requires { MayReturn self.old hall.world }
-        ensures { Returns self.old hall self.new }
+        ensures back { Returns self.old hall self.new }
+        ensures stays { KeepsStopped self.old hall.world }
     {
         let mut back = hall;
         for _ in rt.forever() {

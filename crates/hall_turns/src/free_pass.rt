@@ -1,5 +1,5 @@
 //! A way to a hall without a client.
-ghost use Rattle.std.specs.Prelude.{◌≡◌, false, Ok, None, Some, IfOk, OnOk, OnErr, IsTrue, [], ℕ};
+ghost use Rattle.std.specs.Prelude.{◌≡◌, ◌↔◌, false, Ok, Err, None, Some, IfOk, IfErr, OnOk, OnErr, IsTrue, [], ℕ};
 ghost use Rattle.std.specs.Fn.{FnOnceReturnsAt};
 ghost use Rattle.std.specs.Option.{option_copied};
 ghost use Rattle.network.specs.Flights.{message_of};
@@ -10,7 +10,7 @@ ghost use Rattle.world_steps.specs.SoundSystems.{IsSound};
 ghost use Rattle.world_steps.specs.declared.effect.Effect.TheVariants as effect;
 ghost use Rattle.world_steps.specs.declared.step.Step.TheVariants as event;
 ghost use Rattle.hall_journal.specs.Halls.{IsReplay, Takes};
-ghost use Rattle.hall_turns.specs.Turns.{AreRecorded, Enters, HasNoCall, IsCopied, IsToReplica, IsTold, MayTake, ServesStep};
+ghost use Rattle.hall_turns.specs.Turns.{AreRecorded, Delivers, Enters, HasNoCall, IsCopied, IsToReplica, IsTold, MayTake, ServesFlight, ServesStep};
 
 use crate::client_pass::ClientPass;
 use crate::door::{Door, attest};
@@ -71,8 +71,8 @@ impl FreePass {
         self.door.take(rt, step)
     }
 
-    /// One turn: a request comes to the replica, where the flight is a request to it. The number of the
-    /// flight that carries the reply.
+    /// One turn: a request comes to the replica, where the flight is a request to it. The number of
+    /// the flight that carries the reply. `NotInFlight`, and the hall as it was, where it is none.
     pub fn deliver(
         &mut self,
         rt: &impl Wait,
@@ -80,8 +80,9 @@ impl FreePass {
         flight: u32,
     ) -> Result<u32, Refusal>
         ensures served { IfOk result (λ reply.
-            ServesStep self.old (event.Deliver flight) (Ok (effect.Answered reply)) self.new) }
-        ensures refused { OnErr result (Grows self.old self.new) }
+            ServesFlight self.old replica flight (Ok (effect.Answered reply)) self.new) }
+        ensures refused { IfErr result (λ why.
+            ServesFlight self.old replica flight (Err why) self.new) }
     {
         laws::a_step_adds_a_row_of_its_client();
         laws::further_steps_take_nothing_away();
@@ -157,8 +158,10 @@ impl FreePass {
 fn serve_in(hall: &mut Hall, replica: ReplicaId, flight: u32) -> Result<u32, Refusal>
     ensures served { IfOk result (λ reply.
         Takes hall.old (event.Deliver flight) (Ok (effect.Answered reply)) hall.new
-        × IsToReplica (message_of hall.old.world.pool.flights flight)) }
+        × IsToReplica replica (message_of hall.old.world.pool.flights flight)) }
     ensures refused { OnErr result (hall.new ≡ hall.old) }
+    ensures why { IfErr result (λ why.
+        Delivers (IsToReplica replica) hall.old flight (Err why) hall.new) }
 {
     if !is_to(hall.world().pool().look(flight), replica) {
         return Err(Refusal::NotInFlight);
@@ -172,7 +175,7 @@ fn serve_in(hall: &mut Hall, replica: ReplicaId, flight: u32) -> Result<u32, Ref
 
 /// Whether the message is for the replica.
 fn is_to(message: Option<&Message>, replica: ReplicaId) -> bool
-    ensures { IsTrue result → IsToReplica (option_copied message.entry) }
+    ensures { IsTrue result ↔ IsToReplica replica (option_copied message.entry) }
 {
     match message {
         Some(Message::ToReplica(number, _)) => *number == replica,

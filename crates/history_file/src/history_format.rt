@@ -1,4 +1,5 @@
 //! The format of history files.
+ghost use Rattle.std.specs.Prelude.{◌≡◌, []};
 ghost use Rattle.file_format.specs.HistoryFormat.{history_format, MakesHistory};
 
 use crate::format::Contents;
@@ -7,10 +8,46 @@ use crate::side_by_side::judge_chunks;
 use file_format::{LineRow, MOST_CALLS, Stop, ToolSets, follow, judge_header};
 use recorder::History;
 use std::alloc::Global;
+use std::marker::Model;
 use std::thread::Threads;
 use tag::Memory;
 
-impl Contents for History {
+/// The history that the rows so far are. It may have as many calls as a file.
+#[derive(Drop)]
+pub struct FileHistory {
+    history: History,
+}
+
+impl Model for FileHistory {
+    ghost use Rattle.std.specs.Prelude.{◌≡◌};
+    ghost use Rattle.recorder.specs.Histories.{Recorded};
+
+    ghost Value = { Recorded };
+
+    ghost view = { λ file. file.history };
+
+    ghost invariant = { λ file. file.history.limit ≡ 1000000 };
+}
+
+impl FileHistory {
+    /// No row yet.
+    fn new(alloc: Global) -> FileHistory
+        ensures { result ≡ record { rows = []; limit = 1000000 } }
+    {
+        FileHistory {
+            history: History::new(alloc, MOST_CALLS),
+        }
+    }
+
+    /// The history.
+    pub(crate) fn into_history(self) -> History
+        ensures { result ≡ self }
+    {
+        self.history
+    }
+}
+
+impl Contents for FileHistory {
     type Header = ();
 
     type Item = LineRow;
@@ -19,13 +56,13 @@ impl Contents for History {
 
     ghost Makes = { MakesHistory };
 
-    fn opening(alloc: Global) -> History {
-        History::new(alloc, MOST_CALLS)
+    fn opening(alloc: Global) -> FileHistory {
+        FileHistory::new(alloc)
     }
 
-    fn begin(alloc: Global, line: &[u8]) -> Result<History, Stop> {
+    fn begin(alloc: Global, line: &[u8]) -> Result<FileHistory, Stop> {
         judge_header(alloc, "history", line)?;
-        Ok(History::new(alloc, MOST_CALLS))
+        Ok(FileHistory::new(alloc))
     }
 
     fn header(&self) {}
@@ -41,6 +78,6 @@ impl Contents for History {
     }
 
     fn follow(&mut self, row: LineRow) -> Result<(), Stop> {
-        follow(self, row)
+        follow(&mut self.history, row)
     }
 }

@@ -1,5 +1,5 @@
 //! Files from readers.
-ghost use Rattle.std.specs.Prelude.{ℕ, ◌≡◌, ◌<◌, ◌≤◌, List, Option, length, true, false, IfOk, IfErr, MatchResult};
+ghost use Rattle.std.specs.Prelude.{ℕ, ◌≡◌, ◌<◌, ◌≤◌, List, Option, length, true, false, IfOk, IfErr, OnOk, MatchResult};
 ghost use Rattle.std.specs.Io.KnownBytes.{IsAtEnd};
 ghost use Rattle.counted_devices.specs.ReadFaults.{FailsFrom};
 ghost use Rattle.history_file.specs.Deliveries.{GoesOn, HoldsAhead, HoldsAll, ReadsFrom, StopsFrom};
@@ -12,6 +12,8 @@ use crate::batches::{BLOCK, Behind, read_batch};
 use crate::feed::Feed;
 use crate::format::Contents;
 use crate::histories_feed::finish_histories;
+use crate::history_feed::finish_history;
+use crate::history_format::FileHistory;
 use crate::order_feed::finish_orders;
 use crate::order_format::Orders;
 use counted_devices::CountedRead;
@@ -51,7 +53,7 @@ fn read_next<C: Contents, R: CountedRead, T: Threads + Sync>(
     ensures fed { IfOk result (λ next. next.0.fed ≤ R.given reader.new) }
     ensures end { IfOk result (λ next. next.1 ≡ false → IsAtEnd (R.remaining reader.new)) }
     ensures more { IfOk result (λ next. next.1 ≡ true → R.given reader.old < R.given reader.new) }
-    ensures counted { IfOk result (λ _. R.failures reader.new ≡ R.failures reader.old) }
+    ensures counted { OnOk result (R.failures reader.new ≡ R.failures reader.old) }
 {
     let batch = read_batch(reader, room);
     let next = ahead.advance(rt, tools, &room[..batch.count])?;
@@ -78,6 +80,7 @@ fn feed_in_blocks<C: Contents, R: CountedRead, T: Threads + Sync>(
 ) -> Result<Feed<C>, FileFault>
     requires { 0 < length room.old }
     ensures holds { IfOk result (HoldsAll C.format C.Makes R.remaining reader.old reader.new) }
+    ensures counted { OnOk result (R.failures reader.new ≡ R.failures reader.old) }
     ensures fault { IfErr result (λ fault.
         StopsFrom C.format R.remaining reader.old reader.new fault
         × FailsFrom R.failures reader.old reader.new fault) }
@@ -100,6 +103,7 @@ fn feed_all<C: Contents, R: CountedRead>(
     reader: &mut R,
 ) -> Result<Feed<C>, FileFault>
     ensures holds { IfOk result (HoldsAll C.format C.Makes R.remaining reader.old reader.new) }
+    ensures counted { OnOk result (R.failures reader.new ≡ R.failures reader.old) }
     ensures fault { IfErr result (StopsFrom C.format R.remaining reader.old reader.new) }
     ensures device { IfErr result (FailsFrom R.failures reader.old reader.new) }
 {
@@ -125,12 +129,13 @@ pub fn read_history<R: CountedRead>(
 ) -> Result<History, FileFault>
     ensures read { IfOk result
         (ReadsFrom history_format MakesHistory R.remaining reader.old reader.new) }
+    ensures counted { OnOk result (R.failures reader.new ≡ R.failures reader.old) }
     ensures fault { IfErr result (StopsFrom history_format R.remaining reader.old reader.new) }
     ensures device { IfErr result (FailsFrom R.failures reader.old reader.new) }
 {
     let tools = ToolSets::new();
-    let feed = feed_all::<History, R>(rt, alloc, &tools, reader)?;
-    feed.finish(rt, &tools)
+    let feed = feed_all::<FileHistory, R>(rt, alloc, &tools, reader)?;
+    finish_history(rt, &tools, feed)
 }
 
 /// The histories by hall that the reader's bytes are, all of them up to its end: of version 2, or
@@ -144,6 +149,7 @@ pub fn read_histories<R: CountedRead>(
 ) -> Result<Histories, FileFault>
     ensures read { IfOk result
         (ReadsFrom histories_format MakesHistories R.remaining reader.old reader.new) }
+    ensures counted { OnOk result (R.failures reader.new ≡ R.failures reader.old) }
     ensures fault { IfErr result (StopsFrom histories_format R.remaining reader.old reader.new) }
     ensures device { IfErr result (FailsFrom R.failures reader.old reader.new) }
 {
@@ -163,6 +169,7 @@ pub fn read_orders<R: CountedRead>(
 ) -> Result<Vec<KeyOrder>, FileFault>
     ensures read { IfOk result (λ orders.
         ReadsFrom order_format MakesJoined R.remaining reader.old reader.new orders.items) }
+    ensures counted { OnOk result (R.failures reader.new ≡ R.failures reader.old) }
     ensures fault { IfErr result (StopsFrom order_format R.remaining reader.old reader.new) }
     ensures device { IfErr result (FailsFrom R.failures reader.old reader.new) }
 {

@@ -1,4 +1,7 @@
 //! Why the network refuses.
+ghost use Rattle.std.specs.Prelude.{◌≡◌};
+ghost use Rattle.network.specs.Numbers.{net_refusal_number};
+
 use tag::Memory;
 use thiserror::Error;
 
@@ -14,6 +17,15 @@ pub enum NetRefusal {
     FlightsFull = 13,
     #[error("no memory")]
     Memory = 15,
+}
+
+impl NetRefusal {
+    /// Its number in the table of refusals: 7, 11, 13 or 15.
+    pub fn number(self) -> u8
+        ensures { result ≡ net_refusal_number self }
+    {
+        self as u8
+    }
 }
 
 impl From<Memory> for NetRefusal {

@@ -1,5 +1,5 @@
 -- What stands after a call that has no answer.
-use Rattle.std.proofs.Common.{◌≡◌, ℕ, Result, Ok, Err, List, [], refl, sym, subst, inl, inr, append-nil}
+use Rattle.std.proofs.Common.{ℕ, Result, Ok, Err, List, [], refl, sym, subst, inl, inr, append-nil}
 use Rattle.std.specs.Prelude.{IfErr, OnErr}
 use Rattle.tag.specs.declared.actions.Action.{Action}
 use Rattle.hall_turns.specs.Turns.{ClientView}

@@ -12,8 +12,8 @@ start_error_number start.Memory = 1
 start_error_number start.Thread = 2
 
 abbrev pub join_error_number : JoinError → ℕ
-join_error_number (join.ClientTaken stopped) = 1
-join_error_number (join.Memory stopped) = 2
+join_error_number join.ClientTaken = 1
+join_error_number join.Memory = 2
 
 abbrev pub close_error_number : CloseError → ℕ
 close_error_number close.SeatMismatch = 1

@@ -1,8 +1,8 @@
 //! What a closed store leaves: the records of its halls, and the orders that show them atomic.
-ghost use Rattle.std.specs.Prelude.{◌≡◌, length, IfOk, IsTrue};
-ghost use Rattle.node_threads.specs.Closings.{AreClosed, AreOfStore, HasLogs, HaveLogs, IsClosed};
+ghost use Rattle.std.specs.Prelude.{◌≡◌, false, true, length, IfOk, IsTrue};
+ghost use Rattle.node_threads.specs.Closings.{AreClosed, AreOfStore, HasLogs, HaveLogs, IsClosed, IsOfAnotherStore, IsOfStore};
 
-use crate::errors::CloseError;
+use crate::config::StoreConfig;
 use crossbeam_channel::{Receiver, Sender};
 use hall_journal::Hall;
 use hall_turns::FreePass;
@@ -43,12 +43,24 @@ pub(crate) fn end_replicas<R: Wait>(rt: &R, ways: Vec<Sender<Parcel>>, ends: &Re
     }
 }
 
-/// Whether the seats are of the store of that number, which has so many halls.
-pub(crate) fn are_of_store(number: u64, halls: usize, seats: &[Seat]) -> bool
-    ensures { IsTrue result → AreOfStore number halls seats.now (length seats.now) }
+/// Whether the seat is of the store that is so configured, and of as many halls.
+pub(crate) fn is_of_store(config: &StoreConfig, seat: &Seat) -> bool
+    ensures own { IsTrue result → IsOfStore config.now seat.now }
+    ensures known { IsOfStore config.now seat.now → result ≡ true }
+    ensures other { IsOfAnotherStore config.now seat.now → result ≡ false }
+{
+    if seat.store() != config.store {
+        return false;
+    }
+    seat.halls() == usize::from(config.halls.count())
+}
+
+/// Whether the seats are of the store that is so configured.
+pub(crate) fn are_of_store(config: &StoreConfig, seats: &[Seat]) -> bool
+    ensures { IsTrue result → AreOfStore config.now seats.now (length seats.now) }
 {
     for seat in seats {
-        if seat.store() != number || seat.halls() != halls {
+        if !is_of_store(config, seat) {
             return false;
         }
     }

@@ -1,12 +1,11 @@
 //! Why a store isn't started or joined, or leaves nothing.
 ghost use Rattle.std.specs.Prelude.{◌≡◌};
-ghost use Rattle.node_threads.specs.Joins.{refusing_hall};
 ghost use Rattle.node_threads.specs.Numbers.{close_error_name, close_error_number, join_error_number, start_error_number};
 
-use hall_turns::ClientPass;
 use std::alloc::{AllocError, AllocFailed};
 use tag::Memory;
 use thiserror::Error;
+use world_steps::Refusal;
 
 /// Why a store couldn't be started.
 #[derive(Clone, Copy, Debug, PartialEq, Eq, Error)]
@@ -19,16 +18,15 @@ pub enum StartError {
     Thread,
 }
 
-/// Why a client has no seat, with the ways to the halls below the one that refused it, hall 0 first. The
-/// client is stopped in each of these.
-#[derive(Debug, Drop, Error)]
+/// Why a client has no seat.
+#[derive(Clone, Copy, Debug, PartialEq, Eq, Error)]
 pub enum JoinError {
     /// The name joined before, in some hall.
     #[error("client taken")]
-    ClientTaken(Vec<ClientPass>),
+    ClientTaken,
     /// A growth was refused.
     #[error("memory")]
-    Memory(Vec<ClientPass>),
+    Memory,
 }
 
 /// Why a closed store leaves nothing.
@@ -56,22 +54,12 @@ impl StartError {
 
 impl JoinError {
     /// Its number in the order of the reasons, 1 or 2.
-    pub fn number(&self) -> u8
-        ensures { result ≡ join_error_number self.now }
+    pub fn number(self) -> u8
+        ensures { result ≡ join_error_number self }
     {
         match self {
-            JoinError::ClientTaken(_) => 1,
-            JoinError::Memory(_) => 2,
-        }
-    }
-
-    /// The hall that refused. In those below it the client is stopped.
-    pub fn hall(&self) -> usize
-        ensures { result ≡ refusing_hall self.now }
-    {
-        match self {
-            JoinError::ClientTaken(stopped) => stopped.len(),
-            JoinError::Memory(stopped) => stopped.len(),
+            JoinError::ClientTaken => 1,
+            JoinError::Memory => 2,
         }
     }
 }
@@ -94,6 +82,33 @@ impl CloseError {
         match self {
             CloseError::SeatMismatch => "SeatMismatch",
             CloseError::Memory => "Memory",
+        }
+    }
+}
+
+impl From<AllocError> for JoinError {
+    fn from(_: AllocError) -> JoinError {
+        JoinError::Memory
+    }
+}
+
+impl From<Memory> for JoinError {
+    fn from(_: Memory) -> JoinError {
+        JoinError::Memory
+    }
+}
+
+impl<T: Drop> From<AllocFailed<T>> for JoinError {
+    fn from(_: AllocFailed<T>) -> JoinError {
+        JoinError::Memory
+    }
+}
+
+impl From<Refusal> for JoinError {
+    fn from(refusal: Refusal) -> JoinError {
+        match refusal {
+            Refusal::Memory => JoinError::Memory,
+            _ => JoinError::ClientTaken,
         }
     }
 }

@@ -10,6 +10,7 @@ mod closing;
 mod config;
 mod errors;
 mod join;
+mod replica_turns;
 mod snapshot;
 mod store;
 
@@ -17,5 +18,5 @@ pub use closing::{Closed, ClosedHall};
 pub use config::StoreConfig;
 pub use errors::{CloseError, JoinError, StartError};
 pub use hall_turns::ClientPass;
-pub use seat_calls::{Answer, CallError, Entry, Gate, OpenGate, Passage, Place, Receipt, Seat};
+pub use seat_calls::{Answer, CallError, Entry, Gate, OpenGate, Pass, Place, Receipt, Seat};
 pub use store::Store;

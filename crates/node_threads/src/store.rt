@@ -1,21 +1,24 @@
 //! A running store: its halls, and a thread for each replica.
-ghost use Rattle.std.specs.Prelude.{ℕ, ◌≡◌, ◌≢◌, ◌≤◌, ◌+◌, ◌↔◌, Err, true, false, [], length, IfErr, IfOk, IfSome, IsNone, OnErr, OnOk};
+ghost use Rattle.std.specs.Prelude.{ℕ, ◌≡◌, ◌<◌, ◌≤◌, ◌+◌, ◌⊎◌, ◌↔◌, Err, true, false, [], length, IfErr, IfOk, IfSome, IsNone, OnErr, OnOk};
 ghost use Rattle.recorder.specs.Halls.{hall_of};
 ghost use Rattle.std.specs.Fn.{FnOnceReturnsAt};
 ghost use Rattle.hall_turns.specs.Turns.{IsTold};
-ghost use Rattle.seat_calls.specs.Answers.{FailsWith, HasFailed, IsAnswered};
-ghost use Rattle.node_threads.specs.Closings.{Closes, HasForeign};
-ghost use Rattle.node_threads.specs.Joins.{IsNewSeat, IsStoppedBelow};
+ghost use Rattle.seat_calls.specs.Answers.{FailsWith, HasFailed, HasReason, IsAnswered, SeesFewer};
+ghost use Rattle.node_threads.specs.Closings.{Closes, HasForeign, IsOfAnotherStore, IsOfStore};
+ghost use Rattle.node_threads.specs.Joins.{IsNewSeat};
 ghost use Rattle.node_threads.specs.Snapshots.{Shows};
+ghost use Rattle.node_threads.specs.Stores.{replica_count};
 
-use crate::closing::{Closed, are_logged, are_of_store, closed_halls, end_replicas};
+use crate::closing::{Closed, are_logged, are_of_store, closed_halls, end_replicas, is_of_store};
 use crate::config::StoreConfig;
 use crate::errors::{CloseError, JoinError, StartError};
-use crate::join::{join_halls, none_seen, stop_all};
+use crate::join::{enter_halls, none_seen};
+use crate::replica_turns::{Turned, turn_replica};
 use crate::snapshot::snapshot_of;
 use crossbeam_channel::{Receiver, Sender, bounded, unbounded};
 use hall_turns::FreePass;
 use recorder::{Halls, History};
+use seat_calls::seating::{call_on, new_seat};
 use seat_calls::{Answer, CallError, Errand, Gate, Parcel, Seat, serve};
 use std::alloc::Global;
 use std::marker::Model;
@@ -23,15 +26,13 @@ use std::sync::{Arc, Mutex, Wait};
 use std::thread;
 use std::thread::Threads;
 use tag::{Action, ClientId, Key, ReplicaId};
-use world_steps::{Config, Refusal, Step, World};
+use world_steps::{Config, Refusal, World};
 
 /// A running store. Each replica is served by a thread of its own, in all halls; they end when the store
 /// is let go.
 #[derive(Drop)]
 pub struct Store<G> {
-    number: u64,
-    halls: Halls,
-    rounds: u16,
+    config: StoreConfig,
     gate: Arc<G, Global>,
     roots: Vec<Mutex<FreePass>>,
     ways: Vec<Sender<Parcel>>,
@@ -41,13 +42,13 @@ pub struct Store<G> {
 impl<G> Model for Store<G> {
     ghost use Rattle.node_threads.specs.Stores.{Store};
 
-    ghost Value = { Store };
+    ghost Value = { Store G };
 
     ghost use Rattle.std.specs.Prelude.{◌≡◌, length};
 
-    ghost view = { λ s. record { number = s.number; halls = s.halls; rounds = s.rounds } };
+    ghost view = { λ s. record { config = s.config; gate = s.gate.value } };
 
-    ghost invariant = { λ s. length s.roots.items ≡ s.halls };
+    ghost invariant = { λ s. length s.roots.items ≡ s.config.halls };
 }
 
 impl<G: Gate + Send + Sync + Drop + 'static> Store<G> {
@@ -62,8 +63,7 @@ impl<G: Gate + Send + Sync + Drop + 'static> Store<G> {
     where
         R: Threads + Wait + Copy + Send + 'static,
         requires { (1 ≤ config.rounds) × (config.rounds ≤ 10000) }
-        ensures { IfOk result (λ store. store
-            ≡ record { number = config.store; halls = config.halls; rounds = config.rounds }) }
+        ensures { IfOk result (λ store. store ≡ record { config = config; gate = gate }) }
     {
         let gate = Arc::new(alloc, gate).map_err(|_| StartError::Memory)?;
         let roots = open_halls(rt, alloc, config.halls, config.world)?;
@@ -71,9 +71,7 @@ impl<G: Gate + Send + Sync + Drop + 'static> Store<G> {
         let (ended, ends) = bounded(alloc, replicas).map_err(|_| StartError::Memory)?;
         let ways = start_replicas(rt, alloc, &config, &roots, &gate, &ended)?;
         Ok(Store {
-            number: config.store,
-            halls: config.halls,
-            rounds: config.rounds,
+            config,
             gate,
             roots,
             ways,
@@ -168,18 +166,12 @@ impl<G: Gate> Store<G> {
     /// A seat for a new client, in all halls, which it joins one after another. After an error the client
     /// is stopped in the halls below the one that refused, and its name is spent there.
     pub fn join<R: Wait>(&self, rt: &R, alloc: Global, client: ClientId) -> Result<Seat, JoinError>
-        ensures seated { IfOk result (IsNewSeat self.now client) }
-        ensures stopped { IfErr result (λ error. IsStoppedBelow self.now client error) }
+        ensures { IfOk result (IsNewSeat self.now.config client) }
     {
+        let seen = none_seen(alloc, usize::from(self.config.halls.count()))?;
         let mut passes = Vec::new(alloc);
-        let Ok(seen) = none_seen(alloc, usize::from(self.halls.count())) else {
-            return Err(JoinError::Memory(passes));
-        };
-        if let Err(refusal) = join_halls(rt, &self.roots, client, &mut passes) {
-            stop_all(rt, client, &mut passes);
-            return Err(refusal.leaving(passes));
-        }
-        Ok(Seat::new(alloc, self.number, client, passes, seen))
+        enter_halls(rt, &self.roots, client, &mut passes)?;
+        Ok(new_seat(alloc, self.config.store, client, passes, seen))
     }
 
     /// Makes a call of the seat's client.
@@ -195,32 +187,38 @@ impl<G: Gate> Store<G> {
         action: Action,
     ) -> Result<Answer, CallError>
         ensures answered { IfOk result (λ answer.
-            IsAnswered seat.old (hall_of self.now.halls key) key action answer seat.new) }
+            IsAnswered seat.old (hall_of self.now.config.halls key) key action answer seat.new) }
         ensures failed { IfErr result (λ error.
-            FailsWith error seat.old (hall_of self.now.halls key) key action seat.new) }
+            FailsWith error seat.old (hall_of self.now.config.halls key) key action seat.new) }
         ensures left { OnErr result
-            (HasFailed seat.old (hall_of self.now.halls key) key action seat.new) }
+            (HasFailed seat.old (hall_of self.now.config.halls key) key action seat.new) }
         ensures spent { seat.old.is_spent ≡ true
             → (result ≡ Err CallError.SeatSpent) × (seat.new ≡ seat.old) }
-        ensures foreign { seat.old.is_spent ≡ false → seat.old.store ≢ self.now.number
+        ensures foreign { seat.old.is_spent ≡ false → IsOfAnotherStore self.now.config seat.old
             → (result ≡ Err CallError.Foreign) × (seat.new ≡ seat.old) }
-        ensures own { OnOk result (seat.old.store ≡ self.now.number) }
+        ensures own { OnOk result (IsOfStore self.now.config seat.old) }
+        ensures reason { seat.old.is_spent ≡ false → IsOfStore self.now.config seat.old
+            → IfErr result (λ error.
+            HasReason error seat.old (hall_of self.now.config.halls key) key action seat.new) }
+        ensures stale { seat.old.is_spent ≡ false
+            → SeesFewer seat.old (hall_of self.now.config.halls key) seat.new
+            → (result ≡ Err CallError.Foreign) ⊎ (result ≡ Err CallError.Memory) }
     {
         if seat.is_spent() {
             return Err(CallError::SeatSpent);
         }
-        if seat.store() != self.number || seat.halls() != usize::from(self.halls.count()) {
+        if !is_of_store(&self.config, seat) {
             return Err(CallError::Foreign);
         }
-        let hall = self.halls.of(&key);
+        let hall = self.config.halls.of(&key);
         let mut errand = Errand::new(alloc, &*self.gate, self.ways.as_slice(), hall)?;
-        seat.call(rt, &mut errand, key, action, self.rounds)
+        call_on(seat, rt, &mut errand, key, action, self.config.rounds)
     }
 
     /// A copy of a hall's record, in which the seat's calls of that hall are its client's. `None` comes
-    /// exactly for a hall that the store lacks. `Foreign` comes where the seat is another store's, or
-    /// where the record has fewer rows than the seat has seen, or other calls of its client than its log
-    /// has. A spent seat serves too.
+    /// exactly for a hall that the store lacks. `Foreign` comes where the seat is of another store, or of
+    /// another count of halls, or where the record has fewer rows than the seat has seen, or other calls of
+    /// its client than its log has. A spent seat serves too.
     pub fn snapshot<R: Wait>(
         &self,
         rt: &R,
@@ -228,13 +226,15 @@ impl<G: Gate> Store<G> {
         seat: &Seat,
         hall: u8,
     ) -> Option<Result<History, CallError>>
-        ensures lacks { IsNone result ↔ (self.now.halls ≤ hall) }
-        ensures own { IfSome result (λ given. OnOk given (seat.now.store ≡ self.now.number)) }
+        ensures lacks { IsNone result ↔ (self.now.config.halls ≤ hall) }
+        ensures foreign { IsOfAnotherStore self.now.config seat.now
+            → IfSome result (λ given. given ≡ Err CallError.Foreign) }
+        ensures own { IfSome result (λ given. OnOk given (IsOfStore self.now.config seat.now)) }
         ensures shown { IfSome result (λ given.
             IfOk given (λ history. Shows history seat.now hall)) }
     {
         match self.roots.get(usize::from(hall)) {
-            Some(root) if seat.store() == self.number => {
+            Some(root) if is_of_store(&self.config, seat) => {
                 Some(snapshot_of(rt, alloc, root, seat, hall))
             }
             Some(_) => Some(Err(CallError::Foreign)),
@@ -246,7 +246,7 @@ impl<G: Gate> Store<G> {
     /// that the store lacks, where `look` isn't called.
     pub fn look<R: Wait, T, F: FnOnce(&World) -> T>(&self, rt: &R, hall: u8, look: F) -> Option<T>
         requires { F.IsAlwaysCallable look }
-        ensures lacks { IsNone result ↔ (self.now.halls ≤ hall) }
+        ensures lacks { IsNone result ↔ (self.now.config.halls ≤ hall) }
         ensures told { IfSome result (λ told.
             IsTold [] (λ s. FnOnceReturnsAt F.FnOnce look s told)) }
     {
@@ -259,31 +259,23 @@ impl<G: Gate> Store<G> {
     /// Has the replica go down in each hall, where it is up. `ReplicaDown` comes only where it is down in
     /// each, `NoSuchReplica` before any step. After `Memory` the halls below the one that refused are done,
     /// and the call may be made again.
-    pub fn stop_replica<R: Wait>(&self, rt: &R, replica: ReplicaId) -> Result<(), Refusal> {
-        let mut done = Err(Refusal::ReplicaDown);
-        for root in &self.roots {
-            match root.lock(rt).take(rt, Step::StopReplica { replica }) {
-                Ok(_) => done = Ok(()),
-                Err(Refusal::ReplicaDown) => {}
-                Err(refusal) => return Err(refusal),
-            }
-        }
-        done
+    pub fn stop_replica<R: Wait>(&self, rt: &R, replica: ReplicaId) -> Result<(), Refusal>
+        ensures lacks { replica_count self.now.config ≤ replica → result ≡ Err Refusal.NoSuchReplica }
+        ensures why { replica < replica_count self.now.config
+            → IfErr result (λ why. (why ≡ Refusal.ReplicaDown) ⊎ (why ≡ Refusal.Memory)) }
+    {
+        turn_replica(rt, &self.config, &self.roots, replica, Turned::Down)
     }
 
     /// Has the replica go up in each hall, where it is down, with what it stored. `ReplicaUp` comes only
     /// where it is up in each, `NoSuchReplica` before any step. After `Memory` the halls below the one that
     /// refused are done, and the call may be made again.
-    pub fn start_replica<R: Wait>(&self, rt: &R, replica: ReplicaId) -> Result<(), Refusal> {
-        let mut done = Err(Refusal::ReplicaUp);
-        for root in &self.roots {
-            match root.lock(rt).take(rt, Step::StartReplica { replica }) {
-                Ok(_) => done = Ok(()),
-                Err(Refusal::ReplicaUp) => {}
-                Err(refusal) => return Err(refusal),
-            }
-        }
-        done
+    pub fn start_replica<R: Wait>(&self, rt: &R, replica: ReplicaId) -> Result<(), Refusal>
+        ensures lacks { replica_count self.now.config ≤ replica → result ≡ Err Refusal.NoSuchReplica }
+        ensures why { replica < replica_count self.now.config
+            → IfErr result (λ why. (why ≡ Refusal.ReplicaUp) ⊎ (why ≡ Refusal.Memory)) }
+    {
+        turn_replica(rt, &self.config, &self.roots, replica, Turned::Up)
     }
 }
 
@@ -292,8 +284,8 @@ impl<G: Gate + Drop> Store<G> {
     /// each key an order that shows the key's calls atomic.
     ///
     /// It has the replicas' threads end and waits for them, takes each hall for good, and compares the log
-    /// of each seat with its client's calls in the records. `SeatMismatch` comes where a seat is another
-    /// store's, or has other calls; `Memory` only where a growth was refused. The store is ended in every
+    /// of each seat with its client's calls in the records. `SeatMismatch` comes where a seat is of another
+    /// store, or of another count of halls, or has other calls; `Memory` only where a growth was refused. The store is ended in every
     /// case.
     pub fn close<R: Wait>(
         self,
@@ -301,19 +293,20 @@ impl<G: Gate + Drop> Store<G> {
         alloc: Global,
         seats: Vec<Seat>,
     ) -> Result<Closed, CloseError>
-        ensures closed { IfOk result (λ closed. Closes self seats.items closed.halls.items) }
-        ensures foreign { HasForeign self.number seats.items
+        ensures closed { IfOk result (λ closed.
+            Closes self.config seats.items closed.halls.items) }
+        ensures foreign { HasForeign self.config seats.items
             → result ≡ Err CloseError.SeatMismatch }
     {
         let Store {
-            number,
+            config,
             roots,
             ways,
             ends,
             ..
         } = self;
         end_replicas(rt, ways, &ends);
-        if !are_of_store(number, roots.len(), &seats) {
+        if !are_of_store(&config, &seats) {
             return Err(CloseError::SeatMismatch);
         }
         let halls = closed_halls(rt, alloc, roots)?;

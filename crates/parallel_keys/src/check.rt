@@ -1,7 +1,8 @@
 //! The check of many keys' orders.
-ghost use Rattle.std.specs.Prelude.{◌≡◌, ◌<◌, ◌≤◌, length, map, IfOk};
+ghost use Rattle.std.specs.Prelude.{◌≡◌, ◌<◌, ◌≤◌, ◌+◌, length, map, IfOk, MatchResult};
 ghost use Rattle.parallel_keys.specs.IndexVerdicts.{AreLists, AreTurns, AreVerdicts};
 ghost use Rattle.parallel_keys.specs.Shares.{AreUpToShare, IsShare};
+ghost use Rattle.parallel_keys.specs.Workers.{MayFail};
 
 use crate::error::CheckError;
 use crate::gate::CheckGate;
@@ -60,7 +61,9 @@ fn run_workers<'s, 'e: 's, R: Threads, G: CheckGate + Sync>(
     gate: &'e G,
 ) -> Result<Vec<Vec<Verdict>>, CheckError>
     requires { IsShare last }
-    ensures { IfOk result (λ lists. AreUpToShare last.entry (map (λ v. v.items) lists.items)) }
+    ensures { MatchResult result
+        (λ lists. AreUpToShare last.entry (map (λ v. v.items) lists.items))
+        (MayFail (last.entry.worker + 1)) }
 {
     if last.worker == 0 {
         let mut lists = Vec::new(alloc);
@@ -84,8 +87,9 @@ fn run_all<R: Threads + Wait, G: CheckGate + Sync>(
     gate: &G,
 ) -> Result<Vec<Vec<Verdict>>, CheckError>
     requires { length parts.now ≡ length orders.now }
-    ensures { IfOk result (λ lists. AreLists (map (λ p. p.now) parts.now)
-        (map (λ o. o.now) orders.now) workers (map (λ v. v.items) lists.items)) }
+    ensures { MatchResult result (λ lists. AreLists (map (λ p. p.now) parts.now)
+        (map (λ o. o.now) orders.now) workers (map (λ v. v.items) lists.items))
+        (MayFail workers) }
 {
     let workers = usize::from(workers.count());
     thread::scope(
@@ -94,8 +98,9 @@ fn run_all<R: Threads + Wait, G: CheckGate + Sync>(
         |scope| -> Result<Vec<Vec<Verdict>>, CheckError>
             requires { (length parts.now ≡ length orders.now)
                 × (0 < workers) × (workers ≤ 16) }
-            ensures { IfOk result (λ lists. AreLists (map (λ p. p.now) parts.entry.now)
-                (map (λ o. o.now) orders.entry.now) workers (map (λ v. v.items) lists.items)) }
+            ensures { MatchResult result (λ lists. AreLists (map (λ p. p.now) parts.entry.now)
+                (map (λ o. o.now) orders.entry.now) workers (map (λ v. v.items) lists.items))
+                (MayFail workers) }
         {
             run_workers(
                 rt,
@@ -113,7 +118,8 @@ fn run_all<R: Threads + Wait, G: CheckGate + Sync>(
 /// Worker w of k takes the indexes w, w + k, w + 2k and so on. Each worker has a thread of its own, all
 /// at once; worker 0's is the caller's, so one worker starts no thread. The gate is called on the
 /// worker's thread before an index is checked. `Memory` comes only where a growth was refused, `Thread`
-/// only where a thread couldn't be started; the threads have ended then too.
+/// only where a thread couldn't be started, and so never with one worker; the threads have ended then
+/// too.
 pub fn check_all<R: Threads + Wait, G: CheckGate + Sync>(
     rt: &R,
     alloc: Global,
@@ -123,8 +129,8 @@ pub fn check_all<R: Threads + Wait, G: CheckGate + Sync>(
     gate: &G,
 ) -> Result<Vec<KeyVerdict>, CheckError>
     requires { length parts.now ≡ length orders.now }
-    ensures { IfOk result (λ verdicts. AreVerdicts (map (λ p. p.now) parts.now)
-        (map (λ o. o.now) orders.now) verdicts.items) }
+    ensures { MatchResult result (λ verdicts. AreVerdicts (map (λ p. p.now) parts.now)
+        (map (λ o. o.now) orders.now) verdicts.items) (MayFail workers) }
 {
     let lists = run_all(rt, alloc, parts, orders, workers, gate)?;
     Ok(weave(alloc, parts, orders, &lists)?)

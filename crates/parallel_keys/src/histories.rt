@@ -1,9 +1,10 @@
 //! The check of the keys of recorded histories.
-ghost use Rattle.std.specs.Prelude.{◌≡◌, map, IfOk};
+ghost use Rattle.std.specs.Prelude.{◌≡◌, map, IfOk, MatchResult};
 ghost use Rattle.parallel_keys.specs.CheckedKeys.{AreDistinct, all_parts, checked_keys};
 ghost use Rattle.parallel_keys.specs.Histories.{AreHallParts, AreOn, AreVerdictsOnHistories, AreVerdictsOnHistory};
 ghost use Rattle.parallel_keys.specs.IndexVerdicts.{AreVerdicts};
 ghost use Rattle.parallel_keys.specs.KeysToCheck.{what_of};
+ghost use Rattle.parallel_keys.specs.Workers.{MayFail};
 
 use crate::check::{KeyVerdict, check_all};
 use crate::collect_keys::{KeyToCheck, keys_to_check};
@@ -66,7 +67,8 @@ fn check_keys<R: Threads + Wait, G: CheckGate + Sync>(
     workers: Workers,
     gate: &G,
 ) -> Result<Vec<(Key, Verdict)>, CheckError>
-    ensures { IfOk result (λ keyed. AreOn (map what_of keys.now) keyed.items) }
+    ensures { MatchResult result (λ keyed. AreOn (map what_of keys.now) keyed.items)
+        (MayFail workers) }
 {
     let parts = parts_of(alloc, keys)?;
     let orders = orders_of(alloc, keys)?;
@@ -84,8 +86,9 @@ fn check_parts<R: Threads + Wait, G: CheckGate + Sync>(
     gate: &G,
 ) -> Result<Vec<(Key, Verdict)>, CheckError>
     requires { AreDistinct orders.now }
-    ensures { IfOk result (λ keyed.
-        AreOn (checked_keys (all_parts (map (λ p. p.entries) parts.now)) orders.now) keyed.items) }
+    ensures { MatchResult result (λ keyed.
+        AreOn (checked_keys (all_parts (map (λ p. p.entries) parts.now)) orders.now) keyed.items)
+        (MayFail workers) }
 {
     let nothing = Part::empty(alloc);
     let keys = keys_to_check(alloc, parts, orders, &nothing)?;
@@ -107,7 +110,9 @@ pub fn check_history<R: Threads + Wait, G: CheckGate + Sync>(
     gate: &G,
 ) -> Result<Vec<(Key, Verdict)>, CheckError>
     requires { AreDistinct orders.now }
-    ensures { IfOk result (λ keyed. AreVerdictsOnHistory history.now.rows orders.now keyed.items) }
+    ensures { MatchResult result
+        (λ keyed. AreVerdictsOnHistory history.now.rows orders.now keyed.items)
+        (MayFail workers) }
 {
     let parts = [history.parts()?];
     check_parts(rt, alloc, &parts, orders, workers, gate)
@@ -135,8 +140,9 @@ pub fn check_histories<R: Threads + Wait, G: CheckGate + Sync>(
     gate: &G,
 ) -> Result<Vec<(Key, Verdict)>, CheckError>
     requires { AreDistinct orders.now }
-    ensures { IfOk result (λ keyed.
-        AreVerdictsOnHistories histories.now.halls orders.now keyed.items) }
+    ensures { MatchResult result
+        (λ keyed. AreVerdictsOnHistories histories.now.halls orders.now keyed.items)
+        (MayFail workers) }
 {
     let parts = hall_parts(alloc, histories.halls())?;
     check_parts(rt, alloc, &parts, orders, workers, gate)

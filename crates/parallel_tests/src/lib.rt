@@ -1,10 +1,15 @@
-//! Tests of keys that are checked on several threads: that two workers run at once, worked histories with
-//! every number of workers, and what a refused growth leaves. There is nothing else here.
+//! Tests of keys that are checked on several threads: that two workers run at once, which indexes each
+//! takes, worked histories with every number of workers, and what a refused growth leaves and is told as.
+//! There is nothing else here.
 #![tactic(auto)]
 
 #[cfg(test)]
 mod growths;
 #[cfg(test)]
 mod meetings;
+#[cfg(test)]
+mod shares;
+#[cfg(test)]
+mod told;
 #[cfg(test)]
 mod verdicts;

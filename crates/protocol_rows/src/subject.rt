@@ -7,7 +7,7 @@ use crate::sets::{
 };
 use crate::settings::Settings;
 use crate::words::Words;
-use crate::worlds::world_answers;
+use crate::worlds::{step_of, world_answers};
 use client_phases::Client;
 use network::Pool;
 use quorum::Quorums;
@@ -15,12 +15,13 @@ use random_steps::RandomSteps;
 use replica::Replica;
 use std::alloc::{AllocError, Global};
 use tag::Memory;
-use world_steps::World;
+use world_steps::{Config, Step, World, run};
 
 #[derive(Drop)]
 pub enum Subject {
     None,
     World(World, RandomSteps),
+    Steps(Config, Vec<Step>),
     Client(Client),
     Network(Pool),
     Replica(Replica),
@@ -59,15 +60,43 @@ fn replica_of(alloc: Global, mut words: Words<'_>) -> Subject {
     }
 }
 
+/// A list of steps, empty yet, for a run from that opening world.
+fn steps_of(alloc: Global, words: Words<'_>) -> Result<Subject, AllocError> {
+    match Settings::read(alloc, words)?.config() {
+        Some(config) => Ok(Subject::Steps(config, Vec::new(alloc))),
+        None => Ok(Subject::None),
+    }
+}
+
+/// Lists the step that a line writes.
+fn list(
+    alloc: Global,
+    out: &mut String,
+    steps: &mut Vec<Step>,
+    line: &str,
+) -> Result<(), AllocError> {
+    match step_of(alloc, Words { rest: line }) {
+        Some(step) => {
+            steps.push(step)?;
+            out.push_str("listed")
+        }
+        None => out.push_str("NO SUCH STEP"),
+    }
+}
+
 /// Whether a line of that kind makes a subject.
 fn is_made(kind: &str) -> bool {
-    matches!(kind, "world" | "client" | "quorums" | "replica" | "network")
+    matches!(
+        kind,
+        "world" | "steps" | "client" | "quorums" | "replica" | "network"
+    )
 }
 
 /// The subject that a line makes.
 fn made(alloc: Global, kind: &str, mut words: Words<'_>) -> Result<Subject, Memory> {
     match kind {
         "world" => world_of(alloc, words),
+        "steps" => Ok(steps_of(alloc, words)?),
         "client" => Ok(client_of(alloc, words)?),
         "quorums" => Ok(quorums_of(alloc, words)?),
         "replica" => Ok(replica_of(alloc, words)),
@@ -97,6 +126,7 @@ impl Subject {
         match self {
             Subject::None => "none",
             Subject::World(..) => "a world",
+            Subject::Steps(..) => "steps",
             Subject::Client(_) => "a client",
             Subject::Network(_) => "a network",
             Subject::Replica(_) => "a replica",
@@ -119,11 +149,23 @@ impl Subject {
         }
     }
 
+    /// The world that the listed steps leave.
+    fn run(&self, alloc: Global) -> Result<Subject, Memory> {
+        match self {
+            Subject::Steps(config, steps) => Ok(Subject::World(
+                run(alloc, *config, steps.as_slice())?,
+                RandomSteps::new(42),
+            )),
+            _ => Ok(Subject::None),
+        }
+    }
+
     /// What comes of a step or a question.
     fn step(&mut self, alloc: Global, out: &mut String, line: &str) -> Result<(), AllocError> {
         match self {
             Subject::None => answer_alone(alloc, out, line),
             Subject::World(world, steps) => world_answers(alloc, out, world, steps, line),
+            Subject::Steps(_, steps) => list(alloc, out, steps, line),
             Subject::Client(client) => client_answers(alloc, out, client, line),
             Subject::Network(pool) => pool_answers(alloc, out, pool, line),
             Subject::Replica(replica) => replica_answers(alloc, out, replica, line),
@@ -172,6 +214,10 @@ impl Subject {
         let kind = words.word();
         if is_made(kind) {
             return self.replace(out, made(alloc, kind, words));
+        }
+        if kind == "run" {
+            let left = self.run(alloc);
+            return self.replace(out, left);
         }
         let (times, rest) = line.split_once(" times ").unwrap_or(("", ""));
         match times.parse::<u32>() {

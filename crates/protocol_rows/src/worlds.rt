@@ -45,7 +45,7 @@ fn flight_step(kind: &str, flight: u32) -> Option<Step> {
 }
 
 /// The step that a line writes.
-fn step_of(alloc: Global, mut words: Words<'_>) -> Option<Step> {
+pub fn step_of(alloc: Global, mut words: Words<'_>) -> Option<Step> {
     match words.word() {
         "invoke" => invocation(alloc, words),
         "down" => Some(Step::StopReplica {

@@ -188,7 +188,7 @@ fn say_key_order(
     key: &Key,
 ) -> Result<(), Memory> {
     let parts = history.parts()?;
-    match parts.get(key)? {
+    match parts.get(key) {
         Some(part) => Ok(say_order(alloc, out, part)?),
         None => Ok(out.push_str("no part\n")?),
     }

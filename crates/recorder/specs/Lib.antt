@@ -13,3 +13,4 @@ pub mod Clients
 pub mod Lists
 pub mod Entries
 pub mod Logs
+pub mod Numbers

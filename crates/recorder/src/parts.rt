@@ -1,11 +1,11 @@
 //! The parts of a history, by key.
-ghost use Rattle.std.specs.Prelude.{◌≡◌, List, map, IfOk, IfSome, IfNone, Contains};
+ghost use Rattle.std.specs.Prelude.{◌≡◌, List, map, IfSome, IfNone, Contains};
 ghost use Rattle.recorder.specs.declared.part.Call.{Call};
 
 use crate::part::Part;
 use key_numbers::KeyNumbers;
 use std::marker::Model;
-use tag::{Key, Memory};
+use tag::Key;
 
 /// Keys with their parts, each key once, in the order in which they were first seen.
 ///
@@ -53,16 +53,14 @@ impl Parts {
     }
 
     /// The key's part, if it has one.
-    pub fn get(&self, key: &Key) -> Result<Option<&Part>, Memory>
-        ensures some { IfOk result
-            (λ found. IfSome found (λ part. Contains self.now.entries (key.now, part.now))) }
-        ensures none { IfOk result
-            (λ found. IfNone found ((part : List Call) → Contains self.now.entries (key.now, part)
-            → ⊥)) }
+    pub fn get(&self, key: &Key) -> Option<&Part>
+        ensures some { IfSome result (λ part. Contains self.now.entries (key.now, part.now)) }
+        ensures none { IfNone result
+            ((part : List Call) → Contains self.now.entries (key.now, part) → ⊥) }
     {
         match self.places.find(key) {
-            Some(place) => Ok(Some(&self.entries[place].1)),
-            None => Ok(None),
+            Some(place) => Some(&self.entries[place].1),
+            None => None,
         }
     }
 }

@@ -1,5 +1,6 @@
 //! Rows of a history, and why one may be refused.
 ghost use Rattle.std.specs.Prelude.{◌≡◌, IfOk};
+ghost use Rattle.recorder.specs.Numbers.{row_refusal_number};
 
 use std::alloc::{AllocError, AllocFailed};
 use tag::{Action, ClientId, Key, Memory, OpId, Returned, Tag};
@@ -68,6 +69,22 @@ pub enum RowRefusal {
     NoteTwice,
     #[error("no memory")]
     Memory,
+}
+
+impl RowRefusal {
+    /// Its number in the order of the reasons, 1 to 6.
+    pub fn number(self) -> u8
+        ensures { result ≡ row_refusal_number self }
+    {
+        match self {
+            RowRefusal::OpsFull => 1,
+            RowRefusal::ClientBusy => 2,
+            RowRefusal::NotPending => 3,
+            RowRefusal::WrongKind => 4,
+            RowRefusal::NoteTwice => 5,
+            RowRefusal::Memory => 6,
+        }
+    }
 }
 
 impl From<AllocError> for RowRefusal {

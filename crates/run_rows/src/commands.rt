@@ -42,7 +42,7 @@ where
 {
     let mut out = Counting::new(Bounded::new(alloc, room));
     let mut errors = Counting::new(Bounded::new(alloc, AMPLE));
-    let status = run_command(rt, alloc, asked, NoWatch, &mut out, &mut errors);
+    let status = run_command(rt, alloc, asked, NoWatch, &NoWatch, &mut out, &mut errors);
     Said {
         status,
         out: out.into_inner().taken,

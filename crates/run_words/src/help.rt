@@ -11,7 +11,11 @@ writes k0 and reads it in turn; the others read it, and write and read the other
 Writes on standard output the history of the one hall, or of hall N with --show N, for `abd justify` and \
 `abd check`; without --show, of several halls or with --votes, the histories of all halls, by hall. Says on \
 standard error which caller's call was refused and why, and the first key whose order is refused, if one is. \
-Where standard error is a terminal, it also says there how many calls were answered so far, at most once a second.\n\
+Where standard error is a terminal, it also says there how many calls were answered so far, at most once a second, \
+and at the end how many calls were answered, how many keys are yes, and how long it took.\n\
+A refused call ends its caller's calls, and doesn't change the exit status. A hall has room for 4000000 messages; a \
+call takes up to 4 for each replica, and more where parcels are lost or doubled: from 7 replicas on the most calls \
+want more than one hall (docs/FORMATS.md).\n\
 Exit status: 0 all keys are yes, 1 a key is refused, 2 usage, 4 memory, a device or a thread.\n\n\
 Example: abd run --drop 5 --double 7 > run.history";
 

@@ -4,7 +4,7 @@
 #![tactic(auto)]
 
 use certificate_check::check_part;
-use node_threads::{Closed, ClosedHall, Gate, Passage, Place, Seat, Store, StoreConfig};
+use node_threads::{Closed, ClosedHall, Gate, Pass, Place, Seat, Store, StoreConfig};
 use recorder::{Halls, KeyOrder, Parts};
 use std::alloc::{AllocError, Global};
 use std::process::ExitCode;
@@ -22,14 +22,14 @@ struct EveryFifth {
 }
 
 impl Gate for EveryFifth {
-    fn at(&self, place: &Place) -> Passage {
+    fn at(&self, place: &Place) -> Pass {
         match place {
-            Place::Respond { .. } => Passage::Go,
+            Place::Respond { .. } => Pass::Go,
             Place::Request { .. } | Place::Reply { .. } => {
                 if self.parcels.fetch_add(1, Ordering::SeqCst) % 5 == 4 {
-                    Passage::Drop
+                    Pass::Drop
                 } else {
-                    Passage::Go
+                    Pass::Go
                 }
             }
         }
@@ -173,7 +173,7 @@ fn say_calls(out: &mut String, order: &[OpId]) -> Result<(), AllocError> {
 /// A line for a key: the order of its calls, and the verdict on it.
 fn say_key(alloc: Global, out: &mut String, parts: &Parts, key_order: &KeyOrder) -> Option<()> {
     let order = key_order.order.as_slice();
-    let part = parts.get(&key_order.key).ok()??;
+    let part = parts.get(&key_order.key)?;
     let verdict = check_part(alloc, part, order).ok()?;
     out.push_str(key_order.key.as_str()).ok()?;
     out.push_str(":").ok()?;

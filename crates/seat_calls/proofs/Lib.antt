@@ -2,5 +2,9 @@ mod Lists
 mod Logs
 mod Matching
 mod Keeping
+mod Stalling
+mod Reasons
+mod Stale
 mod Answering
-mod Seating
+mod SeatChanges
+mod SeatReasons

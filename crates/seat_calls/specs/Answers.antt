@@ -1,8 +1,12 @@
 -- What a call on a seat answers, and what it leaves.
-use Rattle.std.specs.Prelude.{ℕ, ◌≡◌, ◌⊎◌, true, List}
+use Rattle.std.specs.Prelude.{ℕ, ◌≡◌, ◌<◌, ◌⊎◌, true, List, Some, length, slice_get}
 use Rattle.tag.specs.declared.actions.Action.{Action}
+use Rattle.tag.specs.declared.numbers.OpId.{OpId}
 use Rattle.recorder.specs.declared.part.Response.{Response}
-use Rattle.seat_calls.specs.Seats.{Calls, DidNotBegin, LeavesPending, Seat, value_of}
+use Rattle.hall_turns.specs.Turns.{ClientView}
+use Rattle.seat_calls.specs.Calls.{BeginsCall}
+use Rattle.seat_calls.specs.Reasons.{IsHeldBack, IsStalled}
+use Rattle.seat_calls.specs.Seats.{Calls, DidNotBegin, LeavesPending, Seat, seen_in, value_of}
 use Rattle.recorder.specs.declared.log_entry.Entry.{Entry}
 use Rattle.seat_calls.specs.declared.errors.CallError.{CallError}
 use Rattle.seat_calls.specs.declared.errors.CallError.TheVariants as fault
@@ -32,3 +36,27 @@ FailsWith fault.SeatSpent old hall key action new = (old.is_spent ≡ true) × (
 FailsWith fault.Foreign old hall key action new = DidNotBegin old new
 FailsWith fault.Full old hall key action new = HasFailed old hall key action new
 FailsWith fault.Memory old hall key action new = HasFailed old hall key action new
+
+-- the seat's pass of that hall, before a call and after it
+pub record HasPass (old : Seat) (hall : ℕ) (new : Seat) : Type 0 where
+  pub before : ClientView
+  pub after : ClientView
+  pub was : slice_get old.passes hall ≡ Some before
+  pub is : slice_get new.passes hall ≡ Some after
+
+-- why a call of the seat in that hall isn't answered, as the error tells: there was no memory for it
+-- before any turn; or in one turn it didn't begin; or it began, and stalled
+pub data HasReason (error : CallError) (old : Seat) (hall : ℕ) (key : List ℕ) (action : Action)
+    (new : Seat) : Type 0 where
+  NoMemory : error ≡ fault.Memory → new.passes ≡ old.passes → HasReason error old hall key action new
+  HeldBack : (pass : HasPass old hall new)
+      → IsHeldBack pass.before key action (seen_in old hall) error pass.after
+      → HasReason error old hall key action new
+  Stalled : (pass : HasPass old hall new) (op : OpId) (place : ℕ) (middle : ClientView)
+      → BeginsCall pass.before key action op place middle → IsStalled middle error pass.after
+      → HasReason error old hall key action new
+
+-- the seat's pass of that hall, after a call, knows fewer rows than the seat had seen there before it
+abbrev pub SeesFewer : Seat → ℕ → Seat → Type 0
+SeesFewer old hall new = (pass : ClientView) × (slice_get new.passes hall ≡ Some pass)
+    × (length pass.rows < seen_in old hall)

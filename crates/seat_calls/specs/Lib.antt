@@ -1,5 +1,8 @@
 pub mod Numbers
 pub mod Calls
+pub mod Reasons
+pub mod Outcomes
+pub mod Ways
 pub mod Receipts
 pub mod Seats
 pub mod Answers

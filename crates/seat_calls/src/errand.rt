@@ -1,10 +1,16 @@
 //! One call on its way: what its client sends, and what it hears.
-ghost use Rattle.std.specs.Prelude.{◌≡◌, ◌≤◌, true, Some, IfOk, OnErr};
-ghost use Rattle.hall_turns.specs.Turns.{IsQuiet, MayTake};
-ghost use Rattle.seat_calls.specs.Calls.{Drives, EndsCall, IsPlaced, KeepsLog, MayRefuse, MayStay};
+ghost use Rattle.std.specs.Prelude.{◌≡◌, ◌≤◌, ◌*◌, ℕ, min, true, Result, Ok, Err, Some, IfOk, IfErr, OnOk, OnErr};
+ghost use Rattle.hall_turns.specs.Turns.{IsQuiet, MayTake, TakesTurn};
+ghost use Rattle.world_steps.specs.declared.effect.Effect.TheVariants as effect;
+ghost use Rattle.world_steps.specs.declared.refusal.Refusal.{Refusal};
+ghost use Rattle.world_steps.specs.declared.step.Step.TheVariants as event;
+ghost use Rattle.seat_calls.specs.Calls.{EndsCall, KeepsLog};
+ghost use Rattle.seat_calls.specs.Outcomes.{Drives, IsPlaced};
+ghost use Rattle.seat_calls.specs.Reasons.{IsUnmet, Stalls, delay_error, refusal_error, stall_error, stall_of};
+ghost use Rattle.seat_calls.specs.Ways.{GoesOn, Hears, IsDelivery, Sends};
 
 use crate::errors::CallError;
-use crate::gate::{Gate, Passage, Place};
+use crate::gate::{Gate, Pass, Place};
 use crate::patience::next_message;
 use crate::replicas::{Parcel, Report};
 use client_phases::{Phase, Taken};
@@ -33,10 +39,13 @@ pub struct Errand<'a, G> {
 
 /// How many reports of a call can be under way at most, with so many replicas.
 ///
-/// A replica reports once on each parcel, and a round sends each replica two parcels at most. A round begins
-/// only where each parcel was reported on, but for the first of the second phase: then those of one round of
-/// the first phase may still be under way.
-fn report_room(replicas: usize) -> usize {
+/// A replica reports once on each parcel, also where its reply came twice, and a round sends each replica at
+/// most two parcels. A round begins only when no report is awaited, except the first of the second phase:
+/// reports of the last round of the first phase may then still be under way. So they are at most those of
+/// two rounds. A call has no third phase: replies to the first are stale in the second.
+fn report_room(replicas: usize) -> usize
+    ensures { result ≡ min (4 * replicas) 18446744073709551615 }
+{
     replicas.saturating_mul(4)
 }
 
@@ -52,8 +61,8 @@ pub(crate) enum Outcome {
 
 /// Why a call that began isn't answered.
 #[derive(Clone, Copy, Debug, PartialEq, Eq)]
-enum Stall {
-    /// The rounds of a phase ran out, or the world refused a step.
+pub(crate) enum Stall {
+    /// The rounds of a phase ran out, or the world refused a step otherwise.
     Unavailable,
     /// As many messages were sent as may be.
     Full,
@@ -100,8 +109,7 @@ impl<'a, G: Gate> Errand<'a, G> {
     {
         let begun = match pass.invoke(rt, key, action, seen) {
             Ok(begun) => begun,
-            Err(Delay::Foreign) => return Outcome::Refused(CallError::Foreign),
-            Err(Delay::Refused(refusal)) => return Outcome::Refused(not_begun(refusal)),
+            Err(delay) => return Outcome::Refused(told_delay(delay)),
         };
         self.call = begun.op;
         match self.finish(rt, pass, rounds) {
@@ -126,6 +134,7 @@ impl<'a, G: Gate> Errand<'a, G> {
         ensures placed { IfOk result (λ ended.
             (ended.place ≤ 9223372036854775807) × (ended.copy ≡ ended.returned)) }
         ensures failed { OnErr result (KeepsLog pass.old pass.new) }
+        ensures stalled { IfErr result (λ stall. Stalls pass.old stall pass.new) }
     {
         self.make_ready(rt, pass, rounds)?;
         let place = Place::Respond {
@@ -147,7 +156,8 @@ impl<'a, G: Gate> Errand<'a, G> {
         pass: &mut ClientPass,
         rounds: u16,
     ) -> Result<(), Stall>
-        ensures { KeepsLog pass.old pass.new }
+        ensures kept { KeepsLog pass.old pass.new }
+        ensures stalled { IfErr result (λ stall. Stalls pass.old stall pass.new) }
     {
         match self.leave(rt, pass, rounds)? {
             Phase::Put => match self.leave(rt, pass, rounds) {
@@ -161,7 +171,8 @@ impl<'a, G: Gate> Errand<'a, G> {
     /// Makes rounds until the phase is over, which has just begun. The phase that follows it.
     #[tactic(auto, using(crate::proofs::Keeping::keeps_same, crate::proofs::Keeping::keeps_then))]
     fn leave<R: Wait>(&mut self, rt: &R, pass: &mut ClientPass, rounds: u16) -> Result<Phase, Stall>
-        ensures { KeepsLog pass.old pass.new }
+        ensures kept { KeepsLog pass.old pass.new }
+        ensures stalled { IfErr result (λ stall. Stalls pass.old stall pass.new) }
     {
         let mut counted = ReplicaSet::empty();
         for _ in 0..rounds {
@@ -182,7 +193,8 @@ impl<'a, G: Gate> Errand<'a, G> {
         pass: &mut ClientPass,
         counted: ReplicaSet,
     ) -> Result<(), Stall>
-        ensures { KeepsLog pass.old pass.new }
+        ensures kept { KeepsLog pass.old pass.new }
+        ensures stalled { IfErr result (λ stall. Stalls pass.old stall pass.new) }
     {
         for number in 0..15 {
             if let Some(replica) = ReplicaId::new(number) {
@@ -202,15 +214,15 @@ impl<'a, G: Gate> Errand<'a, G> {
         pass: &mut ClientPass,
         replica: ReplicaId,
     ) -> Result<(), Stall>
-        ensures { KeepsLog pass.old pass.new }
+        ensures kept { KeepsLog pass.old pass.new }
+        ensures sent { Sends pass.old replica pass.new }
+        ensures stalled { IfErr result (λ stall. Stalls pass.old stall pass.new) }
     {
         let Some(way) = self.replicas.get(usize::from(replica.get())) else {
             return Ok(());
         };
-        let client = pass.client();
-        let flight = match turn(rt, pass, Step::Send { client, replica }) {
-            Ok(Effect::Sent(flight)) => flight,
-            Ok(_) => return Err(Stall::Unavailable),
+        let flight = match send_flight(rt, pass, replica) {
+            Ok(flight) => flight,
             Err(refusal) => return Err(stall_of(refusal)),
         };
         let place = Place::Request {
@@ -229,7 +241,9 @@ impl<'a, G: Gate> Errand<'a, G> {
         way: &Sender<Parcel>,
         flight: u32,
         parcels: u64,
-    ) -> Result<(), Stall> {
+    ) -> Result<(), Stall>
+        ensures { IfErr result IsUnmet }
+    {
         for _ in 0..parcels {
             self.post(rt, way, flight)?;
         }
@@ -237,7 +251,9 @@ impl<'a, G: Gate> Errand<'a, G> {
     }
 
     /// Puts a parcel of a flight on its way.
-    fn post<R: Wait>(&mut self, rt: &R, way: &Sender<Parcel>, flight: u32) -> Result<(), Stall> {
+    fn post<R: Wait>(&mut self, rt: &R, way: &Sender<Parcel>, flight: u32) -> Result<(), Stall>
+        ensures { IfErr result IsUnmet }
+    {
         let parcel = Parcel {
             hall: self.hall,
             call: self.call,
@@ -258,7 +274,8 @@ impl<'a, G: Gate> Errand<'a, G> {
     /// follows, where it is over.
     #[tactic(auto, using(crate::proofs::Keeping::keeps_same, crate::proofs::Keeping::keeps_then))]
     fn hear_round<R: Wait>(&mut self, rt: &R, pass: &mut ClientPass) -> Result<Option<Phase>, Stall>
-        ensures { KeepsLog pass.old pass.new }
+        ensures kept { KeepsLog pass.old pass.new }
+        ensures stalled { IfErr result (λ stall. Stalls pass.old stall pass.new) }
     {
         for _ in 0..self.awaited {
             let Some(report) = next_message(rt, &self.inbox) else {
@@ -276,16 +293,17 @@ impl<'a, G: Gate> Errand<'a, G> {
 
 /// Loses a flight or has it come once more, as the gate says. How many parcels go their way.
 #[tactic(auto, using(crate::proofs::Keeping::keeps_same, crate::proofs::Keeping::keeps_then))]
-fn parcels_of<R: Wait>(rt: &R, pass: &mut ClientPass, passage: Passage, flight: u32) -> u64
-    ensures { KeepsLog pass.old pass.new }
+fn parcels_of<R: Wait>(rt: &R, pass: &mut ClientPass, answer: Pass, flight: u32) -> u64
+    ensures kept { KeepsLog pass.old pass.new }
+    ensures passed { GoesOn answer pass.old flight result pass.new }
 {
-    match passage {
-        Passage::Go => 1,
-        Passage::Drop => {
+    match answer {
+        Pass::Go => 1,
+        Pass::Drop => {
             let _ = turn(rt, pass, Step::Lose { flight });
             0
         }
-        Passage::Twice => match turn(rt, pass, Step::Repeat { flight }) {
+        Pass::Twice => match turn(rt, pass, Step::Repeat { flight }) {
             Ok(_) => 2,
             Err(_) => 1,
         },
@@ -295,7 +313,9 @@ fn parcels_of<R: Wait>(rt: &R, pass: &mut ClientPass, passage: Passage, flight: 
 /// Delivers what was reported. The phase that follows, where the client's phase is over.
 #[tactic(auto, using(crate::proofs::Keeping::keeps_same, crate::proofs::Keeping::keeps_then))]
 fn hear<R: Wait>(rt: &R, pass: &mut ClientPass, report: Report) -> Result<Option<Phase>, Stall>
-    ensures { KeepsLog pass.old pass.new }
+    ensures kept { KeepsLog pass.old pass.new }
+    ensures heard { OnOk result (Hears report pass.old pass.new) }
+    ensures stalled { IfErr result (λ stall. Stalls pass.old stall pass.new) }
 {
     match report {
         Report::Blank => Ok(None),
@@ -310,14 +330,19 @@ fn hear<R: Wait>(rt: &R, pass: &mut ClientPass, report: Report) -> Result<Option
 
 /// Delivers a reply to the client. The phase that follows, where its phase is over.
 fn deliver<R: Wait>(rt: &R, pass: &mut ClientPass, flight: u32) -> Result<Option<Phase>, Stall>
-    ensures { KeepsLog pass.old pass.new }
+    ensures kept { KeepsLog pass.old pass.new }
+    ensures delivered { IsDelivery pass.old flight pass.new }
+    ensures stalled { IfErr result (λ stall. Stalls pass.old stall pass.new) }
 {
     let taken = pass.deliver(rt, flight);
     phase_after(taken)
 }
 
 /// The phase that a reply makes begin, if it does.
-fn phase_after(taken: Result<Taken, Refusal>) -> Result<Option<Phase>, Stall> {
+fn phase_after(taken: Result<Taken, Refusal>) -> Result<Option<Phase>, Stall>
+    ensures { IfErr result (λ stall.
+        (why : Refusal) × (taken ≡ Err why) × (stall ≡ stall_of why)) }
+{
     match taken {
         Ok(Taken::Stale | Taken::Counted) => Ok(None),
         Ok(Taken::Noted(_)) => Ok(Some(Phase::Put)),
@@ -338,9 +363,26 @@ fn counted_by<R: Wait>(rt: &R, pass: &mut ClientPass) -> ReplicaSet
 fn turn<R: Wait>(rt: &R, pass: &mut ClientPass, step: Step) -> Result<Effect, Refusal>
     requires may { MayTake (Some pass.old.client) step }
     requires quiet { IsQuiet step }
-    ensures { KeepsLog pass.old pass.new }
+    ensures kept { KeepsLog pass.old pass.new }
+    ensures turned { TakesTurn pass.old step result pass.new }
 {
     pass.take(rt, step)
+}
+
+/// One turn: the client's request to the replica is sent. The number of its flight.
+fn send_flight<R: Wait>(rt: &R, pass: &mut ClientPass, replica: ReplicaId) -> Result<u32, Refusal>
+    ensures kept { KeepsLog pass.old pass.new }
+    ensures sent { IfOk result (λ flight. TakesTurn pass.old
+        (event.Send pass.old.client replica) (Ok (effect.Sent flight)) pass.new) }
+    ensures refused { IfErr result (λ why. TakesTurn pass.old
+        (event.Send pass.old.client replica) (Err why) pass.new) }
+{
+    let client = pass.client();
+    match turn(rt, pass, Step::Send { client, replica }) {
+        Ok(Effect::Sent(flight)) => Ok(flight),
+        Ok(_) => unreachable!(),
+        Err(refusal) => Err(refusal),
+    }
 }
 
 /// Stops the client in the pass's hall.
@@ -351,9 +393,19 @@ fn stop<R: Wait>(rt: &R, pass: &mut ClientPass)
     pass.stop(rt);
 }
 
+/// What a call answers that didn't begin.
+fn told_delay(delay: Delay) -> CallError
+    ensures { result ≡ delay_error delay }
+{
+    match delay {
+        Delay::Foreign => CallError::Foreign,
+        Delay::Refused(refusal) => not_begun(refusal),
+    }
+}
+
 /// What a call answers where its invocation was refused.
 fn not_begun(refusal: Refusal) -> CallError
-    ensures { MayRefuse result }
+    ensures { result ≡ refusal_error refusal }
 {
     match refusal {
         Refusal::OpsFull | Refusal::FlightsFull => CallError::Full,
@@ -363,7 +415,9 @@ fn not_begun(refusal: Refusal) -> CallError
 }
 
 /// Why a call isn't answered where a later step of it was refused.
-fn stall_of(refusal: Refusal) -> Stall {
+fn stall_of(refusal: Refusal) -> Stall
+    ensures { result ≡ stall_of refusal }
+{
     match refusal {
         Refusal::OpsFull | Refusal::FlightsFull => Stall::Full,
         Refusal::Memory => Stall::Memory,
@@ -373,7 +427,7 @@ fn stall_of(refusal: Refusal) -> Stall {
 
 /// What a call answers that began and isn't answered.
 fn told_pending(stall: Stall) -> CallError
-    ensures { MayStay result }
+    ensures { result ≡ stall_error stall }
 {
     match stall {
         Stall::Unavailable => CallError::Unavailable,
@@ -383,6 +437,11 @@ fn told_pending(stall: Stall) -> CallError
 }
 
 impl From<AllocError> for Stall {
+    ghost use Rattle.std.specs.Prelude.{◌≡◌};
+    ghost use Rattle.seat_calls.specs.declared.errand.Stall.TheVariants.{Memory};
+
+    ghost from_gives = { λ _ e. e ≡ Memory };
+
     fn from(_: AllocError) -> Stall {
         Stall::Memory
     }

@@ -27,7 +27,7 @@ pub enum Place {
 
 /// What becomes of a parcel.
 #[derive(Clone, Copy, Debug, Drop, PartialEq, Eq)]
-pub enum Passage {
+pub enum Pass {
     /// It goes its way.
     Go,
     /// It is lost.
@@ -39,7 +39,7 @@ pub enum Passage {
 /// Is asked at each place that a call comes to. No lock is held meanwhile.
 pub trait Gate {
     /// What becomes of the parcel there.
-    fn at(&self, place: &Place) -> Passage;
+    fn at(&self, place: &Place) -> Pass;
 }
 
 /// Lets each parcel go its way.
@@ -47,7 +47,7 @@ pub trait Gate {
 pub struct OpenGate;
 
 impl Gate for OpenGate {
-    fn at(&self, place: &Place) -> Passage {
-        Passage::Go
+    fn at(&self, place: &Place) -> Pass {
+        Pass::Go
     }
 }

@@ -1,5 +1,7 @@
 //! Replicas, each served by a thread of its own.
-use crate::gate::{Gate, Passage, Place};
+ghost use Rattle.seat_calls.specs.Ways.{ComesBack, Serves};
+
+use crate::gate::{Gate, Pass, Place};
 use crate::patience::next_message;
 use crossbeam_channel::{Receiver, Sender};
 use hall_turns::FreePass;
@@ -53,29 +55,39 @@ pub fn serve<R: Wait, G: Gate>(
     }
 }
 
-/// Has the replica handle a request. Its reply goes back as the gate says.
+/// Has the replica handle a request. Its reply comes back as the gate says.
 fn handle<R: Wait, G: Gate>(
     rt: &R,
     gate: &G,
     replica: ReplicaId,
     pass: &mut FreePass,
     parcel: &Parcel,
-) -> Report {
-    let Ok(flight) = pass.deliver(rt, replica, parcel.flight) else {
-        return Report::Blank;
+) -> Report
+    ensures { Serves pass.old replica parcel.now.flight result pass.new }
+{
+    let flight = match pass.deliver(rt, replica, parcel.flight) {
+        Ok(flight) => flight,
+        Err(_) => return Report::Blank,
     };
     let place = Place::Reply {
         hall: parcel.hall,
         call: parcel.call,
         replica,
     };
-    match gate.at(&place) {
-        Passage::Go => Report::Reply(flight),
-        Passage::Drop => {
+    report_of(rt, pass, gate.at(&place), flight)
+}
+
+/// Loses a reply or has it come once more, as the gate says. What is reported of it.
+fn report_of<R: Wait>(rt: &R, pass: &mut FreePass, answer: Pass, flight: u32) -> Report
+    ensures { ComesBack answer pass.old flight result pass.new }
+{
+    match answer {
+        Pass::Go => Report::Reply(flight),
+        Pass::Drop => {
             let _ = pass.take(rt, Step::Lose { flight });
             Report::Blank
         }
-        Passage::Twice => match pass.take(rt, Step::Repeat { flight }) {
+        Pass::Twice => match pass.take(rt, Step::Repeat { flight }) {
             Ok(_) => Report::Twice(flight),
             Err(_) => Report::Reply(flight),
         },

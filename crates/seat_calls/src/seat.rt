@@ -1,6 +1,6 @@
 //! A client's seat in a store.
-ghost use Rattle.std.specs.Prelude.{◌≡◌, ◌<◌, [], false, length, IfOk, IfErr, OnErr, OnOk};
-ghost use Rattle.seat_calls.specs.Answers.{FailsWith, IsAnswered};
+ghost use Rattle.std.specs.Prelude.{◌≡◌, ◌<◌, ◌⊎◌, [], Err, false, length, IfOk, IfErr, OnErr, OnOk};
+ghost use Rattle.seat_calls.specs.Answers.{FailsWith, HasReason, IsAnswered, SeesFewer};
 ghost use Rattle.seat_calls.specs.Seats.{AreFresh, HasMet, IsForeign, IsSeat, greater, seen_in, value_of};
 
 use crate::errand::{Errand, Outcome};
@@ -58,7 +58,7 @@ pub struct Answer {
 
 impl Seat {
     /// A seat of a client that has just joined: a pass and a place for each hall, hall 0 first.
-    pub fn new(
+    pub(crate) fn new(
         alloc: Global,
         store: u64,
         client: ClientId,
@@ -154,7 +154,7 @@ impl Seat {
 impl Seat {
     /// Makes a call in the errand's hall, in so many rounds a phase at most. It may wait for other threads.
     /// Where a growth is refused before the call began, all is as before; later the call is pending.
-    pub fn call<R: Wait, G: Gate>(
+    pub(crate) fn call<R: Wait, G: Gate>(
         &mut self,
         rt: &R,
         errand: &mut Errand<G>,
@@ -168,6 +168,10 @@ impl Seat {
             IsAnswered self.old errand.old.hall key action answer self.new) }
         ensures failed { IfErr result (λ error.
             FailsWith error self.old errand.old.hall key action self.new) }
+        ensures reason { IfErr result (λ error.
+            HasReason error self.old errand.old.hall key action self.new) }
+        ensures stale { SeesFewer self.old errand.old.hall self.new
+            → (result ≡ Err CallError.Foreign) ⊎ (result ≡ Err CallError.Memory) }
     {
         let hall = errand.hall;
         let at = usize::from(hall);

@@ -5,16 +5,9 @@ use Rattle.recorder.specs.Logs.{AreAnswered}
 use Rattle.seat_calls.specs.Seats.{Seat}
 use Rattle.recorder.specs.declared.log_entry.Entry.{Entry}
 use Rattle.seat_calls.specs.declared.errors.CallError.{CallError}
-use Rattle.store_load.specs.Callers.{AreOfTurns, GrowsBy, HasCalled, IsFreshSeat, IsOfTurn, LeavesCall, MakesCall, turn_of}
+use Rattle.store_load.specs.Callers.{AreOfTurns, EndsRefused, GrowsBy, HasCalled, HasMade, IsFreshSeat, IsOfTurn, LeavesCall, MakesCall, RefusesTurn, turn_of}
 use Rattle.store_load.specs.declared.callers.Work.{Work}
-use Rattle.store_load.proofs.Lists.{each_more, none_some}
-
--- so many of the caller's calls were made, each answered
-pub record HasMade (work : Work) (count : ℕ) (s : Seat) : Type 0 where
-  pub client : s.client ≡ work.caller
-  pub turns : AreOfTurns work s.log
-  pub count_is : length s.log ≡ count
-  pub answered : AreAnswered s.log
+use Rattle.store_load.proofs.Lists.{each_more, none_some, same_some}
 
 pub made_none : (work : Work) (s : Seat) → IsFreshSeat work.caller s → HasMade work 0 s
 made_none work s fresh = record {
@@ -46,20 +39,23 @@ called_all work s made = record {
   most = let len = made.count_is in omega (arith, len);
   all = λ _. made.count_is;
   answered = λ _. made.answered;
+  refused = λ error is. none_some is;
 }
 
 some_none : {A B : Type 0} {x : A} → Some x ≡ None → B
 some_none e = absurd (cc)
 
 -- one was refused
-pub called_some : (work : Work) (count : ℕ) (old new : Seat) (error : CallError) → count < work.calls → HasMade work count old → LeavesCall (turn_of work count) old new → HasCalled work new (Some error)
-called_some work count old new error below made left = elim left.log [
+pub called_some : (work : Work) (count : ℕ) (old new : Seat) (error : CallError) → count < work.calls → HasMade work count old → LeavesCall (turn_of work count) old new
+    → RefusesTurn (turn_of work count) error old new → HasCalled work new (Some error)
+called_some work count old new error below made left refuses = elim left.log [
   | inl same ↦ record {
     client = left.client ∙ made.client;
     turns = subst (AreOfTurns work) (sym same) made.turns;
     most = let len : length new.log ≡ count = ap length same ∙ made.count_is in omega (arith, len, below);
     all = λ e. some_none e;
     answered = λ e. some_none e;
+    refused = λ other is. subst (λ (e : CallError). EndsRefused work e new) (same_some error other is) (record { count = count; fewer = below; before = old; made = made; refused = refuses });
   }
   | inr more ↦ record {
     client = left.client ∙ made.client;
@@ -67,5 +63,6 @@ called_some work count old new error below made left = elim left.log [
     most = let len : length new.log ≡ count + 1 = longer old.log new.log more.entry count made.count_is more.log in omega (arith, len, below);
     all = λ e. some_none e;
     answered = λ e. some_none e;
+    refused = λ other is. subst (λ (e : CallError). EndsRefused work e new) (same_some error other is) (record { count = count; fewer = below; before = old; made = made; refused = refuses });
   }
 ]

@@ -1,10 +1,12 @@
 -- What a caller's calls come to.
-use Rattle.std.specs.Prelude.{ℕ, ◌≡◌, ◌≤◌, ◌+◌, ◌⊎◌, List, [], ◌∷◌, ◌++◌, Option, Some, None, length, slice_get}
+use Rattle.std.specs.Prelude.{ℕ, ◌≡◌, ◌<◌, ◌≤◌, ◌+◌, ◌⊎◌, List, [], ◌∷◌, ◌++◌, Option, Some, None, length, slice_get}
 use Rattle.recorder.specs.declared.part.Response.{Response}
 use Rattle.recorder.specs.Logs.{AreAnswered}
 use Rattle.seat_calls.specs.Seats.{Seat}
 use Rattle.recorder.specs.declared.log_entry.Entry.{Entry}
+use Rattle.seat_calls.specs.Answers.{FailsWith}
 use Rattle.seat_calls.specs.declared.errors.CallError.{CallError}
+use Rattle.seat_calls.specs.declared.errors.CallError.TheVariants as fault
 use Rattle.workload.specs.Turns.{action_at, key_at}
 use Rattle.workload.specs.declared.load.LoadOptions.{LoadOptions}
 use Rattle.workload.specs.declared.turns.Turn.{Turn}
@@ -45,6 +47,11 @@ pub record LeavesCall (turn : Turn) (old new : Seat) : Type 0 where
   pub client : new.client ≡ old.client
   pub log : (new.log ≡ old.log) ⊎ GrowsBy turn old new
 
+-- the turn's call was refused with that error: it is what the call's own error says of the seat; or memory was wanted
+-- before the call was made, and the seat is as it was
+abbrev pub RefusesTurn : Turn → CallError → Seat → Seat → Type 0
+RefusesTurn turn error old new = ((hall : ℕ) × FailsWith error old hall (key_at turn) (action_at turn) new) ⊎ ((error ≡ fault.Memory) × (new ≡ old))
+
 -- the client has just joined
 pub record IsFreshSeat (caller : ℕ) (s : Seat) : Type 0 where
   pub client : s.client ≡ caller
@@ -63,13 +70,29 @@ pub record AreSeated (callers : ℕ) (seats : List Seat) : Type 0 where
 abbrev pub AreOfTurns : Work → List Entry → Type 0
 AreOfTurns work log = (number : ℕ) (entry : Entry) → slice_get log number ≡ Some entry → IsOfTurn (turn_of work number) entry
 
--- the caller made the calls of its turns, in order: all of them, each answered, unless one was refused
+-- the caller made the calls of its first so many turns, in order, each answered
+pub record HasMade (work : Work) (count : ℕ) (s : Seat) : Type 0 where
+  pub client : s.client ≡ work.caller
+  pub turns : AreOfTurns work s.log
+  pub count_is : length s.log ≡ count
+  pub answered : AreAnswered s.log
+
+-- of the caller's calls the first were answered, and the next, its last, was refused with that error
+pub record EndsRefused (work : Work) (error : CallError) (s : Seat) : Type 0 where
+  pub count : ℕ
+  pub fewer : count < work.calls
+  pub before : Seat
+  pub made : HasMade work count before
+  pub refused : RefusesTurn (turn_of work count) error before s
+
+-- the caller made the calls of its turns, in order: all of them, each answered, unless one was refused, which was its last
 pub record HasCalled (work : Work) (s : Seat) (refusal : Option CallError) : Type 0 where
   pub client : s.client ≡ work.caller
   pub turns : AreOfTurns work s.log
   pub most : length s.log ≤ work.calls
   pub all : refusal ≡ None → length s.log ≡ work.calls
   pub answered : refusal ≡ None → AreAnswered s.log
+  pub refused : (error : CallError) → refusal ≡ Some error → EndsRefused work error s
 
 abbrev pub IsCalled : Work → Called → Type 0
 IsCalled work called = HasCalled work called.seat called.refusal

@@ -1,3 +1,4 @@
 pub mod Callers
+pub mod LoadErrors
 pub mod Loads
-pub mod Passages
+pub mod Passes

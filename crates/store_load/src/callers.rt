@@ -1,6 +1,6 @@
 //! Callers, each with a seat and a thread of its own.
-ghost use Rattle.std.specs.Prelude.{◌≡◌, map, IfOk, OnErr, OnOk};
-ghost use Rattle.store_load.specs.Callers.{AreKeys, AreNew, AreOfSeats, AreSeated, HasCalled, IsCalled, IsFreshSeat, LeavesCall, MakesCall, work_of};
+ghost use Rattle.std.specs.Prelude.{◌≡◌, ◌⊎◌, Err, map, IfErr, IfOk, OnErr, OnOk};
+ghost use Rattle.store_load.specs.Callers.{AreKeys, AreNew, AreOfSeats, AreSeated, HasCalled, IsCalled, IsFreshSeat, LeavesCall, MakesCall, RefusesTurn, work_of};
 
 use crate::error::LoadError;
 use node_threads::{CallError, Gate, Seat, Store};
@@ -48,6 +48,7 @@ fn call_once<R: Wait, G: Gate>(
     requires { AreKeys turn.keys }
     ensures made { OnOk result (MakesCall turn seat.old seat.new) }
     ensures left { OnErr result (LeavesCall turn seat.old seat.new) }
+    ensures refused { IfErr result (λ error. RefusesTurn turn error seat.old seat.new) }
 {
     let (key, action) = call_at(alloc, turn)?;
     store.call(rt, alloc, seat, key, action)?;
@@ -106,7 +107,8 @@ fn start<'s, 'e: 's, R: Wait + Sync, G: Gate + Send + Sync>(
 ) -> Result<PromisedHandle<Called, Work>, LoadError>
     requires keys { AreKeys work.keys }
     requires fresh { IsFreshSeat work.caller seat }
-    ensures { IfOk result (λ started. started.promise ≡ work) }
+    ensures started { IfOk result (λ started. started.promise ≡ work) }
+    ensures thread { IfErr result (λ error. error ≡ LoadError.Thread) }
 {
     let started = scope.spawn_with(
         work,
@@ -133,8 +135,9 @@ fn start_all<'s, 'e: 's, R: Wait + Sync, G: Gate + Send + Sync>(
 ) -> Result<Vec<PromisedHandle<Called, Work>>, LoadError>
     requires keys { AreKeys keys }
     requires fresh { AreNew seats.items }
-    ensures { IfOk result (λ started. map (λ h. h.promise) started.items
+    ensures started { IfOk result (λ started. map (λ h. h.promise) started.items
         ≡ map (λ s. work_of keys calls s.client) seats.items) }
+    ensures why { IfErr result (λ error. (error ≡ LoadError.Thread) ⊎ (error ≡ LoadError.Memory)) }
 {
     let mut started = Vec::new(alloc);
     for seat in seats {
@@ -163,14 +166,18 @@ where
     G: Gate + Send + Sync,
     requires keys { AreKeys keys }
     requires fresh { AreNew seats.items }
-    ensures { IfOk result (λ callers. AreOfSeats keys calls seats.items callers.items) }
+    ensures called { IfOk result (λ callers. AreOfSeats keys calls seats.items callers.items) }
+    ensures why { IfErr result (λ error. (error ≡ LoadError.Thread) ⊎ (error ≡ LoadError.Memory)) }
 {
     thread::scope(
         thread::scope_env(),
         rt,
         |scope| -> Result<Vec<Called>, LoadError>
             requires { AreKeys keys × AreNew seats.items }
-            ensures { IfOk result (λ callers. AreOfSeats keys calls seats.items callers.items) }
+            ensures called { IfOk result (λ callers.
+                AreOfSeats keys calls seats.items callers.items) }
+            ensures why { IfErr result (λ error.
+                (error ≡ LoadError.Thread) ⊎ (error ≡ LoadError.Memory)) }
         {
             let started = start_all(rt, scope, alloc, store, seats, keys, calls)?;
             Ok(join_promised(rt, started)?)
@@ -185,7 +192,9 @@ pub(crate) fn join_all<R: Wait, G: Gate>(
     store: &Store<G>,
     callers: u8,
 ) -> Result<Vec<Seat>, LoadError>
-    ensures { IfOk result (λ seats. AreSeated callers seats.items) }
+    ensures seated { IfOk result (λ seats. AreSeated callers seats.items) }
+    ensures why { IfErr result (λ error.
+        (error ≡ LoadError.ClientTaken) ⊎ (error ≡ LoadError.Memory)) }
 {
     let mut seats = Vec::new(alloc);
     for number in 0..callers {

@@ -19,6 +19,11 @@ pub enum LoadError {
 }
 
 impl From<StartError> for LoadError {
+    ghost use Rattle.std.specs.Prelude.{◌≡◌};
+    ghost use Rattle.store_load.specs.LoadErrors.{error_of_start};
+
+    ghost from_gives = { λ error e. e ≡ error_of_start error };
+
     fn from(error: StartError) -> LoadError {
         match error {
             StartError::Memory => LoadError::Memory,
@@ -28,27 +33,47 @@ impl From<StartError> for LoadError {
 }
 
 impl From<JoinError> for LoadError {
+    ghost use Rattle.std.specs.Prelude.{◌≡◌};
+    ghost use Rattle.store_load.specs.LoadErrors.{error_of_join};
+
+    ghost from_gives = { λ error e. e ≡ error_of_join error };
+
     fn from(error: JoinError) -> LoadError {
         match error {
-            JoinError::ClientTaken(_) => LoadError::ClientTaken,
-            JoinError::Memory(_) => LoadError::Memory,
+            JoinError::ClientTaken => LoadError::ClientTaken,
+            JoinError::Memory => LoadError::Memory,
         }
     }
 }
 
 impl From<Memory> for LoadError {
+    ghost use Rattle.std.specs.Prelude.{◌≡◌};
+    ghost use Rattle.store_load.specs.declared.error.LoadError.TheVariants.{Memory};
+
+    ghost from_gives = { λ _ e. e ≡ Memory };
+
     fn from(_: Memory) -> LoadError {
         LoadError::Memory
     }
 }
 
 impl From<AllocError> for LoadError {
+    ghost use Rattle.std.specs.Prelude.{◌≡◌};
+    ghost use Rattle.store_load.specs.declared.error.LoadError.TheVariants.{Memory};
+
+    ghost from_gives = { λ _ e. e ≡ Memory };
+
     fn from(_: AllocError) -> LoadError {
         LoadError::Memory
     }
 }
 
 impl<T: Drop> From<AllocFailed<T>> for LoadError {
+    ghost use Rattle.std.specs.Prelude.{◌≡◌};
+    ghost use Rattle.store_load.specs.declared.error.LoadError.TheVariants.{Memory};
+
+    ghost from_gives = { λ _ e. e ≡ Memory };
+
     fn from(_: AllocFailed<T>) -> LoadError {
         LoadError::Memory
     }

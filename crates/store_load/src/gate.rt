@@ -1,8 +1,8 @@
 //! A gate that loses and doubles parcels by their count, and reports each answer.
 ghost use Rattle.std.specs.Prelude.{◌≡◌};
-ghost use Rattle.store_load.specs.Passages.{is_hit, passage_of};
+ghost use Rattle.store_load.specs.Passes.{IsPassed, is_hit, parcels_at, pass_at, pass_of};
 
-use node_threads::{Gate, Passage, Place};
+use node_threads::{Gate, Pass, Place};
 use std::marker::Model;
 use std::sync::atomic::{AtomicU64, Ordering};
 
@@ -14,15 +14,37 @@ fn is_hit(every: u64, number: u64) -> bool
 }
 
 /// What becomes of the parcel of that number.
-pub fn passage(drop: u64, double: u64, number: u64) -> Passage
-    ensures { result ≡ passage_of drop double number }
+pub fn pass_of(drop: u64, double: u64, number: u64) -> Pass
+    ensures { result ≡ pass_of drop double number }
 {
     if is_hit(drop, number) {
-        Passage::Drop
+        Pass::Drop
     } else if is_hit(double, number) {
-        Passage::Twice
+        Pass::Twice
     } else {
-        Passage::Go
+        Pass::Go
+    }
+}
+
+/// How many parcels there are at the place: a request and a reply are one, an answer is none.
+fn parcels_at(place: &Place) -> u64
+    ensures { result ≡ parcels_at place.now }
+{
+    match place {
+        Place::Request { .. } | Place::Reply { .. } => 1,
+        Place::Respond { .. } => 0,
+    }
+}
+
+/// What becomes of what is at the place, where so many parcels came before. After 2^64 - 1 comes 0.
+pub fn pass_at(drop: u64, double: u64, before: u64, place: &Place) -> Pass
+    ensures { result ≡ pass_at drop double before place.now }
+{
+    match place {
+        Place::Request { .. } | Place::Reply { .. } => {
+            pass_of(drop, double, u64::wrapping_add(before, 1))
+        }
+        Place::Respond { .. } => Pass::Go,
     }
 }
 
@@ -41,8 +63,7 @@ impl Watch for NoWatch {
 }
 
 /// Numbers the parcels that come to it, requests and replies of all threads together, from 1, and says of
-/// each what `passage` does. After 2^64 - 1 comes 0. It tells its watch of each call that is about to be
-/// answered.
+/// each what `pass_at` does. It tells its watch of each call that is about to be answered.
 #[derive(Drop)]
 pub struct CountingGate<L> {
     drop: u64,
@@ -52,7 +73,7 @@ pub struct CountingGate<L> {
 }
 
 impl<L> Model for CountingGate<L> {
-    ghost use Rattle.store_load.specs.Passages.{ParcelCounts};
+    ghost use Rattle.store_load.specs.Passes.{ParcelCounts};
 
     ghost Value = { ParcelCounts };
 
@@ -72,19 +93,21 @@ impl<L: Watch> CountingGate<L> {
             watch,
         }
     }
+
+    /// Counts what is at the place, and says what becomes of it.
+    fn pass(&self, place: &Place) -> Pass
+        ensures { IsPassed self.now place.now result }
+    {
+        let before = self.parcels.fetch_add(parcels_at(place), Ordering::SeqCst);
+        pass_at(self.drop, self.double, before, place)
+    }
 }
 
 impl<L: Watch> Gate for CountingGate<L> {
-    fn at(&self, place: &Place) -> Passage {
-        match place {
-            Place::Respond { .. } => {
-                self.watch.answered();
-                Passage::Go
-            }
-            Place::Request { .. } | Place::Reply { .. } => {
-                let before = self.parcels.fetch_add(1, Ordering::SeqCst);
-                passage(self.drop, self.double, u64::wrapping_add(before, 1))
-            }
+    fn at(&self, place: &Place) -> Pass {
+        if let Place::Respond { .. } = place {
+            self.watch.answered();
         }
+        self.pass(place)
     }
 }

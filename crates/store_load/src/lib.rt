@@ -11,5 +11,5 @@ mod load_run;
 
 pub use callers::Called;
 pub use error::LoadError;
-pub use gate::{CountingGate, NoWatch, Watch, passage};
-pub use load_run::{LoadOutcome, Refused, run_load};
+pub use gate::{CountingGate, NoWatch, Watch, pass_at, pass_of};
+pub use load_run::{LoadOutcome, Refused, run_load, world_of};

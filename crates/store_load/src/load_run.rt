@@ -1,6 +1,6 @@
 //! A load, from the start of its store to its end.
-ghost use Rattle.std.specs.Prelude.{◌≡◌, ◌++◌, map, IfOk, OnOk};
-ghost use Rattle.store_load.specs.Loads.{IsLoaded, refusals_of, refused_of, store_of, world_of};
+ghost use Rattle.std.specs.Prelude.{◌≡◌, ◌++◌, map, IfErr, IfOk, OnOk};
+ghost use Rattle.store_load.specs.Loads.{IsLoaded, gate_of, refusals_of, refused_of, store_of, world_of};
 ghost use Rattle.workload.specs.Loads.{IsInRange};
 
 use crate::callers::{Called, call_together, join_all};
@@ -32,8 +32,9 @@ pub struct LoadOutcome {
     pub closed: Result<Closed, CloseError>,
 }
 
-/// What is fixed of each hall's world: up to 1,000,000 calls and 4,000,000 messages.
-fn world_of(load: &LoadOptions) -> Config
+/// What is fixed of each hall's world by a load: its quorums, how its clients read, and up to 1,000,000
+/// calls and 4,000,000 messages.
+pub fn world_of(load: &LoadOptions) -> Config
     ensures { result ≡ world_of load.now }
 {
     let Some(config) = Config::new(load.quorums.replicas(), 1_000_000, 4_000_000) else {
@@ -43,6 +44,13 @@ fn world_of(load: &LoadOptions) -> Config
         unreachable!()
     };
     config
+}
+
+/// The gate of a load: it drops and doubles by the load's counts.
+fn gate_of<L: Watch>(load: &LoadOptions, watch: L) -> CountingGate<L>
+    ensures { result ≡ gate_of load.now }
+{
+    CountingGate::new(u64::from(load.drop), u64::from(load.double), watch)
 }
 
 /// Starts the store of a load.
@@ -64,8 +72,7 @@ where
         rounds: load.rounds,
         halls: load.halls,
     };
-    let gate = CountingGate::new(u64::from(load.drop), u64::from(load.double), watch);
-    Ok(Store::start(rt, alloc, config, gate)?)
+    Ok(Store::start(rt, alloc, config, gate_of(load, watch))?)
 }
 
 /// Adds the caller, where its call was refused.
@@ -74,7 +81,9 @@ fn add_refusal(
     caller: ClientId,
     refusal: Option<CallError>,
 ) -> Result<(), LoadError>
-    ensures { OnOk result (refusals.new.items ≡ refusals.old.items ++ refused_of caller refusal) }
+    ensures added { OnOk result (refusals.new.items
+        ≡ refusals.old.items ++ refused_of caller refusal) }
+    ensures memory { IfErr result (λ error. error ≡ LoadError.Memory) }
 {
     let Some(error) = refusal else {
         return Ok(());
@@ -90,6 +99,7 @@ fn split_callers(
 ) -> Result<(Vec<Seat>, Vec<Refused>), LoadError>
     ensures seats { IfOk result (λ both. both.0.items ≡ map (λ c. c.seat) callers.items) }
     ensures refused { IfOk result (λ both. both.1.items ≡ refusals_of callers.items) }
+    ensures memory { IfErr result (λ error. error ≡ LoadError.Memory) }
 {
     let mut seats = Vec::new(alloc);
     let mut refusals = Vec::new(alloc);

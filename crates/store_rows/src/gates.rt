@@ -1,6 +1,6 @@
 //! Gates that aren't kind, and gates that wait.
 use crate::signals::{Signal, Signals};
-use node_threads::{Gate, Passage, Place};
+use node_threads::{Gate, Pass, Place};
 use std::alloc::Global;
 use std::sync::Arc;
 use std::sync::atomic::{AtomicU64, Ordering};
@@ -12,10 +12,10 @@ use tag::OpId;
 pub struct LosesReplies;
 
 impl Gate for LosesReplies {
-    fn at(&self, place: &Place) -> Passage {
+    fn at(&self, place: &Place) -> Pass {
         match place {
-            Place::Reply { .. } => Passage::Drop,
-            Place::Request { .. } | Place::Respond { .. } => Passage::Go,
+            Place::Reply { .. } => Pass::Drop,
+            Place::Request { .. } | Place::Respond { .. } => Pass::Go,
         }
     }
 }
@@ -25,8 +25,8 @@ impl Gate for LosesReplies {
 pub struct Twins;
 
 impl Gate for Twins {
-    fn at(&self, place: &Place) -> Passage {
-        Passage::Twice
+    fn at(&self, place: &Place) -> Pass {
+        Pass::Twice
     }
 }
 
@@ -37,17 +37,17 @@ pub struct FifthAndSeventh {
 }
 
 impl Gate for FifthAndSeventh {
-    fn at(&self, place: &Place) -> Passage {
+    fn at(&self, place: &Place) -> Pass {
         if matches!(place, Place::Respond { .. }) {
-            return Passage::Go;
+            return Pass::Go;
         }
         let number = u64::wrapping_add(self.parcels.fetch_add(1, Ordering::SeqCst), 1);
         if number % 5 == 0 {
-            Passage::Drop
+            Pass::Drop
         } else if number % 7 == 0 {
-            Passage::Twice
+            Pass::Twice
         } else {
-            Passage::Go
+            Pass::Go
         }
     }
 }
@@ -62,12 +62,12 @@ pub struct HoldsPlace<R> {
 }
 
 impl<R: Clock> Gate for HoldsPlace<R> {
-    fn at(&self, place: &Place) -> Passage {
+    fn at(&self, place: &Place) -> Pass {
         let came = u64::wrapping_add(self.came.fetch_add(1, Ordering::SeqCst), 1);
         if came == self.number {
             self.signals.hold(&self.rt);
         }
-        Passage::Go
+        Pass::Go
     }
 }
 
@@ -79,13 +79,13 @@ pub struct HoldsAnswer<R> {
 }
 
 impl<R: Clock> Gate for HoldsAnswer<R> {
-    fn at(&self, place: &Place) -> Passage {
+    fn at(&self, place: &Place) -> Pass {
         if let Place::Respond { call, .. } = place
             && *call == OpId(0)
         {
             self.signals.hold(&self.rt);
         }
-        Passage::Go
+        Pass::Go
     }
 }
 
@@ -105,7 +105,7 @@ pub struct MeetsAtReplies<R> {
 }
 
 impl<R: Clock> Gate for MeetsAtReplies<R> {
-    fn at(&self, place: &Place) -> Passage {
+    fn at(&self, place: &Place) -> Pass {
         if let Place::Reply { replica, .. } = place {
             let (own, other) = if replica.get() == 0 {
                 (&self.meeting.zero, &self.meeting.one)
@@ -117,6 +117,6 @@ impl<R: Clock> Gate for MeetsAtReplies<R> {
                 self.meeting.missed.give();
             }
         }
-        Passage::Go
+        Pass::Go
     }
 }

@@ -2,15 +2,20 @@
 #![tactic(auto)]
 
 mod gates;
+mod journal_rows;
+mod journals;
 mod loads;
 mod rows;
 mod scene;
 mod signals;
 mod waits;
 
+use crate::journal_rows::JOURNAL_ROWS;
+use crate::journals::left_by;
 use crate::loads::{FOUR_HALLS, PLAIN, SHORT, VOTES, four_callers, four_callers_twice};
 use crate::rows::{
-    few_calls, few_flights, lost_replies, name_taken, stopped_replicas, two_stores, written_twice,
+    few_calls, few_flights, lost_replies, name_taken, other_halls, seen_too_much,
+    stopped_in_all_halls, stopped_replicas, two_stores, written_twice,
 };
 use crate::waits::{
     answered_beside_a_looker, held_until_another_is_answered, one_stopped_at_each_place,
@@ -24,6 +29,19 @@ use std::time::Clock;
 /// Prints a row.
 fn show(rt: &HostRuntime, name: &str, found: Option<&str>) {
     let _ = println!(rt; "{}: {}", name, found.unwrap_or("not run"));
+}
+
+/// Rows of what calls of one client leave.
+fn show_journals<R>(rt: &HostRuntime, threads: &R)
+where
+    R: Threads + Wait + Copy + Send + Sync + 'static,
+{
+    for row in &JOURNAL_ROWS {
+        match left_by(threads, rt.alloc(), row.calls) {
+            Some(left) => show(rt, row.name, Some(left.text_of(row.about))),
+            None => show(rt, row.name, None),
+        }
+    }
 }
 
 /// Rows of four callers.
@@ -100,7 +118,23 @@ fn main(rt: HostRuntime) -> ExitCode {
         "two of three replicas stopped",
         stopped_replicas(&rt, alloc),
     );
+    show(
+        &rt,
+        "a replica stopped in all halls",
+        stopped_in_all_halls(&rt, alloc),
+    );
+    show(
+        &rt,
+        "a seat of a store with other halls",
+        other_halls(&rt, alloc),
+    );
+    show(
+        &rt,
+        "a seat that has seen more than there is",
+        seen_too_much(&rt, alloc),
+    );
     show(&rt, "a name that joined", name_taken(&rt, alloc));
+    show_journals(&rt, &rt);
     show_loads(&rt, &rt);
     show_waits(&rt, &rt);
     ExitCode::SUCCESS

@@ -1,7 +1,8 @@
 //! The rows.
 use crate::gates::{LosesReplies, Twins};
 use crate::scene::{
-    AMPLE, Limits, are_atomic, both, failed, gave_a, read, seat_of, store_of, word, write,
+    AMPLE, Limits, are_atomic, both, config_of, failed, gave_a, read, seat_of, store_of, word,
+    write,
 };
 use node_threads::{Answer, CallError, CloseError, Closed, JoinError, OpenGate, Seat, Store};
 use recorder::Row;
@@ -201,7 +202,100 @@ where
     let seat = seat_of(rt, alloc, &store, 7)?;
     let taken = match store.join(rt, alloc, ClientId::new(7).ok()?) {
         Ok(_) => false,
-        Err(error) => matches!(error, JoinError::ClientTaken(_)),
+        Err(error) => error == JoinError::ClientTaken,
     };
     Some(word(taken && seat.log().is_empty()))
+}
+
+/// A seat of a store of one hall makes no call in a store of that number with two halls, is shown no record of it, and
+/// doesn't close it.
+pub fn other_halls<R>(rt: &R, alloc: Global) -> Option<&'static str>
+where
+    R: Threads + Wait + Copy + Send + 'static,
+{
+    let one = store_of(rt, alloc, 1, AMPLE, OpenGate)?;
+    let two = Store::start(rt, alloc, config_of(3, 1000, 2)?, OpenGate).ok()?;
+    let mut seat = seat_of(rt, alloc, &one, 1)?;
+    let called = failed(read(rt, alloc, &two, &mut seat), CallError::Foreign);
+    let same = seat.seen(0) == 0 && seat.log().is_empty();
+    let shown = is_shown_nothing(rt, alloc, &two, &seat, 0)
+        && is_shown_nothing(rt, alloc, &two, &seat, 1);
+    let mut seats = Vec::new(alloc);
+    seats.push(seat).ok()?;
+    let closed = two.close(rt, alloc, seats);
+    let mismatch = matches!(closed, Err(CloseError::SeatMismatch));
+    Some(word(called && same && shown && mismatch))
+}
+
+/// Whether the seat is foreign where a hall's record is asked for.
+fn is_shown_nothing<R: Wait>(
+    rt: &R,
+    alloc: Global,
+    store: &Store<OpenGate>,
+    seat: &Seat,
+    hall: u8,
+) -> bool {
+    let shown = store.snapshot(rt, alloc, seat, hall);
+    matches!(shown, Some(Err(CallError::Foreign)))
+}
+
+/// A seat that has seen more than its store's record has makes no call, is shown no record, and isn't spent. It met a
+/// receipt of another store of that number.
+pub fn seen_too_much<R>(rt: &R, alloc: Global) -> Option<&'static str>
+where
+    R: Threads + Wait + Copy + Send + 'static,
+{
+    let one = store_of(rt, alloc, 1, AMPLE, OpenGate)?;
+    let other = store_of(rt, alloc, 1, AMPLE, OpenGate)?;
+    let mut writer = seat_of(rt, alloc, &other, 1)?;
+    let mut seat = seat_of(rt, alloc, &one, 1)?;
+    let met = has_met(write(rt, alloc, &other, &mut writer), &mut seat);
+    let called = failed(read(rt, alloc, &one, &mut seat), CallError::Foreign);
+    let shown = is_shown_nothing(rt, alloc, &one, &seat, 0);
+    let kept = !seat.is_spent() && seat.log().is_empty() && seat.seen(0) == 3;
+    let untouched = one.look(rt, 0, |world| {
+        world.history().rows().is_empty() && world.pool().sent() == 0
+    });
+    Some(word(met && called && shown && kept && untouched == Some(true)))
+}
+
+/// A replica goes down in each of two halls and of four, and up again in each.
+pub fn stopped_in_all_halls<R>(rt: &R, alloc: Global) -> Option<&'static str>
+where
+    R: Threads + Wait + Copy + Send + 'static,
+{
+    let two = go_down_in_all(rt, alloc, 2)?;
+    let four = go_down_in_all(rt, alloc, 4)?;
+    Some(word(two && four))
+}
+
+/// Whether a replica goes down and up in each of so many halls, once.
+fn go_down_in_all<R>(rt: &R, alloc: Global, halls: u8) -> Option<bool>
+where
+    R: Threads + Wait + Copy + Send + 'static,
+{
+    let store = Store::start(rt, alloc, config_of(3, 1000, halls)?, OpenGate).ok()?;
+    let one = ReplicaId::new(1)?;
+    let down = store.stop_replica(rt, one).is_ok() && stand(rt, &store, halls, false);
+    let once = store.stop_replica(rt, one) == Err(Refusal::ReplicaDown);
+    let up = store.start_replica(rt, one).is_ok() && stand(rt, &store, halls, true);
+    let again = store.start_replica(rt, one) == Err(Refusal::ReplicaUp);
+    Some(down && once && up && again)
+}
+
+/// Whether replica 1 stands so in each of so many halls, and replicas 0 and 2 are up.
+fn stand<R: Wait>(rt: &R, store: &Store<OpenGate>, halls: u8, is_up: bool) -> bool {
+    for hall in 0..halls {
+        let (zero, one, two) = (ReplicaId::new(0), ReplicaId::new(1), ReplicaId::new(2));
+        let (Some(zero), Some(one), Some(two)) = (zero, one, two) else {
+            return false;
+        };
+        let stands = store.look(rt, hall, |world| {
+            world.is_up(zero) && world.is_up(two) && world.is_up(one) == is_up
+        });
+        if stands != Some(true) {
+            return false;
+        }
+    }
+    true
 }

@@ -177,7 +177,7 @@ fn have_orders(alloc: Global, parts: &Parts, orders: &[KeyOrder]) -> bool {
 
 /// Whether the order is one of its key's calls.
 fn is_in_order(alloc: Global, parts: &Parts, key_order: &KeyOrder) -> Option<bool> {
-    let part = parts.get(&key_order.key).ok()??;
+    let part = parts.get(&key_order.key)?;
     let verdict = check_part(alloc, part, key_order.order.as_slice()).ok()?;
     Some(verdict == Verdict::Yes)
 }

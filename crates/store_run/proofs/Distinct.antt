@@ -4,7 +4,6 @@ use Rattle.std.specs.List.{slice_get}
 use Rattle.std.specs.Option.{option_map}
 use Rattle.std.proofs.lemmas.List.Elements.{All-get_or}
 use Rattle.std.proofs.lemmas.Option.{get_or_from_slice_get, slice_get-map, slice_get_within}
-use Rattle.quorum.specs.Quorums.{Quorums}
 use Rattle.recorder.specs.Halls.{AreHalls, FallsTo, IsHallOf, hall_of}
 use Rattle.recorder.specs.Records.{IsFirstSeen}
 use Rattle.recorder.specs.declared.order.KeyOrder.{KeyOrder}
@@ -108,8 +107,8 @@ own_distinct count first (closed ∷ halls) own i j a b lt at_i at_j same = elim
 ]
 
 -- the orders that closed halls leave, where the halls' records are histories by hall
-pub joined_distinct : (halls : List ClosedHall) (quorums : Quorums) → AreClosed halls → AreHalls (record_of halls quorums) → AreDistinct (orders_in halls)
-joined_distinct halls quorums closed are = own_distinct (length (histories_in halls)) 0 halls (record {
+pub joined_distinct : (halls : List ClosedHall) → AreClosed halls → AreHalls (record_of halls) → AreDistinct (orders_in halls)
+joined_distinct halls closed are = own_distinct (length (histories_in halls)) 0 halls (record {
   distinct = λ k one at. distinct one.history.rows one.orders.items (closed k one at).atomic;
   keys = λ k one at.
       let there : slice_get (histories_in halls) k ≡ Some one.history = slice_get-map (λ (h : ClosedHall). h.history) halls k ∙ ap (option_map (λ (h : ClosedHall). h.history)) at in

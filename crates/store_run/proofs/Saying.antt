@@ -7,24 +7,36 @@ use Rattle.cli.specs.declared.status.Failure.TheVariants as failure
 use Rattle.cli.specs.declared.status.Status.{Status}
 use Rattle.cli.specs.declared.status.Status.TheVariants as status
 use Rattle.node_threads.specs.declared.closing.ClosedHall.{ClosedHall}
-use Rattle.store_run.specs.Messages.{Says, SaysEnding, TellsKey, TellsWant, key_line, key_lines}
-use Rattle.quorum.specs.Quorums.{Quorums}
+use Rattle.store_run.specs.Messages.{Says, SaysEnding, TellsKey, TellsWant, check_line, key_line, key_lines, no_text_line}
+use Rattle.parallel_keys.specs.declared.error.CheckError.{CheckError}
+use Rattle.parallel_keys.specs.declared.error.CheckError.TheVariants as check
 use Rattle.recorder.specs.Halls.{RecordedHalls}
 use Rattle.recorder.specs.declared.order.KeyOrder.{KeyOrder}
 use Rattle.store_run.specs.RecordVerdicts.{IsFirstNoOfHalls, IsFirstNoOfRecord}
 use Rattle.store_run.specs.Records.{histories_in, orders_in, record_of}
 use Rattle.store_run.specs.Runs.{status_of_check}
 use Rattle.store_run.specs.declared.check_record.RefusedKey.{RefusedKey}
+use Rattle.store_run.specs.declared.shown.NoText.{NoText}
+use Rattle.store_run.specs.declared.shown.NoText.TheVariants as none
 
 -- what was checked are the halls
-pub checked_halls : (halls : List ClosedHall) (quorums : Quorums) (histories : RecordedHalls) (orders : List KeyOrder) (first : Option RefusedKey) → histories ≡ record_of halls quorums → orders ≡ orders_in halls
+pub checked_halls : (halls : List ClosedHall) (histories : RecordedHalls) (orders : List KeyOrder) (first : Option RefusedKey) → histories ≡ record_of halls → orders ≡ orders_in halls
     → IsFirstNoOfRecord histories.halls orders first → IsFirstNoOfHalls halls first
-checked_halls halls quorums histories orders first are ordered checked =
+checked_halls halls histories orders first are ordered checked =
     subst (λ (l : List KeyOrder). IsFirstNoOfRecord (histories_in halls) l first) ordered (subst (λ (r : RecordedHalls). IsFirstNoOfRecord r.halls orders first) are checked)
 
 -- two states of a writer, by what each had taken and how often it had failed
 abbrev pub between : Option (List ℕ) → Option (List ℕ) → ℕ → ℕ → WriterStates
 between old new failures failures_now = record { old = old; new = new; failures = failures; failures_now = failures_now }
+
+-- why the keys weren't checked, or there is no text, is a want of something
+pub wants_check : (error : CheckError) (errors : WriterStates) → Tells errors (check_line error) → TellsWant errors
+wants_check check.Memory errors told = (failure_line failure.Memory, inl refl, told)
+wants_check check.Thread errors told = (failure_line failure.Thread, inr (inl refl), told)
+
+pub wants_text : (error : NoText) (errors : WriterStates) → Tells errors (no_text_line error) → TellsWant errors
+wants_text none.Memory errors told = (failure_line failure.Memory, inl refl, told)
+wants_text none.Apart errors told = (no_text_line none.Apart, inr (inr refl), told)
 
 -- a line alone
 pub says_one : (w : WriterStates) (line : List ℕ) → Tells w line → Says w (line ∷ [])

@@ -11,11 +11,15 @@ use Rattle.node_threads.specs.Numbers.{close_error_name, close_error_number}
 use Rattle.node_threads.specs.declared.closing.ClosedHall.{ClosedHall}
 use Rattle.node_threads.specs.declared.errors.CloseError.{CloseError}
 use Rattle.seat_calls.specs.Numbers.{call_error_name, call_error_number}
+use Rattle.parallel_keys.specs.declared.error.CheckError.{CheckError}
+use Rattle.parallel_keys.specs.declared.error.CheckError.TheVariants as check
 use Rattle.store_load.specs.declared.error.LoadError.{LoadError}
 use Rattle.store_load.specs.declared.error.LoadError.TheVariants as load
 use Rattle.store_load.specs.declared.load_run.Refused.{Refused}
 use Rattle.store_run.specs.RecordVerdicts.{IsFirstNoOfHalls}
 use Rattle.store_run.specs.declared.check_record.RefusedKey.{RefusedKey}
+use Rattle.store_run.specs.declared.shown.NoText.{NoText}
+use Rattle.store_run.specs.declared.shown.NoText.TheVariants as none
 
 -- the lines went out one after another, each whole or, where the writer failed, a beginning of it, and nothing else did
 abbrev pub Says : WriterStates → List (List ℕ) → Type 0
@@ -41,6 +45,16 @@ load_line load.ClientTaken = codes "abd: a caller's name was taken\n"
 -- the store wasn't closed
 abbrev pub close_line : CloseError → List ℕ
 close_line error = codes "abd: close refused " ++ decimal (close_error_number error) ++ codes " " ++ close_error_name error ++ codes "\n"
+
+-- the keys weren't checked
+abbrev pub check_line : CheckError → List ℕ
+check_line check.Memory = failure_line failure.Memory
+check_line check.Thread = failure_line failure.Thread
+
+-- there is no text to write
+abbrev pub no_text_line : NoText → List ℕ
+no_text_line none.Memory = failure_line failure.Memory
+no_text_line none.Apart = codes "abd: the halls' records make no history\n"
 
 -- a key is refused
 abbrev pub key_line : RefusedKey → List ℕ

@@ -1,5 +1,5 @@
 -- The verdicts on the record and the orders that a closed store leaves.
-use Rattle.std.specs.Prelude.{ℕ, ◌≡◌, ◌<◌, List, Option, Some, None, slice_get}
+use Rattle.std.specs.Prelude.{ℕ, ◌≡◌, ◌<◌, Bool, true, false, List, Option, Some, None, slice_get}
 use Rattle.certificate_check.specs.declared.verdict.Verdict.{Verdict}
 use Rattle.certificate_check.specs.declared.verdict.Verdict.TheVariants.{Yes, No}
 use Rattle.node_threads.specs.declared.closing.ClosedHall.{ClosedHall}
@@ -8,6 +8,11 @@ use Rattle.recorder.specs.Histories.{Recorded}
 use Rattle.recorder.specs.declared.order.KeyOrder.{KeyOrder}
 use Rattle.store_run.specs.Records.{histories_in, orders_in}
 use Rattle.store_run.specs.declared.check_record.RefusedKey.{RefusedKey}
+
+-- the verdict is yes
+abbrev pub is_yes : Verdict → Bool
+is_yes Yes = true
+is_yes (No fault) = false
 
 -- the verdict on each of the first keys is yes
 abbrev pub AreYes : KeyVerdicts → ℕ → Type 0

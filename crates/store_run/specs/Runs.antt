@@ -10,12 +10,12 @@ use Rattle.node_threads.specs.declared.closing.ClosedHall.{ClosedHall}
 use Rattle.node_threads.specs.declared.errors.CloseError.{CloseError}
 use Rattle.node_threads.specs.declared.errors.CloseError.TheVariants as close
 use Rattle.run_words.specs.declared.asked.RunAsked.{RunAsked}
-use Rattle.store_load.specs.Loads.{IsLoaded}
+use Rattle.store_load.specs.Loads.{IsLoaded, world_of}
 use Rattle.store_load.specs.declared.error.LoadError.{LoadError}
 use Rattle.store_load.specs.declared.load_run.LoadOutcome.{LoadOutcome}
 use Rattle.store_run.specs.Messages.{AreEnding, Says, close_line, load_line, refusal_lines}
 use Rattle.store_run.specs.RecordVerdicts.{IsFirstNoOfHalls}
-use Rattle.store_run.specs.Records.{record_of}
+use Rattle.store_run.specs.Records.{AreConfigured, record_of}
 use Rattle.store_run.specs.Shown.{IsShownText}
 use Rattle.store_run.specs.declared.check_record.RefusedKey.{RefusedKey}
 
@@ -29,9 +29,10 @@ abbrev pub status_of_check : Option RefusedKey → Status
 status_of_check None = status.Good
 status_of_check (Some refused) = status.Refused
 
--- that holds of the text of what is shown of the halls
+-- the halls were configured as the run was asked for, and that holds of the text of what is shown of them
 abbrev pub Sends : RunAsked → List ClosedHall → (List ℕ → Type 0) → Type 0
-Sends asked halls P = (text : List ℕ) × IsShownText (record_of halls asked.load.quorums) asked.shown text × P text
+Sends asked halls P =
+    AreConfigured (world_of asked.load) halls × (text : List ℕ) × IsShownText (record_of halls) asked.shown text × P text
 
 -- what the status says of closed halls: the text of what is shown went out, and the verdict on each key of every
 -- hall is yes, or a key is refused; or nothing went out, or a beginning of that text

@@ -10,6 +10,6 @@ mod run;
 mod shown;
 mod telling;
 
-pub use check_record::{RefusedKey, first_refused};
+pub use check_record::{KeyWatch, RefusedKey, first_refused};
 pub use run::run_command;
 pub use store_load::{NoWatch, Watch};

@@ -6,7 +6,7 @@ ghost use Rattle.node_threads.specs.Closings.{AreClosed};
 ghost use Rattle.store_run.specs.Messages.{SaysEnding};
 ghost use Rattle.store_run.specs.Runs.{Ends, EndsRun};
 
-use crate::check_record::first_refused;
+use crate::check_record::{KeyWatch, first_refused};
 use crate::join_halls::{ClosedRecord, closed_record};
 use crate::shown::shown_text;
 use crate::telling::{
@@ -19,7 +19,7 @@ use run_words::RunAsked;
 use std::alloc::Global;
 use std::sync::Wait;
 use std::thread::Threads;
-use store_load::{LoadOutcome, Watch, run_load};
+use store_load::{LoadOutcome, Watch, run_load, world_of};
 
 /// Checks the keys of the closed halls, and writes what is shown of their histories.
 #[tactic(auto, using(crate::proofs::Ending::ends_checked))]
@@ -28,6 +28,7 @@ fn finish<R: Threads + Wait, W: CountedWrite, E: CountedWrite>(
     alloc: Global,
     asked: RunAsked,
     halls: Vec<ClosedHall>,
+    key_watch: &impl KeyWatch,
     out: &mut W,
     errors: &mut E,
 ) -> Status
@@ -40,12 +41,12 @@ fn finish<R: Threads + Wait, W: CountedWrite, E: CountedWrite>(
     ensures failed { result ≡ Status.Failed
         → (out.new ≡ out.old) ⊎ IsOneMore (W.failures out.old) (W.failures out.new) }
 {
-    let quorums = asked.load.options().quorums;
-    let ClosedRecord { histories, orders } = match closed_record(alloc, halls, quorums) {
+    let config = world_of(&asked.load.options());
+    let ClosedRecord { histories, orders } = match closed_record(alloc, halls, config) {
         Ok(record) => record,
         Err(error) => return tell_no_text(error, errors),
     };
-    let first = match first_refused(rt, alloc, &histories, orders.as_slice()) {
+    let first = match first_refused(rt, alloc, &histories, orders.as_slice(), key_watch) {
         Ok(first) => first,
         Err(error) => return tell_check(error, errors),
     };
@@ -63,20 +64,23 @@ fn finish<R: Threads + Wait, W: CountedWrite, E: CountedWrite>(
     }
 }
 
-/// Runs a store under the load, closes it, checks each key of each hall, and writes the history of the
-/// hall that is shown, or the histories of all halls, by hall.
+/// Runs a store under the load, closes it, checks each key of each hall, and writes the history of
+/// the hall that is shown, or the histories of all halls, by hall.
 ///
-/// `Good` where the verdict on every key is yes. The history is written also where a key is refused;
-/// nothing is where the load wasn't run to its end, the store wasn't closed, or memory ran out. On
-/// `errors` is said, in this order: which callers' calls were refused, why the store wasn't closed, the
-/// first key that is refused, a failure. The watch is told of each call that is about to be answered, on
-/// its caller's thread, and of none once any of this is said.
+/// `Good` where the verdict on every key is yes. The history is written also where a key is
+/// refused, with the quorums that the closed halls were configured with; nothing is where the load
+/// wasn't run to its end, the store wasn't closed, a closed hall has another configuration than
+/// was asked for, or memory ran out. On `errors` is said, in this order: which callers' calls were
+/// refused, why the store wasn't closed, the first key that is refused, a failure. The watch is
+/// told of each call that is about to be answered, on its caller's thread, and of none once any of
+/// this is said; the other watch, how many keys were checked, and how many of them are yes.
 #[tactic(auto, using(crate::proofs::Ending::ends_closed, crate::proofs::Ending::ends_open))]
 pub fn run_command<R, L, W: CountedWrite, E: CountedWrite>(
     rt: &R,
     alloc: Global,
     asked: RunAsked,
     watch: L,
+    key_watch: &impl KeyWatch,
     out: &mut W,
     errors: &mut E,
 ) -> Status
@@ -96,7 +100,7 @@ where
     let LoadOutcome { refusals, closed } = loaded;
     tell_refusals(refusals.as_slice(), errors);
     match closed {
-        Ok(closed) => finish(rt, alloc, asked, closed.halls, out, errors),
+        Ok(closed) => finish(rt, alloc, asked, closed.halls, key_watch, out, errors),
         Err(error) => tell_close(error, errors),
     }
 }

@@ -15,11 +15,17 @@ use tag::Memory;
 pub(crate) enum NoText {
     /// A growth was refused.
     Memory,
-    /// The records aren't those of a row of halls. A store leaves none such.
+    /// The records aren't those of a row of halls, or not of halls that were asked for. A store
+    /// leaves none such.
     Apart,
 }
 
 impl From<Memory> for NoText {
+    ghost use Rattle.std.specs.Prelude.{◌≡◌};
+    ghost use Rattle.store_run.specs.declared.shown.NoText.TheVariants.{Memory};
+
+    ghost from_gives = { λ _ e. e ≡ Memory };
+
     fn from(_: Memory) -> NoText {
         NoText::Memory
     }

@@ -2,7 +2,8 @@
 ghost use Rattle.std.specs.Prelude.{◌≡◌, ◌++◌, codes};
 ghost use Rattle.cli.specs.Passages.{Tells, states};
 ghost use Rattle.cli.specs.declared.status.Status.{Status};
-ghost use Rattle.store_run.specs.Messages.{Says, TellsKey, TellsWant, close_line, load_line, refusal_line, refusal_lines};
+ghost use Rattle.store_run.specs.Messages.{Says, TellsKey, check_line, close_line, load_line};
+ghost use Rattle.store_run.specs.Messages.{no_text_line, refusal_line, refusal_lines};
 ghost use Rattle.store_run.specs.Runs.{status_of_close};
 
 use crate::check_record::RefusedKey;
@@ -95,7 +96,7 @@ fn say_close<'a, E: CountedWrite>(number: &'a str, name: &'a str, errors: &mut E
 /// Says why the keys weren't checked. The status.
 pub(crate) fn tell_check<E: CountedWrite>(error: CheckError, errors: &mut E) -> Status
     ensures status { result ≡ Status.Failed }
-    ensures told { TellsWant (states E.contents E.failures errors.old errors.new) }
+    ensures told { Tells (states E.contents E.failures errors.old errors.new) (check_line error) }
 {
     match error {
         CheckError::Memory => Failure::Memory.report(errors),
@@ -106,7 +107,8 @@ pub(crate) fn tell_check<E: CountedWrite>(error: CheckError, errors: &mut E) -> 
 /// Says why there is no text to write. The status.
 pub(crate) fn tell_no_text<E: CountedWrite>(error: NoText, errors: &mut E) -> Status
     ensures status { result ≡ Status.Failed }
-    ensures told { TellsWant (states E.contents E.failures errors.old errors.new) }
+    ensures told { Tells (states E.contents E.failures errors.old errors.new)
+        (no_text_line error) }
 {
     match error {
         NoText::Memory => Failure::Memory.report(errors),

@@ -9,6 +9,7 @@ ghost use Rattle.std.specs.Cmp.Rules.{hashing};
 ghost use Rattle.std.specs.List.{list_all};
 ghost use Rattle.std.specs.Option.{option_copied};
 ghost use Rattle.tag.specs.Names.{is_key_byte, is_key, is_value};
+ghost use Rattle.tag.specs.Numbers.{name_error_number};
 
 use crate::Memory;
 use std::alloc::Global;
@@ -29,6 +30,20 @@ pub enum NameError {
     BadClient,
     #[error("no memory")]
     Memory,
+}
+
+impl NameError {
+    /// Its number in the order of the reasons, 1 to 4.
+    pub fn number(self) -> u8
+        ensures { result ≡ name_error_number self }
+    {
+        match self {
+            NameError::BadKey => 1,
+            NameError::BadValue => 2,
+            NameError::BadClient => 3,
+            NameError::Memory => 4,
+        }
+    }
 }
 
 /// A key: 1 to 64 bytes, each an ASCII letter, a digit, or one of `.` `_` `-`.

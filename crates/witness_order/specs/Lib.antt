@@ -1,3 +1,4 @@
 pub mod Keys
 pub mod Notes
+pub mod Numbers
 pub mod RecordOrders

@@ -1,4 +1,7 @@
 //! Why a part has no tag order.
+ghost use Rattle.std.specs.Prelude.{◌≡◌};
+ghost use Rattle.witness_order.specs.Numbers.{witness_error_number};
+
 use std::alloc::{AllocError, AllocFailed};
 use tag::OpId;
 use thiserror::Error;
@@ -11,6 +14,18 @@ pub enum WitnessError {
     NoNote(OpId),
     #[error("no memory")]
     Memory,
+}
+
+impl WitnessError {
+    /// Its number in the order of the reasons, 1 or 2.
+    pub fn number(self) -> u8
+        ensures { result ≡ witness_error_number self }
+    {
+        match self {
+            WitnessError::NoNote(_) => 1,
+            WitnessError::Memory => 2,
+        }
+    }
 }
 
 impl From<AllocError> for WitnessError {

@@ -15,7 +15,7 @@ returns-in_err-checked-clause-begun g c =
 pub returns-in_err-checked-clause-output : goal.returns-in_err-checked-clause-output
 returns-in_err-checked-clause-output g c =
     let p = err_from_is_err_and c.from_residual.result c.from_residual.ensures.1 in
-    rw (p.1, p.2) (halted _ _ c.args.out.now)
+    rw (p.1, p.2) (halted c.args.workers _ _ c.args.out.now c.in_err-checked.ensures)
 
 pub returns-in-Ok-clause-checked : goal.returns-in-Ok-clause-checked
 returns-in-Ok-clause-checked g c = λ pieces joined.

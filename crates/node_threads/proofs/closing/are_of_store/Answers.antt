@@ -1,4 +1,4 @@
-use Rattle.std.proofs.Common.{◌∙◌, sym, arith}
+use Rattle.std.proofs.Common.{refl, arith}
 use Rattle.node_threads.specs.Closings.{IsOfStore}
 use Rattle.node_threads.proofs.Leaving.{one_more}
 use Rattle.node_threads.proofs.Lists.{item_at}
@@ -7,9 +7,9 @@ use Rattle.node_threads.proofs.closing.are_of_store.Goals as goal
 pub loop-seat-preserved : goal.loop-seat-preserved
 loop-seat-preserved c =
     let l = c.loop-seat in
-    one_more (λ k s. IsOfStore c.args.number c.args.halls s) c.args.seats.now l.seat-index c.seat-item.result l.invariant
+    one_more (λ k s. IsOfStore c.args.config.now s) c.args.seats.now l.seat-index c.seat-item.result l.invariant
     (item_at c.args.seats.now l.seat-index c.seat-item.result c.loop-seat-test.true c.seat-item.is)
-    (record { store = sym c.store.ensures ∙ c.if-store-number.false; halls = sym c.halls.ensures ∙ c.if-halls.false })
+    (c.if-not-is_of_store.ensures.own refl)
 
 pub returns : goal.returns
 returns c = λ _ k s lt at. c.loop-seat.invariant k s (let h = c.loop-seat-test.false in omega arith) at

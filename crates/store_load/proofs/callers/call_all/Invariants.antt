@@ -1,4 +1,4 @@
-use Rattle.store_load.proofs.Calling.{HasMade}
+use Rattle.store_load.specs.Callers.{HasMade}
 use Rattle.store_load.proofs.callers.call_all.Given as goal
 
 abbrev pub invariant-loop-number : goal.invariant-loop-number

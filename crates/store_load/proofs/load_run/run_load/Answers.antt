@@ -1,10 +1,10 @@
 use Rattle.std.proofs.Common.{◌≡◌, List, IfOk, map, ap, sym, subst, ◌∙◌}
 use Rattle.node_threads.specs.Closings.{Closes}
 use Rattle.seat_calls.specs.Seats.{Seat}
-use Rattle.node_threads.specs.Stores.{Store}
+use Rattle.node_threads.specs.declared.config.StoreConfig.{StoreConfig}
 use Rattle.workload.specs.declared.load.LoadOptions.{LoadOptions}
 use Rattle.store_load.specs.Callers.{AreCalled}
-use Rattle.store_load.specs.Loads.{store_of}
+use Rattle.store_load.specs.Loads.{settings_of}
 use Rattle.store_load.proofs.Seating.{called}
 use Rattle.store_load.proofs.load_run.run_load.Goals as goal
 
@@ -16,8 +16,8 @@ returns g c =
     let callers = c.in_ok-callers.callers.items in
     record {
       callers = callers;
-      called = subst (λ (o : LoadOptions). AreCalled o callers) is (called options seats callers c.in_ok-seats.ensures c.in_ok-callers.ensures);
+      called = subst (λ (o : LoadOptions). AreCalled o callers) is (called options seats callers c.in_ok-seats.ensures.seated c.in_ok-callers.ensures.called);
       refusals = c.in_ok-seats-2.ensures.refused;
-      closed = subst (λ (all : List Seat). IfOk c.close.result (λ closed. Closes (store_of c.args.load) all closed.halls.items)) c.in_ok-seats-2.ensures.seats
-          (subst (λ (s : Store). IfOk c.close.result (λ closed. Closes s c.in_ok-seats-2.seats.items closed.halls.items)) (c.in_ok-store.ensures ∙ ap store_of is) c.close.ensures.closed);
+      closed = subst (λ (all : List Seat). IfOk c.close.result (λ closed. Closes (settings_of c.args.load) all closed.halls.items)) c.in_ok-seats-2.ensures.seats
+          (subst (λ (s : StoreConfig). IfOk c.close.result (λ closed. Closes s c.in_ok-seats-2.seats.items closed.halls.items)) (ap (λ s. s.config) c.in_ok-store.ensures ∙ ap settings_of is) c.close.ensures.closed);
     }

@@ -1,4 +1,4 @@
-use Rattle.hall_turns.proofs.ClientTurns.{quiet_seen, seat_turned}
+use Rattle.hall_turns.proofs.ClientTurns.{quiet_seen, seat_turned, turn_seen}
 use Rattle.hall_turns.proofs.Stopping.{sees_stopped}
 use Rattle.hall_turns.proofs.client_pass.ClientPass.stop.Goals as goal
 
@@ -14,3 +14,7 @@ returns-clause-recorded g c = (seat_turned c.self.inside.client c.self.inside.do
 
 pub invariant_of-self : goal.invariant_of-self
 invariant_of-self g c = seat_turned c.self.inside.client c.self.inside.door c.take.new.self _ c.take.result c.self.invariant.0 c.take.ensures
+
+pub returns-clause-turned : goal.returns-clause-turned
+returns-clause-turned g c = rw (← c.self.view_is)
+    (c.take.result, turn_seen c.self.inside.client c.self.inside.door c.take.new.self _ c.take.result c.self.invariant.0 c.take.ensures)

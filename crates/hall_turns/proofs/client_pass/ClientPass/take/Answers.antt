@@ -1,4 +1,5 @@
 use Rattle.hall_turns.proofs.ClientTurns.{quiet_seen, seat_turned, turn_seen}
+use Rattle.hall_turns.proofs.Stopping.{turn_stays}
 use Rattle.hall_turns.proofs.client_pass.ClientPass.take.Goals as goal
 
 pub returns-clause-turned : goal.returns-clause-turned
@@ -14,3 +15,7 @@ returns-clause-recorded g c = (seat_turned c.self.inside.client c.self.inside.do
 
 pub invariant_of-self : goal.invariant_of-self
 invariant_of-self g c = seat_turned c.self.inside.client c.self.inside.door c.take.new.self c.args.step c.take.result c.self.invariant.0 c.take.ensures
+
+pub returns-clause-stays : goal.returns-clause-stays
+returns-clause-stays g c = rw (← c.self.view_is)
+    (turn_stays c.self.inside.client c.self.inside.door c.take.new.self c.args.step c.take.result c.self.invariant.0 c.take.ensures)

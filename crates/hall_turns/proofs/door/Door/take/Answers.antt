@@ -9,4 +9,4 @@ give_back-requires g c =
 pub returns : goal.returns
 returns g c =
     turned c.args.self.now c.receive-hall.new.self c.give_back.new.self c.receive-hall.result c.take-taken.new.self c.args.step c.take-taken.result c.receive-hall.ensures c.take-taken.ensures.takes c.attest-2.ensures.replay
-    (recorded c.take-taken.new.self c.attest-2.ensures.replay c.attest-2.ensures.sound c.attest-2.ensures.formed) c.give_back.ensures
+    (recorded c.take-taken.new.self c.attest-2.ensures.replay c.attest-2.ensures.sound c.attest-2.ensures.formed) c.give_back.ensures.back c.give_back.ensures.stays

@@ -9,7 +9,7 @@ give_back-requires g c = same_returns c.self.inside.door c.receive-hall.new.self
 
 pub invariant_of-self : goal.invariant_of-self
 invariant_of-self g c =
-    guest_recorded c.give_back.new.self c.receive-hall.result (free_turn c.self.inside.door c.receive-hall.new.self c.give_back.new.self c.receive-hall.result c.receive-hall.result c.self.invariant.0 c.receive-hall.ensures c.give_back.ensures)
+    guest_recorded c.give_back.new.self c.receive-hall.result (free_turn c.self.inside.door c.receive-hall.new.self c.give_back.new.self c.receive-hall.result c.receive-hall.result c.self.invariant.0 c.receive-hall.ensures c.give_back.ensures.back)
     (recorded c.receive-hall.result c.attest.ensures.replay c.attest.ensures.sound c.attest.ensures.formed)
 
 pub returns-clause-told : goal.returns-clause-told
@@ -23,4 +23,4 @@ returns-clause-told g c = rw (← c.self.view_is) record {
 
 pub returns-clause-seen : goal.returns-clause-seen
 returns-clause-seen g c = rw (← c.self.view_is)
-    (grown_by c.self.inside.door c.receive-hall.new.self c.give_back.new.self c.receive-hall.result c.receive-hall.result c.receive-hall.ensures c.give_back.ensures refl)
+    (grown_by c.self.inside.door c.receive-hall.new.self c.give_back.new.self c.receive-hall.result c.receive-hall.result c.receive-hall.ensures c.give_back.ensures.back refl)

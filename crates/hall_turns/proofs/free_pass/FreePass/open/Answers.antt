@@ -9,5 +9,5 @@ give_back-requires g c = opens c.args.config c.in_ok-hall.hall c.in_ok-door.door
 
 pub invariant_of-result : goal.invariant_of-result
 invariant_of-result g c =
-    guest_recorded c.give_back.new.self c.in_ok-hall.hall (c.give_back.ensures ∙ ap (λ y. view_at_rest y c.in_ok-hall.hall.world) c.in_ok-door.ensures)
+    guest_recorded c.give_back.new.self c.in_ok-hall.hall (c.give_back.ensures.back ∙ ap (λ y. view_at_rest y c.in_ok-hall.hall.world) c.in_ok-door.ensures)
     (recorded c.in_ok-hall.hall c.attest.ensures.replay c.attest.ensures.sound c.attest.ensures.formed)

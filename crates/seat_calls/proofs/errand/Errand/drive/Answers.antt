@@ -1,17 +1,28 @@
 use Rattle.std.proofs.Common.{rules}
 use Rattle.seat_calls.proofs.Keeping.{keeps_looked, keeps_then}
+use Rattle.seat_calls.proofs.Stalling.{stalls_still}
 use Rattle.seat_calls.proofs.errand.Errand.drive.Goals as goal
-
-pub returns-in-Err-Foreign-clause-drives : goal.returns-in-Err-Foreign-clause-drives
-returns-in-Err-Foreign-clause-drives g c = (tt, keeps_looked c.args.pass.now c.invoke.new.self c.in-Err-Foreign.ensures.delayed c.invoke.ensures.recorded)
-
-pub returns-in-Err-Refused-clause-drives : goal.returns-in-Err-Refused-clause-drives
-returns-in-Err-Refused-clause-drives g c = (c.not_begun.ensures, keeps_looked c.args.pass.now c.invoke.new.self c.in-Err-Refused.ensures.delayed c.invoke.ensures.recorded)
 
 pub returns-in-Err-clause-drives : goal.returns-in-Err-clause-drives
 returns-in-Err-clause-drives g c = (
+  record { delay = c.in-Err.delay; turn = c.in-Err.ensures.why; told = c.told_delay.ensures },
+  keeps_looked c.args.pass.now c.invoke.new.self c.in-Err.ensures.delayed c.invoke.ensures.recorded,
+)
+
+pub returns-in-Err-finish-clause-drives : goal.returns-in-Err-finish-clause-drives
+returns-in-Err-finish-clause-drives g c = (
   c.in-Ok.ensures.seen,
-  (c.invoke.new.self, record { added = c.in-Ok.ensures.begun; recorded = c.invoke.ensures.recorded }, keeps_then c.invoke.new.self c.finish.new.pass c.stop.new.pass c.in-Err.ensures.failed c.stop.ensures.kept, c.stop.ensures.stopped, c.told_pending.ensures),
+  (
+    c.invoke.new.self,
+    record { added = c.in-Ok.ensures.begun; recorded = c.invoke.ensures.recorded },
+    keeps_then c.invoke.new.self c.finish.new.pass c.stop.new.pass c.in-Err-finish.ensures.failed c.stop.ensures.kept,
+    c.stop.ensures.stopped,
+    record {
+      stall = c.in-Err-finish.stall;
+      stalls = stalls_still c.invoke.new.self c.finish.new.pass c.in-Err-finish.stall c.stop.new.pass c.in-Err-finish.ensures.stalled c.stop.ensures.kept;
+      told = c.told_pending.ensures;
+    },
+  ),
 )
 
 pub returns-in-Ok-finish-clause-drives : goal.returns-in-Ok-finish-clause-drives

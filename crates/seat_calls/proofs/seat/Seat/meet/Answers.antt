@@ -1,7 +1,7 @@
 use Rattle.std.proofs.Common.{◌≡◌, ◌<◌, ◌≤◌, ◌+◌, ◌∙◌, length, refl, sym, ap, subst, arith}
 use Rattle.std.proofs.lemmas.Option.{slice_get_read}
 use Rattle.seat_calls.specs.Seats.{greater}
-use Rattle.seat_calls.proofs.Seating.{greater_high, has_met, met_seat}
+use Rattle.seat_calls.proofs.SeatChanges.{greater_high, has_met, met_seat}
 use Rattle.seat_calls.proofs.seat.Seat.meet.Goals as goal
 
 pub invariant_of-self : goal.invariant_of-self

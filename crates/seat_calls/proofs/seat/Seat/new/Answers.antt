@@ -1,4 +1,4 @@
-use Rattle.seat_calls.proofs.Seating.{new_seat}
+use Rattle.seat_calls.proofs.SeatChanges.{new_seat}
 use Rattle.seat_calls.proofs.seat.Seat.new.Goals as goal
 
 pub invariant_of-result : goal.invariant_of-result

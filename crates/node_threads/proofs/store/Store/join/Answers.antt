@@ -1,9 +1,0 @@
-use Rattle.std.proofs.Common.{ℕ, ◌≡◌, List, Some, slice_get, sym, subst}
-use Rattle.hall_turns.specs.Turns.{ClientView}
-use Rattle.seat_calls.specs.Seats.{AreFresh}
-use Rattle.node_threads.specs.Joins.{AreOfClient}
-use Rattle.node_threads.proofs.Joining.{are_of_client}
-use Rattle.node_threads.proofs.store.Store.join.Goals as goal
-
-pub stop_all-requires : goal.stop_all-requires
-stop_all-requires g c = subst (λ (passes : List ClientView). AreOfClient c.args.client passes) (sym c.deref_mut.ensures.value) (are_of_client c.args.client c.join_halls.new.passes.items c.join_halls.ensures.fresh)
