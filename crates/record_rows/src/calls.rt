@@ -5,6 +5,7 @@ use crate::words::{first_word, number};
 use recorder::{Call, History, KeyOrder, Order, Part, Response, Row, RowRefusal};
 use std::alloc::{AllocError, Global};
 use tag::{Action, ClientId, Key, Memory, NameError, OpId, Returned};
+use tag_check::check_tags;
 use witness_order::order_of;
 
 /// `invoke CLIENT KEY read`, or `write TEXT` in place of `read`.
@@ -180,29 +181,47 @@ fn say_order(alloc: Global, out: &mut String, part: &Part) -> Result<(), AllocEr
     }
 }
 
-/// The tag order of the calls on a key, or what is missing.
-fn say_key_order(
+/// The first rule of sound tags that the notes of a part's calls break.
+fn say_rule(alloc: Global, out: &mut String, part: &Part) -> Result<(), Memory> {
+    match check_tags(alloc, part)? {
+        Some(rule) => Ok(write!(out, "{rule}\n")?),
+        None => Ok(out.push_str("sound\n")?),
+    }
+}
+
+/// The answer to a question about a part's calls.
+fn say_of_part(alloc: Global, out: &mut String, word: &str, part: &Part) -> Result<(), Memory> {
+    match word {
+        "tags?" => say_rule(alloc, out, part),
+        _ => Ok(say_order(alloc, out, part)?),
+    }
+}
+
+/// The answer to a question about the calls on a key.
+fn say_of_key(
     alloc: Global,
     out: &mut String,
     history: &History,
+    word: &str,
     key: &Key,
 ) -> Result<(), Memory> {
     let parts = history.parts()?;
     match parts.get(key) {
-        Some(part) => Ok(say_order(alloc, out, part)?),
+        Some(part) => say_of_part(alloc, out, word, part),
         None => Ok(out.push_str("no part\n")?),
     }
 }
 
-/// The tag order of the calls on the key of that name.
-fn say_tag_order(
+/// The answer to a question about the calls on the key of that name.
+fn say_of_name(
     alloc: Global,
     out: &mut String,
     history: &History,
+    word: &str,
     name: &str,
 ) -> Result<(), Memory> {
     match Key::new(alloc, name) {
-        Ok(key) => say_key_order(alloc, out, history, &key),
+        Ok(key) => say_of_key(alloc, out, history, word, &key),
         Err(NameError::Memory) => Err(Memory),
         Err(_) => Ok(out.push_str("no key\n")?),
     }
@@ -300,7 +319,7 @@ fn say_answer(
         "rows?" => say_rows(out, history)?,
         "parts?" => say_parts(out, history)?,
         "copy?" => out.push_str(said_equal(is_copied(history)?))?,
-        "order?" => say_tag_order(alloc, out, history, rest)?,
+        "order?" | "tags?" => say_of_name(alloc, out, history, word, rest)?,
         "numbers" => say_numbered(alloc, out, rest)?,
         "empty" => say_empty(alloc, out)?,
         "busy?" => match busy(history, rest) {

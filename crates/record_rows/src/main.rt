@@ -1,4 +1,4 @@
-//! Runs the worked rows of names, histories, orders and verdicts, and says what came out of each: see the heads of the files in data/.
+//! Runs the worked rows of names, histories, orders, tags and verdicts, and says what came out of each: see the heads of the files in data/.
 #![tactic(auto)]
 
 ghost use Rattle.std.specs.Prelude.{◌≤◌};

@@ -1,0 +1,98 @@
+-- The least numbered calls, found by index.
+use Rattle.std.proofs.Common.{ℕ, ◌≡◌, ◌<◌, ◌≤◌, ◌+◌, inl, inr, List, Some, length, get_or, refl, ap, subst, sym, ◌∙◌, arith}
+use Rattle.std.specs.List.{slice_get, Contains}
+use Rattle.std.proofs.lemmas.Bool.{cases_lt}
+use Rattle.std.proofs.lemmas.Option.{slice_get_within, slice_get-get_or}
+use Rattle.recorder.specs.declared.part.Call.{Call}
+use Rattle.recorder.specs.Parts.{IsSequence}
+use Rattle.recorder.specs.Lists.{place_of, Contains-slice_get}
+use Rattle.tag_check.specs.Least.{HasNone, IsLeastCall, NoneBelow}
+
+-- a part has one call of a number
+pub same_call : (part : List Call) → IsSequence part → (a b : Call) → Contains part a → Contains part b → a.op.0 ≡ b.op.0 → a ≡ b
+same_call part sequence a b left right number =
+    let i = place_of part a left in
+    let j = place_of part b right in
+    elim (cases_lt i.0 j.0) [
+      | inl h ↦ absurd (let up : a.op.0 < b.op.0 = sequence.numbers i.0 j.0 a b h i.1 j.1 in omega arith)
+      | inr h ↦ elim (cases_lt j.0 i.0) [
+        | inl g ↦ absurd (let down : b.op.0 < a.op.0 = sequence.numbers j.0 i.0 b a g j.1 i.1 in omega arith)
+        | inr g ↦
+            let same : i.0 ≡ j.0 = omega arith in
+            let at : slice_get part i.0 ≡ slice_get part j.0 = ap (slice_get part) same in
+            cc (i.1, j.1, at)
+      ]
+    ]
+
+-- a call of a lower number stands at a lower index
+pub lower_index : (part : List Call) → IsSequence part → (i j : ℕ) (a b : Call) → slice_get part i ≡ Some a → slice_get part j ≡ Some b → a.op.0 < b.op.0 → i < j
+lower_index part sequence i j a b at_i at_j less =
+    elim (cases_lt i j) [
+      | inl h ↦ h
+      | inr h ↦ elim (cases_lt j i) [
+        | inl g ↦ absurd (let down : b.op.0 < a.op.0 = sequence.numbers j i b a g at_j at_i in omega arith)
+        | inr g ↦
+            let same : i ≡ j = omega arith in
+            let at : slice_get part i ≡ slice_get part j = ap (slice_get part) same in
+            let call : a ≡ b = cc (at_i, at_j, at) in
+            let number : a.op.0 ≡ b.op.0 = ap (λ (x : Call). x.op.0) call in
+            absurd (omega arith)
+      ]
+    ]
+
+-- a call with the property, behind none that has it, is the least
+pub first_here : (part : List Call) → IsSequence part → (P : Call → Type 0) (i : ℕ) (call : Call) → slice_get part i ≡ Some call → P call → NoneBelow part P i → IsLeastCall part P call.op
+first_here part sequence P i call at has none = record {
+  call = call;
+  recorded = Contains-slice_get part i call at;
+  number = refl;
+  has = has;
+  least = λ other there holds.
+      let k = place_of part other there in
+      elim (cases_lt k.0 i) [
+        | inl h ↦ absurd (none k.0 other h k.1 holds)
+        | inr h ↦ elim (cases_lt i k.0) [
+          | inl g ↦ let up : call.op.0 < other.op.0 = sequence.numbers i k.0 call other g at k.1 in omega arith
+          | inr g ↦
+              let same : i ≡ k.0 = omega arith in
+              let there : slice_get part i ≡ slice_get part k.0 = ap (slice_get part) same in
+              let one : call ≡ other = cc (at, k.1, there) in
+              let number : call.op.0 ≡ other.op.0 = ap (λ (x : Call). x.op.0) one in
+              omega arith
+        ]
+      ];
+}
+
+-- none up to a call that hasn't the property
+pub none_more : (part : List Call) (P : Call → Type 0) (i : ℕ) (call : Call) → slice_get part i ≡ Some call → (P call → ⊥) → NoneBelow part P i → NoneBelow part P (i + 1)
+none_more part P i call at not_here none m other less there holds =
+    elim (cases_lt m i) [
+      | inl h ↦ none m other h there holds
+      | inr h ↦
+          let same : m ≡ i = omega arith in
+          let here : slice_get part m ≡ slice_get part i = ap (slice_get part) same in
+          let one : other ≡ call = cc (at, there, here) in
+          not_here (subst P one holds)
+    ]
+
+-- what holds of each call below an index, and of the call there
+pub all_more : (part : List Call) (P : Call → Type 0) (i : ℕ) (call : Call) → slice_get part i ≡ Some call → P call → ((m : ℕ) (other : Call) → m < i → slice_get part m ≡ Some other → P other) → (m : ℕ) (other : Call) → m < i + 1 → slice_get part m ≡ Some other → P other
+all_more part P i call at here before m other less there =
+    elim (cases_lt m i) [
+      | inl h ↦ before m other h there
+      | inr h ↦
+          let same : m ≡ i = omega arith in
+          let index : slice_get part m ≡ slice_get part i = ap (slice_get part) same in
+          let one : call ≡ other = cc (at, there, index) in
+          subst P one here
+    ]
+
+-- none at all
+pub none_all : (part : List Call) (P : Call → Type 0) (i : ℕ) → length part ≤ i → NoneBelow part P i → HasNone part P
+none_all part P i past none call there holds =
+    let k = place_of part call there in
+    none k.0 call (omega (arith, slice_get_within part k.0 call k.1)) k.1 holds
+
+-- an element that is the one at an index stands there
+pub item_at : {X : Type 0} (xs : List X) (i : ℕ) (item : X) → i < length xs → item ≡ get_or xs i item → slice_get xs i ≡ Some item
+item_at xs i item within is = slice_get-get_or xs i item within ∙ ap Some (sym is)

@@ -1,0 +1,74 @@
+-- The order of tags.
+use Rattle.std.proofs.Common.{◌≡◌, ◌⊎◌, inl, inr, ap, sym, subst, arith}
+use Rattle.std.proofs.lemmas.Bool.{cases_lt}
+use Rattle.std.proofs.lemmas.Grind.{common_steps}
+use Rattle.std.specs.declared.cmp.Ordering.TheVariants.{Equal}
+use Rattle.tag.specs.Tags.{Tag, IsBelow, least, tag_cmp}
+use Rattle.tag_check.specs.Greatest.{IsAtMost}
+
+-- a tag is its number and its writer
+pub tag_ext : (s t : Tag) → s.number ≡ t.number → s.writer ≡ t.writer → s ≡ t
+tag_ext s t p q = λ i. record { number = p i; writer = q i }
+
+-- tags that compare as equal are one
+pub tag_same : (s t : Tag) → tag_cmp s t ≡ Equal → s ≡ t
+tag_same s t h =
+    let number : s.number ≡ t.number = grind (arith, common_steps) in
+    let writer : s.writer ≡ t.writer = grind (arith, common_steps) in
+    tag_ext s t number writer
+
+-- of two tags one is below the other, or they are one
+pub tag_cases : (s t : Tag) → IsBelow s t ⊎ IsAtMost t s
+tag_cases s t =
+    elim (cases_lt s.number t.number) [
+      | inl h ↦ inl (inl h)
+      | inr h ↦ elim (cases_lt t.number s.number) [
+        | inl g ↦ inr (inl (inl g))
+        | inr g ↦
+            let number : s.number ≡ t.number = omega arith in
+            elim (cases_lt s.writer t.writer) [
+              | inl a ↦ inl (inr (number, a))
+              | inr a ↦ elim (cases_lt t.writer s.writer) [
+                | inl b ↦ inr (inl (inr (sym number, b)))
+                | inr b ↦ inr (inr (tag_ext t s (sym number) (omega arith)))
+              ]
+            ]
+      ]
+    ]
+
+-- a tag isn't below one that is no greater
+pub not_below : (s t : Tag) → IsAtMost s t → IsBelow t s → ⊥
+not_below s t (inl p) below = omega arith
+not_below s t (inr e) below =
+    let number : s.number ≡ t.number = ap (λ (x : Tag). x.number) e in
+    let writer : s.writer ≡ t.writer = ap (λ (x : Tag). x.writer) e in
+    omega arith
+
+-- any other tag is above the least
+pub above_least : (t : Tag) → (t ≡ least → ⊥) → IsBelow least t
+above_least t other =
+    elim (tag_cases least t) [
+      | inl h ↦ h
+      | inr h ↦ elim h [ inl p ↦ absurd (omega arith) | inr e ↦ absurd (other e) ]
+    ]
+
+-- what is below a tag is below a greater one
+pub below_at_most : (s t u : Tag) → IsBelow s t → IsAtMost t u → IsBelow s u
+below_at_most s t u p (inr e) = subst (λ (x : Tag). IsBelow s x) e p
+below_at_most s t u p (inl q) =
+    elim (tag_cases s u) [
+      | inl h ↦ h
+      | inr h ↦ elim h [
+        | inl r ↦ absurd (omega arith)
+        | inr e ↦
+            let number : u.number ≡ s.number = ap (λ (x : Tag). x.number) e in
+            let writer : u.writer ≡ s.writer = ap (λ (x : Tag). x.writer) e in
+            absurd (omega arith)
+      ]
+    ]
+
+-- what is no greater than one that is no greater
+pub at_most_trans : (s t u : Tag) → IsAtMost s t → IsAtMost t u → IsAtMost s u
+at_most_trans s t u (inr e) q = subst (λ (x : Tag). IsAtMost x u) (sym e) q
+at_most_trans s t u (inl p) (inr e) = subst (λ (x : Tag). IsAtMost s x) e (inl p)
+at_most_trans s t u (inl p) (inl q) = inl (below_at_most s t u p (inl q))
