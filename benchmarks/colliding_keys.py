@@ -7,7 +7,7 @@ Where these eight bytes are the state, the product is 0 whatever the other eight
 first block is drawn until the state behind it is eight bytes that a key may have; they follow it,
 then eight bytes that differ from key to key, and an end that doesn't.
 --plain writes as many keys of the same length that don't collide.
---marks writes keys that have one mark, by which `key_numbers` finds a key: the bytes of a key are
+--marks writes keys that have one mark, by which `key_index` finds a key: the bytes of a key are
 the digits of a number in the base FACTOR, of which 64 bits are kept.  So the differences of two
 such keys are a lattice, and short vectors of it, which are found by the method of Lenstra, Lenstra
 and Lovasz, may be added to a key.
@@ -60,7 +60,7 @@ def keys_of(args):
 
 
 def mark_of(text):
-    """The mark by which `key_numbers` finds the key."""
+    """The mark by which `key_index` finds the key."""
     mark = 0
     for byte in text:
         mark = mark * FACTOR + byte & WORD

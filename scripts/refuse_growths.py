@@ -1,11 +1,11 @@
 """refuse_growths.py LIBRARY TOP [all] [NAME ..]
 
 Runs built programs with the library before them that refuses one growth, the first, the second and so on until a run meets none. Of a row
-with more than 600 growths, and of world_twin, the first 300 are refused and 300 more, evenly spread up to the last.
+with more than 600 growths, and of test_twin, the first 300 are refused and 300 more, evenly spread up to the last.
 
-With the word `all` every growth from that one on is refused, for each growth of abd, running_store and store_rows (the last at 300 places,
-evenly spread). Each run has to end within 10 seconds, store_rows within 120, with a status that docs/FORMATS.md names. What is said of one
-refused growth below holds there too, but for store_rows: any row may come out otherwise, and the lines may end.
+With the word `all` every growth from that one on is refused, for each growth of abd, store_example and test_store (the last at 300 places,
+evenly spread). Each run has to end within 10 seconds, test_store within 120, with a status that docs/FORMATS.md names. What is said of one
+refused growth below holds there too, but for test_store: any row may come out otherwise, and the lines may end.
 
 - abd: a check, a justify and a simulate of an example. With a refusal a run has the very answer of a run without one, or status 4,
   nothing on standard output and one line on standard error, which names memory and a line of the file, or the number behind
@@ -15,12 +15,12 @@ refused growth below holds there too, but for store_rows: any row may come out o
   behind such lines one that names memory or a thread.
 - the row programs: each row alone. What is said of it is what is expected, up to a line that names memory, or that a thread couldn't be
   started for want of it, or a step that the program couldn't make, or to the program's end.
-- running_store: a key that it names has the verdict yes, whatever was refused.
-- growth_tests and parallel_tests: each test of a refused growth. It passes (it calls again after a refused growth, and compares whole
+- store_example: a key that it names has the verdict yes, whatever was refused.
+- test_memory and test_threads: each test of a refused growth. It passes (it calls again after a refused growth, and compares whole
   worlds, pools, replicas, clients and histories as they were before the call and after it, and verdicts), or it ends early, since a growth
   of its own was refused.
-- world_twin: its test ends early, and names memory.
-- store_rows: 300 growths, evenly spread over a run of all rows, most of which wait for threads. Each run ends, and at most one row, the
+- test_twin: its test ends early, and names memory.
+- test_store: 300 growths, evenly spread over a run of all rows, most of which wait for threads. Each run ends, and at most one row, the
   one that met the refusal, comes out otherwise.
 """
 
@@ -54,9 +54,9 @@ WANT = (
     f"|standard error: ({beginning('no memory')}|{beginning('NAME: line LINE: fault 14 memory')}"
     f"|{beginning('NAME: line LINE: script fault 8 memory')})$"
 )
-ROWS = ["command_rows", "protocol_rows", "record_rows", "run_rows"]
+ROWS = ["test_commands", "test_protocol", "test_records", "test_runs"]
 # The tests that are gone over, by what their names have, and whether all growths of each are.
-TESTS = {"growth_tests": ("refused_growth", True), "parallel_tests": ("refused_growth", True), "world_twin": ("both_worlds", False)}
+TESTS = {"test_memory": ("refused_growth", True), "test_threads": ("refused_growth", True), "test_twin": ("both_worlds", False)}
 
 
 class Wrong(Exception):
@@ -211,16 +211,16 @@ def loads(library, top):
 
 def store(library, top):
     """The program that runs a store."""
-    runs = Runs(library, os.path.abspath(f"{top}/crates/running_store/out/running_store"), top, 10)
+    runs = Runs(library, os.path.abspath(f"{top}/crates/store_example/out/store_example"), top, 10)
     met, at, good = True, 0, 0
     while met:
         at += 1
         met, status, out, errors = runs.run([], at)
         lines = out.splitlines()
         if status not in (0, 1) or errors or any(not line.endswith(": yes") for line in lines[1:]) or not met and status:
-            raise Wrong(f"running_store, growth {at}: status {status}, {out!r}, {errors!r}")
+            raise Wrong(f"store_example, growth {at}: status {status}, {out!r}, {errors!r}")
         good += status == 0
-    print(f"running_store: {at - (not met)} growths; it ended well at {good - (not met)} of them", flush=True)
+    print(f"store_example: {at - (not met)} growths; it ended well at {good - (not met)} of them", flush=True)
 
 
 def rows(library, top, name):
@@ -233,7 +233,7 @@ def rows(library, top, name):
         with open(f"{folder}/data/{data}", encoding="utf-8") as file:
             blocks = file.read().split("\n### ")[1:]
         for block in blocks:
-            if block.splitlines()[1] == "rooms" and name == "run_rows":
+            if block.splitlines()[1] == "rooms" and name == "test_runs":
                 # a run is measured by another one, of which no more is said than its length
                 continue
             with tempfile.TemporaryDirectory() as place:
@@ -249,7 +249,7 @@ def rows(library, top, name):
                     lines = out.splitlines()
                     other = next((k for k, line in enumerate(lines) if wanted[k : k + 1] != [line]), len(lines))
                     # what a command wrote before it wanted memory may stand before that
-                    told = lines[other:] if name in ("command_rows", "run_rows") else lines[other : other + 4]
+                    told = lines[other:] if name in ("test_commands", "test_runs") else lines[other : other + 4]
                     wants = not told or re.search(WANT, "\n".join(told))
                     if status == 0 or not wants:
                         raise Wrong(f"{name}, {data}, {block.splitlines()[0]!r}, growth {at}: status {status}, {out!r}, {errors!r}")
@@ -261,7 +261,7 @@ def rows(library, top, name):
 
 def hostile_rows(library, top):
     """The rows of hostile gates, seats and stores."""
-    runs = Runs(library, os.path.abspath(f"{top}/crates/store_rows/out/store_rows"), top, 120)
+    runs = Runs(library, os.path.abspath(f"{top}/crates/test_store/out/test_store"), top, 120)
     count, (_, out, _) = runs.whole([])
     wanted, same = out.splitlines(), 0
     for at in spread(0, count, SPREAD):
@@ -270,9 +270,9 @@ def hostile_rows(library, top):
         others = sum(line != expected for line, expected in zip(lines, wanted))
         few = not Runs.lasting and (len(lines) != len(wanted) or others > 1)
         if status or errors or few:
-            raise Wrong(f"store_rows, growth {at}: status {status}, {out!r}, {errors!r}")
+            raise Wrong(f"test_store, growth {at}: status {status}, {out!r}, {errors!r}")
         same += others == 0
-    print(f"store_rows: {SPREAD} of {count} growths; each run ended, and every row came out as expected at {same} of them", flush=True)
+    print(f"test_store: {SPREAD} of {count} growths; each run ended, and every row came out as expected at {same} of them", flush=True)
 
 
 def tests(library, top, crate):
@@ -297,9 +297,9 @@ def main():
     library, top, *names = sys.argv[1:]
     if names[:1] == ["all"]:
         Runs.lasting = True
-        names = names[1:] or ["abd", "running_store", "store_rows"]
+        names = names[1:] or ["abd", "store_example", "test_store"]
     bad = False
-    for name in names or ["abd", *ROWS, "running_store", "store_rows", *TESTS]:
+    for name in names or ["abd", *ROWS, "store_example", "test_store", *TESTS]:
         program = f"{top}/crates/{name}/out/{name}{'_tests' if name in TESTS else ''}"
         if not os.path.isfile(program):
             print(f"{name} is not built")
@@ -309,9 +309,9 @@ def main():
             if name == "abd":
                 commands(library, top)
                 loads(library, top)
-            elif name == "running_store":
+            elif name == "store_example":
                 store(library, top)
-            elif name == "store_rows":
+            elif name == "test_store":
                 hostile_rows(library, top)
             elif name in ROWS:
                 rows(library, top, name)

@@ -11,13 +11,13 @@ use cli::{
     simulate_command,
 };
 use parallel_keys::Workers;
-use run_words::RunAsked;
+use run_command::{KeyWatch, NoWatch, Watch, run_command};
+use run_options::RunAsked;
 use std::io::{ErrorKind, IsTerminal};
 use std::process::ExitCode;
 use std::sync::Wait;
 use std::thread::Threads;
 use std::{env, fs};
-use store_run::{KeyWatch, NoWatch, Watch, run_command};
 
 /// Says the failure on standard error. Its status.
 fn fail(rt: &HostRuntime, failure: Failure<'_>) -> Status {

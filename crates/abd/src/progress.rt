@@ -1,11 +1,11 @@
 //! How far the load of `abd run` is, and how the run ended.
+use run_command::{KeyWatch, Watch};
 use std::alloc::Global;
 use std::io;
 use std::io::Eprint;
 use std::sync::Arc;
 use std::sync::atomic::{AtomicU64, AtomicUsize, Ordering};
 use std::time::{Clock, Instant};
-use store_run::{KeyWatch, Watch};
 use tag::Memory;
 
 /// Says on standard error how many calls were answered, at the first answer of each second of its

@@ -75,7 +75,7 @@ legal_more part order numbered i call v stands last right before =
     let has : call.response ≡ Some response = cc (answered, same) in
     (v, right response read has, last))
 
--- a place with a write: its value is the last one behind it
+-- a place with a write: its value is the last one after it
 pub last_written : (part : List Call) (order : List OpId) (i : ℕ) (call : Call) (value : List ℕ) → StandsAt part order i call → call.action ≡ Write value → IsLastWritten part order (i + 1) (Some value)
 last_written part order i call value stands wrote =
     (i, omega arith, (call, stands, wrote), λ k v low high w. omega arith)

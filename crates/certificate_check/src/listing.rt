@@ -1,5 +1,6 @@
 //! An order with the calls that stand in it.
-ghost use Rattle.std.specs.Prelude.{◌≡◌, ℕ, ◌<◌, IfSome, IfNone, IfOk, MatchResult, MatchOption, Contains, slice_get, length, IsTrue, ◌↔◌, Option};
+ghost use Rattle.std.specs.Prelude.{◌≡◌, ℕ, ◌<◌, IfSome, IfNone, IfOk, MatchResult, MatchOption};
+ghost use Rattle.std.specs.Prelude.{Contains, slice_get, length, IsTrue, ◌↔◌, Option};
 ghost use Rattle.std.specs.Option.{option_copied};
 ghost use Rattle.recorder.specs.Parts.{IsPending, IsSequence};
 ghost use Rattle.recorder.specs.declared.part.Call.{Call};
@@ -43,7 +44,9 @@ pub struct Listing<'a> {
 
 impl<'a> Listing<'a> {
     ghost use Rattle.certificate_check.specs.Verdicts.{IsVerdict};
-    ghost use Rattle.certificate_check.specs.Verdicts.{IsLeast, HasNone, IsFirst, IsUnknown, IsRepeated, IsMissing, IsPendingRead, IsWrongAnswer, IsBroken, IsBrokenAt};
+    ghost use Rattle.certificate_check.specs.Verdicts.{IsLeast, HasNone, IsFirst, IsUnknown};
+    ghost use Rattle.certificate_check.specs.Verdicts.{IsRepeated, IsMissing, IsPendingRead};
+    ghost use Rattle.certificate_check.specs.Verdicts.{IsWrongAnswer, IsBroken, IsBrokenAt};
     ghost use Rattle.certificate_check.specs.Places.{Marks};
     ghost use Rattle.recorder.specs.Orders.{StandsAt, IsComplete, IsLegal};
 
@@ -190,7 +193,7 @@ impl<'a> Listing<'a> {
         None
     }
 
-    /// The first place of a call with its response before the invocation of an earlier one, behind
+    /// The first place of a call with its response before the invocation of an earlier one, after
     /// the first such earlier place.
     fn first_broken(&self) -> Option<(usize, usize)>
         ensures { MatchOption result (HasNone (IsBrokenAt self.now.calls.now self.now.order.now))

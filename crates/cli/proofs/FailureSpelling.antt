@@ -5,7 +5,7 @@ use Rattle.counted_devices.specs.Numbers.{fault_number}
 use Rattle.counted_devices.specs.declared.read_fault.ReadFault.{ReadFault}
 use Rattle.cli.specs.FailureLines.{fault_line}
 
--- eleven texts, one behind the other
+-- eleven texts, one after the other
 pub eleven : (a b c d e f g h i j k : List ℕ) → a ++ (b ++ (c ++ (d ++ (e ++ (f ++ (g ++ (h ++ (i ++ (j ++ k))))))))) ≡ a ++ b ++ c ++ d ++ e ++ f ++ g ++ h ++ i ++ j ++ k
 eleven a b c d e f g h i j k = simp append_assoc
 

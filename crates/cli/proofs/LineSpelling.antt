@@ -15,7 +15,7 @@ four : (old p q r s a b c d : List ℕ) → a ≡ old ++ p → b ≡ a ++ q → 
 four old p q r s a b c d first second third fourth =
     fourth ∙ ap (λ (x : List ℕ). x ++ s) (third ∙ ap (λ (x : List ℕ). x ++ r) (second ∙ ap (λ (x : List ℕ). x ++ q) first)) ∙ regroup old p q r s
 
--- a text and a number behind it
+-- a text and a number after it
 pub joined : (old p q new : List ℕ) → new ≡ old ++ p ++ q → new ≡ old ++ (p ++ q)
 joined old p q new added = added ∙ append_assoc old p q
 

@@ -27,7 +27,7 @@ justified_none before parts left orders same justified = record {
 pub dropped_more : (parts : List KeyPart) (i : ℕ) (entry : KeyPart) → i < length parts → entry ≡ get_or parts i entry → drop i parts ≡ entry ∷ drop (i + 1) parts
 dropped_more parts i entry below is = drop-cons parts i entry below ∙ ap₂ (λ (e : KeyPart) (n : ℕ). e ∷ drop n parts) (sym is) (sym (add-one i))
 
--- behind the last none is left
+-- after the last none is left
 pub none_left : {X : Type 0} (xs : List X) (i : ℕ) → length xs ≤ i → drop i xs ≡ []
 none_left [] zero h = refl
 none_left [] (suc i) h = refl
@@ -65,7 +65,7 @@ justified_more before parts left rest orders new entry order is grown so_far her
       justified = subst (λ (l : List KeyPart). AreJustified l new) (append_assoc before done (entry ∷ [])) (subst (λ (l : List KeyOrder). AreJustified ((before ++ done) ++ entry ∷ []) l) (sym grown) more);
     }
 
--- the first key without one, whatever parts come behind these
+-- the first key without one, whatever parts come after these
 pub first_unjustified : (before parts behind left rest : List KeyPart) (orders : List KeyOrder) (entry : KeyPart) (refusal : Unjustified) → rest ≡ entry ∷ left
     → JustifiedSoFar before parts rest orders → IsUnjustified entry refusal → IsFirstUnjustified (before ++ (parts ++ behind)) refusal
 first_unjustified before parts behind left rest orders entry refusal is so_far refused =

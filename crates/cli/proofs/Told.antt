@@ -17,7 +17,7 @@ use Rattle.cli.specs.VerdictStatuses.{SaysAll}
 use Rattle.cli.specs.VerdictLines.{AreLines, AreLinesOf, line_text, lines_text}
 use Rattle.cli.specs.declared.status.Status.TheVariants.{Refused}
 
--- the verdicts behind the first
+-- the verdicts after the first
 behind : (one : CheckedKey) (checked : List CheckedKey) (told : List ℕ × Verdict) (verdicts : KeyVerdicts) → AreOn (one ∷ checked) (told ∷ verdicts) → AreOn checked verdicts
 behind one checked told verdicts on = record {
   all = omega (arith, on.all);

@@ -41,7 +41,8 @@ pub record IsNo (halls : List Recorded) (pieces : List KeyOrder) (key : List ℕ
   pub recorded : IsHallPart halls key part
   pub unordered : IsOrder part (order_on key pieces) → ⊥
 
--- the status that says it: all is well where each key's order is one, refused where some key's isn't
+-- the status that says it: all is well where each key's order is one, refused where some key's
+-- isn't
 abbrev pub IsStatusOf : List Recorded → List KeyOrder → Status → Type 0
 IsStatusOf halls pieces status.Good = (key : List ℕ) → IsYes halls pieces key
 IsStatusOf halls pieces status.Refused = (key : List ℕ) × IsNo halls pieces key
@@ -53,16 +54,23 @@ pub record Remainders : Type 0 where
   pub orders : Option (List ℕ)
 
 -- the readers came to their ends, and gave these histories and an order file of these pieces
-pub record AreRead (old new : Remainders) (histories : RecordedHalls) (pieces : List KeyOrder) : Type 0 where
-  pub history_read : Delivers old.history new.history (ReadsAll histories_format MakesHistories new.history histories)
-  pub orders_read : Delivers old.orders new.orders (ReadsAll order_format (λ header items all. all ≡ items) new.orders pieces)
+pub record AreRead (old new : Remainders) (histories : RecordedHalls) (pieces : List KeyOrder) :
+    Type 0 where
+  pub history_read : Delivers old.history new.history
+      (ReadsAll histories_format MakesHistories new.history histories)
+  pub orders_read : Delivers old.orders new.orders (ReadsAll order_format (λ header items all. all
+      ≡ items) new.orders pieces)
 
 -- a line of what the reader gave has a fault, the first of them
-abbrev pub IsFaulty : {Header Item : Type 0} → Format Header Item → Option (List ℕ) → Option (List ℕ) → Type 0
-IsFaulty format old new = (number : ℕ) × (fault : LineFault) × Delivers old new (StopsWith format new number (kind.Line fault))
+abbrev pub IsFaulty : {Header Item : Type 0} → Format Header Item → Option (List ℕ)
+    → Option (List ℕ) → Type 0
+IsFaulty format old new = (number : ℕ) × (fault : LineFault)
+    × Delivers old new (StopsWith format new number (kind.Line fault))
 
--- the status of a file that isn't read whole: a line has a fault, or of want of memory and of devices no more is said
-abbrev pub Stops : {Header Item : Type 0} → Format Header Item → Option (List ℕ) → Option (List ℕ) → Status → Type 0
+-- the status of a file that isn't read whole: a line has a fault, or of want of memory and of
+-- devices no more is said
+abbrev pub Stops : {Header Item : Type 0} → Format Header Item → Option (List ℕ) → Option (List ℕ)
+    → Status → Type 0
 Stops format old new status.Format = IsFaulty format old new
 Stops format old new status.Failed = Unit {0}
 Stops format old new s = ⊥
@@ -75,7 +83,8 @@ TellsFault name P f = ⊥
 -- the history's reader came to its end, and gave histories
 pub record IsHistoryRead (old new : Remainders) : Type 0 where
   pub histories : RecordedHalls
-  pub read : Delivers old.history new.history (ReadsAll histories_format MakesHistories new.history histories)
+  pub read : Delivers old.history new.history
+      (ReadsAll histories_format MakesHistories new.history histories)
 
 -- both files were read, and that holds of the lines that a check of them prints
 pub record PrintsRead (old new : Remainders) (P : List ℕ → Type 0) : Type 0 where
@@ -92,11 +101,12 @@ pub record ChecksRead (old new : Remainders) (out : Passage) (s : Status) : Type
   pub is : IsStatusOf histories.halls pieces s
   pub lines : HasLines histories.halls pieces (Appends out.old out.new)
 
--- what the status of a check says: the files were checked, and the lines went out; or the first of them that can't be read has
--- a fault; or nothing went out, or a beginning of the lines
+-- what the status of a check says: the files were checked, and the lines went out; or the first of
+-- them that can't be read has a fault; or nothing went out, or a beginning of the lines
 abbrev pub Ends : Remainders → Remainders → Passage → Status → Type 0
 Ends old new out status.Good = ChecksRead old new out status.Good
 Ends old new out status.Refused = ChecksRead old new out status.Refused
 Ends old new out status.Usage = ⊥
-Ends old new out status.Format = IsFaulty histories_format old.history new.history ⊎ (IsHistoryRead old new × IsFaulty order_format old.orders new.orders)
+Ends old new out status.Format = IsFaulty histories_format old.history new.history
+    ⊎ (IsHistoryRead old new × IsFaulty order_format old.orders new.orders)
 Ends old new out status.Failed = (out.new ≡ out.old) ⊎ PrintsRead old new (Begins out.old out.new)

@@ -11,15 +11,28 @@ use Rattle.cli.specs.declared.status.Failure.TheVariants as failure
 
 -- how faults of files are called and numbered
 abbrev pub file_words : FaultWords file.LineFault
-file_words = record { number = file_numbers.line_fault_number; text = file_numbers.line_fault_text; title = codes "fault"; device = 13; memory = 14 }
+file_words = record {
+  number = file_numbers.line_fault_number;
+  text = file_numbers.line_fault_text;
+  title = codes "fault";
+  device = 13;
+  memory = 14;
+}
 
 -- how faults of scripts are
 abbrev pub script_words : FaultWords script.LineFault
-script_words = record { number = script_numbers.line_fault_number; text = script_numbers.line_fault_text; title = codes "script fault"; device = 7; memory = 8 }
+script_words = record {
+  number = script_numbers.line_fault_number;
+  text = script_numbers.line_fault_text;
+  title = codes "script fault";
+  device = 7;
+  memory = 8;
+}
 
 -- the fault with which the reading of the file of that name ended, on a line of its own
 unfoldable pub fault_line : {L : Type 0} → FaultWords L → List ℕ → ReadFault L → List ℕ
-fault_line words name fault = codes "abd: " ++ name ++ codes ": " ++ read_fault_text words fault ++ codes "\n"
+fault_line words name fault =
+    codes "abd: " ++ name ++ codes ": " ++ read_fault_text words fault ++ codes "\n"
 
 -- why a command failed, on a line of its own
 abbrev pub failure_line : Failure → List ℕ

@@ -19,8 +19,8 @@ failure_of halt.Output = failure.Output
 failure_of halt.Memory = failure.Memory
 failure_of halt.Thread = failure.Thread
 
--- the output failed, so that the count of its failures grew; or memory was wanted, or a thread for the second of so many
--- workers, before anything went out
+-- the output failed, so that the count of its failures grew; or memory was wanted, or a thread for
+-- the second of so many workers, before anything went out
 abbrev pub Halts : {W : Type 0} → ℕ → (W → ℕ) → Halt → W → W → Type 0
 Halts workers failures halt.Output old new = IsOneMore (failures old) (failures new)
 Halts workers failures halt.Memory old new = new ≡ old

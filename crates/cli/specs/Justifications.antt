@@ -38,13 +38,15 @@ pub record IsJustifiedOrder (entry : KeyPart) (order : KeyOrder) : Type 0 where
 -- each key with its part has its order, in the same place
 pub record AreJustified (parts : List KeyPart) (orders : List KeyOrder) : Type 0 where
   pub all : length orders ≡ length parts
-  pub each : (i : ℕ) (entry : KeyPart) (order : KeyOrder) → slice_get parts i ≡ Some entry → slice_get orders i ≡ Some order → IsJustifiedOrder entry order
+  pub each : (i : ℕ) (entry : KeyPart) (order : KeyOrder) → slice_get parts i ≡ Some entry
+      → slice_get orders i ≡ Some order → IsJustifiedOrder entry order
 
 -- the key has no such order: its least completed call without a note is that, or its tag order has
 -- that fault; want of memory comes only where each completed call has a note
 abbrev pub IsUnjustified : KeyPart → Unjustified → Type 0
 IsUnjustified entry (unjustified.NoNote key op) = (key.now ≡ entry.0) × IsLeastUnnoted entry.1 op
-IsUnjustified entry (unjustified.NoOrder key fault) = (key.now ≡ entry.0) × ((order : List OpId) × IsByTag entry.1 order × IsFault entry.1 order fault)
+IsUnjustified entry (unjustified.NoOrder key fault) = (key.now ≡ entry.0)
+    × ((order : List OpId) × IsByTag entry.1 order × IsFault entry.1 order fault)
 IsUnjustified entry unjustified.Memory = AllNoted entry.1
 
 -- each key before it has its order, and that one has none
@@ -65,57 +67,74 @@ status_of_refusal unjustified.Memory = status.Failed
 
 -- why a key has no order, on a line of its own
 unfoldable pub refusal_text : Unjustified → List ℕ
-refusal_text (unjustified.NoNote key op) = codes "abd: key " ++ key.now ++ codes ": no note for call " ++ decimal op.0 ++ codes "\n"
-refusal_text (unjustified.NoOrder key fault) = codes "abd: key " ++ key.now ++ codes ": no " ++ fault_text fault ++ codes "\n"
+refusal_text (unjustified.NoNote key op) =
+    codes "abd: key " ++ key.now ++ codes ": no note for call " ++ decimal op.0 ++ codes "\n"
+refusal_text (unjustified.NoOrder key fault) =
+    codes "abd: key " ++ key.now ++ codes ": no " ++ fault_text fault ++ codes "\n"
 refusal_text unjustified.Memory = codes "abd: no memory\n"
 
 -- a key is refused, and why is told; want of memory tells nothing
 abbrev pub Refuses : Unjustified → WriterStates → Status → Type 0
-Refuses refusal errors status.Refused = (status_of_refusal refusal ≡ status.Refused) × Tells errors (refusal_text refusal)
+Refuses refusal errors status.Refused =
+    (status_of_refusal refusal ≡ status.Refused) × Tells errors (refusal_text refusal)
 Refuses refusal errors status.Failed = Unit {0}
 Refuses refusal errors s = ⊥
 
 -- the text of the orders went out, or nothing, or a beginning of it
 abbrev pub SendsOrders : List KeyOrder → Passage → Status → Type 0
 SendsOrders orders writer status.Good = Appends writer.old writer.new (orders_text orders)
-SendsOrders orders writer status.Failed = (writer.new ≡ writer.old) ⊎ Begins writer.old writer.new (orders_text orders)
+SendsOrders orders writer status.Failed =
+    (writer.new ≡ writer.old) ⊎ Begins writer.old writer.new (orders_text orders)
 SendsOrders orders writer s = ⊥
 
 -- the first key without an order is refused, and why is told
 abbrev pub RefusesFirst : List KeyPart → WriterStates → Type 0
-RefusesFirst parts errors = (refusal : Unjustified) × IsFirstUnjustified parts refusal × Refuses refusal errors status.Refused
+RefusesFirst parts errors = (refusal : Unjustified) × IsFirstUnjustified parts refusal
+    × Refuses refusal errors status.Refused
 
--- what the status says of keys with their parts: the text of their orders went out, or one has none,
--- or all that went out is a beginning of that text
+-- what the status says of keys with their parts: the text of their orders went out, or one has
+-- none, or all that went out is a beginning of that text
 abbrev pub JustifiesParts : List KeyPart → Passage → WriterStates → Status → Type 0
-JustifiesParts parts writer errors status.Good = (orders : List KeyOrder) × AreJustified parts orders × Appends writer.old writer.new (orders_text orders)
+JustifiesParts parts writer errors status.Good = (orders : List KeyOrder)
+    × AreJustified parts orders × Appends writer.old writer.new (orders_text orders)
 JustifiesParts parts writer errors status.Refused = RefusesFirst parts errors
-JustifiesParts parts writer errors status.Failed = (writer.new ≡ writer.old) ⊎ ((orders : List KeyOrder) × AreJustified parts orders × Begins writer.old writer.new (orders_text orders))
+JustifiesParts parts writer errors status.Failed = (writer.new ≡ writer.old)
+    ⊎ ((orders : List KeyOrder) × AreJustified parts orders
+    × Begins writer.old writer.new (orders_text orders))
 JustifiesParts parts writer errors s = ⊥
 
--- what it says of histories by hall: the same of the parts of their keys, hall by hall, or, where they could not be made, that nothing went out
+-- what it says of histories by hall: the same of the parts of their keys, hall by hall, or, where
+-- they could not be made, that nothing went out
 abbrev pub JustifiesHalls : List Recorded → Passage → WriterStates → Status → Type 0
-JustifiesHalls halls writer errors s = ((parts : List KeyParts) × AreHallParts halls parts × JustifiesParts (all_parts parts) writer errors s) ⊎ ((s ≡ status.Failed) × (writer.new ≡ writer.old))
+JustifiesHalls halls writer errors s = ((parts : List KeyParts) × AreHallParts halls parts
+    × JustifiesParts (all_parts parts) writer errors s)
+    ⊎ ((s ≡ status.Failed) × (writer.new ≡ writer.old))
 
 -- the reader came to its end, and gave histories by hall whose keys have these parts
 pub record HasParts (reader : Passage) (parts : List KeyParts) : Type 0 where
   pub histories : RecordedHalls
-  pub read : Delivers reader.old reader.new (ReadsAll histories_format MakesHistories reader.new histories)
+  pub read : Delivers reader.old reader.new
+      (ReadsAll histories_format MakesHistories reader.new histories)
   pub split : AreHallParts histories.halls parts
 
 -- the histories' keys have these orders
 abbrev pub HasOrders : Passage → List KeyOrder → Type 0
-HasOrders reader orders = (parts : List KeyParts) × HasParts reader parts × AreJustified (all_parts parts) orders
+HasOrders reader orders =
+    (parts : List KeyParts) × HasParts reader parts × AreJustified (all_parts parts) orders
 
 -- the histories have a key without one: why the first such key has none is told
 abbrev pub HasNoOrders : Passage → WriterStates → Type 0
-HasNoOrders reader errors = (parts : List KeyParts) × HasParts reader parts × RefusesFirst (all_parts parts) errors
+HasNoOrders reader errors =
+    (parts : List KeyParts) × HasParts reader parts × RefusesFirst (all_parts parts) errors
 
--- what the status of a justification says: the text of the orders went out, or a key has none, or the file has a fault,
--- or all that went out is a beginning of that text
+-- what the status of a justification says: the text of the orders went out, or a key has none, or
+-- the file has a fault, or all that went out is a beginning of that text
 abbrev pub Justifies : Passage → Passage → WriterStates → Status → Type 0
-Justifies reader writer errors status.Good = (orders : List KeyOrder) × HasOrders reader orders × Appends writer.old writer.new (orders_text orders)
+Justifies reader writer errors status.Good = (orders : List KeyOrder) × HasOrders reader orders
+    × Appends writer.old writer.new (orders_text orders)
 Justifies reader writer errors status.Refused = HasNoOrders reader errors
 Justifies reader writer errors status.Usage = ⊥
 Justifies reader writer errors status.Format = IsFaulty histories_format reader.old reader.new
-Justifies reader writer errors status.Failed = (writer.new ≡ writer.old) ⊎ ((orders : List KeyOrder) × HasOrders reader orders × Begins writer.old writer.new (orders_text orders))
+Justifies reader writer errors status.Failed = (writer.new ≡ writer.old)
+    ⊎ ((orders : List KeyOrder) × HasOrders reader orders
+    × Begins writer.old writer.new (orders_text orders))

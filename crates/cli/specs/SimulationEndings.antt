@@ -18,11 +18,16 @@ pub record IsFaultyScript (script : Passage) : Type 0 where
   pub fault : LineFault
   pub stops : Delivers script.old script.new (StopsWith script.new line (kind.Line fault))
 
--- what the status says: the script was run, and its messages and the text of its history went out; or it has a fault;
--- or nothing went out as history, or, where its writer failed, a beginning of that text
+-- what the status says: the script was run, and its messages and the text of its history went out;
+-- or it has a fault; or nothing went out as history, or, where its writer failed, a beginning of
+-- that text
 abbrev pub EndsSimulation : Passage → WriterStates → Passage → Status → Type 0
-EndsSimulation script out messages status.Good = Simulates script.old script.new (λ said text. Appends messages.old messages.new said × Appends out.old out.new text)
+EndsSimulation script out messages status.Good =
+    Simulates script.old script.new (λ said text. Appends messages.old messages.new said
+    × Appends out.old out.new text)
 EndsSimulation script out messages status.Refused = ⊥
 EndsSimulation script out messages status.Usage = ⊥
 EndsSimulation script out messages status.Format = IsFaultyScript script
-EndsSimulation script out messages status.Failed = (out.new ≡ out.old) ⊎ (Simulates script.old script.new (λ said text. Begins out.old out.new text) × IsOneMore out.failures out.failures_now)
+EndsSimulation script out messages status.Failed = (out.new ≡ out.old)
+    ⊎ (Simulates script.old script.new (λ said text. Begins out.old out.new text)
+    × IsOneMore out.failures out.failures_now)

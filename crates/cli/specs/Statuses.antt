@@ -7,7 +7,8 @@ use Rattle.cli.specs.declared.status.Status.TheVariants.{Good, Refused, Usage, F
 use Rattle.cli.specs.declared.status.Failure.{Failure}
 use Rattle.cli.specs.declared.status.Failure.TheVariants as failure
 
--- 0 all is well, 1 a key is refused, 2 usage, 3 a file's opening or format, 4 memory, a device or a thread
+-- 0 all is well, 1 a key is refused, 2 usage, 3 a file's opening or format, 4 memory, a device or a
+-- thread
 abbrev pub code_of : Status → ℕ
 code_of Good = 0
 code_of Refused = 1

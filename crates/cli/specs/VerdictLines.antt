@@ -7,7 +7,9 @@ use Rattle.certificate_check.specs.Verdicts.{IsVerdict}
 use Rattle.certificate_check.specs.declared.verdict.Verdict.{Verdict}
 use Rattle.certificate_check.specs.declared.verdict.Verdict.TheVariants.{Yes, No}
 use Rattle.certificate_check.specs.declared.verdict.Fault.{Fault}
-use Rattle.certificate_check.specs.declared.verdict.Fault.TheVariants.{UnknownCall, CallTwice, MissingCall, PendingRead, WrongAnswer, OrderBroken}
+use Rattle.certificate_check.specs.declared.verdict.Fault.TheVariants.{UnknownCall, CallTwice}
+use Rattle.certificate_check.specs.declared.verdict.Fault.TheVariants.{MissingCall, PendingRead}
+use Rattle.certificate_check.specs.declared.verdict.Fault.TheVariants.{WrongAnswer, OrderBroken}
 use Rattle.file_format.specs.OrderFormat.{AreJoined}
 use Rattle.parallel_keys.specs.Histories.{AreHallParts, KeyVerdicts}
 use Rattle.parallel_keys.specs.CheckedKeys.{CheckedKey, KeyParts, all_parts, checked_keys}
@@ -37,16 +39,19 @@ lines_text verdicts = flat_map (λ told. line_text told.0 told.1) verdicts
 abbrev pub AreLines : List CheckedKey → List ℕ → Type 0
 AreLines [] text = text ≡ []
 AreLines (checked ∷ rest) text =
-    (verdict : Verdict) × (lines : List ℕ) × IsVerdict checked.part checked.order verdict × AreLines rest lines × (text ≡ line_text checked.key verdict ++ lines)
+    (verdict : Verdict) × (lines : List ℕ) × IsVerdict checked.part checked.order verdict
+    × AreLines rest lines × (text ≡ line_text checked.key verdict ++ lines)
 
--- what a check of these histories and pieces of orders prints: first the keys of the histories, hall by hall, in each in
--- the order in which its rows first see them, then those that only the pieces have, in the order in which they first stand there
-pub record AreLinesOf (halls : List Recorded) (pieces : List KeyOrder) (text : List ℕ) : Type 0 where
-  pub parts : List KeyParts
-  pub orders : List KeyOrder
-  pub recorded : AreHallParts halls parts
-  pub joined : AreJoined pieces orders
-  pub lines : AreLines (checked_keys (all_parts parts) orders) text
+-- what a check of these histories and pieces of orders prints: first the keys of the histories,
+-- hall by hall, in each in the order in which its rows first see them, then those that only the
+-- pieces have, in the order in which they first stand there
+pub record AreLinesOf (halls : List Recorded) (pieces : List KeyOrder) (text : List ℕ) : Type 0
+  where
+    pub parts : List KeyParts
+    pub orders : List KeyOrder
+    pub recorded : AreHallParts halls parts
+    pub joined : AreJoined pieces orders
+    pub lines : AreLines (checked_keys (all_parts parts) orders) text
 
 -- that holds of what a check of these histories and pieces prints
 abbrev pub HasLines : List Recorded → List KeyOrder → (List ℕ → Type 0) → Type 0

@@ -14,6 +14,7 @@ pub record IsRefusedAt (verdicts : KeyVerdicts) (i : ℕ) (fault : Fault) : Type
 
 -- the status says it: the verdict on each key is yes, or on one it is no
 abbrev pub SaysAll : KeyVerdicts → Status → Type 0
-SaysAll verdicts status.Good = (i : ℕ) (told : List ℕ × Verdict) → slice_get verdicts i ≡ Some told → told.1 ≡ Yes
+SaysAll verdicts status.Good =
+    (i : ℕ) (told : List ℕ × Verdict) → slice_get verdicts i ≡ Some told → told.1 ≡ Yes
 SaysAll verdicts status.Refused = (i : ℕ) × (fault : Fault) × IsRefusedAt verdicts i fault
 SaysAll verdicts s = ⊥

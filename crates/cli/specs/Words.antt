@@ -1,13 +1,15 @@
 -- What the words of a command line ask for, by clap's reading of a simple command.
 use Rattle.std.specs.Prelude.{ℕ, ◌≡◌, ◌⊎◌, List, [], ◌∷◌, Option, Some, pos, true, codes}
 use Rattle.std.specs.Str.Parse.{IsNumeral, digits_value, without_leading_plus}
-use Rattle.clap.specs.Words.{App, IsAmong, Row, Rule, Text, fault_of, first_of, new_app, new_rule, one_of, subcommand_of, with_rule, with_subcommand}
+use Rattle.clap.specs.Words.{App, IsAmong, Row, Rule, Text, fault_of, first_of, new_app, new_rule}
+use Rattle.clap.specs.Words.{one_of, subcommand_of, with_rule, with_subcommand}
 use Rattle.clap.specs.declared.builder.value_parser.ValueParser.TheVariants as parser
 use Rattle.clap.specs.declared.error.kind.ErrorKind.{ErrorKind}
-use Rattle.clap.specs.declared.error.kind.ErrorKind.TheVariants.{DisplayHelp, DisplayVersion, OutOfMemory}
+use Rattle.clap.specs.declared.error.kind.ErrorKind.TheVariants.{DisplayHelp, DisplayVersion}
+use Rattle.clap.specs.declared.error.kind.ErrorKind.TheVariants.{OutOfMemory}
 use Rattle.parallel_keys.specs.Workers.{IsCount}
-use Rattle.run_words.specs.RunWords.{AsksRun}
-use Rattle.run_words.specs.Options.{run_app}
+use Rattle.run_options.specs.RunWords.{AsksRun}
+use Rattle.run_options.specs.Options.{run_app}
 use Rattle.cli.specs.declared.command_line.Command.{Command}
 use Rattle.cli.specs.declared.command_line.Command.TheVariants.{Check, Justify, Run, Simulate}
 use Rattle.cli.specs.declared.command_line.Usage.{Usage}
@@ -28,7 +30,8 @@ workers_option = record (new_rule (codes "workers")) {
 
 -- abd check HISTORY ORDERS [--workers N]
 abbrev pub check_app : App
-check_app = with_rule (with_rule (with_rule (new_app (codes "check")) (needed_word (codes "HISTORY"))) (needed_word (codes "ORDERS"))) workers_option
+check_app = with_rule (with_rule (with_rule (new_app (codes "check")) (needed_word (codes
+    "HISTORY"))) (needed_word (codes "ORDERS"))) workers_option
 
 -- abd justify HISTORY
 abbrev pub justify_app : App
@@ -46,14 +49,17 @@ bare_app =
 
 -- abd with its commands
 abbrev pub abd_app : App
-abd_app = with_subcommand (with_subcommand (with_subcommand (with_subcommand bare_app check_app.top) justify_app.top) simulate_app.top) run_app.top
+abd_app = with_subcommand (with_subcommand
+    (with_subcommand (with_subcommand bare_app check_app.top) justify_app.top) simulate_app.top)
+    run_app.top
 
--- the files that the words behind `check` name
+-- the files that the words after `check` name
 pub record NamesFiles (rows : List Row) (history orders : Text) : Type 0 where
   pub history_named : first_of (codes "HISTORY") rows ≡ Some history
   pub orders_named : first_of (codes "ORDERS") rows ≡ Some orders
 
--- the words behind `check` ask for so many workers: their number is what stands behind `--workers`, or else the 1
+-- the words after `check` ask for so many workers: their number is what stands after `--workers`,
+-- or else the 1
 pub record AsksWorkers (rows : List Row) (workers : ℕ) : Type 0 where
   pub text : Text
   pub given : one_of (codes "workers") rows ≡ Some text
@@ -61,9 +67,10 @@ pub record AsksWorkers (rows : List Row) (workers : ℕ) : Type 0 where
   pub number : digits_value 10 (without_leading_plus text) ≡ workers
   pub few : IsCount workers
 
--- the words behind the command's name make it that command
+-- the words after the command's name make it that command
 abbrev pub Makes : List Row → Command → Type 0
-Makes rows (Check history orders workers) = NamesFiles rows history.now orders.now × AsksWorkers rows workers
+Makes rows (Check history orders workers) =
+    NamesFiles rows history.now orders.now × AsksWorkers rows workers
 Makes rows (Justify history) = first_of (codes "HISTORY") rows ≡ Some history.now
 Makes rows (Simulate script) = first_of (codes "SCRIPT") rows ≡ Some script.now
 Makes rows (Run asked) = AsksRun rows asked
@@ -75,11 +82,11 @@ name_of (Justify history) = codes "justify"
 name_of (Simulate script) = codes "simulate"
 name_of (Run asked) = codes "run"
 
--- the command has that name, and the words behind it make the command
+-- the command has that name, and the words after it make the command
 abbrev pub MakesAs : Text → List Row → Command → Type 0
 MakesAs name rows command = (name_of command ≡ name) × Makes rows command
 
--- the command that was met, with the words behind its name
+-- the command that was met, with the words after its name
 abbrev pub MakesOf : Option (Text × List Row) → Command → Type 0
 MakesOf met command = (rows : List Row) × (met ≡ Some (name_of command, rows)) × Makes rows command
 
@@ -101,7 +108,8 @@ AreFaulty words =
     ((kind : ErrorKind) × IsAmong kind (fault_of abd_app words) × IsMistake kind)
     ⊎ (AreTaken words × ((command : Command) → MakesOf (subcommand_of abd_app words) command → ⊥))
 
--- why there is no command: help was asked for, or the version, or the words have a fault, or memory ran out
+-- why there is no command: help was asked for, or the version, or the words have a fault, or memory
+-- ran out
 abbrev pub AsksNothing : List Text → Usage → Type 0
 AsksNothing words (usage.Help text) = IsAmong DisplayHelp (fault_of abd_app words)
 AsksNothing words (usage.Version text) = IsAmong DisplayVersion (fault_of abd_app words)

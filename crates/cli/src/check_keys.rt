@@ -26,7 +26,7 @@ use tag::{Key, Memory};
 pub enum Halt {
     /// The output failed.
     Output,
-    /// A growth was refused.
+    /// An allocation was refused.
     Memory,
     /// A worker couldn't be started.
     Thread,

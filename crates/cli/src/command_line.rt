@@ -1,6 +1,6 @@
 //! What a command line asks for.
 use parallel_keys::Workers;
-use run_words::RunAsked;
+use run_options::RunAsked;
 
 /// What a command line asks for.
 #[derive(Clone, Copy, Debug, PartialEq, Eq)]

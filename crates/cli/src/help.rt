@@ -1,4 +1,4 @@
-//! What help says of the commands, behind what clap says of their words.
+//! What help says of the commands, after what clap says of their words.
 
 /// The version that `abd --version` says.
 pub const VERSION: &str = "0.1.0";

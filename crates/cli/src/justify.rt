@@ -25,7 +25,7 @@ fn order_file(alloc: Global, orders: &[KeyOrder]) -> Result<Vec<u8>, Memory>
     let mut writer = Counting::new(Vec::new(alloc));
     match write_orders(alloc, orders, &mut writer) {
         Ok(()) => Ok(writer.into_inner()),
-        // A text fails only where its growth is refused.
+        // A text fails only where its allocation is refused.
         Err(_) => Err(Memory),
     }
 }

@@ -2,7 +2,9 @@
 ghost use Rattle.std.specs.Prelude.{◌≡◌, ◌++◌, List, map, IfOk, IfErr, OnOk};
 ghost use Rattle.parallel_keys.specs.CheckedKeys.{all_parts};
 ghost use Rattle.cli.specs.FailureLines.{failure_line};
-ghost use Rattle.cli.specs.Justifications.{AreJustified, KeyPart, IsJustifiedOrder, IsUnjustified, IsFirstUnjustified, Refuses, refusal_text, status_of_refusal};
+ghost use Rattle.cli.specs.Justifications.{AreJustified, KeyPart, IsJustifiedOrder, IsUnjustified};
+ghost use Rattle.cli.specs.Justifications.{IsFirstUnjustified, Refuses, refusal_text};
+ghost use Rattle.cli.specs.Justifications.{status_of_refusal};
 ghost use Rattle.cli.specs.Passages.{Tells, states};
 
 use crate::status::{Failure, Status};
@@ -21,7 +23,7 @@ pub enum Unjustified<'k> {
     NoNote { key: &'k Key, op: OpId },
     /// The key's tag order is no order of its calls, for that fault.
     NoOrder { key: &'k Key, fault: Fault },
-    /// A growth was refused.
+    /// An allocation was refused.
     Memory,
 }
 
@@ -58,7 +60,7 @@ impl Unjustified<'_> {
         }
     }
 
-    /// Says why on the writer, one line, and answers its status; where a growth is refused, that memory
+    /// Says why on the writer, one line, and answers its status; where an allocation is refused, that memory
     /// is wanted, and `Failed`. What the writer refuses is lost, as there is nowhere else to say it.
     pub fn report<E: CountedWrite>(self, alloc: Global, errors: &mut E) -> Status
         ensures refuses { Refuses self.entry
@@ -139,7 +141,7 @@ fn add_orders<'k>(
 /// there.
 ///
 /// It ends at the first key that has none, or whose tag order is no order of its calls; `Memory`
-/// comes only where a growth was refused.
+/// comes only where an allocation was refused.
 pub fn checked_orders<'k>(
     alloc: Global,
     parts: &'k [Parts],

@@ -14,7 +14,7 @@ use std::alloc::Global;
 /// of the run to `out`.
 ///
 /// Nothing goes to `out` before the whole run was made. A line that is refused is no failure: it
-/// has its message, and the status is `Good`. A failure is said on `errors`, behind the messages
+/// has its message, and the status is `Good`. A failure is said on `errors`, after the messages
 /// that went there.
 pub fn simulate_command<'a, S: CountedRead, W: CountedWrite, E: CountedWrite>(
     alloc: Global,

@@ -2,7 +2,9 @@
 ghost use Rattle.std.specs.Prelude.{◌≡◌, false, codes, IfOk, IfErr, MatchOption, MatchResult, map, string_bytes};
 ghost use Rattle.clap.specs.Words.{app_of, found_of, kind_of, rows_of, rule_of, subcommand_rows_of, with_subcommand};
 ghost use Rattle.clap.specs.declared.builder.command.Command.TheViews.{out-Command as fields_of};
-ghost use Rattle.cli.specs.Words.{abd_app, bare_app, check_app, justify_app, needed_word, simulate_app, workers_option, Asks, AsksNothing, MakesAs, MakesNothing, MakesOf, Says};
+ghost use Rattle.cli.specs.Words.{abd_app, bare_app, check_app, justify_app, needed_word};
+ghost use Rattle.cli.specs.Words.{simulate_app, workers_option, Asks, AsksNothing, MakesAs};
+ghost use Rattle.cli.specs.Words.{MakesNothing, MakesOf, Says};
 ghost use Rattle.cli.specs.declared.command_line.Command.{Command};
 
 use crate::command_line::{Command, Usage};
@@ -10,7 +12,7 @@ use crate::help;
 use clap::error::ErrorKind;
 use clap::{Arg, ArgMatches, Error, value_parser};
 use parallel_keys::Workers;
-use run_words::{RunFault, run_in, run_words};
+use run_options::{RunFault, run_in, run_words};
 use std::alloc::{AllocError, Global};
 
 /// A word that has to be there, with what help says of it.
@@ -134,7 +136,7 @@ fn usage_of(alloc: Global, error: &Error) -> Usage
     }
 }
 
-/// `check`, of the words behind its name.
+/// `check`, of the words after its name.
 fn check_in<'a>(matches: &ArgMatches<'a>) -> Option<Command<'a>>
     ensures { MatchOption result
         ((command : Command) → MakesAs (codes "check") (rows_of (found_of matches.now)) command → ⊥)
@@ -151,7 +153,7 @@ fn check_in<'a>(matches: &ArgMatches<'a>) -> Option<Command<'a>>
     })
 }
 
-/// `justify`, of the words behind its name.
+/// `justify`, of the words after its name.
 fn justify_in<'a>(matches: &ArgMatches<'a>) -> Option<Command<'a>>
     ensures { MatchOption result
         ((command : Command) → MakesAs (codes "justify") (rows_of (found_of matches.now)) command
@@ -162,7 +164,7 @@ fn justify_in<'a>(matches: &ArgMatches<'a>) -> Option<Command<'a>>
     Some(Command::Justify { history })
 }
 
-/// `simulate`, of the words behind its name.
+/// `simulate`, of the words after its name.
 fn simulate_in<'a>(matches: &ArgMatches<'a>) -> Option<Command<'a>>
     ensures { MatchOption result
         ((command : Command) → MakesAs (codes "simulate") (rows_of (found_of matches.now)) command
@@ -173,7 +175,7 @@ fn simulate_in<'a>(matches: &ArgMatches<'a>) -> Option<Command<'a>>
     Some(Command::Simulate { script })
 }
 
-/// `run`, of the words behind its name.
+/// `run`, of the words after its name.
 fn asked_run<'a>(alloc: Global, matches: &ArgMatches<'a>) -> Result<Command<'a>, Usage>
     ensures { MatchResult result (MakesAs (codes "run") (rows_of (found_of matches.now)))
         (MakesNothing ((command : Command)
@@ -186,7 +188,7 @@ fn asked_run<'a>(alloc: Global, matches: &ArgMatches<'a>) -> Result<Command<'a>,
     }
 }
 
-/// Says why the words behind `run` ask for no load.
+/// Says why the words after `run` ask for no load.
 fn fault_of(alloc: Global, fault: RunFault) -> Usage
     ensures { Says ErrorKind.MissingSubcommand result }
 {

@@ -1,5 +1,6 @@
 -- The asking phase (Lynch and Shvartsman 1997).
-use Rattle.std.specs.Prelude.{ℕ, ◌<◌, Bool, true, false, not, ◌&&◌, ◌||◌, if◌then◌else◌, nat_lt, nat_eq, List, length, Option}
+use Rattle.std.specs.Prelude.{ℕ, ◌<◌, Bool, true, false, not, ◌&&◌, ◌||◌, if◌then◌else◌, nat_lt}
+use Rattle.std.specs.Prelude.{nat_eq, List, length, Option}
 use Rattle.std.specs.Ordering.{is_lt, is_eq}
 use Rattle.std.specs.FinSet as finite
 use Rattle.tag.specs.Tags.{Tag, least, tag_cmp}
@@ -18,17 +19,20 @@ use Rattle.client_phases.specs.declared.rules.Rules.{Rules}
 use Rattle.client_phases.specs.declared.asking.Tally.{Tally}
 use Rattle.client_phases.specs.Calls.{Call}
 
--- an asking: its call, the replicas that it counted, the pair of the greatest tag that they told, and the least tag that they told
+-- an asking: its call, the replicas that it counted, the pair of the greatest tag that they told,
+-- and the least tag that they told
 pub record Asking : Type 0 where
   pub call : Call
   pub counted : Replicas
   pub best : Pair
   pub least : Tag
 
--- a reply counts where it names the call and comes from a replica that isn't counted yet and whose number is below the count of replicas
+-- a reply counts where it names the call and comes from a replica that isn't counted yet and whose
+-- number is below the count of replicas
 abbrev pub counts : Rules → Call → Replicas → OpId → ℕ → Bool
 counts rules call counted op replica =
-    nat_eq op.0 call.op.0 && (not (finite.contains counted replica) && nat_lt replica (length rules.quorums.votes))
+    nat_eq op.0 call.op.0 && (not (finite.contains counted replica)
+    && nat_lt replica (length rules.quorums.votes))
 
 -- what an asking asks of replicas
 abbrev pub query_of : Asking → Request
@@ -44,7 +48,8 @@ newer best pair = if is_lt (tag_cmp best.tag pair.tag) then pair else best
 
 -- the least tag that was told, a further one counted
 abbrev pub least_with : Asking → Tag → Tag
-least_with asking tag = if nat_eq (finite.len asking.counted) 0 || is_lt (tag_cmp tag asking.least) then tag else asking.least
+least_with asking tag = if nat_eq (finite.len asking.counted) 0 || is_lt (tag_cmp tag asking.least)
+    then tag else asking.least
 
 -- the asking with a further pair counted
 abbrev pub asking_with : Asking → ℕ → Pair → Asking
@@ -62,7 +67,9 @@ is_short_read reads action = false
 -- a short read's asking is enough: what it counted carried one tag, and came from a put quorum
 abbrev pub is_agreed : Rules → Asking → Bool
 is_agreed rules asking =
-    is_short_read rules.reads asking.call.action && (is_eq (tag_cmp asking.least asking.best.tag) && is_put_quorum rules.quorums asking.counted)
+    is_short_read rules.reads asking.call.action
+    && (is_eq (tag_cmp asking.least asking.best.tag)
+    && is_put_quorum rules.quorums asking.counted)
 
 -- a tag that a write may find: it leaves room for a greater number
 abbrev pub LeavesRoom : Action → Tag → Type 0
@@ -71,4 +78,9 @@ LeavesRoom (Write value) tag = tag.number < 1000000
 
 -- an asking by its call, its tally and the value of the greatest tag
 abbrev pub asking_from : Call → Tally → Option (List ℕ) → Asking
-asking_from call tally found = record { call = call; counted = tally.counted; best = record { tag = tally.best; value = found }; least = tally.least }
+asking_from call tally found = record {
+  call = call;
+  counted = tally.counted;
+  best = record { tag = tally.best; value = found };
+  least = tally.least;
+}

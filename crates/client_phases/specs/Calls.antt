@@ -21,7 +21,8 @@ abbrev pub value_to_put : Action → Option (List ℕ) → Option (List ℕ)
 value_to_put Read found = found
 value_to_put (Write value) found = Some value
 
--- a read puts the pair that it found, a write its own value with the first of its tags that is above the found one
+-- a read puts the pair that it found, a write its own value with the first of its tags that is
+-- above the found one
 abbrev pub pair_to_put : ℕ → Action → Pair → Pair
 pair_to_put name Read found = found
 pair_to_put name (Write value) found = record { tag = next_of found.tag name; value = Some value }

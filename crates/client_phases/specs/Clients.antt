@@ -22,7 +22,8 @@ pub use Rattle.client_phases.specs.declared.clients.Client.{Client}
 
 -- an idle client
 abbrev pub client_of : ℕ → Quorums → ReadMode → Client
-client_of name quorums reads = record { rules = record { name = name; quorums = quorums; reads = reads }; state = Idle }
+client_of name quorums reads =
+    record { rules = record { name = name; quorums = quorums; reads = reads }; state = Idle }
 
 abbrev phase_in : State → Phase
 phase_in Idle = phase.Idle
@@ -37,7 +38,8 @@ phase_of client = phase_in client.state
 
 -- the client that begins to ask for a call
 abbrev pub client_after_invoke : Client → OpId → List ℕ → Action → Client
-client_after_invoke client op key action = record client { state = Ask (opening_of (record { op = op; key = key; action = action })) }
+client_after_invoke client op key action =
+    record client { state = Ask (opening_of (record { op = op; key = key; action = action })) }
 
 abbrev request_in : State → Option Request
 request_in (Ask asking) = Some (query_of asking)
@@ -58,7 +60,8 @@ reply_result client reply = (reply_outcome client.rules client.state reply).1
 
 -- the client after a reply
 abbrev pub client_after : Client → Reply → Client
-client_after client reply = record client { state = (reply_outcome client.rules client.state reply).0 }
+client_after client reply =
+    record client { state = (reply_outcome client.rules client.state reply).0 }
 
 abbrev answer_in : State → Option Returned
 answer_in (Ready chosen) = Some (answer_from chosen)

@@ -14,7 +14,8 @@ use Rattle.client_phases.specs.declared.states.State.TheVariants.{Ask, Put, Read
 use Rattle.client_phases.specs.Calls.{Chosen, pair_to_put}
 use Rattle.client_phases.specs.Asking.{Asking, counts, asking_with, is_agreed, LeavesRoom}
 
--- an asking is over with an ask quorum: a read that agreed answers, every other call puts its pair, and the tag is noted
+-- an asking is over with an ask quorum: a read that agreed answers, every other call puts its pair,
+-- and the tag is noted
 abbrev pub asking_outcome : Rules → Asking → State × Taken
 asking_outcome rules asking =
     let pair = pair_to_put rules.name asking.call.action asking.best in
@@ -31,7 +32,8 @@ putting_outcome rules chosen counted =
     then (Ready chosen, outcome.Ready)
     else (Put chosen counted, Counted)
 
--- the state after a reply, and what came of it: an asking counts pairs that are held, a putting counts that its pair is kept
+-- the state after a reply, and what came of it: an asking counts pairs that are held, a putting
+-- counts that its pair is kept
 abbrev pub reply_outcome : Rules → State → Reply → State × Taken
 reply_outcome rules (Ask asking) (Held op replica tag value) =
     if counts rules asking.call asking.counted op replica
@@ -45,5 +47,6 @@ reply_outcome rules state reply = (state, Stale)
 
 -- a reply that may come: a pair that a write counts leaves room for a greater number
 abbrev pub MayHear : Rules → State → Reply → Type 0
-MayHear rules (Ask asking) (Held op replica tag value) = counts rules asking.call asking.counted op replica ≡ true → LeavesRoom asking.call.action tag
+MayHear rules (Ask asking) (Held op replica tag value) =
+    counts rules asking.call asking.counted op replica ≡ true → LeavesRoom asking.call.action tag
 MayHear rules state reply = Unit {0}

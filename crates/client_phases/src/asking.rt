@@ -74,9 +74,14 @@ impl Model for Asking {
 }
 
 impl PartialEq for Asking {
-    ghost eq = { eq_of_both (on (λ a. a.call) ⟦<Call as PartialEq>⟧.eq) (eq_of_both (on (λ a. a.counted) ⟦<ReplicaSet as PartialEq>⟧.eq) (eq_of_both (on (λ a. a.best) ⟦<Pair as PartialEq>⟧.eq) (on (λ a. a.least) ⟦<Tag as PartialEq>⟧.eq))) };
+    ghost eq = { eq_of_both (on (λ a. a.call) ⟦<Call as PartialEq>⟧.eq)
+        (eq_of_both (on (λ a. a.counted) ⟦<ReplicaSet as PartialEq>⟧.eq)
+        (eq_of_both (on (λ a. a.best) ⟦<Pair as PartialEq>⟧.eq)
+        (on (λ a. a.least) ⟦<Tag as PartialEq>⟧.eq))) };
 
-    ghost laws = { and_per (on_per (λ a. a.call) call.laws-law) (and_per (on_per (λ a. a.counted) set.laws-law) (and_per (on_per (λ a. a.best) pair.laws-law) (on_per (λ a. a.least) tag.laws-law))) };
+    ghost laws = { and_per (on_per (λ a. a.call) call.laws-law) (and_per (on_per (λ a. a.counted)
+        set.laws-law) (and_per (on_per (λ a. a.best) pair.laws-law)
+        (on_per (λ a. a.least) tag.laws-law))) };
 
     fn eq(&self, other: &Asking) -> bool {
         self.call == other.call

@@ -32,7 +32,14 @@ impl Model for Chosen {
 
     ghost Value = { Chosen };
 
-    ghost view = { λ c. record { call = c.call; pair = record { tag = c.tag; value = value_to_put c.call.action c.found } } };
+    ghost view = { λ c. record {
+      call = c.call;
+      pair = record {
+        tag = c.tag;
+        value = value_to_put
+            c.call.action c.found;
+      };
+    } };
 }
 
 impl PartialEq for Chosen {

@@ -1,6 +1,9 @@
 //! Clients.
 ghost use Rattle.std.specs.Prelude.{◌≡◌, IfOk, None, Ok, Some};
-ghost use Rattle.client_phases.specs.Clients.{MayTake, answer_of, client_after, client_of, counted_by, client_after_invoke, pending_of, phase_of, request_of, client_after_respond, client_after_stop, reply_result};
+ghost use Rattle.client_phases.specs.Clients.{MayTake, answer_of, client_after, client_of};
+ghost use Rattle.client_phases.specs.Clients.{counted_by, client_after_invoke, pending_of};
+ghost use Rattle.client_phases.specs.Clients.{phase_of, request_of, client_after_respond};
+ghost use Rattle.client_phases.specs.Clients.{client_after_stop, reply_result};
 
 use crate::asking::Asking;
 use crate::calls::Call;

@@ -1,5 +1,6 @@
 -- Lines of a file: the bytes up to each byte 10, and what stands after the last one.
-use Rattle.std.specs.Prelude.{ℕ, ◌≡◌, ◌≢◌, ◌<◌, ◌≤◌, ◌-◌, List, [], ◌∷◌, ◌++◌, All, length, take, drop, slice_index}
+use Rattle.std.specs.Prelude.{ℕ, ◌≡◌, ◌≢◌, ◌<◌, ◌≤◌, ◌-◌, List, [], ◌∷◌, ◌++◌, All, length, take}
+use Rattle.std.specs.Prelude.{drop, slice_index}
 use Rattle.std.specs.List.{flat_map}
 
 -- a line with its end
@@ -23,12 +24,13 @@ pub record Splits (bytes : List ℕ) (lines : List (List ℕ)) (rest : List ℕ)
   pub each : All HasNoEnd lines
   pub partial : HasNoEnd rest
 
--- the bytes are these chunks, each of one line or more and with an end behind it, and then a rest without an end
+-- the bytes are these chunks, each of one line or more and with an end after it, and then a rest
+-- without an end
 pub record Divides (bytes : List ℕ) (chunks : List (List ℕ)) (rest : List ℕ) : Type 0 where
   pub whole : bytes ≡ flat_map with_end chunks ++ rest
   pub partial : HasNoEnd rest
 
--- the chunks, each with an end behind it, are these lines
+-- the chunks, each with an end after it, are these lines
 abbrev pub AreLinesIn : List (List ℕ) → List (List ℕ) → Type 0
 AreLinesIn chunks lines = Splits (flat_map with_end chunks) lines []
 

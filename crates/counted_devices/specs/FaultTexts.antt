@@ -11,7 +11,8 @@ kind_text text (kind.Line fault) = text fault
 kind_text text kind.Device = codes "device"
 kind_text text kind.Memory = codes "memory"
 
--- how the faults of lines are numbered and called, and what a fault of reading is called and numbered beside them
+-- how the faults of lines are numbered and called, and what a fault of reading is called and
+-- numbered beside them
 pub record FaultWords (L : Type 0) : Type 0 where
   pub number : L → ℕ
   pub text : L → List ℕ
@@ -19,7 +20,10 @@ pub record FaultWords (L : Type 0) : Type 0 where
   pub device : ℕ
   pub memory : ℕ
 
--- a fault of reading, as it is printed: its line, then what such faults are called, its number and its text
+-- a fault of reading, as it is printed: its line, then what such faults are called, its number and
+-- its text
 abbrev pub read_fault_text : {L : Type 0} → FaultWords L → ReadFault L → List ℕ
 read_fault_text words fault =
-    codes "line " ++ decimal fault.line ++ codes ": " ++ words.title ++ codes " " ++ decimal (fault_number words.number words.device words.memory fault.kind) ++ codes " " ++ kind_text words.text fault.kind
+    codes "line " ++ decimal fault.line ++ codes ": " ++ words.title ++ codes " "
+    ++ decimal (fault_number words.number words.device words.memory fault.kind) ++ codes " "
+    ++ kind_text words.text fault.kind

@@ -1,4 +1,4 @@
--- What went out to a writer, and what waits behind it.
+-- What went out to a writer, and what waits after it.
 use Rattle.std.specs.Prelude.{ℕ, ◌≡◌, List, ◌++◌, Option}
 use Rattle.std.specs.Borrow.{Bor}
 use Rattle.std.specs.List.{flat_map}

@@ -45,7 +45,7 @@ fn last_end(bytes: &[u8]) -> Option<usize>
     memrchr(END, bytes)
 }
 
-/// The place of the first end of a line behind a chunk's bytes, or else of the last end.
+/// The place of the first end of a line after a chunk's bytes, or else of the last end.
 fn chunk_end(bytes: &[u8]) -> Option<usize>
     ensures { MatchOption result (HasNoEnd bytes.now)
         (λ i. (i < length bytes.now) × (slice_index bytes.now i ≡ 10)) }

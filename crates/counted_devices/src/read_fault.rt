@@ -23,7 +23,7 @@ pub trait FaultNumbers: Copy + Display {
     /// The number of a reader's failure.
     const DEVICE: u8;
 
-    /// The number of a growth that was refused.
+    /// The number of an allocation that was refused.
     const MEMORY: u8;
 
     /// The number of a line's fault.
@@ -34,7 +34,7 @@ pub trait FaultNumbers: Copy + Display {
     fn title() -> &'static str
         ensures { result.now ≡ title };
 
-    /// What a line's fault is called where it is printed, behind its number.
+    /// What a line's fault is called where it is printed, after its number.
     fn text(self) -> &'static str
         ensures { result.now ≡ text self };
 }
@@ -49,7 +49,7 @@ pub enum FaultKind<L> {
     /// The reader failed.
     #[error("device")]
     Device,
-    /// A growth was refused.
+    /// An allocation was refused.
     #[error("memory")]
     Memory,
 }
@@ -64,7 +64,7 @@ pub struct ReadFault<L> {
     pub kind: FaultKind<L>,
 }
 
-/// Why the judgement of a line stopped: the line has a fault, or a growth was refused.
+/// Why the judgement of a line stopped: the line has a fault, or an allocation was refused.
 #[derive(Clone, Copy, Debug, PartialEq, Eq)]
 pub enum Stop<L> {
     Fault(L),
@@ -72,7 +72,7 @@ pub enum Stop<L> {
 }
 
 impl<L: FaultNumbers> FaultKind<L> {
-    /// The fault's number: that of the line's fault, or one of the two behind the last of those.
+    /// The fault's number: that of the line's fault, or one of the two after the last of those.
     pub fn number(self) -> u8
         ensures { result ≡ fault_number L.number L.DEVICE L.MEMORY self }
     {

@@ -11,7 +11,7 @@ pub enum WriteFault {
     /// The writer failed.
     #[error("device")]
     Device,
-    /// A growth was refused.
+    /// An allocation was refused.
     #[error("memory")]
     Memory,
 }

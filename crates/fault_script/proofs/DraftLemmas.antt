@@ -55,7 +55,7 @@ said_by before count line r said (is_long h) e = absurd (cc)
 said_by before count line r said (is_no_text short h) e = absurd (cc)
 said_by before count line r said (says x short text h) e = h ∙ e
 
--- a line behind no configuration says none but one
+-- a line after no configuration says none but one
 data Sets : Said → Type 0 where
   sets : (opened : ConfigSoFar) → Sets (Opens opened)
 

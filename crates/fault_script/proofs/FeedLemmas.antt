@@ -130,7 +130,7 @@ whole_more : (line later more : List ℕ) → IsWhole line later → IsWhole lin
 whole_more line later more (inl w) = inl (w.0 ++ more, ap (λ (xs : List ℕ). xs ++ more) w.1)
 whole_more line later more (inr long) = inr long
 
--- an error so far stays one, whatever stands behind
+-- an error so far stays one, whatever stands after
 pub error_more : (bytes more : List ℕ) (number : ℕ) (k : ErrorKind) → ErrorSoFar bytes number k → ErrorSoFar (bytes ++ more) number k
 error_more bytes more number (kind.Line fault) h = record {
   earlier = h.earlier;
@@ -220,7 +220,7 @@ ends_whole bytes feed r s empty h =
     let P : List (List ℕ) → Type 0 = λ ls. EndsBy ls r in
     ends_by bytes s.lines feed.rest.items r s.splits (subst P (sym (last_none s.lines feed.rest.items empty)) h)
 
--- the end behind a last line without one
+-- the end after a last line without one
 pub ends_rest : (bytes : List ℕ) (feed : Feed) (r : Result Script ScriptError) (s : Stands bytes feed) → 0 < length feed.rest.items → EndsBy (s.lines ++ feed.rest.items ∷ []) r → Ends bytes r
 ends_rest bytes feed r s some h =
     let P : List (List ℕ) → Type 0 = λ ls. EndsBy ls r in

@@ -281,7 +281,7 @@ unfolding action_in
 write_asked behind value e short =
     mapped_there (value_of behind) Write value (ap value_of e ∙ range_there (is_value value) value short)
 
--- the words of an invocation, and what stands behind the key
+-- the words of an invocation, and what stands after the key
 unfoldable pub invoked : List (List ℕ) → List ℕ → Result Step LineFault
 invoked ws behind = needed_number ws >>= (λ client. needed_word client.1 >>= (λ action. needed_word action.1 >>= (λ key. action_in action.0 behind >>= (λ asked. client_of client.0 >>= (λ name. key_of key.0 >>= (λ text. done (step.Invoke name text asked)))))))
 

@@ -246,7 +246,7 @@ votes_known n ws h e =
 votes_told : (n : ℕ) (ws : List (List ℕ)) → Told (HasVotesForm n ws) (votes_in n ws)
 votes_told n ws = told_by (HasVotesForm n ws) (votes_in n ws) (λ e h. votes_err n ws e h) (λ form h. votes_known n ws form h)
 
--- ---- a line behind the lines before it
+-- ---- a line after the lines before it
 
 FormAt : List ℕ → List ℕ → Option ConfigSoFar → Type 0
 FormAt verb args before = HasFormBehind verb (words args) (third args) before

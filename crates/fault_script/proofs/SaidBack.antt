@@ -1,4 +1,4 @@
--- What a line's words say behind the lines before it: the tests that find it, turned round.
+-- What a line's words say after the lines before it: the tests that find it, turned round.
 use Rattle.std.proofs.Common.{ℕ, ◌≡◌, inl, inr, List, length, Bool, false, cond, Option, Some, None, Ok, codes, bytes_eq, refl, sym, ap, ◌∙◌, subst}
 use Rattle.client_phases.specs.declared.rules.ReadMode.{ReadMode}
 use Rattle.quorum.specs.Quorums.{Quorums}

@@ -274,7 +274,7 @@ votes_back n ws q e =
       lawful = lawful;
     })
 
--- what stands behind the votes
+-- what stands after the votes
 abbrev pub behind_put : List ℕ → ℕ → Found → Result Quorums LineFault
 behind_put votes ask put = nothing_more put.1 >>= (λ nothing. quorums_of votes ask (vote_count put.0))
 

@@ -132,7 +132,7 @@ skip_text : (text : List ℕ) → IsUtf8 text → IsUtf8 (without_spaces text)
 skip_text [] h = h
 skip_text (b ∷ bs) h = skip_text_by b bs (is_space b) refl h (skip_text bs)
 
--- a text may be cut behind the spaces that it begins with
+-- a text may be cut after the spaces that it begins with
 first_boundary : (text : List ℕ) (n : ℕ) (b : Bool) → IsCharBoundary text n → IsCharBoundary text (unwrap_or (cond b (Some n) None) (length text))
 first_boundary text n true h = h
 first_boundary text n false h = IsCharBoundary-end text
@@ -144,7 +144,7 @@ start-boundary text found start h is e =
     let P : ℕ → Type 0 = λ k. IsCharBoundary text k in
     subst P (sym (e ∙ ap (λ o. unwrap_or o (length text)) is)) (first_boundary text n (nat_lt n (length text)) at)
 
--- and before a space, and behind it
+-- and before a space, and after it
 pub space-boundary : (text : List ℕ) (n : ℕ) → position is_space text ≡ Some n → IsCharBoundary text n
 space-boundary text n e = let at = position-Some is_space text n 0 e in IsCharBoundary-before_ascii text n at.0 (space_small (get_or text n 0) at.1)
 
@@ -158,6 +158,6 @@ behind_by text word others e (something b bs left first same) =
     let some : words text ≡ before_first is_space (without_spaces text) ∷ words (after_first is_space (without_spaces text)) = some_by text (omega (arith, ap length left)) (something b bs left first same) in
     cc
 
--- behind the first word stand the other words
+-- after the first word stand the other words
 pub words-behind : (text word : List ℕ) (others : List (List ℕ)) → words text ≡ word ∷ others → words (behind_word text) ≡ others
 words-behind text word others e = behind_by text word others e (begins text)

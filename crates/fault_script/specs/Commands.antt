@@ -1,4 +1,4 @@
--- The commands behind the configuration, by the words of their lines.
+-- The commands after the configuration, by the words of their lines.
 use Rattle.std.specs.Prelude.{ℕ, List, Result, Ok, Err, codes, bytes_eq, if◌then◌else◌}
 use Rattle.tag.specs.declared.actions.Action.{Action}
 use Rattle.tag.specs.declared.actions.Action.TheVariants.{Read, Write}
@@ -9,7 +9,9 @@ use Rattle.fault_script.specs.declared.command.Command.TheVariants as command
 use Rattle.fault_script.specs.declared.fault.LineFault.{LineFault}
 use Rattle.fault_script.specs.declared.fault.LineFault.TheVariants.{UnknownCommand}
 use Rattle.fault_script.specs.Words.{words, behind_word}
-use Rattle.fault_script.specs.Says.{◌>>=◌, needed_word, needed_text, needed_number, one_number, nothing_more, within, client_of, replica_of, flight_of, key_of, value_of}
+use Rattle.fault_script.specs.Says.{◌>>=◌, needed_word, needed_text, needed_number, one_number}
+use Rattle.fault_script.specs.Says.{nothing_more, within, client_of, replica_of, flight_of, key_of}
+use Rattle.fault_script.specs.Says.{value_of}
 
 -- one name of a client, one number of a replica or of a flight
 unfoldable pub client_in : List (List ℕ) → Result ℕ LineFault
@@ -120,7 +122,7 @@ step_in verb words =
     else if bytes_eq verb (codes "start") then start_in words
     else client_step_in verb words
 
--- the command of that first word, and of what stands behind it
+-- the command of that first word, and of what stands after it
 unfoldable pub command_in : List ℕ → List ℕ → Result Command LineFault
 command_in verb args =
     if bytes_eq verb (codes "invoke") then (do

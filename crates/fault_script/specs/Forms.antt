@@ -38,20 +38,26 @@ pub record Demands : Type 1 where
 
 -- everything is in its range
 abbrev pub in_ranges : Demands
-in_ranges = record { Number = IsNumber; Key = λ key. is_key key ≡ true; Value = λ value. is_value value ≡ true }
+in_ranges = record {
+  Number = IsNumber;
+  Key = λ key. is_key key ≡ true;
+  Value = λ value. is_value value ≡ true;
+}
 
 -- numbers are numbers, and nothing else is asked
 abbrev pub of_any_size : Demands
-of_any_size = record { Number = λ least most. IsValue; Key = λ key. Unit {0}; Value = λ value. Unit {0} }
+of_any_size =
+    record { Number = λ least most. IsValue; Key = λ key. Unit {0}; Value = λ value. Unit {0} }
 
--- one word behind the first, and what it is
+-- one word after the first, and what it is
 pub record One (Is : List ℕ → ℕ → Type 0) (args : List (List ℕ)) (n : ℕ) : Type 0 where
   pub word : List ℕ
   pub all : args ≡ word ∷ []
   pub is : Is word n
 
 -- a name and one word
-pub record NameAndOne (name : List ℕ) (Is : List ℕ → ℕ → Type 0) (args : List (List ℕ)) (n : ℕ) : Type 0 where
+pub record NameAndOne (name : List ℕ) (Is : List ℕ → ℕ
+    → Type 0) (args : List (List ℕ)) (n : ℕ) : Type 0 where
   pub word : List ℕ
   pub all : args ≡ name ∷ word ∷ []
   pub is : Is word n
@@ -65,14 +71,16 @@ pub record Two (Is Are : List ℕ → ℕ → Type 0) (args : List (List ℕ)) (
   pub are : Are second n
 
 -- `CLIENT read KEY`
-pub record SaysRead (demands : Demands) (args : List (List ℕ)) (client : ℕ) (key : List ℕ) : Type 0 where
-  pub caller : List ℕ
-  pub all : args ≡ caller ∷ codes "read" ∷ key ∷ []
-  pub is : demands.Number 1 65535 caller client
-  pub named : demands.Key key
+pub record SaysRead (demands : Demands) (args : List (List ℕ)) (client : ℕ) (key : List ℕ) : Type 0
+  where
+    pub caller : List ℕ
+    pub all : args ≡ caller ∷ codes "read" ∷ key ∷ []
+    pub is : demands.Number 1 65535 caller client
+    pub named : demands.Key key
 
--- `CLIENT write KEY`, and the value is all that stands behind the one space or tab after the key
-pub record SaysWrite (demands : Demands) (args : List (List ℕ)) (behind_key : List ℕ) (client : ℕ) (key value : List ℕ) : Type 0 where
+-- `CLIENT write KEY`, and the value is all that stands after the one space or tab after the key
+pub record SaysWrite (demands : Demands) (args : List (List ℕ)) (behind_key : List ℕ) (client : ℕ)
+    (key value : List ℕ) : Type 0 where
   pub caller : List ℕ
   pub others : List (List ℕ)
   pub all : args ≡ caller ∷ codes "write" ∷ key ∷ others
@@ -83,25 +91,39 @@ pub record SaysWrite (demands : Demands) (args : List (List ℕ)) (behind_key : 
 
 abbrev pub SaysInvoke : Demands → List (List ℕ) → List ℕ → ℕ → List ℕ → Action → Type 0
 SaysInvoke demands args behind_key client key Read = SaysRead demands args client key
-SaysInvoke demands args behind_key client key (Write value) = SaysWrite demands args behind_key client key value
+SaysInvoke demands args behind_key client key (Write value) =
+    SaysWrite demands args behind_key client key value
 
--- the table: the first word, the words behind it and what stands behind the fourth word spell that step
+-- the table: the first word, the words after it and what stands after the fourth word spell that
+-- step
 abbrev pub SpellsStep : Demands → List ℕ → List (List ℕ) → List ℕ → Step → Type 0
-SpellsStep demands verb args behind_key (step.Join client) = (verb ≡ codes "join") × One (demands.Number 1 65535) args client
-SpellsStep demands verb args behind_key (step.Invoke client key action) = (verb ≡ codes "invoke") × SaysInvoke demands args behind_key client key action
-SpellsStep demands verb args behind_key (step.Send client replica) = (verb ≡ codes "send") × Two (demands.Number 1 65535) (demands.Number 0 14) args client replica
-SpellsStep demands verb args behind_key (step.Deliver flight) = (verb ≡ codes "deliver") × One (demands.Number 0 4294967295) args flight
-SpellsStep demands verb args behind_key (step.Lose flight) = (verb ≡ codes "lose") × One (demands.Number 0 4294967295) args flight
-SpellsStep demands verb args behind_key (step.Repeat flight) = (verb ≡ codes "repeat") × One (demands.Number 0 4294967295) args flight
-SpellsStep demands verb args behind_key (step.Respond client) = (verb ≡ codes "respond") × One (demands.Number 1 65535) args client
-SpellsStep demands verb args behind_key (step.StopClient client) = (verb ≡ codes "stop") × NameAndOne (codes "client") (demands.Number 1 65535) args client
-SpellsStep demands verb args behind_key (step.StopReplica replica) = (verb ≡ codes "stop") × NameAndOne (codes "replica") (demands.Number 0 14) args replica
-SpellsStep demands verb args behind_key (step.StartReplica replica) = (verb ≡ codes "start") × NameAndOne (codes "replica") (demands.Number 0 14) args replica
+SpellsStep demands verb args behind_key (step.Join client) =
+    (verb ≡ codes "join") × One (demands.Number 1 65535) args client
+SpellsStep demands verb args behind_key (step.Invoke client key action) =
+    (verb ≡ codes "invoke") × SaysInvoke demands args behind_key client key action
+SpellsStep demands verb args behind_key (step.Send client replica) =
+    (verb ≡ codes "send") × Two (demands.Number 1 65535) (demands.Number 0 14) args client replica
+SpellsStep demands verb args behind_key (step.Deliver flight) =
+    (verb ≡ codes "deliver") × One (demands.Number 0 4294967295) args flight
+SpellsStep demands verb args behind_key (step.Lose flight) =
+    (verb ≡ codes "lose") × One (demands.Number 0 4294967295) args flight
+SpellsStep demands verb args behind_key (step.Repeat flight) =
+    (verb ≡ codes "repeat") × One (demands.Number 0 4294967295) args flight
+SpellsStep demands verb args behind_key (step.Respond client) =
+    (verb ≡ codes "respond") × One (demands.Number 1 65535) args client
+SpellsStep demands verb args behind_key (step.StopClient client) =
+    (verb ≡ codes "stop") × NameAndOne (codes "client") (demands.Number 1 65535) args client
+SpellsStep demands verb args behind_key (step.StopReplica replica) =
+    (verb ≡ codes "stop") × NameAndOne (codes "replica") (demands.Number 0 14) args replica
+SpellsStep demands verb args behind_key (step.StartReplica replica) =
+    (verb ≡ codes "start") × NameAndOne (codes "replica") (demands.Number 0 14) args replica
 
 abbrev pub Spells : Demands → List ℕ → List (List ℕ) → List ℕ → Command → Type 0
 Spells demands verb args behind_key (command.Step s) = SpellsStep demands verb args behind_key s
-Spells demands verb args behind_key (command.Finish client) = (verb ≡ codes "finish") × One (demands.Number 1 65535) args client
-Spells demands verb args behind_key (command.Random seed count) = (verb ≡ codes "random") × Two (demands.Number 0 18446744073709551615) (demands.Number 0 1000000) args seed count
+Spells demands verb args behind_key (command.Finish client) =
+    (verb ≡ codes "finish") × One (demands.Number 1 65535) args client
+Spells demands verb args behind_key (command.Random seed count) = (verb ≡ codes "random")
+    × Two (demands.Number 0 18446744073709551615) (demands.Number 0 1000000) args seed count
 
 -- they say that command: they spell it, and everything is in its range
 abbrev pub SaysStep : List ℕ → List (List ℕ) → List ℕ → Step → Type 0

@@ -1,8 +1,11 @@
--- The faults of a line's words, as a reader of scripts sees them: no `replicas`, no form of a line that may stand there, a number, key or value outside its range.
-use Rattle.std.specs.Prelude.{ℕ, ◌≡◌, ◌≢◌, ◌≤◌, List, [], ◌∷◌, ◌++◌, length, Option, Some, None, codes, true}
+-- The faults of a line's words, as a reader of scripts sees them: no `replicas`, no form of a line
+-- that may stand there, a number, key or value outside its range.
+use Rattle.std.specs.Prelude.{ℕ, ◌≡◌, ◌≢◌, ◌≤◌, List, [], ◌∷◌, ◌++◌, length, Option, Some, None}
+use Rattle.std.specs.Prelude.{codes, true}
 use Rattle.client_phases.specs.declared.rules.ReadMode.{ReadMode}
 use Rattle.fault_script.specs.declared.fault.LineFault.{LineFault}
-use Rattle.fault_script.specs.declared.fault.LineFault.TheVariants.{NoReplicas, UnknownCommand, Range}
+use Rattle.fault_script.specs.declared.fault.LineFault.TheVariants.{NoReplicas, UnknownCommand}
+use Rattle.fault_script.specs.declared.fault.LineFault.TheVariants.{Range}
 use Rattle.fault_script.specs.declared.parse_line.Last.TheVariants as last
 use Rattle.fault_script.specs.declared.parse_line.ConfigSoFar.{ConfigSoFar}
 use Rattle.fault_script.specs.declared.parse_line.Said.{Said}
@@ -32,33 +35,42 @@ pub record HasVotesForm (count : ℕ) (args : List (List ℕ)) : Type 0 where
   pub asks : is_numeral ask ≡ true
   pub puts : is_numeral put ≡ true
 
--- the words have a form of a line that may stand behind the lines before it, in range or not
-pub data HasFormBehind (verb : List ℕ) (args : List (List ℕ)) (behind_key : List ℕ) : Option ConfigSoFar → Type 0 where
-  replicas_form : verb ≡ codes "replicas" → HasReplicasForm args → HasFormBehind verb args behind_key None
-  reads_form : (opened : ConfigSoFar) (mode : ReadMode) → verb ≡ codes "reads" → opened.last ≡ last.Replicas → SaysReads args mode → HasFormBehind verb args behind_key (Some opened)
-  votes_form : (opened : ConfigSoFar) → verb ≡ codes "votes" → MayVote opened.last → HasVotesForm (length opened.config.quorums.votes) args → HasFormBehind verb args behind_key (Some opened)
-  command_form : (opened : ConfigSoFar) → HasForm verb args behind_key → HasFormBehind verb args behind_key (Some opened)
+-- the words have a form of a line that may stand after the lines before it, in range or not
+pub data HasFormBehind (verb : List ℕ) (args : List (List ℕ)) (behind_key : List ℕ) : Option
+    ConfigSoFar → Type 0 where
+  replicas_form : verb ≡ codes "replicas" → HasReplicasForm args
+      → HasFormBehind verb args behind_key None
+  reads_form : (opened : ConfigSoFar) (mode : ReadMode) → verb ≡ codes "reads" → opened.last
+      ≡ last.Replicas → SaysReads args mode → HasFormBehind verb args behind_key (Some opened)
+  votes_form : (opened : ConfigSoFar) → verb ≡ codes "votes" → MayVote opened.last
+      → HasVotesForm (length opened.config.quorums.votes) args
+      → HasFormBehind verb args behind_key (Some opened)
+  command_form : (opened : ConfigSoFar) → HasForm verb args behind_key
+      → HasFormBehind verb args behind_key (Some opened)
 
 -- the first command isn't `replicas`
 pub record LacksReplicas (verb : List ℕ) (before : Option ConfigSoFar) : Type 0 where
   pub first : before ≡ None
   pub other : verb ≢ codes "replicas"
 
--- what stands behind the third word of a text
+-- what stands after the third word of a text
 abbrev pub behind_third : List ℕ → List ℕ
 behind_third text = behind_word (behind_word (behind_word text))
 
--- a line of that first word, and of that text behind it, may stand behind the lines before it by its form
+-- a line of that first word, and of that text after it, may stand after the lines before it by its
+-- form
 abbrev pub HasFormAt : Option ConfigSoFar → List ℕ → List ℕ → Type 0
 HasFormAt before verb args = HasFormBehind verb (words args) (behind_third args) before
 
 -- it says nothing there
 abbrev pub SaysNothing : Option ConfigSoFar → List ℕ → List ℕ → Type 0
-SaysNothing before verb args = (said : Said) → SaysBehind verb (words args) (behind_third args) before said → ⊥
+SaysNothing before verb args =
+    (said : Said) → SaysBehind verb (words args) (behind_third args) before said → ⊥
 
 -- it has that fault there, and none before it in order of number
 abbrev pub HasWordFault : Option ConfigSoFar → List ℕ → List ℕ → LineFault → Type 0
 HasWordFault before verb args NoReplicas = LacksReplicas verb before
-HasWordFault before verb args UnknownCommand = (LacksReplicas verb before → ⊥) × (HasFormAt before verb args → ⊥)
+HasWordFault before verb args UnknownCommand =
+    (LacksReplicas verb before → ⊥) × (HasFormAt before verb args → ⊥)
 HasWordFault before verb args Range = HasFormAt before verb args × SaysNothing before verb args
 HasWordFault before verb args fault = ⊥

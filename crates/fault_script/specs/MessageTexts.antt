@@ -1,4 +1,5 @@
--- What a script's run says: a line for each command that was refused, and one for each command of random steps.
+-- What a script's run says: a line for each command that was refused, and one for each command of
+-- random steps.
 use Rattle.std.specs.Prelude.{ℕ, List, ◌++◌, codes, decimal}
 use Rattle.world_settle.specs.Numbers.{settle_error_name, settle_error_number}
 use Rattle.world_settle.specs.declared.errors.SettleError.{SettleError}
@@ -7,12 +8,15 @@ use Rattle.world_steps.specs.declared.refusal.Refusal.{Refusal}
 
 -- the step of that line was refused
 unfoldable pub refused_message : ℕ → Refusal → List ℕ
-refused_message line why = codes "line " ++ decimal line ++ codes ": refused " ++ decimal (refusal_number why) ++ codes " " ++ refusal_name why ++ codes "\n"
+refused_message line why = codes "line " ++ decimal line ++ codes ": refused "
+    ++ decimal (refusal_number why) ++ codes " " ++ refusal_name why ++ codes "\n"
 
 -- the call that was to be finished at that line wasn't
 unfoldable pub unfinished_message : ℕ → SettleError → List ℕ
-unfinished_message line why = codes "line " ++ decimal line ++ codes ": finish refused " ++ decimal (settle_error_number why) ++ codes " " ++ settle_error_name why ++ codes "\n"
+unfinished_message line why = codes "line " ++ decimal line ++ codes ": finish refused "
+    ++ decimal (settle_error_number why) ++ codes " " ++ settle_error_name why ++ codes "\n"
 
 -- of so many random steps so many were taken
 unfoldable pub random_message : ℕ → ℕ → ℕ → List ℕ
-random_message line taken count = codes "line " ++ decimal line ++ codes ": random took " ++ decimal taken ++ codes " of " ++ decimal count ++ codes "\n"
+random_message line taken count = codes "line " ++ decimal line ++ codes ": random took "
+    ++ decimal taken ++ codes " of " ++ decimal count ++ codes "\n"

@@ -1,7 +1,10 @@
--- The numbers and the texts of faults of lines, and those of why a script wasn't simulated, as programs print them.
+-- The numbers and the texts of faults of lines, and those of why a script wasn't simulated, as
+-- programs print them.
 use Rattle.std.specs.Prelude.{ℕ, List, codes}
 use Rattle.fault_script.specs.declared.fault.LineFault.{LineFault}
-use Rattle.fault_script.specs.declared.fault.LineFault.TheVariants.{NotUtf8, NoReplicas, UnknownCommand, Range, TooLong, TooManyCommands}
+use Rattle.fault_script.specs.declared.fault.LineFault.TheVariants.{NotUtf8, NoReplicas}
+use Rattle.fault_script.specs.declared.fault.LineFault.TheVariants.{UnknownCommand, Range, TooLong}
+use Rattle.fault_script.specs.declared.fault.LineFault.TheVariants.{TooManyCommands}
 use Rattle.fault_script.specs.declared.simulate_script.SimulateError.{SimulateError}
 use Rattle.fault_script.specs.declared.simulate_script.SimulateError.TheVariants as error
 

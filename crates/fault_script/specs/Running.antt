@@ -8,7 +8,8 @@ use Rattle.fault_script.specs.ScriptRuns.{random_walk, Runs, RunsAll}
 
 -- so many random steps of a seed lead there, so many of them taken
 abbrev pub Walks : System → ℕ → ℕ → System → ℕ → Type 0
-Walks old seed count new taken = (new ≡ (random_walk old seed count).system) × (taken ≡ (random_walk old seed count).taken)
+Walks old seed count new taken =
+    (new ≡ (random_walk old seed count).system) × (taken ≡ (random_walk old seed count).taken)
 
 -- the run goes on by the command of that line
 pub record RunsOn (old : ScriptRun) (line : ℕ) (command : Command) (new : ScriptRun) : Type 0 where

@@ -1,5 +1,6 @@
 -- What words say, read one after another: a word that is missing, or one too many, is a fault.
-use Rattle.std.specs.Prelude.{ℕ, ◌≡◌, ◌&&◌, List, [], ◌∷◌, Bool, Option, Some, None, Result, Ok, Err, nat_le, bytes_eq, if◌then◌else◌}
+use Rattle.std.specs.Prelude.{ℕ, ◌≡◌, ◌&&◌, List, [], ◌∷◌, Bool, Option, Some, None, Result, Ok}
+use Rattle.std.specs.Prelude.{Err, nat_le, bytes_eq, if◌then◌else◌}
 use Rattle.tag.specs.Names.{is_key, is_value}
 use Rattle.fault_script.specs.declared.fault.LineFault.{LineFault}
 use Rattle.fault_script.specs.declared.fault.LineFault.TheVariants.{UnknownCommand, Range}
@@ -9,7 +10,8 @@ use Rattle.fault_script.specs.Words.{number_of}
 
 -- the first fault of two steps, or what the second makes of the first
 infixl 10 ◌>>=◌
-abbrev pub ◌>>=◌ : {A B : Type 0} → Result A LineFault → (A → Result B LineFault) → Result B LineFault
+abbrev pub ◌>>=◌ : {A B : Type 0} → Result A LineFault → (A → Result B LineFault)
+    → Result B LineFault
 (Ok x) >>= f = f x
 (Err e) >>= f = Err e
 
@@ -22,7 +24,7 @@ abbrev pub Gives : {X Y : Type 0} → (X → Y) → Result X Stop → Result Y L
 Gives view (Ok x) said = said ≡ Ok (view x)
 Gives view (Err e) said = Fails e said
 
--- the next word, and those behind it
+-- the next word, and those after it
 unfoldable pub needed_word : List (List ℕ) → Result (List ℕ × List (List ℕ)) LineFault
 needed_word [] = Err UnknownCommand
 needed_word (word ∷ others) = Ok (word, others)

@@ -1,5 +1,6 @@
 -- Scripts: the commands that lines say, and the first fault among lines.
-use Rattle.std.specs.Prelude.{ℕ, ◌≡◌, ◌+◌, List, [], ◌∷◌, ◌++◌, length, Option, Some, None, Ok, Err, option_map, fold, filter_map}
+use Rattle.std.specs.Prelude.{ℕ, ◌≡◌, ◌+◌, List, [], ◌∷◌, ◌++◌, length, Option, Some, None, Ok, Err}
+use Rattle.std.specs.Prelude.{option_map, fold, filter_map}
 use Rattle.counted_devices.specs.Cuts.{Splits}
 use Rattle.counted_devices.specs.Cuts.{last_lines}
 use Rattle.fault_script.specs.declared.command.NumberedCommand.{NumberedCommand}
@@ -16,13 +17,13 @@ pub record SaidLine : Type 0 where
   pub line : ℕ
   pub said : Said
 
--- the configuration behind one more line
+-- the configuration after one more line
 abbrev pub opened_after : Option ConfigSoFar → Said → Option ConfigSoFar
 opened_after before (Opens opened) = Some opened
 opened_after None (Runs command) = None
 opened_after (Some opened) (Runs command) = Some (record { config = opened.config; last = Other })
 
--- the configuration behind those lines
+-- the configuration after those lines
 abbrev pub opened_of : List SaidLine → Option ConfigSoFar
 opened_of saids = fold (λ before placed. opened_after before placed.said) None saids
 
@@ -34,14 +35,19 @@ command_by line (Runs command) = Some (record { line = line; command = command }
 abbrev pub commands_of : List SaidLine → List NumberedCommand
 commands_of saids = filter_map (λ placed. command_by placed.line placed.said) saids
 
--- the lines are read as those: each is blank or a comment, or says the next of them behind those before
+-- the lines are read as those: each is blank or a comment, or says the next of them after those
+-- before
 pub data AreRead : List (List ℕ) → List SaidLine → Type 0 where
   no_line : AreRead [] []
-  blank_line : (lines : List (List ℕ)) (saids : List SaidLine) (line : List ℕ) → AreRead lines saids → Shows (opened_of saids) (length saids) line (Ok None) → AreRead (lines ++ line ∷ []) saids
-  command_line : (lines : List (List ℕ)) (saids : List SaidLine) (line : List ℕ) (said : Said) → AreRead lines saids → Shows (opened_of saids) (length saids) line (Ok (Some said)) → AreRead (lines ++ line ∷ []) (saids ++ record { line = length lines + 1; said = said } ∷ [])
+  blank_line : (lines : List (List ℕ)) (saids : List SaidLine) (line : List ℕ) → AreRead lines saids
+      → Shows (opened_of saids) (length saids) line (Ok None) → AreRead (lines ++ line ∷ []) saids
+  command_line : (lines : List (List ℕ)) (saids : List SaidLine) (line : List ℕ) (said : Said)
+      → AreRead lines saids → Shows (opened_of saids) (length saids) line (Ok (Some said))
+      → AreRead (lines ++ line ∷ []) (saids ++ record { line = length lines + 1; said = said } ∷ [])
 
--- the line behind those lines has that fault, and that number
-pub record HasFault (earlier : List (List ℕ)) (line : List ℕ) (number : ℕ) (fault : LineFault) : Type 0 where
+-- the line after those lines has that fault, and that number
+pub record HasFault (earlier : List (List ℕ)) (line : List ℕ) (number : ℕ) (fault : LineFault) :
+    Type 0 where
   pub saids : List SaidLine
   pub read : AreRead earlier saids
   pub counted : number ≡ length earlier + 1
@@ -49,7 +55,8 @@ pub record HasFault (earlier : List (List ℕ)) (line : List ℕ) (number : ℕ)
 
 -- the script is made of what the lines say: the last configuration, and the commands in their order
 pub record IsMadeOf (saids : List SaidLine) (script : Script) : Type 0 where
-  pub config : option_map (λ (opened : ConfigSoFar). opened.config) (opened_of saids) ≡ Some script.config
+  pub config : option_map (λ (opened : ConfigSoFar). opened.config) (opened_of saids)
+      ≡ Some script.config
   pub commands : script.commands.items ≡ commands_of saids
 
 -- the bytes are the lines of that script

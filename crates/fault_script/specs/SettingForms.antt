@@ -1,4 +1,4 @@
--- The forms of the configuration's lines, and what a line's words say behind the lines before it.
+-- The forms of the configuration's lines, and what a line's words say after the lines before it.
 use Rattle.std.specs.Prelude.{ℕ, ◌≡◌, List, [], ◌∷◌, ◌++◌, length, Option, Some, None, codes}
 use Rattle.std.specs.List.{AllZip}
 use Rattle.client_phases.specs.declared.rules.ReadMode.{ReadMode}
@@ -26,8 +26,10 @@ pub record Three (Is Are Be : List ℕ → ℕ → Type 0) (args : List (List �
 -- `N [CALLS [FLIGHTS]]`, with 1,000,000 calls and 4,000,000 messages where none are said
 pub data SaysReplicas (args : List (List ℕ)) : Config → Type 0 where
   alone : (n : ℕ) → One (IsNumber 1 15) args n → SaysReplicas args (config_of n 1000000 4000000)
-  with_calls : (n calls : ℕ) → Two (IsNumber 1 15) (IsNumber 1 1000000) args n calls → SaysReplicas args (config_of n calls 4000000)
-  with_flights : (n calls flights : ℕ) → Three (IsNumber 1 15) (IsNumber 1 1000000) (IsNumber 1 16000000) args n calls flights → SaysReplicas args (config_of n calls flights)
+  with_calls : (n calls : ℕ) → Two (IsNumber 1 15) (IsNumber 1 1000000) args n calls
+      → SaysReplicas args (config_of n calls 4000000)
+  with_flights : (n calls flights : ℕ) → Three (IsNumber 1 15) (IsNumber 1 1000000)
+      (IsNumber 1 16000000) args n calls flights → SaysReplicas args (config_of n calls flights)
 
 -- `full` or `short`
 abbrev pub SaysReads : List (List ℕ) → ReadMode → Type 0
@@ -46,15 +48,27 @@ pub record SaysVotes (count : ℕ) (args : List (List ℕ)) (quorums : Quorums) 
   pub puts : IsValue put quorums.put
   pub lawful : IsLawful quorums
 
--- `votes` may stand behind these lines
+-- `votes` may stand after these lines
 abbrev pub MayVote : Last → Type 0
 MayVote last.Replicas = Unit {0}
 MayVote last.Reads = Unit {0}
 MayVote last.Other = ⊥
 
--- what the words of a line say behind the lines before it: the first `replicas`, then `reads`, then `votes`, and then commands
-pub data SaysBehind (verb : List ℕ) (args : List (List ℕ)) (behind_key : List ℕ) : Option ConfigSoFar → Said → Type 0 where
-  replicas : (config : Config) → verb ≡ codes "replicas" → SaysReplicas args config → SaysBehind verb args behind_key None (Opens (record { config = config; last = last.Replicas }))
-  reads : (config : Config) (mode : ReadMode) → verb ≡ codes "reads" → SaysReads args mode → SaysBehind verb args behind_key (Some (record { config = config; last = last.Replicas })) (Opens (record { config = record config { reads = mode }; last = last.Reads }))
-  votes : (config : Config) (before : Last) (quorums : Quorums) → verb ≡ codes "votes" → MayVote before → SaysVotes (length config.quorums.votes) args quorums → SaysBehind verb args behind_key (Some (record { config = config; last = before })) (Opens (record { config = record config { quorums = quorums }; last = last.Other }))
-  runs : (opened : ConfigSoFar) (command : Command) → SaysCommand verb args behind_key command → SaysBehind verb args behind_key (Some opened) (Runs command)
+-- what the words of a line say after the lines before it: the first `replicas`, then `reads`, then
+-- `votes`, and then commands
+pub data SaysBehind (verb : List ℕ) (args : List (List ℕ)) (behind_key : List ℕ) : Option
+    ConfigSoFar → Said → Type 0 where
+  replicas : (config : Config) → verb ≡ codes "replicas" → SaysReplicas args config
+      → SaysBehind verb args behind_key None (Opens (record {
+        config = config;
+        last = last.Replicas;
+      }))
+  reads : (config : Config) (mode : ReadMode) → verb ≡ codes "reads" → SaysReads args mode
+      → SaysBehind verb args behind_key (Some (record { config = config; last = last.Replicas }))
+      (Opens (record { config = record config { reads = mode }; last = last.Reads }))
+  votes : (config : Config) (before : Last) (quorums : Quorums) → verb ≡ codes "votes"
+      → MayVote before → SaysVotes (length config.quorums.votes) args quorums
+      → SaysBehind verb args behind_key (Some (record { config = config; last = before }))
+      (Opens (record { config = record config { quorums = quorums }; last = last.Other }))
+  runs : (opened : ConfigSoFar) (command : Command) → SaysCommand verb args behind_key command
+      → SaysBehind verb args behind_key (Some opened) (Runs command)

@@ -1,5 +1,7 @@
 -- The lines of the configuration: `replicas`, `reads` and `votes`.
-use Rattle.std.specs.Prelude.{ℕ, zero, suc, ◌+◌, ◌&&◌, List, [], ◌∷◌, Bool, Option, Some, None, Result, Ok, Err, codes, bytes_eq, length, min, nat_le, nat_lt, sum, if◌then◌else◌}
+use Rattle.std.specs.Prelude.{ℕ, zero, suc, ◌+◌, ◌&&◌, List, [], ◌∷◌, Bool, Option, Some, None}
+use Rattle.std.specs.Prelude.{Result, Ok, Err, codes, bytes_eq, length, min, nat_le, nat_lt, sum}
+use Rattle.std.specs.Prelude.{if◌then◌else◌}
 use Rattle.std.specs.List.{list_all}
 use Rattle.quorum.specs.Quorums.{Quorums}
 use Rattle.client_phases.specs.declared.rules.ReadMode.{ReadMode}
@@ -7,7 +9,8 @@ use Rattle.client_phases.specs.declared.rules.ReadMode.TheVariants.{Full, Short}
 use Rattle.world_steps.specs.Configs.{Config, config_of}
 use Rattle.fault_script.specs.declared.fault.LineFault.{LineFault}
 use Rattle.fault_script.specs.declared.fault.LineFault.TheVariants.{UnknownCommand}
-use Rattle.fault_script.specs.Says.{◌>>=◌, needed_word, needed_text, needed_number, number_or, nothing_more, in_range, within}
+use Rattle.fault_script.specs.Says.{◌>>=◌, needed_word, needed_text, needed_number, number_or}
+use Rattle.fault_script.specs.Says.{nothing_more, in_range, within}
 
 -- so many replicas, calls and messages
 unfoldable pub config_in : Option ℕ → Option ℕ → Option ℕ → Result Config LineFault
@@ -28,7 +31,8 @@ replicas_in words = do
 
 -- `full` or `short`
 unfoldable pub mode_of : List ℕ → Result ReadMode LineFault
-mode_of word = if bytes_eq word (codes "full") then Ok Full else if bytes_eq word (codes "short") then Ok Short else Err UnknownCommand
+mode_of word = if bytes_eq word (codes "full") then Ok Full else if bytes_eq word (codes "short")
+    then Ok Short else Err UnknownCommand
 
 unfoldable pub reads_in : List (List ℕ) → Result ReadMode LineFault
 reads_in words = do
@@ -41,7 +45,7 @@ abbrev pub vote_count : Option ℕ → ℕ
 vote_count None = 255
 vote_count (Some n) = min n 255
 
--- so many numbers of votes, and the words behind them
+-- so many numbers of votes, and the words after them
 unfoldable pub numbers_in : ℕ → List (List ℕ) → Result (List ℕ × List (List ℕ)) LineFault
 numbers_in zero words = Ok ([], words)
 numbers_in (suc n) words = do
@@ -62,7 +66,8 @@ is_lawful quorums =
     && nat_lt (sum quorums.votes) (quorums.ask + quorums.put)
 
 abbrev pub quorums_of : List ℕ → ℕ → ℕ → Result Quorums LineFault
-quorums_of votes ask put = in_range (is_lawful (record { votes = votes; ask = ask; put = put })) (record { votes = votes; ask = ask; put = put })
+quorums_of votes ask put = in_range (is_lawful (record { votes = votes; ask = ask; put = put }))
+    (record { votes = votes; ask = ask; put = put })
 
 -- `V0 .. ask R put W`, a vote for each of n replicas
 unfoldable pub votes_in : ℕ → List (List ℕ) → Result Quorums LineFault

@@ -1,5 +1,7 @@
 -- Words of a line, and the numbers that words are.
-use Rattle.std.specs.Prelude.{ℕ, ◌*◌, ◌+◌, ◌-◌, ◌^◌, ◌==◌, ◌||◌, ◌&&◌, List, [], ◌∷◌, Bool, true, false, not, Option, Some, None, Result, Ok, Err, drop, length, take, filter, fold, slice_index, nat_lt, nat_le, if◌then◌else◌}
+use Rattle.std.specs.Prelude.{ℕ, ◌*◌, ◌+◌, ◌-◌, ◌^◌, ◌==◌, ◌||◌, ◌&&◌, List, [], ◌∷◌, Bool, true}
+use Rattle.std.specs.Prelude.{false, not, Option, Some, None, Result, Ok, Err, drop, length, take}
+use Rattle.std.specs.Prelude.{filter, fold, slice_index, nat_lt, nat_le, if◌then◌else◌}
 use Rattle.std.specs.List.{list_all, slice_split, after_first, position_or_len}
 use Rattle.std.specs.Char.{is_ascii_digit}
 use Rattle.fault_script.specs.declared.fault.LineFault.{LineFault}
@@ -22,17 +24,19 @@ words text = filter has_bytes (slice_split is_space text)
 abbrev pub without_spaces : List ℕ → List ℕ
 without_spaces text = drop (position_or_len (λ b. not (is_space b)) text) text
 
--- what stands behind the one space or tab that ends the first word; nothing where the text ends there
+-- what stands after the one space or tab that ends the first word; nothing where the text ends
+-- there
 unfoldable pub behind_word : List ℕ → List ℕ
 behind_word text = after_first is_space (without_spaces text)
 
--- what stands behind the first three words
+-- what stands after the first three words
 abbrev pub behind_three : List ℕ → List ℕ
 behind_three text = behind_word (behind_word (behind_word text))
 
 -- the line without a final byte 13
 abbrev pub without_return : List ℕ → List ℕ
-without_return line = if slice_index line (length line - 1) == 13 then take (length line - 1) line else line
+without_return line =
+    if slice_index line (length line - 1) == 13 then take (length line - 1) line else line
 
 -- one or more digits and nothing else
 abbrev pub is_numeral : List ℕ → Bool

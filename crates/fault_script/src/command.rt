@@ -2,7 +2,7 @@
 use tag::ClientId;
 use world_steps::{Config, Step};
 
-/// A command behind those of the configuration.
+/// A command after those of the configuration.
 #[derive(Debug, Drop, PartialEq, Eq)]
 pub enum Command {
     /// One step.

@@ -10,7 +10,7 @@ use crate::parse_line::{ConfigSoFar, Last, Said};
 use std::alloc::Global;
 use tag::Memory;
 
-/// The configuration so far, the commands behind it, and how many lines were commands, those of the
+/// The configuration so far, the commands after it, and how many lines were commands, those of the
 /// configuration among them.
 #[derive(Drop)]
 pub struct Draft {
@@ -19,7 +19,7 @@ pub struct Draft {
     pub count: usize,
 }
 
-/// The configuration behind a command.
+/// The configuration after a command.
 fn behind_command(before: Option<ConfigSoFar>) -> Option<ConfigSoFar>
     ensures { (command : Command) → result ≡ opened_after before (Said.Runs command) }
 {

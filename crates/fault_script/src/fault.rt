@@ -37,7 +37,7 @@ pub type ErrorKind = FaultKind<LineFault>;
 /// way when it came.
 pub type ScriptError = ReadFault<LineFault>;
 
-/// Why the reading of a line stopped: the line has a fault, or a growth was refused.
+/// Why the reading of a line stopped: the line has a fault, or an allocation was refused.
 pub type Stop = counted_devices::Stop<LineFault>;
 
 impl LineFault {

@@ -33,7 +33,7 @@ pub fn a_command_is_read_where_its_words_say_it()
         ↔ SaysCommand verb (words args) (behind_three args) command }
 {}
 
-/// A line's words are read, behind the lines before it, exactly where they say that there.
+/// A line's words are read, after the lines before it, exactly where they say that there.
 pub fn a_line_is_read_where_its_words_say_it()
     ensures { (before : Option ConfigSoFar) (verb args : List ℕ) (said : Said)
         → (said_in before verb args ≡ Ok said)
@@ -49,7 +49,7 @@ pub fn a_command_without_a_form_is_unknown()
         → command_in verb args ≡ Err Range }
 {}
 
-/// A line's words that are not read have, behind the lines before it, the fault that is there:
+/// A line's words that are not read have, after the lines before it, the fault that is there:
 /// `NoReplicas` where the first command isn't `replicas`, else `UnknownCommand` where they have no
 /// form of a line that may stand there, else `Range`, and no other.
 pub fn a_line_has_the_fault_of_its_words()

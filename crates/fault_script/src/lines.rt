@@ -11,7 +11,7 @@ use std::alloc::Global;
 /// The most bytes of a line, its end not counted.
 pub const LONGEST: usize = 65_536;
 
-/// What the line, without its end, shows behind the lines before, of which so many were commands:
+/// What the line, without its end, shows after the lines before, of which so many were commands:
 /// nothing where it is blank or a comment.
 pub(crate) fn shown_by(
     alloc: Global,

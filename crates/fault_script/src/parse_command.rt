@@ -1,8 +1,10 @@
-//! The commands behind the configuration.
+//! The commands after the configuration.
 ghost use Rattle.std.specs.Prelude.{◌≡◌, ◌≤◌, IfOk};
 ghost use Rattle.fault_script.specs.Words.{words, behind_word};
 ghost use Rattle.fault_script.specs.Says.{Gives};
-ghost use Rattle.fault_script.specs.Commands.{client_in, replica_in, flight_in, action_in, invoke_in, send_in, stopped_in, stop_in, start_in, random_in, client_step_in, step_in, command_in};
+ghost use Rattle.fault_script.specs.Commands.{client_in, replica_in, flight_in, action_in};
+ghost use Rattle.fault_script.specs.Commands.{invoke_in, send_in, stopped_in, stop_in, start_in};
+ghost use Rattle.fault_script.specs.Commands.{random_in, client_step_in, step_in, command_in};
 
 use crate::LineFault;
 use crate::command::Command;
@@ -39,7 +41,7 @@ fn flight_in(args: &str) -> Result<u32, Stop>
     flight_of(number)
 }
 
-/// What a call asks, by the word before its key and what stands behind the key.
+/// What a call asks, by the word before its key and what stands after the key.
 #[tactic(auto, unfolding(crate::specs::Commands::action_in))]
 fn action_in(alloc: Global, action: &str, behind_key: &str) -> Result<Action, Stop>
     ensures { Gives (λ action. action) result (action_in action.now behind_key.now) }
@@ -170,7 +172,7 @@ fn step_in(verb: &str, args: &str) -> Result<Step, Stop>
     }
 }
 
-/// The command of that first word, and of what stands behind it.
+/// The command of that first word, and of what stands after it.
 #[tactic(auto, unfolding(crate::specs::Commands::command_in))]
 pub(crate) fn command_in(alloc: Global, verb: &str, args: &str) -> Result<Command, Stop>
     ensures { Gives (λ command. command) result (command_in verb.now args.now) }

@@ -1,8 +1,9 @@
-//! What a line says behind the lines before it.
+//! What a line says after the lines before it.
 ghost use Rattle.std.specs.Prelude.{◌≡◌, ◌==◌, ◌<◌, slice_index, IfOk, IsSome};
 ghost use Rattle.fault_script.specs.Words.{words};
 ghost use Rattle.fault_script.specs.Says.{Gives};
-ghost use Rattle.fault_script.specs.LineMeanings.{reads_behind, votes_set, votes_behind, first_said, said_in, command_says, text_says};
+ghost use Rattle.fault_script.specs.LineMeanings.{reads_behind, votes_set, votes_behind};
+ghost use Rattle.fault_script.specs.LineMeanings.{first_said, said_in, command_says, text_says};
 
 use crate::LineFault;
 use crate::command::Command;
@@ -24,8 +25,8 @@ pub enum Last {
     Other,
 }
 
-/// The configuration so far, and the last line: `reads` may stand behind `replicas` alone, `votes`
-/// behind the two.
+/// The configuration so far, and the last line: `reads` may stand after `replicas` alone, `votes`
+/// after the two.
 #[derive(Clone, Copy, Debug)]
 pub struct ConfigSoFar {
     pub config: Config,
@@ -97,7 +98,7 @@ fn first_said(verb: &str, args: &str) -> Result<Said, Stop>
     }
 }
 
-/// What a line of that first word says behind the lines before.
+/// What a line of that first word says after the lines before.
 #[tactic(auto, unfolding(crate::specs::LineMeanings::said_in))]
 fn said_in(alloc: Global, before: Option<ConfigSoFar>, verb: &str, args: &str) -> Result<Said, Stop>
     ensures { Gives (λ said. said) result (said_in before verb.now args.now) }
@@ -128,7 +129,7 @@ fn is_comment(word: &str) -> bool
     }
 }
 
-/// What a line of that first word says behind the lines before, of which so many were commands:
+/// What a line of that first word says after the lines before, of which so many were commands:
 /// nothing where it is a comment.
 #[tactic(auto, unfolding(crate::specs::LineMeanings::command_says))]
 fn command_says(
@@ -151,7 +152,7 @@ fn command_says(
     Ok(Some(said))
 }
 
-/// What the text of a line says behind the lines before, of which so many were commands: nothing
+/// What the text of a line says after the lines before, of which so many were commands: nothing
 /// where it is blank or a comment.
 pub(crate) fn text_says(
     alloc: Global,

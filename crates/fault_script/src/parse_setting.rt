@@ -2,7 +2,8 @@
 ghost use Rattle.std.specs.Prelude.{◌≡◌, ◌≤◌, length, take, IfOk};
 ghost use Rattle.fault_script.specs.Words.{words};
 ghost use Rattle.fault_script.specs.Says.{Gives};
-ghost use Rattle.fault_script.specs.Settings.{vote_count, config_in, replicas_in, mode_of, reads_in, numbers_in, quorums_of, votes_in};
+ghost use Rattle.fault_script.specs.Settings.{vote_count, config_in, replicas_in, mode_of};
+ghost use Rattle.fault_script.specs.Settings.{reads_in, numbers_in, quorums_of, votes_in};
 
 use crate::LineFault;
 use crate::fault::Stop;
@@ -35,7 +36,7 @@ fn config_in(
     }
 }
 
-/// The configuration that stands behind `replicas`.
+/// The configuration that stands after `replicas`.
 #[tactic(auto, unfolding(crate::specs::Settings::replicas_in))]
 pub(crate) fn replicas_in(args: &str) -> Result<Config, Stop>
     ensures { Gives (λ config. config) result (replicas_in (words args.now)) }
@@ -60,7 +61,7 @@ fn mode_of(word: &str) -> Result<ReadMode, Stop>
     }
 }
 
-/// The way of reading that stands behind `reads`.
+/// The way of reading that stands after `reads`.
 #[tactic(auto, unfolding(crate::specs::Settings::reads_in))]
 pub(crate) fn reads_in(args: &str) -> Result<ReadMode, Stop>
     ensures { Gives (λ mode. mode) result (reads_in (words args.now)) }
@@ -80,7 +81,7 @@ fn vote_count(number: Option<u64>) -> u8
     }
 }
 
-/// So many numbers of votes, in a row of 15, and what stands behind them.
+/// So many numbers of votes, in a row of 15, and what stands after them.
 fn numbers_in(count: u8, args: &str) -> Result<([u8; 15], &str), Stop>
     requires { count ≤ 15 }
     ensures { Gives (λ found. (take count found.0, words found.1.now)) result
@@ -106,7 +107,7 @@ fn quorums_of(votes: &[u8], ask: u8, put: u8) -> Result<Quorums, Stop>
     }
 }
 
-/// The quorums that stand behind `votes`, for so many replicas.
+/// The quorums that stand after `votes`, for so many replicas.
 #[tactic(auto, unfolding(crate::specs::Settings::votes_in))]
 pub(crate) fn votes_in(replicas: u8, args: &str) -> Result<Quorums, Stop>
     requires { replicas ≤ 15 }

@@ -73,7 +73,7 @@ fn feed_in_blocks<R: CountedRead>(
 ///
 /// Bytes with a fault are refused with their first one: of lines that came whole the first that has
 /// a fault, then `Device` at the line under way where the reader failed. `Memory` comes only where
-/// a growth was refused. The reader keeps what follows the bytes that were read.
+/// an allocation was refused. The reader keeps what follows the bytes that were read.
 pub fn parse<R: CountedRead>(alloc: Global, reader: &mut R) -> Result<Script, ScriptError>
     ensures read { IfOk result (ReadsFrom R.remaining reader.old reader.new) }
     ensures counted { OnOk result (R.failures reader.new ≡ R.failures reader.old) }

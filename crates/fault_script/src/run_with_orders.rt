@@ -13,7 +13,7 @@ use world_steps::{Config, Step, run};
 /// record first sees them.
 ///
 /// For every configuration and every list of steps the record is atomic: each order is one of its
-/// key's part. Steps that are refused are passed over; `Memory` comes only where a growth was
+/// key's part. Steps that are refused are passed over; `Memory` comes only where an allocation was
 /// refused.
 pub fn justified_run(
     alloc: Global,

@@ -21,7 +21,7 @@ pub enum SimulateError {
     /// The script couldn't be read.
     #[error(transparent)]
     Script(ScriptError),
-    /// A growth was refused.
+    /// An allocation was refused.
     #[error("no memory")]
     Memory,
     /// A writer failed.
@@ -111,7 +111,7 @@ fn write_texts<W: CountedWrite, M: CountedWrite>(
 /// finished; random steps have one message together, which tells how many of them were taken. What
 /// is written to `out` is the history of a run whose parts have sound tags, so that the calls of a
 /// key sorted by tag are an order of it. Both texts are made before the first byte of either goes
-/// out: a script that can't be read, or a growth that is refused, leaves both writers as they were.
+/// out: a script that can't be read, or an allocation that is refused, leaves both writers as they were.
 /// `Device` comes only where a writer failed; a beginning of the messages may then have gone out, or
 /// the messages and a beginning of the history.
 pub fn simulate<R: CountedRead, W: CountedWrite, M: CountedWrite>(

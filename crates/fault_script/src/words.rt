@@ -49,7 +49,7 @@ fn without_spaces(text: &str) -> &str
     &text[start..]
 }
 
-/// What stands before the first space or tab, and what stands behind it.
+/// What stands before the first space or tab, and what stands after it.
 fn cut_at_space(text: &str) -> (&str, &str)
     ensures before { result.0.now ≡ before_first is_space text.now }
     ensures after { result.1.now ≡ after_first is_space text.now }
@@ -60,7 +60,7 @@ fn cut_at_space(text: &str) -> (&str, &str)
     }
 }
 
-/// The first word, and what stands behind the one space or tab that ends it.
+/// The first word, and what stands after the one space or tab that ends it.
 pub(crate) fn next_word(text: &str) -> Option<(&str, &str)>
     ensures words { MatchOption result (words text.now ≡ [])
         (λ found. words text.now ≡ found.0.now ∷ words found.1.now) }
@@ -95,7 +95,7 @@ pub(crate) fn nothing_more(text: &str) -> Result<(), Stop>
     }
 }
 
-/// The next word, which must be that text; what stands behind it is given.
+/// The next word, which must be that text; what stands after it is given.
 #[tactic(auto, unfolding(crate::specs::Says::needed_text))]
 pub(crate) fn needed_text<'a>(text: &str, line: &'a str) -> Result<&'a str, Stop>
     ensures { Gives (λ behind. words behind.now) result (needed_text text.now (words line.now)) }

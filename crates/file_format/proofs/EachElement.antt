@@ -29,7 +29,7 @@ ops_first : (op : OpId) (ops : List OpId) → IsOp op → AreOps ops → AreOps 
 ops_first op ops one more zero other e = let same : op ≡ other = cc in subst IsOp same one
 ops_first op ops one more (suc k) other e = more k other e
 
--- the first calls are in range, and those behind them
+-- the first calls are in range, and those after them
 pub ops_both : (n : ℕ) (ops : List OpId) → AreOps (take n ops) → AreOps (drop n ops) → AreOps ops
 ops_both zero ops front behind = behind
 ops_both (suc n) [] front behind = λ k op e. absurd (cc)

@@ -191,7 +191,7 @@ only_told d =
     let O = IsRowOutOfRange d in
     bind L O (row_in d) _ (row_told d) (λ said e. tt)
 
--- the fault that is told is the one that the value has behind that header
+-- the fault that is told is the one that the value has after that header
 pub hall_row_fault : (header : FileHeader) (d : Data) (fault : LineFault) → (hall_row_in header d ≡ Err fault) ↔ HasHallRowFault header d fault
 unfolding hall_row_in
 hall_row_fault Version1 d fault =

@@ -11,7 +11,7 @@ use Rattle.counted_devices.specs.CutOnce.{splits_once}
 use Rattle.file_format.proofs.Once.{shows_once, header_once, spelled_once}
 use Rattle.file_format.proofs.SayingRows.{inside}
 
--- of the faults that an item has behind others there is one, and none where the list goes on in a file
+-- of the faults that an item has after others there is one, and none where the list goes on in a file
 pub record IsSharp {Header Item : Type 0} (format : Format Header Item) : Type 0 where
   pub one : (header : Header) (items : List Item) (thing : Item) (f g : LineFault) → format.HasFault header items thing f → format.HasFault header items thing g → f ≡ g
   pub none : (header : Header) (items : List Item) (thing : Item) (more : List Item) (f : LineFault) → format.Fits header (items ++ thing ∷ more) → format.HasFault header items thing f → ⊥
@@ -58,7 +58,7 @@ module _ {Header Item : Type 0} (format : Format Header Item) (sharp : IsSharp f
       let whole = others.whole in
       record { thing = others.thing; more = others.more; whole = cc; here = others.here }
 
-  -- behind a header, a line of a file that goes on has no fault
+  -- after a header, a line of a file that goes on has no fault
   sound_behind : (first : List ℕ) (lines : List (List ℕ)) (line : List ℕ) (rest : List (List ℕ)) (header : Header) (items longer : List Item) (f : LineFault) → AreLinesOf format (first ∷ lines ++ line ∷ rest) header longer → AllZip (IsLineOf format header) lines items → HasFault format (first ∷ lines) header items line f → ⊥
   sound_behind first lines line rest header items longer f all own fault =
       let next = goes_on header lines line rest items longer all.spelled.1 own in
@@ -78,7 +78,7 @@ module _ {Header Item : Type 0} (format : Format Header Item) (sharp : IsSharp f
       let Fault : Header → Type 0 = λ header. HasFault format (first ∷ lines) header items line f in
       sound_behind first lines line rest a items longer f all (subst Lines same own.spelled.1) (subst Fault same fault)
 
-  -- a line has one fault behind the same lines
+  -- a line has one fault after the same lines
   line_once : (lines : List (List ℕ)) (line : List ℕ) (header : Header) (items : List Item) (f g : LineFault) → HasFault format lines header items line f → HasFault format lines header items line g → f ≡ g
   line_once [] line header items f g h k = same_fault f g (shows_once format.heading line (Err f) (Err g) h k)
   line_once (first ∷ lines) line header items f g (inl a) (inl b) = same_fault f g (shows_once (format.meaning header) line (Err f) (Err g) a b)

@@ -3,8 +3,8 @@ use Rattle.std.proofs.Common.{ℕ, ◌≡◌, ◌<◌, List, [], ◌∷◌, ◌+
 use Rattle.std.specs.List.{slice_get, Contains}
 use Rattle.std.proofs.lemmas.List.{length-map, map-set, map-append}
 use Rattle.std.proofs.lemmas.Option.{same_Some, slice_get_within}
-use Rattle.key_numbers.specs.Numbers.{Numbers}
-use Rattle.key_numbers.specs.Numbers.Numbers.{known, first}
+use Rattle.key_index.specs.Numbers.{Numbers}
+use Rattle.key_index.specs.Numbers.Numbers.{known, first}
 use Rattle.tag.specs.declared.numbers.OpId.{OpId}
 use Rattle.recorder.specs.declared.order.KeyOrder.{KeyOrder}
 use Rattle.recorder.specs.Lists.{Contains-slice_get}
@@ -34,7 +34,7 @@ module _ (os : List KeyOrder) (key : List ℕ) (slot : ℕ) (keys : List (List �
   key_added order (known here same) none = let o = mapped_at key_in os slot key here in absurd (none (slice_get_within os slot o.0 o.1))
   key_added order (first unseen is same) none = let made : KeyOrder = record { key = key; order = order } in same ∙ sym (map-append key_in os (made ∷ []))
 
-  -- a key that has no order gets a place behind all others
+  -- a key that has no order gets a place after all others
   pub not_below : Numbers (map key_in os) key slot keys → (Contains (map key_in os) key → ⊥) → slot < length os → ⊥
   not_below (known here same) absent below = absent (Contains-slice_get (map key_in os) slot key here)
   not_below (first unseen is same) absent below = omega (arith, is, length-map os key_in, below)

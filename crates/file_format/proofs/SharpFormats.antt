@@ -127,7 +127,7 @@ one_action rows op c d i j k l a b h x y =
       ]
     ]
 
--- a row behind which a history goes on has no fault, where fewer than 1,000,000 calls began before it, if it begins one
+-- a row after which a history goes on has no fault, where fewer than 1,000,000 calls began before it, if it begins one
 pub never_misplaced : (calls : ℕ) (rows : List Row) (row : Row) (more : List Row) (f : LineFault) → IsWellFormed (rows ++ row ∷ more) → (IsOneTooMany calls row → ⊥) → IsMisplacedBehind calls rows row f → ⊥
 never_misplaced calls rows (Invoke op client key action) more f formed room bad =
     let may = follows rows (Invoke op client key action) more formed in

@@ -103,7 +103,7 @@ pub written_bytes : (hall : Option ℕ) (op : OpId) → placed_text hall (Respon
 unfolding line_text row_data escape_byte
 written_bytes hall op = later_end op.0 hall (member (codes "row") (string (codes "respond")) no_members) (codes ",\"row\":\"respond\"}") refl
 
--- what a read's response has behind its call
+-- what a read's response has after its call
 abbrev pub answer_members : Option (List ℕ) → Members
 answer_members answer = member (codes "row") (string (codes "respond")) (answered_value (Value answer))
 
@@ -202,7 +202,7 @@ quoted_whole out before first mark text last all plain p q r s =
     ∙ append_assoc ((out ++ before) ++ 34 ∷ []) text (34 ∷ []) ∙ append_assoc (out ++ before) (34 ∷ []) (text ++ 34 ∷ []) ∙ append_assoc out before (34 ∷ (text ++ 34 ∷ []))
     ∙ ap (λ (l : List ℕ). out ++ (before ++ l)) (quoted_plain text plain)
 
--- a text in quotation marks that has no escape, and what is behind it
+-- a text in quotation marks that has no escape, and what is after it
 pub quoted_first : (bytes inside taken text left rest : List ℕ) → list_all is_plain text ≡ true → bytes ≡ 34 ∷ inside → inside ≡ taken ++ left → text ≡ taken → left ≡ 34 ∷ rest → bytes ≡ quoted text ++ rest
 quoted_first bytes inside taken text left rest plain p q r s =
     p ∙ ap (λ (l : List ℕ). 34 ∷ l) (q ∙ ap₂ (λ (a b : List ℕ). a ++ b) (sym r) s)

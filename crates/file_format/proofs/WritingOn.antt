@@ -39,7 +39,7 @@ module _ {W T : Type 0} (contents : W → Option (List ℕ)) (failures : W → �
   breaks_at_once (Err e) old text h = record { begun = Begins-nothing (contents old) text; device = subst (λ (why : WriteFault). HasFailedBy why (failures old) (failures old)) (sym h) tt }
 
   module _ (old mid new : W) (text : List ℕ) (same : failures mid ≡ failures old) where
-    -- what breaks off behind what went out
+    -- what breaks off after what went out
     pub breaks_behind : (r : Result T WriteFault) (front : List ℕ) → (Begins (contents mid) (contents new) front → Begins (contents old) (contents new) text) → IfErr r (BreaksOff contents failures mid new front) → IfErr r (BreaksOff contents failures old new text)
     breaks_behind (Ok x) front behind h = tt
     breaks_behind (Err e) front behind h = record { begun = behind h.begun; device = FailsBy-before failures old mid new e same h.device }
@@ -49,7 +49,7 @@ module _ {W T : Type 0} (contents : W → Option (List ℕ)) (failures : W → �
     breaks_with (Ok x) front why behind is h = tt
     breaks_with (Err e) front why behind is h = record { begun = behind h.begun; device = subst (λ (f : WriteFault). FailsBy failures old new f) (sym is) (FailsBy-before failures old mid new why same h.device) }
 
-    -- what waits behind what went out
+    -- what waits after what went out
     pub writes_behind : (r : Result T WriteFault) (front rest before : List ℕ) → (Leaves (contents mid) (contents new) front rest → Leaves (contents old) (contents new) text before) → OnOk r (WritesBut contents failures mid new front rest) → OnOk r (WritesBut contents failures old new text before)
     writes_behind (Ok x) front rest before behind h = record { sent = behind h.sent; counted = h.counted ∙ same }
     writes_behind (Err e) front rest before behind h = tt

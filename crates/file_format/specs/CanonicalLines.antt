@@ -1,4 +1,5 @@
--- Lines that are byte for byte what is written for a row, for a row of a hall, or for a piece of an order.
+-- Lines that are byte for byte what is written for a row, for a row of a hall, or for a piece of an
+-- order.
 use Rattle.std.specs.Prelude.{ℕ, ◌≡◌, ◌<◌, ◌≤◌, List, length}
 use Rattle.recorder.specs.declared.row.Row.{Row}
 use Rattle.recorder.specs.declared.order.KeyOrder.{KeyOrder}
@@ -14,7 +15,7 @@ pub record IsRowLine (line : List ℕ) (row : Row) : Type 0 where
   pub text : with_end line ≡ row_text row
   pub range : IsInRange row
 
--- the same of a row of one of the halls behind that header
+-- the same of a row of one of the halls after that header
 pub record IsHallRowLine (header : FileHeader) (line : List ℕ) (item : HallRow) : Type 0 where
   pub text : with_end line ≡ placed_text (place_in header item.hall) item.row
   pub hall : item.hall < halls_in header

@@ -1,5 +1,6 @@
 -- The JSON value that a line is.
-use Rattle.std.specs.Prelude.{◌≡◌, List, ℕ, Option, Some, None, Result, Ok, Err, IsUtf8, is_some, unwrap_or, false}
+use Rattle.std.specs.Prelude.{◌≡◌, List, ℕ, Option, Some, None, Result, Ok, Err, IsUtf8, is_some}
+use Rattle.std.specs.Prelude.{unwrap_or, false}
 use Rattle.serde_json.specs.Data.{Data, null, string}
 use Rattle.serde_json.specs.Read.{read, of_json}
 use Rattle.serde_json.specs.Find.{as_null, as_str}
@@ -31,4 +32,5 @@ abbrev pub Describes : Option Data → Member → Type 0
 Describes found member.Missing = found ≡ None
 Describes found member.Null = found ≡ Some null
 Describes found (member.Text text) = found ≡ Some (string text.now)
-Describes found member.Other = (d : Data) × (found ≡ Some d) × (is_some (as_null d) ≡ false) × (as_str d ≡ None)
+Describes found member.Other =
+    (d : Data) × (found ≡ Some d) × (is_some (as_null d) ≡ false) × (as_str d ≡ None)

@@ -6,18 +6,22 @@ use Rattle.file_format.specs.declared.fault.LineFault.TheVariants.{NotJson, TooL
 use Rattle.file_format.specs.Faults.{Stop}
 use Rattle.counted_devices.specs.declared.read_fault.Stop.TheVariants as stop
 
--- a format: the header that the first line's value says, and behind a header the item that a later line's
--- value says, which items may stand in a file, and which fault an item has behind others
+-- a format: the header that the first line's value says, and after a header the item that a later
+-- line's value says, which items may stand in a file, and which fault an item has after others
 pub record Format (Header Item : Type 0) : Type 1 where
   pub heading : Data → Result Header LineFault
   pub meaning : Header → Data → Result Item LineFault
   pub Fits : Header → List Item → Type 0
   pub HasFault : Header → List Item → Item → LineFault → Type 0
 
--- an item is taken behind those items, of which the contents were made, or it has that fault
-abbrev pub Follows : {Header Item Contents : Type 0} → Format Header Item → (Header → List Item → Contents → Type 0) → Header → List Item → Item → Result (Unit {0}) Stop → Contents → Type 0
-Follows format Makes header items item (Ok done) new = format.Fits header (items ++ item ∷ []) × Makes header (items ++ item ∷ []) new
-Follows format Makes header items item (Err (stop.Fault fault)) new = format.HasFault header items item fault
+-- an item is taken after those items, of which the contents were made, or it has that fault
+abbrev pub Follows : {Header Item Contents : Type 0} → Format Header Item
+    → (Header → List Item → Contents → Type 0) → Header → List Item → Item → Result (Unit {0}) Stop
+    → Contents → Type 0
+Follows format Makes header items item (Ok done) new =
+    format.Fits header (items ++ item ∷ []) × Makes header (items ++ item ∷ []) new
+Follows format Makes header items item (Err (stop.Fault fault)) new =
+    format.HasFault header items item fault
 Follows format Makes header items item (Err stop.Memory) new = Unit {0}
 
 -- a fault that a value's members can have: the line was short enough, and JSON

@@ -1,4 +1,5 @@
--- Whether a row may stand where it stands among rows of several halls, and which fault it has otherwise.
+-- Whether a row may stand where it stands among rows of several halls, and which fault it has
+-- otherwise.
 use Rattle.std.specs.Prelude.{ℕ, ◌<◌, ◌≤◌, List, map, filter, nat_eq}
 use Rattle.recorder.specs.declared.row.Row.{Row}
 use Rattle.recorder.specs.Halls.{FallsTo}
@@ -29,8 +30,10 @@ pub record IsOfAnotherHall (halls : ℕ) (item : HallRow) : Type 0 where
   pub below : item.hall < halls
   pub apart : FallsTo halls item.hall item.row → ⊥
 
--- the first fault, in order of number, that the row has after those rows; a line has said already that its hall is there
+-- the first fault, in order of number, that the row has after those rows; a line has said already
+-- that its hall is there
 abbrev pub IsMisplacedInHall : ℕ → List HallRow → HallRow → LineFault → Type 0
 IsMisplacedInHall halls items item Range = halls ≤ item.hall
 IsMisplacedInHall halls items item KeyInAnotherHall = IsOfAnotherHall halls item
-IsMisplacedInHall halls items item fault = IsOfItsHall halls item × IsMisplacedBehind (calls_together items) (rows_of item.hall items) item.row fault
+IsMisplacedInHall halls items item fault = IsOfItsHall halls item
+    × IsMisplacedBehind (calls_together items) (rows_of item.hall items) item.row fault

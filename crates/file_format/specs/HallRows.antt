@@ -1,4 +1,5 @@
--- What a JSON value says as a row behind the header of a history file: a row, and the hall that it is of.
+-- What a JSON value says as a row after the header of a history file: a row, and the hall that it
+-- is of.
 use Rattle.std.specs.Prelude.{ℕ, Result, Ok, codes, nat_lt}
 use Rattle.serde_json.specs.Data.{Data}
 use Rattle.file_format.specs.declared.fault.LineFault.{LineFault}
@@ -22,7 +23,7 @@ placed_row_in halls d = do
   place ← in_range (nat_lt number halls) number
   Ok (record { hall = place; row = said })
 
--- the row that the value says behind that header, or its fault
+-- the row that the value says after that header, or its fault
 unfoldable pub hall_row_in : FileHeader → Data → Result HallRow LineFault
 hall_row_in Version1 d = only_row_in d
 hall_row_in (Version2 halls quorums) d = placed_row_in halls d

@@ -14,4 +14,5 @@ pub record IsUnderWay (now : Inside) : Type 0 where
   pub lawful : AreHalls (histories_in now)
   pub count : length now.halls.items ≡ halls_in now.header
   pub counted : now.calls ≡ hall_calls now.halls.items
-  pub room : (hall : ℕ) (history : Recorded) → slice_get now.halls.items hall ≡ Some history → history.limit ≡ 1000000
+  pub room : (hall : ℕ) (history : Recorded) → slice_get now.halls.items hall ≡ Some history
+      → history.limit ≡ 1000000

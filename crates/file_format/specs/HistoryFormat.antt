@@ -18,4 +18,9 @@ MakesHistory header rows history = history ≡ record { rows = rows; limit = 100
 
 -- of version 1 alone: its header says nothing that a row is judged by
 abbrev pub history_format : Format (Unit {0}) Row
-history_format = record { heading = header_in (codes "history"); meaning = λ header. row_in; Fits = λ header. IsHistory; HasFault = λ header. IsMisplaced }
+history_format = record {
+  heading = header_in (codes "history");
+  meaning = λ header. row_in;
+  Fits = λ header. IsHistory;
+  HasFault = λ header. IsMisplaced;
+}

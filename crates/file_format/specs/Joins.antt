@@ -10,7 +10,7 @@ pub record Extends (old : List KeyOrder) (piece : KeyOrder) (new : List KeyOrder
   pub had : slice_get old slot ≡ Some (record { key = piece.key; order = order })
   pub has : new ≡ slice_set old slot (record { key = piece.key; order = order ++ piece.order })
 
--- the key has no order, and its first piece comes behind all others
+-- the key has no order, and its first piece comes after all others
 pub record Begins (old : List KeyOrder) (piece : KeyOrder) (new : List KeyOrder) : Type 0 where
   pub absent : (i : ℕ) (one : KeyOrder) → slice_get old i ≡ Some one → one.key ≡ piece.key → ⊥
   pub has : new ≡ old ++ piece ∷ []

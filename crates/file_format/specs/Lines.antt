@@ -12,7 +12,8 @@ use Rattle.counted_devices.specs.Cuts.{AreLinesIn}
 use Rattle.file_format.specs.Documents.{IsJson}
 
 -- a line of allowed length whose JSON value says that
-pub record Says {X : Type 0} (meaning : Data → Result X LineFault) (line : List ℕ) (said : Result X LineFault) : Type 0 where
+pub record Says {X : Type 0} (meaning : Data
+    → Result X LineFault) (line : List ℕ) (said : Result X LineFault) : Type 0 where
   pub short : length line ≤ 65536
   pub value : Data
   pub json : IsJson line value
@@ -31,12 +32,15 @@ ShowsBy meaning line (Err (stop.Fault fault)) = Shows meaning line (Err fault)
 ShowsBy meaning line (Err stop.Memory) = Unit {0}
 
 -- the item or the fault that the line shows
-abbrev pub ShowsItem : {Item : Type 0} → (Data → Result Item LineFault) → List ℕ → Judgement Item → Type 0
+abbrev pub ShowsItem : {Item : Type 0} → (Data → Result Item LineFault) → List ℕ → Judgement Item
+    → Type 0
 ShowsItem meaning line (judgement.Item item) = Shows meaning line (Ok item)
 ShowsItem meaning line (judgement.Fault fault) = Shows meaning line (Err fault)
 
 -- what the lines of the chunks show, in their order
-pub record ShowChunks {Item : Type 0} (meaning : Data → Result Item LineFault) (chunks : List (List ℕ)) (judgements : List (Judgement Item)) : Type 0 where
-  pub lines : List (List ℕ)
-  pub cut : AreLinesIn chunks lines
-  pub shown : AllZip (ShowsItem meaning) lines judgements
+pub record ShowChunks {Item : Type 0} (meaning : Data
+    → Result Item LineFault) (chunks : List (List ℕ)) (judgements : List (Judgement Item)) : Type 0
+  where
+    pub lines : List (List ℕ)
+    pub cut : AreLinesIn chunks lines
+    pub shown : AllZip (ShowsItem meaning) lines judgements

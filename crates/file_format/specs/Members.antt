@@ -1,5 +1,7 @@
--- Members of a JSON value, and what is said of one: a member is there and of its kind, a number or a text is in its range.
-use Rattle.std.specs.Prelude.{ℕ, ◌≡◌, ◌^◌, ◌&&◌, List, [], ◌∷◌, Bool, Option, Some, None, Result, Ok, Err, option_and_then, option_map, nat_lt, nat_le, if◌then◌else◌}
+-- Members of a JSON value, and what is said of one: a member is there and of its kind, a number or
+-- a text is in its range.
+use Rattle.std.specs.Prelude.{ℕ, ◌≡◌, ◌^◌, ◌&&◌, List, [], ◌∷◌, Bool, Option, Some, None, Result}
+use Rattle.std.specs.Prelude.{Ok, Err, option_and_then, option_map, nat_lt, nat_le, if◌then◌else◌}
 use Rattle.serde_json.specs.Data.{Data, Items, no_items, item}
 use Rattle.serde_json.specs.Find.{get, as_number, as_u64, as_str, as_array}
 use Rattle.tag.specs.declared.numbers.OpId.{OpId}
@@ -12,7 +14,8 @@ use Rattle.counted_devices.specs.declared.read_fault.Stop.TheVariants as stop
 
 -- the first fault of two steps, or what the second makes of the first
 infixl 10 ◌>>=◌
-abbrev pub ◌>>=◌ : {A B : Type 0} → Result A LineFault → (A → Result B LineFault) → Result B LineFault
+abbrev pub ◌>>=◌ : {A B : Type 0} → Result A LineFault → (A → Result B LineFault)
+    → Result B LineFault
 (Ok x) >>= f = f x
 (Err e) >>= f = Err e
 
@@ -38,7 +41,8 @@ number_at name d = option_and_then as_u64 (option_and_then as_number (get name d
 -- the numbers that all the items are
 abbrev pub numbers_in : Items → Option (List ℕ)
 numbers_in no_items = Some []
-numbers_in (item d ds) = option_and_then (λ n. option_map (λ ns. n ∷ ns) (numbers_in ds)) (number_of d)
+numbers_in (item d ds) =
+    option_and_then (λ n. option_map (λ ns. n ∷ ns) (numbers_in ds)) (number_of d)
 
 -- the numbers that are the items of the member of that name
 abbrev pub numbers_at : List ℕ → Data → Option (List ℕ)
@@ -66,4 +70,5 @@ abbrev pub value_of : List ℕ → Result (List ℕ) LineFault
 value_of value = in_range (is_value value) value
 
 abbrev pub tag_of : ℕ → ℕ → Result Tag LineFault
-tag_of number writer = in_range (nat_le number 1000000 && nat_le writer 65535) (record { number = number; writer = writer })
+tag_of number writer = in_range (nat_le number 1000000
+    && nat_le writer 65535) (record { number = number; writer = writer })

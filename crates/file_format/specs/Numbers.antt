@@ -1,7 +1,11 @@
 -- The numbers and the texts of faults of lines, as programs print them.
 use Rattle.std.specs.Prelude.{ℕ, List, codes}
 use Rattle.file_format.specs.declared.fault.LineFault.{LineFault}
-use Rattle.file_format.specs.declared.fault.LineFault.TheVariants.{NotJson, NoHeader, Version, Member, Range, CallOutOfTurn, ClientBusy, CallNotPending, WrongKind, NoteTwice, TooLong, TooManyCalls, KeyInAnotherHall}
+use Rattle.file_format.specs.declared.fault.LineFault.TheVariants.{NotJson, NoHeader, Version}
+use Rattle.file_format.specs.declared.fault.LineFault.TheVariants.{Member, Range, CallOutOfTurn}
+use Rattle.file_format.specs.declared.fault.LineFault.TheVariants.{ClientBusy, CallNotPending}
+use Rattle.file_format.specs.declared.fault.LineFault.TheVariants.{WrongKind, NoteTwice, TooLong}
+use Rattle.file_format.specs.declared.fault.LineFault.TheVariants.{TooManyCalls, KeyInAnotherHall}
 
 -- the number of a line's fault
 abbrev pub line_fault_number : LineFault → ℕ

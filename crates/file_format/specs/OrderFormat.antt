@@ -1,5 +1,6 @@
 -- The format of an order file: after the header lines that are a key and a piece of its order.
-use Rattle.std.specs.Prelude.{ℕ, ◌≡◌, ◌≤◌, ◌<◌, ◌+◌, List, Some, codes, length, map, filter, slice_get, sum_by, bytes_eq}
+use Rattle.std.specs.Prelude.{ℕ, ◌≡◌, ◌≤◌, ◌<◌, ◌+◌, List, Some, codes, length, map, filter}
+use Rattle.std.specs.Prelude.{slice_get, sum_by, bytes_eq}
 use Rattle.std.specs.List.{flat_map}
 use Rattle.tag.specs.declared.numbers.OpId.{OpId}
 use Rattle.recorder.specs.declared.order.KeyOrder.{KeyOrder}
@@ -30,14 +31,19 @@ pub record IsFirstAt (names : List (List ℕ)) (name : List ℕ) (place : ℕ) :
 
 -- the keys are the names, each once, in the order in which they are first met
 pub record AreFirsts (names keys : List (List ℕ)) : Type 0 where
-  pub each : (i : ℕ) (key : List ℕ) → slice_get keys i ≡ Some key → (place : ℕ) × IsFirstAt names key place
-  pub all : (place : ℕ) (name : List ℕ) → slice_get names place ≡ Some name → (i : ℕ) × (slice_get keys i ≡ Some name)
-  pub ordered : (i j : ℕ) (a b : List ℕ) (m n : ℕ) → i < j → slice_get keys i ≡ Some a → slice_get keys j ≡ Some b → IsFirstAt names a m → IsFirstAt names b n → m < n
+  pub each : (i : ℕ) (key : List ℕ) → slice_get keys i ≡ Some key → (place : ℕ)
+      × IsFirstAt names key place
+  pub all : (place : ℕ) (name : List ℕ) → slice_get names place ≡ Some name → (i : ℕ)
+      × (slice_get keys i ≡ Some name)
+  pub ordered : (i j : ℕ) (a b : List ℕ) (m n : ℕ) → i < j → slice_get keys i ≡ Some a
+      → slice_get keys j ≡ Some b → IsFirstAt names a m → IsFirstAt names b n → m < n
 
--- the orders that the pieces make: the keys in the order of their first lines, each with its pieces joined
+-- the orders that the pieces make: the keys in the order of their first lines, each with its pieces
+-- joined
 pub record AreJoined (pieces orders : List KeyOrder) : Type 0 where
   pub keys : AreFirsts (map key_in pieces) (map key_in orders)
-  pub each : (i : ℕ) (order : KeyOrder) → slice_get orders i ≡ Some order → order.order ≡ order_on order.key pieces
+  pub each : (i : ℕ) (order : KeyOrder) → slice_get orders i ≡ Some order → order.order
+      ≡ order_on order.key pieces
 
 -- at most 1,000,000 calls together
 pub record AreFew (pieces : List KeyOrder) : Type 0 where
@@ -49,7 +55,12 @@ IsTooMany pieces piece TooManyCalls = 1000000 < call_total pieces + length piece
 IsTooMany pieces piece fault = ⊥
 
 abbrev pub order_format : Format (Unit {0}) KeyOrder
-order_format = record { heading = header_in (codes "orders"); meaning = λ header. piece_in; Fits = λ header. AreFew; HasFault = λ header. IsTooMany }
+order_format = record {
+  heading = header_in (codes "orders");
+  meaning = λ header. piece_in;
+  Fits = λ header. AreFew;
+  HasFault = λ header. IsTooMany;
+}
 
 -- the orders that a file of the pieces makes
 abbrev pub MakesJoined : Unit {0} → List KeyOrder → List KeyOrder → Type 0

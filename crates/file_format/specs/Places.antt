@@ -3,10 +3,13 @@ use Rattle.std.specs.Prelude.{ℕ, ◌≡◌, ◌≢◌, ◌≤◌, List, Result
 use Rattle.tag.specs.declared.actions.Action.{Action}
 use Rattle.recorder.specs.declared.row.Row.{Row}
 use Rattle.recorder.specs.declared.row.Row.TheVariants.{Invoke, Note, Respond}
-use Rattle.recorder.specs.Histories.{Recorded, MayFollow, IsBusy, IsPendingOp, IsPendingCall, HasNote, Fits, call_count}
+use Rattle.recorder.specs.Histories.{Recorded, MayFollow, IsBusy, IsPendingOp, IsPendingCall}
+use Rattle.recorder.specs.Histories.{HasNote, Fits, call_count}
 use Rattle.recorder.specs.Answers.{with_row}
 use Rattle.file_format.specs.declared.fault.LineFault.{LineFault}
-use Rattle.file_format.specs.declared.fault.LineFault.TheVariants.{CallOutOfTurn, ClientBusy, CallNotPending, WrongKind, NoteTwice, TooManyCalls}
+use Rattle.file_format.specs.declared.fault.LineFault.TheVariants.{CallOutOfTurn, ClientBusy}
+use Rattle.file_format.specs.declared.fault.LineFault.TheVariants.{CallNotPending, WrongKind}
+use Rattle.file_format.specs.declared.fault.LineFault.TheVariants.{NoteTwice, TooManyCalls}
 use Rattle.file_format.specs.Faults.{Stop}
 use Rattle.counted_devices.specs.declared.read_fault.Stop.TheVariants as stop
 
@@ -28,7 +31,8 @@ IsUnasked rows row = ⊥
 
 -- a response with a value for a write, or without one for a read
 abbrev pub IsUnfit : List Row → Row → Type 0
-IsUnfit rows (Respond op returned) = (client : ℕ) × (action : Action) × IsPendingCall rows op client action × (Fits action returned → ⊥)
+IsUnfit rows (Respond op returned) = (client : ℕ) × (action : Action)
+    × IsPendingCall rows op client action × (Fits action returned → ⊥)
 IsUnfit rows row = ⊥
 
 -- a second note for a pending call
@@ -41,14 +45,16 @@ abbrev pub IsOneTooMany : ℕ → Row → Type 0
 IsOneTooMany calls (Invoke op client key action) = 1000000 ≤ calls
 IsOneTooMany calls row = ⊥
 
--- the first fault, in order of number, that the row has after those rows of its hall, where so many calls began in all halls
+-- the first fault, in order of number, that the row has after those rows of its hall, where so many
+-- calls began in all halls
 abbrev pub IsMisplacedBehind : ℕ → List Row → Row → LineFault → Type 0
 IsMisplacedBehind calls rows row CallOutOfTurn = IsOutOfTurn rows row
 IsMisplacedBehind calls rows row ClientBusy = (IsOutOfTurn rows row → ⊥) × IsByBusy rows row
 IsMisplacedBehind calls rows row CallNotPending = IsUnasked rows row
 IsMisplacedBehind calls rows row WrongKind = IsUnfit rows row
 IsMisplacedBehind calls rows row NoteTwice = IsSecondNote rows row
-IsMisplacedBehind calls rows row TooManyCalls = (IsOutOfTurn rows row → ⊥) × (IsByBusy rows row → ⊥) × IsOneTooMany calls row
+IsMisplacedBehind calls rows row TooManyCalls =
+    (IsOutOfTurn rows row → ⊥) × (IsByBusy rows row → ⊥) × IsOneTooMany calls row
 IsMisplacedBehind calls rows row fault = ⊥
 
 -- the same of one hall alone
@@ -62,12 +68,14 @@ IsPlacedBehind calls rows row = MayFollow rows row × (IsOneTooMany calls row �
 -- the row is added at the end, or it has that fault; memory is wanted only for a row without one
 abbrev pub FollowsBehind : ℕ → Recorded → Row → Result (Unit {0}) Stop → Recorded → Type 0
 FollowsBehind calls old row (Ok done) new = (new ≡ with_row old row) × (IsOneTooMany calls row → ⊥)
-FollowsBehind calls old row (Err (stop.Fault fault)) new = IsMisplacedBehind calls old.rows row fault × (new ≡ old)
+FollowsBehind calls old row (Err (stop.Fault fault)) new =
+    IsMisplacedBehind calls old.rows row fault × (new ≡ old)
 FollowsBehind calls old row (Err stop.Memory) new = IsPlacedBehind calls old.rows row × (new ≡ old)
 
 -- the same of a hall's history that may have 1,000,000 calls, and no more than began in all halls
 abbrev pub FollowsInHall : ℕ → Recorded → Row → Result (Unit {0}) Stop → Recorded → Type 0
-FollowsInHall calls old row result new = old.limit ≡ 1000000 → call_count old.rows ≤ calls → FollowsBehind calls old row result new
+FollowsInHall calls old row result new =
+    old.limit ≡ 1000000 → call_count old.rows ≤ calls → FollowsBehind calls old row result new
 
 -- the same of one hall alone
 abbrev pub FollowsRow : Recorded → Row → Result (Unit {0}) Stop → Recorded → Type 0

@@ -1,5 +1,6 @@
 -- What the types of a row's and of an order's fields carry: each is in its range.
-use Rattle.std.specs.Prelude.{ℕ, ◌≡◌, ◌≤◌, ◌<◌, ◌^◌, List, Option, Some, None, slice_get, true, IsUtf8}
+use Rattle.std.specs.Prelude.{ℕ, ◌≡◌, ◌≤◌, ◌<◌, ◌^◌, List, Option, Some, None, slice_get, true}
+use Rattle.std.specs.Prelude.{IsUtf8}
 use Rattle.tag.specs.declared.actions.Action.{Action}
 use Rattle.tag.specs.declared.actions.Action.TheVariants.{Read, Write}
 use Rattle.tag.specs.declared.actions.Returned.{Returned}
@@ -65,11 +66,13 @@ pub record IsWritten (history : Recorded) : Type 0 where
 
 -- the same of the rows of each history
 abbrev pub HasRowsInRange : List Recorded → Type 0
-HasRowsInRange halls = (hall : ℕ) (history : Recorded) → slice_get halls hall ≡ Some history → AreInRange history.rows
+HasRowsInRange halls =
+    (hall : ℕ) (history : Recorded) → slice_get halls hall ≡ Some history → AreInRange history.rows
 
 -- the rows of each history are well-formed
 abbrev pub HaveFormed : List Recorded → Type 0
-HaveFormed halls = (hall : ℕ) (history : Recorded) → slice_get halls hall ≡ Some history → IsWellFormed history.rows
+HaveFormed halls = (hall : ℕ) (history : Recorded) → slice_get halls hall ≡ Some history
+    → IsWellFormed history.rows
 
 -- the quorums, where they are known, are inside the rules
 abbrev pub HasLawful : Option Quorums → Type 0
@@ -85,8 +88,10 @@ pub record IsOrderInRange (order : KeyOrder) : Type 0 where
   pub calls : AreOps order.order
 
 abbrev pub AreOrdersInRange : List KeyOrder → Type 0
-AreOrdersInRange orders = (k : ℕ) (order : KeyOrder) → slice_get orders k ≡ Some order → IsOrderInRange order
+AreOrdersInRange orders =
+    (k : ℕ) (order : KeyOrder) → slice_get orders k ≡ Some order → IsOrderInRange order
 
 -- no two orders are of one key
 abbrev pub HaveDistinctKeys : List KeyOrder → Type 0
-HaveDistinctKeys orders = (i j : ℕ) (a b : KeyOrder) → i < j → slice_get orders i ≡ Some a → slice_get orders j ≡ Some b → a.key ≡ b.key → ⊥
+HaveDistinctKeys orders = (i j : ℕ) (a b : KeyOrder) → i < j → slice_get orders i ≡ Some a
+    → slice_get orders j ≡ Some b → a.key ≡ b.key → ⊥

@@ -12,12 +12,14 @@ use Rattle.file_format.specs.OrderFormat.{order_format, MakesJoined}
 -- the text is read as the history of the rows, and as no other one
 pub record IsTextOf (text : List ℕ) (rows : List Row) : Type 0 where
   pub read : Reads history_format MakesHistory text (record { rows = rows; limit = 1000000 })
-  pub alone : (history : Recorded) → Reads history_format MakesHistory text history → history.rows ≡ rows
+  pub alone : (history : Recorded) → Reads history_format MakesHistory text history → history.rows
+      ≡ rows
 
 -- the text is read as the orders, and as no others
 pub record IsTextOfOrders (text : List ℕ) (orders : List KeyOrder) : Type 0 where
   pub read : Reads order_format MakesJoined text orders
-  pub alone : (others : List KeyOrder) → Reads order_format MakesJoined text others → others ≡ orders
+  pub alone : (others : List KeyOrder) → Reads order_format MakesJoined text others → others
+      ≡ orders
 
 -- each history, with room for 1,000,000 calls
 abbrev pub with_room : List Recorded → List Recorded
@@ -25,5 +27,9 @@ with_room halls = map (λ history. record { rows = history.rows; limit = 1000000
 
 -- the text is read as the histories' rows by hall and their quorums, and as no others
 pub record IsTextOfHistories (text : List ℕ) (histories : RecordedHalls) : Type 0 where
-  pub read : Reads histories_format MakesHistories text (record { halls = with_room histories.halls; quorums = histories.quorums })
-  pub alone : (others : RecordedHalls) → Reads histories_format MakesHistories text others → others ≡ record { halls = with_room histories.halls; quorums = histories.quorums }
+  pub read : Reads histories_format MakesHistories text (record {
+    halls = with_room histories.halls;
+    quorums = histories.quorums;
+  })
+  pub alone : (others : RecordedHalls) → Reads histories_format MakesHistories text others → others
+      ≡ record { halls = with_room histories.halls; quorums = histories.quorums }

@@ -7,7 +7,8 @@ use Rattle.file_format.specs.Formats.{Format}
 use Rattle.file_format.specs.Files.{AreLinesOf, IsFirstFault}
 
 -- the bytes of a whole file are a header and the lines of items, of which that is made
-pub record Reads {Header Item Contents : Type 0} (format : Format Header Item) (Makes : Header → List Item → Contents → Type 0) (bytes : List ℕ) (contents : Contents) : Type 0 where
+pub record Reads {Header Item Contents : Type 0} (format : Format Header Item) (Makes : Header
+    → List Item → Contents → Type 0) (bytes : List ℕ) (contents : Contents) : Type 0 where
   pub lines : List (List ℕ)
   pub rest : List ℕ
   pub splits : Splits bytes lines rest
@@ -18,8 +19,10 @@ pub record Reads {Header Item Contents : Type 0} (format : Format Header Item) (
   pub made : Makes header items contents
 
 -- the first fault of a whole file; one without a line has no header
-pub record FirstFaultInAll {Header Item : Type 0} (format : Format Header Item) (bytes : List ℕ) (number : ℕ) (fault : LineFault) : Type 0 where
+pub record FirstFaultInAll {Header Item : Type 0} (format : Format Header Item) (bytes : List ℕ)
+    (number : ℕ) (fault : LineFault) : Type 0 where
   pub lines : List (List ℕ)
   pub rest : List ℕ
   pub splits : Splits bytes lines rest
-  pub first : IsFirstFault format (last_lines lines rest) number fault ⊎ ((last_lines lines rest ≡ []) × (number ≡ 1) × (fault ≡ NoHeader))
+  pub first : IsFirstFault format (last_lines lines rest) number fault
+      ⊎ ((last_lines lines rest ≡ []) × (number ≡ 1) × (fault ≡ NoHeader))

@@ -1,4 +1,4 @@
--- The bytes of a row's line, piece by piece: numbers and texts, each behind what stands before it.
+-- The bytes of a row's line, piece by piece: numbers and texts, each after what stands before it.
 use Rattle.std.specs.Prelude.{ℕ, List, ◌++◌, Option, Some, None, codes, decimal}
 use Rattle.json.specs.Print.{quoted}
 use Rattle.tag.specs.declared.actions.Action.{Action}
@@ -10,16 +10,20 @@ use Rattle.recorder.specs.declared.row.Row.{Row}
 use Rattle.recorder.specs.declared.row.Row.TheVariants.{Invoke, Note, Respond}
 use Rattle.file_format.specs.Texts.{hall_text}
 
--- what an invocation has behind its client
+-- what an invocation has after its client
 abbrev pub asked_text : Option ℕ → List ℕ → Action → List ℕ
-asked_text hall key Read = codes ",\"do\":\"read\"" ++ (hall_text hall ++ (codes ",\"key\":" ++ (quoted key ++ codes ",\"row\":\"invoke\"}")))
-asked_text hall key (Write value) = codes ",\"do\":\"write\"" ++ (hall_text hall ++ (codes ",\"key\":" ++ (quoted key ++ (codes ",\"row\":\"invoke\",\"value\":" ++ (quoted value ++ codes "}")))))
+asked_text hall key Read = codes ",\"do\":\"read\""
+    ++ (hall_text hall ++ (codes ",\"key\":" ++ (quoted key ++ codes ",\"row\":\"invoke\"}")))
+asked_text hall key (Write value) = codes ",\"do\":\"write\""
+    ++ (hall_text hall ++ (codes ",\"key\":"
+    ++ (quoted key ++ (codes ",\"row\":\"invoke\",\"value\":" ++ (quoted value ++ codes "}")))))
 
--- a note's number, and all that is behind it
+-- a note's number, and all that is after it
 abbrev pub noted_text : Tag → List ℕ
-noted_text tag = decimal tag.number ++ (codes ",\"row\":\"note\",\"writer\":" ++ (decimal tag.writer ++ codes "}"))
+noted_text tag = decimal tag.number ++ (codes ",\"row\":\"note\",\"writer\":"
+    ++ (decimal tag.writer ++ codes "}"))
 
--- what a response has behind its kind
+-- what a response has after its kind
 abbrev pub returned_text : Returned → List ℕ
 returned_text Written = codes "}"
 returned_text (Value None) = codes ",\"value\":null}"
@@ -27,6 +31,10 @@ returned_text (Value (Some value)) = codes ",\"value\":" ++ (quoted value ++ cod
 
 -- the line of a row with that hall as a member, without its end
 abbrev pub row_bytes : Option ℕ → Row → List ℕ
-row_bytes hall (Invoke op client key action) = codes "{\"call\":" ++ (decimal op.0 ++ (codes ",\"client\":" ++ (decimal client ++ asked_text hall key action)))
-row_bytes hall (Note op tag) = codes "{\"call\":" ++ (decimal op.0 ++ (hall_text hall ++ (codes ",\"number\":" ++ noted_text tag)))
-row_bytes hall (Respond op returned) = codes "{\"call\":" ++ (decimal op.0 ++ (hall_text hall ++ (codes ",\"row\":\"respond\"" ++ returned_text returned)))
+row_bytes hall (Invoke op client key action) = codes "{\"call\":"
+    ++ (decimal op.0 ++ (codes ",\"client\":" ++ (decimal client ++ asked_text hall key action)))
+row_bytes hall (Note op tag) = codes "{\"call\":"
+    ++ (decimal op.0 ++ (hall_text hall ++ (codes ",\"number\":" ++ noted_text tag)))
+row_bytes hall (Respond op returned) = codes "{\"call\":"
+    ++ (decimal op.0 ++ (hall_text hall
+    ++ (codes ",\"row\":\"respond\"" ++ returned_text returned)))

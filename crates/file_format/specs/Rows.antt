@@ -1,5 +1,7 @@
--- What a JSON value says as a row of a history: first its members and their kinds, then their ranges.
-use Rattle.std.specs.Prelude.{ℕ, List, Option, Some, None, Result, Ok, Err, is_some, codes, bytes_eq, if◌then◌else◌}
+-- What a JSON value says as a row of a history: first its members and their kinds, then their
+-- ranges.
+use Rattle.std.specs.Prelude.{ℕ, List, Option, Some, None, Result, Ok, Err, is_some, codes}
+use Rattle.std.specs.Prelude.{bytes_eq, if◌then◌else◌}
 use Rattle.serde_json.specs.Data.{Data}
 use Rattle.serde_json.specs.Find.{get, as_str, as_null}
 use Rattle.tag.specs.declared.actions.Action.{Action}
@@ -10,7 +12,8 @@ use Rattle.recorder.specs.declared.row.Row.{Row}
 use Rattle.recorder.specs.declared.row.Row.TheVariants.{Invoke, Note, Respond}
 use Rattle.file_format.specs.declared.fault.LineFault.{LineFault}
 use Rattle.file_format.specs.declared.fault.LineFault.TheVariants.{Member, Range}
-use Rattle.file_format.specs.Members.{◌>>=◌, text_at, number_at, needed_member, op_of, client_of, key_of, value_of, tag_of}
+use Rattle.file_format.specs.Members.{◌>>=◌, text_at, number_at, needed_member, op_of, client_of}
+use Rattle.file_format.specs.Members.{key_of, value_of, tag_of}
 
 -- an invocation's row; `do` is one of two texts
 unfoldable pub invocation_of : ℕ → ℕ → List ℕ → Action → Result Row LineFault
@@ -27,7 +30,8 @@ written_in d = do
   Ok (Write value)
 
 unfoldable pub action_of : List ℕ → Data → Result Action LineFault
-action_of action d = if bytes_eq action (codes "read") then Ok Read else if bytes_eq action (codes "write") then written_in d else Err Range
+action_of action d = if bytes_eq action (codes "read") then Ok Read
+    else if bytes_eq action (codes "write") then written_in d else Err Range
 
 unfoldable pub invoke_in : Data → Result Row LineFault
 invoke_in d = do
@@ -66,7 +70,9 @@ respond_in d = do
   Ok (Respond op returned)
 
 unfoldable pub row_of : List ℕ → Data → Result Row LineFault
-row_of kind d = if bytes_eq kind (codes "invoke") then invoke_in d else if bytes_eq kind (codes "note") then note_in d else if bytes_eq kind (codes "respond") then respond_in d else Err Range
+row_of kind d = if bytes_eq kind (codes "invoke") then invoke_in d
+    else if bytes_eq kind (codes "note") then note_in d else if bytes_eq kind (codes "respond")
+    then respond_in d else Err Range
 
 -- the row that the value says, or its fault
 unfoldable pub row_in : Data → Result Row LineFault

@@ -1,4 +1,5 @@
--- The members of a line, as a reader of the format sees them: which row, or which piece of an order, a JSON value says.
+-- The members of a line, as a reader of the format sees them: which row, or which piece of an
+-- order, a JSON value says.
 use Rattle.std.specs.Prelude.{ℕ, ◌≡◌, ◌≤◌, ◌<◌, ◌^◌, List, Some, None, codes, map, slice_get, true}
 use Rattle.serde_json.specs.Data.{Data, null}
 use Rattle.serde_json.specs.Find.{get}
@@ -40,7 +41,8 @@ pub record HasCall (d : Data) (op : OpId) : Type 0 where
 -- `do` is the action: `read`, or `write` with its value
 pub data HasAction (d : Data) : Action → Type 0 where
   reads : HasText d (codes "do") (codes "read") → HasAction d Read
-  writes : (value : List ℕ) → HasText d (codes "do") (codes "write") → HasValue d value → HasAction d (Write value)
+  writes : (value : List ℕ) → HasText d (codes "do") (codes "write") → HasValue d value
+      → HasAction d (Write value)
 
 -- `value` is the answer: a read's text or null, and for a write it is missing
 pub data HasAnswer (d : Data) : Returned → Type 0 where
@@ -49,15 +51,16 @@ pub data HasAnswer (d : Data) : Returned → Type 0 where
   answered : (value : List ℕ) → HasValue d value → HasAnswer d (Value (Some value))
 
 -- a row that begins a call: its client is 1 to 65,535
-pub record SaysInvoke (d : Data) (op : OpId) (client : ℕ) (key : List ℕ) (action : Action) : Type 0 where
-  pub kind : HasText d (codes "row") (codes "invoke")
-  pub call : HasCall d op
-  pub caller : HasNumber d (codes "client") client
-  pub least : 1 ≤ client
-  pub most : client ≤ 65535
-  pub subject : HasText d (codes "key") key
-  pub named : is_key key ≡ true
-  pub asks : HasAction d action
+pub record SaysInvoke (d : Data) (op : OpId) (client : ℕ) (key : List ℕ) (action : Action) : Type 0
+  where
+    pub kind : HasText d (codes "row") (codes "invoke")
+    pub call : HasCall d op
+    pub caller : HasNumber d (codes "client") client
+    pub least : 1 ≤ client
+    pub most : client ≤ 65535
+    pub subject : HasText d (codes "key") key
+    pub named : is_key key ≡ true
+    pub asks : HasAction d action
 
 -- a row that notes a call's tag: its number is 0 to 1,000,000, its writer 0 to 65,535
 pub record SaysNote (d : Data) (op : OpId) (tag : Tag) : Type 0 where
@@ -85,14 +88,16 @@ pub record SaysHeader (name : List ℕ) (d : Data) : Type 0 where
   pub abd : HasText d (codes "abd") name
   pub version : HasNumber d (codes "version") 1
 
--- the value is a key and a piece of its order: `order` holds the numbers of the calls, each 0 to 4,294,967,295
+-- the value is a key and a piece of its order: `order` holds the numbers of the calls, each 0 to
+-- 4,294,967,295
 pub record SaysPiece (d : Data) (piece : KeyOrder) : Type 0 where
   pub subject : HasText d (codes "key") piece.key
   pub named : is_key piece.key ≡ true
   pub order : numbers_at (codes "order") d ≡ Some (map (λ (op : OpId). op.0) piece.order)
   pub range : (k : ℕ) (op : OpId) → slice_get piece.order k ≡ Some op → op.0 < 2 ^ 32
 
--- the value is the header of a history file of version 2: `halls` is 1 to 64, and `votes`, `ask` and `put` are quorums inside the rules
+-- the value is the header of a history file of version 2: `halls` is 1 to 64, and `votes`, `ask`
+-- and `put` are quorums inside the rules
 pub record SaysQuorums (d : Data) (halls : ℕ) (quorums : Quorums) : Type 0 where
   pub abd : HasText d (codes "abd") (codes "history")
   pub version : HasNumber d (codes "version") 2
@@ -114,7 +119,8 @@ pub record SaysPlacedRow (halls : ℕ) (d : Data) (item : HallRow) : Type 0 wher
   pub below : item.hall < halls
   pub said : SaysRow d item.row
 
--- the value says the row behind that header; in version 1 all rows are of hall 0, and a member `hall` is ignored
+-- the value says the row after that header; in version 1 all rows are of hall 0, and a member
+-- `hall` is ignored
 abbrev pub SaysHallRow : FileHeader → Data → HallRow → Type 0
 SaysHallRow Version1 d item = (item.hall ≡ 0) × SaysRow d item.row
 SaysHallRow (Version2 halls quorums) d item = SaysPlacedRow halls d item

@@ -1,7 +1,10 @@
--- The texts of histories and of orders: a header, then one line for each row or piece of an order. A line is a JSON object, compact, its members in byte order of their names, and its end.
-use Rattle.std.specs.Prelude.{ℕ, zero, suc, ◌-◌, ◌/◌, List, [], ◌∷◌, ◌++◌, Option, Some, None, codes, decimal, map, length, take, drop}
+-- The texts of histories and of orders: a header, then one line for each row or piece of an order.
+-- A line is a JSON object, compact, its members in byte order of their names, and its end.
+use Rattle.std.specs.Prelude.{ℕ, zero, suc, ◌-◌, ◌/◌, List, [], ◌∷◌, ◌++◌, Option, Some, None}
+use Rattle.std.specs.Prelude.{codes, decimal, map, length, take, drop}
 use Rattle.std.specs.List.{flat_map}
-use Rattle.serde_json.specs.Data.{Data, null, number, string, array, object, unsigned, Items, no_items, item, Members, no_members, member}
+use Rattle.serde_json.specs.Data.{Data, null, number, string, array, object, unsigned, Items}
+use Rattle.serde_json.specs.Data.{no_items, item, Members, no_members, member}
 use Rattle.serde_json.specs.Written.{compact_text}
 use Rattle.tag.specs.declared.actions.Action.{Action}
 use Rattle.tag.specs.declared.actions.Action.TheVariants.{Read, Write}
@@ -25,7 +28,8 @@ whole n = number (unsigned n)
 
 -- the header of a file of that name
 unfoldable pub header_data : List ℕ → Data
-header_data name = object (member (codes "abd") (string name) (member (codes "version") (whole 1) no_members))
+header_data name =
+    object (member (codes "abd") (string name) (member (codes "version") (whole 1) no_members))
 
 -- a write asks by its name and its value, a read by its name alone
 abbrev pub action_name : Action → List ℕ
@@ -55,11 +59,18 @@ hall_text (Some hall) = codes ",\"hall\":" ++ decimal hall
 -- a row's value, with its hall where that is a member
 unfoldable pub row_data : Option ℕ → Row → Data
 row_data hall (Invoke op client key action) =
-    object (member (codes "call") (whole op.0) (member (codes "client") (whole client) (member (codes "do") (string (action_name action)) (hall_member hall (member (codes "key") (string key)
+    object (member (codes "call") (whole op.0)
+    (member (codes "client") (whole client)
+    (member (codes "do") (string (action_name action))
+    (hall_member hall (member (codes "key") (string key)
     (member (codes "row") (string (codes "invoke")) (asked_value action)))))))
 row_data hall (Note op tag) =
-    object (member (codes "call") (whole op.0) (hall_member hall (member (codes "number") (whole tag.number) (member (codes "row") (string (codes "note")) (member (codes "writer") (whole tag.writer) no_members)))))
-row_data hall (Respond op returned) = object (member (codes "call") (whole op.0) (hall_member hall (member (codes "row") (string (codes "respond")) (answered_value returned))))
+    object (member (codes "call") (whole op.0)
+    (hall_member hall (member (codes "number") (whole tag.number)
+    (member (codes "row") (string (codes "note"))
+    (member (codes "writer") (whole tag.writer) no_members)))))
+row_data hall (Respond op returned) = object (member (codes "call") (whole op.0) (hall_member hall
+    (member (codes "row") (string (codes "respond")) (answered_value returned))))
 
 -- numbers without a sign
 abbrev pub numbers_data : List ℕ → Items
@@ -70,8 +81,11 @@ numbers_data (n ∷ numbers) = item (whole n) (numbers_data numbers)
 unfoldable pub file_header_data : FileHeader → Data
 file_header_data Version1 = header_data (codes "history")
 file_header_data (Version2 halls quorums) =
-    object (member (codes "abd") (string (codes "history")) (member (codes "ask") (whole quorums.ask) (member (codes "halls") (whole halls) (member (codes "put") (whole quorums.put)
-    (member (codes "version") (whole 2) (member (codes "votes") (array (numbers_data quorums.votes)) no_members))))))
+    object (member (codes "abd") (string (codes "history"))
+    (member (codes "ask") (whole quorums.ask)
+    (member (codes "halls") (whole halls) (member (codes "put") (whole quorums.put)
+    (member (codes "version") (whole 2)
+    (member (codes "votes") (array (numbers_data quorums.votes)) no_members))))))
 
 -- the numbers of calls
 abbrev pub calls_data : List OpId → Items
@@ -80,7 +94,8 @@ calls_data (op ∷ ops) = item (whole op.0) (calls_data ops)
 
 -- a piece's value: its key, and its calls
 unfoldable pub piece_data : KeyOrder → Data
-piece_data piece = object (member (codes "key") (string piece.key) (member (codes "order") (array (calls_data piece.order)) no_members))
+piece_data piece = object (member (codes "key") (string piece.key) (member (codes "order") (array
+    (calls_data piece.order)) no_members))
 
 -- the order in so many pieces of 1,000 calls, and a last piece of the calls that are left over
 abbrev pub cut_behind : ℕ → List OpId → List (List OpId)
@@ -89,7 +104,8 @@ cut_behind (suc n) order = take 1000 order ∷ cut_behind n (drop 1000 order)
 
 -- the pieces of an order: none has more than 1,000 calls, and only the last one has fewer
 unfoldable pub pieces_of : KeyOrder → List KeyOrder
-pieces_of order = map (λ calls. record { key = order.key; order = calls }) (cut_behind ((length order.order - 1) / 1000) order.order)
+pieces_of order = map (λ calls. record { key = order.key; order = calls }) (cut_behind ((length
+    order.order - 1) / 1000) order.order)
 
 -- a value's line, with its end
 unfoldable pub line_text : Data → List ℕ
@@ -118,15 +134,17 @@ header_of histories = header_with (length histories.halls) histories.quorums
 -- the rows of halls, from that number on, with their halls
 abbrev pub rows_from : ℕ → List Recorded → List HallRow
 rows_from hall [] = []
-rows_from hall (history ∷ others) = map (λ row. record { hall = hall; row = row }) history.rows ++ rows_from (suc hall) others
+rows_from hall (history ∷ others) =
+    map (λ row. record { hall = hall; row = row }) history.rows ++ rows_from (suc hall) others
 
--- a row's value behind that header
+-- a row's value after that header
 abbrev pub hall_row_data : FileHeader → HallRow → Data
 hall_row_data header placed = row_data (place_in header placed.hall) placed.row
 
 -- the text of a file of that header and those rows
 abbrev pub hall_rows_text : FileHeader → List HallRow → List ℕ
-hall_rows_text header rows = line_text (file_header_data header) ++ flat_map (λ placed. line_text (hall_row_data header placed)) rows
+hall_rows_text header rows = line_text (file_header_data header)
+    ++ flat_map (λ placed. line_text (hall_row_data header placed)) rows
 
 -- the text of histories by hall: the rows of hall 0, then those of hall 1, and so on
 abbrev pub histories_text : RecordedHalls → List ℕ

@@ -1,6 +1,8 @@
 -- The tree that a text is, before its numbers are read.
-use Rattle.std.specs.Prelude.{ℕ, ◌≡◌, ◌&&◌, List, Bool, true, Option, Some, None, Result, Ok, Err, [], ◌∷◌, is_some, option_map, option_and_then}
-use Rattle.json.specs.Json.{Json, null, boolean, number, string, array, object, Items, no_items, item, Members, no_members, member, value, if_last}
+use Rattle.std.specs.Prelude.{ℕ, ◌≡◌, ◌&&◌, List, Bool, true, Option, Some, None, Result, Ok, Err}
+use Rattle.std.specs.Prelude.{[], ◌∷◌, is_some, option_map, option_and_then}
+use Rattle.json.specs.Json.{Json, null, boolean, number, string, array, object, Items, no_items}
+use Rattle.json.specs.Json.{item, Members, no_members, member, value, if_last}
 use Rattle.json.specs.Find.{as_number}
 use Rattle.json.specs.Lex.{tokens}
 use Rattle.json.specs.Value.{value_view}
@@ -41,7 +43,8 @@ unsigned_of j = option_and_then as_u64 (option_and_then number_of (as_number j))
 -- the numbers that all the items are
 abbrev pub all_unsigned : Items → Option (List ℕ)
 all_unsigned no_items = Some []
-all_unsigned (item j js) = option_and_then (λ n. option_map (λ ns. n ∷ ns) (all_unsigned js)) (unsigned_of j)
+all_unsigned (item j js) =
+    option_and_then (λ n. option_map (λ ns. n ∷ ns) (all_unsigned js)) (unsigned_of j)
 
 -- the text's tree was read, or it has none, or memory ran out
 abbrev pub IsTree : List ℕ → Result (Value Global) Stop → Type 0

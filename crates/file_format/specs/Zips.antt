@@ -1,29 +1,36 @@
 -- Two lists, item for item.
-use Rattle.std.proofs.Common.{ℕ, ◌≡◌, ◌<◌, ◌+◌, List, [], ◌∷◌, ◌++◌, length, get_or, take, refl, ap, sym, subst}
+use Rattle.std.proofs.Common.{ℕ, ◌≡◌, ◌<◌, ◌+◌, List, [], ◌∷◌, ◌++◌, length, get_or, take, refl, ap}
+use Rattle.std.proofs.Common.{sym, subst}
 use Rattle.std.specs.List.{AllZip}
 use Rattle.std.proofs.lemmas.List.{take_more}
 
-pub AllZip-push_both : {A B : Type 0} (R : A → B → Type 0) (xs : List A) (ys : List B) (x : A) (y : B) → AllZip R xs ys → R x y → AllZip R (xs ++ x ∷ []) (ys ++ y ∷ [])
+pub AllZip-push_both : {A B : Type 0} (R : A → B
+    → Type 0) (xs : List A) (ys : List B) (x : A) (y : B) → AllZip R xs ys → R x y
+    → AllZip R (xs ++ x ∷ []) (ys ++ y ∷ [])
 AllZip-push_both R [] [] x y h r = (r, tt)
 AllZip-push_both R [] (b ∷ ys) x y h r = absurd h
 AllZip-push_both R (a ∷ xs) [] x y h r = absurd h
 AllZip-push_both R (a ∷ xs) (b ∷ ys) x y h r = (h.0, AllZip-push_both R xs ys x y h.1 r)
 
 -- one item more of the first list
-pub AllZip-take_more : {A B : Type 0} (R : A → B → Type 0) (xs : List A) (ys : List B) (i : ℕ) (d : A) (y : B) → i < length xs → AllZip R (take i xs) ys → R (get_or xs i d) y → AllZip R (take (i + 1) xs) (ys ++ y ∷ [])
+pub AllZip-take_more : {A B : Type 0} (R : A → B
+    → Type 0) (xs : List A) (ys : List B) (i : ℕ) (d : A) (y : B) → i < length xs
+    → AllZip R (take i xs) ys → R (get_or xs i d) y → AllZip R (take (i + 1) xs) (ys ++ y ∷ [])
 AllZip-take_more {A = A} {B = B} R xs ys i d y lt h r =
     let P : List A → Type 0 = λ front. AllZip R front (ys ++ y ∷ []) in
     subst P (sym (take_more xs i d lt)) (AllZip-push_both R (take i xs) ys (get_or xs i d) y h r)
 
 -- the first list, as a front and a back that go with those of the second
-pub record FrontAndBack {A B : Type 0} (R : A → B → Type 0) (xs : List A) (ys zs : List B) : Type 0 where
+pub record FrontAndBack {A B : Type 0} (R : A → B
+    → Type 0) (xs : List A) (ys zs : List B) : Type 0 where
   pub front : List A
   pub back : List A
   pub whole : xs ≡ front ++ back
   pub first : AllZip R front ys
   pub second : AllZip R back zs
 
-pub front_and_back : {A B : Type 0} (R : A → B → Type 0) (xs : List A) (ys zs : List B) → AllZip R xs (ys ++ zs) → FrontAndBack R xs ys zs
+pub front_and_back : {A B : Type 0} (R : A → B → Type 0) (xs : List A) (ys zs : List B)
+    → AllZip R xs (ys ++ zs) → FrontAndBack R xs ys zs
 front_and_back R xs [] zs h = record { front = []; back = xs; whole = refl; first = tt; second = h }
 front_and_back R [] (y ∷ ys) zs h = absurd h
 front_and_back {A} R (x ∷ xs) (y ∷ ys) zs h =
@@ -36,8 +43,10 @@ front_and_back {A} R (x ∷ xs) (y ∷ ys) zs h =
       second = p.second;
     }
 
--- lists behind lists
-pub AllZip-append : {A B : Type 0} (R : A → B → Type 0) (xs : List A) (ys : List B) (us : List A) (vs : List B) → AllZip R xs ys → AllZip R us vs → AllZip R (xs ++ us) (ys ++ vs)
+-- lists after lists
+pub AllZip-append : {A B : Type 0} (R : A → B
+    → Type 0) (xs : List A) (ys : List B) (us : List A) (vs : List B) → AllZip R xs ys
+    → AllZip R us vs → AllZip R (xs ++ us) (ys ++ vs)
 AllZip-append R [] [] us vs h k = k
 AllZip-append R [] (y ∷ ys) us vs h k = absurd h
 AllZip-append R (x ∷ xs) [] us vs h k = absurd h

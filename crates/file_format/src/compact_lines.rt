@@ -8,7 +8,8 @@ ghost use Rattle.std.specs.Prelude.{◌≡◌, ◌<◌, ◌≤◌, ◌++◌, cod
 ghost use Rattle.json.specs.Print.{quoted};
 ghost use Rattle.counted_devices.specs.Cuts.{with_end};
 ghost use Rattle.file_format.specs.CanonicalLines.{IsHallRowLine, IsPieceLine, IsRowLine};
-ghost use Rattle.file_format.specs.Ranges.{HasAnswerIn, HasValueIn, IsInRange, IsInvocation, IsNote, IsOp, IsResponse, IsValue};
+ghost use Rattle.file_format.specs.Ranges.{HasAnswerIn, HasValueIn, IsInRange, IsInvocation};
+ghost use Rattle.file_format.specs.Ranges.{IsNote, IsOp, IsResponse, IsValue};
 ghost use Rattle.file_format.specs.LineRows.{row_said};
 ghost use Rattle.file_format.specs.RowTexts.{asked_text, noted_text, returned_text, row_bytes};
 ghost use Rattle.file_format.specs.Texts.{hall_text};
@@ -34,7 +35,7 @@ struct PlacedRow {
     said: SaidRow,
 }
 
-/// What an invocation's line says behind its client.
+/// What an invocation's line says after its client.
 #[derive(Debug, Drop)]
 struct Asked {
     hall: Option<u8>,
@@ -49,7 +50,7 @@ fn has_bytes<const N: usize>(array: &[u8; N], bytes: &[u8; N]) -> bool
     array == bytes
 }
 
-/// What is behind that beginning of the bytes.
+/// What is after that beginning of the bytes.
 fn behind<'a, const N: usize>(bytes: &'a [u8], beginning: &[u8; N]) -> Option<&'a [u8]>
     ensures { IfSome result (λ rest. bytes.now ≡ beginning.now ++ rest.now) }
 {
@@ -70,7 +71,7 @@ fn is_all<const N: usize>(bytes: &[u8], text: &[u8; N]) -> bool
     }
 }
 
-/// The decimal number that the bytes begin with, which wraps, and what is behind it.
+/// The decimal number that the bytes begin with, which wraps, and what is after it.
 fn guessed_number(bytes: &[u8]) -> (u32, &[u8]) {
     let mut number = 0;
     let mut count = 0;
@@ -91,7 +92,7 @@ fn are_spelled(bytes: &[u8], count: usize) -> bool
     count == 1 || (count > 1 && bytes[0] != b'0')
 }
 
-/// The number of at most 32 bits that the bytes begin with, as it is written, and what is behind
+/// The number of at most 32 bits that the bytes begin with, as it is written, and what is after
 /// it.
 fn first_number(bytes: &[u8]) -> Option<(u32, &[u8])>
     ensures { IfSome result (λ found. bytes.now ≡ decimal found.0 ++ found.1.now) }
@@ -109,7 +110,7 @@ fn first_number(bytes: &[u8]) -> Option<(u32, &[u8])>
 }
 
 /// The text in quotation marks that the bytes begin with, where it has no escape, and what is
-/// behind it.
+/// after it.
 fn first_text(bytes: &[u8]) -> Option<(&[u8], &[u8])>
     ensures { IfSome result (λ found. bytes.now ≡ quoted found.0.now ++ found.1.now) }
 {
@@ -119,7 +120,7 @@ fn first_text(bytes: &[u8]) -> Option<(&[u8], &[u8])>
     Some((&inside[..end], rest))
 }
 
-/// The number of the row's hall, where the bytes begin with it as a member, and what is behind it.
+/// The number of the row's hall, where the bytes begin with it as a member, and what is after it.
 fn first_hall(bytes: &[u8]) -> Option<(Option<u8>, &[u8])>
     ensures { IfSome result (λ found. bytes.now ≡ hall_text found.0 ++ found.1.now) }
 {
@@ -133,7 +134,7 @@ fn first_hall(bytes: &[u8]) -> Option<(Option<u8>, &[u8])>
     Some((Some(hall as u8), rest))
 }
 
-/// The key that the bytes begin with as a member, where the line ends with them, and what is behind it.
+/// The key that the bytes begin with as a member, where the line ends with them, and what is after it.
 fn first_key<'a>(place: &LinePlace, bytes: &'a [u8]) -> Result<Option<(LineKey, &'a [u8])>, Memory>
     ensures { IfOk result (λ found. IfSome found
         (λ p. bytes.now ≡ codes ",\"key\":" ++ (quoted p.0 ++ p.1.now))) }
@@ -164,7 +165,7 @@ fn last_value(alloc: Global, seen: &mut SeenValues, bytes: &[u8]) -> Result<Opti
     seen.value(alloc, text)
 }
 
-/// The read, behind what says that it is one.
+/// The read, after what says that it is one.
 fn asked_read(place: &LinePlace, bytes: &[u8]) -> Result<Option<Asked>, Memory>
     ensures { IfOk result (λ found. IfSome found
         (λ asked. codes ",\"do\":\"read\"" ++ bytes.now
@@ -183,7 +184,7 @@ fn asked_read(place: &LinePlace, bytes: &[u8]) -> Result<Option<Asked>, Memory>
     }
 }
 
-/// The write, behind what says that it is one.
+/// The write, after what says that it is one.
 fn asked_write(
     alloc: Global,
     place: &LinePlace,
@@ -213,7 +214,7 @@ fn asked_write(
     }
 }
 
-/// What an invocation's line says behind its client.
+/// What an invocation's line says after its client.
 fn request(
     alloc: Global,
     place: &LinePlace,
@@ -232,7 +233,7 @@ fn request(
     Ok(None)
 }
 
-/// The invocation whose line has these bytes behind `"client":`.
+/// The invocation whose line has these bytes after `"client":`.
 fn invocation(
     alloc: Global,
     place: &LinePlace,
@@ -262,7 +263,7 @@ fn invocation(
     Ok(Some(PlacedRow { hall, said }))
 }
 
-/// The tag of a note whose line has these bytes behind `"number":`.
+/// The tag of a note whose line has these bytes after `"number":`.
 fn note_tag(bytes: &[u8]) -> Option<Tag>
     ensures { IfSome result (λ tag. bytes.now ≡ noted_text tag) }
 {
@@ -276,7 +277,7 @@ fn note_tag(bytes: &[u8]) -> Option<Tag>
     Some(tag)
 }
 
-/// What a response answers whose line has these bytes behind its kind.
+/// What a response answers whose line has these bytes after its kind.
 fn answer(alloc: Global, seen: &mut SeenValues, bytes: &[u8]) -> Result<Option<Returned>, Memory>
     ensures { IfOk result (λ found. IfSome found
         (λ returned. bytes.now ≡ returned_text returned)) }
@@ -296,7 +297,7 @@ fn answer(alloc: Global, seen: &mut SeenValues, bytes: &[u8]) -> Result<Option<R
     }
 }
 
-/// The note or the response whose line has these bytes behind its call.
+/// The note or the response whose line has these bytes after its call.
 fn later(
     alloc: Global,
     seen: &mut SeenValues,
@@ -424,7 +425,7 @@ fn look_at_row(said: &SaidRow)
 }
 
 /// The row that the line, without its end, is written for, which stands at that place, where `seen`
-/// has values to share. `None` says nothing; `Memory` comes only where a growth was refused.
+/// has values to share. `None` says nothing; `Memory` comes only where an allocation was refused.
 pub(crate) fn written_row(
     alloc: Global,
     place: &LinePlace,
@@ -454,7 +455,7 @@ fn is_same(one: Option<u8>, other: Option<u8>) -> bool
     }
 }
 
-/// The same of a row with its hall, behind that header.
+/// The same of a row with its hall, after that header.
 pub(crate) fn written_hall_row(
     alloc: Global,
     header: FileHeader,
@@ -526,7 +527,7 @@ fn guessed_piece(
 }
 
 /// The piece of an order that the line, without its end, is written for, which stands at that place,
-/// where `text` is lent room for a line. `None` says nothing; `Memory` comes only where a growth was
+/// where `text` is lent room for a line. `None` says nothing; `Memory` comes only where an allocation was
 /// refused.
 pub(crate) fn written_piece(
     alloc: Global,

@@ -6,7 +6,7 @@ use counted_devices::{FaultNumbers, ReadFault};
 use thiserror::Error;
 
 /// What is wrong with a line. Of several the first that is tested is named: `TooLong`, then
-/// `NotJson`, then the others in this order, `KeyInAnotherHall` behind `Range` and `TooManyCalls`
+/// `NotJson`, then the others in this order, `KeyInAnotherHall` after `Range` and `TooManyCalls`
 /// last.
 #[derive(Clone, Copy, Debug, PartialEq, Eq, Error)]
 pub enum LineFault {
@@ -58,7 +58,7 @@ pub type FaultKind = counted_devices::FaultKind<LineFault>;
 /// way when it came.
 pub type FileFault = ReadFault<LineFault>;
 
-/// Why the judgement of a line stopped: the line has a fault, or a growth was refused.
+/// Why the judgement of a line stopped: the line has a fault, or an allocation was refused.
 pub type Stop = counted_devices::Stop<LineFault>;
 
 impl LineFault {

@@ -50,7 +50,7 @@ fn placed_row_in(alloc: Global, halls: u8, document: &Document<'_>) -> Result<Ha
     Ok(HallRow { hall, row })
 }
 
-/// The row that the value says behind that header, and its hall.
+/// The row that the value says after that header, and its hall.
 #[tactic(auto, unfolding(crate::specs::HallRows::hall_row_in))]
 pub(crate) fn hall_row_in(
     alloc: Global,

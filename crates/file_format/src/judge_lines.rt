@@ -24,14 +24,14 @@ pub const LONGEST: usize = 65_536;
 /// About how many bytes a line has.
 const USUAL: usize = 48;
 
-/// What a line behind a header shows by itself: its item, or its fault.
+/// What a line after a header shows by itself: its item, or its fault.
 #[derive(Debug, Drop)]
 pub enum Judgement<T> {
     Item(T),
     Fault(LineFault),
 }
 
-/// The line's item behind that header.
+/// The line's item after that header.
 fn item_on<T: LineItem>(
     alloc: Global,
     header: T::Header,
@@ -50,7 +50,7 @@ fn item_on<T: LineItem>(
     T::item_in(alloc, header, &document)
 }
 
-/// What the line, without its end, shows behind that header.
+/// What the line, without its end, shows after that header.
 fn judge<T: LineItem>(
     alloc: Global,
     header: T::Header,
@@ -66,7 +66,7 @@ fn judge<T: LineItem>(
     }
 }
 
-/// What the lines of a chunk, the last of them without its end, show behind that header, judged with
+/// What the lines of a chunk, the last of them without its end, show after that header, judged with
 /// these tools.
 fn judge_with<T: LineItem>(
     alloc: Global,
@@ -107,7 +107,7 @@ fn judge_with_set<T: LineItem>(
     run
 }
 
-/// What the lines of a chunk, the last of them without its end, show behind that header. It takes one
+/// What the lines of a chunk, the last of them without its end, show after that header. It takes one
 /// of the sets of tools that no other thread has, and makes one of its own where all are taken.
 pub fn judge_chunk<T: LineItem>(
     alloc: Global,

@@ -8,7 +8,8 @@ ghost use Rattle.file_format.specs.declared.fault.LineFault.{LineFault};
 ghost use Rattle.file_format.specs.declared.fault.LineFault.TheVariants.{Version};
 ghost use Rattle.file_format.specs.CanonicalLines.{IsRowLine, IsHallRowLine, IsPieceLine};
 ghost use Rattle.file_format.specs.Lines.{Shows};
-ghost use Rattle.file_format.specs.LineFaults.{FaultsAre, HasRowFault, HasHallRowFault, HasPieceFault, HasHeaderFault, HasFileHeaderFault};
+ghost use Rattle.file_format.specs.LineFaults.{FaultsAre, HasRowFault, HasHallRowFault};
+ghost use Rattle.file_format.specs.LineFaults.{HasPieceFault, HasHeaderFault, HasFileHeaderFault};
 ghost use Rattle.file_format.specs.Readings.{Reads, FirstFaultInAll};
 ghost use Rattle.file_format.specs.HistoryFormat.{history_format, MakesHistory, IsHistory};
 ghost use Rattle.file_format.specs.Headers.{header_in};
@@ -21,7 +22,8 @@ ghost use Rattle.recorder.specs.Halls.{RecordedHalls, AreHalls};
 ghost use Rattle.file_format.specs.ReadAgain.{IsTextOfHistories};
 ghost use Rattle.file_format.specs.OrderFormat.{order_format, MakesJoined, AreFew};
 ghost use Rattle.file_format.specs.OrderLines.{piece_in};
-ghost use Rattle.file_format.specs.Ranges.{AreInRange, HasRowsInRange, HaveFormed, HasLawful, AreOrdersInRange, HaveDistinctKeys};
+ghost use Rattle.file_format.specs.Ranges.{AreInRange, HasRowsInRange, HaveFormed, HasLawful};
+ghost use Rattle.file_format.specs.Ranges.{AreOrdersInRange, HaveDistinctKeys};
 ghost use Rattle.file_format.specs.Rows.{row_in};
 ghost use Rattle.file_format.specs.Says.{SaysRow, SaysHallRow, SaysHeader, SaysFileHeader, SaysPiece};
 ghost use Rattle.file_format.specs.Texts.{history_text, histories_text, orders_text};
@@ -65,7 +67,7 @@ pub fn a_file_header_is_read_where_its_members_say_it()
         ↔ SaysFileHeader d header }
 {}
 
-/// Behind a header, a JSON value is read as a row of a hall exactly where its members say it.
+/// After a header, a JSON value is read as a row of a hall exactly where its members say it.
 pub fn a_row_of_a_hall_is_read_where_its_members_say_it()
     ensures { (header : FileHeader) (d : Data) (item : HallRow) → (hall_row_in header d ≡ Ok item)
         ↔ SaysHallRow header d item }
@@ -94,7 +96,7 @@ pub fn a_line_written_for_a_row_shows_it()
     ensures { (line : List ℕ) (row : Row) → IsRowLine line row → Shows row_in line (Ok row) }
 {}
 
-/// Behind a header, a line that is the one written for a row of a hall shows that row.
+/// After a header, a line that is the one written for a row of a hall shows that row.
 pub fn a_line_written_for_a_row_of_a_hall_shows_it()
     ensures { (header : FileHeader) (line : List ℕ) (item : HallRow)
         → IsHallRowLine header line item → Shows (hall_row_in header) line (Ok item) }

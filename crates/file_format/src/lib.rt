@@ -1,4 +1,4 @@
-//! The texts of histories and of orders: what a line says, what it shows by itself and behind
+//! The texts of histories and of orders: what a line says, what it shows by itself and after
 //! others, and what is written.
 //!
 //! A JSON value is read as a row, or as a piece of an order, exactly where its members say it. What

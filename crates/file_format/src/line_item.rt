@@ -1,4 +1,4 @@
-//! What a line behind the header says.
+//! What a line after the header says.
 ghost use Rattle.std.specs.Prelude.{Result, Ok, IfOk, IfSome};
 ghost use Rattle.serde_json.specs.Data.{Data};
 ghost use Rattle.file_format.specs.declared.fault.LineFault.{LineFault};
@@ -23,15 +23,15 @@ use crate::rows::row_in;
 use std::alloc::Global;
 use tag::Memory;
 
-/// What a line behind the header says.
+/// What a line after the header says.
 pub trait LineItem: Drop + Sized {
     /// What the first line says of the others.
     type Header: Copy;
 
     ghost meaning: { Self.Header → Data → Result Self LineFault };
 
-    /// The item that the line, without its end, is written for behind that header. `None` says
-    /// nothing; `Memory` comes only where a growth was refused.
+    /// The item that the line, without its end, is written for after that header. `None` says
+    /// nothing; `Memory` comes only where an allocation was refused.
     fn written_on(
         alloc: Global,
         header: Self::Header,
@@ -41,7 +41,7 @@ pub trait LineItem: Drop + Sized {
         ensures { IfOk result (λ found. IfSome found
             (λ item. Shows (meaning header) line.now (Ok item))) };
 
-    /// The item that the value says behind that header.
+    /// The item that the value says after that header.
     fn item_in(alloc: Global, header: Self::Header, document: &Document<'_>) -> Result<Self, Stop>
         ensures said { Gives (λ item. item) result (meaning header (data_in document.now)) }
         ensures fine { IsFine (meaning header (data_in document.now)) };

@@ -2,7 +2,7 @@
 ghost use Rattle.std.specs.Prelude.{◌≡◌, true, IfOk, IfSome};
 ghost use Rattle.tag.specs.Names.{is_key};
 
-use key_numbers::KeyNumbers;
+use key_index::KeyNumbers;
 use memchr::memmem;
 use std::alloc::Global;
 use std::marker::Model;
@@ -131,7 +131,7 @@ impl LinePlace {
         })
     }
 
-    /// The key of that text, where so many bytes stand behind it in the line. `None` says nothing of
+    /// The key of that text, where so many bytes stand after it in the line. `None` says nothing of
     /// a text that isn't there.
     pub(crate) fn key(&self, text: &[u8], behind: usize) -> Result<Option<LineKey>, Memory>
         ensures { IfOk result (λ found. IfSome found (λ key. key ≡ text.now)) }

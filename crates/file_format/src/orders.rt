@@ -3,7 +3,7 @@ ghost use Rattle.std.specs.Prelude.{◌≡◌, [], ◌++◌, OnOk};
 ghost use Rattle.file_format.specs.Joins.{Joins};
 
 use crate::order_piece::OrderPiece;
-use key_numbers::KeyNumbers;
+use key_index::KeyNumbers;
 use recorder::{KeyOrder, Order};
 use std::alloc::Global;
 use std::marker::Model;

@@ -2,7 +2,8 @@
 ghost use Rattle.std.specs.Prelude.{◌≡◌, ℕ, nat_le, true, IfOk};
 ghost use Rattle.std.specs.List.{list_all};
 ghost use Rattle.file_format.specs.Documents.{data_in};
-ghost use Rattle.file_format.specs.FileHeaders.{quorums_of, count_of, told_in, version_of, file_header_in, file_header_of};
+ghost use Rattle.file_format.specs.FileHeaders.{quorums_of, count_of, told_in, version_of};
+ghost use Rattle.file_format.specs.FileHeaders.{file_header_in, file_header_of};
 ghost use Rattle.file_format.specs.Members.{Gives};
 
 use crate::LineFault;

@@ -7,8 +7,11 @@ ghost use Rattle.serde_json.specs.Written.{items_text, members_text};
 ghost use Rattle.counted_devices.specs.Cuts.{with_end};
 ghost use Rattle.tag.specs.Names.{is_key};
 ghost use Rattle.file_format.specs.PlainTexts.{is_plain};
-ghost use Rattle.file_format.specs.Ranges.{IsOp, HasAnswerIn, AreOps, IsInvocation, IsNote, IsResponse, IsInRange, IsOrderInRange};
-ghost use Rattle.file_format.specs.Texts.{header_data, file_header_data, hall_text, answered_value, calls_data, numbers_data, line_text, placed_text, piece_text};
+ghost use Rattle.file_format.specs.Ranges.{IsOp, HasAnswerIn, AreOps, IsInvocation, IsNote};
+ghost use Rattle.file_format.specs.Ranges.{IsResponse, IsInRange, IsOrderInRange};
+ghost use Rattle.file_format.specs.Texts.{header_data, file_header_data, hall_text, answered_value};
+ghost use Rattle.file_format.specs.Texts.{calls_data, numbers_data, line_text, placed_text};
+ghost use Rattle.file_format.specs.Texts.{piece_text};
 
 use crate::file_header::FileHeader;
 use itoa::Buffer;
@@ -110,7 +113,7 @@ fn vote_of(quorums: &Quorums, replica: ReplicaId) -> u8
     quorums.votes(&alone)
 }
 
-/// Adds the votes of the replicas, a comma between two, and the bracket behind them.
+/// Adds the votes of the replicas, a comma between two, and the bracket after them.
 fn append_votes(out: &mut Vec<u8>, quorums: &Quorums) -> Result<(), Memory>
     ensures { OnOk result (out.new.items
         ≡ out.old.items ++ items_text false (numbers_data quorums.now.votes)) }
@@ -209,7 +212,7 @@ fn append_note(out: &mut Vec<u8>, hall: Option<u8>, op: OpId, tag: Tag) -> Resul
     append(out, b"}\n")
 }
 
-/// Adds what a read's response has behind its call and its hall.
+/// Adds what a read's response has after its call and its hall.
 fn append_answer(out: &mut Vec<u8>, answer: &Option<Value>) -> Result<(), Memory>
     ensures text { OnOk result (out.new.items
         ≡ out.old.items ++ with_end
@@ -261,7 +264,7 @@ pub(crate) fn append_row(out: &mut Vec<u8>, hall: Option<u8>, row: &Row) -> Resu
     }
 }
 
-/// Adds the calls' numbers, a comma between two, and the bracket behind them.
+/// Adds the calls' numbers, a comma between two, and the bracket after them.
 fn append_calls(out: &mut Vec<u8>, calls: &[OpId]) -> Result<(), Memory>
     ensures text { OnOk result (out.new.items
         ≡ out.old.items ++ items_text false (calls_data calls.now)) }

@@ -5,7 +5,8 @@ ghost use Rattle.file_format.specs.HistoryFormat.{IsHistory};
 ghost use Rattle.file_format.specs.OrderFormat.{AreFew};
 ghost use Rattle.file_format.specs.Ranges.{IsInRange, IsWritten, IsOrderInRange, HaveDistinctKeys};
 ghost use Rattle.file_format.specs.ReadAgain.{IsTextOf, IsTextOfHistories, IsTextOfOrders};
-ghost use Rattle.file_format.specs.Texts.{placed_text, piece_text, order_text, history_text, histories_text, orders_text};
+ghost use Rattle.file_format.specs.Texts.{placed_text, piece_text, order_text, history_text};
+ghost use Rattle.file_format.specs.Texts.{histories_text, orders_text};
 ghost use Rattle.file_format.specs.Writings.{BreaksOff, Writes, WritesBut};
 
 use crate::file_header::FileHeader;
@@ -26,7 +27,7 @@ fn lawful_rows(history: &History) -> &[Row]
 }
 
 /// The text of the history, made before any of it goes out: its header, then a line for each row.
-/// It is read as the history's rows, and as no others. `Memory` comes only where a growth was
+/// It is read as the history's rows, and as no others. `Memory` comes only where an allocation was
 /// refused.
 pub fn history_text(alloc: Global, history: &History) -> Result<Vec<u8>, Memory>
     ensures text { IfOk result (λ text. text.items ≡ history_text history.now.rows) }
@@ -40,7 +41,7 @@ pub fn history_text(alloc: Global, history: &History) -> Result<Vec<u8>, Memory>
     Ok(text)
 }
 
-/// The row's line, with its hall where that is a member, comes behind what waits, which goes out
+/// The row's line, with its hall where that is a member, comes after what waits, which goes out
 /// once it is enough.
 fn write_row<W: CountedWrite>(
     hall: Option<u8>,
@@ -62,7 +63,7 @@ fn write_row<W: CountedWrite>(
 /// history's rows, and as no others.
 ///
 /// Where it answers `Ok`, the text went out and nothing else; after a fault a beginning of it did.
-/// `Device` comes only where the writer failed, `Memory` only where a growth was refused.
+/// `Device` comes only where the writer failed, `Memory` only where an allocation was refused.
 pub fn write_history<W: CountedWrite>(
     alloc: Global,
     history: &History,
@@ -82,7 +83,7 @@ pub fn write_history<W: CountedWrite>(
     write_text(batch.as_slice(), writer)
 }
 
-/// The lines of a hall's rows come behind what waits, which goes out once it is enough.
+/// The lines of a hall's rows come after what waits, which goes out once it is enough.
 fn write_hall<W: CountedWrite>(
     hall: Option<u8>,
     history: &History,
@@ -127,7 +128,7 @@ pub fn write_histories<W: CountedWrite>(
     write_text(batch.as_slice(), writer)
 }
 
-/// The piece's line comes behind what waits, which goes out once it is enough.
+/// The piece's line comes after what waits, which goes out once it is enough.
 fn write_piece<W: CountedWrite>(
     key: &Key,
     calls: &[OpId],
@@ -145,7 +146,7 @@ fn write_piece<W: CountedWrite>(
     relieve(batch, writer)
 }
 
-/// The lines of the order's pieces come behind what waits, which goes out once it is enough.
+/// The lines of the order's pieces come after what waits, which goes out once it is enough.
 fn write_order<W: CountedWrite>(
     order: &KeyOrder,
     batch: &mut Vec<u8>,

@@ -1,5 +1,6 @@
 -- Halls: a world with the journal of the steps that it took.
-use Rattle.std.specs.Prelude.{ℕ, ◌≡◌, ◌≤◌, ◌+◌, ◌⊎◌, List, [], ◌∷◌, ◌++◌, None, Some, Result, Ok, Err}
+use Rattle.std.specs.Prelude.{ℕ, ◌≡◌, ◌≤◌, ◌+◌, ◌⊎◌, List, [], ◌∷◌, ◌++◌, None, Some, Result, Ok}
+use Rattle.std.specs.Prelude.{Err}
 use Rattle.world_steps.specs.Clients.{Members, running_count}
 use Rattle.world_steps.specs.Configs.{Config}
 use Rattle.world_steps.specs.Refusals.{refusal_of}
@@ -22,30 +23,36 @@ pub record Hall : Type 0 where
 abbrev pub opening_hall : Config → Hall
 opening_hall config = record { config = config; world = opening config; journal = [] }
 
--- the world is what the journal's steps make of the opening one, and each of them was accepted at its place
+-- the world is what the journal's steps make of the opening one, and each of them was accepted at
+-- its place
 pub record IsReplay (hall : Hall) : Type 0 where
   pub is : hall.world ≡ after hall.config hall.journal
   pub accepted : AreAccepted (opening hall.config) hall.journal
 
 -- the hall that took a step more
 abbrev pub with_step : Hall → Step → Hall
-with_step hall step = record hall { world = system_after hall.world step; journal = hall.journal ++ step ∷ [] }
+with_step hall step =
+    record hall { world = system_after hall.world step; journal = hall.journal ++ step ∷ [] }
 
--- a step that the hall may refuse for memory: the place of a client's stop is free since the client joined
+-- a step that the hall may refuse for memory: the place of a client's stop is free since the client
+-- joined
 abbrev pub MayWantMemory : Step → Type 0
 MayWantMemory (step.StopClient name) = ⊥
 MayWantMemory other = Unit {0}
 
--- the refusal is the one of the table; want of memory only where nothing refuses the step and it may want memory
+-- the refusal is the one of the table; want of memory only where nothing refuses the step and it
+-- may want memory
 abbrev pub IsRefused : System → Step → Refusal → Type 0
-IsRefused s step why = (refusal_of s step ≡ Some why) ⊎ ((refusal_of s step ≡ None) × (why ≡ refusal.Memory) × MayWantMemory step)
+IsRefused s step why = (refusal_of s step ≡ Some why)
+    ⊎ ((refusal_of s step ≡ None) × (why ≡ refusal.Memory) × MayWantMemory step)
 
 -- the step is taken and added to the journal, or neither
 abbrev pub Takes : Hall → Step → Result Effect Refusal → Hall → Type 0
-Takes old step (Ok effect) new = (refusal_of old.world step ≡ None) × (effect_of old.world step ≡ Some effect) × (new ≡ with_step old step)
+Takes old step (Ok effect) new = (refusal_of old.world step ≡ None)
+    × (effect_of old.world step ≡ Some effect) × (new ≡ with_step old step)
 Takes old step (Err why) new = IsRefused old.world step why × (new ≡ old)
 
--- at most so many clients run, and behind so many steps the journal has a place for the stop of each
+-- at most so many clients run, and after so many steps the journal has a place for the stop of each
 pub record HasPlaces (members : Members) (running steps capacity : ℕ) : Type 0 where
   pub counted : running_count members ≤ running
   pub free : steps + running ≤ capacity

@@ -42,17 +42,32 @@ impl Model for Hall {
 
     ghost Value = { Hall };
 
-    ghost coded = { code_by (Config × (System × List Step)) (coded× settings.the_row.coded (coded× whole.the_row.coded (coded_list event.the_row.coded))) (λ h. (h.config, (h.world, h.journal))) (λ p. record { config = p.0; world = p.1.0; journal = p.1.1 }) (λ _. refl) };
+    ghost coded = { code_by (Config × (System × List Step)) (coded× settings.the_row.coded (coded×
+        whole.the_row.coded (coded_list event.the_row.coded)))
+        (λ h. (h.config, (h.world, h.journal))) (λ p. record {
+          config = p.0;
+          world = p.1.0;
+          journal = p.1.1;
+        }) (λ _. refl) };
 
     ghost view = { λ h. record { config = h.config; world = h.world.value; journal = h.journal.items } };
 
-    ghost invariant = { λ h. IsReplay (record { config = h.config; world = h.world.value; journal = h.journal.items }) × IsSound h.world.value × HasPlaces h.world.value.members h.running (vec_len h.journal) (vec_capacity h.journal) };
+    ghost invariant = { λ h. IsReplay (record {
+      config = h.config;
+      world = h.world.value;
+      journal =
+          h.journal.items;
+    }) × IsSound h.world.value
+        × HasPlaces h.world.value.members h.running (vec_len h.journal) (vec_capacity h.journal) };
 }
 
 impl PartialEq for Hall {
-    ghost eq = { eq_of_both (on (λ h. h.config) ⟦<Config as PartialEq>⟧.eq) (eq_of_both (on (λ h. h.world) ⟦<World as PartialEq>⟧.eq) (on (λ h. h.journal) (pointwise ⟦<Step as PartialEq>⟧.eq))) };
+    ghost eq = { eq_of_both (on (λ h. h.config) ⟦<Config as PartialEq>⟧.eq)
+        (eq_of_both (on (λ h. h.world) ⟦<World as PartialEq>⟧.eq)
+        (on (λ h. h.journal) (pointwise ⟦<Step as PartialEq>⟧.eq))) };
 
-    ghost laws = { and_per (on_per (λ h. h.config) config.laws-law) (and_per (on_per (λ h. h.world) world.laws-law) (on_per (λ h. h.journal) (lists_per step.laws-law))) };
+    ghost laws = { and_per (on_per (λ h. h.config) config.laws-law) (and_per (on_per (λ h. h.world)
+        world.laws-law) (on_per (λ h. h.journal) (lists_per step.laws-law))) };
 
     fn eq(&self, other: &Hall) -> bool {
         self.config == other.config && *self.world == *other.world && self.journal == other.journal
@@ -61,7 +76,7 @@ impl PartialEq for Hall {
 
 impl Hall {
     /// The hall before the first step: the opening world, and no step. `Memory` comes only where a
-    /// growth was refused.
+    /// allocation was refused.
     pub fn new(alloc: Global, config: Config) -> Result<Hall, Memory>
         ensures { IfOk result (λ hall. hall ≡ opening_hall config) }
     {
@@ -116,7 +131,7 @@ impl Hall {
     /// Has the world take a step, adds it to the journal, and answers what it did.
     ///
     /// Of the refusals that apply the one with the lowest number is answered, and the hall then equals
-    /// what it was. `Memory` comes only where no other applies and a growth was refused; a client's stop
+    /// what it was. `Memory` comes only where no other applies and an allocation was refused; a client's stop
     /// takes no memory, since its place in the journal is free from the time when the client joins.
     pub fn take(&mut self, step: Step) -> Result<Effect, Refusal>
         ensures takes { Takes self.old step result self.new }
@@ -137,7 +152,7 @@ impl Hall {
     }
 }
 
-/// Makes room for a step, and behind it for the stops of all clients that then run. A client's stop has
+/// Makes room for a step, and after it for the stops of all clients that then run. A client's stop has
 /// its place.
 fn make_room(journal: &mut Vec<Step>, running: usize, step: &Step) -> Result<(), Memory>
     requires free { vec_len journal.old + running ≤ vec_capacity journal.old }

@@ -163,7 +163,7 @@ module _ {Header Item Contents : Type 0} (format : Format Header Item) (Makes : 
       let A : List (Judgement Item) → Type 0 = λ js. AllZip (ShowsItem (format.meaning header)) [] js in
       record { lines = []; splits = subst Q (sym r) (Splits-none bytes h); shown = subst A (sym none) tt }
 
-  -- the first line is behind the rest, the others are those of the tail's chunks
+  -- the first line is after the rest, the others are those of the tail's chunks
   pub judged_chunks : (header : Header) (rest front tail : List ℕ) (chunks : List (List ℕ)) (judged : JudgedLines Item) → Divides tail chunks judged.rest.items → ShowChunks (format.meaning header) ((rest ++ front) ∷ chunks) judged.judgements → IsJudged format header (rest ++ (front ++ 10 ∷ tail)) judged
   judged_chunks header rest front tail chunks judged d h =
       let left = judged.rest.items in

@@ -116,7 +116,7 @@ module _ {Header Item Contents : Type 0} (format : Format Header Item) (Makes : 
         made = now.1.made (omega (arith, length-append s.lines (feed.rest.items ∷ [])));
       }
 
-  -- the end behind a line's end
+  -- the end after a line's end
   pub Reads-whole : (bytes : List ℕ) (feed : Feed Contents) → Stands format Makes bytes feed → length feed.rest.items ≡ 0 → 0 < feed.progress.lines → Reads format Makes bytes feed.progress.contents
   Reads-whole bytes feed s none some =
       let P : List (List ℕ) → Type 0 = λ ls. AreLinesOf format ls s.at.0 s.at.1.items in
@@ -161,7 +161,7 @@ module _ {Header Item Contents : Type 0} (format : Format Header Item) (Makes : 
   passes_alone old bytes (Ok done) none h = PassTakes-none old bytes none h
   passes_alone old bytes (Err fault) none h = long_alone old bytes fault.line fault.kind none h.0 h.1 h.2
 
-  -- the first line of the bytes was taken, and then those behind it
+  -- the first line of the bytes was taken, and then those after it
   pub PassTakes-line : (old mid new : Progress Contents) (rest front tail left : List ℕ) → HasNoEnd rest → HasNoEnd front → ((before : List (List ℕ)) → AreTaken format Makes before old → AreTaken format Makes (before ++ (rest ++ front) ∷ []) mid) → PassTakes format Makes mid tail left new → PassTakes format Makes old (rest ++ (front ++ 10 ∷ tail)) left new
   PassTakes-line old mid new rest front tail left r f one p = record {
     lines = (rest ++ front) ∷ p.lines;
@@ -178,7 +178,7 @@ module _ {Header Item Contents : Type 0} (format : Format Header Item) (Makes : 
       let P : List (List ℕ) → Type 0 = λ ls. IsFirstOfKind format ls number k in
       pass_stops old (rest ++ (front ++ 10 ∷ tail)) (line ∷ cut.lines) cut.rest number k (Splits-line rest front tail cut.lines cut.rest r f cut.splits) (λ before at. subst P (append_assoc before (line ∷ []) cut.lines) (IsFirstFault-more format Makes (before ++ line ∷ []) cut.lines number k (h before at)))
 
-  -- a fault behind the first line of the bytes
+  -- a fault after the first line of the bytes
   pub PassStops-line : (old mid : Progress Contents) (rest front tail : List ℕ) (number : ℕ) (k : FaultKind) → HasNoEnd rest → HasNoEnd front → ((before : List (List ℕ)) → AreTaken format Makes before old → AreTaken format Makes (before ++ (rest ++ front) ∷ []) mid) → PassStops format Makes mid tail number k → PassStops format Makes old (rest ++ (front ++ 10 ∷ tail)) number k
   PassStops-line old mid rest front tail number (kind.Line fault) r f one p = record {
     lines = (rest ++ front) ∷ p.lines;

@@ -11,7 +11,7 @@ take-filled : (a k n : ℕ) (xs ys : List ℕ) → a ≤ length xs → n ≤ len
 take-filled a k n xs ys p q =
     ap (λ m. take (m + n) (put_mid a k xs ys)) (sym (length-take-le a xs p)) ∙ take-append-add (take a xs) (ys ++ post_of a k xs) n ∙ ap (λ l. take a xs ++ l) (take-append-le n ys (post_of a k xs) q)
 
--- a block was read behind what the room held
+-- a block was read after what the room held
 pub fills : (old mid new : Option (List ℕ)) (a k n : ℕ) (xs ys : List ℕ) → a ≤ length xs → n ≤ length ys → Consumes old mid (take a xs) → Consumes mid new (take n ys) → Consumes old new (take (a + n) (put_mid a k xs ys))
 fills old mid new a k n xs ys p q h step = subst (λ bytes. Consumes old new bytes) (sym (take-filled a k n xs ys p q)) (Consumes-join old mid new (take a xs) (take n ys) h step)
 

@@ -98,12 +98,12 @@ module _ {Header Item Contents : Type 0} (format : Format Header Item) (Makes : 
       let Q : List (List ℕ) → Type 0 = λ ls. AreLinesOf format ls at.0 at.1.items in
       subst P (sym empty) (first_stopped at.0 at.1.items line fault (subst Q empty at.1.sound) h)
 
-  -- one line behind the header, said without it
+  -- one line after the header, said without it
   pub line_taken : (before : List (List ℕ)) (header : Header) (line : List ℕ) (result : Result (Unit {0}) FileFault) (new : Progress Contents) → Takes format Makes before header (line ∷ []) result new → TakesLine format Makes before line result new
   line_taken before header line (Ok done) new at = (header, at)
   line_taken before header line (Err fault) new first = first
 
-  -- lines behind the first fault change nothing
+  -- lines after the first fault change nothing
   pub IsFirstFault-more : (lines more : List (List ℕ)) (number : ℕ) (k : FaultKind) → IsFirstOfKind format lines number k → IsFirstOfKind format (lines ++ more) number k
   IsFirstFault-more lines more number (kind.Line fault) h = record {
     earlier = h.earlier;
@@ -172,7 +172,7 @@ module _ {Header Item Contents : Type 0} (format : Format Header Item) (Makes : 
   Goes-stop header lines old mid new j js fault goes takes before at some =
       let h = goes.each before at some in half_stop header before lines h.done h.rest mid new j js fault some h.whole h.at h.shown takes
 
-  -- what becomes of the lines that show that, behind others
+  -- what becomes of the lines that show that, after others
   abbrev pub TakesRun : List (Judgement Item) → Progress Contents → Result (Unit {0}) FileFault → Progress Contents → Type 0
   TakesRun js old result new =
       (header : Header) (lines : List (List ℕ)) → AllZip (ShowsItem (format.meaning header)) lines js → (before : List (List ℕ)) → IsAt format Makes before header old → 0 < length before → Takes format Makes before header lines result new

@@ -1,4 +1,4 @@
--- Chunks of lines that are taken behind the header.
+-- Chunks of lines that are taken after the header.
 use Rattle.std.proofs.Common.{ℕ, ◌≡◌, ◌<◌, ◌≤◌, ◌+◌, length, arith, Ok, Err, List, sym, subst}
 use Rattle.std.specs.List.{flat_map}
 use Rattle.file_format.specs.declared.fault.LineFault.TheVariants.{TooLong}
@@ -27,7 +27,7 @@ module _ {Header Item Contents : Type 0} (format : Format Header Item) (Makes : 
       let l = lines_of chunks in
       pass_stops format Makes old bytes l.lines rest fault.line fault.kind (chunks_cut bytes chunks l.lines rest d l.cut) (λ before at. takes l.lines l.cut before at.0 at.1 (some_before before old at some))
 
-  -- a rest behind the chunks that is too long already
+  -- a rest after the chunks that is too long already
   pub chunks_long : (old mid : Progress Contents) (bytes : List ℕ) (chunks : List (List ℕ)) (rest : List ℕ) (number : ℕ) (k : FaultKind) → 0 < old.lines → Divides bytes chunks rest → TakesChunks format Makes old chunks (Ok tt) mid → 65536 < length rest → number ≡ mid.lines + 1 → k ≡ kind.Line TooLong → PassStops format Makes old bytes number k
   chunks_long old mid bytes chunks rest number k some d takes long counted same =
       let l = lines_of chunks in

@@ -5,7 +5,7 @@ use Rattle.history_file.specs.declared.batches.Behind.{Behind}
 use Rattle.history_file.specs.declared.batches.Behind.TheVariants as behind
 use Rattle.counted_devices.specs.Counts.{IsOneMore}
 
--- behind a batch of so many bytes the reader has that left: more may come, or it is at its end, or
+-- after a batch of so many bytes the reader has that left: more may come, or it is at its end, or
 -- it failed, as its count of failures before and after tells
 abbrev pub IsBehind : ℕ → Behind → Option (List ℕ) → ℕ → ℕ → Type 0
 IsBehind count behind.More left old new = (0 < count) × (new ≡ old)

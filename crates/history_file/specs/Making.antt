@@ -9,11 +9,12 @@ use Rattle.file_format.specs.HistoriesFormat.{MakesHistories}
 use Rattle.history_file.specs.KeyedOrders.{KeyedOrders}
 
 -- the orders that the pieces make, and how many calls they have
-pub record MakesOrders (header : Unit {0}) (pieces : List KeyOrder) (orders : KeyedOrders) : Type 0 where
-  pub joined : AreJoined pieces orders.orders
-  pub counted : orders.calls ≡ call_total pieces
+pub record MakesOrders (header : Unit {0}) (pieces : List KeyOrder) (orders : KeyedOrders) : Type 0
+  where
+    pub joined : AreJoined pieces orders.orders
+    pub counted : orders.calls ≡ call_total pieces
 
--- the histories of halls that the rows make behind that header; before one came there are none
+-- the histories of halls that the rows make after that header; before one came there are none
 abbrev pub MakesHalls : FileHeader → List HallRow → Option RecordedHalls → Type 0
 MakesHalls header items None = ⊥
 MakesHalls header items (Some histories) = MakesHistories header items histories

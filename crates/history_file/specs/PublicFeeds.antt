@@ -27,7 +27,8 @@ StandsForOrders bytes feed = Stands order_format MakesOrders bytes feed
 
 -- what it answers at the end of these bytes
 abbrev pub EndsOrders : {A : Type 0} → List ℕ → Result (Vec KeyOrder A) FileFault → Type 0
-EndsOrders bytes result = MatchResult result (λ orders. Reads order_format MakesJoined bytes orders.items) (λ fault. FaultInAll order_format bytes fault.line fault.kind)
+EndsOrders bytes result = MatchResult result (λ orders. Reads order_format MakesJoined bytes
+    orders.items) (λ fault. FaultInAll order_format bytes fault.line fault.kind)
 
 -- the same of history files of either version
 abbrev pub StandsForHalls : List ℕ → Feed (Option RecordedHalls) → Type 0

@@ -8,7 +8,7 @@ use counted_devices::CountedRead;
 /// The most bytes that a reader is asked for at once.
 pub const BLOCK: usize = 1_048_576;
 
-/// What was behind the bytes of a batch.
+/// What was after the bytes of a batch.
 #[derive(Clone, Copy, Debug)]
 pub enum Behind {
     More,
@@ -16,14 +16,14 @@ pub enum Behind {
     Failure,
 }
 
-/// How many bytes were read into a room, and what was behind them.
+/// How many bytes were read into a room, and what was after them.
 #[derive(Clone, Copy, Debug)]
 pub struct Batch {
     pub count: usize,
     pub behind: Behind,
 }
 
-/// Reads blocks into the room, one behind the other, until it is full or a block came short. A
+/// Reads blocks into the room, one after the other, until it is full or a block came short. A
 /// reader that gives its bytes slowly isn't waited for.
 pub(crate) fn read_batch<R: CountedRead>(reader: &mut R, room: &mut [u8]) -> Batch
     requires { 0 < length room.old }

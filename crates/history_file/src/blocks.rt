@@ -34,7 +34,7 @@ fn check_length(lines: u64, rest: &[u8]) -> Result<(), FileFault>
     Ok(())
 }
 
-/// Takes the whole lines of the bytes behind the header, and gives the rest.
+/// Takes the whole lines of the bytes after the header, and gives the rest.
 fn pass<C: Contents>(
     rt: &(impl Threads + Sync),
     alloc: Global,
@@ -72,9 +72,9 @@ fn lengthen(lines: u64, rest: &mut Vec<u8>, bytes: &[u8]) -> Result<(), FileFaul
     Ok(())
 }
 
-/// Takes the whole lines of the rest and the block behind it; the rest is then what is left.
+/// Takes the whole lines of the rest and the block after it; the rest is then what is left.
 ///
-/// The block's first line is put behind the rest; the others are taken where they lie.
+/// The block's first line is put after the rest; the others are taken where they lie.
 pub(crate) fn take_block<C: Contents>(
     rt: &(impl Threads + Sync),
     tools: &ToolSets,

@@ -1,5 +1,6 @@
 //! A file that comes in blocks.
-ghost use Rattle.std.specs.Prelude.{ℕ, ◌≡◌, ◌≤◌, ◌+◌, ◌^◌, ◌++◌, List, [], Some, None, length, IfOk, IfErr, MatchResult};
+ghost use Rattle.std.specs.Prelude.{ℕ, ◌≡◌, ◌≤◌, ◌+◌, ◌^◌, ◌++◌, List, [], Some, None, length};
+ghost use Rattle.std.specs.Prelude.{IfOk, IfErr, MatchResult};
 
 use crate::blocks::take_block;
 use crate::format::Contents;

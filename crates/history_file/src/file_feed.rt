@@ -51,7 +51,7 @@ impl<C: Contents> FileFeed<C> {
     }
 
     /// Takes the next block, however the file was cut. The first fault of the bytes so far is
-    /// answered, and then by each later call; `Memory` comes only where a growth was refused.
+    /// answered, and then by each later call; `Memory` comes only where an allocation was refused.
     pub fn feed(&mut self, rt: &(impl Threads + Sync), block: &[u8]) -> Result<(), FileFault>
         requires { self.old.fed + length block.now ≤ 2 ^ 62 }
         ensures fed { (bytes : List ℕ) → Stands C.format C.Makes bytes self.old

@@ -39,7 +39,7 @@ pub trait Contents: Drop + Send {
         ensures { (header : Self.Header) (items : List Self.Item) → Makes header items self.now
             → result ≡ header };
 
-    /// What the lines of the chunks show behind that header, in order. Chunks are judged side by
+    /// What the lines of the chunks show after that header, in order. Chunks are judged side by
     /// side, each with one of the sets of tools.
     fn judge_all<R: Threads + Sync>(
         rt: &R,
@@ -52,7 +52,7 @@ pub trait Contents: Drop + Send {
         ensures { IfOk result (λ judgements. ShowChunks (format.meaning header)
             (map (λ chunk. chunk.now) chunks.now) judgements) };
 
-    /// Takes the next item, or says which fault it has behind the others.
+    /// Takes the next item, or says which fault it has after the others.
     fn follow(&mut self, item: Self::Item) -> Result<(), Stop>
         ensures { (header : Self.Header) (items : List Self.Item) → Makes header items self.old
             → format.Fits header items → Follows format Makes header items item result self.new };

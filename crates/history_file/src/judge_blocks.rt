@@ -11,16 +11,16 @@ use std::alloc::Global;
 use std::thread::Threads;
 use tag::Memory;
 
-/// What whole lines show by themselves, and the rest behind them, a line under way.
+/// What whole lines show by themselves, and the rest after them, a line under way.
 #[derive(Drop)]
 pub struct JudgedLines<T> {
     pub judgements: Judgements<T>,
     pub rest: Vec<u8>,
 }
 
-/// Judges, behind that header, the whole lines of the rest and the block behind it.
+/// Judges, after that header, the whole lines of the rest and the block after it.
 ///
-/// The block's first line is put behind the rest; the others are judged where they lie.
+/// The block's first line is put after the rest; the others are judged where they lie.
 pub(crate) fn judge_block<C: Contents, R: Threads + Sync>(
     rt: &R,
     alloc: Global,

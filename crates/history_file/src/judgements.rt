@@ -35,7 +35,7 @@ impl<T: Drop> Judgements<T> {
         }
     }
 
-    /// What the runs hold, one behind the other.
+    /// What the runs hold, one after the other.
     pub(crate) fn of(runs: Vec<Vec<Judgement<T>>>) -> Judgements<T>
         ensures { result ≡ flat_map (λ run. run.items) runs.items }
     {

@@ -92,7 +92,7 @@ impl<C: Contents> Progress<C> {
         Ok(self)
     }
 
-    /// Takes the lines of chunks that stand behind the header.
+    /// Takes the lines of chunks that stand after the header.
     pub(crate) fn take_chunks(
         &mut self,
         rt: &(impl Threads + Sync),

@@ -1,5 +1,6 @@
 //! Files from readers.
-ghost use Rattle.std.specs.Prelude.{ℕ, ◌≡◌, ◌<◌, ◌≤◌, List, Option, length, true, false, IfOk, IfErr, OnOk, MatchResult};
+ghost use Rattle.std.specs.Prelude.{ℕ, ◌≡◌, ◌<◌, ◌≤◌, List, Option, length, true, false, IfOk};
+ghost use Rattle.std.specs.Prelude.{IfErr, OnOk, MatchResult};
 ghost use Rattle.std.specs.Io.KnownBytes.{IsAtEnd};
 ghost use Rattle.counted_devices.specs.ReadFaults.{FailsFrom};
 ghost use Rattle.history_file.specs.Deliveries.{GoesOn, HoldsAhead, HoldsAll, ReadsFrom, StopsFrom};
@@ -121,7 +122,7 @@ fn feed_all<C: Contents, R: CountedRead>(
 ///
 /// A file with a fault is refused with its first one: of lines that came whole the first that has
 /// a fault, then `Device` at the line under way where the reader failed. `Memory` comes only where
-/// a growth was refused. The reader keeps what follows the bytes that were read.
+/// an allocation was refused. The reader keeps what follows the bytes that were read.
 pub fn read_history<R: CountedRead>(
     rt: &(impl Threads + Sync),
     alloc: Global,

@@ -10,7 +10,7 @@ use std::alloc::Global;
 use std::thread::Threads;
 use tag::Memory;
 
-/// What the lines of the chunks show behind that header, in order, each chunk judged with one of the
+/// What the lines of the chunks show after that header, in order, each chunk judged with one of the
 /// sets of tools.
 pub(crate) fn judge_chunks<T: LineItem + Send, R: Threads + Sync>(
     rt: &R,

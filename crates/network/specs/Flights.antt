@@ -29,14 +29,17 @@ IsGone flights number = finite.get flights number ≡ None
 
 -- the flights where one is that message with so many copies
 abbrev pub with_copies : Flights → ℕ → Message → ℕ → Flights
-with_copies flights number message copies = finite.insert flights number (record { message = message; copies = copies })
+with_copies flights number message copies =
+    finite.insert flights number (record { message = message; copies = copies })
 
 -- one copy less of what a number names: with its last copy a flight goes out
 abbrev pub one_less : Flights → ℕ → Option Flight → Flights
 one_less flights number None = flights
-one_less flights number (Some flight) = if flight.copies == 1 then finite.remove flights number else with_copies flights number flight.message (flight.copies - 1)
+one_less flights number (Some flight) = if flight.copies == 1 then finite.remove flights number
+    else with_copies flights number flight.message (flight.copies - 1)
 
 -- one copy more of what a number names
 abbrev pub one_more : Flights → ℕ → Option Flight → Flights
 one_more flights number None = flights
-one_more flights number (Some flight) = with_copies flights number flight.message (flight.copies + 1)
+one_more flights number (Some flight) =
+    with_copies flights number flight.message (flight.copies + 1)

@@ -1,5 +1,6 @@
 //! The pool: the network of all clients and replicas.
-ghost use Rattle.std.specs.Prelude.{◌≡◌, ◌<◌, ◌≤◌, ◌-◌, ◌↔◌, Err, IfOk, IfErr, IsOk, OnOk, OnErr, IsSome, IfSome, OnSome, IfNone, IsTrue};
+ghost use Rattle.std.specs.Prelude.{◌≡◌, ◌<◌, ◌≤◌, ◌-◌, ◌↔◌, Err, IfOk, IfErr, IsOk, OnOk, OnErr};
+ghost use Rattle.std.specs.Prelude.{IsSome, IfSome, OnSome, IfNone, IsTrue};
 ghost use Rattle.std.specs.Option.{option_copied};
 ghost use Rattle.std.specs.FinMap as finite;
 ghost use Rattle.network.specs.contracts.flights.FlightPartialEq.TheImpl.Laws as flight;

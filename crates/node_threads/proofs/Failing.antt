@@ -2,11 +2,11 @@
 use Rattle.std.proofs.Common.{ℕ, Result, Ok, Err, List, [], refl, sym, subst, inl, inr, append-nil}
 use Rattle.std.specs.Prelude.{IfErr, OnErr}
 use Rattle.tag.specs.declared.actions.Action.{Action}
-use Rattle.hall_turns.specs.Turns.{ClientView}
-use Rattle.seat_calls.specs.declared.errors.CallError.{CallError}
-use Rattle.seat_calls.specs.declared.errors.CallError.TheVariants as fault
-use Rattle.seat_calls.specs.Answers.{FailsWith, HasFailed}
-use Rattle.seat_calls.specs.Seats.{DidNotBegin, HaveGrown, Seat}
+use Rattle.hall_lock.specs.Turns.{ClientView}
+use Rattle.seats.specs.declared.errors.CallError.{CallError}
+use Rattle.seats.specs.declared.errors.CallError.TheVariants as fault
+use Rattle.seats.specs.Answers.{FailsWith, HasFailed}
+use Rattle.seats.specs.Seats.{DidNotBegin, HaveGrown, Seat}
 
 grown_none : (passes : List ClientView) → HaveGrown passes passes
 grown_none passes hall before at = (before, at, ([], sym (append-nil before.rows)))

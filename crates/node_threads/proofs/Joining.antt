@@ -1,7 +1,7 @@
 -- The passes and places of a seat that is being made, hall by hall.
 use Rattle.std.proofs.Common.{◌≡◌, ℕ, zero, suc, List, [], ◌∷◌, ◌++◌, refl, sym, subst, inl, inr}
-use Rattle.hall_turns.specs.Turns.{ClientView}
-use Rattle.seat_calls.specs.Seats.{AreFresh, AreZero, IsFresh}
+use Rattle.hall_lock.specs.Turns.{ClientView}
+use Rattle.seats.specs.Seats.{AreFresh, AreZero, IsFresh}
 use Rattle.node_threads.specs.Joins.{AreOfClient}
 use Rattle.node_threads.proofs.Lists.{after_push}
 

@@ -4,10 +4,10 @@ use Rattle.node_threads.specs.declared.closing.ClosedHall.{ClosedHall}
 use Rattle.recorder.specs.declared.log_entry.Entry.{Entry}
 use Rattle.node_threads.specs.Closings.{AreClosed, IsClosed}
 use Rattle.recorder.specs.Logs.{IsLog, of_hall}
-use Rattle.seat_calls.specs.Seats.{Seat}
+use Rattle.seats.specs.Seats.{Seat}
 use Rattle.node_threads.proofs.Lists.{after_push, below_next, same_some}
 
--- what holds of the first elements, and of the one behind them
+-- what holds of the first elements, and of the one after them
 pub one_more : {X : Type 0} (P : ℕ → X → Type 0) (xs : List X) (count : ℕ) (x : X) → ((k : ℕ) (y : X) → k < count → slice_get xs k ≡ Some y → P k y)
     → slice_get xs count ≡ Some x → P count x → (k : ℕ) (y : X) → k < count + 1 → slice_get xs k ≡ Some y → P k y
 one_more P xs count x so_far next has = λ k y lt at. elim (below_next k count lt) [

@@ -22,7 +22,7 @@ after_push [] x (suc p) y e = inl e
 after_push (z ∷ xs) x zero y e = inl e
 after_push (z ∷ xs) x (suc p) y e = elim (after_push xs x p y e) [ inl h ↦ inl h | inr h ↦ inr (ap suc h.0, h.1) ]
 
--- an element that came behind, where nothing else did
+-- an element that came after, where nothing else did
 pub behind : {X : Type 0} (start reserved now : List X) (x : X) → reserved ≡ start → now ≡ reserved ++ x ∷ [] → now ≡ start ++ x ∷ []
 behind start reserved now x same more = more ∙ ap (λ l. l ++ x ∷ []) same
 

@@ -4,7 +4,7 @@ use Rattle.std.proofs.lemmas.Option.{slice_get_within}
 use Rattle.node_threads.specs.declared.closing.ClosedHall.{ClosedHall}
 use Rattle.node_threads.specs.declared.config.StoreConfig.{StoreConfig}
 use Rattle.node_threads.specs.Closings.{AreClosed, AreOfStore, Closes, HasForeign, HaveLogs, IsOfAnotherStore, IsOfStore}
-use Rattle.seat_calls.specs.Seats.{Seat}
+use Rattle.seats.specs.Seats.{Seat}
 
 pub closes : (config : StoreConfig) (seats : List Seat) (halls : List ClosedHall) → length halls ≡ config.halls → AreClosed halls
     → AreOfStore config seats (length seats) → HaveLogs halls seats (length seats) → Closes config seats halls

@@ -5,12 +5,12 @@ use Rattle.recorder.specs.Records.{IsPart}
 use Rattle.recorder.specs.Sound.{TagSound}
 use Rattle.recorder.specs.declared.part.Call.{Call}
 use Rattle.recorder.specs.declared.row.Row.{Row}
-use Rattle.hall_turns.specs.Turns.{IsCopied}
+use Rattle.hall_lock.specs.Turns.{IsCopied}
 use Rattle.world_steps.specs.SoundSystems.{IsSound}
 use Rattle.world_steps.specs.declared.system.System.{System}
 use Rattle.recorder.specs.declared.log_entry.Entry.{Entry}
 use Rattle.recorder.specs.Logs.{IsLog, of_hall}
-use Rattle.seat_calls.specs.Seats.{Seat, seen_in}
+use Rattle.seats.specs.Seats.{Seat, seen_in}
 use Rattle.node_threads.specs.Snapshots.{Shows}
 
 -- whatever rows were seen, the record is a hall's

@@ -1,11 +1,11 @@
 -- What becomes of a client that joins.
 use Rattle.std.specs.Prelude.{ℕ, ◌≡◌, false, List, [], Some, length, slice_get}
-use Rattle.hall_turns.specs.Turns.{ClientView}
+use Rattle.hall_lock.specs.Turns.{ClientView}
 use Rattle.node_threads.specs.declared.config.StoreConfig.{StoreConfig}
-use Rattle.seat_calls.specs.Seats.{AreStopped, Seat, seen_in}
+use Rattle.seats.specs.Seats.{AreStopped, Seat, seen_in}
 
--- the seat is of the client of that name in the store that was so configured, in all its halls; it has made no call and
--- seen nothing
+-- the seat is of the client of that name in the store that was so configured, in all its halls; it
+-- has made no call and seen nothing
 pub record IsNewSeat (config : StoreConfig) (name : ℕ) (s : Seat) : Type 0 where
   pub store : s.store ≡ config.store
   pub client : s.client ≡ name
@@ -16,7 +16,8 @@ pub record IsNewSeat (config : StoreConfig) (name : ℕ) (s : Seat) : Type 0 whe
 
 -- the passes are the client's
 abbrev pub AreOfClient : ℕ → List ClientView → Type 0
-AreOfClient client passes = (k : ℕ) (pass : ClientView) → slice_get passes k ≡ Some pass → pass.client ≡ client
+AreOfClient client passes =
+    (k : ℕ) (pass : ClientView) → slice_get passes k ≡ Some pass → pass.client ≡ client
 
 -- the passes are the client's, and it is stopped in the hall of each
 pub record AreOfStoppedClient (client : ℕ) (passes : List ClientView) : Type 0 where

@@ -1,4 +1,5 @@
--- The numbers and the names of the reasons why a store isn't started or joined, or leaves nothing, as programs print them.
+-- The numbers and the names of the reasons why a store isn't started or joined, or leaves nothing,
+-- as programs print them.
 use Rattle.std.specs.Prelude.{ℕ, List, codes}
 use Rattle.node_threads.specs.declared.errors.StartError.{StartError}
 use Rattle.node_threads.specs.declared.errors.StartError.TheVariants as start

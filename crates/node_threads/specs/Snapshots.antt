@@ -4,12 +4,12 @@ use Rattle.recorder.specs.Histories.{Recorded}
 use Rattle.recorder.specs.Records.{IsPart}
 use Rattle.recorder.specs.Sound.{TagSound}
 use Rattle.recorder.specs.declared.part.Call.{Call}
-use Rattle.hall_turns.specs.Turns.{IsCopied}
+use Rattle.hall_lock.specs.Turns.{IsCopied}
 use Rattle.recorder.specs.Logs.{IsLog, of_hall}
-use Rattle.seat_calls.specs.Seats.{Seat, seen_in}
+use Rattle.seats.specs.Seats.{Seat, seen_in}
 
--- a hall's record, the tags of whose parts are sound: it has as many rows as the seat has seen, and of the seat's client the calls that the seat
--- has in its log
+-- a hall's record, the tags of whose parts are sound: it has as many rows as the seat has seen, and
+-- of the seat's client the calls that the seat has in its log
 pub record Shows (history : Recorded) (s : Seat) (hall : ℕ) : Type 0 where
   pub copied : IsCopied [] history
   pub parts : (key : List ℕ) (part : List Call) → IsPart history.rows key part → TagSound part

@@ -1,13 +1,14 @@
 //! What a closed store leaves: the records of its halls, and the orders that show them atomic.
 ghost use Rattle.std.specs.Prelude.{◌≡◌, false, true, length, IfOk, IsTrue};
-ghost use Rattle.node_threads.specs.Closings.{AreClosed, AreOfStore, HasLogs, HaveLogs, IsClosed, IsOfAnotherStore, IsOfStore};
+ghost use Rattle.node_threads.specs.Closings.{AreClosed, AreOfStore, HasLogs, HaveLogs, IsClosed};
+ghost use Rattle.node_threads.specs.Closings.{IsOfAnotherStore, IsOfStore};
 
 use crate::config::StoreConfig;
 use crossbeam_channel::{Receiver, Sender};
 use hall_journal::Hall;
-use hall_turns::FreePass;
+use hall_lock::FreePass;
 use recorder::{History, KeyOrder};
-use seat_calls::{Parcel, Seat, entries_of_hall, is_log};
+use seats::{Parcel, Seat, entries_of_hall, is_log};
 use std::alloc::Global;
 use std::sync::{Mutex, Wait};
 use tag::{Memory, ReplicaId};

@@ -1,6 +1,7 @@
 //! Why a store isn't started or joined, or leaves nothing.
 ghost use Rattle.std.specs.Prelude.{◌≡◌};
-ghost use Rattle.node_threads.specs.Numbers.{close_error_name, close_error_number, join_error_number, start_error_number};
+ghost use Rattle.node_threads.specs.Numbers.{close_error_name, close_error_number};
+ghost use Rattle.node_threads.specs.Numbers.{join_error_number, start_error_number};
 
 use std::alloc::{AllocError, AllocFailed};
 use tag::Memory;
@@ -10,7 +11,7 @@ use world_steps::Refusal;
 /// Why a store couldn't be started.
 #[derive(Clone, Copy, Debug, PartialEq, Eq, Error)]
 pub enum StartError {
-    /// A growth was refused.
+    /// An allocation was refused.
     #[error("memory")]
     Memory,
     /// A thread couldn't be started.
@@ -24,7 +25,7 @@ pub enum JoinError {
     /// The name joined before, in some hall.
     #[error("client taken")]
     ClientTaken,
-    /// A growth was refused.
+    /// An allocation was refused.
     #[error("memory")]
     Memory,
 }
@@ -35,7 +36,7 @@ pub enum CloseError {
     /// A seat is another store's, or has other calls in its log than a hall's record.
     #[error("seat mismatch")]
     SeatMismatch,
-    /// A growth was refused.
+    /// An allocation was refused.
     #[error("memory")]
     Memory,
 }

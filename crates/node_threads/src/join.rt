@@ -1,10 +1,10 @@
 //! How a client joins the halls of a store, and what is left of it where one refuses.
 ghost use Rattle.std.specs.Prelude.{◌≡◌, ◌<◌, ◌+◌, [], length, IfOk, OnErr, OnOk};
 ghost use Rattle.node_threads.specs.Joins.{AreOfClient, AreOfStoppedClient};
-ghost use Rattle.seat_calls.specs.Seats.{AreFresh, AreZero};
+ghost use Rattle.seats.specs.Seats.{AreFresh, AreZero};
 
 use crate::errors::JoinError;
-use hall_turns::{ClientPass, FreePass};
+use hall_lock::{ClientPass, FreePass};
 use std::alloc::Global;
 use std::sync::{Mutex, Wait};
 use tag::{ClientId, Memory};
@@ -59,7 +59,7 @@ fn join_halls<R: Wait>(
     Ok(())
 }
 
-/// Has the client join a hall, whose pass comes behind those of the halls before.
+/// Has the client join a hall, whose pass comes after those of the halls before.
 fn join_hall<R: Wait>(
     rt: &R,
     root: &Mutex<FreePass>,

@@ -17,6 +17,6 @@ mod store;
 pub use closing::{Closed, ClosedHall};
 pub use config::StoreConfig;
 pub use errors::{CloseError, JoinError, StartError};
-pub use hall_turns::ClientPass;
-pub use seat_calls::{Answer, CallError, Entry, Gate, OpenGate, Pass, Place, Receipt, Seat};
+pub use hall_lock::ClientPass;
+pub use seats::{Answer, CallError, Entry, Gate, OpenGate, Pass, Place, Receipt, Seat};
 pub use store::Store;

@@ -1,10 +1,10 @@
 //! How a replica goes down, or up, in each hall of a store.
 ghost use Rattle.std.specs.Prelude.{◌≡◌, ◌<◌, ◌≤◌, ◌+◌, ◌⊎◌, Err, None, length, IfErr, IfOk};
-ghost use Rattle.hall_turns.specs.Turns.{MayTake};
+ghost use Rattle.hall_lock.specs.Turns.{MayTake};
 ghost use Rattle.node_threads.specs.Stores.{idle_refusal, replica_count};
 
 use crate::config::StoreConfig;
-use hall_turns::FreePass;
+use hall_lock::FreePass;
 use std::sync::{Mutex, Wait};
 use tag::{Memory, ReplicaId};
 use world_steps::{Refusal, Step};
@@ -71,7 +71,7 @@ pub(crate) fn turn_replica<R: Wait>(
 }
 
 /// Has the replica go that way in each of these halls, the first first. `Memory` comes at the first hall
-/// where a growth was refused; those before it are done.
+/// where an allocation was refused; those before it are done.
 fn turn_in_each<R: Wait>(
     rt: &R,
     roots: &[Mutex<FreePass>],

@@ -2,9 +2,9 @@
 ghost use Rattle.std.specs.Prelude.{IfOk};
 ghost use Rattle.node_threads.specs.Snapshots.{Shows};
 
-use hall_turns::FreePass;
+use hall_lock::FreePass;
 use recorder::History;
-use seat_calls::{CallError, Seat, entries_of_hall, is_log};
+use seats::{CallError, Seat, entries_of_hall, is_log};
 use std::alloc::Global;
 use std::sync::{Mutex, Wait};
 use world_steps::laws;

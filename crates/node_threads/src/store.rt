@@ -1,9 +1,10 @@
 //! A running store: its halls, and a thread for each replica.
-ghost use Rattle.std.specs.Prelude.{ℕ, ◌≡◌, ◌<◌, ◌≤◌, ◌+◌, ◌⊎◌, ◌↔◌, Err, true, false, [], length, IfErr, IfOk, IfSome, IsNone, OnErr, OnOk};
+ghost use Rattle.std.specs.Prelude.{ℕ, ◌≡◌, ◌<◌, ◌≤◌, ◌+◌, ◌⊎◌, ◌↔◌, Err, true, false, [], length};
+ghost use Rattle.std.specs.Prelude.{IfErr, IfOk, IfSome, IsNone, OnErr, OnOk};
 ghost use Rattle.recorder.specs.Halls.{hall_of};
 ghost use Rattle.std.specs.Fn.{FnOnceReturnsAt};
-ghost use Rattle.hall_turns.specs.Turns.{IsTold};
-ghost use Rattle.seat_calls.specs.Answers.{FailsWith, HasFailed, HasReason, IsAnswered, SeesFewer};
+ghost use Rattle.hall_lock.specs.Turns.{IsTold};
+ghost use Rattle.seats.specs.Answers.{FailsWith, HasFailed, HasReason, IsAnswered, SeesFewer};
 ghost use Rattle.node_threads.specs.Closings.{Closes, HasForeign, IsOfAnotherStore, IsOfStore};
 ghost use Rattle.node_threads.specs.Joins.{IsNewSeat};
 ghost use Rattle.node_threads.specs.Snapshots.{Shows};
@@ -16,10 +17,10 @@ use crate::join::{enter_halls, none_seen};
 use crate::replica_turns::{Turned, turn_replica};
 use crate::snapshot::snapshot_of;
 use crossbeam_channel::{Receiver, Sender, bounded, unbounded};
-use hall_turns::FreePass;
+use hall_lock::FreePass;
 use recorder::{Halls, History};
-use seat_calls::seating::{call_on, new_seat};
-use seat_calls::{Answer, CallError, Errand, Gate, Parcel, Seat, serve};
+use seats::seating::{call_on, new_seat};
+use seats::{Answer, CallError, Errand, Gate, Parcel, Seat, serve};
 use std::alloc::Global;
 use std::marker::Model;
 use std::sync::{Arc, Mutex, Wait};
@@ -176,7 +177,7 @@ impl<G: Gate> Store<G> {
 
     /// Makes a call of the seat's client.
     ///
-    /// It goes to the hall of its key. Where it is answered the seat's log has one entry more, behind all
+    /// It goes to the hall of its key. Where it is answered the seat's log has one entry more, after all
     /// that the seat had seen, and the receipt tells of it. It may wait for other threads.
     pub fn call<R: Wait>(
         &self,
@@ -283,10 +284,10 @@ impl<G: Gate + Drop> Store<G> {
     /// Ends the store, and gives what its halls leave: of each its record, the steps that made it, and for
     /// each key an order that shows the key's calls atomic.
     ///
-    /// It has the replicas' threads end and waits for them, takes each hall for good, and compares the log
-    /// of each seat with its client's calls in the records. `SeatMismatch` comes where a seat is of another
-    /// store, or of another count of halls, or has other calls; `Memory` only where a growth was refused. The store is ended in every
-    /// case.
+    /// It has the replicas' threads end and waits for them, takes each hall for good, and compares
+    /// the log of each seat with its client's calls in the records. `SeatMismatch` comes where a
+    /// seat is of another store, or of another count of halls, or has other calls; `Memory` only
+    /// where an allocation was refused. The store is ended in every case.
     pub fn close<R: Wait>(
         self,
         rt: &R,

@@ -6,7 +6,7 @@ use Rattle.std.proofs.lemmas.List.{length-map}
 use Rattle.std.proofs.lemmas.Option.{slice_get-map, slice_get_within, slice_get_read}
 use Rattle.recorder.specs.declared.order.KeyOrder.{KeyOrder}
 use Rattle.recorder.specs.Lists.{Contains-slice_get, push_cases, slice_get-take}
-use Rattle.key_numbers.specs.Numbers.{Numbers, known, first}
+use Rattle.key_index.specs.Numbers.{Numbers, known, first}
 use Rattle.parallel_keys.specs.CheckedKeys.{AreDistinct}
 use Rattle.parallel_keys.specs.Fronts.{front_more, mapped_more, place_before}
 

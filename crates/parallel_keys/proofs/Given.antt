@@ -8,7 +8,7 @@ use Rattle.std.specs.Cmp.Lexicographic.{bytes_decides}
 use Rattle.std.proofs.lemmas.Bool.{cases_eq}
 use Rattle.std.proofs.lemmas.Option.{none-some, same_Some, slice_get_read, slice_get_within}
 use Rattle.tag.specs.declared.numbers.OpId.{OpId}
-use Rattle.key_numbers.specs.Numbers.{IsPlace}
+use Rattle.key_index.specs.Numbers.{IsPlace}
 use Rattle.recorder.specs.declared.order.KeyOrder.{KeyOrder}
 use Rattle.recorder.specs.Lists.{Contains-slice_get, slice_get-set}
 use Rattle.parallel_keys.specs.CheckedKeys.{given_order}

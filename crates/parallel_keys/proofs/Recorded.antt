@@ -10,7 +10,7 @@ use Rattle.tag.specs.declared.numbers.OpId.{OpId}
 use Rattle.recorder.specs.declared.part.Call.{Call}
 use Rattle.recorder.specs.declared.order.KeyOrder.{KeyOrder}
 use Rattle.recorder.specs.Lists.{Contains-slice_get, push_cases, slice_get-push_last, slice_get-push_left}
-use Rattle.key_numbers.specs.Numbers.{Numbers, known, first}
+use Rattle.key_index.specs.Numbers.{Numbers, known, first}
 use Rattle.parallel_keys.specs.declared.collect_keys.NumberedKey.{NumberedKey}
 use Rattle.parallel_keys.specs.CheckedKeys.{CheckedKey, KeyParts, all_parts, given_order, is_other, keys_in, recorded_key}
 use Rattle.parallel_keys.specs.KeysToCheck.{AreNumbered, HasKeys, entry_of}

@@ -1,5 +1,6 @@
 -- The keys of histories and of orders, and what is checked of each.
-use Rattle.std.specs.Prelude.{ℕ, ◌≡◌, ◌<◌, Bool, List, [], ◌∷◌, ◌++◌, Some, is_none, map, filter, slice_get, if◌then◌else◌}
+use Rattle.std.specs.Prelude.{ℕ, ◌≡◌, ◌<◌, Bool, List, [], ◌∷◌, ◌++◌, Some, is_none, map, filter}
+use Rattle.std.specs.Prelude.{slice_get, if◌then◌else◌}
 use Rattle.std.specs.Str.{bytes_eq}
 use Rattle.std.specs.Map.{lookup}
 use Rattle.tag.specs.declared.numbers.OpId.{OpId}
@@ -8,7 +9,8 @@ use Rattle.recorder.specs.declared.order.KeyOrder.{KeyOrder}
 
 -- no two of the orders are of one key
 abbrev pub AreDistinct : List KeyOrder → Type 0
-AreDistinct orders = (i j : ℕ) (a b : KeyOrder) → i < j → slice_get orders i ≡ Some a → slice_get orders j ≡ Some b → a.key ≡ b.key → ⊥
+AreDistinct orders = (i j : ℕ) (a b : KeyOrder) → i < j → slice_get orders i ≡ Some a
+    → slice_get orders j ≡ Some b → a.key ≡ b.key → ⊥
 
 -- the order that the list gives for a key, the empty one where it gives none
 abbrev pub given_order : List KeyOrder → List ℕ → List OpId
@@ -35,7 +37,8 @@ pub record CheckedKey : Type 0 where
 
 -- a key that has a part, with the order that is given for it
 abbrev pub recorded_key : List KeyOrder → List ℕ × List Call → CheckedKey
-recorded_key orders entry = record { key = entry.0; part = entry.1; order = given_order orders entry.0 }
+recorded_key orders entry =
+    record { key = entry.0; part = entry.1; order = given_order orders entry.0 }
 
 -- a key that only the orders have, which has no call
 abbrev pub other_key : KeyOrder → CheckedKey
@@ -47,4 +50,5 @@ is_other parts one = is_none (lookup (bytes_eq one.key) parts)
 
 -- the keys that have parts, and then those that only the orders have
 abbrev pub checked_keys : KeyParts → List KeyOrder → List CheckedKey
-checked_keys parts orders = map (recorded_key orders) parts ++ map other_key (filter (is_other parts) orders)
+checked_keys parts orders =
+    map (recorded_key orders) parts ++ map other_key (filter (is_other parts) orders)

@@ -1,11 +1,12 @@
 -- Keys to check, and what is checked of them.
-use Rattle.std.specs.Prelude.{ℕ, ◌≡◌, List, [], ◌∷◌, ◌++◌, Option, None, Some, Contains, length, map, filter, slice_get, option_map, if◌then◌else◌}
+use Rattle.std.specs.Prelude.{ℕ, ◌≡◌, List, [], ◌∷◌, ◌++◌, Option, None, Some, Contains, length}
+use Rattle.std.specs.Prelude.{map, filter, slice_get, option_map, if◌then◌else◌}
 use Rattle.std.specs.Borrow.{Bor}
 use Rattle.std.specs.Str.{bytes_eq}
 use Rattle.tag.specs.declared.numbers.OpId.{OpId}
 use Rattle.recorder.specs.declared.part.Call.{Call}
 use Rattle.recorder.specs.declared.order.KeyOrder.{KeyOrder}
-use Rattle.key_numbers.specs.Numbers.{AreDistinct}
+use Rattle.key_index.specs.Numbers.{AreDistinct}
 use Rattle.parallel_keys.specs.declared.collect_keys.KeyToCheck.{KeyToCheck}
 use Rattle.parallel_keys.specs.declared.collect_keys.NumberedKey.{NumberedKey}
 use Rattle.parallel_keys.specs.declared.collect_keys.OrderTable.{OrderTable}
@@ -26,25 +27,33 @@ pub record HasKeys (keys others : List (List ℕ)) : Type 0 where
 
 -- each key's number is its place in that list, which has the same keys
 pub record AreNumbered (numbers : List (List ℕ)) (keys : List NumberedKey) : Type 0 where
-  pub placed : (i : ℕ) (own : NumberedKey) → slice_get keys i ≡ Some own → slice_get numbers own.number ≡ Some own.key.now
+  pub placed : (i : ℕ) (own : NumberedKey) → slice_get keys i ≡ Some own
+      → slice_get numbers own.number ≡ Some own.key.now
   pub same : HasKeys numbers (keys_in (map entry_of keys))
 
 -- the first order that the list gives for a key, if any
 abbrev pub first_order : List KeyOrder → List ℕ → Option (List OpId)
 first_order [] key = None
-first_order (one ∷ orders) key = if bytes_eq one.key key then Some one.order else first_order orders key
+first_order (one ∷ orders) key =
+    if bytes_eq one.key key then Some one.order else first_order orders key
 
 -- keys, each once, and at each key's place the first order that the list gives for it, if any
-pub record AreFirstOrders (keys : List (List ℕ)) (orders : List KeyOrder) (given : List (Option (Bor (List OpId)))) : Type 0 where
+pub record AreFirstOrders (keys : List (List ℕ)) (orders : List KeyOrder)
+    (given : List (Option (Bor (List OpId)))) : Type 0 where
   pub once : AreDistinct keys
   pub all : length given ≡ length keys
-  pub each : (number : ℕ) (key : List ℕ) (order : Option (Bor (List OpId))) → slice_get keys number ≡ Some key → slice_get given number ≡ Some order → option_map (λ o. o.now) order ≡ first_order orders key
+  pub each : (number : ℕ) (key : List ℕ) (order : Option (Bor (List OpId))) → slice_get keys number
+      ≡ Some key → slice_get given number ≡ Some order → option_map (λ o. o.now) order
+      ≡ first_order orders key
 
 -- the first order of each of these keys, and the orders of all other keys as they come
-pub record IsOrderTable (keys : List (List ℕ)) (orders : List KeyOrder) (table : OrderTable) : Type 0 where
+pub record IsOrderTable (keys : List (List ℕ)) (orders : List KeyOrder) (table : OrderTable) :
+    Type 0 where
   pub given : AreFirstOrders keys orders table.given.items
-  pub others : (parts : KeyParts) → HasKeys keys (keys_in parts) → map (λ o. o.now) table.others.items ≡ filter (is_other parts) orders
+  pub others : (parts : KeyParts) → HasKeys keys (keys_in parts)
+      → map (λ o. o.now) table.others.items ≡ filter (is_other parts) orders
 
 -- the table of some orders becomes that of these and one more
 abbrev pub TakesUp : List (List ℕ) → KeyOrder → OrderTable → OrderTable → Type 0
-TakesUp keys one old new = (orders : List KeyOrder) → IsOrderTable keys orders old → IsOrderTable keys (orders ++ one ∷ []) new
+TakesUp keys one old new = (orders : List KeyOrder) → IsOrderTable keys orders old
+    → IsOrderTable keys (orders ++ one ∷ []) new

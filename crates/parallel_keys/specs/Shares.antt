@@ -20,8 +20,10 @@ orders_of share = map (λ o. o.now) share.orders.now
 
 -- the verdicts are those of the share's worker
 abbrev pub AreOfShare : Share → List Verdict → Type 0
-AreOfShare share verdicts = AreTurns (parts_of share) (orders_of share) share.worker share.workers verdicts
+AreOfShare share verdicts =
+    AreTurns (parts_of share) (orders_of share) share.worker share.workers verdicts
 
 -- the lists are those of the workers up to the share's
 abbrev pub AreUpToShare : Share → List (List Verdict) → Type 0
-AreUpToShare share lists = AreFirstLists (parts_of share) (orders_of share) share.workers share.worker lists
+AreUpToShare share lists =
+    AreFirstLists (parts_of share) (orders_of share) share.workers share.worker lists

@@ -117,7 +117,7 @@ fn run_all<R: Threads + Wait, G: CheckGate + Sync>(
 ///
 /// Worker w of k takes the indexes w, w + k, w + 2k and so on. Each worker has a thread of its own, all
 /// at once; worker 0's is the caller's, so one worker starts no thread. The gate is called on the
-/// worker's thread before an index is checked. `Memory` comes only where a growth was refused, `Thread`
+/// worker's thread before an index is checked. `Memory` comes only where an allocation was refused, `Thread`
 /// only where a thread couldn't be started, and so never with one worker; the threads have ended then
 /// too.
 pub fn check_all<R: Threads + Wait, G: CheckGate + Sync>(

@@ -5,7 +5,7 @@ ghost use Rattle.parallel_keys.specs.CheckedKeys.{other_key, recorded_key};
 ghost use Rattle.parallel_keys.specs.KeysToCheck.{AreNumbered, IsOrderTable, TakesUp};
 ghost use Rattle.parallel_keys.specs.KeysToCheck.{entry_of, what_of};
 
-use key_numbers::KeyNumbers;
+use key_index::KeyNumbers;
 use recorder::{KeyOrder, Part, Parts};
 use std::alloc::Global;
 use tag::{Key, Memory, OpId};

@@ -2,13 +2,13 @@
 ghost use Rattle.std.specs.Prelude.{◌↔◌, IsTrue, IfOk};
 ghost use Rattle.parallel_keys.specs.CheckedKeys.{AreDistinct};
 
-use key_numbers::KeyNumbers;
+use key_index::KeyNumbers;
 use recorder::KeyOrder;
 use std::alloc::Global;
 use tag::Memory;
 
 /// Whether no two of the orders are of one key, as `check_history` and `check_histories` ask. `Memory`
-/// comes only where a growth was refused.
+/// comes only where an allocation was refused.
 pub fn are_distinct(alloc: Global, orders: &[KeyOrder]) -> Result<bool, Memory>
     ensures { IfOk result (λ distinct. IsTrue distinct ↔ AreDistinct orders.now) }
 {

@@ -10,7 +10,7 @@ use thiserror::Error;
 /// Why the orders of keys weren't checked.
 #[derive(Clone, Copy, Debug, PartialEq, Eq, Error)]
 pub enum CheckError {
-    /// A growth was refused.
+    /// An allocation was refused.
     #[error("no memory")]
     Memory,
     /// A thread couldn't be started.

@@ -20,8 +20,12 @@ row_of quorums = record {
   put = quorums.put;
 }
 
-pub same_votes : (q : Inside) → IsStored q → row_of (record { votes = take q.replicas q.votes; ask = q.ask; put = q.put }) ≡ q
+pub same_votes : (q : Inside) → IsStored q
+    → row_of (record { votes = take q.replicas q.votes; ask = q.ask; put = q.put }) ≡ q
 same_votes q h =
-    let count : length (take q.replicas q.votes) ≡ q.replicas = length-take-le q.replicas q.votes h.fits in
-    let votes : take q.replicas q.votes ++ replicate (15 - length (take q.replicas q.votes)) 0 ≡ q.votes = ap (λ k. take q.replicas q.votes ++ replicate (15 - k) 0) count ∙ sym h.padded in
+    let count : length (take q.replicas q.votes) ≡ q.replicas =
+    length-take-le q.replicas q.votes h.fits in
+    let votes : take q.replicas q.votes ++ replicate (15 - length (take q.replicas q.votes)) 0
+    ≡ q.votes = ap (λ k. take q.replicas q.votes ++ replicate (15 - k) 0) count
+    ∙ sym h.padded in
     λ i. record { replicas = count i; votes = votes i; ask = q.ask; put = q.put }

@@ -1,5 +1,6 @@
 -- Quorums by votes (Gifford 1979).
-use Rattle.std.specs.Prelude.{ℕ, zero, suc, ◌+◌, ◌/◌, ◌<◌, ◌≤◌, Bool, if◌then◌else◌, nat_le, List, length, slice_index, replicate, sum, All, IsTrue}
+use Rattle.std.specs.Prelude.{ℕ, zero, suc, ◌+◌, ◌/◌, ◌<◌, ◌≤◌, Bool, if◌then◌else◌, nat_le, List}
+use Rattle.std.specs.Prelude.{length, slice_index, replicate, sum, All, IsTrue}
 use Rattle.std.specs.FinSet as finite
 use Rattle.quorum.specs.Sets.{Replicas}
 
@@ -12,13 +13,16 @@ pub record Quorums : Type 0 where
 -- what the members of a set below a number have in votes
 abbrev pub votes_below : List ℕ → ℕ → Replicas → ℕ
 votes_below votes zero set = 0
-votes_below votes (suc n) set = votes_below votes n set + (if finite.contains set n then slice_index votes n else 0)
+votes_below votes (suc n) set =
+    votes_below votes n set + (if finite.contains set n then slice_index votes n else 0)
 
--- the votes of a set: the sum of the votes of its members; a number that isn't below the count of replicas has none
+-- the votes of a set: the sum of the votes of its members; a number that isn't below the count of
+-- replicas has none
 abbrev pub votes_of : List ℕ → Replicas → ℕ
 votes_of votes set = votes_below votes (length votes) set
 
--- 1 to 15 replicas with 1 to 9 votes each; both quorums can be reached, and together they are more than all votes
+-- 1 to 15 replicas with 1 to 9 votes each; both quorums can be reached, and together they are more
+-- than all votes
 pub record IsLawful (quorums : Quorums) : Type 0 where
   pub some_replica : 1 ≤ length quorums.votes
   pub most_replicas : length quorums.votes ≤ 15

@@ -1,5 +1,6 @@
 //! Quorums by votes.
-ghost use Rattle.std.specs.Prelude.{◌≡◌, ◌+◌, ◌-◌, ◌/◌, ◌<◌, ◌≤◌, ◌↔◌, ◌++◌, length, replicate, sum, All, IsTrue, IsSome, IfSome};
+ghost use Rattle.std.specs.Prelude.{◌≡◌, ◌+◌, ◌-◌, ◌/◌, ◌<◌, ◌≤◌, ◌↔◌, ◌++◌, length, replicate};
+ghost use Rattle.std.specs.Prelude.{sum, All, IsTrue, IsSome, IfSome};
 ghost use Rattle.quorum.specs.Quorums.{IsLawful, IsAskQuorum, IsPutQuorum, majority_of, votes_of};
 
 use crate::ReplicaSet;

@@ -1,6 +1,7 @@
 //! A source of random steps.
 ghost use Rattle.std.specs.Prelude.{◌≡◌, ◌++◌, IfOk, codes, decimal};
-ghost use Rattle.random_steps.specs.Choices.{action_of, client_at, draw, flight_at, generator_of, key_of, kind_of, replica_at, step_of};
+ghost use Rattle.random_steps.specs.Choices.{action_of, client_at, draw, flight_at, generator_of};
+ghost use Rattle.random_steps.specs.Choices.{key_of, kind_of, replica_at, step_of};
 
 use itoa::Buffer;
 use rand_core::utils::NextWord;
@@ -105,7 +106,7 @@ fn key_of(alloc: Global, word: u32) -> Result<Key, Memory>
     }
 }
 
-/// The word's digits behind an r.
+/// The word's digits after an r.
 fn value_of(alloc: Global, word: u32) -> Result<Value, Memory>
     ensures { IfOk result (λ value. value ≡ codes "r" ++ decimal word) }
 {

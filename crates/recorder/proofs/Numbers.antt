@@ -69,7 +69,7 @@ module _ (rows : List Row) (formed : IsWellFormed rows) where
       let rows_same : Invoke op c k x ≡ Invoke op d l y = cc (i.1, j.1, ap (slice_get rows) same) in
       cc
 
-  -- a call has a note and a response only behind its invocation
+  -- a call has a note and a response only after its invocation
   pub begun_before : (place : ℕ) (op : OpId) (returned : Returned) → slice_get rows place ≡ Some (Respond op returned) → (i : ℕ) (c : ℕ) (k : List ℕ) (x : Action) → slice_get rows i ≡ Some (Invoke op c k x) → i < place
   begun_before place op returned at i c k x begun =
       let p = formed place (Respond op returned) at in

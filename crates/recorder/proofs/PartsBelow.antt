@@ -7,8 +7,8 @@ use Rattle.std.proofs.lemmas.List.Elements.{Contains-append_left, Contains-push}
 use Rattle.recorder.specs.declared.row.Row.{Row}
 use Rattle.recorder.specs.declared.row.Row.TheVariants.{Invoke}
 use Rattle.recorder.specs.declared.part.Call.{Call}
-use Rattle.key_numbers.specs.Numbers.{Numbers}
-use Rattle.key_numbers.specs.Numbers.Numbers.{known, first}
+use Rattle.key_index.specs.Numbers.{Numbers}
+use Rattle.key_index.specs.Numbers.Numbers.{known, first}
 use Rattle.recorder.specs.Records.{IsRecorded, BeginsAt, IsFirstSeen, AreParts}
 use Rattle.recorder.specs.Adding.{AddsCall, Extends, Begins}
 use Rattle.recorder.specs.Lists.{place_of, push_cases, slice_get-set, Contains-slice_get}

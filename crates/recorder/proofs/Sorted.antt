@@ -22,7 +22,7 @@ head_once X At x xs o h =
     let less = o.rises 0 (suc k.0) x x m.0 m.0 (omega arith) refl k.1 m.1 m.1 in
     omega (arith, less)
 
--- where the other list's head stands: first, or behind the own head
+-- where the other list's head stands: first, or after the own head
 module _ (X : Type 0) (At : X → ℕ → Type 0) (x y : X) (xs ys : List X) (p : IsInOrder X At (x ∷ xs)) (q : IsInOrder X At (y ∷ ys)) where
   heads : (i j : ℕ) → slice_get (y ∷ ys) i ≡ Some x → slice_get (x ∷ xs) j ≡ Some y → x ≡ y
   heads zero j at_x at_y = cc

@@ -1,5 +1,6 @@
 -- How the parts of a history grow by a call.
-use Rattle.std.specs.Prelude.{ℕ, ◌≡◌, ◌⊎◌, List, [], ◌∷◌, ◌++◌, Some, slice_get, slice_set, Contains}
+use Rattle.std.specs.Prelude.{ℕ, ◌≡◌, ◌⊎◌, List, [], ◌∷◌, ◌++◌, Some, slice_get, slice_set}
+use Rattle.std.specs.Prelude.{Contains}
 use Rattle.tag.specs.declared.actions.Action.{Action}
 use Rattle.tag.specs.declared.numbers.OpId.{OpId}
 use Rattle.recorder.specs.declared.row.Row.{Row}
@@ -7,14 +8,16 @@ use Rattle.recorder.specs.declared.row.Row.TheVariants.{Invoke}
 use Rattle.recorder.specs.declared.part.Call.{Call}
 
 -- the call comes to the end of its key's part
-pub record Extends (old : List (List ℕ × List Call)) (key : List ℕ) (call : Call) (new : List (List ℕ × List Call)) : Type 0 where
+pub record Extends (old : List (List ℕ × List Call)) (key : List ℕ) (call : Call)
+    (new : List (List ℕ × List Call)) : Type 0 where
   pub slot : ℕ
   pub part : List Call
   pub had : slice_get old slot ≡ Some (key, part)
   pub has : new ≡ slice_set old slot (key, part ++ call ∷ [])
 
--- the key has no part, and its first comes behind all others
-pub record Begins (old : List (List ℕ × List Call)) (key : List ℕ) (call : Call) (new : List (List ℕ × List Call)) : Type 0 where
+-- the key has no part, and its first comes after all others
+pub record Begins (old : List (List ℕ × List Call)) (key : List ℕ) (call : Call) (new : List (List ℕ
+    × List Call)) : Type 0 where
   pub absent : (part : List Call) → Contains old (key, part) → ⊥
   pub has : new ≡ old ++ (key, call ∷ []) ∷ []
 
@@ -24,4 +27,5 @@ AddsCall old key call new = Extends old key call new ⊎ Begins old key call new
 
 -- the row at that place begins the call, on some key
 abbrev pub IsBegunAt : List Row → ℕ → OpId → ℕ → Action → Type 0
-IsBegunAt rows place op client action = (key : List ℕ) × (slice_get rows place ≡ Some (Invoke op client key action))
+IsBegunAt rows place op client action =
+    (key : List ℕ) × (slice_get rows place ≡ Some (Invoke op client key action))

@@ -12,7 +12,8 @@ module _ {X : Type 0} (same : X → X → Bool) (is : IsPartialEquivalence same)
   symm (Some x) None = refl
   symm (Some x) (Some y) = is.symm x y
 
-  trans : (p q r : Option X) → option_eq same p q ≡ true → option_eq same q r ≡ true → option_eq same p r ≡ true
+  trans : (p q r : Option X) → option_eq same p q ≡ true → option_eq same q r ≡ true
+      → option_eq same p r ≡ true
   trans None None r a b = b
   trans None (Some y) r a b = absurd (false≢true a)
   trans (Some x) None r a b = absurd (false≢true a)

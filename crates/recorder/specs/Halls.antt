@@ -1,5 +1,6 @@
 -- A row of halls: histories side by side, each of the keys that fall to it.
-use Rattle.std.specs.Prelude.{ℕ, ◌≡◌, ◌≤◌, ◌%◌, List, length, sum, sum_by, All, slice_get, Option, Some, None}
+use Rattle.std.specs.Prelude.{ℕ, ◌≡◌, ◌≤◌, ◌%◌, List, length, sum, sum_by, All, slice_get, Option}
+use Rattle.std.specs.Prelude.{Some, None}
 use Rattle.quorum.specs.Quorums.{Quorums}
 use Rattle.recorder.specs.declared.row.Row.{Row}
 use Rattle.recorder.specs.declared.row.Row.TheVariants.{Invoke, Note, Respond}
@@ -26,18 +27,21 @@ IsHallOf halls hall rows = All (FallsTo halls hall) rows
 
 -- every history's calls are on keys of its hall
 abbrev pub AreOfTheirHalls : ℕ → List Recorded → Type 0
-AreOfTheirHalls halls histories = (k : ℕ) (history : Recorded) → slice_get histories k ≡ Some history → IsHallOf halls k history.rows
+AreOfTheirHalls halls histories = (k : ℕ) (history : Recorded) → slice_get histories k
+    ≡ Some history → IsHallOf halls k history.rows
 
 -- how many calls the histories have together
 abbrev pub hall_calls : List Recorded → ℕ
 hall_calls histories = sum_by (λ history. call_count history.rows) histories
 
--- what contracts see of histories by hall: hall 0 first; and the quorums of the store that they are of, if they are known
+-- what contracts see of histories by hall: hall 0 first; and the quorums of the store that they are
+-- of, if they are known
 pub record RecordedHalls : Type 0 where
   pub halls : List Recorded
   pub quorums : Option Quorums
 
--- 1 to 64 halls of at most 1,000,000 calls together, each key in its hall; without quorums there is one hall
+-- 1 to 64 halls of at most 1,000,000 calls together, each key in its hall; without quorums there is
+-- one hall
 pub record AreHalls (histories : RecordedHalls) : Type 0 where
   pub count : IsCount (length histories.halls)
   pub calls : hall_calls histories.halls ≤ 1000000

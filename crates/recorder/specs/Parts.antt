@@ -16,8 +16,11 @@ abbrev pub Precedes : Call → Call → Type 0
 Precedes a b = (response : Response) × (a.response ≡ Some response) × (response.place < b.invoked)
 
 -- what every part is: calls in the order of their invocations, which is that of their numbers,
--- each with its response, if any, behind its invocation
+-- each with its response, if any, after its invocation
 pub record IsSequence (calls : List Call) : Type 0 where
-  pub numbers : (i j : ℕ) (a b : Call) → i < j → slice_get calls i ≡ Some a → slice_get calls j ≡ Some b → a.op.0 < b.op.0
-  pub places : (i j : ℕ) (a b : Call) → i < j → slice_get calls i ≡ Some a → slice_get calls j ≡ Some b → a.invoked < b.invoked
-  pub responses : (call : Call) (response : Response) → Contains calls call → call.response ≡ Some response → call.invoked < response.place
+  pub numbers : (i j : ℕ) (a b : Call) → i < j → slice_get calls i ≡ Some a → slice_get calls j
+      ≡ Some b → a.op.0 < b.op.0
+  pub places : (i j : ℕ) (a b : Call) → i < j → slice_get calls i ≡ Some a → slice_get calls j
+      ≡ Some b → a.invoked < b.invoked
+  pub responses : (call : Call) (response : Response) → Contains calls call → call.response
+      ≡ Some response → call.invoked < response.place

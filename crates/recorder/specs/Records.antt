@@ -12,17 +12,23 @@ use Rattle.recorder.specs.declared.part.Call.{Call}
 pub record IsRecorded (rows : List Row) (key : List ℕ) (call : Call) : Type 0 where
   pub begun : slice_get rows call.invoked ≡ Some (Invoke call.op call.client key call.action)
   pub noted : (tag : Tag) → (call.note ≡ Some tag) ↔ Contains rows (Note call.op tag)
-  pub answered : (place : ℕ) (returned : Returned) → (call.response ≡ Some (record { place = place; returned = returned })) ↔ (slice_get rows place ≡ Some (Respond call.op returned))
+  pub answered : (place : ℕ) (returned : Returned)
+      → (call.response ≡ Some (record { place = place; returned = returned }))
+      ↔ (slice_get rows place ≡ Some (Respond call.op returned))
 
 -- the part of a key: the calls on it, each as it is recorded, in the order of their invocations
 pub record IsPart (rows : List Row) (key : List ℕ) (part : List Call) : Type 0 where
   pub each : (call : Call) → Contains part call → IsRecorded rows key call
-  pub all : (place : ℕ) (op : OpId) (client : ℕ) (action : Action) → slice_get rows place ≡ Some (Invoke op client key action) → (call : Call) × Contains part call × (call.invoked ≡ place)
-  pub ordered : (i j : ℕ) (a b : Call) → i < j → slice_get part i ≡ Some a → slice_get part j ≡ Some b → a.invoked < b.invoked
+  pub all : (place : ℕ) (op : OpId) (client : ℕ) (action : Action) → slice_get rows place
+      ≡ Some (Invoke op client key action) → (call : Call) × Contains part call
+      × (call.invoked ≡ place)
+  pub ordered : (i j : ℕ) (a b : Call) → i < j → slice_get part i ≡ Some a → slice_get part j
+      ≡ Some b → a.invoked < b.invoked
 
 -- a call on the key is begun at that place
 abbrev pub BeginsAt : List Row → List ℕ → ℕ → Type 0
-BeginsAt rows key place = (op : OpId) × (client : ℕ) × (action : Action) × (slice_get rows place ≡ Some (Invoke op client key action))
+BeginsAt rows key place = (op : OpId) × (client : ℕ) × (action : Action)
+    × (slice_get rows place ≡ Some (Invoke op client key action))
 
 -- the first call on the key is begun at that place
 pub record IsFirstSeen (rows : List Row) (key : List ℕ) (place : ℕ) : Type 0 where
@@ -33,9 +39,13 @@ pub record IsFirstSeen (rows : List Row) (key : List ℕ) (place : ℕ) : Type 0
 -- the keys are first seen
 pub record AreParts (rows : List Row) (parts : List (List ℕ × List Call)) : Type 0 where
   pub each : (key : List ℕ) (part : List Call) → Contains parts (key, part) → IsPart rows key part
-  pub all : (key : List ℕ) (place : ℕ) → BeginsAt rows key place → (part : List Call) × Contains parts (key, part)
-  pub seen : (key : List ℕ) (part : List Call) → Contains parts (key, part) → (place : ℕ) × IsFirstSeen rows key place
-  pub ordered : (i j : ℕ) (k l : List ℕ) (p q : List Call) (m n : ℕ) → i < j → slice_get parts i ≡ Some (k, p) → slice_get parts j ≡ Some (l, q) → IsFirstSeen rows k m → IsFirstSeen rows l n → m < n
+  pub all : (key : List ℕ) (place : ℕ) → BeginsAt rows key place → (part : List Call)
+      × Contains parts (key, part)
+  pub seen : (key : List ℕ) (part : List Call) → Contains parts (key, part) → (place : ℕ)
+      × IsFirstSeen rows key place
+  pub ordered : (i j : ℕ) (k l : List ℕ) (p q : List Call) (m n : ℕ) → i < j → slice_get parts i
+      ≡ Some (k, p) → slice_get parts j ≡ Some (l, q) → IsFirstSeen rows k m → IsFirstSeen rows l n
+      → m < n
 
 -- what contracts see of parts by key: each key with its part
 pub record KeyedParts : Type 0 where

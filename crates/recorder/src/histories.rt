@@ -39,9 +39,11 @@ impl Model for Histories {
 }
 
 impl PartialEq for Histories {
-    ghost eq = { eq_of_both (on (λ h. h.quorums) ⟦<Option<Quorums> as PartialEq>⟧.eq) (on (λ h. h.halls) (pointwise ⟦<History as PartialEq>⟧.eq)) };
+    ghost eq = { eq_of_both (on (λ h. h.quorums) ⟦<Option<Quorums> as PartialEq>⟧.eq)
+        (on (λ h. h.halls) (pointwise ⟦<History as PartialEq>⟧.eq)) };
 
-    ghost laws = { and_per (on_per (λ h. h.quorums) (option_per ⟦<Quorums as PartialEq>⟧.eq quorums.laws-law)) (on_per (λ h. h.halls) (lists_per history.laws-law)) };
+    ghost laws = { and_per (on_per (λ h. h.quorums) (option_per ⟦<Quorums as PartialEq>⟧.eq
+        quorums.laws-law)) (on_per (λ h. h.halls) (lists_per history.laws-law)) };
 
     fn eq(&self, other: &Histories) -> bool {
         self.quorums == other.quorums && self.halls == other.halls

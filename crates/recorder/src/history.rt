@@ -1,5 +1,7 @@
 //! Histories: rows of calls as they come.
-ghost use Rattle.std.specs.Prelude.{ℕ, ◌≡◌, ◌≤◌, ◌<◌, List, [], IfOk, IfErr, OnOk, OnErr, IfSome, IfNone, IsSome, Some, None, slice_get, true, false, IsTrue, ◌↔◌, length, vec_len, vec_capacity};
+ghost use Rattle.std.specs.Prelude.{ℕ, ◌≡◌, ◌≤◌, ◌<◌, List, [], IfOk, IfErr, OnOk, OnErr, IfSome};
+ghost use Rattle.std.specs.Prelude.{IfNone, IsSome, Some, None, slice_get, true, false, IsTrue};
+ghost use Rattle.std.specs.Prelude.{◌↔◌, length, vec_len, vec_capacity};
 ghost use Rattle.tag.specs.Names.{is_key};
 ghost use Rattle.recorder.specs.declared.history.CallState.{CallState};
 ghost use Rattle.recorder.specs.Histories.{IsBusy, IsWellFormed, call_count, caller_of};
@@ -11,7 +13,7 @@ mod parts;
 
 use crate::clients::ClientSet;
 use crate::row::{Row, RowRefusal};
-use key_numbers::KeyNumbers;
+use key_index::KeyNumbers;
 use std::alloc::Global;
 use std::marker::Model;
 use tag::{Action, ClientId, Key, Memory, OpId, Returned, Tag};
@@ -99,7 +101,7 @@ impl History {
         self.limit
     }
 
-    /// An equal history: the same rows and the same limit. `Memory` comes only where a growth was
+    /// An equal history: the same rows and the same limit. `Memory` comes only where an allocation was
     /// refused.
     pub fn copy(&self) -> Result<History, Memory>
         ensures { IfOk result (λ history. history ≡ self.now) }
@@ -135,7 +137,7 @@ impl History {
 
     /// Begins a call, and answers its number. `OpsFull` comes where the history has all the calls
     /// that it may have, else `ClientBusy` where the client has a pending call, else `Memory` only
-    /// where a growth was refused; each leaves the history as it was.
+    /// where an allocation was refused; each leaves the history as it was.
     pub fn invoke(&mut self, client: ClientId, key: Key, action: Action) -> Result<OpId, RowRefusal>
         ensures row { Adds self.old (Row.Invoke
             (record { 0 = call_count self.old.rows }) client key action) result self.new }
@@ -222,7 +224,7 @@ impl History {
     }
 
     /// Fixes a pending call's tag. `NotPending` comes where the call isn't pending, else
-    /// `NoteTwice` where it has a note, else `Memory` only where a growth was refused; each leaves
+    /// `NoteTwice` where it has a note, else `Memory` only where an allocation was refused; each leaves
     /// the history as it was.
     pub fn note(&mut self, op: OpId, tag: Tag) -> Result<(), RowRefusal>
         ensures { Adds self.old (Row.Note op tag) result self.new }
@@ -239,7 +241,7 @@ impl History {
     }
 
     /// Answers a pending call. `NotPending` comes where the call isn't pending, else `WrongKind`
-    /// where the answer isn't of the call's kind, else `Memory` only where a growth was refused;
+    /// where the answer isn't of the call's kind, else `Memory` only where an allocation was refused;
     /// each leaves the history as it was.
     pub fn respond(&mut self, op: OpId, returned: Returned) -> Result<(), RowRefusal>
         ensures { Adds self.old (Row.Respond op returned) result self.new }

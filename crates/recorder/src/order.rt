@@ -53,7 +53,7 @@ impl Order {
         self.ops.as_slice()
     }
 
-    /// Adds a call behind all others. On `Memory` the call is left out and the order unchanged.
+    /// Adds a call after all others. On `Memory` the call is left out and the order unchanged.
     pub fn push(&mut self, op: OpId) -> Result<(), Memory>
         ensures ok { OnOk result (self.new ≡ self.old ++ op ∷ []) }
         ensures err { OnErr result (self.new ≡ self.old) }

@@ -26,7 +26,7 @@ pub struct Call {
 
 /// The calls on one key, in the order of their invocations.
 ///
-/// Their numbers and the places of their invocations rise, and each response stands behind its
+/// Their numbers and the places of their invocations rise, and each response stands after its
 /// invocation. Only a history makes parts that hold calls.
 #[derive(Debug, Drop)]
 pub struct Part {
@@ -74,7 +74,7 @@ impl Part {
         self.calls.as_slice()
     }
 
-    /// Adds a call that comes behind all others.
+    /// Adds a call that comes after all others.
     pub(crate) fn push(&mut self, call: Call) -> Result<(), AllocFailed<Call>>
         requires { IsSequence (self.old ++ call ∷ []) }
         ensures ok { OnOk result (self.new ≡ self.old ++ call ∷ []) }

@@ -3,7 +3,7 @@ ghost use Rattle.std.specs.Prelude.{◌≡◌, List, map, IfSome, IfNone, Contai
 ghost use Rattle.recorder.specs.declared.part.Call.{Call};
 
 use crate::part::Part;
-use key_numbers::KeyNumbers;
+use key_index::KeyNumbers;
 use std::marker::Model;
 use tag::Key;
 

@@ -19,26 +19,37 @@ equal Equal e = refl
 equal Greater e = absurd (false≢true e)
 
 -- ---- the pair of a key after an insertion
-pub pair_of-insert : (pairs : Pairs) (key : List ℕ) (pair : Pair) (q : List ℕ) → pair_of (finite.insert pairs key pair) q ≡ cond (eq_by_cmp (slice_cmp nat_cmp) q key) pair (pair_of pairs q)
+pub pair_of-insert : (pairs : Pairs) (key : List ℕ) (pair : Pair) (q : List ℕ)
+    → pair_of (finite.insert pairs key pair) q
+    ≡ cond (eq_by_cmp (slice_cmp nat_cmp) q key) pair (pair_of pairs q)
 pair_of-insert pairs key pair q =
     ap (λ o. unwrap_or o no_pair) (finite.get-insert nat_list_cmp_total pairs key pair q)
-    ∙ elim (eq_by_cmp (slice_cmp nat_cmp) q key) as (λ b. unwrap_or (cond b (Some pair) (finite.get pairs q)) no_pair ≡ cond b pair (pair_of pairs q)) [ true ↦ refl | false ↦ refl ]
+    ∙ elim (eq_by_cmp (slice_cmp nat_cmp) q key) as
+    (λ b. unwrap_or (cond b (Some pair) (finite.get pairs q)) no_pair
+    ≡ cond b pair (pair_of pairs q)) [ true ↦ refl | false ↦ refl ]
 
-pub pair_of-insert_same : (pairs : Pairs) (key : List ℕ) (pair : Pair) → pair_of (finite.insert pairs key pair) key ≡ pair
-pair_of-insert_same pairs key pair = pair_of-insert pairs key pair key ∙ ap (λ o. cond (is_eq o) pair (pair_of pairs key)) (tied_itself nat_list_cmp_total key)
+pub pair_of-insert_same : (pairs : Pairs) (key : List ℕ) (pair : Pair)
+    → pair_of (finite.insert pairs key pair) key ≡ pair
+pair_of-insert_same pairs key pair = pair_of-insert pairs key pair key
+    ∙ ap (λ o. cond (is_eq o) pair (pair_of pairs key)) (tied_itself nat_list_cmp_total key)
 
 pub same_key : (q key : List ℕ) → eq_by_cmp (slice_cmp nat_cmp) q key ≡ true → q ≡ key
 same_key q key e = slice_cmp-IsAntisymmetric nat_cmp-IsAntisymmetric q key (equal _ e)
 
-other_key : (q key : List ℕ) (b : Bool) → eq_by_cmp (slice_cmp nat_cmp) q key ≡ b → q ≢ key → b ≡ false
+other_key : (q key : List ℕ) (b : Bool) → eq_by_cmp (slice_cmp nat_cmp) q key ≡ b → q ≢ key → b
+    ≡ false
 other_key q key true e apart = absurd (apart (same_key q key e))
 other_key q key false e apart = refl
 
-pub pair_of-insert_other : (pairs : Pairs) (key : List ℕ) (pair : Pair) (q : List ℕ) → q ≢ key → pair_of (finite.insert pairs key pair) q ≡ pair_of pairs q
-pair_of-insert_other pairs key pair q apart = pair_of-insert pairs key pair q ∙ ap (λ b. cond b pair (pair_of pairs q)) (other_key q key _ refl apart)
+pub pair_of-insert_other : (pairs : Pairs) (key : List ℕ) (pair : Pair) (q : List ℕ) → q ≢ key
+    → pair_of (finite.insert pairs key pair) q ≡ pair_of pairs q
+pair_of-insert_other pairs key pair q apart = pair_of-insert pairs key pair q
+    ∙ ap (λ b. cond b pair (pair_of pairs q)) (other_key q key _ refl apart)
 
 -- ---- the pair of a key after a put
-pub pair_of-adopt_other : (pairs : Pairs) (key q : List ℕ) (pair : Pair) → q ≢ key → pair_of (adopt pairs key pair) q ≡ pair_of pairs q
+pub pair_of-adopt_other : (pairs : Pairs) (key q : List ℕ) (pair : Pair) → q ≢ key
+    → pair_of (adopt pairs key pair) q ≡ pair_of pairs q
 pair_of-adopt_other pairs key q pair apart =
-    elim (is_lt (tag_cmp (pair_of pairs key).tag pair.tag)) as (λ b. pair_of (cond b (finite.insert pairs key pair) pairs) q ≡ pair_of pairs q)
+    elim (is_lt (tag_cmp (pair_of pairs key).tag pair.tag)) as
+    (λ b. pair_of (cond b (finite.insert pairs key pair) pairs) q ≡ pair_of pairs q)
     [ true ↦ pair_of-insert_other pairs key pair q apart | false ↦ refl ]

@@ -1,4 +1,5 @@
--- What a replica keeps for each key (Attiya, Bar-Noy and Dolev 1995, with the tags of Lynch and Shvartsman 1997).
+-- What a replica keeps for each key (Attiya, Bar-Noy and Dolev 1995, with the tags of Lynch and
+-- Shvartsman 1997).
 use Rattle.std.specs.Prelude.{ℕ, List, None, unwrap_or, if◌then◌else◌}
 use Rattle.std.specs.Ordering.{nat_cmp, is_lt}
 use Rattle.std.specs.Cmp.Lexicographic.{slice_cmp}
@@ -19,6 +20,8 @@ Pairs = finite.FinMap (slice_cmp nat_cmp) Pair
 abbrev pub pair_of : Pairs → List ℕ → Pair
 pair_of pairs key = unwrap_or (finite.get pairs key) no_pair
 
--- a pair is adopted for a key where its tag is above that of the key's own pair; otherwise nothing changes
+-- a pair is adopted for a key where its tag is above that of the key's own pair; otherwise nothing
+-- changes
 abbrev pub adopt : Pairs → List ℕ → Pair → Pairs
-adopt pairs key pair = if is_lt (tag_cmp (pair_of pairs key).tag pair.tag) then finite.insert pairs key pair else pairs
+adopt pairs key pair =
+    if is_lt (tag_cmp (pair_of pairs key).tag pair.tag) then finite.insert pairs key pair else pairs

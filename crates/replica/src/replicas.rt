@@ -44,9 +44,14 @@ impl Model for Replica {
 }
 
 impl PartialEq for Replica {
-    ghost eq = { eq_of_both (on (λ r. r.number) ◌==◌) (on (λ r. finite.entries r.pairs) (pointwise (eq_of_both (on (λ p. p.0) ⟦<Key as PartialEq>⟧.eq) (on (λ p. p.1) ⟦<Pair as PartialEq>⟧.eq)))) };
+    ghost eq = { eq_of_both (on (λ r. r.number) ◌==◌)
+        (on (λ r. finite.entries r.pairs)
+        (pointwise (eq_of_both (on (λ p. p.0) ⟦<Key as PartialEq>⟧.eq)
+        (on (λ p. p.1) ⟦<Pair as PartialEq>⟧.eq)))) };
 
-    ghost laws = { and_per (on_per (λ r. r.number) (partial_equiv_from_equiv nat_eq_equiv)) (on_per (λ r. finite.entries r.pairs) (lists_per (and_per (on_per (λ p. p.0) key.laws-law) (on_per (λ p. p.1) pair.laws-law)))) };
+    ghost laws = { and_per (on_per (λ r. r.number) (partial_equiv_from_equiv nat_eq_equiv)) (on_per
+        (λ r. finite.entries r.pairs) (lists_per
+        (and_per (on_per (λ p. p.0) key.laws-law) (on_per (λ p. p.1) pair.laws-law)))) };
 
     fn eq(&self, other: &Replica) -> bool {
         if self.number != other.number || self.pairs.len() != other.pairs.len() {

@@ -1,4 +1,5 @@
--- Tags (Lynch and Shvartsman 1997): a number and the name of a writer, ordered by number, then by writer.
+-- Tags (Lynch and Shvartsman 1997): a number and the name of a writer, ordered by number, then by
+-- writer.
 use Rattle.std.specs.Prelude.{ℕ, ◌≡◌, ◌<◌, ◌+◌, ◌⊎◌}
 use Rattle.std.specs.Ordering.{nat_cmp, on, then_cmp}
 use Rattle.std.specs.declared.cmp.Ordering.{Ordering}

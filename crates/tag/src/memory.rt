@@ -2,7 +2,7 @@
 use std::alloc::{AllocError, AllocFailed};
 use thiserror::Error;
 
-/// A growth was refused: the allocator had no room. Nothing else is ever answered by it.
+/// An allocation was refused: the allocator had no room. Nothing else is ever answered by it.
 #[derive(Clone, Copy, Debug, PartialEq, Eq, Error)]
 #[error("no memory")]
 pub struct Memory;

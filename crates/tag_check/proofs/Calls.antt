@@ -40,7 +40,7 @@ lower_index part sequence i j a b at_i at_j less =
       ]
     ]
 
--- a call with the property, behind none that has it, is the least
+-- a call with the property, after none that has it, is the least
 pub first_here : (part : List Call) → IsSequence part → (P : Call → Type 0) (i : ℕ) (call : Call) → slice_get part i ≡ Some call → P call → NoneBelow part P i → IsLeastCall part P call.op
 first_here part sequence P i call at has none = record {
   call = call;

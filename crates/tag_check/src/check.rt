@@ -13,7 +13,7 @@ use tag::Memory;
 /// it; `None` exactly where the tags are sound.
 ///
 /// It takes time in proportion to the calls and the logarithm of their count, and answers `Memory`
-/// only where a growth was refused.
+/// only where an allocation was refused.
 pub fn check_tags(alloc: Global, part: &Part) -> Result<Option<BrokenRule>, Memory>
     ensures verdict { IfOk result (λ broken. IsTagVerdict part.now broken) }
     ensures sound { IfOk result (λ broken. (broken ≡ None) ↔ TagSound part.now) }

@@ -1,9 +1,12 @@
 //! The notes of a part's calls, which are judged rule by rule.
-ghost use Rattle.std.specs.Prelude.{◌≡◌, ◌<◌, ◌≤◌, ◌↔◌, ℕ, IfOk, IsTrue, MatchResult, MatchOption, Some, slice_get, length};
+ghost use Rattle.std.specs.Prelude.{◌≡◌, ◌<◌, ◌≤◌, ◌↔◌, ℕ, IfOk, IsTrue, MatchResult, MatchOption};
+ghost use Rattle.std.specs.Prelude.{Some, slice_get, length};
 ghost use Rattle.recorder.specs.declared.part.Call.{Call};
 ghost use Rattle.recorder.specs.Parts.{IsSequence};
 ghost use Rattle.tag_check.specs.Least.{IsFirstCall, IsLeastPair, HasNone, HasNoPair};
-ghost use Rattle.tag_check.specs.Rules.{LacksNote, IsLeastWrite, ShareTag, IsNotAbove, AnswersNoWrite, AnswersRight, AllAnswerRight, AnswersOther, IsOtherValue, IsWriteOf, IsWriteWith};
+ghost use Rattle.tag_check.specs.Rules.{LacksNote, IsLeastWrite, ShareTag, IsNotAbove};
+ghost use Rattle.tag_check.specs.Rules.{AnswersNoWrite, AnswersRight, AllAnswerRight, AnswersOther};
+ghost use Rattle.tag_check.specs.Rules.{IsOtherValue, IsWriteOf, IsWriteWith};
 ghost use Rattle.tag_check.specs.Writes.{AreWrites};
 ghost use Rattle.tag_check.specs.Greatest.{AreAnswered};
 
@@ -88,7 +91,7 @@ impl<'a> Notes<'a> {
         None
     }
 
-    /// The noted writes by tag, or the first write whose tag an earlier one has, behind that one.
+    /// The noted writes by tag, or the first write whose tag an earlier one has, after that one.
     fn writes(&self, alloc: Global) -> Result<Result<Writes, (OpId, OpId)>, Memory>
         ensures { IfOk result
             (λ answer. MatchResult answer
@@ -134,7 +137,7 @@ impl<'a> Notes<'a> {
         Ok(tags)
     }
 
-    /// The first call that may not follow one that was answered before it began, behind the first
+    /// The first call that may not follow one that was answered before it began, after the first
     /// such earlier call.
     fn first_not_above(&self, alloc: Global) -> Result<Option<(OpId, OpId)>, Memory>
         ensures { IfOk result

@@ -93,7 +93,7 @@ first_of a b = by (key_cmp a b) refl
 pub first_first : (a b c : SortKey) → IsFirst a b → IsFirst b c → IsFirst a c
 first_first a b c p q = record { less = key_cmp_total.trans a b c p.less q.less }
 
--- a key that isn't behind the other, and has another number, comes first
+-- a key that isn't after the other, and has another number, comes first
 pub first_from_test : (a b : SortKey) → is_lt (key_cmp b a) ≡ false → (a.op.0 ≡ b.op.0 → ⊥) → IsFirst a b
 first_from_test a b h other =
     elim (first_of a b) [

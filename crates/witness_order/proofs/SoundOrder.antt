@@ -52,7 +52,7 @@ module _ (part : List Call) (order : List OpId) (sequence : IsSequence part) (so
       let same : k.0 ≡ call = same_at part order sequence i k.0 call k.1 stands in
       settled_writes call (subst IsSettled same k.2) pending
 
-  -- a call that precedes another doesn't stand behind it
+  -- a call that precedes another doesn't stand after it
   precedence : (i j : ℕ) (a b : Call) → i < j → StandsAt part order i a → StandsAt part order j b → Precedes b a → ⊥
   precedence i j a b less at_a at_b before =
       let s = noted_at i a at_a in

@@ -8,7 +8,7 @@ AllZip-push_both R [] (b ∷ ys) x y h r = absurd h
 AllZip-push_both R (a ∷ xs) [] x y h r = absurd h
 AllZip-push_both R (a ∷ xs) (b ∷ ys) x y h r = (h.0, AllZip-push_both R xs ys x y h.1 r)
 
--- the first items, with the one behind them
+-- the first items, with the one after them
 take_push : {X : Type 0} (xs : List X) (i : ℕ) (x : X) → slice_get xs i ≡ Some x → take (suc i) xs ≡ take i xs ++ x ∷ []
 take_push [] i x e = absurd cc
 take_push (y ∷ ys) zero x e = let same : y ≡ x = cc in ap (λ z. z ∷ []) same

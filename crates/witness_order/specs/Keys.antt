@@ -13,7 +13,8 @@ use Rattle.witness_order.specs.declared.sort_key.SortKey.{SortKey}
 -- the key of a call of these parts
 abbrev pub key_from : OpId → Action → Option Tag → Option Response → Option SortKey
 key_from op action None response = None
-key_from op (Write value) (Some tag) response = Some (record { tag = tag; is_read = false; op = op })
+key_from op (Write value) (Some tag) response =
+    Some (record { tag = tag; is_read = false; op = op })
 key_from op Read (Some tag) (Some response) = Some (record { tag = tag; is_read = true; op = op })
 key_from op Read (Some tag) None = None
 
@@ -23,4 +24,5 @@ key_of call = key_from call.op call.action call.note call.response
 
 -- the order of keys: by tag, a write before a read, then by number
 abbrev pub key_cmp : SortKey → SortKey → Ordering
-key_cmp = then_cmp (on (λ k. k.tag) tag_cmp) (then_cmp (on (λ k. k.is_read) bool_cmp) (on (λ k. k.op.0) nat_cmp))
+key_cmp = then_cmp (on (λ k. k.tag) tag_cmp)
+    (then_cmp (on (λ k. k.is_read) bool_cmp) (on (λ k. k.op.0) nat_cmp))

@@ -14,8 +14,10 @@ HaveSoundTags rows = (key : List ℕ) (part : List Call) → IsPart rows key par
 
 -- for each part, in order, an order of it under its key
 abbrev pub AreOrdersOf : List (List ℕ × List Call) → List KeyOrder → Type 0
-AreOrdersOf parts orders = AllZip (λ part order. (order.key ≡ part.0) × IsOrder part.1 order.order) parts orders
+AreOrdersOf parts orders =
+    AllZip (λ part order. (order.key ≡ part.0) × IsOrder part.1 order.order) parts orders
 
 -- for each key of the rows, first seen first, an order of its calls
 abbrev pub Justify : List Row → List KeyOrder → Type 0
-Justify rows orders = (parts : List (List ℕ × List Call)) × AreParts rows parts × AreOrdersOf parts orders
+Justify rows orders =
+    (parts : List (List ℕ × List Call)) × AreParts rows parts × AreOrdersOf parts orders

@@ -38,7 +38,7 @@ fn key_orders(alloc: Global, parts: &[(Key, Part)]) -> Result<Vec<KeyOrder>, Mem
 }
 
 /// For each key of the record an order of its calls, the keys as the record first sees them, where the
-/// tags of each key's calls are sound. `Memory` comes only where a growth was refused.
+/// tags of each key's calls are sound. `Memory` comes only where an allocation was refused.
 pub fn justified_orders(alloc: Global, history: &History) -> Result<Vec<KeyOrder>, Memory>
     requires { HaveSoundTags history.now.rows }
     ensures { IfOk result (λ orders. Justify history.now.rows orders.items) }

@@ -16,7 +16,7 @@ use tag::OpId;
 /// pending writes, by tag, a write before a read of the same tag, then by place of invocation.
 ///
 /// `NoNote` comes exactly where a completed call has no note, and names the least such call;
-/// `Memory` only where each has one and a growth was refused.
+/// `Memory` only where each has one and an allocation was refused.
 pub fn order_of(alloc: Global, part: &Part) -> Result<Order, WitnessError>
     ensures order { IfOk result (λ order. IsByTag part.now order) }
     ensures no_note { (op : OpId) → (result ≡ Err (WitnessError.NoNote op))

@@ -58,7 +58,7 @@ same_asking s t same asking [] = refl
 same_asking s t same asking (r ∷ rs) =
     ap (λ p. asking_by t (asking_with asking r p) rs) (same r asking.call.key) ∙ same_asking s t same (asking_with asking r (pair_at s r asking.call.key)) rs
 
--- ---- what is left behind a round
+-- ---- what is left after a round
 abbrev Few : System → ℕ → ℕ → Type 0
 Few s name a = (steps : List Step) → Settles name s steps → length steps ≤ 3 * a + 1
 

@@ -114,7 +114,7 @@ some_first : (xs ys : List Step) → xs ≢ [] → xs ++ ys ≢ []
 some_first [] ys some e = absurd (some refl)
 some_first (x ∷ xs) ys some e = absurd cc
 
--- behind a round to the first candidate these steps are left
+-- after a round to the first candidate these steps are left
 pub record Ahead (s : System) (name : ℕ) (rest : List Step) (replica : ℕ) : Type 0 where
   pub steps : List Step
   pub splits : rest ≡ round s name replica ++ steps
@@ -181,7 +181,7 @@ module _ (old : System) (name : ℕ) (current : System) (count : ℕ) (going : G
           few = omega (arith, few, long, split);
         }
 
-    -- a growth is refused in a round
+    -- an allocation is refused in a round
     pub going_stopped : (why : SettleError) (new : System) → MaySettle old name → TakesSome current (round current name replica) count why new → SettlesBy old name (Err why) new
     going_stopped why new may takes =
         let counted = going.counted in

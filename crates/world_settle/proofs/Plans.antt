@@ -94,7 +94,7 @@ module _ (s : System) (name : ℕ) (rules : Rules) (chosen : Chosen) (is : IsCli
     completes = answered;
   }
 
--- ---- a round, and the steps behind it
+-- ---- a round, and the steps after it
 joined : (s t : System) (name a b c d replica : ℕ) (others : List ℕ) → after_from s (round s name replica) ≡ t → AreAccepted s (round s name replica)
     → has_request (phase_at s name) ≡ true → candidates s (counted_at s name) ≡ replica ∷ others → pending_at t name ≡ pending_at s name → suc (c + d) ≤ a + b → Plan t name c d → Plan s name a b
 joined s t name a b c d replica others is first requests found same fewer plan =
@@ -139,7 +139,7 @@ abbrev Further : System → ℕ → ℕ → ℕ → Type 0
 Further s name a b = (t : System) → IsSound t → (c d : ℕ) → NeedsAt t name c d → suc (c + d) ≤ a + b → t.pool.sent + 2 * (c + d) ≤ t.pool.limit → Plan t name c d
 
 module _ (keeps : StepsKeepSound) (s : System) (sound : IsSound s) (name a b : ℕ) (room : s.pool.sent + 2 * (a + b) ≤ s.pool.limit) (further : Further s name a b) where
-  -- a round to a candidate, behind which the call needs fewer replicas
+  -- a round to a candidate, after which the call needs fewer replicas
   round_plan : (replica : ℕ) (others : List ℕ) (client : Client) (request : Request) (node : Node) (c d : ℕ) → MayRound s name replica client request node
       → candidates s (counted_by client) ≡ replica ∷ others
       → Needs (third_system s name replica client request node) (client_after client (reply_of node.replica request)).state c d → suc (c + d) ≤ a + b

@@ -15,17 +15,21 @@ use Rattle.world_settle.specs.Settling.{candidates}
 
 -- the pair that a replica has for a key
 abbrev pub pair_at : System → ℕ → List ℕ → Pair
-pair_at s replica key = option_map_or (λ (node : Node). pair_of node.replica.pairs key) (slice_get s.nodes replica) no_pair
+pair_at s replica key = option_map_or (λ (node : Node). pair_of node.replica.pairs key) (slice_get
+    s.nodes replica) no_pair
 
 -- the asking with the pairs of those replicas counted too
 abbrev pub asking_by : System → Asking → List ℕ → Asking
 asking_by s asking [] = asking
-asking_by s asking (replica ∷ replicas) = asking_by s (asking_with asking replica (pair_at s replica asking.call.key)) replicas
+asking_by s asking (replica ∷ replicas) =
+    asking_by s (asking_with asking replica (pair_at s replica asking.call.key)) replicas
 
--- so many replicas a short read still asks; with their replies all that it counts carries one tag and comes from a put quorum
+-- so many replicas a short read still asks; with their replies all that it counts carries one tag
+-- and comes from a put quorum
 pub record RepliesAgree (s : System) (name a : ℕ) : Type 0 where
   pub rules : Rules
   pub asking : Asking
   pub is : IsClient s name (record { rules = rules; state = Ask asking })
-  pub asks : IsLeastCount (IsAskQuorum s.config.quorums) asking.counted (candidates s asking.counted) a
+  pub asks : IsLeastCount (IsAskQuorum s.config.quorums) asking.counted
+      (candidates s asking.counted) a
   pub agreed : is_agreed rules (asking_by s asking (take a (candidates s asking.counted))) ≡ true

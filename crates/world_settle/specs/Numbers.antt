@@ -1,7 +1,8 @@
 -- The numbers and the names of the reasons why a call isn't completed, as programs print them.
 use Rattle.std.specs.Prelude.{ℕ, List, codes}
 use Rattle.world_settle.specs.declared.errors.SettleError.{SettleError}
-use Rattle.world_settle.specs.declared.errors.SettleError.TheVariants.{NoMajority, NotPending, Room, Memory}
+use Rattle.world_settle.specs.declared.errors.SettleError.TheVariants.{NoMajority, NotPending, Room}
+use Rattle.world_settle.specs.declared.errors.SettleError.TheVariants.{Memory}
 
 -- the number of a reason
 abbrev pub settle_error_number : SettleError → ℕ

@@ -1,5 +1,6 @@
 -- When a pending call can be completed.
-use Rattle.std.specs.Prelude.{ℕ, ◌≡◌, ◌+◌, ◌*◌, ◌<◌, ◌≤◌, max, List, Option, None, IsSome, take, option_and_then}
+use Rattle.std.specs.Prelude.{ℕ, ◌≡◌, ◌+◌, ◌*◌, ◌<◌, ◌≤◌, max, List, Option, None, IsSome, take}
+use Rattle.std.specs.Prelude.{option_and_then}
 use Rattle.std.specs.FinSet as finite
 use Rattle.std.specs.FinMap as map
 use Rattle.tag.specs.declared.numbers.OpId.{OpId}
@@ -23,14 +24,17 @@ replicas_up s = with_all finite.empty (candidates s finite.empty)
 
 -- the replicas that are up have together as many votes as the greater of the two quorums, or fewer
 abbrev pub HasMajority : System → Type 0
-HasMajority s = max s.config.quorums.ask s.config.quorums.put ≤ votes_of s.config.quorums.votes (replicas_up s)
+HasMajority s =
+    max s.config.quorums.ask s.config.quorums.put ≤ votes_of s.config.quorums.votes (replicas_up s)
 
 abbrev pub HasNoMajority : System → Type 0
-HasNoMajority s = votes_of s.config.quorums.votes (replicas_up s) < max s.config.quorums.ask s.config.quorums.put
+HasNoMajority s =
+    votes_of s.config.quorums.votes (replicas_up s) < max s.config.quorums.ask s.config.quorums.put
 
 -- ---- a pending call
 
--- the client's pending call; none where nobody of that name joined, or the client is idle or stopped
+-- the client's pending call; none where nobody of that name joined, or the client is idle or
+-- stopped
 abbrev pub pending_at : System → ℕ → Option OpId
 pending_at s name = option_and_then pending_of (map.get s.members.clients name)
 
@@ -43,7 +47,8 @@ IsNotPending s name = pending_at s name ≡ None
 -- ---- room
 
 -- the least number of candidates that make the set a quorum
-pub record IsLeastCount (IsQuorum : Replicas → Type 0) (set : Replicas) (candidates : List ℕ) (count : ℕ) : Type 0 where
+pub record IsLeastCount (IsQuorum : Replicas
+    → Type 0) (set : Replicas) (candidates : List ℕ) (count : ℕ) : Type 0 where
   pub enough : IsQuorum (with_all set (take count candidates))
   pub least : (fewer : ℕ) → fewer < count → IsQuorum (with_all set (take fewer candidates)) → ⊥
 
@@ -52,7 +57,8 @@ abbrev pub Needs : System → State → ℕ → ℕ → Type 0
 Needs s (Ask asking) a b =
     IsLeastCount (IsAskQuorum s.config.quorums) asking.counted (candidates s asking.counted) a
     × IsLeastCount (IsPutQuorum s.config.quorums) finite.empty (candidates s finite.empty) b
-Needs s (Put chosen counted) a b = (a ≡ 0) × IsLeastCount (IsPutQuorum s.config.quorums) counted (candidates s counted) b
+Needs s (Put chosen counted) a b =
+    (a ≡ 0) × IsLeastCount (IsPutQuorum s.config.quorums) counted (candidates s counted) b
 Needs s (Ready chosen) a b = (a ≡ 0) × (b ≡ 0)
 Needs s state a b = ⊥
 

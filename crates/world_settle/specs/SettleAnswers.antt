@@ -1,5 +1,6 @@
 -- What `settle` answers, and what it leaves.
-use Rattle.std.specs.Prelude.{ℕ, ◌≡◌, ◌≢◌, ◌+◌, ◌*◌, ◌/◌, ◌<◌, ◌≤◌, List, [], ◌∷◌, ◌++◌, Some, Result, Ok, Err, length}
+use Rattle.std.specs.Prelude.{ℕ, ◌≡◌, ◌≢◌, ◌+◌, ◌*◌, ◌/◌, ◌<◌, ◌≤◌, List, [], ◌∷◌, ◌++◌, Some}
+use Rattle.std.specs.Prelude.{Result, Ok, Err, length}
 use Rattle.tag.specs.declared.actions.Returned.{Returned}
 use Rattle.tag.specs.declared.numbers.OpId.{OpId}
 use Rattle.quorum.specs.Quorums.{majority_of}
@@ -43,13 +44,15 @@ SettlesBy old name (Err error.NoMajority) new = IsUnsettled old name error.NoMaj
 SettlesBy old name (Err error.NotPending) new = IsUnsettled old name error.NotPending × (new ≡ old)
 SettlesBy old name (Err error.Room) new = IsUnsettled old name error.Room × (new ≡ old)
 
--- all of these steps, behind so many
-pub record TakesAll (old : System) (steps : List Step) (before after : ℕ) (new : System) : Type 0 where
-  pub counted : after ≡ before + length steps
-  pub after_all : new ≡ after_from old steps
+-- all of these steps, after so many
+pub record TakesAll (old : System) (steps : List Step) (before after : ℕ) (new : System) : Type 0
+  where
+    pub counted : after ≡ before + length steps
+    pub after_all : new ≡ after_from old steps
 
--- the first of these steps and not all, behind so many
-pub record TakesSome (old : System) (steps : List Step) (before : ℕ) (why : SettleError) (new : System) : Type 0 where
+-- the first of these steps and not all, after so many
+pub record TakesSome (old : System) (steps : List Step) (before : ℕ) (why : SettleError)
+    (new : System) : Type 0 where
   pub taken : List Step
   pub rest : List Step
   pub are : taken ++ rest ≡ steps
@@ -57,14 +60,15 @@ pub record TakesSome (old : System) (steps : List Step) (before : ℕ) (why : Se
   pub counted : why ≡ error.Memory (before + length taken)
   pub after_some : new ≡ after_from old taken
 
--- the steps are taken, behind so many, until a growth is refused
+-- the steps are taken, after so many, until an allocation is refused
 abbrev pub Takes : System → List Step → ℕ → Result ℕ SettleError → System → Type 0
 Takes old steps before (Ok after) new = TakesAll old steps before after new
 Takes old steps before (Err why) new = TakesSome old steps before why new
 
 -- flights that were sent earlier keep the copies that they had
 abbrev pub KeepsEarlier : System → System → Type 0
-KeepsEarlier old new = (flight : ℕ) → flight < old.pool.sent → copies_of new.pool.flights flight ≡ copies_of old.pool.flights flight
+KeepsEarlier old new = (flight : ℕ) → flight < old.pool.sent → copies_of new.pool.flights flight
+    ≡ copies_of old.pool.flights flight
 
 -- the call that was pending has its response, the last row of the record, and the client is idle
 pub record Completes (old : System) (name : ℕ) (new : System) : Type 0 where
@@ -81,8 +85,10 @@ IsWithin s name count = (a b : ℕ) → NeedsAt s name a b → count ≤ 3 * (a 
 
 -- with majorities of n replicas at most 6 (n / 2 + 1) + 1 steps
 abbrev pub IsWithinForMajorities : System → ℕ → Type 0
-IsWithinForMajorities s count = (n : ℕ) → s.config.quorums ≡ majority_of n → count ≤ 6 * (n / 2 + 1) + 1
+IsWithinForMajorities s count =
+    (n : ℕ) → s.config.quorums ≡ majority_of n → count ≤ 6 * (n / 2 + 1) + 1
 
--- for a short read whose replies agree at most three steps for each replica that it still asks, and one
+-- for a short read whose replies agree at most three steps for each replica that it still asks, and
+-- one
 abbrev pub IsWithinIfAgreed : System → ℕ → ℕ → Type 0
 IsWithinIfAgreed s name count = (a : ℕ) → RepliesAgree s name a → count ≤ 3 * a + 1

@@ -1,6 +1,7 @@
--- The steps that complete a client's pending call: while it asks or puts, a request to the least replica that is up and not
--- counted yet, and its reply; then the response.
-use Rattle.std.specs.Prelude.{ℕ, ◌≡◌, ◌+◌, Bool, true, false, not, ◌&&◌, List, [], ◌∷◌, ◌++◌, length, slice_get, filter}
+-- The steps that complete a client's pending call: while it asks or puts, a request to the least
+-- replica that is up and not counted yet, and its reply; then the response.
+use Rattle.std.specs.Prelude.{ℕ, ◌≡◌, ◌+◌, Bool, true, false, not, ◌&&◌, List, [], ◌∷◌, ◌++◌}
+use Rattle.std.specs.Prelude.{length, slice_get, filter}
 use Rattle.std.specs.List.{range_with_len}
 use Rattle.std.specs.Option.{option_map_or}
 use Rattle.std.specs.FinSet as finite
@@ -36,11 +37,14 @@ counted_at s name = option_map_or counted_by (map.get s.members.clients name) fi
 
 -- a round: the client's request to the replica, which comes to it, and its reply, which comes back
 abbrev pub round : System → ℕ → ℕ → List Step
-round s name replica = step.Send name replica ∷ step.Deliver s.pool.sent ∷ step.Deliver (s.pool.sent + 1) ∷ []
+round s name replica =
+    step.Send name replica ∷ step.Deliver s.pool.sent ∷ step.Deliver (s.pool.sent + 1) ∷ []
 
 -- the steps that complete the client's pending call
 pub data Settles (name : ℕ) : System → List Step → Type 0 where
-  answers : (s : System) → is_ready (phase_at s name) ≡ true → Settles name s (step.Respond name ∷ [])
+  answers : (s : System) → is_ready (phase_at s name) ≡ true
+      → Settles name s (step.Respond name ∷ [])
   asks : (s : System) (replica : ℕ) (others : List ℕ) (steps : List Step)
       → has_request (phase_at s name) ≡ true → candidates s (counted_at s name) ≡ replica ∷ others
-      → Settles name (after_from s (round s name replica)) steps → Settles name s (round s name replica ++ steps)
+      → Settles name (after_from s (round s name replica)) steps
+      → Settles name s (round s name replica ++ steps)

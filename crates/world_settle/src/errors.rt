@@ -17,7 +17,7 @@ pub enum SettleError {
     /// Fewer flights are left than the steps would send.
     #[error("fewer flights are left than the call needs")]
     Room,
-    /// A growth was refused after so many steps.
+    /// An allocation was refused after so many steps.
     #[error("no memory after {0} steps")]
     Memory(u32),
 }

@@ -4,7 +4,9 @@ ghost use Rattle.world_steps.specs.Refusals.{refusal_of};
 ghost use Rattle.world_steps.specs.Runs.{AreAccepted, next};
 ghost use Rattle.world_steps.specs.SoundSystems.{IsSound};
 ghost use Rattle.world_settle.specs.Refusing.{MaySettle};
-ghost use Rattle.world_settle.specs.SettleAnswers.{Completes, IsWithin, IsWithinForMajorities, IsWithinIfAgreed, KeepsEarlier, SettlesBy, Takes};
+ghost use Rattle.world_settle.specs.SettleAnswers.{Completes, IsWithin, IsWithinForMajorities};
+ghost use Rattle.world_settle.specs.SettleAnswers.{IsWithinIfAgreed, KeepsEarlier, SettlesBy};
+ghost use Rattle.world_settle.specs.SettleAnswers.{Takes};
 ghost use Rattle.world_settle.specs.Settling.{round};
 
 use crate::SettleError;
@@ -69,7 +71,7 @@ fn complete(world: &mut World, client: ClientId) -> Result<u32, SettleError>
 /// While the client asks or puts, its request goes to the least replica that is up and not counted
 /// yet, and the reply comes back; then the client responds. Of the refusals that apply the one with
 /// the lowest number is answered: `NoMajority`, `NotPending` and `Room` before any step, with the
-/// world equal to what it was; `Memory` with the steps that were taken before a growth was refused,
+/// world equal to what it was; `Memory` with the steps that were taken before an allocation was refused,
 /// with the world as those left it.
 ///
 /// With majorities of n replicas it takes at most 6 (n / 2 + 1) + 1 steps, the division rounded

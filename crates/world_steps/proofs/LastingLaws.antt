@@ -50,7 +50,7 @@ grouped : {X : Type 0} (xs ys zs : List X) → (xs ++ ys) ++ zs ≡ xs ++ (ys ++
 grouped [] ys zs = refl
 grouped (x ∷ xs) ys zs = ap (λ l. x ∷ l) (grouped xs ys zs)
 
--- those that joined are still there, replicas hold no less, and rows came behind those that were there
+-- those that joined are still there, replicas hold no less, and rows came after those that were there
 record Lasts (s t : System) : Type 0 where
   joined : (name : ℕ) → HasJoined s name → HasJoined t name
   held : (number : ℕ) (key : List ℕ) → IsAtMost (held_in s.nodes number key).tag (held_in t.nodes number key).tag

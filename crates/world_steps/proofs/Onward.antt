@@ -28,7 +28,7 @@ pub accepted_step : (config : Config) (steps : List Step) (step : Step) → AreA
     → (after config (steps ++ step ∷ []) ≡ system_after (after config steps) step) × AreAccepted (opening config) (steps ++ step ∷ [])
 accepted_step config steps step are none = (after_step config steps step ∙ next_by (after config steps) step None none, accepted_push (opening config) steps step are none)
 
--- the first steps, with the one behind them
+-- the first steps, with the one after them
 pub take_push : {X : Type 0} (xs : List X) (i : ℕ) (x : X) → slice_get xs i ≡ Some x → take (suc i) xs ≡ take i xs ++ x ∷ []
 take_push [] i x e = absurd cc
 take_push (y ∷ ys) zero x e = let same : y ≡ x = cc in ap (λ z. z ∷ []) same

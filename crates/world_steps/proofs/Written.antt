@@ -38,7 +38,7 @@ written joined old new name held client next after found is writes e =
     let map : clients_in new ≡ finite.insert (clients_in old) name next = from_tree-written nat_cmp_total nat_cmp-IsAntisymmetric old new name next writes (subst IsSome found (search rules)) in
     ap (λ (m : Clients). let r : Members = record { joined = joined; clients = m } in r) (map ∙ ap (finite.insert (clients_in old) name) after_is)
 
--- a further client, behind all others
+-- a further client, after all others
 pub added : (joined items : List ℕ) (old new : Tree) (name : ℕ) (client : Client) → items ≡ joined ++ name ∷ [] → Updates nat_cmp old new name (Some client)
     → ◌≡◌ {A = Members} (record { joined = items; clients = clients_in new }) (with_member (record { joined = joined; clients = clients_in old }) name client)
 added joined items old new name client e updates =

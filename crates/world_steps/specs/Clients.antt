@@ -1,5 +1,6 @@
 -- The clients that joined.
-use Rattle.std.specs.Prelude.{ℕ, ◌+◌, Bool, true, false, cond, List, [], ◌∷◌, ◌++◌, Option, None, Some}
+use Rattle.std.specs.Prelude.{ℕ, ◌+◌, Bool, true, false, cond, List, [], ◌∷◌, ◌++◌, Option, None}
+use Rattle.std.specs.Prelude.{Some}
 use Rattle.std.specs.Ordering.{nat_cmp}
 use Rattle.std.specs.FinMap as finite
 use Rattle.client_phases.specs.Clients.{phase_of}
@@ -18,11 +19,15 @@ pub record Members : Type 0 where
 
 -- a further client joined
 abbrev pub with_member : Members → ℕ → Client → Members
-with_member members name client = record { joined = members.joined ++ name ∷ []; clients = finite.insert members.clients name client }
+with_member members name client = record {
+  joined = members.joined ++ name ∷ [];
+  clients = finite.insert members.clients name client;
+}
 
 -- a client became another
 abbrev pub with_client : Members → ℕ → Client → Members
-with_client members name client = record members { clients = finite.insert members.clients name client }
+with_client members name client =
+    record members { clients = finite.insert members.clients name client }
 
 abbrev goes_on : Phase → Bool
 goes_on phase.Stopped = false
@@ -36,7 +41,8 @@ is_running None = false
 -- how many of these names are those of clients that aren't stopped
 abbrev pub running_among : Clients → List ℕ → ℕ
 running_among clients [] = 0
-running_among clients (name ∷ names) = cond (is_running (finite.get clients name)) 1 0 + running_among clients names
+running_among clients (name ∷ names) =
+    cond (is_running (finite.get clients name)) 1 0 + running_among clients names
 
 -- how many clients joined and aren't stopped
 abbrev pub running_count : Members → ℕ

@@ -22,4 +22,5 @@ pub record AreInRange (replicas calls flights : ℕ) : Type 0 where
 
 -- majorities of the replicas, and full reads
 abbrev pub config_of : ℕ → ℕ → ℕ → Config
-config_of replicas calls flights = record { quorums = majority_of replicas; reads = Full; calls = calls; flights = flights }
+config_of replicas calls flights =
+    record { quorums = majority_of replicas; reads = Full; calls = calls; flights = flights }

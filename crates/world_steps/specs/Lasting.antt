@@ -23,7 +23,7 @@ HasJoined s name = (client : Client) × (finite.get s.members.clients name ≡ S
 abbrev pub HasStopped : System → ℕ → Type 0
 HasStopped s name = is_stopped (phase_at s name) ≡ true
 
--- rows came behind those that were there
+-- rows came after those that were there
 abbrev pub Grows : List Row → List Row → Type 0
 Grows old new = (added : List Row) × (new ≡ old ++ added)
 
@@ -56,7 +56,8 @@ IsRowOf rows name (Invoke op client key action) = client ≡ name
 IsRowOf rows name (Note op tag) = Began rows name op
 IsRowOf rows name (Respond op returned) = Began rows name op
 
--- the rows stayed, or a row of that client came behind them
+-- the rows stayed, or a row of that client came after them
 pub data AddsRowOf (found : Option ℕ) (old new : List Row) : Type 0 where
   NoRow : new ≡ old → AddsRowOf found old new
-  OneRow : (name : ℕ) (row : Row) → found ≡ Some name → IsRowOf old name row → new ≡ old ++ row ∷ [] → AddsRowOf found old new
+  OneRow : (name : ℕ) (row : Row) → found ≡ Some name → IsRowOf old name row → new ≡ old ++ row ∷ []
+      → AddsRowOf found old new

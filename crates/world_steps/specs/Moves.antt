@@ -82,7 +82,8 @@ pub record MayDeliver (s : System) (flight : ℕ) : Type 0 where
 -- the response may follow, and is of its call's kind
 pub record MayAnswer (s : System) (op : OpId) (returned : Returned) : Type 0 where
   pub follows : MayFollow s.history.rows (Respond op returned)
-  pub fits : (client : ℕ) (action : Action) → IsPendingCall s.history.rows op client action → Fits action returned
+  pub fits : (client : ℕ) (action : Action) → IsPendingCall s.history.rows op client action
+      → Fits action returned
 
 -- a client that is ready, whose call may have its answer
 pub record MayRespond (s : System) (name : ℕ) : Type 0 where

@@ -1,7 +1,13 @@
 -- The numbers and the names of the reasons why a step is refused, as programs print them.
 use Rattle.std.specs.Prelude.{ℕ, List, codes}
 use Rattle.world_steps.specs.declared.refusal.Refusal.{Refusal}
-use Rattle.world_steps.specs.declared.refusal.Refusal.TheVariants.{NoSuchReplica, NoSuchClient, ClientTaken, ClientStopped, ClientBusy, NothingToSend, NotInFlight, NotReady, ReplicaDown, ReplicaUp, CopiesFull, OpsFull, FlightsFull, Memory}
+use Rattle.world_steps.specs.declared.refusal.Refusal.TheVariants.{NoSuchReplica, NoSuchClient}
+use Rattle.world_steps.specs.declared.refusal.Refusal.TheVariants.{ClientTaken, ClientStopped}
+use Rattle.world_steps.specs.declared.refusal.Refusal.TheVariants.{ClientBusy, NothingToSend}
+use Rattle.world_steps.specs.declared.refusal.Refusal.TheVariants.{NotInFlight, NotReady}
+use Rattle.world_steps.specs.declared.refusal.Refusal.TheVariants.{ReplicaDown, ReplicaUp}
+use Rattle.world_steps.specs.declared.refusal.Refusal.TheVariants.{CopiesFull, OpsFull, FlightsFull}
+use Rattle.world_steps.specs.declared.refusal.Refusal.TheVariants.{Memory}
 
 -- the number of a reason
 abbrev pub refusal_number : Refusal → ℕ

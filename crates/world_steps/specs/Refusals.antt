@@ -1,5 +1,7 @@
--- When a step is refused: for each kind of step the refusals that it may meet, each with its test, the lowest number first.
-use Rattle.std.specs.Prelude.{ℕ, Bool, true, false, not, List, [], ◌∷◌, Option, None, Some, option_map, is_none, length, nat_le, nat_eq, slice_get, if◌then◌else◌}
+-- When a step is refused: for each kind of step the refusals that it may meet, each with its test,
+-- the lowest number first.
+use Rattle.std.specs.Prelude.{ℕ, Bool, true, false, not, List, [], ◌∷◌, Option, None, Some}
+use Rattle.std.specs.Prelude.{option_map, is_none, length, nat_le, nat_eq, slice_get, if◌then◌else◌}
 use Rattle.std.specs.FinMap as finite
 use Rattle.client_phases.specs.Clients.{phase_of}
 use Rattle.client_phases.specs.declared.outcomes.Phase.{Phase}
@@ -66,22 +68,38 @@ Table = List (Refusal × Bool)
 -- a delivery's refusals that go by whom the message is for
 abbrev pub arrival_refusals : System → Option Message → Table
 arrival_refusals s None = (refusal.NotInFlight, true) ∷ []
-arrival_refusals s (Some (ToReplica number request)) = (refusal.ReplicaDown, is_down (slice_get s.nodes number)) ∷ (refusal.FlightsFull, flights_full s) ∷ []
-arrival_refusals s (Some (ToClient name reply)) = (refusal.ClientStopped, is_stopped (phase_at s name)) ∷ []
+arrival_refusals s (Some (ToReplica number request)) =
+    (refusal.ReplicaDown, is_down (slice_get s.nodes number)) ∷
+    (refusal.FlightsFull, flights_full s) ∷ []
+arrival_refusals s (Some (ToClient name reply)) =
+    (refusal.ClientStopped, is_stopped (phase_at s name)) ∷ []
 
 abbrev pub refusals : System → Step → Table
 refusals s (step.Join name) = (refusal.ClientTaken, not (no_such_client s name)) ∷ []
 refusals s (step.Invoke name key action) =
-    (refusal.NoSuchClient, no_such_client s name) ∷ (refusal.ClientStopped, is_stopped (phase_at s name)) ∷ (refusal.ClientBusy, not (is_idle (phase_at s name))) ∷ (refusal.OpsFull, calls_full s) ∷ []
+    (refusal.NoSuchClient, no_such_client s name) ∷
+    (refusal.ClientStopped, is_stopped (phase_at s name)) ∷
+    (refusal.ClientBusy, not (is_idle (phase_at s name))) ∷ (refusal.OpsFull, calls_full s) ∷ []
 refusals s (step.Send name replica) =
-    (refusal.NoSuchReplica, no_such_replica s replica) ∷ (refusal.NoSuchClient, no_such_client s name) ∷ (refusal.ClientStopped, is_stopped (phase_at s name)) ∷ (refusal.NothingToSend, not (has_request (phase_at s name))) ∷ (refusal.FlightsFull, flights_full s) ∷ []
+    (refusal.NoSuchReplica, no_such_replica s replica) ∷
+    (refusal.NoSuchClient, no_such_client s name) ∷
+    (refusal.ClientStopped, is_stopped (phase_at s name)) ∷
+    (refusal.NothingToSend, not (has_request (phase_at s name))) ∷
+    (refusal.FlightsFull, flights_full s) ∷ []
 refusals s (step.Deliver flight) = arrival_refusals s (message_of s.pool.flights flight)
 refusals s (step.Lose flight) = (refusal.NotInFlight, is_spent s flight) ∷ []
-refusals s (step.Repeat flight) = (refusal.NotInFlight, is_spent s flight) ∷ (refusal.CopiesFull, copies_full s flight) ∷ []
-refusals s (step.Respond name) = (refusal.NoSuchClient, no_such_client s name) ∷ (refusal.ClientStopped, is_stopped (phase_at s name)) ∷ (refusal.NotReady, not (is_ready (phase_at s name))) ∷ []
-refusals s (step.StopClient name) = (refusal.NoSuchClient, no_such_client s name) ∷ (refusal.ClientStopped, is_stopped (phase_at s name)) ∷ []
-refusals s (step.StopReplica number) = (refusal.NoSuchReplica, no_such_replica s number) ∷ (refusal.ReplicaDown, is_down (slice_get s.nodes number)) ∷ []
-refusals s (step.StartReplica number) = (refusal.NoSuchReplica, no_such_replica s number) ∷ (refusal.ReplicaUp, not (is_down (slice_get s.nodes number))) ∷ []
+refusals s (step.Repeat flight) =
+    (refusal.NotInFlight, is_spent s flight) ∷ (refusal.CopiesFull, copies_full s flight) ∷ []
+refusals s (step.Respond name) = (refusal.NoSuchClient, no_such_client s name) ∷
+    (refusal.ClientStopped, is_stopped (phase_at s name)) ∷
+    (refusal.NotReady, not (is_ready (phase_at s name))) ∷ []
+refusals s (step.StopClient name) = (refusal.NoSuchClient, no_such_client s name) ∷
+    (refusal.ClientStopped, is_stopped (phase_at s name)) ∷ []
+refusals s (step.StopReplica number) = (refusal.NoSuchReplica, no_such_replica s number) ∷
+    (refusal.ReplicaDown, is_down (slice_get s.nodes number)) ∷ []
+refusals s (step.StartReplica number) =
+    (refusal.NoSuchReplica, no_such_replica s number) ∷
+    (refusal.ReplicaUp, not (is_down (slice_get s.nodes number))) ∷ []
 
 -- the first refusal whose test holds
 abbrev pub first_of : Table → Option Refusal

@@ -1,5 +1,6 @@
 -- Steps and runs.
-use Rattle.std.specs.Prelude.{ℕ, ◌≡◌, ◌⊎◌, List, [], ◌∷◌, None, Some, Result, Ok, Err, is_some, if◌then◌else◌}
+use Rattle.std.specs.Prelude.{ℕ, ◌≡◌, ◌⊎◌, List, [], ◌∷◌, None, Some, Result, Ok, Err, is_some}
+use Rattle.std.specs.Prelude.{if◌then◌else◌}
 use Rattle.world_steps.specs.Configs.{Config}
 use Rattle.world_steps.specs.Systems.{opening, system_after, effect_of}
 use Rattle.world_steps.specs.declared.system.System.{System}
@@ -50,11 +51,14 @@ MayGrow (step.StopReplica number) = ⊥
 MayGrow (step.StartReplica number) = ⊥
 MayGrow other = Unit {0}
 
--- the refusal is the one of the table; want of memory only where nothing refuses the step and something may grow
+-- the refusal is the one of the table; want of memory only where nothing refuses the step and
+-- something may grow
 abbrev pub IsRefused : System → Step → Refusal → Type 0
-IsRefused s step why = (refusal_of s step ≡ Some why) ⊎ ((refusal_of s step ≡ None) × (why ≡ refusal.Memory) × MayGrow step)
+IsRefused s step why = (refusal_of s step ≡ Some why)
+    ⊎ ((refusal_of s step ≡ None) × (why ≡ refusal.Memory) × MayGrow step)
 
 -- what a step answers, and what it leaves
 abbrev pub Steps : System → Step → Result Effect Refusal → System → Type 0
-Steps old step (Ok effect) new = (refusal_of old step ≡ None) × (effect_of old step ≡ Some effect) × (new ≡ system_after old step)
+Steps old step (Ok effect) new = (refusal_of old step ≡ None) × (effect_of old step ≡ Some effect)
+    × (new ≡ system_after old step)
 Steps old step (Err why) new = IsRefused old step why × (new ≡ old)

@@ -51,9 +51,12 @@ IsWaiting quorums state = Unit {0}
 
 -- the names that joined are those of the clients, each once
 pub record AreNamed (members : Members) : Type 0 where
-  pub joined : (place name : ℕ) → slice_get members.joined place ≡ Some name → (client : Client) × (finite.get members.clients name ≡ Some client)
-  pub listed : (name : ℕ) (client : Client) → finite.get members.clients name ≡ Some client → (place : ℕ) × (slice_get members.joined place ≡ Some name)
-  pub once : (p q name : ℕ) → slice_get members.joined p ≡ Some name → slice_get members.joined q ≡ Some name → p ≡ q
+  pub joined : (place name : ℕ) → slice_get members.joined place ≡ Some name → (client : Client)
+      × (finite.get members.clients name ≡ Some client)
+  pub listed : (name : ℕ) (client : Client) → finite.get members.clients name ≡ Some client
+      → (place : ℕ) × (slice_get members.joined place ≡ Some name)
+  pub once : (p q name : ℕ) → slice_get members.joined p ≡ Some name → slice_get members.joined q
+      ≡ Some name → p ≡ q
 
 -- there are as many replicas, and may be as many flights and calls, as the configuration says
 pub record IsConfigured (s : System) : Type 0 where
@@ -61,16 +64,23 @@ pub record IsConfigured (s : System) : Type 0 where
   pub flights : s.pool.limit ≡ s.config.flights
   pub calls : s.history.limit ≡ s.config.calls
 
--- rows, pairs, messages and states are sound; clients keep the configuration's rules and wait for quorums, replicas keep their numbers; messages are for
--- replicas that are there and clients that joined; the record has at most as many calls as it may have; the names that joined are the clients'; and
--- counts and limits are the configuration's
+-- rows, pairs, messages and states are sound; clients keep the configuration's rules and wait for
+-- quorums, replicas keep their numbers; messages are for replicas that are there and clients that
+-- joined; the record has at most as many calls as it may have; the names that joined are the
+-- clients'; and counts and limits are the configuration's
 pub record IsSound (s : System) : Type 0 where
-  pub sound : Sound s.config.quorums s.history.rows (held_in s.nodes) (Flies s.pool.flights) (IsIn s.members.clients)
-  pub ruled : (name : ℕ) (client : Client) → finite.get s.members.clients name ≡ Some client → client.rules ≡ rules_of s.config name
-  pub waiting : (name : ℕ) (client : Client) → finite.get s.members.clients name ≡ Some client → IsWaiting s.config.quorums client.state
-  pub numbered : (number : ℕ) (node : Node) → slice_get s.nodes number ≡ Some node → node.replica.number ≡ number
-  pub to_replicas : (number : ℕ) (request : Request) → Flies s.pool.flights (ToReplica number request) → number < length s.nodes
-  pub to_clients : (name : ℕ) (reply : Reply) → Flies s.pool.flights (ToClient name reply) → (client : Client) × (finite.get s.members.clients name ≡ Some client)
+  pub sound : Sound s.config.quorums s.history.rows (held_in s.nodes) (Flies s.pool.flights)
+      (IsIn s.members.clients)
+  pub ruled : (name : ℕ) (client : Client) → finite.get s.members.clients name ≡ Some client
+      → client.rules ≡ rules_of s.config name
+  pub waiting : (name : ℕ) (client : Client) → finite.get s.members.clients name ≡ Some client
+      → IsWaiting s.config.quorums client.state
+  pub numbered : (number : ℕ) (node : Node) → slice_get s.nodes number ≡ Some node
+      → node.replica.number ≡ number
+  pub to_replicas : (number : ℕ) (request : Request)
+      → Flies s.pool.flights (ToReplica number request) → number < length s.nodes
+  pub to_clients : (name : ℕ) (reply : Reply) → Flies s.pool.flights (ToClient name reply)
+      → (client : Client) × (finite.get s.members.clients name ≡ Some client)
   pub calls : call_count s.history.rows ≤ s.history.limit
   pub limit : s.history.limit ≤ 1000000
   pub named : AreNamed s.members

@@ -12,7 +12,8 @@ use Rattle.world_steps.specs.Sound.{At, IsFromWrite, write_count}
 use Rattle.world_steps.specs.SoundSystems.{Flies, held_in}
 use Rattle.world_steps.specs.declared.system.System.{System}
 
--- the tag is the least one or that of a noted write on the key, and its number at most how many of these there are
+-- the tag is the least one or that of a noted write on the key, and its number at most how many of
+-- these there are
 pub record ComesFromWrites (rows : List Row) (key : List ℕ) (tag : Tag) : Type 0 where
   pub from : IsFromWrite rows key tag
   pub few : tag.number ≤ write_count rows key
@@ -21,20 +22,26 @@ pub record ComesFromWrites (rows : List Row) (key : List ℕ) (tag : Tag) : Type
 abbrev pub NotesComeFromWrites : System → Type 0
 NotesComeFromWrites s =
     (place note client : ℕ) (op : OpId) (key : List ℕ) (action : Action) (tag : Tag)
-    → At s.history.rows place (Invoke op client key action) → At s.history.rows note (Note op tag) → ComesFromWrites s.history.rows key tag
+    → At s.history.rows place (Invoke op client key action) → At s.history.rows note (Note op tag)
+    → ComesFromWrites s.history.rows key tag
 
 -- so does the tag that a replica holds for the key
 abbrev pub HeldComeFromWrites : System → Type 0
-HeldComeFromWrites s = (number : ℕ) (key : List ℕ) → ComesFromWrites s.history.rows key (held_in s.nodes number key).tag
+HeldComeFromWrites s = (number : ℕ) (key : List ℕ)
+    → ComesFromWrites s.history.rows key (held_in s.nodes number key).tag
 
 -- so does the tag of a put on the key that is in flight
 abbrev pub PutsComeFromWrites : System → Type 0
 PutsComeFromWrites s =
     (number : ℕ) (op : OpId) (key : List ℕ) (tag : Tag) (value : Option (List ℕ))
-    → Flies s.pool.flights (ToReplica number (Put op key tag value)) → ComesFromWrites s.history.rows key tag
+    → Flies s.pool.flights (ToReplica number (Put op key tag value))
+    → ComesFromWrites s.history.rows key tag
 
 -- and the tag that is told, in flight, to a call on the key
 abbrev pub RepliesComeFromWrites : System → Type 0
 RepliesComeFromWrites s =
-    (place name client number : ℕ) (op : OpId) (key : List ℕ) (action : Action) (tag : Tag) (value : Option (List ℕ))
-    → At s.history.rows place (Invoke op client key action) → Flies s.pool.flights (ToClient name (Held op number tag value)) → ComesFromWrites s.history.rows key tag
+    (place name client number : ℕ) (op : OpId) (key : List ℕ) (action : Action) (tag : Tag)
+    (value : Option (List ℕ))
+    → At s.history.rows place (Invoke op client key action)
+    → Flies s.pool.flights (ToClient name (Held op number tag value))
+    → ComesFromWrites s.history.rows key tag

@@ -1,6 +1,8 @@
--- The system of clients, replicas and the network between them, and what each step makes of it (Attiya, Bar-Noy and Dolev
--- 1995; Lynch and Shvartsman 1997). What a step doesn't name stays as it was.
-use Rattle.std.specs.Prelude.{ℕ, Bool, true, false, List, [], Option, None, Some, length, slice_get, slice_set}
+-- The system of clients, replicas and the network between them, and what each step makes of it
+-- (Attiya, Bar-Noy and Dolev 1995; Lynch and Shvartsman 1997). What a step doesn't name stays as it
+-- was.
+use Rattle.std.specs.Prelude.{ℕ, Bool, true, false, List, [], Option, None, Some, length, slice_get}
+use Rattle.std.specs.Prelude.{slice_set}
 use Rattle.std.specs.FinMap as finite
 use Rattle.tag.specs.declared.actions.Action.{Action}
 use Rattle.tag.specs.declared.numbers.OpId.{OpId}
@@ -11,7 +13,8 @@ use Rattle.replica.specs.declared.replies.Reply.{Reply}
 use Rattle.replica.specs.declared.replies.Reply.TheVariants.{Held, Kept}
 use Rattle.client_phases.specs.Calls.{answer_from}
 use Rattle.client_phases.specs.declared.clients.Client.{Client}
-use Rattle.client_phases.specs.Clients.{client_of, client_after, client_after_invoke, request_of, client_after_respond, client_after_stop, reply_result}
+use Rattle.client_phases.specs.Clients.{client_of, client_after, client_after_invoke, request_of}
+use Rattle.client_phases.specs.Clients.{client_after_respond, client_after_stop, reply_result}
 use Rattle.client_phases.specs.declared.outcomes.Taken.{Taken}
 use Rattle.client_phases.specs.declared.outcomes.Taken.TheVariants.{Noted, Agreed}
 use Rattle.client_phases.specs.declared.states.State.{State}
@@ -48,7 +51,10 @@ opening config = record {
 
 -- a client joins, idle
 abbrev pub join : System → ℕ → System
-join s name = record s { members = with_member s.members name (client_of name s.config.quorums s.config.reads) }
+join s name = record s {
+  members = with_member s.members name (client_of name s.config.quorums
+      s.config.reads);
+}
 
 -- a client that becomes another, one that isn't there stays away
 abbrev pub turn : System → ℕ → Client → System
@@ -61,7 +67,8 @@ next_call s = record { 0 = call_count s.history.rows }
 -- a client asks for a further call, which is recorded
 abbrev pub invoke : System → ℕ → List ℕ → Action → Option Client → System
 invoke s name key action (Some client) =
-    record (turn s name (client_after_invoke client (next_call s) key action)) { history = with_row s.history (Invoke (next_call s) name key action) }
+    record (turn s name (client_after_invoke client (next_call s) key action))
+    { history = with_row s.history (Invoke (next_call s) name key action) }
 invoke s name key action None = s
 
 abbrev send_to : System → ℕ → Option Request → System
@@ -98,12 +105,14 @@ with_note history op outcome = history
 -- a client takes a reply
 abbrev pub take : System → ℕ → Reply → Option Client → System
 take s name reply (Some client) =
-    record (turn s name (client_after client reply)) { history = with_note s.history (answered_op reply) (reply_result client reply) }
+    record (turn s name (client_after client reply))
+    { history = with_note s.history (answered_op reply) (reply_result client reply) }
 take s name reply None = s
 
 -- a message comes to whom it was sent
 abbrev pub arrive : System → Message → System
-arrive s (ToReplica number request) = handle s number request (slice_get s.nodes number) (caller_of s.history.rows (op_of request))
+arrive s (ToReplica number request) =
+    handle s number request (slice_get s.nodes number) (caller_of s.history.rows (op_of request))
 arrive s (ToClient name reply) = take s name reply (finite.get s.members.clients name)
 
 -- a copy of a flight goes
@@ -120,7 +129,9 @@ deliver s flight (Some message) = lose (arrive s message) flight
 deliver s flight None = s
 
 abbrev respond_in : System → ℕ → Client → State → System
-respond_in s name client (Ready chosen) = record (turn s name (client_after_respond client)) { history = with_row s.history (Respond chosen.call.op (answer_from chosen)) }
+respond_in s name client (Ready chosen) =
+    record (turn s name (client_after_respond client))
+    { history = with_row s.history (Respond chosen.call.op (answer_from chosen)) }
 respond_in s name client state = s
 
 -- a client that is ready answers, which is recorded
@@ -135,13 +146,15 @@ stop s name None = s
 
 -- a replica goes up or down with what it stored
 abbrev pub set_up : System → ℕ → Bool → Option Node → System
-set_up s number is_up (Some node) = record s { nodes = slice_set s.nodes number (record node { is_up = is_up }) }
+set_up s number is_up (Some node) =
+    record s { nodes = slice_set s.nodes number (record node { is_up = is_up }) }
 set_up s number is_up None = s
 
 -- what a step makes of the system
 abbrev pub system_after : System → Step → System
 system_after s (step.Join name) = join s name
-system_after s (step.Invoke name key action) = invoke s name key action (finite.get s.members.clients name)
+system_after s (step.Invoke name key action) =
+    invoke s name key action (finite.get s.members.clients name)
 system_after s (step.Send name replica) = send s replica (finite.get s.members.clients name)
 system_after s (step.Deliver flight) = deliver s flight (message_of s.pool.flights flight)
 system_after s (step.Lose flight) = lose s flight
@@ -159,7 +172,8 @@ take_effect reply None = None
 
 abbrev arrival_effect : System → Option Message → Option Effect
 arrival_effect s (Some (ToReplica number request)) = Some (effect.Answered s.pool.sent)
-arrival_effect s (Some (ToClient name reply)) = take_effect reply (finite.get s.members.clients name)
+arrival_effect s (Some (ToClient name reply)) =
+    take_effect reply (finite.get s.members.clients name)
 arrival_effect s None = None
 
 abbrev response_effect : State → Option Effect

@@ -11,7 +11,8 @@ ghost use Rattle.world_steps.specs.Refusals.{refusal_of};
 ghost use Rattle.world_steps.specs.Runs.{AreAccepted, Steps, after, after_from, join_count, next, stop_count};
 ghost use Rattle.world_steps.specs.Sound.{IsAtMost};
 ghost use Rattle.world_steps.specs.SoundSystems.{IsSound, held_in};
-ghost use Rattle.world_steps.specs.Sources.{HeldComeFromWrites, NotesComeFromWrites, PutsComeFromWrites, RepliesComeFromWrites};
+ghost use Rattle.world_steps.specs.Sources.{HeldComeFromWrites, NotesComeFromWrites};
+ghost use Rattle.world_steps.specs.Sources.{PutsComeFromWrites, RepliesComeFromWrites};
 ghost use Rattle.world_steps.specs.Systems.{system_after, opening};
 ghost use Rattle.world_steps.specs.declared.effect.Effect.{Effect};
 ghost use Rattle.world_steps.specs.declared.refusal.Refusal.{Refusal};
@@ -78,7 +79,7 @@ pub fn a_stop_is_of_a_client_that_runs()
 {}
 
 /// Whatever steps follow, a name that joined stays joined, no replica's tag of a key falls, and the rows
-/// stay, with new ones behind them.
+/// stay, with new ones after them.
 pub fn further_steps_take_nothing_away()
     ensures joined { (config : Config) (steps later : List Step) (name : ℕ)
         → HasJoined (after config steps) name → HasJoined (after config (steps ++ later)) name }

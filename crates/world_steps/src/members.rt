@@ -6,7 +6,9 @@ ghost use Rattle.std.specs.Cmp.{and_per, nat_eq_equiv, on_per, partial_equiv_fro
 ghost use Rattle.std.specs.Cmp.Lexicographic.{lists_per, pointwise};
 ghost use Rattle.std.specs.Ordering.{eq_of_both, on};
 ghost use Rattle.client_phases.specs.contracts.clients.ClientPartialEq.TheImpl.Laws as client;
-ghost use Rattle.client_phases.specs.Clients.{MayTake, client_after, client_after_invoke, phase_of, client_after_respond, client_after_stop, reply_result};
+ghost use Rattle.client_phases.specs.Clients.{MayTake, client_after, client_after_invoke, phase_of};
+ghost use Rattle.client_phases.specs.Clients.{client_after_respond, client_after_stop};
+ghost use Rattle.client_phases.specs.Clients.{reply_result};
 ghost use Rattle.client_phases.specs.declared.clients.Client.{Client};
 ghost use Rattle.client_phases.specs.declared.outcomes.Phase.{Phase};
 ghost use Rattle.world_steps.specs.Clients.{with_client, with_member};
@@ -34,15 +36,25 @@ impl Model for Members {
 
     ghost Value = { Members };
 
-    ghost coded = { code_by (List ℕ × Clients) (coded× (coded_list coded_ℕ) (finite.code coded_ℕ client.the_row.coded)) (λ m. (m.joined, m.clients)) (λ p. record { joined = p.0; clients = p.1 }) (λ _. refl) };
+    ghost coded = { code_by (List ℕ × Clients) (coded× (coded_list coded_ℕ) (finite.code coded_ℕ
+        client.the_row.coded)) (λ m. (m.joined, m.clients)) (λ p. record {
+          joined = p.0;
+          clients =
+              p.1;
+        }) (λ _. refl) };
 
     ghost view = { λ m. record { joined = m.joined.items; clients = finite.from_entries m.clients.entries } };
 }
 
 impl PartialEq for Members {
-    ghost eq = { eq_of_both (on (λ m. m.joined) (pointwise ◌==◌)) (on (λ m. finite.entries m.clients) (pointwise (eq_of_both (on (λ p. p.0) ◌==◌) (on (λ p. p.1) ⟦<Client as PartialEq>⟧.eq)))) };
+    ghost eq = { eq_of_both (on (λ m. m.joined) (pointwise ◌==◌))
+        (on (λ m. finite.entries m.clients)
+        (pointwise (eq_of_both (on (λ p. p.0) ◌==◌) (on (λ p. p.1) ⟦<Client as PartialEq>⟧.eq)))) };
 
-    ghost laws = { and_per (on_per (λ m. m.joined) (lists_per (partial_equiv_from_equiv nat_eq_equiv))) (on_per (λ m. finite.entries m.clients) (lists_per (and_per (on_per (λ p. p.0) (partial_equiv_from_equiv nat_eq_equiv)) (on_per (λ p. p.1) client.laws-law)))) };
+    ghost laws = { and_per (on_per (λ m. m.joined) (lists_per (partial_equiv_from_equiv
+        nat_eq_equiv))) (on_per (λ m. finite.entries m.clients)
+        (lists_per (and_per (on_per (λ p. p.0) (partial_equiv_from_equiv nat_eq_equiv))
+        (on_per (λ p. p.1) client.laws-law)))) };
 
     fn eq(&self, other: &Members) -> bool {
         if self.joined != other.joined || self.clients.len() != other.clients.len() {
@@ -74,7 +86,7 @@ impl Members {
         self.clients.get(&name.get())
     }
 
-    /// Adds a client behind all others. On `Memory` nothing changed.
+    /// Adds a client after all others. On `Memory` nothing changed.
     pub(crate) fn add(&mut self, name: ClientId, client: Client) -> Result<(), Memory>
         ensures ok { OnOk result (self.new ≡ with_member self.old name client) }
         ensures err { OnErr result (self.new ≡ self.old) }

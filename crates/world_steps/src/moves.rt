@@ -8,7 +8,9 @@ ghost use Rattle.recorder.specs.declared.row.Row.{Row};
 ghost use Rattle.client_phases.specs.Clients.{reply_result};
 ghost use Rattle.client_phases.specs.declared.clients.Client.{Client};
 ghost use Rattle.world_steps.specs.Systems.{answered_op, arrive, lose, op_of, with_note};
-ghost use Rattle.world_steps.specs.Moves.{IsClient, MayAnswer, MayDeliver, MayHandle, MayHear, MayInvoke, MayMove, MayNote, MayRepeat, MayRespond, MaySend, MayStop, Moves};
+ghost use Rattle.world_steps.specs.Moves.{IsClient, MayAnswer, MayDeliver, MayHandle, MayHear};
+ghost use Rattle.world_steps.specs.Moves.{MayInvoke, MayMove, MayNote, MayRepeat, MayRespond};
+ghost use Rattle.world_steps.specs.Moves.{MaySend, MayStop, Moves};
 
 use crate::system::System;
 use crate::{Effect, Step};

@@ -11,7 +11,8 @@ use crate::row::Row;
 impl PartialEq for History {
     ghost eq = { eq_of_both (on (λ h. h.limit) ◌==◌) (on (λ h. h.rows) (pointwise ⟦<Row as PartialEq>⟧.eq)) };
 
-    ghost laws = { and_per (on_per (λ h. h.limit) (partial_equiv_from_equiv nat_eq_equiv)) (on_per (λ h. h.rows) (lists_per row.laws-law)) };
+    ghost laws = { and_per (on_per (λ h. h.limit) (partial_equiv_from_equiv nat_eq_equiv)) (on_per
+        (λ h. h.rows) (lists_per row.laws-law)) };
 
     fn eq(&self, other: &History) -> bool {
         self.limit == other.limit && self.rows == other.rows

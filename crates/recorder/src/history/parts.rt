@@ -7,20 +7,20 @@ ghost use Rattle.recorder.specs.Parts.{IsSequence};
 ghost use Rattle.recorder.specs.States.{RespondsAt, IsResponseAt};
 ghost use Rattle.recorder.specs.Adding.{AddsCall, IsBegunAt};
 ghost use Rattle.recorder.specs.declared.row.Row.{Row};
-ghost use Rattle.key_numbers.specs.Numbers.{Numbers};
+ghost use Rattle.key_index.specs.Numbers.{Numbers};
 
 use super::History;
 use crate::part::{Call, Part, Response};
 use crate::parts::Parts;
 use crate::row::Row;
-use key_numbers::KeyNumbers;
+use key_index::KeyNumbers;
 use tag::{Action, ClientId, Key, Memory, OpId};
 
 impl History {
     ghost use Rattle.recorder.specs.Records.{AreParts, IsRecorded};
 
     /// The calls of each key as the rows record them, in one pass; the keys in the order in which
-    /// they are first seen. `Memory` comes only where a growth was refused.
+    /// they are first seen. `Memory` comes only where an allocation was refused.
     pub fn parts(&self) -> Result<Parts, Memory>
         ensures { IfOk result (λ parts. AreParts self.now.rows parts.entries) }
     {
@@ -102,7 +102,7 @@ fn response_at(rows: &[Row], place: Option<usize>) -> Result<Option<Response>, M
     }
 }
 
-/// Adds a call behind all others on its key, whose number among the keys is `slot`. A key's first
+/// Adds a call after all others on its key, whose number among the keys is `slot`. A key's first
 /// call makes that room for others.
 fn add_call(
     entries: &mut Vec<(Key, Part)>,

@@ -5,7 +5,7 @@ use Rattle.std.proofs.lemmas.Option.{slice_get_read, slice_get_within}
 use Rattle.std.proofs.lemmas.Result.{on_ok_weaker}
 use Rattle.tag.specs.declared.numbers.OpId.{OpId}
 use Rattle.recorder.specs.declared.order.KeyOrder.{KeyOrder}
-use Rattle.key_numbers.specs.Numbers.Numbers.{known}
+use Rattle.key_index.specs.Numbers.Numbers.{known}
 use Rattle.file_format.specs.OrderFormat.{key_in}
 use Rattle.file_format.specs.Joins.{Joins}
 use Rattle.file_format.proofs.OrdersByNumber.{keys_stay, key_added, not_below, extends_order, begins_order}

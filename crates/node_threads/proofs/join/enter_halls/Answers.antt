@@ -1,5 +1,5 @@
 use Rattle.std.proofs.Common.{List, sym, subst}
-use Rattle.hall_turns.specs.Turns.{ClientView}
+use Rattle.hall_lock.specs.Turns.{ClientView}
 use Rattle.node_threads.specs.Joins.{AreOfClient}
 use Rattle.node_threads.proofs.Joining.{are_of_client}
 use Rattle.node_threads.proofs.join.enter_halls.Goals as goal

@@ -1,6 +1,6 @@
 use Rattle.std.proofs.Common.{sym, subst, ap, length, ◌∙◌}
 use Rattle.std.proofs.lemmas.List.{length_push}
-use Rattle.seat_calls.specs.Seats.{AreFresh}
+use Rattle.seats.specs.Seats.{AreFresh}
 use Rattle.node_threads.proofs.Lists.{behind}
 use Rattle.node_threads.proofs.Joining.{fresh_more}
 use Rattle.node_threads.proofs.join.join_hall.Goals as goal

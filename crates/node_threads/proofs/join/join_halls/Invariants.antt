@@ -1,5 +1,5 @@
 use Rattle.std.proofs.Common.{◌≡◌, length}
-use Rattle.seat_calls.specs.Seats.{AreFresh}
+use Rattle.seats.specs.Seats.{AreFresh}
 use Rattle.node_threads.proofs.join.join_halls.Given as goal
 
 abbrev pub invariant-loop-root : goal.invariant-loop-root

@@ -1,5 +1,5 @@
 use Rattle.std.proofs.Common.{◌≡◌, ◌≤◌, length}
-use Rattle.seat_calls.specs.Seats.{AreZero}
+use Rattle.seats.specs.Seats.{AreZero}
 use Rattle.node_threads.proofs.join.none_seen.Given as goal
 
 abbrev pub invariant-loop : goal.invariant-loop

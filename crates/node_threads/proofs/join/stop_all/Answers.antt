@@ -1,5 +1,5 @@
 use Rattle.std.proofs.Common.{◌≡◌, ◌<◌, ◌∙◌, true, length, length-set, subst, inl, inr, arith}
-use Rattle.hall_turns.specs.Turns.{ClientView}
+use Rattle.hall_lock.specs.Turns.{ClientView}
 use Rattle.std.proofs.lemmas.Option.{slice_get-get_or, slice_get_within}
 use Rattle.node_threads.proofs.Lists.{set_cases}
 use Rattle.node_threads.proofs.join.stop_all.Goals as goal

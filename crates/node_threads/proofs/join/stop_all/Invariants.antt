@@ -1,5 +1,5 @@
 use Rattle.std.proofs.Common.{◌≡◌, ◌<◌, ℕ, true, Some, length, slice_get}
-use Rattle.hall_turns.specs.Turns.{ClientView}
+use Rattle.hall_lock.specs.Turns.{ClientView}
 use Rattle.node_threads.specs.Joins.{AreOfClient}
 use Rattle.node_threads.proofs.join.stop_all.Given as goal
 

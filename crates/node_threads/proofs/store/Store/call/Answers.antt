@@ -1,8 +1,8 @@
 use Rattle.std.proofs.Common.{rules, ◌≡◌, Err, subst, ◌⊎◌}
 use Rattle.std.specs.Prelude.{IfErr}
 use Rattle.recorder.specs.Halls.{hall_of}
-use Rattle.seat_calls.specs.Answers.{HasReason, SeesFewer}
-use Rattle.seat_calls.specs.declared.errors.CallError.TheVariants as fault
+use Rattle.seats.specs.Answers.{HasReason, SeesFewer}
+use Rattle.seats.specs.declared.errors.CallError.TheVariants as fault
 use Rattle.node_threads.proofs.Failing.{failed_by}
 use Rattle.node_threads.proofs.store.Store.call.Goals as goal
 

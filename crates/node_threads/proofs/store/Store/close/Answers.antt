@@ -2,7 +2,7 @@ use Rattle.std.proofs.Common.{◌≡◌, ◌∙◌, refl, ap, subst, length, Lis
 use Rattle.node_threads.specs.declared.closing.ClosedHall.{ClosedHall}
 use Rattle.node_threads.specs.declared.config.StoreConfig.{StoreConfig}
 use Rattle.node_threads.specs.Closings.{AreOfStore, HaveLogs}
-use Rattle.seat_calls.specs.Seats.{Seat}
+use Rattle.seats.specs.Seats.{Seat}
 use Rattle.node_threads.specs.Stores.{Store}
 use Rattle.node_threads.proofs.OwnSeats.{closes, none_foreign}
 use Rattle.node_threads.proofs.store.Store.close.Goals as goal

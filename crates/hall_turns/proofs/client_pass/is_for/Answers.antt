@@ -1,5 +1,0 @@
-use Rattle.std.proofs.Common.{rules}
-use Rattle.hall_turns.proofs.client_pass.is_for.Goals as goal
-
-pub returns-in-Some-ToClient : goal.returns-in-Some-ToClient
-returns-in-Some-ToClient c = search rules

@@ -1,5 +1,0 @@
-use Rattle.hall_turns.proofs.Moves.{takes}
-use Rattle.hall_turns.proofs.door.Door.look.Goals as goal
-
-pub try_recv_as-requires-clause-rule : goal.try_recv_as-requires-clause-rule
-try_recv_as-requires-clause-rule g c = (takes _ _, λ _ _ _ _. tt)

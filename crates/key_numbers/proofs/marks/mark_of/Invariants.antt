@@ -1,6 +1,0 @@
-use Rattle.std.proofs.Common.{◌≡◌, take}
-use Rattle.key_numbers.specs.Marks.{mark_of}
-use Rattle.key_numbers.proofs.marks.mark_of.Given as goal
-
-abbrev pub invariant-loop-at : goal.invariant-loop-at
-invariant-loop-at l = l.mark ≡ mark_of (take l.at l.key)

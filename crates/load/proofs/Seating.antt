@@ -1,0 +1,65 @@
+-- The seats of a load's callers.
+use Rattle.std.proofs.Common.{◌≡◌, ◌<◌, ◌+◌, ℕ, suc, List, [], ◌∷◌, ◌++◌, Some, length, length-append, map, get_or, refl, sym, ap, subst, ◌∙◌, arith}
+use Rattle.std.specs.List.{slice_get}
+use Rattle.std.specs.Option.{option_map}
+use Rattle.std.proofs.lemmas.List.{length-map}
+use Rattle.std.proofs.lemmas.Option.{get_or_from_slice_get, slice_get-get_or, slice_get-map, slice_get_within}
+use Rattle.seats.specs.Seats.{Seat}
+use Rattle.run_options.specs.declared.load.LoadOptions.{LoadOptions}
+use Rattle.load.specs.Callers.{AreCalled, AreNew, AreOfSeats, AreSeated, IsCalled, IsFreshSeat, work_of}
+use Rattle.load.specs.declared.callers.Called.{Called}
+use Rattle.load.specs.declared.callers.Work.{Work}
+use Rattle.load.proofs.Lists.{each_more, none_some, same_some}
+
+pub seated_none : (seats : List Seat) → seats ≡ [] → AreSeated 0 seats
+seated_none seats none = record { count = ap length none; each = λ k s at. none_some (subst (λ (l : List Seat). slice_get l k ≡ Some s) none at) }
+
+-- one more
+pub seated_more : (count : ℕ) (seats now : List Seat) (s : Seat) → AreSeated count seats → IsFreshSeat (count + 1) s → now ≡ seats ++ s ∷ [] → AreSeated (count + 1) now
+seated_more count seats now s so_far fresh is = record {
+  count = let len : length now ≡ length seats + 1 = ap length is ∙ length-append seats (s ∷ []) in let before = so_far.count in omega (arith, len, before);
+  each = each_more (λ k one. IsFreshSeat (k + 1) one) seats now s so_far.each is (subst (λ n. IsFreshSeat (n + 1) s) (sym so_far.count) fresh);
+}
+
+-- those that are left have made no call either
+pub new_left : (rest left : List Seat) (s : Seat) → AreNew rest → rest ≡ s ∷ left → AreNew left
+new_left rest left s new step k one at = new (suc k) one (subst (λ (l : List Seat). slice_get l (suc k) ≡ Some one) (sym step) at)
+
+pub new_first : (rest left : List Seat) (s : Seat) → AreNew rest → rest ≡ s ∷ left → s.log ≡ []
+new_first rest left s new step = new 0 s (subst (λ (l : List Seat). slice_get l 0 ≡ Some s) (sym step) refl)
+
+pub seated_new : (count : ℕ) (seats : List Seat) → AreSeated count seats → AreNew seats
+seated_new count seats seated k s at = (seated.each k s at).log
+
+-- the callers of the seats are the load's
+pub called : (load : LoadOptions) (seats : List Seat) (callers : List Called) → AreSeated load.callers seats → AreOfSeats load.keys load.calls seats callers → AreCalled load callers
+called load seats callers seated of = record {
+  count = of.count ∙ seated.count;
+  each = λ k one at.
+      let below : k < length callers = slice_get_within callers k one at in
+      let len = of.count in
+      let d = one.seat in
+      let there : slice_get seats k ≡ Some (get_or seats k d) = slice_get-get_or seats k d (omega (arith, below, len)) in
+      let s = get_or seats k d in
+      subst (λ n. IsCalled (work_of load.keys load.calls n) one) (seated.each k s there).client (of.each k one s at there);
+}
+
+-- each of the threads that were started for the seats kept its promise
+pub kept : {H : Type 0} (f : H → Work) (keys calls : ℕ) (handles : List H) (seats : List Seat) (callers : List Called) → map f handles ≡ map (λ s. work_of keys calls s.client) seats → length callers ≡ length handles
+    → ((i : ℕ) (d : Called) → i < length handles → (h : H) × (h ≡ get_or handles i h) × IsCalled (f h) (get_or callers i d)) → AreOfSeats keys calls seats callers
+kept {H} f keys calls handles seats callers started len each =
+    let work : Seat → Work = λ s. work_of keys calls s.client in
+    let as_many : length handles ≡ length seats = sym (length-map handles f) ∙ ap length started ∙ length-map seats work in
+    record {
+      count = len ∙ as_many;
+      each = λ k one s at there.
+          let below : k < length callers = slice_get_within callers k one at in
+          let within : k < length handles = omega (arith, below, len) in
+          let found = each k one within in
+          let handle = found.0 in
+          let at_handle : slice_get handles k ≡ Some handle = slice_get-get_or handles k handle within ∙ ap Some (sym found.1) in
+          let promised : slice_get (map f handles) k ≡ Some (f handle) = slice_get-map f handles k ∙ ap (option_map f) at_handle in
+          let wanted : slice_get (map work seats) k ≡ Some (work s) = slice_get-map work seats k ∙ ap (option_map work) there in
+          let same : f handle ≡ work s = same_some (f handle) (work s) (sym promised ∙ ap (λ (l : List Work). slice_get l k) started ∙ wanted) in
+          subst (λ (w : Work). IsCalled w one) same (subst (IsCalled (f handle)) (get_or_from_slice_get callers k one one at) found.2);
+    }

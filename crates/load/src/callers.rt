@@ -1,0 +1,208 @@
+//! Callers, each with a seat and a thread of its own.
+ghost use Rattle.std.specs.Prelude.{◌≡◌, ◌⊎◌, Err, map, IfErr, IfOk, OnErr, OnOk};
+ghost use Rattle.load.specs.Callers.{AreKeys, AreNew, AreOfSeats, AreSeated, HasCalled, IsCalled};
+ghost use Rattle.load.specs.Callers.{IsFreshSeat, LeavesCall, MakesCall, RefusesTurn, work_of};
+
+use crate::error::LoadError;
+use node_threads::{CallError, Gate, Seat, Store};
+use run_options::{Turn, call_at};
+use std::alloc::Global;
+use std::sync::Wait;
+use std::thread;
+use std::thread::{Promise, PromisedHandle, Scope, Threads, join_promised};
+use tag::ClientId;
+
+/// A caller whose thread has ended.
+#[derive(Drop)]
+pub struct Called {
+    /// Its seat, with its calls.
+    pub seat: Seat,
+    /// Why its last call was refused; none where all its calls were answered.
+    pub refusal: Option<CallError>,
+}
+
+/// What a caller's thread has to do. As a promise it says what the caller's log then has.
+#[derive(Clone, Copy)]
+pub(crate) struct Work {
+    /// How many keys there are.
+    pub keys: u8,
+    /// How many calls the caller makes.
+    pub calls: u16,
+    /// The caller.
+    pub caller: u32,
+}
+
+impl Promise<Called> for Work {
+    ghost use Rattle.load.specs.Callers.{IsCalled};
+
+    ghost kept_by = { IsCalled };
+}
+
+/// Makes the call of the turn.
+fn call_once<R: Wait, G: Gate>(
+    rt: &R,
+    alloc: Global,
+    store: &Store<G>,
+    seat: &mut Seat,
+    turn: Turn,
+) -> Result<(), CallError>
+    requires { AreKeys turn.keys }
+    ensures made { OnOk result (MakesCall turn seat.old seat.new) }
+    ensures left { OnErr result (LeavesCall turn seat.old seat.new) }
+    ensures refused { IfErr result (λ error. RefusesTurn turn error seat.old seat.new) }
+{
+    let (key, action) = call_at(alloc, turn)?;
+    store.call(rt, alloc, seat, key, action)?;
+    Ok(())
+}
+
+/// Makes the calls of a caller's turns, one after another, up to the first that is refused. Why it is.
+fn call_all<R: Wait, G: Gate>(
+    rt: &R,
+    alloc: Global,
+    store: &Store<G>,
+    seat: &mut Seat,
+    work: Work,
+) -> Option<CallError>
+    requires keys { AreKeys work.keys }
+    requires fresh { IsFreshSeat work.caller seat.old }
+    ensures { HasCalled work seat.new result }
+{
+    for number in 0..work.calls {
+        let turn = Turn {
+            keys: work.keys,
+            caller: work.caller,
+            number,
+        };
+        if let Err(error) = call_once(rt, alloc, store, seat, turn) {
+            return Some(error);
+        }
+    }
+    None
+}
+
+/// Has a caller make its calls.
+fn make_calls<R: Wait, G: Gate>(
+    rt: &R,
+    alloc: Global,
+    store: &Store<G>,
+    mut seat: Seat,
+    work: Work,
+) -> Called
+    requires keys { AreKeys work.keys }
+    requires fresh { IsFreshSeat work.caller seat }
+    ensures { IsCalled work result }
+{
+    let refusal = call_all(rt, alloc, store, &mut seat, work);
+    Called { seat, refusal }
+}
+
+/// Starts a caller on a thread of its own.
+fn start<'s, 'e: 's, R: Wait + Sync, G: Gate + Send + Sync>(
+    rt: &'e R,
+    scope: &'s Scope<'s, &'e ()>,
+    alloc: Global,
+    store: &'e Store<G>,
+    seat: Seat,
+    work: Work,
+) -> Result<PromisedHandle<Called, Work>, LoadError>
+    requires keys { AreKeys work.keys }
+    requires fresh { IsFreshSeat work.caller seat }
+    ensures started { IfOk result (λ started. started.promise ≡ work) }
+    ensures thread { IfErr result (λ error. error ≡ LoadError.Thread) }
+{
+    let started = scope.spawn_with(
+        work,
+        move || -> Called
+            requires { AreKeys work.keys × IsFreshSeat work.caller seat }
+            ensures { IsCalled work result }
+        { make_calls(rt, alloc, store, seat, work) },
+    );
+    match started {
+        Ok(started) => Ok(started),
+        Err(_) => Err(LoadError::Thread),
+    }
+}
+
+/// Starts the callers of these seats, each on a thread of its own.
+fn start_all<'s, 'e: 's, R: Wait + Sync, G: Gate + Send + Sync>(
+    rt: &'e R,
+    scope: &'s Scope<'s, &'e ()>,
+    alloc: Global,
+    store: &'e Store<G>,
+    seats: Vec<Seat>,
+    keys: u8,
+    calls: u16,
+) -> Result<Vec<PromisedHandle<Called, Work>>, LoadError>
+    requires keys { AreKeys keys }
+    requires fresh { AreNew seats.items }
+    ensures started { IfOk result (λ started. map (λ h. h.promise) started.items
+        ≡ map (λ s. work_of keys calls s.client) seats.items) }
+    ensures why { IfErr result (λ error. (error ≡ LoadError.Thread) ⊎ (error ≡ LoadError.Memory)) }
+{
+    let mut started = Vec::new(alloc);
+    for seat in seats {
+        let caller = seat.client().get();
+        let work = Work {
+            keys,
+            calls,
+            caller,
+        };
+        started.push(start(rt, scope, alloc, store, seat, work)?)?;
+    }
+    Ok(started)
+}
+
+/// Has the callers of these seats make their calls, all at once, and waits until each has ended.
+pub(crate) fn call_together<R, G>(
+    rt: &R,
+    alloc: Global,
+    store: &Store<G>,
+    seats: Vec<Seat>,
+    keys: u8,
+    calls: u16,
+) -> Result<Vec<Called>, LoadError>
+where
+    R: Threads + Wait + Sync,
+    G: Gate + Send + Sync,
+    requires keys { AreKeys keys }
+    requires fresh { AreNew seats.items }
+    ensures called { IfOk result (λ callers. AreOfSeats keys calls seats.items callers.items) }
+    ensures why { IfErr result (λ error. (error ≡ LoadError.Thread) ⊎ (error ≡ LoadError.Memory)) }
+{
+    thread::scope(
+        thread::scope_env(),
+        rt,
+        |scope| -> Result<Vec<Called>, LoadError>
+            requires { AreKeys keys × AreNew seats.items }
+            ensures called { IfOk result (λ callers.
+                AreOfSeats keys calls seats.items callers.items) }
+            ensures why { IfErr result (λ error.
+                (error ≡ LoadError.Thread) ⊎ (error ≡ LoadError.Memory)) }
+        {
+            let started = start_all(rt, scope, alloc, store, seats, keys, calls)?;
+            Ok(join_promised(rt, started)?)
+        },
+    )
+}
+
+/// Gives so many callers their seats, in order of name.
+pub(crate) fn join_all<R: Wait, G: Gate>(
+    rt: &R,
+    alloc: Global,
+    store: &Store<G>,
+    callers: u8,
+) -> Result<Vec<Seat>, LoadError>
+    ensures seated { IfOk result (λ seats. AreSeated callers seats.items) }
+    ensures why { IfErr result (λ error.
+        (error ≡ LoadError.ClientTaken) ⊎ (error ≡ LoadError.Memory)) }
+{
+    let mut seats = Vec::new(alloc);
+    for number in 0..callers {
+        let Ok(client) = ClientId::new(u32::from(number) + 1) else {
+            unreachable!()
+        };
+        seats.push(store.join(rt, alloc, client)?)?;
+    }
+    Ok(seats)
+}

@@ -1,0 +1,80 @@
+//! Why a load wasn't run to its end.
+use node_threads::{JoinError, StartError};
+use std::alloc::{AllocError, AllocFailed};
+use tag::Memory;
+use thiserror::Error;
+
+/// Why a load wasn't run to its end.
+#[derive(Clone, Copy, Debug, PartialEq, Eq, Error)]
+pub enum LoadError {
+    /// An allocation was refused.
+    #[error("memory")]
+    Memory,
+    /// A thread couldn't be started.
+    #[error("thread")]
+    Thread,
+    /// A caller's name had joined before. A store that was just started has none.
+    #[error("client taken")]
+    ClientTaken,
+}
+
+impl From<StartError> for LoadError {
+    ghost use Rattle.std.specs.Prelude.{◌≡◌};
+    ghost use Rattle.load.specs.LoadErrors.{error_of_start};
+
+    ghost from_gives = { λ error e. e ≡ error_of_start error };
+
+    fn from(error: StartError) -> LoadError {
+        match error {
+            StartError::Memory => LoadError::Memory,
+            StartError::Thread => LoadError::Thread,
+        }
+    }
+}
+
+impl From<JoinError> for LoadError {
+    ghost use Rattle.std.specs.Prelude.{◌≡◌};
+    ghost use Rattle.load.specs.LoadErrors.{error_of_join};
+
+    ghost from_gives = { λ error e. e ≡ error_of_join error };
+
+    fn from(error: JoinError) -> LoadError {
+        match error {
+            JoinError::ClientTaken => LoadError::ClientTaken,
+            JoinError::Memory => LoadError::Memory,
+        }
+    }
+}
+
+impl From<Memory> for LoadError {
+    ghost use Rattle.std.specs.Prelude.{◌≡◌};
+    ghost use Rattle.load.specs.declared.error.LoadError.TheVariants.{Memory};
+
+    ghost from_gives = { λ _ e. e ≡ Memory };
+
+    fn from(_: Memory) -> LoadError {
+        LoadError::Memory
+    }
+}
+
+impl From<AllocError> for LoadError {
+    ghost use Rattle.std.specs.Prelude.{◌≡◌};
+    ghost use Rattle.load.specs.declared.error.LoadError.TheVariants.{Memory};
+
+    ghost from_gives = { λ _ e. e ≡ Memory };
+
+    fn from(_: AllocError) -> LoadError {
+        LoadError::Memory
+    }
+}
+
+impl<T: Drop> From<AllocFailed<T>> for LoadError {
+    ghost use Rattle.std.specs.Prelude.{◌≡◌};
+    ghost use Rattle.load.specs.declared.error.LoadError.TheVariants.{Memory};
+
+    ghost from_gives = { λ _ e. e ≡ Memory };
+
+    fn from(_: AllocFailed<T>) -> LoadError {
+        LoadError::Memory
+    }
+}

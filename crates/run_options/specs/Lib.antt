@@ -1,0 +1,5 @@
+pub mod RunWords
+pub mod Options
+pub mod Laws
+pub mod Loads
+pub mod Turns

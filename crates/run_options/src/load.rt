@@ -1,0 +1,78 @@
+//! How large a load is.
+ghost use Rattle.std.specs.Prelude.{◌≡◌, ◌↔◌, IsSome, IfSome};
+ghost use Rattle.run_options.specs.Loads.{IsInRange};
+
+use client_phases::ReadMode;
+use quorum::Quorums;
+use recorder::Halls;
+use std::marker::Model;
+
+/// What is fixed of a load before it starts.
+#[derive(Clone, Copy, Debug, PartialEq, Eq)]
+pub struct LoadOptions {
+    /// The replicas, with their quorums.
+    pub quorums: Quorums,
+    /// How clients read.
+    pub reads: ReadMode,
+    /// How many halls the store has.
+    pub halls: Halls,
+    /// How many rounds of messages a phase of a call makes, 1 to 10,000.
+    pub rounds: u16,
+    /// How many callers there are, 1 to 16; their names are 1 and so on.
+    pub callers: u8,
+    /// How many calls each caller makes, 1 to 10,000.
+    pub calls: u16,
+    /// How many keys there are, 1 to 8: `k0`, `k1` and so on.
+    pub keys: u8,
+    /// Every so many-th parcel is lost, and none where it is 0; at most 1,000.
+    pub drop: u16,
+    /// Of the others every so many-th goes its way twice, and none where it is 0; at most 1,000.
+    pub double: u16,
+}
+
+/// A load within the ranges.
+#[derive(Clone, Copy, Debug, PartialEq, Eq)]
+pub struct Load {
+    options: LoadOptions,
+}
+
+impl Model for Load {
+    ghost use Rattle.run_options.specs.declared.load.LoadOptions.{LoadOptions};
+
+    ghost Value = { LoadOptions };
+
+    ghost use Rattle.run_options.specs.Loads.{IsInRange};
+
+    ghost view = { λ l. l.options };
+
+    ghost invariant = { λ l. IsInRange l.options };
+
+    ghost inverse = { λ o. record { options = o } };
+}
+
+impl Load {
+    /// The load of these options. `None` comes exactly outside the ranges.
+    pub fn new(options: LoadOptions) -> Option<Load>
+        ensures some { IsSome result ↔ IsInRange options }
+        ensures value { IfSome result (λ load. load ≡ options) }
+    {
+        let are_callers = options.callers >= 1 && options.callers <= 16;
+        let are_calls = options.calls >= 1 && options.calls <= 10_000;
+        let are_keys = options.keys >= 1 && options.keys <= 8;
+        let are_rounds = options.rounds >= 1 && options.rounds <= 10_000;
+        let are_faults = options.drop <= 1000 && options.double <= 1000;
+        if are_callers && are_calls && are_keys && are_rounds && are_faults {
+            Some(Load { options })
+        } else {
+            None
+        }
+    }
+
+    /// What is fixed of it.
+    pub fn options(self) -> LoadOptions
+        ensures options { result ≡ self }
+        ensures within { IsInRange result }
+    {
+        self.options
+    }
+}

@@ -1,2 +1,0 @@
-pub mod RunWords
-pub mod Options

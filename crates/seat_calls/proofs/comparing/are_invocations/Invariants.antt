@@ -1,6 +1,0 @@
-use Rattle.std.proofs.Common.{map}
-use Rattle.seat_calls.specs.Comparisons.{AreInvocations}
-use Rattle.seat_calls.proofs.comparing.are_invocations.Given as goal
-
-abbrev pub invariant-loop-place : goal.invariant-loop-place
-invariant-loop-place l = AreInvocations l.rows l.client l.place (map (λ e. e.now) l.entries) l.count

@@ -1,6 +1,0 @@
-use Rattle.std.proofs.Common.{map}
-use Rattle.seat_calls.specs.Comparisons.{HaveResponses}
-use Rattle.seat_calls.proofs.comparing.have_responses.Given as goal
-
-abbrev pub invariant-loop-entry : goal.invariant-loop-entry
-invariant-loop-entry l = HaveResponses l.rows (map (λ e. e.now) l.entries) l.entry-index

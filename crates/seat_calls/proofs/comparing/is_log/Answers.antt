@@ -1,9 +1,0 @@
-use Rattle.std.proofs.Common.{map, refl}
-use Rattle.std.proofs.lemmas.List.{length-map}
-use Rattle.seat_calls.proofs.Matching.{log_from}
-use Rattle.seat_calls.proofs.comparing.is_log.Goals as goal
-
-pub returns-then-are_invocations : goal.returns-then-are_invocations
-returns-then-are_invocations c = λ true.
-    log_from _ c.args.history.now.rows c.args.client (map (λ e. e.now) c.args.entries.now) _ c.rows-rows.ensures.rows
-    (length-map c.args.entries.now (λ e. e.now)) (c.if-are_invocations.ensures refl) (c.have_responses.ensures true)

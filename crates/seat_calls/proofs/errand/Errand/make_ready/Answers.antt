@@ -1,5 +1,0 @@
-use Rattle.seat_calls.proofs.Stalling.{stalls_then}
-use Rattle.seat_calls.proofs.errand.Errand.make_ready.Goals as goal
-
-pub returns-in-Err-clause-stalled : goal.returns-in-Err-clause-stalled
-returns-in-Err-clause-stalled g c = stalls_then _ _ _ _ c.leave.ensures.kept c.in-Err.ensures.stalled

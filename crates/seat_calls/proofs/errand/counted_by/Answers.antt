@@ -1,5 +1,0 @@
-use Rattle.seat_calls.proofs.Keeping.{keeps_looked}
-use Rattle.seat_calls.proofs.errand.counted_by.Goals as goal
-
-pub returns : goal.returns
-returns g c = keeps_looked _ _ c.standing.ensures.looked c.standing.ensures.recorded

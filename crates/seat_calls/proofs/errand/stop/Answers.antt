@@ -1,6 +1,0 @@
-use Rattle.std.proofs.Common.{rules}
-use Rattle.seat_calls.proofs.Keeping.{keeps_looked}
-use Rattle.seat_calls.proofs.errand.stop.Goals as goal
-
-pub returns-clause-kept : goal.returns-clause-kept
-returns-clause-kept g c = keeps_looked _ _ (search rules) (search rules)

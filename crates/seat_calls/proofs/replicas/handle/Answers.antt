@@ -1,9 +1,0 @@
-use Rattle.std.proofs.Common.{refl}
-use Rattle.seat_calls.specs.Ways.Serves.{Answered, Refused}
-use Rattle.seat_calls.proofs.replicas.handle.Goals as goal
-
-pub returns-in-Err : goal.returns-in-Err
-returns-in-Err g c = Refused _ c.in-Err.ensures.refused refl
-
-pub returns : goal.returns
-returns g c = Answered c.in-Ok.flight c.deliver.new.self c.at.result c.in-Ok.ensures.served c.report_of.ensures

@@ -1,0 +1,14 @@
+use Rattle.std.proofs.lemmas.Result.{err_from_is_err_and}
+use Rattle.seats.proofs.Keeping.{keeps_then}
+use Rattle.seats.proofs.Stalling.{stalls_then}
+use Rattle.seats.proofs.errand.Errand.leave.Goals as goal
+
+pub returns-in_err-send_round-clause-stalled : goal.returns-in_err-send_round-clause-stalled
+returns-in_err-send_round-clause-stalled g c =
+    let p = err_from_is_err_and c.from_residual.result c.from_residual.ensures.1 in
+    rw (p.1, p.2) (stalls_then _ _ _ _ c.loop.invariant c.in_err-send_round.ensures.stalled)
+
+pub returns-in_err-next-clause-stalled : goal.returns-in_err-next-clause-stalled
+returns-in_err-next-clause-stalled g c =
+    let p = err_from_is_err_and c.from_residual-in_err-next.result c.from_residual-in_err-next.ensures.1 in
+    rw (p.1, p.2) (stalls_then _ _ _ _ (keeps_then _ _ _ c.loop.invariant c.send_round.ensures.kept) c.in_err-next.ensures.stalled)

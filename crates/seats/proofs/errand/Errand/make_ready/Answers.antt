@@ -1,0 +1,5 @@
+use Rattle.seats.proofs.Stalling.{stalls_then}
+use Rattle.seats.proofs.errand.Errand.make_ready.Goals as goal
+
+pub returns-in-Err-clause-stalled : goal.returns-in-Err-clause-stalled
+returns-in-Err-clause-stalled g c = stalls_then _ _ _ _ c.leave.ensures.kept c.in-Err.ensures.stalled

@@ -1,0 +1,12 @@
+use Rattle.seats.specs.Ways.Sends.{Refused, Sent}
+use Rattle.seats.proofs.Stalling.{step_stalls}
+use Rattle.seats.proofs.errand.Errand.send.Goals as goal
+
+pub returns-in-Err-clause-sent : goal.returns-in-Err-clause-sent
+returns-in-Err-clause-sent g c = Refused c.in-Err.refusal c.in-Err.ensures.refused
+
+pub returns-in-Err-clause-stalled : goal.returns-in-Err-clause-stalled
+returns-in-Err-clause-stalled g c = step_stalls _ _ _ c.in-Err.refusal _ c.stall_of.ensures c.in-Err.ensures.refused
+
+pub returns-clause-sent : goal.returns-clause-sent
+returns-clause-sent g c = Sent c.in-Ok.flight c.parcels_of-parcels.result c.send_flight.new.pass c.at.result c.in-Ok.ensures.sent c.parcels_of-parcels.ensures.passed

@@ -1,0 +1,8 @@
+use Rattle.std.proofs.lemmas.Result.{err_from_is_err_and}
+use Rattle.seats.proofs.Stalling.{stalls_then}
+use Rattle.seats.proofs.errand.hear.Goals as goal
+
+pub returns-in_err-second-in-Twice-clause-stalled : goal.returns-in_err-second-in-Twice-clause-stalled
+returns-in_err-second-in-Twice-clause-stalled g c =
+    let p = err_from_is_err_and c.from_residual-in_err-second-in-Twice.result c.from_residual-in_err-second-in-Twice.ensures.1 in
+    rw (p.1, p.2) (stalls_then _ _ _ _ c.deliver-in-Twice.ensures.kept c.in_err-second-in-Twice.ensures.stalled)

@@ -1,0 +1,146 @@
+//! Whether a log is what a record has of its client.
+ghost use Rattle.std.specs.Prelude.{◌≡◌, ℕ, false, length, map, IfOk, IsTrue};
+ghost use Rattle.recorder.specs.Histories.{IsWellFormed};
+ghost use Rattle.tag.specs.declared.actions.Returned.{Returned};
+ghost use Rattle.recorder.specs.declared.row.Row.TheVariants as event;
+ghost use Rattle.world_steps.specs.Sound.{NotCompleted};
+ghost use Rattle.seats.specs.Comparisons.{AreInvocations, Begins, HasResponse, HaveResponses, IsInvocation};
+ghost use Rattle.recorder.specs.Logs.{IsLog, of_hall};
+
+use recorder::{Entry, History, Row};
+use std::alloc::Global;
+use tag::{ClientId, Memory, OpId, Returned};
+
+/// The entries of one hall, in order. `Memory` comes only where an allocation was refused.
+pub fn entries_of_hall<'a>(
+    alloc: Global,
+    log: &'a [Entry],
+    hall: usize,
+) -> Result<Vec<&'a Entry>, Memory>
+    ensures { IfOk result (λ entries. map (λ e. e.now) entries.items ≡ of_hall hall log.now) }
+{
+    let mut entries = Vec::new(alloc);
+    for entry in log {
+        if usize::from(entry.hall) == hall {
+            entries.push(entry)?;
+        }
+    }
+    Ok(entries)
+}
+
+/// Whether the entries are the client's calls in the record, each with its place, its key, what it does,
+/// and its answer.
+pub fn is_log(history: &History, client: ClientId, entries: &[&Entry]) -> bool
+    ensures { IsTrue result → IsLog history.now.rows client (map (λ e. e.now) entries.now) }
+{
+    let rows = history.rows();
+    are_invocations(rows, client, entries) && have_responses(rows, entries)
+}
+
+/// Whether the entries are the client's calls as the rows begin them.
+fn are_invocations(rows: &[Row], client: ClientId, entries: &[&Entry]) -> bool
+    ensures { IsTrue result → AreInvocations rows.now client (length rows.now)
+        (map (λ e. e.now) entries.now) (length entries.now) }
+{
+    let mut count = 0;
+    for place in 0..rows.len() {
+        if begins(&rows[place], client) {
+            if count >= entries.len() {
+                return false;
+            }
+            let entry = entries[count];
+            if entry.invoked != place || !is_invocation(&rows[place], client, entry) {
+                return false;
+            }
+            count += 1;
+        }
+    }
+    count == entries.len()
+}
+
+/// Whether the row begins a call of the client.
+fn begins(row: &Row, client: ClientId) -> bool
+    ensures { (result ≡ false) → Begins row.now client → ⊥ }
+{
+    match row {
+        Row::Invoke { client: caller, .. } => *caller == client,
+        _ => false,
+    }
+}
+
+/// Whether the row begins the entry's call.
+fn is_invocation(row: &Row, client: ClientId, entry: &Entry) -> bool
+    ensures { IsTrue result → IsInvocation row.now client entry.now }
+{
+    match row {
+        Row::Invoke {
+            op,
+            client: caller,
+            key,
+            action,
+        } => {
+            *op == entry.op && *caller == client && *key == entry.key && *action == entry.action
+        }
+        _ => false,
+    }
+}
+
+/// Whether each entry has the response that the rows have of its call, or none with them.
+fn have_responses(rows: &[Row], entries: &[&Entry]) -> bool
+    requires { IsWellFormed rows.now }
+    ensures { IsTrue result → HaveResponses rows.now (map (λ e. e.now) entries.now)
+        (length entries.now) }
+{
+    for entry in entries {
+        if !has_response(rows, entry) {
+            return false;
+        }
+    }
+    true
+}
+
+/// Whether the entry has the response that the rows have of its call, or none with them.
+fn has_response(rows: &[Row], entry: &Entry) -> bool
+    requires { IsWellFormed rows.now }
+    ensures { IsTrue result → HasResponse rows.now entry.now }
+{
+    let Some(response) = &entry.response else {
+        return is_unanswered(rows, entry.op);
+    };
+    response.place < rows.len() && is_response(&rows[response.place], entry.op, &response.returned)
+}
+
+/// Whether the row is that response to the call.
+fn is_response(row: &Row, op: OpId, returned: &Returned) -> bool
+    ensures { IsTrue result → row.now ≡ event.Respond op returned.now }
+{
+    match row {
+        Row::Respond {
+            op: answered,
+            returned: answer,
+        } => *answered == op && *answer == *returned,
+        _ => false,
+    }
+}
+
+/// Whether no row answers the call.
+fn is_unanswered(rows: &[Row], op: OpId) -> bool
+    ensures { IsTrue result → NotCompleted rows.now op }
+{
+    for row in rows {
+        if answers(row, op) {
+            return false;
+        }
+    }
+    true
+}
+
+/// Whether the row answers the call.
+fn answers(row: &Row, op: OpId) -> bool
+    ensures { (result ≡ false) → (returned : Returned) → row.now ≡ event.Respond op returned → ⊥ }
+{
+    match row {
+        Row::Respond { op: answered, .. } => *answered == op,
+        _ => false,
+    }
+}

@@ -1,0 +1,448 @@
+//! One call on its way: what its client sends, and what it hears.
+ghost use Rattle.std.specs.Prelude.{◌≡◌, ◌≤◌, ◌*◌, ℕ, min, true, Result, Ok, Err, Some, IfOk, IfErr, OnOk, OnErr};
+ghost use Rattle.hall_lock.specs.Turns.{IsQuiet, MayTake, TakesTurn};
+ghost use Rattle.world_steps.specs.declared.effect.Effect.TheVariants as effect;
+ghost use Rattle.world_steps.specs.declared.refusal.Refusal.{Refusal};
+ghost use Rattle.world_steps.specs.declared.step.Step.TheVariants as event;
+ghost use Rattle.seats.specs.Calls.{EndsCall, KeepsLog};
+ghost use Rattle.seats.specs.Outcomes.{Drives, IsPlaced};
+ghost use Rattle.seats.specs.Reasons.{IsUnmet, Stalls, delay_error, refusal_error, stall_error, stall_of};
+ghost use Rattle.seats.specs.Ways.{GoesOn, Hears, IsDelivery, Sends};
+
+use crate::errors::CallError;
+use crate::gate::{Gate, Pass, Place};
+use crate::patience::next_message;
+use crate::replicas::{Parcel, Report};
+use client_phases::{Phase, Taken};
+use crossbeam_channel::{Receiver, SendError, Sender, bounded};
+use hall_lock::{Begun, ClientPass, Delay, Ended};
+use quorum::ReplicaSet;
+use std::alloc::{AllocError, Global};
+use std::sync::Wait;
+use tag::{Action, Key, Memory, OpId, ReplicaId};
+use world_steps::{Effect, Refusal, Step};
+
+/// What a call needs on its way.
+#[derive(Drop)]
+pub struct Errand<'a, G> {
+    pub gate: &'a G,
+    /// The ways to the replicas, by their numbers.
+    pub replicas: &'a [Sender<Parcel>],
+    pub hall: u8,
+    pub call: OpId,
+    /// Where the replicas report, and where it is heard. It has room for all reports that can be under way.
+    pub reports: Sender<Report>,
+    pub inbox: Receiver<Report>,
+    /// How many parcels were sent and not reported on.
+    pub awaited: u64,
+}
+
+/// How many reports of a call can be under way at most, with so many replicas.
+///
+/// A replica reports once on each parcel, also where its reply came twice, and a round sends each replica at
+/// most two parcels. A round begins only when no report is awaited, except the first of the second phase:
+/// reports of the last round of the first phase may then still be under way. So they are at most those of
+/// two rounds. A call has no third phase: replies to the first are stale in the second.
+fn report_room(replicas: usize) -> usize
+    ensures { result ≡ min (4 * replicas) 18446744073709551615 }
+{
+    replicas.saturating_mul(4)
+}
+
+/// What became of a call.
+pub(crate) enum Outcome {
+    /// It didn't begin.
+    Refused(CallError),
+    /// It began, and isn't answered.
+    Pending(Begun, CallError),
+    /// It was answered.
+    Done(Begun, Ended),
+}
+
+/// Why a call that began isn't answered.
+#[derive(Clone, Copy, Debug, PartialEq, Eq)]
+pub(crate) enum Stall {
+    /// The rounds of a phase ran out, or the world refused a step otherwise.
+    Unavailable,
+    /// As many messages were sent as may be.
+    Full,
+    /// An allocation was refused.
+    Memory,
+}
+
+impl<'a, G: Gate> Errand<'a, G> {
+    /// An errand in that hall, for a call that has no number yet. What is reported to it has its room from now
+    /// on, so no report needs memory, and none waits.
+    pub fn new(
+        alloc: Global,
+        gate: &'a G,
+        replicas: &'a [Sender<Parcel>],
+        hall: u8,
+    ) -> Result<Errand<'a, G>, Memory>
+        ensures { IfOk result (λ errand. errand.hall ≡ hall) }
+    {
+        let (reports, inbox) = bounded(alloc, report_room(replicas.len()))?;
+        Ok(Errand {
+            gate,
+            replicas,
+            hall,
+            call: OpId(0),
+            reports,
+            inbox,
+            awaited: 0,
+        })
+    }
+
+    /// Makes a call of the pass's client, which has seen so many rows at least.
+    #[tactic(auto, using(crate::proofs::Keeping::keeps_same, crate::proofs::Keeping::keeps_then))]
+    pub(crate) fn drive<R: Wait>(
+        &mut self,
+        rt: &R,
+        pass: &mut ClientPass,
+        key: Key,
+        action: Action,
+        seen: usize,
+        rounds: u16,
+    ) -> Outcome
+        ensures drives { Drives pass.old key action seen result pass.new }
+        ensures placed { IsPlaced result }
+    {
+        let begun = match pass.invoke(rt, key, action, seen) {
+            Ok(begun) => begun,
+            Err(delay) => return Outcome::Refused(told_delay(delay)),
+        };
+        self.call = begun.op;
+        match self.finish(rt, pass, rounds) {
+            Ok(ended) => Outcome::Done(begun, ended),
+            Err(stall) => {
+                stop(rt, pass);
+                Outcome::Pending(begun, told_pending(stall))
+            }
+        }
+    }
+
+    /// Carries a call that began to its end.
+    #[tactic(auto, using(crate::proofs::Keeping::keeps_same, crate::proofs::Keeping::keeps_then))]
+    fn finish<R: Wait>(
+        &mut self,
+        rt: &R,
+        pass: &mut ClientPass,
+        rounds: u16,
+    ) -> Result<Ended, Stall>
+        ensures ended { IfOk result (λ ended.
+            EndsCall pass.old ended.op ended.returned ended.place pass.new) }
+        ensures placed { IfOk result (λ ended.
+            (ended.place ≤ 9223372036854775807) × (ended.copy ≡ ended.returned)) }
+        ensures failed { OnErr result (KeepsLog pass.old pass.new) }
+        ensures stalled { IfErr result (λ stall. Stalls pass.old stall pass.new) }
+    {
+        self.make_ready(rt, pass, rounds)?;
+        let place = Place::Respond {
+            hall: self.hall,
+            call: self.call,
+        };
+        let _ = self.gate.at(&place);
+        match pass.respond(rt) {
+            Ok(ended) => Ok(ended),
+            Err(refusal) => Err(stall_of(refusal)),
+        }
+    }
+
+    /// Has the client ask, and then put where it has to.
+    #[tactic(auto, using(crate::proofs::Keeping::keeps_same, crate::proofs::Keeping::keeps_then))]
+    fn make_ready<R: Wait>(
+        &mut self,
+        rt: &R,
+        pass: &mut ClientPass,
+        rounds: u16,
+    ) -> Result<(), Stall>
+        ensures kept { KeepsLog pass.old pass.new }
+        ensures stalled { IfErr result (λ stall. Stalls pass.old stall pass.new) }
+    {
+        match self.leave(rt, pass, rounds)? {
+            Phase::Put => match self.leave(rt, pass, rounds) {
+                Ok(_) => Ok(()),
+                Err(error) => Err(error),
+            },
+            _ => Ok(()),
+        }
+    }
+
+    /// Makes rounds until the phase is over, which has just begun. The phase that follows it.
+    #[tactic(auto, using(crate::proofs::Keeping::keeps_same, crate::proofs::Keeping::keeps_then))]
+    fn leave<R: Wait>(&mut self, rt: &R, pass: &mut ClientPass, rounds: u16) -> Result<Phase, Stall>
+        ensures kept { KeepsLog pass.old pass.new }
+        ensures stalled { IfErr result (λ stall. Stalls pass.old stall pass.new) }
+    {
+        let mut counted = ReplicaSet::empty();
+        for _ in 0..rounds {
+            self.send_round(rt, pass, counted)?;
+            if let Some(next) = self.hear_round(rt, pass)? {
+                return Ok(next);
+            }
+            counted = counted_by(rt, pass);
+        }
+        Err(Stall::Unavailable)
+    }
+
+    /// Sends the client's request to each replica that it didn't count.
+    #[tactic(auto, using(crate::proofs::Keeping::keeps_same, crate::proofs::Keeping::keeps_then))]
+    fn send_round<R: Wait>(
+        &mut self,
+        rt: &R,
+        pass: &mut ClientPass,
+        counted: ReplicaSet,
+    ) -> Result<(), Stall>
+        ensures kept { KeepsLog pass.old pass.new }
+        ensures stalled { IfErr result (λ stall. Stalls pass.old stall pass.new) }
+    {
+        for number in 0..15 {
+            if let Some(replica) = ReplicaId::new(number) {
+                if !counted.contains(replica) {
+                    self.send(rt, pass, replica)?;
+                }
+            }
+        }
+        Ok(())
+    }
+
+    /// Sends the client's request to a replica, where there is one of that number, as the gate says.
+    #[tactic(auto, using(crate::proofs::Keeping::keeps_same, crate::proofs::Keeping::keeps_then))]
+    fn send<R: Wait>(
+        &mut self,
+        rt: &R,
+        pass: &mut ClientPass,
+        replica: ReplicaId,
+    ) -> Result<(), Stall>
+        ensures kept { KeepsLog pass.old pass.new }
+        ensures sent { Sends pass.old replica pass.new }
+        ensures stalled { IfErr result (λ stall. Stalls pass.old stall pass.new) }
+    {
+        let Some(way) = self.replicas.get(usize::from(replica.get())) else {
+            return Ok(());
+        };
+        let flight = match send_flight(rt, pass, replica) {
+            Ok(flight) => flight,
+            Err(refusal) => return Err(stall_of(refusal)),
+        };
+        let place = Place::Request {
+            hall: self.hall,
+            call: self.call,
+            replica,
+        };
+        let parcels = parcels_of(rt, pass, self.gate.at(&place), flight);
+        self.post_all(rt, way, flight, parcels)
+    }
+
+    /// Puts so many parcels of a flight on their way.
+    fn post_all<R: Wait>(
+        &mut self,
+        rt: &R,
+        way: &Sender<Parcel>,
+        flight: u32,
+        parcels: u64,
+    ) -> Result<(), Stall>
+        ensures { IfErr result IsUnmet }
+    {
+        for _ in 0..parcels {
+            self.post(rt, way, flight)?;
+        }
+        Ok(())
+    }
+
+    /// Puts a parcel of a flight on its way.
+    fn post<R: Wait>(&mut self, rt: &R, way: &Sender<Parcel>, flight: u32) -> Result<(), Stall>
+        ensures { IfErr result IsUnmet }
+    {
+        let parcel = Parcel {
+            hall: self.hall,
+            call: self.call,
+            flight,
+            reports: self.reports.clone()?,
+        };
+        match way.send(rt, parcel) {
+            Ok(()) => {
+                self.awaited = u64::saturating_add(self.awaited, 1);
+                Ok(())
+            }
+            Err(SendError::OutOfMemory(_)) => Err(Stall::Memory),
+            Err(SendError::Disconnected(_)) => Err(Stall::Unavailable),
+        }
+    }
+
+    /// Hears what the replicas report until the phase is over or each parcel was reported on. The phase that
+    /// follows, where it is over.
+    #[tactic(auto, using(crate::proofs::Keeping::keeps_same, crate::proofs::Keeping::keeps_then))]
+    fn hear_round<R: Wait>(&mut self, rt: &R, pass: &mut ClientPass) -> Result<Option<Phase>, Stall>
+        ensures kept { KeepsLog pass.old pass.new }
+        ensures stalled { IfErr result (λ stall. Stalls pass.old stall pass.new) }
+    {
+        for _ in 0..self.awaited {
+            let Some(report) = next_message(rt, &self.inbox) else {
+                return Err(Stall::Unavailable);
+            };
+            self.awaited = u64::saturating_sub(self.awaited, 1);
+            let next = hear(rt, pass, report)?;
+            if next.is_some() {
+                return Ok(next);
+            }
+        }
+        Ok(None)
+    }
+}
+
+/// Loses a flight or has it come once more, as the gate says. How many parcels go their way.
+#[tactic(auto, using(crate::proofs::Keeping::keeps_same, crate::proofs::Keeping::keeps_then))]
+fn parcels_of<R: Wait>(rt: &R, pass: &mut ClientPass, answer: Pass, flight: u32) -> u64
+    ensures kept { KeepsLog pass.old pass.new }
+    ensures passed { GoesOn answer pass.old flight result pass.new }
+{
+    match answer {
+        Pass::Go => 1,
+        Pass::Drop => {
+            let _ = turn(rt, pass, Step::Lose { flight });
+            0
+        }
+        Pass::Twice => match turn(rt, pass, Step::Repeat { flight }) {
+            Ok(_) => 2,
+            Err(_) => 1,
+        },
+    }
+}
+
+/// Delivers what was reported. The phase that follows, where the client's phase is over.
+#[tactic(auto, using(crate::proofs::Keeping::keeps_same, crate::proofs::Keeping::keeps_then))]
+fn hear<R: Wait>(rt: &R, pass: &mut ClientPass, report: Report) -> Result<Option<Phase>, Stall>
+    ensures kept { KeepsLog pass.old pass.new }
+    ensures heard { OnOk result (Hears report pass.old pass.new) }
+    ensures stalled { IfErr result (λ stall. Stalls pass.old stall pass.new) }
+{
+    match report {
+        Report::Blank => Ok(None),
+        Report::Reply(flight) => deliver(rt, pass, flight),
+        Report::Twice(flight) => {
+            let first = deliver(rt, pass, flight)?;
+            let second = deliver(rt, pass, flight)?;
+            Ok(first.or(second))
+        }
+    }
+}
+
+/// Delivers a reply to the client. The phase that follows, where its phase is over.
+fn deliver<R: Wait>(rt: &R, pass: &mut ClientPass, flight: u32) -> Result<Option<Phase>, Stall>
+    ensures kept { KeepsLog pass.old pass.new }
+    ensures delivered { IsDelivery pass.old flight pass.new }
+    ensures stalled { IfErr result (λ stall. Stalls pass.old stall pass.new) }
+{
+    let taken = pass.deliver(rt, flight);
+    phase_after(taken)
+}
+
+/// The phase that a reply makes begin, if it does.
+fn phase_after(taken: Result<Taken, Refusal>) -> Result<Option<Phase>, Stall>
+    ensures { IfErr result (λ stall.
+        (why : Refusal) × (taken ≡ Err why) × (stall ≡ stall_of why)) }
+{
+    match taken {
+        Ok(Taken::Stale | Taken::Counted) => Ok(None),
+        Ok(Taken::Noted(_)) => Ok(Some(Phase::Put)),
+        Ok(Taken::Agreed(_) | Taken::Ready) => Ok(Some(Phase::Ready)),
+        Err(Refusal::NotInFlight) => Ok(None),
+        Err(refusal) => Err(stall_of(refusal)),
+    }
+}
+
+/// The replicas that the client counted in its phase.
+fn counted_by<R: Wait>(rt: &R, pass: &mut ClientPass) -> ReplicaSet
+    ensures { KeepsLog pass.old pass.new }
+{
+    pass.standing(rt).counted
+}
+
+/// One turn with a step that adds no row.
+fn turn<R: Wait>(rt: &R, pass: &mut ClientPass, step: Step) -> Result<Effect, Refusal>
+    requires may { MayTake (Some pass.old.client) step }
+    requires quiet { IsQuiet step }
+    ensures kept { KeepsLog pass.old pass.new }
+    ensures turned { TakesTurn pass.old step result pass.new }
+{
+    pass.take(rt, step)
+}
+
+/// One turn: the client's request to the replica is sent. The number of its flight.
+fn send_flight<R: Wait>(rt: &R, pass: &mut ClientPass, replica: ReplicaId) -> Result<u32, Refusal>
+    ensures kept { KeepsLog pass.old pass.new }
+    ensures sent { IfOk result (λ flight. TakesTurn pass.old
+        (event.Send pass.old.client replica) (Ok (effect.Sent flight)) pass.new) }
+    ensures refused { IfErr result (λ why. TakesTurn pass.old
+        (event.Send pass.old.client replica) (Err why) pass.new) }
+{
+    let client = pass.client();
+    match turn(rt, pass, Step::Send { client, replica }) {
+        Ok(Effect::Sent(flight)) => Ok(flight),
+        Ok(_) => unreachable!(),
+        Err(refusal) => Err(refusal),
+    }
+}
+
+/// Stops the client in the pass's hall.
+fn stop<R: Wait>(rt: &R, pass: &mut ClientPass)
+    ensures kept { KeepsLog pass.old pass.new }
+    ensures stopped { pass.new.is_stopped ≡ true }
+{
+    pass.stop(rt);
+}
+
+/// What a call answers that didn't begin.
+fn told_delay(delay: Delay) -> CallError
+    ensures { result ≡ delay_error delay }
+{
+    match delay {
+        Delay::Foreign => CallError::Foreign,
+        Delay::Refused(refusal) => not_begun(refusal),
+    }
+}
+
+/// What a call answers where its invocation was refused.
+fn not_begun(refusal: Refusal) -> CallError
+    ensures { result ≡ refusal_error refusal }
+{
+    match refusal {
+        Refusal::OpsFull | Refusal::FlightsFull => CallError::Full,
+        Refusal::Memory => CallError::Memory,
+        _ => CallError::Foreign,
+    }
+}
+
+/// Why a call isn't answered where a later step of it was refused.
+fn stall_of(refusal: Refusal) -> Stall
+    ensures { result ≡ stall_of refusal }
+{
+    match refusal {
+        Refusal::OpsFull | Refusal::FlightsFull => Stall::Full,
+        Refusal::Memory => Stall::Memory,
+        _ => Stall::Unavailable,
+    }
+}
+
+/// What a call answers that began and isn't answered.
+fn told_pending(stall: Stall) -> CallError
+    ensures { result ≡ stall_error stall }
+{
+    match stall {
+        Stall::Unavailable => CallError::Unavailable,
+        Stall::Full => CallError::Full,
+        Stall::Memory => CallError::Memory,
+    }
+}
+
+impl From<AllocError> for Stall {
+    ghost use Rattle.std.specs.Prelude.{◌≡◌};
+    ghost use Rattle.seats.specs.declared.errand.Stall.TheVariants.{Memory};
+
+    ghost from_gives = { λ _ e. e ≡ Memory };
+
+    fn from(_: AllocError) -> Stall {
+        Stall::Memory
+    }
+}

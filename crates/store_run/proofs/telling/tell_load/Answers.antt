@@ -1,4 +1,0 @@
-use Rattle.store_run.proofs.telling.tell_load.Goals as goal
-
-pub returns-in-ClientTaken-clause-told : goal.returns-in-ClientTaken-clause-told
-returns-in-ClientTaken-clause-told g c = rw c.in-ClientTaken.is c.say.ensures

@@ -1,4 +1,0 @@
-use Rattle.store_run.proofs.telling.tell_no_text.Goals as goal
-
-pub returns-in-Apart-clause-told : goal.returns-in-Apart-clause-told
-returns-in-Apart-clause-told g c = rw c.in-Apart.is c.say.ensures

@@ -1,0 +1,116 @@
+//! Rows of command lines.
+use cli::{Command, Usage, command};
+use client_phases::ReadMode;
+use run_options::{RunAsked, Shown};
+use std::alloc::{AllocError, Global};
+use test_rows::text_said;
+
+/// The words of a line, divided by bars.
+fn words_of(alloc: Global, line: &str) -> Result<Vec<String>, AllocError> {
+    let mut list = Vec::new(alloc);
+    for word in line.split('|') {
+        list.push(String::from_str(alloc, word)?)?;
+    }
+    Ok(list)
+}
+
+/// The load that is asked for, and what is shown of it.
+fn say_run(out: &mut String, asked: &RunAsked) -> Result<(), AllocError> {
+    let load = asked.load.options();
+    let (replicas, ask, put) = (
+        load.quorums.replicas(),
+        load.quorums.ask(),
+        load.quorums.put(),
+    );
+    let reads = match load.reads {
+        ReadMode::Full => "full",
+        ReadMode::Short => "short",
+    };
+    let halls = load.halls.count();
+    let (callers, calls, keys, rounds) = (load.callers, load.calls, load.keys, load.rounds);
+    let (drop, double) = (load.drop, load.double);
+    write!(
+        out,
+        "{replicas} replicas, ask {ask}, put {put}, {halls} halls, {reads} reads, "
+    )?;
+    write!(
+        out,
+        "{callers} callers, {calls} calls, {keys} keys, {rounds} rounds, "
+    )?;
+    write!(out, "drop {drop}, double {double}, ")?;
+    match asked.shown {
+        Shown::Hall(hall) => write!(out, "hall {hall}\n"),
+        Shown::All => out.push_str("all halls\n"),
+    }
+}
+
+fn say_asked(out: &mut String, asked: &Command<'_>) -> Result<(), AllocError> {
+    match asked {
+        Command::Check {
+            history,
+            orders,
+            workers,
+        } => {
+            let count = workers.count();
+            write!(
+                out,
+                "check of [{history}] and [{orders}], workers: {count}\n"
+            )
+        }
+        Command::Justify { history } => write!(out, "justify of [{history}]\n"),
+        Command::Simulate { script } => write!(out, "simulate of [{script}]\n"),
+        Command::Run(asked) => say_run(out, asked),
+    }
+}
+
+/// What comes of a line that isn't a command's: after ` says ` stood the word.
+fn usage_said(alloc: Global, usage: &Usage, word: &str) -> Result<String, AllocError> {
+    match usage {
+        Usage::Help(text) => text_said(alloc, "help", text.as_str(), word),
+        Usage::Version(text) => text_said(alloc, "version", text.as_str(), word),
+        Usage::Fault(text) => text_said(alloc, "fault", text.as_str(), word),
+        Usage::Memory => String::from_str(alloc, "no memory\n"),
+    }
+}
+
+/// What a line of words asks for.
+fn say_line(out: &mut String, line: &str) -> Result<(), AllocError> {
+    let alloc = *out.allocator();
+    let (words, word) = line.split_once(" says ").unwrap_or((line, ""));
+    let words = words_of(alloc, words)?;
+    match command(alloc, words.as_slice()) {
+        Ok(asked) => say_asked(out, &asked),
+        Err(usage) => out.push_str(usage_said(alloc, &usage, word)?.as_str()),
+    }
+}
+
+/// What each line asks for; after ` says ` stands a word that the help, the version or the fault has
+/// to have.
+pub fn say_words(out: &mut String, lines: &str) -> Result<(), AllocError> {
+    for line in lines.lines() {
+        say_line(out, line)?;
+    }
+    Ok(())
+}
+
+/// The first line of what the words have said in place of a command.
+fn first_line_of(usage: &Usage) -> &str {
+    let text = match usage {
+        Usage::Help(text) | Usage::Version(text) | Usage::Fault(text) => text.as_str(),
+        Usage::Memory => "no memory",
+    };
+    text.lines().next().unwrap_or("")
+}
+
+/// What each line asks for, and the first line of what is said in place of a command.
+pub fn say_first_lines(out: &mut String, lines: &str) -> Result<(), AllocError> {
+    let alloc = *out.allocator();
+    for line in lines.lines() {
+        let words = words_of(alloc, line)?;
+        match command(alloc, words.as_slice()) {
+            Ok(asked) => say_asked(out, &asked)?,
+            Err(usage) => write!(out, "{}\n", first_line_of(&usage))?,
+        }
+    }
+    Ok(())
+}
