@@ -5,51 +5,23 @@ use Rattle.std.specs.List.Sorted.{IsSearchInRange, IsBinarySearchResult, IsNonDe
 use Rattle.std.specs.Ordering.{nat_cmp, ordering_index}
 use Rattle.std.proofs.lemmas.Cmp.{ranked}
 use Rattle.std.proofs.lemmas.Bool.Decides.{nat_tests}
-use Rattle.std.proofs.Common.{Bool, true, false, Result, Ok, Err, IfOk, IfErr, zero, suc, ◌≢◌, [], ◌∷◌, ◌++◌, ◌⊎◌, max, take, set, length-take, length-append, ℕ, ◌≡◌, ◌<◌, ◌≤◌, ◌+◌, List, Some, None, Option, length, get_or, sym, ◌∙◌, ap, arith, refl}
+use Rattle.std.proofs.Common.{Bool, true, false, Result, Ok, Err, IfOk, IfErr, ◌≢◌, [], ◌∷◌, ◌++◌, ◌⊎◌, max, take, set, length-take, length-append, ℕ, ◌≡◌, ◌<◌, ◌≤◌, ◌+◌, List, Some, None, Option, length, get_or, sym, ◌∙◌, ap, arith, refl}
 use Rattle.std.specs.List.{slice_get, Contains}
-use Rattle.std.proofs.lemmas.Option.{slice_get-get_or, slice_get_within, get_or_from_slice_get, slice_get_cases}
+use Rattle.std.proofs.lemmas.Option.{slice_get-get_or, slice_get_within, get_or_from_slice_get}
 use Rattle.std.proofs.lemmas.Bool.{cases_lt}
 use Rattle.std.proofs.Common.{inl, inr, subst}
+use Rattle.tag.proofs.Lists.{Contains-slice_get, get_at, slice_get-take, push_cases, slice_get-set}
 use Rattle.tag.specs.declared.actions.Action.TheVariants.{Read, Write}
 use Rattle.tag.specs.declared.actions.Returned.TheVariants.{Value}
 use Rattle.recorder.specs.declared.part.Response.{Response}
 use Rattle.std.proofs.Common.{below_more}
 use Rattle.tag.specs.declared.numbers.OpId.{OpId}
 use Rattle.recorder.specs.declared.part.Call.{Call}
+use Rattle.recorder.proofs.Sequences.{same_at, same_index}
 use Rattle.recorder.specs.Parts.{IsSequence, IsPending}
 use Rattle.recorder.specs.Orders.{StandsAt, WritesAt, NoWriteFrom, IsLastWritten, AnswersLast, IsLegal, IsComplete, IsOrder}
 use Rattle.certificate_check.specs.Places.{Locates, HasOpAt, Marks}
-use Rattle.certificate_check.specs.Verdicts.{IsPendingRead, IsWrongAnswer, IsLeast, IsUnknown, IsRepeated, IsBroken, IsBrokenAt, HasNone, IsMissing}
-
--- what a list contains stands at an index
-pub index_of : {X : Type 0} (xs : List X) (x : X) → Contains xs x → (k : ℕ) × (slice_get xs k ≡ Some x)
-index_of xs x h = (h.0, slice_get-get_or xs h.0 x h.1 ∙ ap Some h.2)
-
--- what stands at an index is contained
-pub Contains-slice_get : {X : Type 0} (xs : List X) (k : ℕ) (x : X) → slice_get xs k ≡ Some x → Contains xs x
-Contains-slice_get xs k x h = (k, slice_get_within xs k x h, get_or_from_slice_get xs k x x h)
-
--- a part has one call of a number
-pub same_index : (part : List Call) → IsSequence part → (i j : ℕ) (a b : Call) → slice_get part i ≡ Some a → slice_get part j ≡ Some b → a.op ≡ b.op → i ≡ j
-same_index part numbered i j a b at_i at_j same =
-    let number : a.op.0 ≡ b.op.0 = ap (λ (o : OpId). o.0) same in
-    elim (cases_lt i j) [
-      | inl h ↦ absurd (let up : a.op.0 < b.op.0 = numbered.numbers i j a b h at_i at_j in omega arith)
-      | inr h ↦ elim (cases_lt j i) [
-        | inl g ↦ absurd (let down : b.op.0 < a.op.0 = numbered.numbers j i b a g at_j at_i in omega arith)
-        | inr g ↦ omega arith
-      ]
-    ]
-
--- one call stands at a place
-pub same_call : (part : List Call) (order : List OpId) → IsSequence part → (i : ℕ) (a b : Call) → StandsAt part order i a → StandsAt part order i b → a ≡ b
-same_call part order numbered i a b left right =
-    let same : a.op ≡ b.op = cc (left.listed, right.listed) in
-    let k = index_of part a left.recorded in
-    let m = index_of part b right.recorded in
-    let index : k.0 ≡ m.0 = same_index part numbered k.0 m.0 a b k.1 m.1 same in
-    let at : slice_get part k.0 ≡ slice_get part m.0 = ap (slice_get part) index in
-    cc (k.1, m.1, at)
+use Rattle.certificate_check.specs.Verdicts.{IsPendingRead, IsWrongAnswer, IsLeast, IsUnknown, IsRepeated, BreaksPrecedence, BreaksPrecedenceAt, HasNone, IsMissing}
 
 -- a call that stands at a place stands below the order's length
 pub place_within : (part : List Call) (order : List OpId) (i : ℕ) (a : Call) → StandsAt part order i a → i < length order
@@ -59,7 +31,7 @@ place_within part order i a h = slice_get_within order i a.op h.listed
 pub pending_more : (part : List Call) (order : List OpId) → IsSequence part → (i : ℕ) (call : Call) → StandsAt part order i call → (IsPending call × (call.action ≡ Read) → ⊥) → ((m : ℕ) → m < i → IsPendingRead part order m → ⊥) → (m : ℕ) → m < i + 1 → IsPendingRead part order m → ⊥
 pending_more part order numbered i call stands not_here before =
     below_more (λ m. IsPendingRead part order m → ⊥) i before (λ found.
-    let same : found.0 ≡ call = same_call part order numbered i found.0 call found.1 stands in
+    let same : found.0 ≡ call = same_at part order numbered i found.0 call found.1 stands in
     not_here (subst (λ (x : Call). IsPending x × (x.action ≡ Read)) same (found.2, found.3)))
 
 -- the call at place m, if it is a read with a response, answers the last value
@@ -70,7 +42,7 @@ IsRightAt part order m = (call : Call) (response : Response) → StandsAt part o
 pub legal_more : (part : List Call) (order : List OpId) → IsSequence part → (i : ℕ) (call : Call) (v : Option (List ℕ)) → StandsAt part order i call → IsLastWritten part order i v → ((response : Response) → call.action ≡ Read → call.response ≡ Some response → response.returned ≡ Value v) → ((m : ℕ) → m < i → IsRightAt part order m) → (m : ℕ) → m < i + 1 → IsRightAt part order m
 legal_more part order numbered i call v stands last right before =
     below_more (IsRightAt part order) i before (λ other response there reads answered.
-    let same : other ≡ call = same_call part order numbered i other call there stands in
+    let same : other ≡ call = same_at part order numbered i other call there stands in
     let read : call.action ≡ Read = cc (reads, same) in
     let has : call.response ≡ Some response = cc (answered, same) in
     (v, right response read has, last))
@@ -84,7 +56,7 @@ last_written part order i call value stands wrote =
 pub last_kept : (part : List Call) (order : List OpId) → IsSequence part → (i : ℕ) (call : Call) (v : Option (List ℕ)) → StandsAt part order i call → call.action ≡ Read → IsLastWritten part order i v → IsLastWritten part order (i + 1) v
 last_kept part order numbered i call v stands read last =
     let none_here : (value : List ℕ) → WritesAt part order i value → ⊥ = λ value w.
-    let same : w.0 ≡ call = same_call part order numbered i w.0 call w.1 stands in
+    let same : w.0 ≡ call = same_at part order numbered i w.0 call w.1 stands in
     cc (w.2, same, read) in
     let more : (low : ℕ) → NoWriteFrom part order low i → NoWriteFrom part order low (i + 1) = λ low none k value above below wrote.
     elim (cases_lt k i) [
@@ -110,7 +82,7 @@ same_last part order numbered i (Some x) (Some y) a b =
         | inr g ↦
             let at : a.0 ≡ b.0 = omega arith in
             let there : WritesAt part order b.0 x = subst (λ (k : ℕ). WritesAt part order k x) at a.2 in
-            let same : there.0 ≡ b.2.0 = same_call part order numbered b.0 there.0 b.2.0 there.1 b.2.1 in
+            let same : there.0 ≡ b.2.0 = same_at part order numbered b.0 there.0 b.2.0 there.1 b.2.1 in
             cc (there.2, b.2.2, same)
       ]
     ]
@@ -129,11 +101,11 @@ wrong_here part order numbered i call response v stands read answered last other
 )
 
 -- no broken place up to one whose response isn't before any earlier invocation
-pub broken_more : (part : List Call) (order : List OpId) → IsSequence part → (j : ℕ) (call : Call) (latest : ℕ) → StandsAt part order j call → ((i : ℕ) (a : Call) → i < j → StandsAt part order i a → a.invoked ≤ latest) → ((response : Response) → call.response ≡ Some response → latest ≤ response.place) → ((m : ℕ) → m < j → IsBrokenAt part order m → ⊥) → (m : ℕ) → m < j + 1 → IsBrokenAt part order m → ⊥
+pub broken_more : (part : List Call) (order : List OpId) → IsSequence part → (j : ℕ) (call : Call) (latest : ℕ) → StandsAt part order j call → ((i : ℕ) (a : Call) → i < j → StandsAt part order i a → a.invoked ≤ latest) → ((response : Response) → call.response ≡ Some response → latest ≤ response.place) → ((m : ℕ) → m < j → BreaksPrecedenceAt part order m → ⊥) → (m : ℕ) → m < j + 1 → BreaksPrecedenceAt part order m → ⊥
 broken_more part order numbered j call latest stands most late before =
-    below_more (λ m. IsBrokenAt part order m → ⊥) j before (λ found.
+    below_more (λ m. BreaksPrecedenceAt part order m → ⊥) j before (λ found.
     let broken = found.1 in
-    let same : broken.1 ≡ call = same_call part order numbered j broken.1 call broken.4 stands in
+    let same : broken.1 ≡ call = same_at part order numbered j broken.1 call broken.4 stands in
     let preceded = broken.5 in
     let answered : call.response ≡ Some preceded.0 = cc (preceded.1, same) in
     let high : latest ≤ preceded.0.place = late preceded.0 answered in
@@ -148,7 +120,7 @@ most_more part order numbered j call latest later is stands most i a below at =
       | inr h ↦
           let here : i ≡ j = omega arith in
           let there : StandsAt part order j a = subst (λ (x : ℕ). StandsAt part order x a) here at in
-          let same : a ≡ call = same_call part order numbered j a call there stands in
+          let same : a ≡ call = same_at part order numbered j a call there stands in
           let places : a.invoked ≡ call.invoked = ap (λ (x : Call). x.invoked) same in
           omega arith
     ]
@@ -164,63 +136,21 @@ reached_more part order j call latest later is stands reached place below =
     ]
 
 -- what the first earlier call that was invoked after the response makes of a broken place
-pub broken_here : (part : List Call) (order : List OpId) → IsSequence part → (j : ℕ) (call : Call) (response : Response) (latest : ℕ) → StandsAt part order j call → call.response ≡ Some response → response.place < latest → ((place : ℕ) → place < latest → Reaches part order j place) → ((m : ℕ) → m < j → IsBrokenAt part order m → ⊥) → (i : ℕ) → IsLeast (λ k. (a : Call) × StandsAt part order k a × (response.place < a.invoked)) i → IsLeast (IsBrokenAt part order) j × IsLeast (IsBroken part order j) i
+pub broken_here : (part : List Call) (order : List OpId) → IsSequence part → (j : ℕ) (call : Call) (response : Response) (latest : ℕ) → StandsAt part order j call → call.response ≡ Some response → response.place < latest → ((place : ℕ) → place < latest → Reaches part order j place) → ((m : ℕ) → m < j → BreaksPrecedenceAt part order m → ⊥) → (i : ℕ) → IsLeast (λ k. (a : Call) × StandsAt part order k a × (response.place < a.invoked)) i → IsLeast (BreaksPrecedenceAt part order) j × IsLeast (BreaksPrecedence part order j) i
 broken_here part order numbered j call response latest stands answered below reached before i first =
     let r : Reaches part order j response.place = reached response.place below in
     let earlier : i < j = elim (cases_lt r.0 i) [ inl h ↦ absurd (first.1 r.0 h (r.1, r.3, r.4)) | inr h ↦ omega (arith, r.2) ] in
-    let broken : IsBroken part order j i = (first.0.0, call, earlier, first.0.1, stands, (response, answered, first.0.2)) in (
+    let broken : BreaksPrecedence part order j i = (first.0.0, call, earlier, first.0.1, stands, (response, answered, first.0.2)) in (
       ((i, broken), before),
       (
         broken,
         λ m less other.
-            let same : other.1 ≡ call = same_call part order numbered j other.1 call other.4 stands in
+            let same : other.1 ≡ call = same_at part order numbered j other.1 call other.4 stands in
             let responses : other.5.0 ≡ response = cc (other.5.1, answered, same) in
             let places : other.5.0.place ≡ response.place = ap (λ (x : Response). x.place) responses in
             first.1 m less (other.0, other.3, omega (arith, other.5.2)),
       ),
     )
-
--- an index within a list leads to an element
-pub get_at : {X : Type 0} (xs : List X) (k : ℕ) → k < length xs → (x : X) × (slice_get xs k ≡ Some x)
-get_at xs k h = elim (slice_get_cases xs k).1 [ inl w ↦ (w.0, w.2) | inr w ↦ absurd (omega (arith, w.0)) ]
-
--- what stands in a front stands in the list
-pub slice_get-take : {X : Type 0} (xs : List X) (n i : ℕ) → i < n → slice_get (take n xs) i ≡ slice_get xs i
-slice_get-take [] zero i h = refl
-slice_get-take [] (suc n) i h = refl
-slice_get-take (x ∷ xs) zero i h = absurd (omega arith)
-slice_get-take (x ∷ xs) (suc n) zero h = refl
-slice_get-take (x ∷ xs) (suc n) (suc i) h = slice_get-take xs n i (omega arith)
-
--- an element of a list with one more is an element of the list, or the one more
-pub push_cases : {X : Type 0} (xs : List X) (y : X) (k : ℕ) (z : X) → slice_get (xs ++ y ∷ []) k ≡ Some z → (slice_get xs k ≡ Some z) ⊎ ((k ≡ length xs) × (y ≡ z))
-push_cases [] y zero z h = inr (refl, cc)
-push_cases [] y (suc k) z h = absurd (cc)
-push_cases (x ∷ xs) y zero z h = inl h
-push_cases (x ∷ xs) y (suc k) z h = elim (push_cases xs y k z h) [ inl w ↦ inl w | inr w ↦ inr (omega (arith, w.0), w.1) ]
-
--- what stands at k after a write
-pub slice_get-set : {X : Type 0} (xs : List X) (i k : ℕ) (v : X) → i < length xs → ((k ≡ i) × (slice_get (set xs i v) k ≡ Some v)) ⊎ ((k ≢ i) × (slice_get (set xs i v) k ≡ slice_get xs k))
-slice_get-set xs i k v h =
-    elim (cases_lt k i) [
-      | inl g ↦ inr (omega arith, set_other xs i k v (omega arith))
-      | inr g ↦ elim (cases_lt i k) [
-        | inl f ↦ inr (omega arith, set_other xs i k v (omega arith))
-        | inr f ↦ let here : k ≡ i = omega arith in inl (here, ap (slice_get (set xs i v)) here ∙ set_same xs i v h)
-      ]
-    ]
-  where
-    set_same : {X : Type 0} (xs : List X) (i : ℕ) (v : X) → i < length xs → slice_get (set xs i v) i ≡ Some v
-    set_same [] i v h = absurd (omega arith)
-    set_same (x ∷ xs) zero v h = refl
-    set_same (x ∷ xs) (suc i) v h = set_same xs i v (omega arith)
-
-    set_other : {X : Type 0} (xs : List X) (i k : ℕ) (v : X) → k ≢ i → slice_get (set xs i v) k ≡ slice_get xs k
-    set_other [] i k v h = refl
-    set_other (x ∷ xs) zero zero v h = absurd (omega arith)
-    set_other (x ∷ xs) zero (suc k) v h = refl
-    set_other (x ∷ xs) (suc i) zero v h = refl
-    set_other (x ∷ xs) (suc i) (suc k) v h = set_other xs i k v (omega arith)
 
 -- the call at a place, by its index
 pub record Placed (calls : List Call) (order : List OpId) (indexes : List ℕ) (i : ℕ) : Type 0 where
@@ -280,7 +210,7 @@ repeated_index calls order indexes numbered located i repeated =
     let k = repeated.1 in
     let q : Placed calls order indexes k.0 = placed calls order indexes located k.0 (omega (arith, repeated.0, k.1)) in
     let ops : q.call.op ≡ p.call.op = cc (k.2, p.same, q.same) in
-    let index : q.index ≡ p.index = same_index calls numbered q.index p.index q.call p.call q.recorded p.recorded ops in
+    let index : q.index ≡ p.index = same_index calls numbered q.index p.index q.call p.call q.recorded p.recorded (ap (λ (o : OpId). o.0) ops) in
     (slice_get_within indexes i p.index p.listed, (k.0, k.1, cc (p.listed, q.listed, index)))
 
 -- and back
@@ -305,7 +235,7 @@ pub wrong_none : (calls : List Call) (order : List OpId) → IsLegal calls order
 wrong_none calls order legal i found = found.5 (legal i found.0 found.1 found.2 found.3 found.4)
 
 -- no fault, so an order
-pub order_of_none : (calls : List Call) (order : List OpId) (indexes : List ℕ) → Locates calls order indexes → HasNone (IsRepeated order) → IsComplete calls order → HasNone (IsPendingRead calls order) → IsLegal calls order → HasNone (IsBrokenAt calls order) → IsOrder calls order
+pub order_of_none : (calls : List Call) (order : List OpId) (indexes : List ℕ) → Locates calls order indexes → HasNone (IsRepeated order) → IsComplete calls order → HasNone (IsPendingRead calls order) → IsLegal calls order → HasNone (BreaksPrecedenceAt calls order) → IsOrder calls order
 order_of_none calls order indexes located once complete answered legal kept = record {
   known = λ i h. let p : Placed calls order indexes i = placed calls order indexes located i h in (p.call, Placed-stands calls order indexes i p);
   once = λ i j less within same. once j (within, (i, less, same));
@@ -382,8 +312,8 @@ Marks-from_indexes calls order indexes marks i numbered located past all listed 
   listed = λ k call at mark. let m = listed k mark in (m.0, record { listed = located.same m.0 k call m.2 at; recorded = Contains-slice_get calls k call at });
   marked = λ j k call at stands.
       let p : Placed calls order indexes j = placed calls order indexes located j (place_within calls order j call stands) in
-      let same : p.call ≡ call = same_call calls order numbered j p.call call (Placed-stands calls order indexes j p) stands in
-      let index : p.index ≡ k = same_index calls numbered p.index k p.call call p.recorded at (ap (λ (x : Call). x.op) same) in
+      let same : p.call ≡ call = same_at calls order numbered j p.call call (Placed-stands calls order indexes j p) stands in
+      let index : p.index ≡ k = same_index calls numbered p.index k p.call call p.recorded at (ap (λ (x : Call). x.op.0) same) in
       let below : j < i = omega (arith, place_within calls order j call stands) in
       ap (slice_get marks) (sym index) ∙ marked j p.index below p.listed;
 }

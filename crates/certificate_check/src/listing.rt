@@ -20,7 +20,7 @@ fn find(calls: &[Call], op: OpId) -> Option<usize>
     calls.binary_search_by_key(&op.0, |call| call.op.0).ok()
 }
 
-/// The same, where one index is looked at before the others.
+/// The same, where one index is tried before the others.
 fn find_near(calls: &[Call], near: usize, op: OpId) -> Option<usize>
     requires { IsSequence calls.now }
     ensures found { IfSome result (λ k. HasOpAt calls.now k op) }
@@ -46,7 +46,7 @@ impl<'a> Listing<'a> {
     ghost use Rattle.certificate_check.specs.Verdicts.{IsVerdict};
     ghost use Rattle.certificate_check.specs.Verdicts.{IsLeast, HasNone, IsFirst, IsUnknown};
     ghost use Rattle.certificate_check.specs.Verdicts.{IsRepeated, IsMissing, IsPendingRead};
-    ghost use Rattle.certificate_check.specs.Verdicts.{IsWrongAnswer, IsBroken, IsBrokenAt};
+    ghost use Rattle.certificate_check.specs.Verdicts.{IsWrongAnswer, BreaksPrecedence, BreaksPrecedenceAt};
     ghost use Rattle.certificate_check.specs.Places.{Marks};
     ghost use Rattle.recorder.specs.Orders.{StandsAt, IsComplete, IsLegal};
 
@@ -63,7 +63,7 @@ impl<'a> Listing<'a> {
             (λ i. IsLeast (IsUnknown calls.now order.now) i)) }
     {
         let mut indexes = Vec::with_capacity(alloc, order.len())?;
-        // Most orders take a key's calls nearly as they were invoked.
+        // Most orders list a key's calls nearly as they were invoked.
         let mut next = 0;
         for (i, op) in order.iter().enumerate() {
             match find_near(calls, next, *op) {
@@ -196,9 +196,9 @@ impl<'a> Listing<'a> {
     /// The first place of a call with its response before the invocation of an earlier one, after
     /// the first such earlier place.
     fn first_broken(&self) -> Option<(usize, usize)>
-        ensures { MatchOption result (HasNone (IsBrokenAt self.now.calls.now self.now.order.now))
-            (λ places. IsLeast (IsBrokenAt self.now.calls.now self.now.order.now) places.1
-            × IsLeast (IsBroken self.now.calls.now self.now.order.now places.1) places.0) }
+        ensures { MatchOption result (HasNone (BreaksPrecedenceAt self.now.calls.now self.now.order.now))
+            (λ places. IsLeast (BreaksPrecedenceAt self.now.calls.now self.now.order.now) places.1
+            × IsLeast (BreaksPrecedence self.now.calls.now self.now.order.now places.1) places.0) }
     {
         let mut latest = 0;
         for j in 0..self.order.len() {

@@ -4,20 +4,13 @@ use Rattle.std.specs.List.{slice_get, Contains}
 use Rattle.std.specs.Ordering.{nat_cmp}
 use Rattle.std.specs.Cmp.Lexicographic.{slice_cmp}
 use Rattle.std.specs.BTreeMap.{BTreeMap, Updates, get}
-use Rattle.std.proofs.lemmas.Option.{none-some, slice_get_within, get_or_from_slice_get, slice_get-get_or}
+use Rattle.std.proofs.lemmas.Option.{none-some}
 use Rattle.std.proofs.lemmas.Map.Lookups.{exact_unsigned, exact_bytes}
 use Rattle.key_index.specs.Marks.{mark_of}
-use Rattle.key_index.specs.Numbers.{IsPlace, AreDistinct}
+use Rattle.key_index.specs.Numbers.{IsPlace, EachOnce}
 use Rattle.key_index.specs.Kept.{ArePlaced}
-use Rattle.key_index.proofs.Lists.{push_cases, slice_get-push_left, slice_get-push_last}
+use Rattle.tag.proofs.Lists.{place_of, push_cases, slice_get-push_left, slice_get-push_last, Contains-slice_get}
 use Rattle.key_index.proofs.Updated.{updated_cases, kept}
-
--- what a list contains stands at a place
-place_of : {X : Type 0} (xs : List X) (x : X) → Contains xs x → (k : ℕ) × (slice_get xs k ≡ Some x)
-place_of xs x h = (h.0, slice_get-get_or xs h.0 x h.1 ∙ ap Some h.2)
-
-contained : {X : Type 0} (xs : List X) (k : ℕ) (x : X) → slice_get xs k ≡ Some x → Contains xs x
-contained xs k x h = (k, slice_get_within xs k x h, get_or_from_slice_get xs k x x h)
 
 -- a key without a number of its mark isn't among the keys
 pub unmarked : (marked : BTreeMap ℕ ℕ) (others : BTreeMap (List ℕ) ℕ) (keys : List (List ℕ)) (key : List ℕ) → ArePlaced marked others keys → get nat_cmp marked (mark_of key) ≡ None → Contains keys key → ⊥
@@ -48,14 +41,14 @@ placed_still old new others keys e are = record {
 }
 
 -- with a key more, that wasn't seen
-distinct_more : (keys : List (List ℕ)) (key : List ℕ) → AreDistinct keys → (Contains keys key → ⊥) → AreDistinct (keys ++ key ∷ [])
+distinct_more : (keys : List (List ℕ)) (key : List ℕ) → EachOnce keys → (Contains keys key → ⊥) → EachOnce (keys ++ key ∷ [])
 distinct_more keys key distinct unseen i j q at_i at_j = elim (push_cases keys key i q at_i) [
   | inl a ↦ elim (push_cases keys key j q at_j) [
     | inl b ↦ distinct i j q a b
-    | inr b ↦ absurd (unseen (contained keys i key (a ∙ ap Some (sym b.1))))
+    | inr b ↦ absurd (unseen (Contains-slice_get keys i key (a ∙ ap Some (sym b.1))))
   ]
   | inr a ↦ elim (push_cases keys key j q at_j) [
-    | inl b ↦ absurd (unseen (contained keys j key (b ∙ ap Some (sym a.1))))
+    | inl b ↦ absurd (unseen (Contains-slice_get keys j key (b ∙ ap Some (sym a.1))))
     | inr b ↦ a.0 ∙ sym b.0
   ]
 ]
@@ -85,7 +78,7 @@ other_more marked old new keys key are unseen first has_first updates = record {
   distinct = distinct_more keys key are.distinct unseen;
   found = λ n q at. elim (push_cases keys key n q at) [
     | inl w ↦ let f = are.found n q w in
-        let other : key ≡ q → ⊥ = λ e. unseen (contained keys n key (w ∙ ap Some (sym e))) in (
+        let other : key ≡ q → ⊥ = λ e. unseen (Contains-slice_get keys n key (w ∙ ap Some (sym e))) in (
           f.0,
           f.1,
           elim f.2 [

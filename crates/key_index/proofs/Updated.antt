@@ -1,21 +1,11 @@
 -- Maps with one entry more.
-use Rattle.std.proofs.Common.{ℕ, ◌≡◌, ◌⊎◌, inl, inr, Option, Some, None, true, false, cond, sym, ◌∙◌, ap, refl}
+use Rattle.std.proofs.Common.{ℕ, ◌≡◌, ◌⊎◌, inl, inr, Option, Some, cond, sym, ◌∙◌, ap}
 use Rattle.std.specs.Cmp.{Equal-is}
-use Rattle.std.specs.Option.{is_some}
 use Rattle.std.specs.declared.cmp.Ordering.{Ordering}
 use Rattle.std.specs.BTreeMap.{BTreeMap, Updates, get, is_at}
 use Rattle.std.proofs.lemmas.Bool.{cases_Bool}
 use Rattle.std.proofs.lemmas.Option.{same_Some}
 use Rattle.std.proofs.lemmas.Map.Lookups.{CmpEqualImpliesEq}
-
--- an option that has a value, and one that has none
-pub value_of : (o : Option ℕ) → is_some o ≡ true → (n : ℕ) × (o ≡ Some n)
-value_of None h = absurd (cc)
-value_of (Some n) h = (n, refl)
-
-pub none_from_not_some : (o : Option ℕ) → is_some o ≡ false → o ≡ None
-none_from_not_some None h = refl
-none_from_not_some (Some n) h = absurd (cc)
 
 -- what an updated map has was written, or was there before
 pub updated_cases : {K : Type 0} (cmp : K → K → Ordering) → CmpEqualImpliesEq cmp → (old new : BTreeMap K ℕ) (k q : K) (v w : ℕ) → Updates cmp old new k (Some v) → get cmp new q ≡ Some w → ((k ≡ q) × (v ≡ w)) ⊎ (get cmp old q ≡ Some w)

@@ -5,7 +5,7 @@ use Rattle.std.specs.Cmp.Lexicographic.{slice_cmp}
 use Rattle.std.specs.BTreeMap.{BTreeMap, get}
 use Rattle.key_index.specs.declared.numbers.KeyNumbers.TheInside.{Inside}
 use Rattle.key_index.specs.Marks.{mark_of}
-use Rattle.key_index.specs.Numbers.{AreDistinct}
+use Rattle.key_index.specs.Numbers.{EachOnce}
 
 -- the key of that number has that mark
 abbrev pub HasMark : List (List ℕ) → ℕ → ℕ → Type 0
@@ -21,7 +21,7 @@ IsFound marked others key number = (first : ℕ) × (get nat_cmp marked (mark_of
 -- each of the others has its own
 pub record ArePlaced (marked : BTreeMap ℕ ℕ) (others : BTreeMap (List ℕ) ℕ) (keys : List (List ℕ)) :
     Type 0 where
-  pub distinct : AreDistinct keys
+  pub distinct : EachOnce keys
   pub found : (number : ℕ) (key : List ℕ) → slice_get keys number ≡ Some key
       → IsFound marked others key number
   pub of_mark : (mark number : ℕ) → get nat_cmp marked mark ≡ Some number → HasMark keys number mark

@@ -1,7 +1,7 @@
 //! Keys and their numbers.
 ghost use Rattle.std.specs.Prelude.{◌≡◌, ◌↔◌, [], true, Some, IfOk, IfSome, IsTrue, OnErr};
 ghost use Rattle.std.specs.List.{slice_get, Contains};
-ghost use Rattle.key_index.specs.Numbers.{AreDistinct, IsPlace, Numbers};
+ghost use Rattle.key_index.specs.Numbers.{EachOnce, IsPlace, Numbers};
 ghost use Rattle.key_index.specs.Marks.{mark_of};
 ghost use Rattle.tag.specs.Names.{is_key};
 
@@ -30,7 +30,7 @@ pub struct KeyNumbers {
     others: BTreeMap<KeyText, usize>,
     keys: Vec<Key>,
     /// The mark and the number of the last key that was asked for of those whose marks leave this
-    /// place. The key is compared before its number is taken, so what stands here costs time and
+    /// place. The key is compared before its number is used, so what stands here costs time and
     /// changes no answer.
     at_hand: Vec<(u64, usize)>,
 }
@@ -63,7 +63,7 @@ impl KeyNumbers {
     /// The keys, by number.
     pub fn keys(&self) -> &[Key]
         ensures keys { result.now ≡ self.now }
-        ensures distinct { AreDistinct self.now }
+        ensures distinct { EachOnce self.now }
     {
         self.keys.as_slice()
     }

@@ -5,10 +5,10 @@ use Rattle.std.specs.Option.{option_map}
 use Rattle.std.proofs.lemmas.List.{length-map}
 use Rattle.std.proofs.lemmas.Option.{slice_get-map, slice_get_within, slice_get_read}
 use Rattle.recorder.specs.declared.order.KeyOrder.{KeyOrder}
-use Rattle.recorder.specs.Lists.{Contains-slice_get, push_cases, slice_get-take}
+use Rattle.tag.proofs.Lists.{slice_get-map_back, Contains-slice_get, push_cases, slice_get-take}
 use Rattle.key_index.specs.Numbers.{Numbers, known, first}
 use Rattle.parallel_keys.specs.CheckedKeys.{AreDistinct}
-use Rattle.parallel_keys.specs.Fronts.{front_more, mapped_more, place_before}
+use Rattle.parallel_keys.proofs.Fronts.{front_more, mapped_more}
 
 abbrev key_in : KeyOrder → List ℕ
 key_in one = one.key
@@ -57,7 +57,7 @@ apart_more orders i one old new number below is so_far (first unseen place grown
 -- a key with an old number is an earlier order's
 pub met_before : (orders : List KeyOrder) (i : ℕ) (one : KeyOrder) (old new : List (List ℕ)) (number : ℕ) → i < length orders → one ≡ get_or orders i one → ApartSoFar orders i old → Numbers old one.key number new → (number ≡ i → ⊥) → AreDistinct orders → ⊥
 met_before orders i one old new number below is so_far (known at same) other distinct =
-    let a = place_before key_in (take i orders) number one.key (subst (λ (l : List (List ℕ)). slice_get l number ≡ Some one.key) so_far.kept at) in
+    let a = slice_get-map_back key_in (take i orders) number one.key (subst (λ (l : List (List ℕ)). slice_get l number ≡ Some one.key) so_far.kept at) in
     let within = slice_get_within (take i orders) number a.0 a.1 in
     let earlier : number < i = omega (arith, within, length-take i orders) in
     distinct number i a.0 one earlier (sym (slice_get-take orders i number earlier) ∙ a.1) (slice_get_read orders (length orders) i one refl below is) a.2

@@ -10,7 +10,7 @@ use Rattle.std.proofs.lemmas.Option.{none-some, same_Some, slice_get_read, slice
 use Rattle.tag.specs.declared.numbers.OpId.{OpId}
 use Rattle.key_index.specs.Numbers.{IsPlace}
 use Rattle.recorder.specs.declared.order.KeyOrder.{KeyOrder}
-use Rattle.recorder.specs.Lists.{Contains-slice_get, slice_get-set}
+use Rattle.tag.proofs.Lists.{Contains-slice_get, slice_get-set}
 use Rattle.parallel_keys.specs.CheckedKeys.{given_order}
 use Rattle.parallel_keys.specs.KeysToCheck.{AreFirstOrders, first_order}
 

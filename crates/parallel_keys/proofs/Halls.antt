@@ -4,10 +4,10 @@ use Rattle.std.proofs.lemmas.List.{map-append}
 use Rattle.std.proofs.lemmas.Option.{slice_get_within}
 use Rattle.recorder.specs.Histories.{Recorded}
 use Rattle.recorder.specs.Records.{AreParts}
-use Rattle.recorder.specs.Lists.{push_cases}
+use Rattle.tag.proofs.Lists.{push_cases}
 use Rattle.parallel_keys.specs.CheckedKeys.{KeyParts}
 use Rattle.parallel_keys.specs.Histories.{AreHallParts}
-use Rattle.parallel_keys.specs.Fronts.{front_more}
+use Rattle.parallel_keys.proofs.Fronts.{front_more}
 
 further : (histories : List Recorded) (parts : List KeyParts) (history : Recorded) (own : KeyParts) → AreHallParts histories parts → AreParts history.rows own → AreHallParts (histories ++ history ∷ []) (parts ++ own ∷ [])
 further histories parts history own are recorded = record {

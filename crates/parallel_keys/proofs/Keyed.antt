@@ -3,7 +3,7 @@ use Rattle.std.proofs.Common.{ℕ, ◌≡◌, ◌<◌, ◌+◌, List, [], ◌∷
 use Rattle.std.specs.List.{slice_get}
 use Rattle.std.specs.Option.{option_map}
 use Rattle.std.proofs.lemmas.Option.{same_Some, slice_get-map, slice_get_read}
-use Rattle.recorder.specs.Lists.{push_cases}
+use Rattle.tag.proofs.Lists.{push_cases}
 use Rattle.parallel_keys.specs.declared.collect_keys.KeyToCheck.{KeyToCheck}
 use Rattle.parallel_keys.specs.IndexVerdicts.{IsVerdictAt}
 use Rattle.parallel_keys.specs.KeysToCheck.{what_of}

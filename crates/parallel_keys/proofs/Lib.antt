@@ -1,5 +1,7 @@
 pub mod Places
-pub mod Turns
+pub mod Fronts
+pub mod GivenOrders
+pub mod WorkerVerdicts
 pub mod Woven
 pub mod Keyed
 pub mod Recorded

@@ -1,5 +1,5 @@
 -- Keys that have parts, and those that only orders have.
-use Rattle.std.proofs.Common.{ℕ, ◌≡◌, inl, inr, Bool, true, false, cond, List, [], ◌∷◌, ◌++◌, Option, Some, None, is_none, length, map, filter, take, get_or, ◌+◌, ◌<◌, subst, refl, sym, ap, ◌∙◌, append_assoc, arith}
+use Rattle.std.proofs.Common.{append-nil, ℕ, ◌≡◌, inl, inr, Bool, true, false, cond, List, [], ◌∷◌, ◌++◌, Option, Some, None, is_none, length, map, filter, take, get_or, ◌+◌, ◌<◌, subst, refl, sym, ap, ◌∙◌, append_assoc, arith}
 use Rattle.std.specs.List.{slice_get, Contains}
 use Rattle.std.specs.Str.{bytes_eq}
 use Rattle.std.specs.Map.{lookup}
@@ -9,12 +9,12 @@ use Rattle.std.proofs.lemmas.List.Elements.{filter-append, Contains-append_left,
 use Rattle.tag.specs.declared.numbers.OpId.{OpId}
 use Rattle.recorder.specs.declared.part.Call.{Call}
 use Rattle.recorder.specs.declared.order.KeyOrder.{KeyOrder}
-use Rattle.recorder.specs.Lists.{Contains-slice_get, push_cases, slice_get-push_last, slice_get-push_left}
+use Rattle.tag.proofs.Lists.{Contains-slice_get, push_cases, slice_get-push_last, slice_get-push_left}
 use Rattle.key_index.specs.Numbers.{Numbers, known, first}
 use Rattle.parallel_keys.specs.declared.collect_keys.NumberedKey.{NumberedKey}
 use Rattle.parallel_keys.specs.CheckedKeys.{CheckedKey, KeyParts, all_parts, given_order, is_other, keys_in, recorded_key}
 use Rattle.parallel_keys.specs.KeysToCheck.{AreNumbered, HasKeys, entry_of}
-use Rattle.parallel_keys.specs.Fronts.{mapped_more}
+use Rattle.parallel_keys.proofs.Fronts.{mapped_more}
 
 -- a key more
 has_more : (old new others : List (List ℕ)) (key : List ℕ) (number : ℕ) → HasKeys old others → Numbers old key number new → HasKeys new (others ++ key ∷ [])
@@ -94,10 +94,6 @@ other_new keys parts one has none = by (lookup (bytes_eq one.key) parts) refl
     by None is = ap is_none is
     by (Some part) is = absurd (none (has.all one.key (found_entry parts one.key part is)))
 
-append_nil : {X : Type 0} (l : List X) → l ++ [] ≡ l
-append_nil [] = refl
-append_nil {X} (x ∷ l) = ap (λ (m : List X). x ∷ m) (append_nil l)
-
 -- the orders of other keys, where one order more is of such a key or not
 pub other_added : (keys : List (List ℕ)) (parts : KeyParts) (orders : List KeyOrder) (one : KeyOrder) → HasKeys keys (keys_in parts) → (Contains keys one.key → ⊥) → filter (is_other parts) (orders ++ one ∷ []) ≡ filter (is_other parts) orders ++ one ∷ []
 other_added keys parts orders one has none =
@@ -108,11 +104,11 @@ pub other_passed : (keys : List (List ℕ)) (parts : KeyParts) (orders : List Ke
 other_passed keys parts orders one has met =
     filter-append (is_other parts) orders (one ∷ [])
     ∙ ap (λ (b : Bool). filter (is_other parts) orders ++ cond b (one ∷ []) []) (other_seen keys parts one has met)
-    ∙ append_nil (filter (is_other parts) orders)
+    ∙ append-nil (filter (is_other parts) orders)
 
 -- the parts of a further history
 joined_more : (maps : List KeyParts) (own : KeyParts) → all_parts (maps ++ own ∷ []) ≡ all_parts maps ++ own
-joined_more [] own = append_nil own
+joined_more [] own = append-nil own
 joined_more (m ∷ ms) own = ap (λ (l : KeyParts). m ++ l) (joined_more ms own) ∙ sym (append_assoc m (all_parts ms) own)
 
 -- the parts up to those of a further history

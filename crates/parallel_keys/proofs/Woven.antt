@@ -2,7 +2,7 @@
 use Rattle.std.proofs.Common.{ℕ, ◌≡◌, ◌+◌, ◌/◌, ◌%◌, ◌<◌, List, [], ◌∷◌, ◌++◌, Some, length, inl, inr, subst, sym, ap, refl, ◌∙◌, length-append}
 use Rattle.std.specs.List.{slice_get}
 use Rattle.std.proofs.Math.Nat.{mod-add-div'}
-use Rattle.recorder.specs.Lists.{push_cases}
+use Rattle.tag.proofs.Lists.{push_cases}
 use Rattle.tag.specs.declared.numbers.OpId.{OpId}
 use Rattle.recorder.specs.declared.part.Call.{Call}
 use Rattle.certificate_check.specs.declared.verdict.Verdict.{Verdict}

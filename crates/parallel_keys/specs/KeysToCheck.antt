@@ -6,7 +6,7 @@ use Rattle.std.specs.Str.{bytes_eq}
 use Rattle.tag.specs.declared.numbers.OpId.{OpId}
 use Rattle.recorder.specs.declared.part.Call.{Call}
 use Rattle.recorder.specs.declared.order.KeyOrder.{KeyOrder}
-use Rattle.key_index.specs.Numbers.{AreDistinct}
+use Rattle.key_index.specs.Numbers.{EachOnce}
 use Rattle.parallel_keys.specs.declared.collect_keys.KeyToCheck.{KeyToCheck}
 use Rattle.parallel_keys.specs.declared.collect_keys.NumberedKey.{NumberedKey}
 use Rattle.parallel_keys.specs.declared.collect_keys.OrderTable.{OrderTable}
@@ -40,7 +40,7 @@ first_order (one ∷ orders) key =
 -- keys, each once, and at each key's place the first order that the list gives for it, if any
 pub record AreFirstOrders (keys : List (List ℕ)) (orders : List KeyOrder)
     (given : List (Option (Bor (List OpId)))) : Type 0 where
-  pub once : AreDistinct keys
+  pub once : EachOnce keys
   pub all : length given ≡ length keys
   pub each : (number : ℕ) (key : List ℕ) (order : Option (Bor (List OpId))) → slice_get keys number
       ≡ Some key → slice_get given number ≡ Some order → option_map (λ o. o.now) order
@@ -54,6 +54,6 @@ pub record IsOrderTable (keys : List (List ℕ)) (orders : List KeyOrder) (table
       → map (λ o. o.now) table.others.items ≡ filter (is_other parts) orders
 
 -- the table of some orders becomes that of these and one more
-abbrev pub TakesUp : List (List ℕ) → KeyOrder → OrderTable → OrderTable → Type 0
-TakesUp keys one old new = (orders : List KeyOrder) → IsOrderTable keys orders old
+abbrev pub AddsOrder : List (List ℕ) → KeyOrder → OrderTable → OrderTable → Type 0
+AddsOrder keys one old new = (orders : List KeyOrder) → IsOrderTable keys orders old
     → IsOrderTable keys (orders ++ one ∷ []) new

@@ -5,5 +5,3 @@ pub mod Shares
 pub mod CheckedKeys
 pub mod KeysToCheck
 pub mod Histories
-pub mod Fronts
-pub mod Given

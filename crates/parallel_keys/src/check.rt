@@ -1,8 +1,8 @@
 //! The check of many keys' orders.
 ghost use Rattle.std.specs.Prelude.{◌≡◌, ◌<◌, ◌≤◌, ◌+◌, length, map, IfOk, MatchResult};
-ghost use Rattle.parallel_keys.specs.IndexVerdicts.{AreLists, AreTurns, AreVerdicts};
+ghost use Rattle.parallel_keys.specs.IndexVerdicts.{AreLists, AreOfWorker, AreVerdicts};
 ghost use Rattle.parallel_keys.specs.Shares.{AreUpToShare, IsShare};
-ghost use Rattle.parallel_keys.specs.Workers.{MayFail};
+ghost use Rattle.parallel_keys.specs.Workers.{MayFail, worker_limit};
 
 use crate::error::CheckError;
 use crate::gate::CheckGate;
@@ -44,8 +44,8 @@ fn start<'s, 'e: 's, G: CheckGate + Sync>(
         share,
         move || -> Result<Vec<Verdict>, Memory>
             requires { (length parts.now ≡ length orders.now)
-                × (worker < workers) × (workers ≤ 16) }
-            ensures { IfOk result (λ verdicts. AreTurns (map (λ p. p.now) parts.entry.now)
+                × (worker < workers) × (workers ≤ worker_limit) }
+            ensures { IfOk result (λ verdicts. AreOfWorker (map (λ p. p.now) parts.entry.now)
                 (map (λ o. o.now) orders.entry.now) worker workers verdicts.items) }
         { share_of(parts, orders, worker, workers).check(alloc, gate) },
     )?)
@@ -97,7 +97,7 @@ fn run_all<R: Threads + Wait, G: CheckGate + Sync>(
         rt,
         |scope| -> Result<Vec<Vec<Verdict>>, CheckError>
             requires { (length parts.now ≡ length orders.now)
-                × (0 < workers) × (workers ≤ 16) }
+                × (0 < workers) × (workers ≤ worker_limit) }
             ensures { MatchResult result (λ lists. AreLists (map (λ p. p.now) parts.entry.now)
                 (map (λ o. o.now) orders.entry.now) workers (map (λ v. v.items) lists.items))
                 (MayFail workers) }
@@ -115,7 +115,7 @@ fn run_all<R: Threads + Wait, G: CheckGate + Sync>(
 
 /// Checks the order at each index against the part there; a verdict for each index, in order of index.
 ///
-/// Worker w of k takes the indexes w, w + k, w + 2k and so on. Each worker has a thread of its own, all
+/// Worker w of k checks the indexes w, w + k, w + 2k and so on. Each worker has a thread of its own, all
 /// at once; worker 0's is the caller's, so one worker starts no thread. The gate is called on the
 /// worker's thread before an index is checked. `Memory` comes only where an allocation was refused, `Thread`
 /// only where a thread couldn't be started, and so never with one worker; the threads have ended then

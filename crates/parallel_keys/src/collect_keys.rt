@@ -2,7 +2,7 @@
 ghost use Rattle.std.specs.Prelude.{◌≡◌, [], ◌++◌, List, length, map, IfOk, OnOk};
 ghost use Rattle.parallel_keys.specs.CheckedKeys.{AreDistinct, all_parts, checked_keys};
 ghost use Rattle.parallel_keys.specs.CheckedKeys.{other_key, recorded_key};
-ghost use Rattle.parallel_keys.specs.KeysToCheck.{AreNumbered, IsOrderTable, TakesUp};
+ghost use Rattle.parallel_keys.specs.KeysToCheck.{AreNumbered, IsOrderTable, AddsOrder};
 ghost use Rattle.parallel_keys.specs.KeysToCheck.{entry_of, what_of};
 
 use key_index::KeyNumbers;
@@ -98,7 +98,7 @@ impl<'a> OrderTable<'a> {
     /// Adds the next order. A key that has an order keeps it.
     fn add(&mut self, numbers: &KeyNumbers, one: &'a KeyOrder) -> Result<(), Memory>
         requires { length self.old.given.items ≡ length numbers.now }
-        ensures { OnOk result (TakesUp numbers.now one.now self.old self.new) }
+        ensures { OnOk result (AddsOrder numbers.now one.now self.old self.new) }
     {
         let Some(number) = numbers.find(&one.key) else {
             self.others.push(one)?;

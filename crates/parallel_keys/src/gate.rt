@@ -3,7 +3,7 @@
 /// A gate that workers pass: it is called on a worker's own thread each time before the worker checks
 /// the order at an index.
 ///
-/// Several workers may be in it at once. It may look on, or hold a worker back; no verdict depends on
+/// Several workers may be in it at once. It may watch, or hold a worker back; no verdict depends on
 /// it. A gate that sleeps or waits holds the handle for that itself.
 pub trait CheckGate {
     /// A worker is about to check the order at that index.

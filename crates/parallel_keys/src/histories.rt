@@ -18,28 +18,23 @@ use std::sync::Wait;
 use std::thread::Threads;
 use tag::{Key, Memory, OpId};
 
-/// The parts of the keys.
-fn parts_of<'a>(alloc: Global, keys: &[KeyToCheck<'a>]) -> Result<Vec<&'a Part>, Memory>
-    ensures { IfOk result (λ parts.
-        map (λ p. p.now) parts.items ≡ map (λ p. p.part.now) keys.now) }
+/// The parts and the orders of the keys.
+fn parts_and_orders<'a>(
+    alloc: Global,
+    keys: &[KeyToCheck<'a>],
+) -> Result<(Vec<&'a Part>, Vec<&'a [OpId]>), Memory>
+    ensures parts { IfOk result (λ both.
+        map (λ p. p.now) both.0.items ≡ map (λ p. p.part.now) keys.now) }
+    ensures orders { IfOk result (λ both.
+        map (λ o. o.now) both.1.items ≡ map (λ p. p.order.now) keys.now) }
 {
     let mut parts = Vec::with_capacity(alloc, keys.len())?;
-    for key in keys {
-        parts.push(key.part)?;
-    }
-    Ok(parts)
-}
-
-/// The orders of the keys.
-fn orders_of<'a>(alloc: Global, keys: &[KeyToCheck<'a>]) -> Result<Vec<&'a [OpId]>, Memory>
-    ensures { IfOk result (λ orders.
-        map (λ o. o.now) orders.items ≡ map (λ p. p.order.now) keys.now) }
-{
     let mut orders = Vec::with_capacity(alloc, keys.len())?;
     for key in keys {
+        parts.push(key.part)?;
         orders.push(key.order)?;
     }
-    Ok(orders)
+    Ok((parts, orders))
 }
 
 /// The verdicts with their keys.
@@ -70,8 +65,7 @@ fn check_keys<R: Threads + Wait, G: CheckGate + Sync>(
     ensures { MatchResult result (λ keyed. AreOn (map what_of keys.now) keyed.items)
         (MayFail workers) }
 {
-    let parts = parts_of(alloc, keys)?;
-    let orders = orders_of(alloc, keys)?;
+    let (parts, orders) = parts_and_orders(alloc, keys)?;
     let verdicts = check_all(rt, alloc, &parts, &orders, workers, gate)?;
     Ok(with_keys(alloc, keys, &verdicts)?)
 }

@@ -2,7 +2,7 @@
 //!
 //! `check_all` checks many parts and their orders, `check_history` and `check_histories` the keys of
 //! recorded histories, which `hall_parts` lists. Each verdict is the definition's for its key, whatever
-//! the number of workers. Worker w of k takes every k-th key from key w on, so each takes about as many
+//! the number of workers. Worker w of k checks every k-th key from key w on, so each takes about as many
 //! keys as any other.
 #![tactic(auto)]
 

@@ -8,7 +8,7 @@ use recorder::Part;
 use std::alloc::Global;
 use tag::{Memory, OpId};
 
-/// The verdicts in order of index: that at index i is worker i % k's, at its turn i / k.
+/// The verdicts in order of index: that at index i is number i / k of worker i % k.
 pub(crate) fn weave(
     alloc: Global,
     parts: &[&Part],

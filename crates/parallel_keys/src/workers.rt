@@ -1,6 +1,6 @@
 //! How many threads check.
 ghost use Rattle.std.specs.Prelude.{◌≡◌, ◌≤◌, ◌↔◌, IsSome, IfSome};
-ghost use Rattle.parallel_keys.specs.Workers.{IsCount};
+ghost use Rattle.parallel_keys.specs.Workers.{IsWorkerCount, worker_limit};
 
 use std::marker::Model;
 
@@ -15,11 +15,11 @@ impl Model for Workers {
 
     ghost Value = { ℕ };
 
-    ghost use Rattle.parallel_keys.specs.Workers.{IsCount};
+    ghost use Rattle.parallel_keys.specs.Workers.{IsWorkerCount};
 
     ghost view = { λ w. w.count };
 
-    ghost invariant = { λ w. IsCount w.count };
+    ghost invariant = { λ w. IsWorkerCount w.count };
 
     ghost inverse = { λ n. record { count = n } };
 }
@@ -27,7 +27,7 @@ impl Model for Workers {
 impl Workers {
     /// So many workers. `None` comes exactly where they aren't 1 to 16.
     pub fn new(count: u8) -> Option<Workers>
-        ensures some { IsSome result ↔ IsCount count }
+        ensures some { IsSome result ↔ IsWorkerCount count }
         ensures value { IfSome result (λ workers. workers ≡ count) }
     {
         if count >= 1 && count <= 16 {
@@ -41,7 +41,7 @@ impl Workers {
     pub fn count(&self) -> u8
         ensures count { result ≡ self.now }
         ensures least { 1 ≤ result }
-        ensures most { result ≤ 16 }
+        ensures most { result ≤ worker_limit }
     {
         self.count
     }

@@ -9,10 +9,20 @@ use Rattle.std.specs.Cmp.{nat_cmp_total}
 use Rattle.std.specs.FinSet as finite
 use Rattle.std.proofs.lemmas.Bool.{eq-eqb, ne_eqb, lt-ltb, le-ltb, cases_eq, and_left, false≢true}
 use Rattle.std.proofs.lemmas.Nat.{or_lt, one_shl, pow_below, pow_pos, ones_cat, mod-pow-add}
-use Rattle.std.proofs.Math.Nat.{mod-lt, mod-eq_of_lt}
+use Rattle.std.proofs.Math.Nat.{mod-lt}
 use Rattle.std.proofs.lemmas.Nat.Bits.{bit_at-lt, bit_at-zero, bit_at_set_same, bit_at_set_other, shr_and_one}
 use Rattle.quorum.specs.Sets.{Replicas}
-use Rattle.quorum.specs.Bits.{set_of_bits, bits_of_set, same_bits, set_of_bits-zero, set_of_bits-suc, contains-insert, contains-set_of_bits, contains-below}
+use Rattle.quorum.specs.Bits.{set_of_bits, bits_of_set, mod_small, same_bits, contains-insert, contains-set_of_bits, contains-below}
+
+pub set_of_bits-zero : (bits : ℕ) → set_of_bits 0 bits ≡ finite.empty
+unfolding set_of_bits
+set_of_bits-zero bits = refl
+
+pub set_of_bits-suc : (n bits : ℕ) → set_of_bits (suc n) bits
+    ≡ (if nat_eq (bit_at bits n) 1 then finite.insert (set_of_bits n bits) n
+    else set_of_bits n bits)
+unfolding set_of_bits
+set_of_bits-suc n bits = refl
 
 one_more : (x y b d : Bool) → x ≡ true → y ≡ true → b ≡ true → (y && b) ≡ (x || (y && d))
 one_more x y b d p q r = rw (p, q, r) refl
@@ -75,9 +85,6 @@ len-mod (suc n) bits =
     ∙ ap (λ k. count_ones (bit_at bits n) + k) (len-mod n bits)
     ∙ sym (ones_cat n (bit_at bits n) (bits % 2 ^ n) (mod-lt bits (pow_pos n)))
     ∙ ap count_ones (sym (mod-pow-add bits 1 n) ∙ ap (λ k. bits % 2 ^ k) e)
-
-mod_small : (bits k : ℕ) → bits < k → bits % k ≡ bits
-mod_small bits k h = mod-eq_of_lt h
 
 pub len-set_of_bits : (bits : ℕ) → bits < 2 ^ 15 → count_ones bits ≡ finite.len (set_of_bits 15 bits)
 len-set_of_bits bits h = sym (len-mod 15 bits ∙ ap count_ones (mod_small bits 32768 h))

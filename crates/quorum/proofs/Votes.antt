@@ -6,11 +6,11 @@ use Rattle.std.specs.Ordering.{nat_cmp}
 use Rattle.std.specs.Cmp.{nat_cmp_total, unsigned_tied}
 use Rattle.std.proofs.lemmas.Bool.{ne_eqb, false≢true, and_parts, false_from_ne_true, not-true, eqb-false}
 use Rattle.std.proofs.lemmas.List.{length-replicate, get_or-replicate}
-use Rattle.quorum.specs.Sets.{Replicas, IsAmong, IsMajority}
+use Rattle.quorum.specs.Sets.{Replicas, IsOfFirst, IsMajority}
 use Rattle.quorum.specs.Quorums.{IsAskQuorum, IsPutQuorum, majority_of, votes_below, votes_of}
-use Rattle.quorum.specs.Votes.{votes_below-same}
+use Rattle.quorum.proofs.MoreVotes.{votes_below-same}
 
-none-in : (set : Replicas) → IsAmong 0 set → finite.len set ≡ 0
+none-in : (set : Replicas) → IsOfFirst 0 set → finite.len set ≡ 0
 none-in set among =
     let out = λ (q : ℕ). false_from_ne_true (finite.contains set q) (λ h. let below = among q h in omega arith) in
     let same = λ (q : ℕ). out q ∙ sym (finite.contains-empty nat_cmp q) in
@@ -32,14 +32,14 @@ has_some set n h =
     some_if (finite.len set) (λ e.
     false≢true (sym (ap (λ s. finite.contains s n) (finite.empty_of_len set e) ∙ finite.contains-empty nat_cmp n) ∙ h))
 
-among_rest : (set : Replicas) (n : ℕ) → IsAmong (suc n) set → IsAmong n (finite.remove set n)
+among_rest : (set : Replicas) (n : ℕ) → IsOfFirst (suc n) set → IsOfFirst n (finite.remove set n)
 among_rest set n among q h =
     let parts = and_parts (not (nat_eq q n)) (finite.contains set q) (sym (contains-remove set n q) ∙ h) in
     let below : q < suc n = among q parts.1 in
     let ne : q ≢ n = eqb-false q n (not-true (nat_eq q n) parts.0) in
     omega arith
 
-among_less : (set : Replicas) (n : ℕ) → IsAmong (suc n) set → finite.contains set n ≡ false → IsAmong n set
+among_less : (set : Replicas) (n : ℕ) → IsOfFirst (suc n) set → finite.contains set n ≡ false → IsOfFirst n set
 among_less set n among out q h =
     let below : q < suc n = among q h in
     let ne : q ≢ n = λ e. false≢true (sym out ∙ ap (finite.contains set) (sym e) ∙ h) in
@@ -48,8 +48,8 @@ among_less set n among out q h =
 one_vote : (count n : ℕ) → n < count → slice_index (replicate count 1) n ≡ 1
 one_vote count n h = get_or-replicate count n 1 0 h
 
-members_step : (count n : ℕ) (set : Replicas) (b : Bool) → suc n ≤ count → IsAmong (suc n) set → finite.contains set n ≡ b
-    → ((rest : Replicas) → IsAmong n rest → votes_below (replicate count 1) n rest ≡ finite.len rest)
+members_step : (count n : ℕ) (set : Replicas) (b : Bool) → suc n ≤ count → IsOfFirst (suc n) set → finite.contains set n ≡ b
+    → ((rest : Replicas) → IsOfFirst n rest → votes_below (replicate count 1) n rest ≡ finite.len rest)
     → votes_below (replicate count 1) n set + cond b (slice_index (replicate count 1) n) 0 ≡ finite.len set
 members_step count n set true fits among is each =
     let votes : List ℕ = replicate count 1 in
@@ -69,20 +69,20 @@ members_step count n set false fits among out each =
     let e : votes_below votes n set + 0 ≡ finite.len set = omega (arith, rest_is) in
     e
 
-members_below : (count n : ℕ) (set : Replicas) → n ≤ count → IsAmong n set → votes_below (replicate count 1) n set ≡ finite.len set
+members_below : (count n : ℕ) (set : Replicas) → n ≤ count → IsOfFirst n set → votes_below (replicate count 1) n set ≡ finite.len set
 members_below count zero set fits among = sym (none-in set among)
 members_below count (suc n) set fits among =
     members_step count n set (finite.contains set n) fits among refl (λ rest h. members_below count n rest (omega arith) h)
 
-pub votes_of-ones : (n : ℕ) (set : Replicas) → IsAmong n set → votes_of (replicate n 1) set ≡ finite.len set
+pub votes_of-ones : (n : ℕ) (set : Replicas) → IsOfFirst n set → votes_of (replicate n 1) set ≡ finite.len set
 votes_of-ones n set among =
     ap (λ k. votes_below (replicate n 1) k set) (length-replicate n 1) ∙ members_below n n set (omega arith) among
 
 more_than_half : (n m votes : ℕ) → votes ≡ m → (n < 2 * m) ↔ (n / 2 + 1 ≤ votes)
 more_than_half n m votes e = (λ h. omega arith, λ h. omega arith)
 
-pub majority_ask : (n : ℕ) (set : Replicas) → IsAmong n set → IsMajority n set ↔ IsAskQuorum (majority_of n) set
+pub majority_ask : (n : ℕ) (set : Replicas) → IsOfFirst n set → IsMajority n set ↔ IsAskQuorum (majority_of n) set
 majority_ask n set among = more_than_half n (finite.len set) (votes_of (replicate n 1) set) (votes_of-ones n set among)
 
-pub majority_put : (n : ℕ) (set : Replicas) → IsAmong n set → IsMajority n set ↔ IsPutQuorum (majority_of n) set
+pub majority_put : (n : ℕ) (set : Replicas) → IsOfFirst n set → IsMajority n set ↔ IsPutQuorum (majority_of n) set
 majority_put n set among = more_than_half n (finite.len set) (votes_of (replicate n 1) set) (votes_of-ones n set among)

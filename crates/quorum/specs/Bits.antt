@@ -13,7 +13,7 @@ use Rattle.std.proofs.Math.Nat.{mod-eq_of_lt}
 use Rattle.quorum.specs.Sets.{Replicas}
 
 -- the numbers below n whose bits are set
-pub set_of_bits : ℕ → ℕ → Replicas
+unfoldable pub set_of_bits : ℕ → ℕ → Replicas
 set_of_bits zero bits = finite.empty
 set_of_bits (suc n) bits =
     if nat_eq (bit_at bits n) 1 then finite.insert (set_of_bits n bits) n else set_of_bits n bits
@@ -22,16 +22,6 @@ set_of_bits (suc n) bits =
 pub bits_of_set : ℕ → Replicas → ℕ
 bits_of_set zero set = 0
 bits_of_set (suc n) set = (if finite.contains set n then 1 else 0) * 2 ^ n + bits_of_set n set
-
-pub set_of_bits-zero : (bits : ℕ) → set_of_bits 0 bits ≡ finite.empty
-unfolding set_of_bits
-set_of_bits-zero bits = refl
-
-pub set_of_bits-suc : (n bits : ℕ) → set_of_bits (suc n) bits
-    ≡ (if nat_eq (bit_at bits n) 1 then finite.insert (set_of_bits n bits) n
-    else set_of_bits n bits)
-unfolding set_of_bits
-set_of_bits-suc n bits = refl
 
 one_of : (x y z b : Bool) → x ≡ true → z ≡ true → b ≡ true → (x || (y && b)) ≡ (z && b)
 one_of x y z b p r s = rw (p, r, s) refl
@@ -116,7 +106,7 @@ bits-mod m bits (suc n) h =
     ∙ sym (mod-pow-add bits 1 n)
     ∙ ap (λ k. bits % 2 ^ k) e
 
-mod_small : (bits k : ℕ) → bits < k → bits % k ≡ bits
+pub mod_small : (bits k : ℕ) → bits < k → bits % k ≡ bits
 mod_small bits k h = mod-eq_of_lt h
 
 pub same_bits : (bits : ℕ) → bits < 2 ^ 15 → bits_of_set 15 (set_of_bits 15 bits) ≡ bits

@@ -2,5 +2,3 @@ pub mod Bits
 pub mod Padding
 pub mod Quorums
 pub mod Sets
-pub mod Votes
-pub mod Meet

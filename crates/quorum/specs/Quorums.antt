@@ -2,6 +2,7 @@
 use Rattle.std.specs.Prelude.{ℕ, zero, suc, ◌+◌, ◌/◌, ◌<◌, ◌≤◌, Bool, if◌then◌else◌, nat_le, List}
 use Rattle.std.specs.Prelude.{length, slice_index, replicate, sum, All, IsTrue}
 use Rattle.std.specs.FinSet as finite
+use Rattle.tag.specs.Limits.{replica_limit}
 use Rattle.quorum.specs.Sets.{Replicas}
 
 -- the votes of each replica, and how many votes make an ask quorum and a put quorum
@@ -25,7 +26,7 @@ votes_of votes set = votes_below votes (length votes) set
 -- than all votes
 pub record IsLawful (quorums : Quorums) : Type 0 where
   pub some_replica : 1 ≤ length quorums.votes
-  pub most_replicas : length quorums.votes ≤ 15
+  pub most_replicas : length quorums.votes ≤ replica_limit
   pub each_votes : All (λ v. (1 ≤ v) × (v ≤ 9)) quorums.votes
   pub some_ask : 1 ≤ quorums.ask
   pub most_ask : quorums.ask ≤ sum quorums.votes

@@ -13,8 +13,8 @@ abbrev pub replicas_code : Coded Replicas
 replicas_code = finite.code coded_ℕ
 
 -- a set of some of the first n replicas
-abbrev pub IsAmong : ℕ → Replicas → Type 0
-IsAmong n set = (replica : ℕ) → IsTrue (finite.contains set replica) → replica < n
+abbrev pub IsOfFirst : ℕ → Replicas → Type 0
+IsOfFirst n set = (replica : ℕ) → IsTrue (finite.contains set replica) → replica < n
 
 -- a majority of n replicas: more than half of them
 abbrev pub IsMajority : ℕ → Replicas → Type 0

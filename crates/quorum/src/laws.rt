@@ -1,8 +1,9 @@
 //! Laws of the definitions, each the contract of a function that does nothing.
 ghost use Rattle.std.specs.Prelude.{◌≡◌, ℕ, List, false, ◌+◌, ◌<◌, ◌≤◌, ◌↔◌, length, slice_index};
 ghost use Rattle.std.specs.FinSet as finite;
+ghost use Rattle.tag.specs.Limits.{replica_limit};
 ghost use Rattle.quorum.specs.Quorums.{Quorums, IsLawful, IsAskQuorum, IsPutQuorum, Share, majority_of, votes_of};
-ghost use Rattle.quorum.specs.Sets.{IsAmong, IsMajority, Replicas};
+ghost use Rattle.quorum.specs.Sets.{IsOfFirst, IsMajority, Replicas};
 
 /// An ask quorum and a put quorum share a replica.
 pub fn quorums_share_a_replica()
@@ -14,17 +15,17 @@ pub fn quorums_share_a_replica()
 /// Two majorities of the same replicas share one of them.
 pub fn majorities_share_a_replica()
     ensures { (n : ℕ) (some other : Replicas)
-        → IsAmong n some → IsMajority n some → IsAmong n other → IsMajority n other
+        → IsOfFirst n some → IsMajority n some → IsOfFirst n other → IsMajority n other
         → Share (majority_of n) some other }
 {}
 
 /// Where each of n replicas has one vote, and more than half of them make a quorum, the quorums are
 /// the majorities.
 pub fn majorities_are_quorums()
-    ensures lawful { (n : ℕ) → 1 ≤ n → n ≤ 15 → IsLawful (majority_of n) }
-    ensures ask { (n : ℕ) (set : Replicas) → IsAmong n set
+    ensures lawful { (n : ℕ) → 1 ≤ n → n ≤ replica_limit → IsLawful (majority_of n) }
+    ensures ask { (n : ℕ) (set : Replicas) → IsOfFirst n set
         → IsMajority n set ↔ IsAskQuorum (majority_of n) set }
-    ensures put { (n : ℕ) (set : Replicas) → IsAmong n set
+    ensures put { (n : ℕ) (set : Replicas) → IsOfFirst n set
         → IsMajority n set ↔ IsPutQuorum (majority_of n) set }
 {}
 

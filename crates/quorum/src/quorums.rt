@@ -1,6 +1,7 @@
 //! Quorums by votes.
 ghost use Rattle.std.specs.Prelude.{◌≡◌, ◌+◌, ◌-◌, ◌/◌, ◌<◌, ◌≤◌, ◌↔◌, ◌++◌, length, replicate};
 ghost use Rattle.std.specs.Prelude.{sum, All, IsTrue, IsSome, IfSome};
+ghost use Rattle.tag.specs.Limits.{replica_limit};
 ghost use Rattle.quorum.specs.Quorums.{IsLawful, IsAskQuorum, IsPutQuorum, majority_of, votes_of};
 
 use crate::ReplicaSet;
@@ -37,7 +38,7 @@ impl Model for Quorums {
 }
 
 fn total(votes: &[u8]) -> u16
-    requires { length votes.now ≤ 15 }
+    requires { length votes.now ≤ replica_limit }
     ensures { result ≡ sum votes.now }
 {
     votes.iter().map(|votes| u16::from(*votes)).sum()
@@ -60,7 +61,7 @@ fn is_lawful(votes: &[u8], ask: u8, put: u8) -> bool
 }
 
 fn votes_of(votes: &[u8], set: ReplicaSet) -> u8
-    requires few { length votes.now ≤ 15 }
+    requires few { length votes.now ≤ replica_limit }
     requires small { All (λ v. (1 ≤ v) × (v ≤ 9)) votes.now }
     ensures { result ≡ votes_of votes.now set }
 {
@@ -74,7 +75,7 @@ fn votes_of(votes: &[u8], set: ReplicaSet) -> u8
 }
 
 fn pad_votes(votes: &[u8]) -> [u8; 15]
-    requires { length votes.now ≤ 15 }
+    requires { length votes.now ≤ replica_limit }
     ensures { result ≡ votes.now ++ replicate (15 - length votes.now) 0 }
 {
     let mut padded = [0; 15];
@@ -107,7 +108,7 @@ impl Quorums {
     /// One vote for each of so many replicas, and more than half of them for both quorums.
     pub fn majority(replicas: u8) -> Quorums
         requires least { 1 ≤ replicas }
-        requires most { replicas ≤ 15 }
+        requires most { replicas ≤ replica_limit }
         ensures { result ≡ majority_of replicas }
     {
         let replicas = usize::from(replicas);
@@ -125,7 +126,7 @@ impl Quorums {
         ensures count { result ≡ length self.now.votes }
         ensures lawful { IsLawful self.now }
         ensures least { 1 ≤ result }
-        ensures most { result ≤ 15 }
+        ensures most { result ≤ replica_limit }
     {
         self.replicas as u8
     }

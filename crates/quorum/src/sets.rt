@@ -1,6 +1,7 @@
 //! Sets of replicas.
 ghost use Rattle.std.specs.Prelude.{◌≡◌, ◌<◌, ◌≤◌, ◌↔◌, IsTrue};
 ghost use Rattle.std.specs.FinSet as finite;
+ghost use Rattle.tag.specs.Limits.{replica_limit};
 ghost use Rattle.quorum.specs.Sets.{IsMajority};
 
 use std::marker::Model;
@@ -53,7 +54,7 @@ impl ReplicaSet {
     }
 
     pub(crate) fn has(self, number: usize) -> bool
-        requires { number < 15 }
+        requires { number < replica_limit }
         ensures { result ≡ finite.contains self number }
     {
         self.bits >> number & 1 == 1
@@ -62,7 +63,7 @@ impl ReplicaSet {
     /// How many replicas are in the set.
     pub fn count(self) -> u8
         ensures size { result ≡ finite.len self }
-        ensures most { result ≤ 15 }
+        ensures most { result ≤ replica_limit }
     {
         self.bits.count_ones() as u8
     }

@@ -9,9 +9,9 @@ use Rattle.recorder.specs.declared.row.Row.TheVariants.{Invoke, Note, Respond}
 use Rattle.recorder.specs.declared.history.CallState.{CallState}
 use Rattle.recorder.specs.Histories.{IsWellFormed, call_count, caller_of}
 use Rattle.recorder.specs.States.{AreStates}
-use Rattle.recorder.specs.Lists.{place_of, Contains-slice_get}
+use Rattle.tag.proofs.Lists.{place_of, Contains-slice_get}
 use Rattle.recorder.proofs.Numbers.{number_below, same_client}
-use Rattle.recorder.proofs.States.{same_op}
+use Rattle.tag.proofs.SameTags.{same_op}
 
 -- where every row that begins the call names the client, and one does, it is the caller
 found_below : (o : OpId) (c : ℕ) (l : List ℕ) (a : Action) (rows : List Row) (op : OpId) (client : ℕ) (b : Bool) → nat_eq o.0 op.0 ≡ b

@@ -1,4 +1,5 @@
 mod Lists
+mod Entries
 mod Numbers
 mod OneMore
 mod States
@@ -11,3 +12,4 @@ mod PartsBelow
 mod Sorted
 mod OneList
 pub mod Callers
+pub mod Sequences

@@ -1,9 +1,9 @@
 -- Fronts of lists, and lists without their last element, by place.
-use Rattle.std.proofs.Common.{ℕ, ◌≡◌, ◌<◌, inl, inr, List, [], ◌∷◌, ◌++◌, Option, Some, None, is_some, false, take, sym, ◌∙◌, refl, arith, length-take}
+use Rattle.std.proofs.Common.{ℕ, ◌≡◌, ◌<◌, inl, inr, List, [], ◌∷◌, ◌++◌, Some, take, sym, ◌∙◌, arith, length-take}
 use Rattle.std.specs.List.{slice_get, Contains}
 use Rattle.std.proofs.lemmas.Option.{slice_get_within}
 use Rattle.std.proofs.lemmas.List.Elements.{Contains-push_cases}
-use Rattle.recorder.specs.Lists.{place_of, Contains-slice_get, push_cases, slice_get-take}
+use Rattle.tag.proofs.Lists.{place_of, Contains-slice_get, push_cases, slice_get-take}
 
 -- an element of the longer list that isn't the last is one of the shorter
 pub slice_get-back : {X : Type 0} (xs : List X) (y : X) (k : ℕ) (z : X) → slice_get (xs ++ y ∷ []) k ≡ Some z → (y ≡ z → ⊥) → slice_get xs k ≡ Some z
@@ -24,8 +24,3 @@ Contains-front xs n x h = let k = place_of-take xs n x h in Contains-slice_get x
 
 pub Contains-take : {X : Type 0} (xs : List X) (n k : ℕ) (x : X) → k < n → slice_get xs k ≡ Some x → Contains (take n xs) x
 Contains-take xs n k x below at = Contains-slice_get (take n xs) k x (slice_get-take xs n k below ∙ at)
-
--- an option by its test
-pub None-from_test : {X : Type 0} (o : Option X) → is_some o ≡ false → o ≡ None
-None-from_test None h = refl
-None-from_test (Some x) h = absurd (cc)

@@ -10,7 +10,7 @@ use Rattle.tag.specs.declared.numbers.OpId.{OpId}
 use Rattle.recorder.specs.declared.row.Row.{Row}
 use Rattle.recorder.specs.declared.row.Row.TheVariants.{Invoke, Note, Respond}
 use Rattle.recorder.specs.Histories.{is_invoke, call_count, HasNote, HasResponse, IsPendingCall, MayFollow, IsWellFormed}
-use Rattle.recorder.specs.Lists.{place_of, push_cases, slice_get-take}
+use Rattle.tag.proofs.Lists.{place_of, push_cases, slice_get-take}
 use Rattle.recorder.proofs.Lists.{place_of-take, Contains-front, Contains-take}
 
 -- how many calls the rows begin, with one row more, and before a row that begins one

@@ -11,7 +11,7 @@ use Rattle.recorder.specs.declared.row.Row.TheVariants.{Invoke, Note, Respond}
 use Rattle.recorder.specs.declared.history.CallState.{CallState}
 use Rattle.recorder.specs.Histories.{HasResponse, IsPendingCall}
 use Rattle.recorder.specs.States.{Describes, RespondsAt}
-use Rattle.recorder.specs.Lists.{slice_get-push_left}
+use Rattle.tag.proofs.Lists.{slice_get-push_left}
 use Rattle.recorder.proofs.Lists.{Contains-back, slice_get-back}
 
 -- the row is no note, no response, no invocation of the call

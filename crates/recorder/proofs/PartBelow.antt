@@ -2,7 +2,6 @@
 use Rattle.std.proofs.Common.{ℕ, ◌≡◌, ◌<◌, ◌+◌, ◌⊎◌, inl, inr, List, [], ◌∷◌, ◌++◌, Some, length, sym, ◌∙◌, subst, arith}
 use Rattle.std.specs.List.{slice_get, Contains}
 use Rattle.std.proofs.lemmas.Option.{slice_get_within}
-use Rattle.std.proofs.lemmas.Bool.{cases_lt}
 use Rattle.std.proofs.lemmas.List.Elements.{Contains-append_left, Contains-push, Contains-push_cases}
 use Rattle.tag.specs.declared.actions.Action.{Action}
 use Rattle.tag.specs.declared.numbers.OpId.{OpId}
@@ -10,7 +9,8 @@ use Rattle.recorder.specs.declared.row.Row.{Row}
 use Rattle.recorder.specs.declared.row.Row.TheVariants.{Invoke}
 use Rattle.recorder.specs.declared.part.Call.{Call}
 use Rattle.recorder.specs.Records.{IsRecorded, IsPart, BeginsAt}
-use Rattle.recorder.specs.Lists.{push_cases, Contains-slice_get}
+use Rattle.tag.proofs.Below.{below_or_next}
+use Rattle.tag.proofs.Lists.{push_cases, Contains-slice_get}
 
 -- the calls on the key that are begun before place n
 pub record IsPartBelow (rows : List Row) (n : ℕ) (key : List ℕ) (part : List Call) : Type 0 where
@@ -18,10 +18,6 @@ pub record IsPartBelow (rows : List Row) (n : ℕ) (key : List ℕ) (part : List
   pub within : (call : Call) → Contains part call → call.invoked < n
   pub all : (place : ℕ) (op : OpId) (client : ℕ) (action : Action) → place < n → slice_get rows place ≡ Some (Invoke op client key action) → (call : Call) × Contains part call × (call.invoked ≡ place)
   pub ordered : (i j : ℕ) (a b : Call) → i < j → slice_get part i ≡ Some a → slice_get part j ≡ Some b → a.invoked < b.invoked
-
--- a place below n + 1 is below n or n
-pub below_or_at : (place n : ℕ) → place < n + 1 → (place < n) ⊎ (place ≡ n)
-below_or_at place n h = elim (cases_lt place n) [ inl w ↦ inl w | inr w ↦ inr (omega arith) ]
 
 module _ (rows : List Row) (n : ℕ) (key : List ℕ) where
   -- no row before place n begins a call on the key
@@ -38,7 +34,7 @@ module _ (rows : List Row) (n : ℕ) (key : List ℕ) where
   IsPartBelow-skip part never p = record {
     each = p.each;
     within = λ call h. omega (arith, p.within call h);
-    all = λ place op client action below at. elim (below_or_at place n below) [
+    all = λ place op client action below at. elim (below_or_next place n below) [
       | inl w ↦ p.all place op client action w at
       | inr w ↦ absurd (never (op, client, action, subst (λ (k : ℕ). slice_get rows k ≡ Some (Invoke op client key action)) w at))
     ];
@@ -56,7 +52,7 @@ module _ (rows : List Row) (n : ℕ) (key : List ℕ) where
       | inl w ↦ omega (arith, p.within c w)
       | inr w ↦ subst (λ (x : Call). x.invoked < n + 1) w (omega (arith, here))
     ];
-    all = λ place op client action below at. elim (below_or_at place n below) [
+    all = λ place op client action below at. elim (below_or_next place n below) [
       | inl w ↦ let c = p.all place op client action w at in (c.0, Contains-append_left part (call ∷ []) c.0 c.1, c.2)
       | inr w ↦ (call, Contains-push part call, here ∙ sym w)
     ];

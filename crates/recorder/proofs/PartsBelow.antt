@@ -10,13 +10,14 @@ use Rattle.recorder.specs.declared.part.Call.{Call}
 use Rattle.key_index.specs.Numbers.{Numbers}
 use Rattle.key_index.specs.Numbers.Numbers.{known, first}
 use Rattle.recorder.specs.Records.{IsRecorded, BeginsAt, IsFirstSeen, AreParts}
-use Rattle.recorder.specs.Adding.{AddsCall, Extends, Begins}
-use Rattle.recorder.specs.Lists.{place_of, push_cases, slice_get-set, Contains-slice_get}
-use Rattle.recorder.specs.Entries.{entry_at, key_of_entry, keys_set, keys_push}
+use Rattle.recorder.specs.Adding.{AddsCall, ExtendsPart, BeginsPart}
+use Rattle.tag.proofs.Lists.{place_of, push_cases, slice_get-set, Contains-slice_get}
+use Rattle.recorder.proofs.Entries.{entry_at, key_of_entry, keys_set, keys_push}
 use Rattle.recorder.specs.Histories.{IsWellFormed}
 use Rattle.recorder.specs.Parts.{IsSequence}
 use Rattle.recorder.proofs.Recorded.{IsSequence-recorded}
-use Rattle.recorder.proofs.PartBelow.{IsPartBelow, below_or_at, IsPartBelow-none, IsPartBelow-skip, IsPartBelow-push, IsPart-all}
+use Rattle.recorder.proofs.PartBelow.{IsPartBelow, IsPartBelow-none, IsPartBelow-skip, IsPartBelow-push, IsPart-all}
+use Rattle.tag.proofs.Below.{below_or_next}
 
 -- the parts of the calls that are begun before place n
 pub record ArePartsBelow (rows : List Row) (n : ℕ) (parts : List (List ℕ × List Call)) : Type 0 where
@@ -67,7 +68,7 @@ one_slot rows n parts are key p q i j at_i at_j =
 pub ArePartsBelow-skip : (rows : List Row) (n : ℕ) (parts : List (List ℕ × List Call)) → ((key : List ℕ) → BeginsAt rows key n → ⊥) → ArePartsBelow rows n parts → ArePartsBelow rows (n + 1) parts
 ArePartsBelow-skip rows n parts never are = record {
   each = λ key part h. IsPartBelow-skip rows n key part (never key) (are.each key part h);
-  all = λ key place below b. elim (below_or_at place n below) [
+  all = λ key place below b. elim (below_or_next place n below) [
     | inl w ↦ are.all key place w b
     | inr w ↦ absurd (never key (subst (λ (k : ℕ). BeginsAt rows key k) w b))
   ];
@@ -87,7 +88,7 @@ module _ (rows : List Row) (n : ℕ) (old new : List (List ℕ × List Call)) (a
   begins = (call.op, call.client, call.action, subst (λ (k : ℕ). slice_get rows k ≡ Some (Invoke call.op call.client key call.action)) here recorded.begun)
 
   -- what an element of the new parts was
-  pub extended_at : (e : Extends old key call new) → (j : ℕ) (k : List ℕ) (q : List Call) → slice_get new j ≡ Some (k, q) → ((j ≡ e.slot) × (key ≡ k) × (e.part ++ call ∷ [] ≡ q)) ⊎ ((j ≢ e.slot) × (slice_get old j ≡ Some (k, q)))
+  pub extended_at : (e : ExtendsPart old key call new) → (j : ℕ) (k : List ℕ) (q : List Call) → slice_get new j ≡ Some (k, q) → ((j ≡ e.slot) × (key ≡ k) × (e.part ++ call ∷ [] ≡ q)) ⊎ ((j ≢ e.slot) × (slice_get old j ≡ Some (k, q)))
   extended_at e j k q at =
       let now : slice_get (set old e.slot (key, e.part ++ call ∷ [])) j ≡ Some (k, q) = subst (λ (l : List (List ℕ × List Call)). slice_get l j ≡ Some (k, q)) e.has at in
       elim (slice_get-set old e.slot j (key, e.part ++ call ∷ []) (slice_get_within old e.slot (key, e.part) e.had)) [
@@ -98,14 +99,14 @@ module _ (rows : List Row) (n : ℕ) (old new : List (List ℕ × List Call)) (a
         | inr w ↦ inr (w.0, sym w.1 ∙ now)
       ]
 
-  pub was_at : (e : Extends old key call new) → (j : ℕ) (k : List ℕ) (q : List Call) → slice_get new j ≡ Some (k, q) → (p : List Call) × (slice_get old j ≡ Some (k, p))
+  pub was_at : (e : ExtendsPart old key call new) → (j : ℕ) (k : List ℕ) (q : List Call) → slice_get new j ≡ Some (k, q) → (p : List Call) × (slice_get old j ≡ Some (k, p))
   was_at e j k q at =
       elim (extended_at e j k q at) [
         | inl w ↦ (e.part, subst (λ (x : List ℕ). slice_get old j ≡ Some (x, e.part)) w.1 (ap (slice_get old) w.0 ∙ e.had))
         | inr w ↦ (q, w.1)
       ]
 
-  pub kept_at : (e : Extends old key call new) → (j : ℕ) (k : List ℕ) (p : List Call) → slice_get old j ≡ Some (k, p) → (q : List Call) × Contains new (k, q)
+  pub kept_at : (e : ExtendsPart old key call new) → (j : ℕ) (k : List ℕ) (p : List Call) → slice_get old j ≡ Some (k, p) → (q : List Call) × Contains new (k, q)
   kept_at e j k p at =
       elim (slice_get-set old e.slot j (key, e.part ++ call ∷ []) (slice_get_within old e.slot (key, e.part) e.had)) [
         | inl w ↦
@@ -116,7 +117,7 @@ module _ (rows : List Row) (n : ℕ) (old new : List (List ℕ × List Call)) (a
         | inr w ↦ (p, Contains-slice_get new j (k, p) (ap (λ (l : List (List ℕ × List Call)). slice_get l j) e.has ∙ (w.1 ∙ at)))
       ]
 
-  pub ArePartsBelow-extend : Extends old key call new → ArePartsBelow rows (n + 1) new
+  pub ArePartsBelow-extend : ExtendsPart old key call new → ArePartsBelow rows (n + 1) new
   ArePartsBelow-extend e = record {
     each = λ k q h.
         let j = place_of new (k, q) h in
@@ -126,7 +127,7 @@ module _ (rows : List Row) (n : ℕ) (old new : List (List ℕ × List Call)) (a
               let same : k ≡ key = same_begun rows n k key b begins in
               w.0 (one_slot rows n old are k q e.part j.0 e.slot w.1 (subst (λ (x : List ℕ). slice_get old e.slot ≡ Some (x, e.part)) (sym same) e.had))) (are.each k q (Contains-slice_get old j.0 (k, q) w.1))
         ];
-    all = λ k place below b. elim (below_or_at place n below) [
+    all = λ k place below b. elim (below_or_next place n below) [
       | inl w ↦ let o = are.all k place w b in let j = place_of old (k, o.0) o.1 in kept_at e j.0 k o.0 j.1
       | inr w ↦
           let same : key ≡ k = same_begun rows n key k begins (subst (λ (x : ℕ). BeginsAt rows k x) w b) in
@@ -144,7 +145,7 @@ module _ (rows : List Row) (n : ℕ) (old new : List (List ℕ × List Call)) (a
   }
 
   -- the new part of a key that had none
-  pub begun_at : (b : Begins old key call new) → (j : ℕ) (k : List ℕ) (q : List Call) → slice_get new j ≡ Some (k, q) → (slice_get old j ≡ Some (k, q)) ⊎ ((j ≡ length old) × (key ≡ k) × (call ∷ [] ≡ q))
+  pub begun_at : (b : BeginsPart old key call new) → (j : ℕ) (k : List ℕ) (q : List Call) → slice_get new j ≡ Some (k, q) → (slice_get old j ≡ Some (k, q)) ⊎ ((j ≡ length old) × (key ≡ k) × (call ∷ [] ≡ q))
   begun_at b j k q at =
       let now : slice_get (old ++ (key, call ∷ []) ∷ []) j ≡ Some (k, q) = subst (λ (l : List (List ℕ × List Call)). slice_get l j ≡ Some (k, q)) b.has at in
       elim (push_cases old (key, call ∷ []) j (k, q) now) [
@@ -152,13 +153,13 @@ module _ (rows : List Row) (n : ℕ) (old new : List (List ℕ × List Call)) (a
         | inr w ↦ let p = some_pair_parts key k (call ∷ []) q (ap Some w.1) in inr (w.0, p.0, p.1)
       ]
 
-  not_before : (b : Begins old key call new) → (place : ℕ) → place < n → BeginsAt rows key place → ⊥
+  not_before : (b : BeginsPart old key call new) → (place : ℕ) → place < n → BeginsAt rows key place → ⊥
   not_before b place below h = let o = are.all key place below h in b.absent o.0 o.1
 
-  first_here : (b : Begins old key call new) → IsFirstSeen rows key n
+  first_here : (b : BeginsPart old key call new) → IsFirstSeen rows key n
   first_here b = record { begins = begins; first = not_before b }
 
-  pub ArePartsBelow-begin : Begins old key call new → ArePartsBelow rows (n + 1) new
+  pub ArePartsBelow-begin : BeginsPart old key call new → ArePartsBelow rows (n + 1) new
   ArePartsBelow-begin b = record {
     each = λ k q h.
         let j = place_of new (k, q) h in
@@ -168,7 +169,7 @@ module _ (rows : List Row) (n : ℕ) (old new : List (List ℕ × List Call)) (a
               b.absent q (subst (λ (x : List ℕ). Contains old (x, q)) same (Contains-slice_get old j.0 (k, q) w))) (are.each k q (Contains-slice_get old j.0 (k, q) w))
           | inr w ↦ subst (λ (x : List ℕ). IsPartBelow rows (n + 1) x q) w.1 (subst (λ (x : List Call). IsPartBelow rows (n + 1) key x) w.2 (IsPartBelow-push rows n key [] call recorded here (IsPartBelow-none rows n key (not_before b))))
         ];
-    all = λ k place below h. elim (below_or_at place n below) [
+    all = λ k place below h. elim (below_or_next place n below) [
       | inl w ↦
           let o = are.all k place w h in
           (o.0, subst (λ (l : List (List ℕ × List Call)). Contains l (k, o.0)) (sym b.has) (Contains-append_left old ((key, call ∷ []) ∷ []) (k, o.0) o.1))

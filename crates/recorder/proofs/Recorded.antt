@@ -13,7 +13,7 @@ use Rattle.recorder.specs.Histories.{IsWellFormed}
 use Rattle.recorder.specs.States.{Describes, IsResponseAt}
 use Rattle.recorder.specs.Parts.{IsSequence}
 use Rattle.recorder.specs.Records.{IsRecorded}
-use Rattle.recorder.specs.Lists.{Contains-slice_get}
+use Rattle.tag.proofs.Lists.{Contains-slice_get}
 use Rattle.recorder.proofs.Numbers.{numbers_rise, begun_before}
 
 -- recorded calls in the order of their places are a sequence

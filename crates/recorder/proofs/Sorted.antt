@@ -1,7 +1,7 @@
 -- Lists in the order of a place that each element has.
 use Rattle.std.proofs.Common.{ℕ, zero, suc, ◌≡◌, ◌<◌, List, [], ◌∷◌, Some, sym, ◌∙◌, subst, refl, arith}
 use Rattle.std.specs.List.{slice_get, Contains}
-use Rattle.recorder.specs.Lists.{place_of, Contains-slice_get}
+use Rattle.tag.proofs.Lists.{place_of, Contains-slice_get}
 
 -- each element has a place, and the places rise
 pub record IsInOrder (X : Type 0) (At : X → ℕ → Type 0) (xs : List X) : Type 0 where

@@ -10,9 +10,10 @@ use Rattle.tag.specs.Tags.{Tag}
 use Rattle.recorder.specs.declared.row.Row.{Row}
 use Rattle.recorder.specs.declared.row.Row.TheVariants.{Invoke, Note, Respond}
 use Rattle.recorder.specs.declared.history.CallState.{CallState}
-use Rattle.recorder.specs.Histories.{call_count, HasNote, HasResponse, IsPendingCall, IsPendingOp, IsWellFormed}
+use Rattle.recorder.specs.Histories.{call_count, HasNote, HasResponse, IsPendingCall, IsPendingOp, IsWellFormed, MayFollow}
 use Rattle.recorder.specs.States.{Describes, AreStates, is_write}
-use Rattle.recorder.specs.Lists.{place_of, get_at, push_cases, slice_get-set, slice_get-push_last, Contains-slice_get}
+use Rattle.tag.proofs.SameTags.{same_op}
+use Rattle.tag.proofs.Lists.{place_of, get_at, push_cases, slice_get-set, slice_get-push_last, Contains-slice_get}
 use Rattle.recorder.proofs.Numbers.{count_push, number_below, no_note, no_response}
 use Rattle.recorder.proofs.OneMore.{Describes-push, noted_same, answered_same}
 
@@ -46,6 +47,9 @@ module _ (rows : List Row) (op : OpId) (state : CallState) (d : Describes rows o
   pub pending_from : state.response ≡ None → IsPendingCall rows op state.client d.action
   pending_from waits = record { key = d.key; invoked = d.invoked; unanswered = not_answered waits }
 
+  pub may_note : (tag : Tag) → state.response ≡ None → state.note ≡ None → MayFollow rows (Note op tag)
+  may_note tag waits none = ((state.client, d.action, pending_from waits), not_noted none)
+
 -- a call whose state, if any, has a response isn't pending
 pub not_pending : (rows : List Row) (states : List CallState) → IsWellFormed rows → AreStates rows states → (op : OpId) → ((state : CallState) → slice_get states op.0 ≡ Some state → IsSome state.response) → IsPendingOp rows op → ⊥
 not_pending rows states formed are op done pending =
@@ -53,9 +57,6 @@ not_pending rows states formed are op done pending =
     let below = number_below rows formed op pending.0 p.key pending.1 p.invoked in
     let s = get_at states op.0 (omega (arith, below, are.all)) in
     p.unanswered (has_response rows op s.0 (are.each op s.0 s.1) (done s.0 s.1))
-
-pub same_op : (a b : OpId) → a.0 ≡ b.0 → a ≡ b
-same_op a b e = ap (λ (n : ℕ). let x : OpId = record { 0 = n } in x) e
 
 -- one note more
 module _ (rows : List Row) (op : OpId) (tag : Tag) where

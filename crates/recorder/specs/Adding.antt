@@ -8,7 +8,7 @@ use Rattle.recorder.specs.declared.row.Row.TheVariants.{Invoke}
 use Rattle.recorder.specs.declared.part.Call.{Call}
 
 -- the call comes to the end of its key's part
-pub record Extends (old : List (List ℕ × List Call)) (key : List ℕ) (call : Call)
+pub record ExtendsPart (old : List (List ℕ × List Call)) (key : List ℕ) (call : Call)
     (new : List (List ℕ × List Call)) : Type 0 where
   pub slot : ℕ
   pub part : List Call
@@ -16,14 +16,14 @@ pub record Extends (old : List (List ℕ × List Call)) (key : List ℕ) (call :
   pub has : new ≡ slice_set old slot (key, part ++ call ∷ [])
 
 -- the key has no part, and its first comes after all others
-pub record Begins (old : List (List ℕ × List Call)) (key : List ℕ) (call : Call) (new : List (List ℕ
-    × List Call)) : Type 0 where
+pub record BeginsPart (old : List (List ℕ × List Call)) (key : List ℕ) (call : Call)
+    (new : List (List ℕ × List Call)) : Type 0 where
   pub absent : (part : List Call) → Contains old (key, part) → ⊥
   pub has : new ≡ old ++ (key, call ∷ []) ∷ []
 
 -- the call is added to the parts
 abbrev pub AddsCall : List (List ℕ × List Call) → List ℕ → Call → List (List ℕ × List Call) → Type 0
-AddsCall old key call new = Extends old key call new ⊎ Begins old key call new
+AddsCall old key call new = ExtendsPart old key call new ⊎ BeginsPart old key call new
 
 -- the row at that place begins the call, on some key
 abbrev pub IsBegunAt : List Row → ℕ → OpId → ℕ → Action → Type 0

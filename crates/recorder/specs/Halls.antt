@@ -1,15 +1,20 @@
 -- A row of halls: histories side by side, each of the keys that fall to it.
 use Rattle.std.specs.Prelude.{ℕ, ◌≡◌, ◌≤◌, ◌%◌, List, length, sum, sum_by, All, slice_get, Option}
 use Rattle.std.specs.Prelude.{Some, None}
+use Rattle.tag.specs.Limits.{call_limit}
 use Rattle.quorum.specs.Quorums.{Quorums}
 use Rattle.recorder.specs.declared.row.Row.{Row}
 use Rattle.recorder.specs.declared.row.Row.TheVariants.{Invoke, Note, Respond}
 use Rattle.recorder.specs.Histories.{Recorded, call_count}
 
+-- how many halls there may be at most
+abbrev pub hall_limit : ℕ
+hall_limit = 64
+
 -- how many halls there may be
-pub record IsCount (halls : ℕ) : Type 0 where
+pub record IsHallCount (halls : ℕ) : Type 0 where
   pub least : 1 ≤ halls
-  pub most : halls ≤ 64
+  pub most : halls ≤ hall_limit
 
 -- the hall of a key: what the sum of its bytes leaves, divided by the number of halls
 abbrev pub hall_of : ℕ → List ℕ → ℕ
@@ -43,7 +48,7 @@ pub record RecordedHalls : Type 0 where
 -- 1 to 64 halls of at most 1,000,000 calls together, each key in its hall; without quorums there is
 -- one hall
 pub record AreHalls (histories : RecordedHalls) : Type 0 where
-  pub count : IsCount (length histories.halls)
-  pub calls : hall_calls histories.halls ≤ 1000000
+  pub count : IsHallCount (length histories.halls)
+  pub calls : hall_calls histories.halls ≤ call_limit
   pub keys : AreOfTheirHalls (length histories.halls) histories.halls
   pub one : histories.quorums ≡ None → length histories.halls ≡ 1

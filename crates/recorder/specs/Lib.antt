@@ -1,4 +1,3 @@
-pub mod Equality
 pub mod Parts
 pub mod Orders
 pub mod Histories
@@ -10,7 +9,5 @@ pub mod Sound
 pub mod Adding
 pub mod Halls
 pub mod Clients
-pub mod Lists
-pub mod Entries
 pub mod Logs
 pub mod Numbers

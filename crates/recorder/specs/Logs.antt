@@ -18,7 +18,7 @@ pub record IsLogged (rows : List Row) (client : ℕ) (entry : Entry) : Type 0 wh
       → (entry.response ≡ Some (record { place = place; returned = returned }))
       ↔ (slice_get rows place ≡ Some (Respond entry.op returned))
 
--- the entries are the client's calls in the rows, in order
+-- the entries are the client's calls in the rows, all of them, in order of their invocations
 pub record IsLog (rows : List Row) (client : ℕ) (log : List Entry) : Type 0 where
   pub each : (k : ℕ) (entry : Entry) → slice_get log k ≡ Some entry → IsLogged rows client entry
   pub all : (place : ℕ) (op : OpId) (key : List ℕ) (action : Action) → slice_get rows place

@@ -49,13 +49,14 @@ pub record TagSound (part : List Call) : Type 0 where
 abbrev pub IsSettled : Call → Type 0
 IsSettled call = IsCompleted call ⊎ (IsWrite call × ((tag : Tag) × (call.note ≡ Some tag)))
 
--- by tag, a write before a read of the same tag, then by place of invocation
+-- call a comes before call b: by tag, a write before a read of one tag, then by invocation
 abbrev pub ComesBefore : Call → Tag → Call → Tag → Type 0
 ComesBefore a s b t = IsBelow s t ⊎ ((s ≡ t)
     × ((IsWrite a × IsRead b) ⊎ (((IsRead a × IsRead b) ⊎ (IsWrite a × IsWrite b))
     × (a.invoked < b.invoked))))
 
--- the tag order of a part: its settled calls, each with its note, sorted so
+-- the tag order of a part: its settled calls, each with its note, by tag, a write before a read of
+-- the same tag, then by place of invocation
 pub record IsByTag (part : List Call) (order : List OpId) : Type 0 where
   pub known : (i : ℕ) → i < length order → (call : Call) × StandsAt part order i call
       × IsSettled call

@@ -65,7 +65,7 @@ impl ClientSet {
         Ok(())
     }
 
-    /// Takes the client out.
+    /// Removes the client.
     pub(crate) fn remove(&mut self, client: ClientId)
         ensures { (other : ℕ) → is_marked self.new other
             ≡ cond (nat_eq client other) false (is_marked self.old other) }

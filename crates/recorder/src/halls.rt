@@ -1,7 +1,8 @@
 //! Rows of halls, and the hall of a key.
 ghost use Rattle.std.specs.Prelude.{◌≡◌, ◌<◌, ◌≤◌, ◌↔◌, ℕ, true, sum, length, IsSome, IfSome};
+ghost use Rattle.tag.specs.Limits.{key_limit};
 ghost use Rattle.tag.specs.Names.{is_key};
-ghost use Rattle.recorder.specs.Halls.{IsCount, hall_of};
+ghost use Rattle.recorder.specs.Halls.{IsHallCount, hall_limit, hall_of};
 
 use std::marker::Model;
 use tag::Key;
@@ -17,18 +18,18 @@ impl Model for Halls {
 
     ghost Value = { ℕ };
 
-    ghost use Rattle.recorder.specs.Halls.{IsCount};
+    ghost use Rattle.recorder.specs.Halls.{IsHallCount};
 
     ghost view = { λ h. h.count };
 
-    ghost invariant = { λ h. IsCount h.count };
+    ghost invariant = { λ h. IsHallCount h.count };
 
     ghost inverse = { λ n. record { count = n } };
 }
 
 /// The sum of the bytes.
 fn total(bytes: &[u8]) -> u32
-    requires { length bytes.now ≤ 64 }
+    requires { length bytes.now ≤ key_limit }
     ensures { result ≡ sum bytes.now }
 {
     bytes.iter().map(|byte| u32::from(*byte)).sum()
@@ -37,7 +38,7 @@ fn total(bytes: &[u8]) -> u32
 impl Halls {
     /// So many halls. `None` comes exactly where they aren't 1 to 64.
     pub fn new(count: u8) -> Option<Halls>
-        ensures some { IsSome result ↔ IsCount count }
+        ensures some { IsSome result ↔ IsHallCount count }
         ensures value { IfSome result (λ halls. halls ≡ count) }
     {
         if count >= 1 && count <= 64 {
@@ -51,7 +52,7 @@ impl Halls {
     pub fn count(&self) -> u8
         ensures count { result ≡ self.now }
         ensures least { 1 ≤ result }
-        ensures most { result ≤ 64 }
+        ensures most { result ≤ hall_limit }
     {
         self.count
     }
@@ -76,7 +77,7 @@ impl Halls {
 
     /// The number of the hall of the key of these bytes.
     fn of_bytes(&self, key: &[u8]) -> u8
-        requires { length key.now ≤ 64 }
+        requires { length key.now ≤ key_limit }
         ensures hall { result ≡ hall_of self.now key.now }
         ensures below { result < self.now }
     {

@@ -5,9 +5,10 @@ ghost use Rattle.std.specs.Cmp.Lexicographic.{lists_per, pointwise};
 ghost use Rattle.std.specs.Ordering.{eq_of_both, on};
 ghost use Rattle.quorum.specs.Quorums.{Quorums};
 ghost use Rattle.quorum.specs.contracts.quorums.QuorumsPartialEq.TheImpl.Laws as quorums;
-ghost use Rattle.recorder.specs.Equality.{option_per};
+ghost use Rattle.tag.proofs.Equality.{option_per};
 ghost use Rattle.recorder.specs.contracts.history.equal.HistoryPartialEq.TheImpl.Laws as history;
-ghost use Rattle.recorder.specs.Halls.{AreHalls, AreOfTheirHalls, IsCount, IsHallOf, FallsTo, hall_calls};
+ghost use Rattle.recorder.specs.Halls.{AreHalls, AreOfTheirHalls, IsHallCount, IsHallOf, FallsTo};
+ghost use Rattle.recorder.specs.Halls.{hall_limit, hall_calls};
 
 use crate::halls::Halls;
 use crate::history::History;
@@ -103,7 +104,7 @@ fn are_halls(histories: &[History], is_known: bool) -> bool
 
 /// How many calls the histories have together.
 fn hall_calls(histories: &[History]) -> usize
-    requires { length histories.now ≤ 64 }
+    requires { length histories.now ≤ hall_limit }
     ensures { result ≡ hall_calls histories.now }
 {
     let mut total = 0;

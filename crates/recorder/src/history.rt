@@ -2,10 +2,11 @@
 ghost use Rattle.std.specs.Prelude.{ℕ, ◌≡◌, ◌≤◌, ◌<◌, List, [], IfOk, IfErr, OnOk, OnErr, IfSome};
 ghost use Rattle.std.specs.Prelude.{IfNone, IsSome, Some, None, slice_get, true, false, IsTrue};
 ghost use Rattle.std.specs.Prelude.{◌↔◌, length, vec_len, vec_capacity};
+ghost use Rattle.tag.specs.Limits.{call_limit};
 ghost use Rattle.tag.specs.Names.{is_key};
 ghost use Rattle.recorder.specs.declared.history.CallState.{CallState};
 ghost use Rattle.recorder.specs.Histories.{IsBusy, IsWellFormed, call_count, caller_of};
-ghost use Rattle.recorder.specs.Answers.{Adds, IsRefused, MayBegin, with_row};
+ghost use Rattle.recorder.specs.Answers.{RecordsRow, IsRefused, MayBegin, with_row};
 ghost use Rattle.recorder.specs.States.{is_write};
 
 mod equal;
@@ -18,7 +19,7 @@ use std::alloc::Global;
 use std::marker::Model;
 use tag::{Action, ClientId, Key, Memory, OpId, Returned, Tag};
 
-/// What a history knows of a call without a look at its rows.
+/// What a history knows of a call without reading its rows.
 #[derive(Clone, Copy, Debug)]
 struct CallState {
     client: ClientId,
@@ -63,7 +64,7 @@ impl Model for History {
 impl History {
     /// A history without a row, that may have so many calls.
     pub fn new(alloc: Global, limit: u32) -> History
-        requires { limit ≤ 1000000 }
+        requires { limit ≤ call_limit }
         ensures { result ≡ record { rows = []; limit = limit } }
     {
         History {
@@ -88,7 +89,7 @@ impl History {
     pub fn calls(&self) -> usize
         ensures count { result ≡ call_count self.now.rows }
         ensures most { result ≤ self.now.limit }
-        ensures few { result ≤ 1000000 }
+        ensures few { result ≤ call_limit }
     {
         self.states.len()
     }
@@ -96,7 +97,7 @@ impl History {
     /// How many calls may be begun.
     pub fn limit(&self) -> u32
         ensures limit { result ≡ self.now.limit }
-        ensures most { result ≤ 1000000 }
+        ensures most { result ≤ call_limit }
     {
         self.limit
     }
@@ -139,7 +140,7 @@ impl History {
     /// that it may have, else `ClientBusy` where the client has a pending call, else `Memory` only
     /// where an allocation was refused; each leaves the history as it was.
     pub fn invoke(&mut self, client: ClientId, key: Key, action: Action) -> Result<OpId, RowRefusal>
-        ensures row { Adds self.old (Row.Invoke
+        ensures row { RecordsRow self.old (Row.Invoke
             (record { 0 = call_count self.old.rows }) client key action) result self.new }
         ensures number { IfOk result (λ op. op.0 ≡ call_count self.old.rows) }
         ensures may { OnOk result (MayBegin self.old client) }
@@ -161,7 +162,7 @@ impl History {
         action: Action,
     ) -> Result<OpId, RowRefusal>
         requires { is_key key.now ≡ true }
-        ensures row { Adds self.old (Row.Invoke
+        ensures row { RecordsRow self.old (Row.Invoke
             (record { 0 = call_count self.old.rows }) client key.now action) result self.new }
         ensures number { IfOk result (λ op. op.0 ≡ call_count self.old.rows) }
         ensures may { OnOk result (MayBegin self.old client) }
@@ -227,7 +228,7 @@ impl History {
     /// `NoteTwice` where it has a note, else `Memory` only where an allocation was refused; each leaves
     /// the history as it was.
     pub fn note(&mut self, op: OpId, tag: Tag) -> Result<(), RowRefusal>
-        ensures { Adds self.old (Row.Note op tag) result self.new }
+        ensures { RecordsRow self.old (Row.Note op tag) result self.new }
     {
         let Some(state) = pending_state(&self.states, op) else {
             return Err(RowRefusal::NotPending);
@@ -244,7 +245,7 @@ impl History {
     /// where the answer isn't of the call's kind, else `Memory` only where an allocation was refused;
     /// each leaves the history as it was.
     pub fn respond(&mut self, op: OpId, returned: Returned) -> Result<(), RowRefusal>
-        ensures { Adds self.old (Row.Respond op returned) result self.new }
+        ensures { RecordsRow self.old (Row.Respond op returned) result self.new }
     {
         let Some(state) = pending_state(&self.states, op) else {
             return Err(RowRefusal::NotPending);

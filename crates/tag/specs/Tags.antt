@@ -21,6 +21,6 @@ next_of tag writer = record { number = tag.number + 1; writer = writer }
 abbrev pub tag_cmp : Tag → Tag → Ordering
 tag_cmp = then_cmp (on (λ t. t.number) nat_cmp) (on (λ t. t.writer) nat_cmp)
 
--- the same as a relation
+-- tag a is below tag b: its number is less, or it is the same and its writer is less
 abbrev pub IsBelow : Tag → Tag → Type 0
 IsBelow a b = (a.number < b.number) ⊎ ((a.number ≡ b.number) × (a.writer < b.writer))

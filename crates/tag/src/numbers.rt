@@ -1,5 +1,6 @@
 //! Names that are numbers.
 ghost use Rattle.std.specs.Prelude.{◌≡◌, ◌<◌, ◌≤◌, ◌↔◌, IsSome, IfSome, IfOk, MatchResult, ◌⊎◌};
+ghost use Rattle.tag.specs.Limits.{client_limit};
 
 use crate::NameError;
 use std::marker::Model;
@@ -12,12 +13,13 @@ pub struct ClientId {
 
 impl Model for ClientId {
     ghost use Rattle.std.specs.Prelude.{ℕ, ◌≤◌};
+    ghost use Rattle.tag.specs.Limits.{client_limit};
 
     ghost Value = { ℕ };
 
     ghost view = { λ c. c.number };
 
-    ghost invariant = { λ c. (1 ≤ c.number) × (c.number ≤ 65535) };
+    ghost invariant = { λ c. (1 ≤ c.number) × (c.number ≤ client_limit) };
 
     ghost inverse = { λ n. record { number = n } };
 }
@@ -25,8 +27,9 @@ impl Model for ClientId {
 impl ClientId {
     /// The client of that name; `BadClient` comes exactly outside 1 to 65,535.
     pub fn new(number: u32) -> Result<ClientId, NameError>
-        ensures { MatchResult result (λ client. (client ≡ number) × (1 ≤ number) × (number ≤ 65535))
-            (λ error. (error ≡ NameError.BadClient) × ((number ≡ 0) ⊎ (65535 < number))) }
+        ensures { MatchResult result
+            (λ client. (client ≡ number) × (1 ≤ number) × (number ≤ client_limit))
+            (λ error. (error ≡ NameError.BadClient) × ((number ≡ 0) ⊎ (client_limit < number))) }
     {
         if number >= 1 && number <= 65535 {
             Ok(ClientId { number })
@@ -39,7 +42,7 @@ impl ClientId {
     pub fn get(self) -> u32
         ensures name { result ≡ self }
         ensures least { 1 ≤ result }
-        ensures most { result ≤ 65535 }
+        ensures most { result ≤ client_limit }
     {
         self.number
     }

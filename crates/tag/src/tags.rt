@@ -4,6 +4,7 @@ ghost use Rattle.std.specs.Ordering.{as_partial_cmp};
 ghost use Rattle.std.specs.Cmp.{partial_order_from_own_ties};
 ghost use Rattle.std.specs.Cmp.Rules.{comparing};
 ghost use Rattle.std.proofs.Common.{rules};
+ghost use Rattle.tag.specs.Limits.{call_limit, client_limit};
 ghost use Rattle.tag.specs.Tags.{IsBelow, least, next_of, tag_cmp};
 
 use crate::ClientId;
@@ -22,13 +23,14 @@ pub struct Tag {
 
 impl Model for Tag {
     ghost use Rattle.std.specs.Prelude.{◌≤◌};
+    ghost use Rattle.tag.specs.Limits.{call_limit, client_limit};
     ghost use Rattle.tag.specs.Tags.{Tag};
 
     ghost Value = { Tag };
 
     ghost view = { λ t. record { number = t.number; writer = t.writer } };
 
-    ghost invariant = { λ t. (t.number ≤ 1000000) × (t.writer ≤ 65535) };
+    ghost invariant = { λ t. (t.number ≤ call_limit) × (t.writer ≤ client_limit) };
 
     ghost inverse = { λ t. record { number = t.number; writer = t.writer } };
 }
@@ -36,7 +38,7 @@ impl Model for Tag {
 impl Tag {
     /// The tag of that number and writer, or `None` above 1,000,000 or 65,535.
     pub fn new(number: u32, writer: u32) -> Option<Tag>
-        ensures some { IsSome result ↔ ((number ≤ 1000000) × (writer ≤ 65535)) }
+        ensures some { IsSome result ↔ ((number ≤ call_limit) × (writer ≤ client_limit)) }
         ensures value { IfSome result (λ tag. tag ≡ record { number = number; writer = writer }) }
     {
         if number <= 1_000_000 && writer <= 65535 {
@@ -59,7 +61,7 @@ impl Tag {
     /// The number.
     pub fn number(self) -> u32
         ensures number { result ≡ self.number }
-        ensures most { result ≤ 1000000 }
+        ensures most { result ≤ call_limit }
     {
         self.number
     }
@@ -67,7 +69,7 @@ impl Tag {
     /// The writer's name, or 0.
     pub fn writer(self) -> u32
         ensures writer { result ≡ self.writer }
-        ensures most { result ≤ 65535 }
+        ensures most { result ≤ client_limit }
     {
         self.writer
     }
@@ -75,7 +77,7 @@ impl Tag {
     /// The tag that a write by the client takes after it found this one: the least of the
     /// client's that is above it in number.
     pub fn next(self, client: ClientId) -> Tag
-        requires { self.number < 1000000 }
+        requires { self.number < call_limit }
         ensures value { result ≡ next_of self client }
         ensures above { IsBelow self result }
     {

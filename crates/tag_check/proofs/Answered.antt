@@ -9,10 +9,10 @@ use Rattle.tag.specs.Tags.{Tag, IsBelow}
 use Rattle.recorder.specs.declared.part.Call.{Call}
 use Rattle.recorder.specs.declared.part.Response.{Response}
 use Rattle.recorder.specs.Parts.{IsSequence}
-use Rattle.recorder.specs.Lists.{place_of, Contains-slice_get, get_at, slice_get-set}
+use Rattle.tag.proofs.Lists.{place_of, Contains-slice_get, get_at, item_at, slice_get-set}
 use Rattle.tag_check.specs.Least.{HasPartner}
 use Rattle.tag_check.specs.Rules.{IsNotAbove, IsTooLow}
-use Rattle.tag_check.specs.Greatest.{IsAtMost, IsGreatest, IsAnsweredBefore, IsAmong, AreAnswered, Falls}
+use Rattle.tag_check.specs.Greatest.{IsAtMost, IsGreatest, IsAnsweredBefore, HasTagBelow, AreAnsweredTags, Falls}
 use Rattle.tag_check.proofs.TagOrder.{at_most_trans, below_at_most}
 
 -- the invocations of a part rise
@@ -53,11 +53,11 @@ greatest_is : (T : Tag → Type 0) (greatest : Option Tag) (tag : Tag) → IsGre
 greatest_is T greatest tag h e = (subst (IsGreatest T) e h).0
 
 -- what is among the first tags is among more
-among_more : (tags : List (Option Tag)) (i j : ℕ) (tag : Tag) → i ≤ j → IsAmong tags i tag → IsAmong tags j tag
+among_more : (tags : List (Option Tag)) (i j : ℕ) (tag : Tag) → i ≤ j → HasTagBelow tags i tag → HasTagBelow tags j tag
 among_more tags i j tag le h = (h.0, omega (arith, h.1), h.2)
 
 -- a call without a response, or after which no call began, adds none
-pub answered_same : (calls : List Call) (i : ℕ) (call : Call) (tags : List (Option Tag)) → slice_get calls i ≡ Some call → ((response : Response) (j : ℕ) (b : Call) → call.response ≡ Some response → slice_get calls j ≡ Some b → response.place < b.invoked → ⊥) → AreAnswered calls i tags → AreAnswered calls (i + 1) tags
+pub answered_same : (calls : List Call) (i : ℕ) (call : Call) (tags : List (Option Tag)) → slice_get calls i ≡ Some call → ((response : Response) (j : ℕ) (b : Call) → call.response ≡ Some response → slice_get calls j ≡ Some b → response.place < b.invoked → ⊥) → AreAnsweredTags calls i tags → AreAnsweredTags calls (i + 1) tags
 answered_same calls i call tags at none are = record {
   all = are.all;
   real = are.real;
@@ -78,12 +78,12 @@ module _ (calls : List Call) (i next : ℕ) (call : Call) (response : Response) 
   at_next = elim (slice_get-set tags next next new within) [ inl w ↦ w.1 | inr w ↦ absurd (w.0 refl) ]
 
   -- a tag that is no lower than one that was there, or than the call's own, stands there
-  risen : (j : ℕ) (tag : Tag) → next ≤ j → (old ≡ Some tag) ⊎ (call.note ≡ Some tag) → (other : Tag) × IsAmong (set tags next new) (j + 1) other × IsAtMost tag other
+  risen : (j : ℕ) (tag : Tag) → next ≤ j → (old ≡ Some tag) ⊎ (call.note ≡ Some tag) → (other : Tag) × HasTagBelow (set tags next new) (j + 1) other × IsAtMost tag other
   risen j tag le has =
       let top = greatest_has (λ tag. (old ≡ Some tag) ⊎ (call.note ≡ Some tag)) new greatest tag has in
       (top.0, (next, omega arith, at_next ∙ ap Some top.1), top.2)
 
-  still : (j : ℕ) (tag : Tag) → IsAmong tags (j + 1) tag → (other : Tag) × IsAmong (set tags next new) (j + 1) other × IsAtMost tag other
+  still : (j : ℕ) (tag : Tag) → HasTagBelow tags (j + 1) tag → (other : Tag) × HasTagBelow (set tags next new) (j + 1) other × IsAtMost tag other
   still j tag among = elim (slice_get-set tags next among.0 new within) [
     | inl w ↦
         let had : old ≡ Some tag = same_Some old (Some tag) (sym was ∙ (ap (slice_get tags) (sym w.0) ∙ among.2)) in
@@ -91,7 +91,7 @@ module _ (calls : List Call) (i next : ℕ) (call : Call) (response : Response) 
     | inr w ↦ (tag, (among.0, among.1, w.1 ∙ among.2), inr refl)
   ]
 
-  real_more : AreAnswered calls i tags → (k : ℕ) (b : Call) (tag : Tag) → slice_get calls k ≡ Some b → slice_get (set tags next new) k ≡ Some (Some tag) → IsAnsweredBefore calls b.invoked tag
+  real_more : AreAnsweredTags calls i tags → (k : ℕ) (b : Call) (tag : Tag) → slice_get calls k ≡ Some b → slice_get (set tags next new) k ≡ Some (Some tag) → IsAnsweredBefore calls b.invoked tag
   real_more are k b tag at_k has = elim (slice_get-set tags next k new within) [
     | inl w ↦
         let top : new ≡ Some tag = same_Some new (Some tag) (sym w.1 ∙ has) in
@@ -109,7 +109,7 @@ module _ (calls : List Call) (i next : ℕ) (call : Call) (response : Response) 
     | inr w ↦ are.real k b tag at_k (sym w.1 ∙ has)
   ]
 
-  pub answered_more : AreAnswered calls i tags → AreAnswered calls (i + 1) (set tags next new)
+  pub answered_more : AreAnsweredTags calls i tags → AreAnsweredTags calls (i + 1) (set tags next new)
   answered_more are = record {
     all = length-set tags next new ∙ are.all;
     real = real_more are;
@@ -132,14 +132,14 @@ module _ (calls : List Call) (i next : ℕ) (call : Call) (response : Response) 
   }
 
 -- the greatest of one tag more
-pub greatest_more : (tags : List (Option Tag)) (j : ℕ) (here g new : Option Tag) → slice_get tags j ≡ Some here → IsGreatest (IsAmong tags j) g → IsGreatest (λ tag. (g ≡ Some tag) ⊎ (here ≡ Some tag)) new → IsGreatest (IsAmong tags (j + 1)) new
+pub greatest_more : (tags : List (Option Tag)) (j : ℕ) (here g new : Option Tag) → slice_get tags j ≡ Some here → IsGreatest (HasTagBelow tags j) g → IsGreatest (λ tag. (g ≡ Some tag) ⊎ (here ≡ Some tag)) new → IsGreatest (HasTagBelow tags (j + 1)) new
 greatest_more tags j here g new at before greatest = more new greatest under
   where
     -- a tag among one more is no greater than the new one
-    under : (tag : Tag) → IsAmong tags (j + 1) tag → (top : Tag) × (new ≡ Some top) × IsAtMost tag top
+    under : (tag : Tag) → HasTagBelow tags (j + 1) tag → (top : Tag) × (new ≡ Some top) × IsAtMost tag top
     under tag among = elim (cases_lt among.0 j) [
       | inl h ↦
-          let top = greatest_has (IsAmong tags j) g before tag (among.0, h, among.2) in
+          let top = greatest_has (HasTagBelow tags j) g before tag (among.0, h, among.2) in
           let up = greatest_has (λ tag. (g ≡ Some tag) ⊎ (here ≡ Some tag)) new greatest top.0 (inl top.1) in
           (up.0, up.1, at_most_trans tag top.0 up.0 top.2 up.2)
       | inr h ↦
@@ -148,20 +148,33 @@ greatest_more tags j here g new at before greatest = more new greatest under
           greatest_has (λ tag. (g ≡ Some tag) ⊎ (here ≡ Some tag)) new greatest tag (inr own)
     ]
 
-    among : (tag : Tag) → (g ≡ Some tag) ⊎ (here ≡ Some tag) → IsAmong tags (j + 1) tag
-    among tag (inl e) = among_more tags j (j + 1) tag (omega arith) (greatest_is (IsAmong tags j) g tag before e)
+    among : (tag : Tag) → (g ≡ Some tag) ⊎ (here ≡ Some tag) → HasTagBelow tags (j + 1) tag
+    among tag (inl e) = among_more tags j (j + 1) tag (omega arith) (greatest_is (HasTagBelow tags j) g tag before e)
     among tag (inr e) = (j, omega arith, at ∙ ap Some e)
 
-    more : (n : Option Tag) → IsGreatest (λ tag. (g ≡ Some tag) ⊎ (here ≡ Some tag)) n → ((tag : Tag) → IsAmong tags (j + 1) tag → (top : Tag) × (n ≡ Some top) × IsAtMost tag top) → IsGreatest (IsAmong tags (j + 1)) n
+    more : (n : Option Tag) → IsGreatest (λ tag. (g ≡ Some tag) ⊎ (here ≡ Some tag)) n → ((tag : Tag) → HasTagBelow tags (j + 1) tag → (top : Tag) × (n ≡ Some top) × IsAtMost tag top) → IsGreatest (HasTagBelow tags (j + 1)) n
     more None h up = λ tag has. let u = up tag has in none-some u.0 u.1
     more (Some top) h up = (among top h.0, λ tag has. let u = up tag has in subst (IsAtMost tag) (sym (same_Some top u.0 u.1)) u.2)
 
-module _ (calls : List Call) (tags : List (Option Tag)) (j : ℕ) (call : Call) (greatest : Option Tag) (at : slice_get calls j ≡ Some call) (are : AreAnswered calls (length calls) tags) (top : IsGreatest (IsAmong tags (j + 1)) greatest) where
+-- the call at a place, and the greatest tag up to it
+pub record IsReadAt (calls : List Call) (tags : List (Option Tag)) (j : ℕ) (call : Call) (greatest : Option Tag) : Type 0 where
+  pub at : slice_get calls j ≡ Some call
+  pub top : IsGreatest (HasTagBelow tags (j + 1)) greatest
+
+pub read_at : (calls : List Call) (tags : List (Option Tag)) (j : ℕ) (call : Call) (here before greatest : Option Tag) → AreAnsweredTags calls (length calls) tags
+    → j < length calls → call ≡ get_or calls j call → here ≡ get_or tags j here → IsGreatest (HasTagBelow tags j) before
+    → IsGreatest (λ tag. (before ≡ Some tag) ⊎ (here ≡ Some tag)) greatest → IsReadAt calls tags j call greatest
+read_at calls tags j call here before greatest are below call_is here_is top more = record {
+  at = item_at calls j call below call_is;
+  top = greatest_more tags j here before greatest (item_at tags j here (omega (arith, below, are.all)) here_is) top more;
+}
+
+module _ (calls : List Call) (tags : List (Option Tag)) (j : ℕ) (call : Call) (greatest : Option Tag) (at : slice_get calls j ≡ Some call) (are : AreAnsweredTags calls (length calls) tags) (top : IsGreatest (HasTagBelow tags (j + 1)) greatest) where
   -- a call that falls has a call that it isn't above
   pub falls_here : IsSequence calls → Falls call greatest → HasPartner calls IsNotAbove call
   falls_here sequence falls =
       let s = falls.0 in
-      let among = greatest_is (IsAmong tags (j + 1)) greatest s top falls.2 in
+      let among = greatest_is (HasTagBelow tags (j + 1)) greatest s top falls.2 in
       let small : among.0 < length calls = omega (arith, slice_get_within tags among.0 (Some s) among.2, are.all) in
       let b = get_at calls among.0 small in
       let before = are.real among.0 b.0 s b.1 among.2 in
@@ -184,7 +197,7 @@ module _ (calls : List Call) (tags : List (Option Tag)) (j : ℕ) (call : Call) 
       let broken = found.2 in
       let m = place_of calls found.0 found.1 in
       let covered = are.covered m.0 j found.0 call broken.precedes.0 broken.s (slice_get_within calls m.0 found.0 m.1) m.1 at broken.first broken.precedes.1 broken.precedes.2 in
-      let up = greatest_has (IsAmong tags (j + 1)) greatest top covered.0 covered.1 in
+      let up = greatest_has (HasTagBelow tags (j + 1)) greatest top covered.0 covered.1 in
       let le : IsAtMost broken.s up.0 = at_most_trans broken.s covered.0 up.0 covered.2 up.2 in
       no_fall (up.0, broken.t, up.1, broken.second, lower call broken.t broken.s up.0 broken.low le)
     where

@@ -1,44 +1,17 @@
 -- The least numbered calls, found by index.
-use Rattle.std.proofs.Common.{ℕ, ◌≡◌, ◌<◌, ◌≤◌, ◌+◌, inl, inr, List, Some, length, get_or, refl, ap, subst, sym, ◌∙◌, arith}
-use Rattle.std.specs.List.{slice_get, Contains}
+use Rattle.std.proofs.Common.{ℕ, ◌≡◌, ◌<◌, ◌≤◌, ◌+◌, inl, inr, List, Some, length, refl, ap, subst, ◌∙◌, arith}
+use Rattle.std.specs.List.{slice_get}
 use Rattle.std.proofs.lemmas.Bool.{cases_lt}
-use Rattle.std.proofs.lemmas.Option.{slice_get_within, slice_get-get_or}
+use Rattle.std.proofs.lemmas.Option.{slice_get_within}
 use Rattle.recorder.specs.declared.part.Call.{Call}
 use Rattle.recorder.specs.Parts.{IsSequence}
-use Rattle.recorder.specs.Lists.{place_of, Contains-slice_get}
-use Rattle.tag_check.specs.Least.{HasNone, IsLeastCall, NoneBelow}
+use Rattle.tag.proofs.Lists.{place_of, Contains-slice_get}
+use Rattle.tag_check.specs.Least.{LacksCall, IsLeastCall}
 
--- a part has one call of a number
-pub same_call : (part : List Call) → IsSequence part → (a b : Call) → Contains part a → Contains part b → a.op.0 ≡ b.op.0 → a ≡ b
-same_call part sequence a b left right number =
-    let i = place_of part a left in
-    let j = place_of part b right in
-    elim (cases_lt i.0 j.0) [
-      | inl h ↦ absurd (let up : a.op.0 < b.op.0 = sequence.numbers i.0 j.0 a b h i.1 j.1 in omega arith)
-      | inr h ↦ elim (cases_lt j.0 i.0) [
-        | inl g ↦ absurd (let down : b.op.0 < a.op.0 = sequence.numbers j.0 i.0 b a g j.1 i.1 in omega arith)
-        | inr g ↦
-            let same : i.0 ≡ j.0 = omega arith in
-            let at : slice_get part i.0 ≡ slice_get part j.0 = ap (slice_get part) same in
-            cc (i.1, j.1, at)
-      ]
-    ]
-
--- a call of a lower number stands at a lower index
-pub lower_index : (part : List Call) → IsSequence part → (i j : ℕ) (a b : Call) → slice_get part i ≡ Some a → slice_get part j ≡ Some b → a.op.0 < b.op.0 → i < j
-lower_index part sequence i j a b at_i at_j less =
-    elim (cases_lt i j) [
-      | inl h ↦ h
-      | inr h ↦ elim (cases_lt j i) [
-        | inl g ↦ absurd (let down : b.op.0 < a.op.0 = sequence.numbers j i b a g at_j at_i in omega arith)
-        | inr g ↦
-            let same : i ≡ j = omega arith in
-            let at : slice_get part i ≡ slice_get part j = ap (slice_get part) same in
-            let call : a ≡ b = cc (at_i, at_j, at) in
-            let number : a.op.0 ≡ b.op.0 = ap (λ (x : Call). x.op.0) call in
-            absurd (omega arith)
-      ]
-    ]
+-- no call below index i has the property
+abbrev pub NoneBelow : List Call → (Call → Type 0) → ℕ → Type 0
+NoneBelow part P i =
+    (m : ℕ) (call : Call) → m < i → slice_get part m ≡ Some call → P call → ⊥
 
 -- a call with the property, after none that has it, is the least
 pub first_here : (part : List Call) → IsSequence part → (P : Call → Type 0) (i : ℕ) (call : Call) → slice_get part i ≡ Some call → P call → NoneBelow part P i → IsLeastCall part P call.op
@@ -88,11 +61,7 @@ all_more part P i call at here before m other less there =
     ]
 
 -- none at all
-pub none_all : (part : List Call) (P : Call → Type 0) (i : ℕ) → length part ≤ i → NoneBelow part P i → HasNone part P
+pub none_all : (part : List Call) (P : Call → Type 0) (i : ℕ) → length part ≤ i → NoneBelow part P i → LacksCall part P
 none_all part P i past none call there holds =
     let k = place_of part call there in
     none k.0 call (omega (arith, slice_get_within part k.0 call k.1)) k.1 holds
-
--- an element that is the one at an index stands there
-pub item_at : {X : Type 0} (xs : List X) (i : ℕ) (item : X) → i < length xs → item ≡ get_or xs i item → slice_get xs i ≡ Some item
-item_at xs i item within is = slice_get-get_or xs i item within ∙ ap Some (sym is)

@@ -2,20 +2,18 @@
 use Rattle.std.proofs.Common.{ℕ, ◌≡◌, ◌≤◌, List, Option, Some, None, inl, inr, refl, ap, sym, ◌∙◌, subst, arith}
 use Rattle.std.proofs.lemmas.Option.{same_Some}
 use Rattle.tag.specs.declared.numbers.OpId.{OpId}
+use Rattle.tag.proofs.SameTags.{same_op}
 use Rattle.tag.specs.Tags.{Tag}
 use Rattle.recorder.specs.declared.part.Call.{Call}
 use Rattle.recorder.specs.Parts.{IsSequence}
 use Rattle.tag_check.specs.declared.rule.BrokenRule.{BrokenRule}
 use Rattle.tag_check.specs.declared.rule.BrokenRule.TheVariants.{NoNote, LeastTag, SameTag, NotAbove, NoWrite, OtherValue}
 use Rattle.std.proofs.lemmas.Bool.{cases_lt}
-use Rattle.tag_check.specs.Least.{HasNone, HasNoPair, HasPartner, IsLeastCall, IsLeastPair}
+use Rattle.tag_check.specs.Least.{LacksCall, HasNoPair, HasPartner, IsLeastCall, IsLeastPair}
 use Rattle.tag_check.specs.Rules.{LacksNote, IsLeastWrite, ShareTag, IsNotAbove, AnswersNoWrite, AnswersAnother, IsOtherValue, IsValueOf}
 use Rattle.tag_check.proofs.Refutations.{refuted}
 use Rattle.tag_check.specs.Verdicts.{KeepsRulesBefore, IsBroken, IsTagVerdict}
-use Rattle.tag_check.proofs.Calls.{same_call}
-
-op_ext : (a b : OpId) → a.0 ≡ b.0 → a ≡ b
-op_ext a b e = ap (λ (n : ℕ). let o : OpId = record { 0 = n } in o) e
+use Rattle.recorder.proofs.Sequences.{same_call}
 
 -- the least numbered call is one
 one_least : (part : List Call) (P : Call → Type 0) (a b : OpId) → IsLeastCall part P a → IsLeastCall part P b → a ≡ b
@@ -24,7 +22,7 @@ one_least part P a b x y =
     let number_y : y.call.op.0 ≡ b.0 = ap (λ (o : OpId). o.0) y.number in
     let low : a.0 ≤ y.call.op.0 = x.least y.call y.recorded y.has in
     let high : b.0 ≤ x.call.op.0 = y.least x.call x.recorded x.has in
-    op_ext a b (omega arith)
+    same_op a b (omega arith)
 
 -- the least numbered pair is one
 one_later : (part : List Call) (R : Call → Call → Type 0) (a b c d : OpId) → IsLeastPair part R a b → IsLeastPair part R c d → b ≡ d
@@ -37,7 +35,7 @@ one_earlier part sequence R a b c d x y =
     one_least part (λ other. R other y.call) a c (subst (λ (z : Call). IsLeastCall part (λ other. R other z) a) same x.partner) y.partner
 
 -- a property that no call has has no least numbered one
-none_least : (part : List Call) (P : Call → Type 0) (op : OpId) → HasNone part P → IsLeastCall part P op → ⊥
+none_least : (part : List Call) (P : Call → Type 0) (op : OpId) → LacksCall part P → IsLeastCall part P op → ⊥
 none_least part P op none least = none least.call least.recorded least.has
 
 none_pair : (part : List Call) (R : Call → Call → Type 0) (a b : OpId) → HasNoPair part R → IsLeastPair part R a b → ⊥

@@ -9,12 +9,12 @@ use Rattle.tag.specs.Tags.{Tag, least, tag_cmp}
 use Rattle.recorder.specs.declared.part.Call.{Call}
 use Rattle.recorder.specs.declared.part.Response.{Response}
 use Rattle.recorder.specs.Parts.{IsSequence}
-use Rattle.recorder.specs.Lists.{Contains-slice_get}
+use Rattle.tag.proofs.Lists.{Contains-slice_get}
 use Rattle.recorder.specs.Sound.{TagSound, IsRead, IsNoted}
-use Rattle.tag_check.specs.Least.{HasNone, HasPartner}
+use Rattle.tag_check.specs.Least.{LacksCall, HasPartner}
 use Rattle.tag_check.specs.Rules.{LacksNote, IsLeastWrite, IsNotAbove, AnswersNoWrite, AllAnswerRight}
 use Rattle.tag_check.specs.Writes.{AreWrites}
-use Rattle.tag_check.proofs.Calls.{same_call}
+use Rattle.recorder.proofs.Sequences.{same_call}
 use Rattle.tag_check.proofs.TagOrder.{tag_cases, above_least}
 use Rattle.tag_check.proofs.ByTag.{none_shared_all}
 use Rattle.tag_check.proofs.Values.{no_write}
@@ -25,7 +25,7 @@ note_of None h = absurd (h refl)
 note_of (Some tag) h = (tag, refl)
 
 -- what a completed read of a tag answers, where a write with the tag was looked for
-answer_of : (calls : List Call) (writes : BTreeMap Tag ℕ) → AreWrites calls (length calls) writes → HasNone calls (AnswersNoWrite calls) → AllAnswerRight calls → (a : Call) (response : Response) (tag : Tag) → IsRead a → IsNoted calls a tag → tag ≢ least → a.response ≡ Some response
+answer_of : (calls : List Call) (writes : BTreeMap Tag ℕ) → AreWrites calls (length calls) writes → LacksCall calls (AnswersNoWrite calls) → AllAnswerRight calls → (a : Call) (response : Response) (tag : Tag) → IsRead a → IsNoted calls a tag → tag ≢ least → a.response ≡ Some response
     → (found : Option ℕ) → get tag_cmp writes tag ≡ found → (write : Call) × (value : List ℕ) × IsNoted calls write tag × (write.action ≡ Write value) × (response.returned ≡ Value (Some value))
 answer_of calls writes are written right a response tag reads x other responds None none = absurd (written a x.recorded (record { tag = tag; answered = (reads, (response, responds), x.noted); other = other; unwritten = no_write calls writes are tag none }))
 answer_of calls writes are written right a response tag reads x other responds (Some k) has =
@@ -35,7 +35,7 @@ answer_of calls writes are written right a response tag reads x other responds (
     let text = real.2.0.0 in
     (write, text, record { recorded = there; noted = real.2.1 }, real.2.0.1, right a x.recorded tag (Some write.op) (Some text) response reads x.noted responds (other, text, record { write = write; recorded = there; number = refl; noted = real.2.1; writes = real.2.0.1 }, refl))
 
-pub sound_of_none : (calls : List Call) → IsSequence calls → (writes : BTreeMap Tag ℕ) → AreWrites calls (length calls) writes → HasNone calls LacksNote → HasNone calls IsLeastWrite → HasNone calls (HasPartner calls IsNotAbove) → HasNone calls (AnswersNoWrite calls) → AllAnswerRight calls → TagSound calls
+pub sound_of_none : (calls : List Call) → IsSequence calls → (writes : BTreeMap Tag ℕ) → AreWrites calls (length calls) writes → LacksCall calls LacksNote → LacksCall calls IsLeastWrite → LacksCall calls (HasPartner calls IsNotAbove) → LacksCall calls (AnswersNoWrite calls) → AllAnswerRight calls → TagSound calls
 sound_of_none calls sequence writes are noted greater above written right = record {
   noted = λ call there completed. note_of call.note (λ none. noted call there (completed, none));
   rising = λ a b s t precedes x y. elim (tag_cases t s) [

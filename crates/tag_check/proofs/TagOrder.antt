@@ -1,21 +1,9 @@
 -- The order of tags.
 use Rattle.std.proofs.Common.{◌≡◌, ◌⊎◌, inl, inr, ap, sym, subst, arith}
 use Rattle.std.proofs.lemmas.Bool.{cases_lt}
-use Rattle.std.proofs.lemmas.Grind.{common_steps}
-use Rattle.std.specs.declared.cmp.Ordering.TheVariants.{Equal}
-use Rattle.tag.specs.Tags.{Tag, IsBelow, least, tag_cmp}
+use Rattle.tag.proofs.SameTags.{same_tag}
+use Rattle.tag.specs.Tags.{Tag, IsBelow, least}
 use Rattle.tag_check.specs.Greatest.{IsAtMost}
-
--- a tag is its number and its writer
-pub tag_ext : (s t : Tag) → s.number ≡ t.number → s.writer ≡ t.writer → s ≡ t
-tag_ext s t p q = λ i. record { number = p i; writer = q i }
-
--- tags that compare as equal are one
-pub tag_same : (s t : Tag) → tag_cmp s t ≡ Equal → s ≡ t
-tag_same s t h =
-    let number : s.number ≡ t.number = grind (arith, common_steps) in
-    let writer : s.writer ≡ t.writer = grind (arith, common_steps) in
-    tag_ext s t number writer
 
 -- of two tags one is below the other, or they are one
 pub tag_cases : (s t : Tag) → IsBelow s t ⊎ IsAtMost t s
@@ -30,7 +18,7 @@ tag_cases s t =
               | inl a ↦ inl (inr (number, a))
               | inr a ↦ elim (cases_lt t.writer s.writer) [
                 | inl b ↦ inr (inl (inr (sym number, b)))
-                | inr b ↦ inr (inr (tag_ext t s (sym number) (omega arith)))
+                | inr b ↦ inr (inr (same_tag t s (sym number) (omega arith)))
               ]
             ]
       ]

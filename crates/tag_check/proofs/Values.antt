@@ -11,7 +11,7 @@ use Rattle.tag.specs.declared.numbers.OpId.{OpId}
 use Rattle.tag.specs.Tags.{Tag, least, tag_cmp}
 use Rattle.recorder.specs.declared.part.Call.{Call}
 use Rattle.recorder.specs.declared.part.Response.{Response}
-use Rattle.recorder.specs.Lists.{place_of, Contains-slice_get}
+use Rattle.tag.proofs.Lists.{place_of, Contains-slice_get}
 use Rattle.tag_check.specs.Rules.{IsWriteOf, IsWriteWith, IsValueOf, IsAnsweredRead, AnswersNoWrite, AnswersRight, AnswersAnother}
 use Rattle.tag_check.specs.Writes.{AreWrites}
 

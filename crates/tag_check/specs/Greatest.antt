@@ -25,16 +25,16 @@ pub record IsAnsweredBefore (part : List Call) (place : ℕ) (tag : Tag) : Type 
   pub before : response.place < place
 
 -- one of the first i tags
-abbrev pub IsAmong : List (Option Tag) → ℕ → Tag → Type 0
-IsAmong tags i tag = (k : ℕ) × (k < i) × (slice_get tags k ≡ Some (Some tag))
+abbrev pub HasTagBelow : List (Option Tag) → ℕ → Tag → Type 0
+HasTagBelow tags i tag = (k : ℕ) × (k < i) × (slice_get tags k ≡ Some (Some tag))
 
 -- a tag that is no lower stands among the first i
 abbrev pub IsReached : List (Option Tag) → ℕ → Tag → Type 0
-IsReached tags i tag = (other : Tag) × IsAmong tags i other × IsAtMost tag other
+IsReached tags i tag = (other : Tag) × HasTagBelow tags i other × IsAtMost tag other
 
 -- beside a call stands the tag of one that was answered before it began, if any; and where one of
 -- the first i calls was, with a note, a tag that is no lower stands there or earlier
-pub record AreAnswered (calls : List Call) (i : ℕ) (tags : List (Option Tag)) : Type 0 where
+pub record AreAnsweredTags (calls : List Call) (i : ℕ) (tags : List (Option Tag)) : Type 0 where
   pub all : length tags ≡ length calls
   pub real : (k : ℕ) (call : Call) (tag : Tag) → slice_get calls k ≡ Some call
       → slice_get tags k ≡ Some (Some tag) → IsAnsweredBefore calls call.invoked tag

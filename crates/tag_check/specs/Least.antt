@@ -1,11 +1,11 @@
 -- Of the calls of a part with a property, the one with the least number.
-use Rattle.std.specs.Prelude.{ℕ, ◌≡◌, ◌≤◌, ◌<◌, slice_get, Contains, List, Option, Some, None}
+use Rattle.std.specs.Prelude.{◌≡◌, ◌≤◌, Contains, List, Option, Some, None}
 use Rattle.tag.specs.declared.numbers.OpId.{OpId}
 use Rattle.recorder.specs.declared.part.Call.{Call}
 
 -- none of the calls has the property
-abbrev pub HasNone : List Call → (Call → Type 0) → Type 0
-HasNone part P = (call : Call) → Contains part call → P call → ⊥
+abbrev pub LacksCall : List Call → (Call → Type 0) → Type 0
+LacksCall part P = (call : Call) → Contains part call → P call → ⊥
 
 -- the call of that number has the property, and none of a lower number has it
 pub record IsLeastCall (part : List Call) (P : Call → Type 0) (op : OpId) : Type 0 where
@@ -17,7 +17,7 @@ pub record IsLeastCall (part : List Call) (P : Call → Type 0) (op : OpId) : Ty
 
 -- the least numbered call with the property, or none where no call has it
 abbrev pub IsFirstCall : List Call → (Call → Type 0) → Option OpId → Type 0
-IsFirstCall part P None = HasNone part P
+IsFirstCall part P None = LacksCall part P
 IsFirstCall part P (Some op) = IsLeastCall part P op
 
 -- one of the part's calls stands so to the later call
@@ -26,7 +26,7 @@ HasPartner part R later = (earlier : Call) × Contains part earlier × R earlier
 
 -- none of the calls stands so to another
 abbrev pub HasNoPair : List Call → (Call → Call → Type 0) → Type 0
-HasNoPair part R = HasNone part (HasPartner part R)
+HasNoPair part R = LacksCall part (HasPartner part R)
 
 -- the later call is the least numbered one that has a partner, and the earlier one of its partners
 -- the least numbered
@@ -37,8 +37,3 @@ pub record IsLeastPair (part : List Call) (R : Call → Call → Type 0) (earlie
   pub number : call.op ≡ later
   pub partnered : IsLeastCall part (HasPartner part R) later
   pub partner : IsLeastCall part (λ other. R other call) earlier
-
--- no call below index i has the property
-abbrev pub NoneBelow : List Call → (Call → Type 0) → ℕ → Type 0
-NoneBelow part P i =
-    (m : ℕ) (call : Call) → m < i → slice_get part m ≡ Some call → P call → ⊥

@@ -1,4 +1,5 @@
--- What breaks each rule of sound tags (Lynch and Shvartsman 1997).
+-- What breaks each rule of sound tags (Lynch and Shvartsman 1997): 1 `LacksNote`, 2 `IsLeastWrite`,
+-- 3 `ShareTag`, 4 `IsNotAbove`, 5 `AnswersNoWrite`, 6 `AnswersOther`.
 use Rattle.std.specs.Prelude.{ℕ, ◌≡◌, ◌≢◌, ◌<◌, ◌⊎◌, List, Option, Some, None, Contains}
 use Rattle.tag.specs.declared.actions.Action.TheVariants.{Write}
 use Rattle.tag.specs.declared.actions.Returned.TheVariants.{Value}

@@ -3,12 +3,12 @@ ghost use Rattle.std.specs.Prelude.{◌≡◌, ◌<◌, ◌≤◌, ◌↔◌, �
 ghost use Rattle.std.specs.Prelude.{Some, slice_get, length};
 ghost use Rattle.recorder.specs.declared.part.Call.{Call};
 ghost use Rattle.recorder.specs.Parts.{IsSequence};
-ghost use Rattle.tag_check.specs.Least.{IsFirstCall, IsLeastPair, HasNone, HasNoPair};
+ghost use Rattle.tag_check.specs.Least.{IsFirstCall, IsLeastPair, LacksCall, HasNoPair};
 ghost use Rattle.tag_check.specs.Rules.{LacksNote, IsLeastWrite, ShareTag, IsNotAbove};
 ghost use Rattle.tag_check.specs.Rules.{AnswersNoWrite, AnswersRight, AllAnswerRight, AnswersOther};
 ghost use Rattle.tag_check.specs.Rules.{IsOtherValue, IsWriteOf, IsWriteWith};
 ghost use Rattle.tag_check.specs.Writes.{AreWrites};
-ghost use Rattle.tag_check.specs.Greatest.{AreAnswered};
+ghost use Rattle.tag_check.specs.Greatest.{AreAnsweredTags};
 
 use crate::BrokenRule;
 use crate::tags::{
@@ -123,7 +123,7 @@ impl<'a> Notes<'a> {
     /// before an earlier call did.
     fn answered_tags(&self, alloc: Global) -> Result<Vec<Option<Tag>>, Memory>
         ensures { IfOk result
-            (λ tags. AreAnswered self.now.calls.now (length self.now.calls.now) tags.items) }
+            (λ tags. AreAnsweredTags self.now.calls.now (length self.now.calls.now) tags.items) }
     {
         let mut tags = vec![in alloc; None; self.calls.len()]?;
         for (i, call) in self.calls.iter().enumerate() {
@@ -151,7 +151,7 @@ impl<'a> Notes<'a> {
 
     /// The same, with the tags of what was answered before each call.
     fn first_fall(&self, tags: &[Option<Tag>]) -> Option<(OpId, OpId)>
-        requires { AreAnswered self.now.calls.now (length self.now.calls.now) tags.now }
+        requires { AreAnsweredTags self.now.calls.now (length self.now.calls.now) tags.now }
         ensures { MatchOption result
             (HasNoPair self.now.calls.now IsNotAbove)
             (λ pair. IsLeastPair self.now.calls.now IsNotAbove pair.0 pair.1) }
@@ -254,7 +254,7 @@ impl<'a> Notes<'a> {
     /// The write that is noted with the tag, and its value.
     fn write_of(&self, writes: &Writes, tag: Tag) -> Option<(OpId, &'a Value)>
         requires { AreWrites self.now.calls.now (length self.now.calls.now) writes.now }
-        ensures { MatchOption result (HasNone self.now.calls.now (λ write. IsWriteOf write tag))
+        ensures { MatchOption result (LacksCall self.now.calls.now (λ write. IsWriteOf write tag))
             (λ found. IsWriteWith self.now.calls.now tag found.0 found.1.now) }
     {
         let call = &self.calls[*writes.get(&tag)?];

@@ -10,8 +10,9 @@ use Rattle.recorder.specs.Sound.{IsRead, IsWrite, IsSettled, ComesBefore, IsByTa
 use Rattle.witness_order.specs.declared.sort_key.SortKey.{SortKey}
 use Rattle.witness_order.specs.Keys.{key_of}
 use Rattle.witness_order.specs.Notes.{IsNotedCall, AllNoted}
-use Rattle.witness_order.proofs.Lists.{In, get_at, slice_get-map_back, slice_get-map_at}
-use Rattle.witness_order.proofs.Parts.{same_call, invoked_first}
+use Rattle.tag.proofs.Lists.{get_at, slice_get-map_back, slice_get-map_at}
+use Rattle.witness_order.proofs.Lists.{In}
+use Rattle.recorder.proofs.Sequences.{same_call, invoked_first}
 use Rattle.witness_order.proofs.CallKeys.{IsKeyOf, key_is, has_key}
 use Rattle.witness_order.proofs.KeyOrder.{IsFirst, ComesFirst, in_words}
 
@@ -36,7 +37,7 @@ module _ (part : List Call) (sequence : IsSequence part) (noted : AllNoted part)
       let k = slice_get-map_back (λ (key : SortKey). key.op) keys i call.op stands.listed in
       let c = sorted.each i k.0 k.1 in
       let is = key_is c.0 k.0 c.2 in
-      let same : c.0 ≡ call = same_call part sequence c.0 call c.1 stands.recorded (sym is.number ∙ k.2) in
+      let same : c.0 ≡ call = same_call part sequence c.0 call c.1 stands.recorded (ap (λ (o : OpId). o.0) (sym is.number ∙ k.2)) in
       (k.0, k.1, subst (λ (x : Call). IsKeyOf x k.0) same is)
 
   -- and each key stands for its call

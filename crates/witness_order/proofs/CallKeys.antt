@@ -1,5 +1,6 @@
 -- What a call is sorted by.
-use Rattle.std.proofs.Common.{◌≡◌, inl, inr, Option, Some, None, true, false, sym, ◌∙◌, ap, subst, refl}
+use Rattle.std.proofs.Common.{◌≡◌, inl, inr, Option, Some, None, true, false, true≢false, sym, ◌∙◌, subst, refl}
+use Rattle.std.proofs.lemmas.Option.{same_Some}
 use Rattle.tag.specs.declared.actions.Action.{Action}
 use Rattle.tag.specs.declared.actions.Action.TheVariants.{Read, Write}
 use Rattle.tag.specs.Tags.{Tag}
@@ -23,26 +24,24 @@ module _ (call : Call) (key : SortKey) where
   key_by Read (Some tag) None ea en er h = absurd (cc)
   key_by Read (Some tag) (Some response) ea en er h =
       let made : SortKey = record { tag = tag; is_read = true; op = call.op } in
-      let same : made ≡ key = cc in
-      let read : true ≡ key.is_read = ap (λ (k : SortKey). k.is_read) same in
-      record {
-        noted = en ∙ ap (λ (k : SortKey). Some k.tag) same;
-        number = sym (ap (λ (k : SortKey). k.op) same);
+      let is : IsKeyOf call made = record {
+        noted = en;
+        number = refl;
         reads = λ e. ea;
-        writes = λ e. absurd (cc (read, e));
+        writes = λ e. absurd (true≢false e);
         settled = inl (response, er);
-      }
+      } in
+      subst (IsKeyOf call) (same_Some made key h) is
   key_by (Write value) (Some tag) response ea en er h =
       let made : SortKey = record { tag = tag; is_read = false; op = call.op } in
-      let same : made ≡ key = cc in
-      let write : false ≡ key.is_read = ap (λ (k : SortKey). k.is_read) same in
-      record {
-        noted = en ∙ ap (λ (k : SortKey). Some k.tag) same;
-        number = sym (ap (λ (k : SortKey). k.op) same);
-        reads = λ e. absurd (cc (write, e));
+      let is : IsKeyOf call made = record {
+        noted = en;
+        number = refl;
+        reads = λ e. absurd (true≢false (sym e));
         writes = λ e. (value, ea);
         settled = inr ((value, ea), (tag, en));
-      }
+      } in
+      subst (IsKeyOf call) (same_Some made key h) is
 
   -- a call's key
   pub key_is : key_of call ≡ Some key → IsKeyOf call key

@@ -8,7 +8,8 @@ use Rattle.recorder.specs.Sound.{IsByTag}
 use Rattle.witness_order.specs.declared.sort_key.SortKey.{SortKey}
 use Rattle.witness_order.specs.Keys.{key_of}
 use Rattle.witness_order.specs.Notes.{AllNoted}
-use Rattle.witness_order.proofs.Lists.{In, In-Contains, Contains-slice_get}
+use Rattle.tag.proofs.Lists.{place_of, Contains-slice_get}
+use Rattle.witness_order.proofs.Lists.{In}
 use Rattle.witness_order.proofs.KeyOrder.{IsFirst, first_of, first_first}
 use Rattle.witness_order.proofs.ByKeys.{AreSorted, ops_of, IsByTag-keys}
 
@@ -132,7 +133,7 @@ tag_order_exists part sequence noted =
     let m = make part in
     let sorted : AreSorted part m.keys = record {
       each = λ i key at. let s = m.each key (i, at) in (s.0, Contains-slice_get part s.1.0 s.0 s.1.1, s.2);
-      all = λ call key h has. m.all call key (In-Contains part call h) has;
+      all = λ call key h has. m.all call key (place_of part call h) has;
       rises = by_place m.keys m.rises;
     } in
     (ops_of m.keys, IsByTag-keys part sequence noted m.keys sorted)

@@ -6,11 +6,11 @@ use Rattle.std.specs.Cmp.Rules.{comparing}
 use Rattle.std.specs.Ordering.{nat_cmp, bool_cmp, ordering_then, ordering_reverse, is_lt}
 use Rattle.std.specs.declared.cmp.Ordering.{Ordering}
 use Rattle.std.specs.declared.cmp.Ordering.TheVariants.{Less, Equal, Greater}
-use Rattle.tag.specs.declared.numbers.OpId.{OpId}
 use Rattle.tag.specs.Tags.{IsBelow, tag_cmp}
 use Rattle.witness_order.specs.declared.sort_key.SortKey.{SortKey}
 use Rattle.witness_order.specs.Keys.{key_cmp}
-use Rattle.witness_order.proofs.Tags.{tag_less, tag_same}
+use Rattle.tag.proofs.SameTags.{same_op, tag_from_equal}
+use Rattle.witness_order.proofs.Tags.{tag_less}
 
 pub key_cmp_total : IsTotalOrder key_cmp
 key_cmp_total = search (comparing, rules)
@@ -61,16 +61,13 @@ in_words a b h =
     elim (less_by (tag_cmp a.tag b.tag) (bool_cmp a.is_read b.is_read) (nat_cmp a.op.0 b.op.0) h.less) [
       | inl t ↦ inl (tag_less a.tag b.tag t)
       | inr t ↦ inr (
-        tag_same a.tag b.tag t.0,
+        tag_from_equal a.tag b.tag t.0,
         elim t.1 [
           | inl r ↦ inl (bool_less a.is_read b.is_read r)
           | inr r ↦ inr (bool_same a.is_read b.is_read r.0, nat_less a.op.0 b.op.0 r.1)
         ],
       )
     ]
-
-op_ext : (a b : OpId) → a.0 ≡ b.0 → a ≡ b
-op_ext a b e = λ i. record { 0 = e i }
 
 key_ext : (a b : SortKey) → a.tag ≡ b.tag → a.is_read ≡ b.is_read → a.op ≡ b.op → a ≡ b
 key_ext a b p q r = λ i. record { tag = p i; is_read = q i; op = r i }
@@ -79,7 +76,7 @@ key_ext a b p q r = λ i. record { tag = p i; is_read = q i; op = r i }
 same_key : (a b : SortKey) → key_cmp a b ≡ Equal → a ≡ b
 same_key a b h =
     let s = same_by (tag_cmp a.tag b.tag) (bool_cmp a.is_read b.is_read) (nat_cmp a.op.0 b.op.0) h in
-    key_ext a b (tag_same a.tag b.tag s.0) (bool_same a.is_read b.is_read s.1) (op_ext a.op b.op (nat_same a.op.0 b.op.0 s.2))
+    key_ext a b (tag_from_equal a.tag b.tag s.0) (bool_same a.is_read b.is_read s.1) (same_op a.op b.op (nat_same a.op.0 b.op.0 s.2))
 
 -- of two keys one comes first, or they are one
 pub first_of : (a b : SortKey) → IsFirst a b ⊎ (IsFirst b a ⊎ (a ≡ b))

@@ -1,7 +1,6 @@
 mod Lists
 mod Zips
 mod Tags
-mod Parts
 pub mod Unnoted
 mod CallKeys
 mod KeyOrder

@@ -1,34 +1,10 @@
 -- Lists by place.
-use Rattle.std.proofs.Common.{ℕ, zero, suc, ◌≡◌, ◌<◌, inl, inr, List, [], ◌∷◌, Option, Some, None, length, map, filter_map, ◌∙◌, ap, refl, arith}
-use Rattle.std.specs.List.{slice_get, Contains, cons_option}
-use Rattle.std.proofs.lemmas.Option.{slice_get-get_or, slice_get_within, get_or_from_slice_get, slice_get_cases}
+use Rattle.std.proofs.Common.{ℕ, zero, suc, ◌≡◌, ◌<◌, List, [], ◌∷◌, Option, Some, None, filter_map, ◌∙◌, ap, refl, arith}
+use Rattle.std.specs.List.{slice_get, cons_option}
 
 -- a place of the element
 abbrev pub In : {X : Type 0} → List X → X → Type 0
 In xs x = (i : ℕ) × (slice_get xs i ≡ Some x)
-
--- what a list contains stands at a place
-pub In-Contains : {X : Type 0} (xs : List X) (x : X) → Contains xs x → In xs x
-In-Contains xs x h = (h.0, slice_get-get_or xs h.0 x h.1 ∙ ap Some h.2)
-
--- what stands at a place is contained
-pub Contains-slice_get : {X : Type 0} (xs : List X) (k : ℕ) (x : X) → slice_get xs k ≡ Some x → Contains xs x
-Contains-slice_get xs k x h = (k, slice_get_within xs k x h, get_or_from_slice_get xs k x x h)
-
--- something stands at each place below the length
-pub get_at : {X : Type 0} (xs : List X) (k : ℕ) → k < length xs → (x : X) × (slice_get xs k ≡ Some x)
-get_at xs k h = elim (slice_get_cases xs k).1 [ inl w ↦ (w.0, w.2) | inr w ↦ absurd (omega (arith, w.0)) ]
-
--- what `map` has at a place is made of the element there
-pub slice_get-map_back : {X Y : Type 0} (f : X → Y) (xs : List X) (k : ℕ) (y : Y) → slice_get (map f xs) k ≡ Some y → (x : X) × (slice_get xs k ≡ Some x) × (f x ≡ y)
-slice_get-map_back f [] k y h = absurd (cc)
-slice_get-map_back f (x ∷ xs) zero y h = (x, refl, cc)
-slice_get-map_back f (x ∷ xs) (suc k) y h = slice_get-map_back f xs k y h
-
-pub slice_get-map_at : {X Y : Type 0} (f : X → Y) (xs : List X) (k : ℕ) (x : X) → slice_get xs k ≡ Some x → slice_get (map f xs) k ≡ Some (f x)
-slice_get-map_at f [] k x h = absurd (cc)
-slice_get-map_at {X = X} f (y ∷ xs) zero x h = let same : y ≡ x = cc in ap (λ (z : X). Some (f z)) same
-slice_get-map_at f (y ∷ xs) (suc k) x h = slice_get-map_at f xs k x h
 
 -- what `filter_map` gives is made of elements, and in their order
 module _ {X Y : Type 0} (h : X → Option Y) where

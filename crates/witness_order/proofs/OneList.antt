@@ -8,7 +8,7 @@ use Rattle.recorder.specs.declared.part.Call.{Call}
 use Rattle.recorder.specs.Parts.{IsSequence}
 use Rattle.recorder.specs.Sound.{IsRead, IsWrite, ComesBefore, IsByTag}
 use Rattle.witness_order.proofs.Lists.{In}
-use Rattle.witness_order.proofs.Parts.{same_call}
+use Rattle.recorder.proofs.Sequences.{same_call}
 use Rattle.witness_order.proofs.Tags.{not_below, not_both}
 
 -- a call isn't both
@@ -46,8 +46,8 @@ record Follows (part : List Call) (x y : OpId) : Type 0 where
 
 not_both_follow : (part : List Call) → IsSequence part → (x y : OpId) → Follows part x y → Follows part y x → ⊥
 not_both_follow part sequence x y p q =
-    let left : q.b ≡ p.a = same_call part sequence q.b p.a q.in_b p.in_a (q.is_b ∙ sym p.is_a) in
-    let right : q.a ≡ p.b = same_call part sequence q.a p.b q.in_a p.in_b (q.is_a ∙ sym p.is_b) in
+    let left : q.b ≡ p.a = same_call part sequence q.b p.a q.in_b p.in_a (ap (λ (o : OpId). o.0) (q.is_b ∙ sym p.is_a)) in
+    let right : q.a ≡ p.b = same_call part sequence q.a p.b q.in_a p.in_b (ap (λ (o : OpId). o.0) (q.is_a ∙ sym p.is_b)) in
     let s : q.t ≡ p.s = cc (q.noted_b, p.noted_a, ap (λ (c : Call). c.note) left) in
     let t : q.s ≡ p.t = cc (q.noted_a, p.noted_b, ap (λ (c : Call). c.note) right) in
     let back : ComesBefore p.b p.t p.a p.s =

@@ -12,7 +12,8 @@ use Rattle.recorder.specs.declared.part.Call.{Call}
 use Rattle.recorder.specs.Parts.{IsSequence}
 use Rattle.witness_order.specs.declared.sort_key.SortKey.{SortKey}
 use Rattle.witness_order.specs.Keys.{key_of, key_cmp}
-use Rattle.witness_order.proofs.Lists.{In-Contains, Contains-slice_get, source, sources, kept}
+use Rattle.tag.proofs.Lists.{place_of, Contains-slice_get}
+use Rattle.witness_order.proofs.Lists.{source, sources, kept}
 use Rattle.witness_order.proofs.CallKeys.{key_is}
 use Rattle.witness_order.proofs.KeyOrder.{key_cmp_total, first_from_test}
 use Rattle.witness_order.proofs.ByKeys.{AreSorted}
@@ -49,14 +50,14 @@ AreSorted-sort part sequence keys moved up = record {
   each = λ i key at.
       let made = filter_map key_of part in
       let there = Contains-permutation keys made key (IsPermutation-sym made keys moved) (Contains-slice_get keys i key at) in
-      let k = In-Contains made key there in
+      let k = place_of made key there in
       let s = source key_of part key k.0 k.1 in
       (s.1, Contains-slice_get part s.0 s.1 s.2, s.3);
   all = λ call key h is.
       let made = filter_map key_of part in
-      let i = In-Contains part call h in
+      let i = place_of part call h in
       let k = kept key_of part i.0 call key i.1 is in
-      In-Contains keys key (Contains-permutation made keys key moved (Contains-slice_get made k.0 key k.1));
+      place_of keys key (Contains-permutation made keys key moved (Contains-slice_get made k.0 key k.1));
   rises = λ i j a b less at_i at_j.
       let made = filter_map key_of part in
       let within = slice_get_within keys j b at_j in

@@ -10,7 +10,7 @@ use Rattle.recorder.specs.declared.part.Call.{Call}
 use Rattle.recorder.specs.Parts.{IsSequence, IsPending, Precedes}
 use Rattle.recorder.specs.Orders.{StandsAt, NoWriteFrom, IsLegal, IsOrder}
 use Rattle.recorder.specs.Sound.{IsRead, IsWrite, IsNoted, TagSound, IsSettled, ComesBefore, IsByTag}
-use Rattle.witness_order.proofs.Parts.{same_at}
+use Rattle.recorder.proofs.Sequences.{same_at}
 use Rattle.witness_order.proofs.Tags.{not_below, not_both, least_or_not}
 use Rattle.witness_order.proofs.OneList.{read_or_write, not_both_before}
 

@@ -2,12 +2,9 @@
 use Rattle.std.proofs.Common.{◌≡◌, ◌≢◌, ◌⊎◌, inl, inr, Bool, true, false, nat_eq, eqb-true, ap, refl, arith}
 use Rattle.std.proofs.lemmas.Bool.{eqb-false}
 use Rattle.std.proofs.lemmas.Grind.{common_steps}
-use Rattle.std.specs.declared.cmp.Ordering.TheVariants.{Less, Equal}
+use Rattle.std.specs.declared.cmp.Ordering.TheVariants.{Less}
+use Rattle.tag.proofs.SameTags.{same_tag}
 use Rattle.tag.specs.Tags.{Tag, IsBelow, least, tag_cmp}
-
--- a tag is its number and its writer
-pub tag_ext : (s t : Tag) → s.number ≡ t.number → s.writer ≡ t.writer → s ≡ t
-tag_ext s t p q = λ i. record { number = p i; writer = q i }
 
 -- a tag that is the other isn't below it
 pub not_below : (s t : Tag) → s ≡ t → IsBelow s t → ⊥
@@ -21,7 +18,7 @@ pub not_both : (s t : Tag) → IsBelow s t → IsBelow t s → ⊥
 not_both s t p q = omega arith
 
 least_by : (t : Tag) (a b : Bool) → nat_eq t.number 0 ≡ a → nat_eq t.writer 0 ≡ b → (t ≡ least) ⊎ (t ≢ least)
-least_by t true true p q = inl (tag_ext t least (eqb-true t.number 0 p) (eqb-true t.writer 0 q))
+least_by t true true p q = inl (same_tag t least (eqb-true t.number 0 p) (eqb-true t.writer 0 q))
 least_by t true false p q = inr (λ e. eqb-false t.writer 0 q (ap (λ (x : Tag). x.writer) e))
 least_by t false b p q = inr (λ e. eqb-false t.number 0 p (ap (λ (x : Tag). x.number) e))
 
@@ -32,9 +29,3 @@ least_or_not t = least_by t (nat_eq t.number 0) (nat_eq t.writer 0) refl refl
 -- what a comparison says
 pub tag_less : (s t : Tag) → tag_cmp s t ≡ Less → IsBelow s t
 tag_less s t h = grind (arith, common_steps)
-
-pub tag_same : (s t : Tag) → tag_cmp s t ≡ Equal → s ≡ t
-tag_same s t h =
-    let number : s.number ≡ t.number = grind (arith, common_steps) in
-    let writer : s.writer ≡ t.writer = grind (arith, common_steps) in
-    tag_ext s t number writer

@@ -1,15 +1,13 @@
 -- The least completed call without a note.
-use Rattle.std.proofs.Common.{ℕ, ◌≡◌, ◌<◌, ◌+◌, inl, inr, List, Option, Some, None, is_some, true, false, length, below_more, sym, ap, subst, refl, arith}
+use Rattle.std.proofs.Common.{ℕ, ◌≡◌, ◌<◌, ◌+◌, inl, inr, List, Some, None, is_some, true, false, length, below_more, sym, ap, subst, refl, arith}
 use Rattle.std.specs.List.{slice_get}
 use Rattle.std.proofs.lemmas.Option.{slice_get_within}
 use Rattle.std.proofs.lemmas.Bool.{cases_lt}
 use Rattle.recorder.specs.declared.part.Call.{Call}
 use Rattle.tag.specs.declared.numbers.OpId.{OpId}
-use Rattle.tag.specs.Tags.{Tag}
-use Rattle.recorder.specs.declared.part.Response.{Response}
 use Rattle.recorder.specs.Parts.{IsSequence, IsCompleted}
 use Rattle.witness_order.specs.Notes.{IsNotedCall, AllNoted, IsLeastUnnoted}
-use Rattle.witness_order.proofs.Lists.{In-Contains, Contains-slice_get}
+use Rattle.tag.proofs.Lists.{place_of, Contains-slice_get}
 
 -- the call at a place, if it is completed, has a note
 abbrev pub IsNotedAt : List Call → ℕ → Type 0
@@ -23,7 +21,7 @@ noted_more calls n call at here before =
 
 pub noted_all : (calls : List Call) (n : ℕ) → length calls < n + 1 → ((k : ℕ) → k < n → IsNotedAt calls k) → AllNoted calls
 noted_all calls n long before call h completed =
-    let i = In-Contains calls call h in
+    let i = place_of calls call h in
     let within = slice_get_within calls i.0 call i.1 in
     before i.0 (omega (arith, within)) call i.1 completed
 
@@ -36,7 +34,7 @@ least_unnoted calls sequence n call at completed unnoted before = record {
   completed = completed;
   unnoted = unnoted;
   least = λ other h done less.
-      let i = In-Contains calls other h in
+      let i = place_of calls other h in
       elim (cases_lt i.0 n) [
         | inl w ↦ before i.0 w other i.1 done
         | inr w ↦ elim (cases_lt n i.0) [
@@ -51,30 +49,9 @@ least_unnoted calls sequence n call at completed unnoted before = record {
       ];
 }
 
--- options by their tests
-pub completed_from_test : (call : Call) → is_some call.response ≡ true → IsCompleted call
-completed_from_test call h = by call.response refl h
-  where
-    by : (o : Option Response) → call.response ≡ o → is_some o ≡ true → IsCompleted call
-    by None is t = absurd (cc)
-    by (Some response) is t = (response, is)
-
+-- a call without a response isn't completed
 pub not_completed : (call : Call) → is_some call.response ≡ false → IsCompleted call → ⊥
 not_completed call h completed = let test : is_some call.response ≡ true = ap is_some completed.1 in cc
-
-pub noted_from_test : (call : Call) → is_some call.note ≡ true → IsNotedCall call
-noted_from_test call h = by call.note refl h
-  where
-    by : (o : Option Tag) → call.note ≡ o → is_some o ≡ true → IsNotedCall call
-    by None is t = absurd (cc)
-    by (Some tag) is t = (tag, is)
-
-pub unnoted_from_test : (call : Call) → is_some call.note ≡ false → call.note ≡ None
-unnoted_from_test call h = by call.note refl h
-  where
-    by : (o : Option Tag) → call.note ≡ o → is_some o ≡ false → call.note ≡ None
-    by None is t = is
-    by (Some tag) is t = absurd (cc)
 
 -- there is one such number
 pub one_least : (calls : List Call) (a b : OpId) → IsLeastUnnoted calls a → IsLeastUnnoted calls b → a ≡ b

@@ -1,5 +1,6 @@
 -- What calls are sorted by.
-use Rattle.std.specs.Prelude.{Option, Some, None, true, false}
+use Rattle.std.specs.Prelude.{◌≡◌, List, Option, Some, None, true, false, map, filter_map}
+use Rattle.std.specs.Prelude.{IsPermutation, IsSorted}
 use Rattle.std.specs.Ordering.{nat_cmp, bool_cmp, then_cmp, on}
 use Rattle.std.specs.declared.cmp.Ordering.{Ordering}
 use Rattle.tag.specs.declared.actions.Action.{Action}
@@ -26,3 +27,10 @@ key_of call = key_from call.op call.action call.note call.response
 abbrev pub key_cmp : SortKey → SortKey → Ordering
 key_cmp = then_cmp (on (λ k. k.tag) tag_cmp)
     (then_cmp (on (λ k. k.is_read) bool_cmp) (on (λ k. k.op.0) nat_cmp))
+
+-- the order has the numbers of the part's settled calls, sorted by their keys
+pub record IsSortedByKeys (part : List Call) (order : List OpId) : Type 0 where
+  pub keys : List SortKey
+  pub settled : IsPermutation (filter_map key_of part) keys
+  pub sorted : IsSorted key_cmp keys
+  pub numbers : order ≡ map (λ key. key.op) keys

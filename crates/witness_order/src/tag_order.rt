@@ -3,14 +3,14 @@ ghost use Rattle.std.specs.Prelude.{◌≡◌, ◌↔◌, Err, IfOk, MatchOption
 ghost use Rattle.tag.specs.declared.numbers.OpId.{OpId};
 ghost use Rattle.recorder.specs.Parts.{IsSequence};
 ghost use Rattle.recorder.specs.Sound.{IsByTag};
-ghost use Rattle.witness_order.specs.Keys.{key_of, key_cmp};
+ghost use Rattle.witness_order.specs.Keys.{IsSortedByKeys, key_of, key_cmp};
 ghost use Rattle.witness_order.specs.Notes.{AllNoted, IsLeastUnnoted};
 
 use crate::WitnessError;
 use crate::sort_key::{SortKey, sort_key};
 use recorder::{Call, Order, Part};
 use std::alloc::{AllocError, Global};
-use tag::OpId;
+use tag::{Memory, OpId};
 
 /// The tag order of the part: its settled calls, which are the completed calls and the noted
 /// pending writes, by tag, a write before a read of the same tag, then by place of invocation.
@@ -28,6 +28,16 @@ pub fn order_of(alloc: Global, part: &Part) -> Result<Order, WitnessError>
     if let Some(op) = first_unnoted(calls) {
         return Err(WitnessError::NoNote(op));
     }
+    match sorted_order(alloc, calls) {
+        Ok(order) => Ok(order),
+        Err(_) => Err(WitnessError::Memory),
+    }
+}
+
+/// The numbers of the settled calls, sorted.
+fn sorted_order(alloc: Global, calls: &[Call]) -> Result<Order, Memory>
+    ensures { IfOk result (λ order. IsSortedByKeys calls.now order) }
+{
     let keys = sorted_keys(alloc, calls)?;
     Ok(Order::from_vec(numbers(alloc, &keys)?))
 }

@@ -1,4 +1,4 @@
-use Rattle.certificate_check.specs.Faults.{refuted}
+use Rattle.certificate_check.proofs.Faults.{refuted}
 use Rattle.certificate_check.proofs.laws.no_is_no_order.Goals as goal
 
 pub returns : goal.returns

@@ -2,7 +2,7 @@ use Rattle.std.proofs.Common.{map, arith, Vec, Global}
 use Rattle.certificate_check.specs.declared.verdict.Verdict.{Verdict}
 use Rattle.parallel_keys.specs.Shares.{parts_of, orders_of, AreOfShare}
 use Rattle.parallel_keys.proofs.Places.{items_more}
-use Rattle.parallel_keys.proofs.Turns.{lists_more}
+use Rattle.parallel_keys.proofs.WorkerVerdicts.{lists_more}
 use Rattle.parallel_keys.proofs.check.+run_workers.Goals as goal
 
 pub returns : goal.returns

@@ -1,7 +1,7 @@
 use Rattle.std.proofs.Common.{◌≡◌, suc, ◌+◌, [], ◌∷◌, ◌++◌, length, take, refl, subst, arith}
 use Rattle.std.proofs.lemmas.Option.{slice_get_read}
 use Rattle.recorder.specs.Orders.{IsOrder}
-use Rattle.witness_order.proofs.Lists.{Contains-slice_get}
+use Rattle.tag.proofs.Lists.{Contains-slice_get}
 use Rattle.witness_order.specs.RecordOrders.{AreOrdersOf}
 use Rattle.witness_order.proofs.Zips.{AllZip-next}
 use Rattle.witness_order.proofs.record_orders.key_orders.Goals as goal

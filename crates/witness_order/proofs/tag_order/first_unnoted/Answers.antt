@@ -1,7 +1,8 @@
-use Rattle.std.proofs.Common.{◌≡◌, not, false, length, sym, ◌∙◌, ap, refl, arith}
+use Rattle.std.proofs.Common.{◌≡◌, not, false, sym, ◌∙◌, ap, arith}
 use Rattle.std.specs.Option.{is_some}
-use Rattle.std.proofs.lemmas.Option.{slice_get_read}
-use Rattle.witness_order.proofs.Unnoted.{noted_more, noted_all, least_unnoted, completed_from_test, not_completed, noted_from_test, unnoted_from_test}
+use Rattle.tag.proofs.Lists.{item_at}
+use Rattle.tag.proofs.Options.{none_from_is_some, some_from_is_some}
+use Rattle.witness_order.proofs.Unnoted.{noted_more, noted_all, least_unnoted, not_completed}
 use Rattle.witness_order.proofs.tag_order.first_unnoted.Goals as goal
 use Rattle.witness_order.proofs.tag_order.first_unnoted.Goals.{else-is_some-via-then-is_some+else-is_none, else-is_some-via-else-is_some}
 
@@ -10,20 +11,19 @@ returns-then-is_none c =
     let calls = c.args.calls.now in
     let n = c.loop-call.call-index in
     let call = c.call-item.result in
-    let at = slice_get_read calls (length calls) n call refl c.loop-call-test.true c.call-item.is in
-    let done = completed_from_test call (sym c.is_some.ensures ∙ c.if-is_some.true) in
+    let at = item_at calls n call c.loop-call-test.true c.call-item.is in
+    let done = some_from_is_some call.response (sym c.is_some.ensures ∙ c.if-is_some.true) in
     let none : is_some call.note ≡ false = c.is_none.ensures ∙ ap not c.if-is_none.true in
-    least_unnoted calls c.requires n call at done (unnoted_from_test call none) c.loop-call.invariant
+    least_unnoted calls c.requires n call at done (none_from_is_some call.note none) c.loop-call.invariant
 
 pub loop-call-preserved : goal.loop-call-preserved
 loop-call-preserved c =
     let calls = c.args.calls.now in
-    let n = c.loop-call.call-index in
     let call = c.call-item.result in
-    let at = slice_get_read calls (length calls) n call refl c.loop-call-test.true c.call-item.is in
+    let at = item_at calls c.loop-call.call-index call c.loop-call-test.true c.call-item.is in
     elim c.else-is_some.branch [
-      | else-is_some-via-then-is_some+else-is_none w ↦ noted_more calls n call at (λ done. noted_from_test call (w.is_none.ensures ∙ ap not w.if-is_none.false)) c.loop-call.invariant
-      | else-is_some-via-else-is_some w ↦ noted_more calls n call at (λ done. absurd (not_completed call (sym c.is_some.ensures ∙ w.if-is_some.false) done)) c.loop-call.invariant
+      | else-is_some-via-then-is_some+else-is_none w ↦ noted_more calls c.loop-call.call-index call at (λ done. some_from_is_some call.note (w.is_none.ensures ∙ ap not w.if-is_none.false)) c.loop-call.invariant
+      | else-is_some-via-else-is_some w ↦ noted_more calls c.loop-call.call-index call at (λ done. absurd (not_completed call (sym c.is_some.ensures ∙ w.if-is_some.false) done)) c.loop-call.invariant
     ]
 
 pub returns : goal.returns

@@ -1,8 +1,7 @@
-use Rattle.std.proofs.Common.{◌≡◌, Err, filter_map, IsPermutation, ap, subst}
-use Rattle.std.proofs.lemmas.Result.{err_from_is_err_and}
+use Rattle.std.proofs.Common.{◌≡◌, Err, ap, subst, sym}
 use Rattle.tag.specs.declared.numbers.OpId.{OpId}
 use Rattle.witness_order.specs.declared.error.WitnessError.TheVariants.{NoNote}
-use Rattle.witness_order.specs.Keys.{key_of}
+use Rattle.recorder.specs.Sound.{IsByTag}
 use Rattle.witness_order.specs.Notes.{IsLeastUnnoted}
 use Rattle.witness_order.proofs.Unnoted.{one_least, none_unnoted}
 use Rattle.witness_order.proofs.ByKeys.{IsByTag-keys}
@@ -18,29 +17,20 @@ returns-in-Some-clause-no_note c =
       λ u. ap (λ (x : OpId). Err (NoNote x)) (one_least part c.in-Some.op op least u),
     )
 
-pub returns-in_err-keys-clause-no_note : goal.returns-in_err-keys-clause-no_note
-returns-in_err-keys-clause-no_note c =
-    let noted = rw c.calls-calls.ensures.calls at c.in_default.ensures in
-    let p = err_from_is_err_and c.from_residual.result c.from_residual.ensures.1 in
-    rw (p.1, p.2) (λ op. (λ e. absurd (cc), λ u. absurd (none_unnoted c.args.part.now op noted u)))
-
-pub returns-in_err-numbers-clause-no_note : goal.returns-in_err-numbers-clause-no_note
-returns-in_err-numbers-clause-no_note c =
-    let noted = rw c.calls-calls.ensures.calls at c.in_default.ensures in
-    let p = err_from_is_err_and c.from_residual-in_err-numbers.result c.from_residual-in_err-numbers.ensures.1 in
-    rw (p.1, p.2) (λ op. (λ e. absurd (cc), λ u. absurd (none_unnoted c.args.part.now op noted u)))
-
-pub returns-clause-order : goal.returns-clause-order
-returns-clause-order c =
+pub returns-in-Ok-clause-order : goal.returns-in-Ok-clause-order
+returns-in-Ok-clause-order c =
     let part = c.args.part.now in
-    let sequence = c.calls-calls.ensures.sequence in
     let noted = rw c.calls-calls.ensures.calls at c.in_default.ensures in
-    let keys = c.in_ok-keys.keys.items in
-    let moved : IsPermutation (filter_map key_of part) keys = rw c.calls-calls.ensures.calls at c.in_ok-keys.ensures.settled in
-    let sorted = AreSorted-sort part sequence keys moved c.in_ok-keys.ensures.sorted in
-    rw (c.from_vec.ensures, c.in_ok-numbers.ensures, c.deref.ensures.value) (IsByTag-keys part sequence noted keys sorted)
+    let by_keys = rw c.calls-calls.ensures.calls at c.in-Ok.ensures in
+    let sorted = AreSorted-sort part c.calls-calls.ensures.sequence by_keys.keys by_keys.settled by_keys.sorted in
+    subst (IsByTag part) (sym by_keys.numbers) (IsByTag-keys part c.calls-calls.ensures.sequence noted by_keys.keys sorted)
 
-pub returns-clause-no_note : goal.returns-clause-no_note
-returns-clause-no_note c =
+pub returns-in-Ok-clause-no_note : goal.returns-in-Ok-clause-no_note
+returns-in-Ok-clause-no_note c =
+    let noted = rw c.calls-calls.ensures.calls at c.in_default.ensures in
+    λ op. (λ e. absurd (cc), λ u. absurd (none_unnoted c.args.part.now op noted u))
+
+pub returns-in-Err-clause-no_note : goal.returns-in-Err-clause-no_note
+returns-in-Err-clause-no_note c =
     let noted = rw c.calls-calls.ensures.calls at c.in_default.ensures in
     λ op. (λ e. absurd (cc), λ u. absurd (none_unnoted c.args.part.now op noted u))

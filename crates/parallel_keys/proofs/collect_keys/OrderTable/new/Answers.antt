@@ -1,6 +1,6 @@
 use Rattle.std.proofs.Common.{sym, subst, List}
 use Rattle.recorder.specs.declared.order.KeyOrder.{KeyOrder}
-use Rattle.parallel_keys.specs.Fronts.{front_more}
+use Rattle.parallel_keys.proofs.Fronts.{front_more}
 use Rattle.parallel_keys.specs.KeysToCheck.{IsOrderTable}
 use Rattle.parallel_keys.proofs.collect_keys.OrderTable.new.Goals as goal
 

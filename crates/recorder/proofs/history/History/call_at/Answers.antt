@@ -10,7 +10,7 @@ use Rattle.recorder.specs.declared.part.Response.{Response}
 use Rattle.recorder.specs.Histories.{IsWellFormed}
 use Rattle.recorder.specs.States.{AreStates, IsResponseAt}
 use Rattle.recorder.specs.Records.{IsRecorded}
-use Rattle.recorder.specs.Lists.{Contains-slice_get}
+use Rattle.tag.proofs.Lists.{Contains-slice_get}
 use Rattle.recorder.proofs.Numbers.{number_below}
 use Rattle.recorder.proofs.Recorded.{IsRecorded-made}
 use Rattle.recorder.proofs.history.History.call_at.Goals as goal

@@ -5,9 +5,9 @@ use Rattle.recorder.specs.declared.history.CallState.{CallState}
 use Rattle.std.proofs.lemmas.Result.{err_from_is_err_and}
 use Rattle.recorder.specs.Histories.{MayFollow}
 use Rattle.recorder.specs.declared.row.Row.TheVariants.{Note}
-use Rattle.recorder.proofs.Lists.{None-from_test}
+use Rattle.tag.proofs.Options.{none_from_is_some}
 use Rattle.recorder.proofs.Numbers.{count_push, IsWellFormed-push}
-use Rattle.recorder.proofs.States.{not_pending, pending_from, has_note, not_noted, states_note}
+use Rattle.recorder.proofs.States.{not_pending, pending_from, has_note, may_note, states_note}
 use Rattle.recorder.proofs.Busy.{busy_note, busy_note_back}
 use Rattle.recorder.proofs.history.History.note.Goals as goal
 
@@ -35,9 +35,9 @@ returns-in_err-push c =
     let h = c.self.inside in
     let some = rw c.deref.ensures.value at c.in-Some.ensures.some in
     let d = c.self.invariant.states.each c.args.op c.in-Some.state some.0 in
-    let none : c.in-Some.state.note ≡ None = None-from_test c.in-Some.state.note (sym c.is_some.ensures ∙ c.if-is_some.false) in
+    let none : c.in-Some.state.note ≡ None = none_from_is_some c.in-Some.state.note (sym c.is_some.ensures ∙ c.if-is_some.false) in
     let p = err_from_is_err_and c.from_residual.result c.from_residual.ensures.1 in
-    rw (p.1, p.2) (rw (← c.self.view_is) (((c.in-Some.state.client, d.action, pending_from h.rows.items c.args.op c.in-Some.state d some.1), not_noted h.rows.items c.args.op c.in-Some.state d none), rw c.in_err-push.ensures.items refl))
+    rw (p.1, p.2) (rw (← c.self.view_is) (may_note h.rows.items c.args.op c.in-Some.state d c.args.tag some.1 none, rw c.in_err-push.ensures.items refl))
 
 pub invariant_of-self-2 : goal.invariant_of-self-2
 invariant_of-self-2 c =
@@ -45,11 +45,11 @@ invariant_of-self-2 c =
     let rows = h.rows.items in
     let some = rw c.deref.ensures.value at c.in-Some.ensures.some in
     let d = c.self.invariant.states.each c.args.op c.in-Some.state some.0 in
-    let none : c.in-Some.state.note ≡ None = None-from_test c.in-Some.state.note (sym c.is_some.ensures ∙ c.if-is_some.false) in
+    let none : c.in-Some.state.note ≡ None = none_from_is_some c.in-Some.state.note (sym c.is_some.ensures ∙ c.if-is_some.false) in
     let within = slice_get_within h.states.items c.args.op.0 c.in-Some.state some.0 in
     let at : slice_get h.states.items c.args.op.0 ≡ Some c.index_mut.result.now = slice_get-get_or h.states.items c.args.op.0 c.index_mut.result.now within ∙ ap Some (sym c.index_mut.ensures.value) in
     let same : c.index_mut.result.now ≡ c.in-Some.state = cc (at, some.0) in
-    let may : MayFollow rows (Note c.args.op c.args.tag) = ((c.in-Some.state.client, d.action, pending_from rows c.args.op c.in-Some.state d some.1), not_noted h.rows.items c.args.op c.in-Some.state d none) in
+    let may : MayFollow rows (Note c.args.op c.args.tag) = may_note rows c.args.op c.in-Some.state d c.args.tag some.1 none in
     record {
       formed = rw c.in_ok-push.ensures.items (IsWellFormed-push rows (Note c.args.op c.args.tag) c.self.invariant.formed may);
       states = rw c.in_ok-push.ensures.items (states_note rows c.args.op c.args.tag h.states.items c.index_mut.result.now _ c.self.invariant.states at (ap (λ (x : CallState). x.note) same ∙ none) refl);
@@ -64,5 +64,5 @@ returns c =
     let h = c.self.inside in
     let some = rw c.deref.ensures.value at c.in-Some.ensures.some in
     let d = c.self.invariant.states.each c.args.op c.in-Some.state some.0 in
-    let none : c.in-Some.state.note ≡ None = None-from_test c.in-Some.state.note (sym c.is_some.ensures ∙ c.if-is_some.false) in
-    rw (← c.self.view_is) (((c.in-Some.state.client, d.action, pending_from h.rows.items c.args.op c.in-Some.state d some.1), not_noted h.rows.items c.args.op c.in-Some.state d none), rw c.in_ok-push.ensures.items refl)
+    let none : c.in-Some.state.note ≡ None = none_from_is_some c.in-Some.state.note (sym c.is_some.ensures ∙ c.if-is_some.false) in
+    rw (← c.self.view_is) (may_note h.rows.items c.args.op c.in-Some.state d c.args.tag some.1 none, rw c.in_ok-push.ensures.items refl)

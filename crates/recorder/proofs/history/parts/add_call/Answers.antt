@@ -2,8 +2,8 @@ use Rattle.std.proofs.Common.{◌≡◌, inl, inr, refl, ◌∙◌, ap, ap₂, s
 use Rattle.std.specs.List.{slice_get}
 use Rattle.std.proofs.lemmas.Option.{slice_get_read}
 use Rattle.recorder.specs.declared.part.Call.{Call}
-use Rattle.recorder.specs.Lists.{Contains-slice_get}
-use Rattle.recorder.specs.Entries.{own_entry, no_entry}
+use Rattle.tag.proofs.Lists.{Contains-slice_get}
+use Rattle.recorder.proofs.Entries.{own_entry, no_entry}
 use Rattle.recorder.proofs.history.parts.add_call.Goals as goal
 
 pub push-requires : goal.push-requires

@@ -1,8 +1,8 @@
 use Rattle.std.proofs.Common.{ℕ, ◌≡◌, ◌<◌, ◌≤◌, Some, length, subst, sym, ap, ◌∙◌, arith}
 use Rattle.std.proofs.lemmas.Option.{same_Some, slice_get_within, slice_get-get_or}
 use Rattle.recorder.specs.declared.part.Response.{Response}
-use Rattle.tag_check.specs.Greatest.{AreAnswered}
-use Rattle.tag_check.proofs.Calls.{item_at}
+use Rattle.tag_check.specs.Greatest.{AreAnsweredTags}
+use Rattle.tag.proofs.Lists.{item_at}
 use Rattle.tag_check.proofs.Answered.{answered_same, answered_more}
 use Rattle.tag_check.proofs.notes.Notes.answered_tags.Goals as goal
 use Rattle.tag_check.proofs.notes.Notes.answered_tags.Goals.{in-Some+then-next-len, in-Some+else-next-len, in_default}
@@ -30,4 +30,4 @@ loop-i-preserved c =
 pub returns : goal.returns
 returns c =
     let all : c.loop-i.i ≡ length c.args.self.now.calls.now = omega (arith, c.loop-i-test.false, c.loop-i.auto.i-end) in
-    subst (λ (n : ℕ). AreAnswered c.args.self.now.calls.now n c.loop-i.tags.items) all c.loop-i.invariant
+    subst (λ (n : ℕ). AreAnsweredTags c.args.self.now.calls.now n c.loop-i.tags.items) all c.loop-i.invariant

@@ -1,7 +1,8 @@
 use Rattle.std.proofs.Common.{sym, ◌∙◌}
 use Rattle.std.proofs.lemmas.Bool.{false≢true}
 use Rattle.tag_check.specs.Rules.{IsNotAbove}
-use Rattle.tag_check.proofs.Calls.{first_here, none_more, none_all, item_at}
+use Rattle.tag_check.proofs.Calls.{first_here, none_more, none_all}
+use Rattle.tag.proofs.Lists.{item_at}
 use Rattle.tag_check.proofs.notes.Notes.first_above.Goals as goal
 
 pub returns-then-is_not_above : goal.returns-then-is_not_above

@@ -1,51 +1,47 @@
-use Rattle.std.proofs.Common.{◌<◌, length, refl, sym, ◌∙◌, arith}
+use Rattle.std.proofs.Common.{refl, sym, ◌∙◌}
 use Rattle.std.proofs.lemmas.Bool.{false≢true}
 use Rattle.tag_check.specs.Least.{HasPartner}
 use Rattle.tag_check.specs.Rules.{IsNotAbove}
-use Rattle.recorder.specs.Lists.{Contains-slice_get}
-use Rattle.tag_check.proofs.Calls.{first_here, none_more, none_all, item_at}
-use Rattle.tag_check.proofs.Answered.{greatest_more, falls_here, none_above}
+use Rattle.tag.proofs.Lists.{Contains-slice_get}
+use Rattle.tag_check.proofs.Calls.{first_here, none_more, none_all}
+use Rattle.tag_check.proofs.Answered.{read_at, falls_here, none_above}
 use Rattle.tag_check.proofs.notes.Notes.first_fall.Goals as goal
 
 pub returns-in-Some : goal.returns-in-Some
 returns-in-Some c =
     let s = c.args.self.now in
-    let tags = c.args.tags.now in
     let call = c.call-item.result in
-    let within : c.loop-j.j < length tags = omega (arith, c.loop-j-test.true, c.requires.all) in
-    let at = item_at s.calls.now c.loop-j.j call c.loop-j-test.true c.call-item.is in
-    let top = greatest_more tags c.loop-j.j c.index-tags-j.result c.loop-j.greatest c.greater-greatest.result (item_at tags c.loop-j.j c.index-tags-j.result within c.index-tags-j.is) c.loop-j.invariant.greatest c.greater-greatest.ensures in
-    let has = falls_here s.calls.now tags c.loop-j.j call c.greater-greatest.result at c.requires top s.sequence (c.falls.ensures.0 c.if-falls.true) in
+    let read = read_at s.calls.now c.args.tags.now c.loop-j.j call c.index-tags-j.result c.loop-j.greatest c.greater-greatest.result c.requires
+    c.loop-j-test.true c.call-item.is c.index-tags-j.is c.loop-j.invariant.greatest c.greater-greatest.ensures in
+    let has = falls_here s.calls.now c.args.tags.now c.loop-j.j call c.greater-greatest.result read.at c.requires read.top s.sequence
+    (c.falls.ensures.0 c.if-falls.true) in
     record {
       call = call;
-      recorded = Contains-slice_get s.calls.now c.loop-j.j call at;
+      recorded = Contains-slice_get s.calls.now c.loop-j.j call read.at;
       number = refl;
-      partnered = first_here s.calls.now s.sequence (HasPartner s.calls.now IsNotAbove) c.loop-j.j call at has c.loop-j.invariant.none;
+      partnered = first_here s.calls.now s.sequence (HasPartner s.calls.now IsNotAbove) c.loop-j.j call read.at has c.loop-j.invariant.none;
       partner = c.in-Some.ensures;
     }
 
 pub unreachable-requires : goal.unreachable-requires
 unreachable-requires c =
     let s = c.args.self.now in
-    let tags = c.args.tags.now in
-    let call = c.call-item.result in
-    let within : c.loop-j.j < length tags = omega (arith, c.loop-j-test.true, c.requires.all) in
-    let at = item_at s.calls.now c.loop-j.j call c.loop-j-test.true c.call-item.is in
-    let top = greatest_more tags c.loop-j.j c.index-tags-j.result c.loop-j.greatest c.greater-greatest.result (item_at tags c.loop-j.j c.index-tags-j.result within c.index-tags-j.is) c.loop-j.invariant.greatest c.greater-greatest.ensures in
-    let has = falls_here s.calls.now tags c.loop-j.j call c.greater-greatest.result at c.requires top s.sequence (c.falls.ensures.0 c.if-falls.true) in
+    let read = read_at s.calls.now c.args.tags.now c.loop-j.j c.call-item.result c.index-tags-j.result c.loop-j.greatest c.greater-greatest.result
+    c.requires c.loop-j-test.true c.call-item.is c.index-tags-j.is c.loop-j.invariant.greatest c.greater-greatest.ensures in
+    let has = falls_here s.calls.now c.args.tags.now c.loop-j.j c.call-item.result c.greater-greatest.result read.at c.requires read.top
+    s.sequence (c.falls.ensures.0 c.if-falls.true) in
     c.in-None.ensures has.0 has.1 has.2
 
 pub loop-j-preserved : goal.loop-j-preserved
 loop-j-preserved c =
     let s = c.args.self.now in
-    let tags = c.args.tags.now in
-    let call = c.call-item.result in
-    let within : c.loop-j.j < length tags = omega (arith, c.loop-j-test.true, c.requires.all) in
-    let at = item_at s.calls.now c.loop-j.j call c.loop-j-test.true c.call-item.is in
-    let top = greatest_more tags c.loop-j.j c.index-tags-j.result c.loop-j.greatest c.greater-greatest.result (item_at tags c.loop-j.j c.index-tags-j.result within c.index-tags-j.is) c.loop-j.invariant.greatest c.greater-greatest.ensures in
+    let read = read_at s.calls.now c.args.tags.now c.loop-j.j c.call-item.result c.index-tags-j.result c.loop-j.greatest c.greater-greatest.result
+    c.requires c.loop-j-test.true c.call-item.is c.index-tags-j.is c.loop-j.invariant.greatest c.greater-greatest.ensures in
     record {
-      greatest = top;
-      none = none_more s.calls.now (HasPartner s.calls.now IsNotAbove) c.loop-j.j call at (none_above s.calls.now tags c.loop-j.j call c.greater-greatest.result at c.requires top (λ h. false≢true (sym c.if-falls.false ∙ c.falls.ensures.1 h))) c.loop-j.invariant.none;
+      greatest = read.top;
+      none = none_more s.calls.now (HasPartner s.calls.now IsNotAbove) c.loop-j.j c.call-item.result read.at
+          (none_above s.calls.now c.args.tags.now c.loop-j.j c.call-item.result c.greater-greatest.result read.at c.requires read.top
+          (λ h. false≢true (sym c.if-falls.false ∙ c.falls.ensures.1 h))) c.loop-j.invariant.none;
     }
 
 pub returns : goal.returns

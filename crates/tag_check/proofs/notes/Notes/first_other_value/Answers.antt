@@ -1,8 +1,8 @@
 use Rattle.std.proofs.Common.{refl, arith}
 use Rattle.std.proofs.lemmas.Option.{slice_get_within}
-use Rattle.recorder.specs.Lists.{place_of, Contains-slice_get}
+use Rattle.tag.proofs.Lists.{item_at, place_of, Contains-slice_get}
 use Rattle.tag_check.specs.Rules.{AnswersRight, AnswersAnother}
-use Rattle.tag_check.proofs.Calls.{first_here, all_more, item_at}
+use Rattle.tag_check.proofs.Calls.{first_here, all_more}
 use Rattle.tag_check.proofs.Values.{right_not_another}
 use Rattle.tag_check.proofs.notes.Notes.first_other_value.Goals as goal
 

@@ -1,4 +1,4 @@
-use Rattle.tag_check.specs.Least.{NoneBelow}
+use Rattle.tag_check.proofs.Calls.{NoneBelow}
 use Rattle.tag_check.specs.Rules.{LacksNote}
 use Rattle.tag_check.proofs.notes.Notes.first_without_note.Given as goal
 

@@ -1,7 +1,8 @@
 use Rattle.std.proofs.Common.{sym, ◌∙◌}
 use Rattle.std.proofs.lemmas.Bool.{false≢true}
 use Rattle.tag_check.specs.Rules.{AnswersNoWrite}
-use Rattle.tag_check.proofs.Calls.{first_here, none_more, none_all, item_at}
+use Rattle.tag_check.proofs.Calls.{first_here, none_more, none_all}
+use Rattle.tag.proofs.Lists.{item_at}
 use Rattle.tag_check.proofs.notes.Notes.first_without_write.Goals as goal
 
 pub returns-then-lacks_write : goal.returns-then-lacks_write

@@ -1,5 +1,6 @@
 use Rattle.std.proofs.Common.{get_or, sym}
 use Rattle.std.proofs.lemmas.Option.{slice_get-get_or}
+use Rattle.tag.proofs.Lists.{item_at}
 use Rattle.tag_check.proofs.Values.{no_write, write_at, write_found}
 use Rattle.tag_check.proofs.notes.Notes.write_of.Goals as goal
 
@@ -18,9 +19,7 @@ returns-in-Write c =
 pub returns-in-Read : goal.returns-in-Read
 returns-in-Read c =
     let calls = c.args.self.now.calls.now in
-    let k = c.in_ok-call.field-0.now in
-    let call = get_or calls k c.index-self-branch.result in
     let has = sym c.in_ok-call.ensures.value in
-    let at = slice_get-get_or calls k c.index-self-branch.result (c.requires.real c.args.tag k has).0 in
-    let wrote = write_at calls c.args.writes.now c.requires c.args.tag k has call at in
-    λ write there is. absurd (cc (wrote.0.1, c.in-Read.is, c.index-self-branch.is))
+    let at = item_at calls c.in_ok-call.field-0.now c.index-self-branch.result (c.requires.real c.args.tag c.in_ok-call.field-0.now has).0 c.index-self-branch.is in
+    let wrote = write_at calls c.args.writes.now c.requires c.args.tag c.in_ok-call.field-0.now has c.index-self-branch.result at in
+    λ write there is. absurd (cc (wrote.0.1, c.in-Read.is))

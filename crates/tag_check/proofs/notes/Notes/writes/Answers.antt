@@ -1,6 +1,6 @@
 use Rattle.std.proofs.Common.{get_or, sym, ◌∙◌}
 use Rattle.std.proofs.lemmas.Option.{none-some, slice_get-get_or}
-use Rattle.tag_check.proofs.Calls.{item_at}
+use Rattle.tag.proofs.Lists.{item_at}
 use Rattle.tag_check.proofs.ByTag.{shared_here, writes_more, writes_same, index_within}
 use Rattle.tag_check.proofs.notes.Notes.writes.Goals as goal
 use Rattle.tag_check.proofs.notes.Notes.writes.Goals.{in-Some+in_default-get+in_ok-insert, in_default}

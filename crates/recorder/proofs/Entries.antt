@@ -7,7 +7,7 @@ use Rattle.std.proofs.lemmas.List.{length-map}
 use Rattle.std.proofs.lemmas.Option.{none-some, same_Some, slice_get-map, slice_get_within}
 use Rattle.key_index.specs.Numbers.{Numbers}
 use Rattle.key_index.specs.Numbers.Numbers.{known, first}
-use Rattle.recorder.specs.Lists.{place_of, Contains-slice_get}
+use Rattle.tag.proofs.Lists.{place_of, Contains-slice_get}
 
 -- an entry's key stands at its place
 pub key_at : {X : Type 0} (es : List (List ℕ × X)) (slot : ℕ) (e : List ℕ × X) → slice_get es slot

@@ -20,12 +20,14 @@ votes_below-same votes (suc n) s t same =
     ap (λ v. v + cond (finite.contains s n) (slice_index votes n) 0) below
     ∙ ap (λ b. votes_below votes n t + cond b (slice_index votes n) 0) (same n (lt-suc_self n))
 
-insert-other : (set : Replicas) (r k : ℕ) → k ≢ r → finite.contains (finite.insert set r) k
+-- another replica is in the set as before
+pub insert-other : (set : Replicas) (r k : ℕ) → k ≢ r → finite.contains (finite.insert set r) k
     ≡ finite.contains set k
 insert-other set r k ne =
     contains-insert set r k ∙ ap (λ b. b || finite.contains set k) (ne_eqb k r ne)
 
-insert-same : (set : Replicas) (r : ℕ) → finite.contains (finite.insert set r) r ≡ true
+-- the further replica is in the set
+pub insert-same : (set : Replicas) (r : ℕ) → finite.contains (finite.insert set r) r ≡ true
 insert-same set r = contains-insert set r r ∙ ap (λ b. b || finite.contains set r) (eq-eqb r r refl)
 
 -- the votes with a further member at the top

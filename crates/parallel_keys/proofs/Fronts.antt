@@ -1,0 +1,16 @@
+-- Fronts of lists, and what functions make of lists.
+use Rattle.std.proofs.Common.{ℕ, ◌≡◌, ◌<◌, ◌+◌, List, [], ◌∷◌, ◌++◌, length}
+use Rattle.std.proofs.Common.{map, take, get_or, sym, ap, ◌∙◌, add-one}
+use Rattle.std.proofs.lemmas.List.{map-append}
+use Rattle.std.proofs.Math.Seq.{take-suc}
+
+-- a front with one element more
+pub front_more : {X : Type 0} (xs : List X) (i : ℕ) (x : X) → i < length xs → x ≡ get_or xs i x
+    → take (i + 1) xs ≡ take i xs ++ x ∷ []
+front_more {X} xs i x below is = ap (λ (n : ℕ). take n xs) (add-one i) ∙ take-suc xs i x below
+    ∙ ap (λ (y : X). take i xs ++ y ∷ []) (sym is)
+
+pub mapped_more : {X Y : Type 0} (f : X → Y) (xs : List X) (i : ℕ) (x : X) → i < length xs → x
+    ≡ get_or xs i x → map f (take (i + 1) xs) ≡ map f (take i xs) ++ f x ∷ []
+mapped_more f xs i x below is =
+    ap (map f) (front_more xs i x below is) ∙ map-append f (take i xs) (x ∷ [])
