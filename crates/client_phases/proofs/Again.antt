@@ -2,7 +2,7 @@
 use Rattle.std.proofs.Common.{◌≡◌, ℕ, Bool, true, false, cond, List, Option, refl, ap, ◌∙◌}
 use Rattle.std.specs.Prelude.{◌||◌, ◌&&◌, not, nat_eq, nat_lt, length}
 use Rattle.std.specs.FinSet as finite
-use Rattle.std.proofs.lemmas.Bool.{eq-eqb}
+use Rattle.std.proofs.lemmas.Bool.{and_right, eq-eqb}
 use Rattle.tag.specs.declared.numbers.OpId.{OpId}
 use Rattle.tag.specs.Tags.{Tag}
 use Rattle.quorum.specs.Bits.{contains-insert}
@@ -22,15 +22,11 @@ use Rattle.client_phases.specs.Asking.{Asking, is_agreed, asking_with, counts}
 use Rattle.client_phases.specs.States.{asking_outcome, putting_outcome, reply_outcome}
 use Rattle.client_phases.specs.Clients.{client_after, reply_result}
 
-and_false : (b : Bool) → (b && false) ≡ false
-and_false true = refl
-and_false false = refl
-
 -- a replica that is counted doesn't count again
 counted_once : (rules : Rules) (call : Call) (counted : Replicas) (op : OpId) (replica : ℕ) → counts rules call (finite.insert counted replica) op replica ≡ false
 counted_once rules call counted op replica =
     let there : finite.contains (finite.insert counted replica) replica ≡ true = contains-insert counted replica replica ∙ ap (λ b. b || finite.contains counted replica) (eq-eqb replica replica refl) in
-    ap (λ b. nat_eq op.0 call.op.0 && (not b && nat_lt replica (length rules.quorums.votes))) there ∙ and_false (nat_eq op.0 call.op.0)
+    ap (λ b. nat_eq op.0 call.op.0 && (not b && nat_lt replica (length rules.quorums.votes))) there ∙ and_right (nat_eq op.0 call.op.0) false refl
 
 -- an asking that is over takes no pair, and one that goes on has counted the replica
 after_asked : (rules : Rules) (further : Asking) (op : OpId) (replica : ℕ) (tag : Tag) (value : Option (List ℕ)) (a b : Bool) (r p : Chosen) (x y : Tag)

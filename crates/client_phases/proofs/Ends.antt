@@ -19,7 +19,7 @@ use Rattle.client_phases.specs.declared.states.State.{State}
 use Rattle.client_phases.specs.declared.states.State.TheVariants.{Ask, Put, Ready}
 use Rattle.client_phases.specs.Calls.{Call, pair_to_put}
 use Rattle.client_phases.specs.Asking.{Asking, asking_from, is_agreed, LeavesRoom, asking_with, counts}
-use Rattle.client_phases.specs.States.{asking_outcome, reply_outcome, putting_outcome, MayHear}
+use Rattle.client_phases.specs.States.{asking_outcome, reply_outcome, putting_outcome, MayReceiveIn}
 
 pub asked-agreed : (rules : Rules) (asking : Asking) → is_ask_quorum rules.quorums asking.counted ≡ true → is_agreed rules asking ≡ true
     → asking_outcome rules asking ≡ (Ready (record { call = asking.call; pair = asking.best }), Agreed asking.best.tag)
@@ -59,7 +59,7 @@ room_of asking shown tag is h = subst (λ (a : Asking). LeavesRoom a.call.action
 
 -- what the two premises of a reply that counts come to
 pub may_count : (rules : Rules) (state : State) (reply : Reply) (asking : Asking) (op : OpId) (replica : ℕ) (tag : Tag) (value : Option (List ℕ))
-    → state ≡ Ask asking → reply ≡ Held op replica tag value → MayHear rules state reply → counts rules asking.call asking.counted op replica ≡ true → LeavesRoom asking.call.action tag
+    → state ≡ Ask asking → reply ≡ Held op replica tag value → MayReceiveIn rules state reply → counts rules asking.call asking.counted op replica ≡ true → LeavesRoom asking.call.action tag
 may_count rules state reply asking op replica tag value p q may counted = (rw (p, q) at may) counted
 
 pub heard-held : (rules : Rules) (state : State) (reply : Reply) (asking : Asking) (op : OpId) (replica : ℕ) (tag : Tag) (value : Option (List ℕ))

@@ -3,6 +3,7 @@ use Rattle.std.specs.Prelude.{ℕ, ◌<◌, Bool, true, false, not, ◌&&◌, �
 use Rattle.std.specs.Prelude.{nat_eq, List, length, Option}
 use Rattle.std.specs.Ordering.{is_lt, is_eq}
 use Rattle.std.specs.FinSet as finite
+use Rattle.tag.specs.Limits.{call_limit}
 use Rattle.tag.specs.Tags.{Tag, least, tag_cmp}
 use Rattle.tag.specs.declared.numbers.OpId.{OpId}
 use Rattle.tag.specs.declared.actions.Action.{Action}
@@ -19,15 +20,15 @@ use Rattle.client_phases.specs.declared.rules.Rules.{Rules}
 use Rattle.client_phases.specs.declared.asking.Tally.{Tally}
 use Rattle.client_phases.specs.Calls.{Call}
 
--- an asking: its call, the replicas that it counted, the pair of the greatest tag that they told,
--- and the least tag that they told
+-- an asking: its call, the replicas that it counted, the pair of the greatest tag that they
+-- answered, and the least tag that they answered
 pub record Asking : Type 0 where
   pub call : Call
   pub counted : Replicas
   pub best : Pair
   pub least : Tag
 
--- a reply counts where it names the call and comes from a replica that isn't counted yet and whose
+-- a reply counts if it names the call, and comes from a replica that isn't counted yet and whose
 -- number is below the count of replicas
 abbrev pub counts : Rules → Call → Replicas → OpId → ℕ → Bool
 counts rules call counted op replica =
@@ -42,11 +43,11 @@ query_of asking = Query asking.call.op asking.call.key
 abbrev pub opening_of : Call → Asking
 opening_of call = record { call = call; counted = finite.empty; best = no_pair; least = least }
 
--- the pair of the greater tag, the first where the tags are equal
+-- the pair of the greater tag; the first if the tags are equal
 abbrev pub newer : Pair → Pair → Pair
 newer best pair = if is_lt (tag_cmp best.tag pair.tag) then pair else best
 
--- the least tag that was told, a further one counted
+-- the least tag among the answers, with that tag
 abbrev pub least_with : Asking → Tag → Tag
 least_with asking tag = if nat_eq (finite.len asking.counted) 0 || is_lt (tag_cmp tag asking.least)
     then tag else asking.least
@@ -60,6 +61,7 @@ asking_with asking replica pair = record {
   least = least_with asking pair.tag;
 }
 
+-- the call is a read, and its client reads short
 abbrev is_short_read : ReadMode → Action → Bool
 is_short_read Short Read = true
 is_short_read reads action = false
@@ -74,7 +76,7 @@ is_agreed rules asking =
 -- a tag that a write may find: it leaves room for a greater number
 abbrev pub LeavesRoom : Action → Tag → Type 0
 LeavesRoom Read tag = Unit {0}
-LeavesRoom (Write value) tag = tag.number < 1000000
+LeavesRoom (Write value) tag = tag.number < call_limit
 
 -- an asking by its call, its tally and the value of the greatest tag
 abbrev pub asking_from : Call → Tally → Option (List ℕ) → Asking

@@ -31,6 +31,7 @@ pair_to_put name (Write value) found = record { tag = next_of found.tag name; va
 abbrev pub put_of : Chosen → Request
 put_of chosen = Put chosen.call.op chosen.call.key chosen.pair.tag chosen.pair.value
 
+-- what an action answers from a pair
 abbrev answer_to : Action → Pair → Returned
 answer_to Read pair = Value pair.value
 answer_to (Write value) pair = Written

@@ -16,7 +16,7 @@ use Rattle.client_phases.specs.declared.states.State.{State}
 use Rattle.client_phases.specs.declared.states.State.TheVariants.{Idle, Ask, Put, Ready, Stopped}
 use Rattle.client_phases.specs.Calls.{put_of, answer_from}
 use Rattle.client_phases.specs.Asking.{opening_of, query_of}
-use Rattle.client_phases.specs.States.{reply_outcome, MayHear}
+use Rattle.client_phases.specs.States.{reply_outcome, MayReceiveIn}
 -- a client: its rules and its state
 pub use Rattle.client_phases.specs.declared.clients.Client.{Client}
 
@@ -25,6 +25,7 @@ abbrev pub client_of : ℕ → Quorums → ReadMode → Client
 client_of name quorums reads =
     record { rules = record { name = name; quorums = quorums; reads = reads }; state = Idle }
 
+-- the phase of a state
 abbrev phase_in : State → Phase
 phase_in Idle = phase.Idle
 phase_in (Ask asking) = phase.Ask
@@ -32,7 +33,7 @@ phase_in (Put chosen counted) = phase.Put
 phase_in (Ready chosen) = phase.Ready
 phase_in Stopped = phase.Stopped
 
--- where a client stands
+-- the phase of a client
 abbrev pub phase_of : Client → Phase
 phase_of client = phase_in client.state
 
@@ -41,6 +42,7 @@ abbrev pub client_after_invoke : Client → OpId → List ℕ → Action → Cli
 client_after_invoke client op key action =
     record client { state = Ask (opening_of (record { op = op; key = key; action = action })) }
 
+-- what a client sends in a state
 abbrev request_in : State → Option Request
 request_in (Ask asking) = Some (query_of asking)
 request_in (Put chosen counted) = Some (put_of chosen)
@@ -50,9 +52,9 @@ request_in state = None
 abbrev pub request_of : Client → Option Request
 request_of client = request_in client.state
 
--- the replies that may come
-abbrev pub MayTake : Client → Reply → Type 0
-MayTake client reply = MayHear client.rules client.state reply
+-- a client may receive the reply
+abbrev pub MayReceive : Client → Reply → Type 0
+MayReceive client reply = MayReceiveIn client.rules client.state reply
 
 -- what a client makes of a reply
 abbrev pub reply_result : Client → Reply → Taken
@@ -63,6 +65,7 @@ abbrev pub client_after : Client → Reply → Client
 client_after client reply =
     record client { state = (reply_outcome client.rules client.state reply).0 }
 
+-- the answer of a state that is ready
 abbrev answer_in : State → Option Returned
 answer_in (Ready chosen) = Some (answer_from chosen)
 answer_in state = None
@@ -79,6 +82,7 @@ client_after_respond client = record client { state = Idle }
 abbrev pub client_after_stop : Client → Client
 client_after_stop client = record client { state = Stopped }
 
+-- the pending call of a state
 abbrev pending_in : State → Option OpId
 pending_in (Ask asking) = Some asking.call.op
 pending_in (Put chosen counted) = Some chosen.call.op
@@ -90,6 +94,7 @@ pending_in Stopped = None
 abbrev pub pending_of : Client → Option OpId
 pending_of client = pending_in client.state
 
+-- the replicas that are counted in a state
 abbrev counted_in : State → Replicas
 counted_in (Ask asking) = asking.counted
 counted_in (Put chosen counted) = counted

@@ -45,8 +45,9 @@ reply_outcome rules (Put chosen counted) (Kept op replica) =
     else (Put chosen counted, Stale)
 reply_outcome rules state reply = (state, Stale)
 
--- a reply that may come: a pair that a write counts leaves room for a greater number
-abbrev pub MayHear : Rules → State → Reply → Type 0
-MayHear rules (Ask asking) (Held op replica tag value) =
+-- a client in that state may receive the reply: a pair that a write counts leaves room for a
+-- greater number
+abbrev pub MayReceiveIn : Rules → State → Reply → Type 0
+MayReceiveIn rules (Ask asking) (Held op replica tag value) =
     counts rules asking.call asking.counted op replica ≡ true → LeavesRoom asking.call.action tag
-MayHear rules state reply = Unit {0}
+MayReceiveIn rules state reply = Unit {0}

@@ -1,6 +1,6 @@
 //! Clients.
 ghost use Rattle.std.specs.Prelude.{◌≡◌, IfOk, None, Ok, Some};
-ghost use Rattle.client_phases.specs.Clients.{MayTake, answer_of, client_after, client_of};
+ghost use Rattle.client_phases.specs.Clients.{MayReceive, answer_of, client_after, client_of};
 ghost use Rattle.client_phases.specs.Clients.{counted_by, client_after_invoke, pending_of};
 ghost use Rattle.client_phases.specs.Clients.{phase_of, request_of, client_after_respond};
 ghost use Rattle.client_phases.specs.Clients.{client_after_stop, reply_result};
@@ -15,7 +15,7 @@ use replica::{Reply, Request};
 use std::mem;
 use tag::{Action, ClientId, Key, Memory, OpId, Returned};
 
-/// A client: its name, the quorums, how it reads, and where it stands with its call.
+/// A client: its name, the quorums, how it reads, and its phase in its call.
 #[derive(Debug, Drop, PartialEq)]
 pub struct Client {
     rules: Rules,
@@ -59,7 +59,7 @@ impl Client {
     }
 
     /// What it sends to replicas: a query while it asks, its pair while it puts, and else nothing.
-    /// `Memory` comes only where a copy of a text was refused.
+    /// `Memory` comes only if a copy of a text was refused.
     pub fn request(&self) -> Result<Option<Request>, Memory>
         ensures value { IfOk result (λ request. request ≡ request_of self.now) }
         ensures nothing { request_of self.now ≡ None → result ≡ Ok None }
@@ -74,7 +74,7 @@ impl Client {
     /// What `take` would make of the reply. As there, a pair that a write counts has to have a
     /// number below 1,000,000.
     pub fn foresee(&self, reply: &Reply) -> Taken
-        requires { MayTake self.now reply.now }
+        requires { MayReceive self.now reply.now }
         ensures { result ≡ reply_result self.now reply.now }
     {
         self.rules.foresee(&self.state, reply)
@@ -82,10 +82,10 @@ impl Client {
 
     /// Takes a reply. A stale one changes nothing; one that counts may end the phase.
     ///
-    /// A reply counts where it names the pending call, is `Held` while the client asks or `Kept`
+    /// A reply counts if it names the pending call, is `Held` while the client asks or `Kept`
     /// while it puts, and comes from a replica below the count that this phase hasn't counted.
     pub fn take(&mut self, reply: Reply) -> Taken
-        requires { MayTake self.old reply }
+        requires { MayReceive self.old reply }
         ensures answer { result ≡ reply_result self.old reply }
         ensures after { self.new ≡ client_after self.old reply }
         ensures stale { result ≡ Taken.Stale → self.new ≡ self.old }
@@ -97,7 +97,7 @@ impl Client {
     }
 
     /// A copy of the answer, which is there exactly when the client is ready. `Memory` comes only
-    /// where the copy was refused.
+    /// if the copy was refused.
     pub fn answer(&self) -> Result<Option<Returned>, Memory>
         ensures value { IfOk result (λ answer. answer ≡ answer_of self.now) }
         ensures nothing { answer_of self.now ≡ None → result ≡ Ok None }
@@ -127,7 +127,7 @@ impl Client {
         self.state = State::Stopped;
     }
 
-    /// The number of the pending call; none where the client is idle or stopped.
+    /// The number of the pending call; none if the client is idle or stopped.
     pub fn pending(&self) -> Option<OpId>
         ensures { result ≡ pending_of self.now }
     {

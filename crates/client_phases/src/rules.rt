@@ -14,7 +14,7 @@ use tag::{Action, ClientId, OpId, ReplicaId};
 pub enum ReadMode {
     /// It does.
     Full,
-    /// It doesn't where all replies that it counted carried one tag and came from a put quorum.
+    /// It doesn't if all replies that it counted carried one tag and came from a put quorum.
     Short,
 }
 

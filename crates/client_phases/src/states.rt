@@ -1,7 +1,7 @@
 //! A client's state, and how a reply changes it.
 ghost use Rattle.std.specs.Prelude.{◌≡◌, true};
 ghost use Rattle.client_phases.specs.Asking.{counts, asking_with};
-ghost use Rattle.client_phases.specs.States.{asking_outcome, reply_outcome, putting_outcome, MayHear};
+ghost use Rattle.client_phases.specs.States.{asking_outcome, reply_outcome, putting_outcome, MayReceiveIn};
 
 use crate::Taken;
 use crate::asking::{Asking, with_replica};
@@ -58,7 +58,7 @@ impl Rules {
 
     /// The state after a reply, and what came of it.
     pub(crate) fn hear(&self, state: State, reply: Reply) -> (State, Taken)
-        requires { MayHear self.now state reply }
+        requires { MayReceiveIn self.now state reply }
         ensures { result ≡ reply_outcome self.now state reply }
     {
         match (state, reply) {
@@ -90,7 +90,7 @@ impl Rules {
 
     /// What would come of a reply.
     pub(crate) fn foresee(&self, state: &State, reply: &Reply) -> Taken
-        requires { MayHear self.now state.now reply.now }
+        requires { MayReceiveIn self.now state.now reply.now }
         ensures { result ≡ (reply_outcome self.now state.now reply.now).1 }
     {
         match (state, reply) {

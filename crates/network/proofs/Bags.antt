@@ -1,53 +1,20 @@
 -- What keeps the flights a bag.
-use Rattle.std.proofs.Common.{◌≡◌, ◌≢◌, ◌⊎◌, inl, inr, ℕ, zero, suc, ◌+◌, ◌-◌, ◌<◌, ◌≤◌, Bool, true, false, Option, Some, None, cond, ap, sym, subst, ◌∙◌, refl, arith}
-use Rattle.std.specs.Ordering.{nat_cmp, is_eq, eq_by_cmp}
-use Rattle.std.specs.declared.cmp.Ordering.{Ordering}
-use Rattle.std.specs.declared.cmp.Ordering.TheVariants.{Less, Equal, Greater}
+use Rattle.std.proofs.Common.{◌≡◌, ◌≢◌, inl, inr, ℕ, zero, suc, ◌+◌, ◌-◌, ◌<◌, ◌≤◌, Bool, true, false, Option, Some, None, cond, ap, sym, subst, ◌∙◌, refl, arith}
+use Rattle.std.specs.Ordering.{nat_cmp, is_eq}
 use Rattle.std.specs.Cmp.{nat_cmp_total, tied_itself}
 use Rattle.std.specs.FinMap as finite
 use Rattle.std.specs.FinMap.{nat_cmp-IsAntisymmetric}
 use Rattle.std.specs.Option.{option_map_or}
-use Rattle.network.specs.Flights.{Flight, Flights, copies_of, with_copies}
+use Rattle.network.specs.Flights.{Flight, Flights, copies_of, copy_limit, with_copies}
 use Rattle.network.specs.Pools.{Pool, IsBag}
 use Rattle.network.specs.declared.messages.Message.{Message}
-
-same : (o : Ordering) → is_eq o ≡ true → o ≡ Equal
-same Less e = cc
-same Equal e = refl
-same Greater e = cc
-
--- numbers tie where they are equal
-pub same_number : (q k : ℕ) → eq_by_cmp nat_cmp q k ≡ true → q ≡ k
-same_number q k e = nat_cmp-IsAntisymmetric q k (same _ e)
-
-other_number : (q k : ℕ) → eq_by_cmp nat_cmp q k ≡ false → q ≢ k
-other_number q k e is = let h : true ≡ false = sym (ap is_eq (tied_itself nat_cmp_total q)) ∙ ap (λ n. eq_by_cmp nat_cmp q n) is ∙ e in cc
+use Rattle.network.proofs.Lookups.{inserted, none_of, removed}
 
 at_most : (b : Bool) (before after n : ℕ) → after ≡ cond b (before - 1) before → after ≤ n → before ≤ suc n
 at_most true before after n e h = omega arith
 at_most false before after n e h = omega arith
 
 module _ {X : Type 0} where
-  -- what a map has after an insertion is what was inserted, or was there
-  inserted_by : (q k : ℕ) (v x : X) (o : Option X) (b : Bool) → eq_by_cmp nat_cmp q k ≡ b → cond b (Some v) o ≡ Some x → ((q ≡ k) × (v ≡ x)) ⊎ (o ≡ Some x)
-  inserted_by q k v x o true e h = inl (same_number q k e, cc)
-  inserted_by q k v x o false e h = inr h
-
-  pub inserted : (m : finite.FinMap nat_cmp X) (k : ℕ) (v : X) (q : ℕ) (x : X) → finite.get (finite.insert m k v) q ≡ Some x → ((q ≡ k) × (v ≡ x)) ⊎ (finite.get m q ≡ Some x)
-  inserted m k v q x h = inserted_by q k v x (finite.get m q) _ refl (sym (finite.get-insert nat_cmp_total m k v q) ∙ h)
-
-  -- what it has after a removal was there, at another number
-  removed_by : (q k : ℕ) (x : X) (o : Option X) (b : Bool) → eq_by_cmp nat_cmp q k ≡ b → cond b None o ≡ Some x → (q ≢ k) × (o ≡ Some x)
-  removed_by q k x o true e h = cc
-  removed_by q k x o false e h = (other_number q k e, h)
-
-  pub removed : (m : finite.FinMap nat_cmp X) (k q : ℕ) (x : X) → finite.get (finite.remove m k) q ≡ Some x → (q ≢ k) × (finite.get m q ≡ Some x)
-  removed m k q x h = removed_by q k x (finite.get m q) _ refl (sym (finite.get-remove nat_cmp_total m k q) ∙ h)
-
-  pub none_of : (o : Option X) → ((x : X) → o ≡ Some x → ⊥) → o ≡ None
-  none_of None h = refl
-  none_of (Some x) h = absurd (h x refl)
-
   -- a map without a number is empty
   without_any : (m : finite.FinMap nat_cmp X) → ((q : ℕ) → finite.get m q ≡ None) → m ≡ finite.empty
   without_any m none = finite.same_map nat_cmp_total nat_cmp-IsAntisymmetric m finite.empty (λ q. none q ∙ sym (finite.get-empty nat_cmp q))
@@ -91,14 +58,14 @@ IsBag-remove sent limit flights k bag =
     }
 
 -- a flight whose number was given has 1 to 1,000 copies
-pub IsBag-with_copies : (sent limit : ℕ) (flights : Flights) (k : ℕ) (message : Message) (copies : ℕ) → IsBag (pool_of sent limit flights) → k < sent → 1 ≤ copies → copies ≤ 1000 → IsBag (pool_of sent limit (with_copies flights k message copies))
+pub IsBag-with_copies : (sent limit : ℕ) (flights : Flights) (k : ℕ) (message : Message) (copies : ℕ) → IsBag (pool_of sent limit flights) → k < sent → 1 ≤ copies → copies ≤ copy_limit → IsBag (pool_of sent limit (with_copies flights k message copies))
 IsBag-with_copies sent limit flights k message copies bag below least most =
     let new : Flight = record { message = message; copies = copies } in
     record {
       within = bag.within;
       given = λ number flight h. elim (inserted flights k new number flight h) [ inl e ↦ subst (λ n. n < sent) (sym e.0) below | inr old ↦ bag.given number flight old ];
       least = λ number flight h. elim (inserted flights k new number flight h) [ inl e ↦ subst (λ (f : Flight). 1 ≤ f.copies) e.1 least | inr old ↦ bag.least number flight old ];
-      most = λ number flight h. elim (inserted flights k new number flight h) [ inl e ↦ subst (λ (f : Flight). f.copies ≤ 1000) e.1 most | inr old ↦ bag.most number flight old ];
+      most = λ number flight h. elim (inserted flights k new number flight h) [ inl e ↦ subst (λ (f : Flight). f.copies ≤ copy_limit) e.1 most | inr old ↦ bag.most number flight old ];
     }
 
 -- one more number is given
@@ -126,7 +93,7 @@ IsBag-one_less_sent sent limit flights bag none =
 
 -- a flight that is there has other copies
 pub IsBag-set_copies : (sent limit : ℕ) (flights new : Flights) (k copies : ℕ) (flight : Flight) → IsBag (pool_of sent limit flights) → finite.get flights k ≡ Some flight
-    → ((f : Flight) → finite.get flights k ≡ Some f → new ≡ with_copies flights k f.message copies) → 1 ≤ copies → copies ≤ 1000 → IsBag (pool_of sent limit new)
+    → ((f : Flight) → finite.get flights k ≡ Some f → new ≡ with_copies flights k f.message copies) → 1 ≤ copies → copies ≤ copy_limit → IsBag (pool_of sent limit new)
 IsBag-set_copies sent limit flights new k copies flight bag found set least most =
     subst (λ m. IsBag (pool_of sent limit m)) (sym (set flight found))
     (IsBag-with_copies sent limit flights k flight.message copies bag (bag.given k flight found) least most)
@@ -137,7 +104,7 @@ there (Some flight) count e least = (flight, refl)
 
 -- the same, where it was found by its copies
 pub IsBag-change_copies : (sent limit : ℕ) (flights new : Flights) (k count copies : ℕ) → IsBag (pool_of sent limit flights) → count ≡ copies_of flights k → 1 ≤ count
-    → ((f : Flight) → finite.get flights k ≡ Some f → new ≡ with_copies flights k f.message copies) → 1 ≤ copies → copies ≤ 1000 → IsBag (pool_of sent limit new)
+    → ((f : Flight) → finite.get flights k ≡ Some f → new ≡ with_copies flights k f.message copies) → 1 ≤ copies → copies ≤ copy_limit → IsBag (pool_of sent limit new)
 IsBag-change_copies sent limit flights new k count copies bag e some set least most =
     let f = there (finite.get flights k) count e some in
     IsBag-set_copies sent limit flights new k copies f.0 bag f.1 set least most

@@ -1,4 +1,6 @@
 mod Bags
+pub mod Lookups
 mod Hashed
 mod Writing
 pub mod Agreement
+pub mod Unsending

@@ -3,4 +3,4 @@ pub mod Flights
 pub mod Numbers
 pub mod Refusals
 pub mod Pools
-pub mod Unsending
+pub mod PoolLaws

@@ -1,7 +1,7 @@
 -- The network as a bag of numbered messages, and what each call makes of it.
 use Rattle.std.specs.Prelude.{ℕ, ◌≡◌, ◌<◌, ◌≤◌, ◌+◌, ◌-◌, Some}
 use Rattle.std.specs.FinMap as finite
-use Rattle.network.specs.Flights.{Flight, Flights, with_copies, one_less, one_more}
+use Rattle.network.specs.Flights.{Flight, Flights, copy_limit, with_copies, one_less, one_more}
 use Rattle.network.specs.declared.messages.Message.{Message}
 
 -- the network: how many messages were ever sent, how many may be, and the flights that have a copy
@@ -18,7 +18,7 @@ pub record IsBag (pool : Pool) : Type 0 where
   pub least : (number : ℕ) (flight : Flight) → finite.get pool.flights number ≡ Some flight
       → 1 ≤ flight.copies
   pub most : (number : ℕ) (flight : Flight) → finite.get pool.flights number ≡ Some flight
-      → flight.copies ≤ 1000
+      → flight.copies ≤ copy_limit
 
 -- the network before the first message
 abbrev pub silent_pool : ℕ → Pool

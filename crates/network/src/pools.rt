@@ -4,9 +4,10 @@ ghost use Rattle.std.specs.Prelude.{IsSome, IfSome, OnSome, IfNone, IsTrue};
 ghost use Rattle.std.specs.Option.{option_copied};
 ghost use Rattle.std.specs.FinMap as finite;
 ghost use Rattle.network.specs.contracts.flights.FlightPartialEq.TheImpl.Laws as flight;
-ghost use Rattle.network.specs.Equality.{pools_per, same_pools};
-ghost use Rattle.network.specs.Flights.{copies_of, message_of, IsGone, IsMessageOf};
+ghost use Rattle.network.specs.Equality.{same_pools};
+ghost use Rattle.network.specs.Flights.{copies_of, message_of, copy_limit, IsGone, IsMessageOf};
 ghost use Rattle.network.specs.Refusals.{IsEither};
+ghost use Rattle.network.specs.PoolLaws.{pools_per};
 ghost use Rattle.network.specs.Pools.{IsBag, silent_pool, with_one_less, with_one_more, with_sent, without_last};
 
 use crate::in_flight::InFlight;
@@ -102,10 +103,10 @@ impl Pool {
         stored as u32
     }
 
-    /// How many copies the flight has: 0 where the number was never given, or the flight is spent.
+    /// How many copies the flight has: 0 if the number was never given, or the flight is spent.
     pub fn copies(&self, number: u32) -> u32
         ensures copies { result ≡ copies_of self.now.flights number }
-        ensures most { result ≤ 1000 }
+        ensures most { result ≤ copy_limit }
     {
         match self.flights.get(number) {
             Some(flight) => flight.copies,
@@ -113,7 +114,7 @@ impl Pool {
         }
     }
 
-    /// The flight's message, where it has a copy.
+    /// The flight's message, if it has a copy.
     pub fn look(&self, number: u32) -> Option<&Message>
         ensures { option_copied result ≡ message_of self.now.flights number }
     {
@@ -125,7 +126,7 @@ impl Pool {
 
     /// Sends the message, with one copy, and answers its number.
     ///
-    /// `FlightsFull` comes exactly where as many were sent as may be, `Memory` only where room for
+    /// `FlightsFull` comes exactly if as many were sent as may be, `Memory` only if room for
     /// the flight was refused.
     pub fn send(&mut self, message: Message) -> Result<u32, NetRefusal>
         ensures number { IfOk result (λ number. number ≡ self.old.sent) }
@@ -147,7 +148,7 @@ impl Pool {
 
     /// Takes a copy of the flight away and gives its message.
     ///
-    /// `NotInFlight` comes exactly where the flight has no copy, `Memory` only where a copy of the
+    /// `NotInFlight` comes exactly if the flight has no copy, `Memory` only if a copy of the
     /// message was refused; the last copy takes none.
     pub fn deliver(&mut self, number: u32) -> Result<Message, NetRefusal>
         ensures message { IfOk result (IsMessageOf self.old.flights number) }
@@ -171,7 +172,7 @@ impl Pool {
 
     /// Takes a copy of the flight away: it is lost.
     ///
-    /// `NotInFlight` comes exactly where the flight has no copy. No memory is taken.
+    /// `NotInFlight` comes exactly if the flight has no copy. No memory is taken.
     pub fn lose(&mut self, number: u32) -> Result<(), NetRefusal>
         ensures after { OnOk result (self.new ≡ with_one_less self.old number) }
         ensures gone { (result ≡ Err NetRefusal.NotInFlight) ↔ IsGone self.old.flights number }
@@ -188,13 +189,13 @@ impl Pool {
 
     /// Adds a copy of the flight: it is repeated.
     ///
-    /// `NotInFlight` comes exactly where the flight has no copy, `CopiesFull` exactly where it has
+    /// `NotInFlight` comes exactly if the flight has no copy, `CopiesFull` exactly if it has
     /// 1,000. No memory is taken.
     pub fn repeat(&mut self, number: u32) -> Result<(), NetRefusal>
         ensures after { OnOk result (self.new ≡ with_one_more self.old number) }
         ensures gone { (result ≡ Err NetRefusal.NotInFlight) ↔ IsGone self.old.flights number }
         ensures full { (result ≡ Err NetRefusal.CopiesFull)
-            ↔ (copies_of self.old.flights number ≡ 1000) }
+            ↔ (copies_of self.old.flights number ≡ copy_limit) }
         ensures only { IfErr result (IsEither NetRefusal.NotInFlight NetRefusal.CopiesFull) }
         ensures err { OnErr result (self.new ≡ self.old) }
     {
@@ -206,7 +207,7 @@ impl Pool {
         Ok(())
     }
 
-    /// Takes the last send back: the flight numbered `sent - 1`, where it has exactly one copy.
+    /// Takes the last send back: the flight numbered `sent - 1`, if it has exactly one copy.
     ///
     /// Its message is given back, and its number counts as never given. Otherwise the answer is
     /// `None`. No memory is taken.

@@ -23,6 +23,7 @@ pub record Draw : Type 0 where
   pub third : ℕ
   pub rest : Lcg
 
+-- the next three words of a generator
 abbrev pub draw : Lcg → Draw
 draw g =
     let a = pcg32 g in
@@ -30,16 +31,16 @@ draw g =
     let c = pcg32 b.1 in
     record { first = a.0; second = b.0; third = c.0; rest = c.1 }
 
--- a client: of those that joined the one of that number, modulo their count; name 1 where nobody
--- joined
+-- the client that a word chooses: of those that joined the one of that number, modulo their count;
+-- name 1 if nobody joined
 abbrev pub client_at : System → ℕ → ℕ
 client_at s word = slice_index_or s.members.joined (word % length s.members.joined) 1
 
--- a flight: one of the last 32 that were sent; 0 where none was
+-- the flight that a word chooses: one of the last 32 that were sent; 0 if none was
 abbrev pub flight_at : System → ℕ → ℕ
 flight_at s word = s.pool.sent - 1 - word % min s.pool.sent 32
 
--- a replica
+-- the replica that a word chooses
 abbrev pub replica_at : System → ℕ → ℕ
 replica_at s word = word % length s.config.quorums.votes
 
@@ -50,10 +51,11 @@ key_named (suc zero) = codes "k1"
 key_named (suc (suc zero)) = codes "k2"
 key_named other = codes "k3"
 
+-- the key that a word chooses
 abbrev pub key_of : ℕ → List ℕ
 key_of word = key_named (word % 4)
 
--- a read, or a write of the word's digits after an r
+-- the action that a word chooses: a read, or a write of the word's digits after an r
 abbrev pub action_of : ℕ → Action
 action_of word = if nat_eq (word / 4 % 2) 0 then Read else Write (codes "r" ++ decimal word)
 
@@ -68,6 +70,7 @@ kind_of word =
     else if nat_lt (word % 16) 10 then kind.Send
     else kind.Deliver
 
+-- the step of that kind that two words choose
 abbrev step_by : System → Kind → ℕ → ℕ → Step
 step_by s kind.Lose second third = step.Lose (flight_at s second)
 step_by s kind.Repeat second third = step.Repeat (flight_at s second)

@@ -58,7 +58,7 @@ fn kind_of(word: u32) -> Kind
     Kind::Deliver
 }
 
-/// The client of that number among those that joined, modulo their count; name 1 where nobody
+/// The client of that number among those that joined, modulo their count; name 1 if nobody
 /// joined.
 fn client_at(world: &World, word: u32) -> ClientId
     ensures { result ≡ client_at world.now word }
@@ -70,7 +70,7 @@ fn client_at(world: &World, word: u32) -> ClientId
     joined[word as usize % joined.len()]
 }
 
-/// One of the last 32 flights that were sent; 0 where none was.
+/// One of the last 32 flights that were sent; 0 if none was.
 fn flight_at(world: &World, word: u32) -> u32
     ensures { result ≡ flight_at world.now word }
 {
@@ -141,7 +141,7 @@ impl RandomSteps {
     }
 
     /// The next step for the world as it stands. The three words are drawn whatever comes of it;
-    /// `Memory` comes only where room for a text was refused.
+    /// `Memory` comes only if room for a text was refused.
     pub fn next(&mut self, alloc: Global, world: &World) -> Result<Step, Memory>
         ensures step { IfOk result (λ step. step ≡ step_of world.now (draw self.old)) }
         ensures drawn { self.new ≡ (draw self.old).rest }

@@ -9,7 +9,7 @@ use Rattle.std.specs.FinMap as finite
 use Rattle.std.specs.FinMap.{nat_cmp-IsAntisymmetric, slice_cmp-IsAntisymmetric}
 use Rattle.tag.specs.Tags.{Tag, tag_cmp}
 use Rattle.replica.specs.Pairs.{Pair, Pairs, no_pair, pair_of, adopt}
-use Rattle.replica.specs.Maps.{get-from_tree, from_tree-insert}
+use Rattle.replica.proofs.Maps.{get-from_tree, from_tree-insert}
 
 abbrev pub Tree : Type 0
 Tree = BTreeMap (List ℕ) Pair

@@ -1,2 +1,4 @@
+pub mod Maps
+pub mod Insertions
 mod Adopting
 pub mod Rising

@@ -1,16 +1,14 @@
 -- What a put changes: its own key alone, and that one's tag upwards.
-use Rattle.std.proofs.Common.{◌≡◌, ◌≢◌, ℕ, Bool, true, false, List, Some, cond, unwrap_or, ap, sym, subst, ◌∙◌, refl, rules}
-use Rattle.std.specs.Ordering.{nat_cmp, is_eq, is_le, is_lt, eq_by_cmp, ordering_reverse}
+use Rattle.std.proofs.Common.{◌≡◌, Bool, true, false, List, ℕ, cond, inl, inr, ap, sym, subst, ◌∙◌, refl, rules}
+use Rattle.std.specs.Ordering.{is_le, is_lt, ordering_reverse}
 use Rattle.std.specs.declared.cmp.Ordering.{Ordering}
 use Rattle.std.specs.declared.cmp.Ordering.TheVariants.{Less, Equal, Greater}
 use Rattle.std.specs.Cmp.{IsTotalOrder, tied_itself}
 use Rattle.std.specs.Cmp.Rules.{comparing}
-use Rattle.std.specs.Cmp.Lexicographic.{slice_cmp, nat_list_cmp_total}
 use Rattle.std.specs.FinMap as finite
-use Rattle.std.specs.FinMap.{nat_cmp-IsAntisymmetric, slice_cmp-IsAntisymmetric}
 use Rattle.tag.specs.Tags.{Tag, tag_cmp}
-use Rattle.replica.specs.Insertions.{pair_of-adopt_other, pair_of-insert_same, same_key}
-use Rattle.replica.specs.Pairs.{Pair, Pairs, no_pair, pair_of, adopt}
+use Rattle.replica.proofs.Insertions.{pair_of-adopt_other, pair_of-insert_same, same_key_or_not}
+use Rattle.replica.specs.Pairs.{Pair, Pairs, pair_of, adopt}
 use Rattle.replica.specs.Replicas.{pairs_after}
 use Rattle.replica.specs.declared.requests.Request.{Request}
 use Rattle.replica.specs.declared.requests.Request.TheVariants.{Query, Put}
@@ -45,14 +43,14 @@ own_rises : (pairs : Pairs) (key : List ℕ) (pair : Pair) (b : Bool) → is_lt 
 own_rises pairs key pair true e = ap (λ (p : Pair). is_le (tag_cmp (pair_of pairs key).tag p.tag)) (pair_of-insert_same pairs key pair) ∙ le-lt _ e
 own_rises pairs key pair false e = tag_cmp_refl (pair_of pairs key).tag
 
-rises_by : (pairs : Pairs) (key q : List ℕ) (pair : Pair) (same : Bool) → eq_by_cmp (slice_cmp nat_cmp) q key ≡ same
-    → is_le (tag_cmp (pair_of pairs q).tag (pair_of (adopt pairs key pair) q).tag) ≡ true
-rises_by pairs key q pair true e = let P : List ℕ → Type 0 = λ k. is_le (tag_cmp (pair_of pairs k).tag (pair_of (adopt pairs key pair) k).tag) ≡ true in
-    subst P (sym (same_key q key e)) (own_rises pairs key pair _ refl)
-rises_by pairs key q pair false e =
-    let apart : q ≢ key = λ is. let h : true ≡ false = sym (ap is_eq (tied_itself nat_list_cmp_total q)) ∙ ap (λ k. eq_by_cmp (slice_cmp nat_cmp) q k) is ∙ e in cc in
-    ap (λ (p : Pair). is_le (tag_cmp (pair_of pairs q).tag p.tag)) (pair_of-adopt_other pairs key q pair apart) ∙ tag_cmp_refl (pair_of pairs q).tag
+adopt-rises : (pairs : Pairs) (key q : List ℕ) (pair : Pair) → is_le (tag_cmp (pair_of pairs q).tag (pair_of (adopt pairs key pair) q).tag) ≡ true
+adopt-rises pairs key q pair =
+    let P : List ℕ → Type 0 = λ k. is_le (tag_cmp (pair_of pairs k).tag (pair_of (adopt pairs key pair) k).tag) ≡ true in
+    elim (same_key_or_not q key) [
+      | inl same ↦ subst P (sym same) (own_rises pairs key pair _ refl)
+      | inr apart ↦ ap (λ (p : Pair). is_le (tag_cmp (pair_of pairs q).tag p.tag)) (pair_of-adopt_other pairs key q pair apart) ∙ tag_cmp_refl (pair_of pairs q).tag
+    ]
 
 pub pairs_after-rises : (pairs : Pairs) (request : Request) (key : List ℕ) → is_le (tag_cmp (pair_of pairs key).tag (pair_of (pairs_after pairs request) key).tag) ≡ true
 pairs_after-rises pairs (Query op k) key = tag_cmp_refl (pair_of pairs key).tag
-pairs_after-rises pairs (Put op k tag value) key = rises_by pairs k key (record { tag = tag; value = value }) _ refl
+pairs_after-rises pairs (Put op k tag value) key = adopt-rises pairs k key (record { tag = tag; value = value })

@@ -1,4 +1,2 @@
-pub mod Insertions
-pub mod Maps
 pub mod Pairs
 pub mod Replicas

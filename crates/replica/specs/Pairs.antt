@@ -20,7 +20,7 @@ Pairs = finite.FinMap (slice_cmp nat_cmp) Pair
 abbrev pub pair_of : Pairs → List ℕ → Pair
 pair_of pairs key = unwrap_or (finite.get pairs key) no_pair
 
--- a pair is adopted for a key where its tag is above that of the key's own pair; otherwise nothing
+-- a pair is adopted for a key if its tag is above that of the key's own pair; otherwise nothing
 -- changes
 abbrev pub adopt : Pairs → List ℕ → Pair → Pairs
 adopt pairs key pair =

@@ -13,7 +13,7 @@ pub record Replica : Type 0 where
   pub number : ℕ
   pub pairs : Pairs
 
--- the pairs after a request: a query changes nothing, a put has its pair adopted where its tag is
+-- the pairs after a request: a query changes nothing, a put has its pair adopted if its tag is
 -- above the key's own
 abbrev pub pairs_after : Pairs → Request → Pairs
 pairs_after pairs (Query op key) = pairs

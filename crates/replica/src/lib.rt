@@ -1,7 +1,7 @@
 //! Replicas and the messages between them and clients.
 //!
 //! A replica keeps a pair of a tag and a value for each key. It answers a query with its pair of
-//! the key, and adopts a pair that is put where that pair's tag is above its own. Look-ups and
+//! the key, and adopts a pair that is put if that pair's tag is above its own. Look-ups and
 //! changes take a time that grows with the logarithm of the count of keys.
 #![tactic(auto)]
 

@@ -3,7 +3,7 @@ ghost use Rattle.std.specs.Prelude.{◌≡◌, IfOk};
 
 use tag::{Memory, Tag, Value};
 
-/// A tag with the value that was written under it, or absent where nobody wrote.
+/// A tag with the value that was written under it, or absent if nobody wrote.
 #[derive(Debug, Drop, PartialEq, Eq)]
 pub struct Pair {
     pub tag: Tag,

@@ -79,7 +79,7 @@ impl Replica {
         self.number
     }
 
-    /// The tag and the value of its pair of the key: (0, 0) and absent where nothing was adopted.
+    /// The tag and the value of its pair of the key: (0, 0) and absent if nothing was adopted.
     pub fn held(&self, key: &Key) -> (Tag, Option<&Value>)
         ensures tag { result.0 ≡ (pair_of self.now.pairs key.now).tag }
         ensures value { option_copied result.1 ≡ (pair_of self.now.pairs key.now).value }
@@ -93,7 +93,7 @@ impl Replica {
     /// What it answers to the request, after it adopted what is put if that has the greater tag.
     ///
     /// Only the key that is put can change. Where memory was refused nothing changed; none is taken
-    /// where there is nothing to copy.
+    /// if there is nothing to copy.
     pub fn handle(&mut self, request: &Request) -> Result<Reply, Memory>
         ensures answer { IfOk result (λ reply. reply ≡ reply_of self.old request.now) }
         ensures after { OnOk result (self.new ≡ replica_after self.old request.now) }

@@ -1,5 +1,5 @@
 -- How few steps are taken: with majorities, and by a short read whose replies agree.
-use Rattle.std.proofs.Common.{◌≡◌, ℕ, zero, suc, ◌+◌, ◌*◌, ◌<◌, ◌≤◌, Bool, true, false, cond, List, [], ◌∷◌, length, take, Some, Result, Ok, Err, slice_get, refl, sym, ◌∙◌, ap, subst, inl, inr, arith, leb-true}
+use Rattle.std.proofs.Common.{◌≡◌, ℕ, zero, suc, ◌+◌, ◌*◌, ◌<◌, ◌≤◌, Bool, true, false, cond, List, [], ◌∷◌, length, take, Some, Result, Ok, Err, slice_get, refl, sym, ◌∙◌, ap, subst, arith, leb-true}
 use Rattle.std.specs.FinSet as finite
 use Rattle.std.specs.Option.{option_map_or}
 use Rattle.std.specs.Prelude.{IfOk}
@@ -27,31 +27,29 @@ use Rattle.world_steps.specs.SoundSystems.{IsSound, held_in}
 use Rattle.world_steps.specs.declared.nodes.Node.{Node}
 use Rattle.world_steps.specs.declared.step.Step.{Step}
 use Rattle.world_steps.specs.declared.system.System.{System}
-use Rattle.world_settle.proofs.Lookups.{slice_cases}
-use Rattle.world_steps.specs.Passed.{phase_is}
+use Rattle.network.proofs.Lookups.{get_same}
+use Rattle.world_steps.proofs.ReplicaSound.{read_alike}
+use Rattle.world_steps.proofs.Passed.{phase_is}
 use Rattle.world_settle.specs.Agreeing.{RepliesAgree, asking_by, pair_at}
 use Rattle.world_settle.specs.Refusing.{IsLeastCount, MaySettle, Needs, NeedsAt}
-use Rattle.world_settle.specs.Settling.{Settles, candidates, round}
-use Rattle.world_settle.specs.Settling.Settles.{answers, asks}
+use Rattle.world_settle.specs.Settling.{AreSettleSteps, candidates, round}
+use Rattle.world_settle.specs.Settling.AreSettleSteps.{answers, asks}
 use Rattle.world_settle.specs.SettleAnswers.{IsWithinForMajorities, IsWithinIfAgreed, SettlesBy}
 use Rattle.world_settle.specs.declared.errors.SettleError.{SettleError}
 use Rattle.world_settle.proofs.Brings.{majorities_most}
 use Rattle.world_settle.proofs.CandidateLemmas.{Candidate, candidate_first, candidates_rest}
-use Rattle.world_settle.specs.Counts.{fewer_needed, least_once, some_candidate}
+use Rattle.world_settle.proofs.LeastCounts.{fewer_needed, least_once, some_candidate}
 use Rattle.world_settle.proofs.Forward.{Ahead, ahead, settled_within}
 use Rattle.world_settle.proofs.Plans.{StepsKeepSound, asking_row, made_by, ready_or_asking, up_after}
 use Rattle.world_settle.proofs.Replies.{held_counts, not_ask}
-use Rattle.world_settle.proofs.Rounds.{MayRound, asking_or_putting, get_same, handled_nodes, round_is, third_system}
+use Rattle.world_settle.proofs.Rounds.{MayRound, asking_or_putting, handled_nodes, round_is, third_system}
 
 -- ---- a query leaves each pair as it was
 pairs_stay : (s : System) (replica : ℕ) (asking : Asking) (node : Node) → slice_get s.nodes replica ≡ Some node → (m : ℕ) (key : List ℕ)
     → option_map_or (λ (n : Node). pair_of n.replica.pairs key) (slice_get (handled_nodes s replica (query_of asking) node) m) no_pair ≡ pair_at s m key
 pairs_stay s replica asking node is m key =
     let pair : Node → Pair = λ n. pair_of n.replica.pairs key in
-    elim (slice_cases s.nodes replica node (record node { replica = replica_after node.replica (query_of asking) }) m is) [
-      | inl here ↦ ap (λ o. option_map_or pair o no_pair) here.1 ∙ sym (ap (λ r. pair_at s r key) here.0 ∙ ap (λ o. option_map_or pair o no_pair) is)
-      | inr there ↦ ap (λ o. option_map_or pair o no_pair) there.1
-    ]
+    read_alike (λ o. option_map_or pair o no_pair) s.nodes replica node (record node { replica = replica_after node.replica (query_of asking) }) is refl m
 
 same_asking : (s t : System) → ((m : ℕ) (key : List ℕ) → pair_at t m key ≡ pair_at s m key) → (asking : Asking) (replicas : List ℕ) → asking_by t asking replicas ≡ asking_by s asking replicas
 same_asking s t same asking [] = refl
@@ -60,13 +58,13 @@ same_asking s t same asking (r ∷ rs) =
 
 -- ---- what is left after a round
 abbrev Few : System → ℕ → ℕ → Type 0
-Few s name a = (steps : List Step) → Settles name s steps → length steps ≤ 3 * a + 1
+Few s name a = (steps : List Step) → AreSettleSteps name s steps → length steps ≤ 3 * a + 1
 
 -- the same of systems where fewer replicas are asked
 abbrev Further : ℕ → Type 0
 Further a = (t : System) → IsSound t → (name c : ℕ) → RepliesAgree t name c → suc c ≤ a → t.pool.sent + 2 * c ≤ t.pool.limit → Few t name c
 
-one_answer : (name : ℕ) (t : System) (steps : List Step) → is_ready (phase_at t name) ≡ true → Settles name t steps → length steps ≡ 1
+one_answer : (name : ℕ) (t : System) (steps : List Step) → is_ready (phase_at t name) ≡ true → AreSettleSteps name t steps → length steps ≡ 1
 one_answer name t steps ready (answers u r) = refl
 one_answer name t steps ready (asks u replica others rest h e more) = absurd (ready_or_asking (phase_at t name) ready h)
 
@@ -142,7 +140,7 @@ rounds keeps s sound name a agree room further steps settles =
     (Agreed more.best.tag) (Noted (pair_to_put rules.name asking.call.action more.best).tag)
     (subst (λ cs. IsLeastCount (IsAskQuorum s.config.quorums) more.counted cs m) (sym left) rest) agreed further (omega (arith, is)) (omega (arith, room, is, sent, limit))
     (is_ask_quorum rules.quorums more.counted) (is_agreed rules more) refl refl here in
-    let fewer = few going.steps (subst (λ u. Settles name u going.steps) after going.onward) in
+    let fewer = few going.steps (subst (λ u. AreSettleSteps name u going.steps) after going.onward) in
     let long : length steps ≡ suc (suc (suc (length going.steps))) = ap length going.splits in
     omega (arith, fewer, long, is)
 
@@ -159,7 +157,7 @@ needs_asked s name a c d agree needs =
     let needed : Needs s (Ask agree.asking) c d = subst (λ (x : Client). Needs s x.state c d) same needs.needs in
     least_once (IsAskQuorum s.config.quorums) agree.asking.counted (candidates s agree.asking.counted) a c agree.asks needed.0
 
-pub short_steps : StepsKeepSound → (s : System) (name a : ℕ) (steps : List Step) → IsSound s → MaySettle s name → RepliesAgree s name a → Settles name s steps → length steps ≤ 3 * a + 1
+pub short_steps : StepsKeepSound → (s : System) (name a : ℕ) (steps : List Step) → IsSound s → MaySettle s name → RepliesAgree s name a → AreSettleSteps name s steps → length steps ≤ 3 * a + 1
 short_steps keeps s name a steps sound may agree settles =
     let same = needs_asked s name a may.room.asked may.room.kept agree may.room.needs in
     let left = may.room.left in

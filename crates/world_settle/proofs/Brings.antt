@@ -2,7 +2,7 @@
 use Rattle.std.proofs.Common.{◌≡◌, ℕ, zero, suc, ◌+◌, ◌*◌, ◌/◌, ◌≤◌, List, [], ◌∷◌, take, length, refl, ap, arith}
 use Rattle.std.proofs.lemmas.List.Elements.{All-get_or}
 use Rattle.std.specs.FinSet as finite
-use Rattle.quorum.specs.Votes.{votes_of-insert}
+use Rattle.quorum.proofs.MoreVotes.{votes_of-insert}
 use Rattle.quorum.specs.Sets.{Replicas}
 use Rattle.quorum.specs.Quorums.{Quorums, IsLawful, majority_of, votes_of}
 use Rattle.client_phases.specs.declared.states.State.{State}
@@ -12,7 +12,7 @@ use Rattle.world_settle.specs.Settling.{candidates, with_all}
 use Rattle.world_settle.specs.Refusing.{IsLeastCount, Needs, NeedsAt}
 use Rattle.world_settle.proofs.CandidateLemmas.{Candidate, candidate_first}
 use Rattle.world_settle.proofs.Counting.{rest_is}
-use Rattle.world_settle.specs.Counts.{least_within}
+use Rattle.world_settle.proofs.LeastCounts.{least_within}
 
 module _ (s : System) (lawful : IsLawful s.config.quorums) where
   brings_one : (set : Replicas) (r : ℕ) → Candidate s set r → votes_of s.config.quorums.votes set + 1 ≤ votes_of s.config.quorums.votes (finite.insert set r)

@@ -1,12 +1,12 @@
 -- The candidates of a set, and which are left with the first of them in the set.
-use Rattle.std.proofs.Common.{◌≡◌, ◌≢◌, ℕ, zero, suc, ◌+◌, ◌<◌, ◌≤◌, Bool, true, false, cond, not, ◌&&◌, ◌||◌, List, [], ◌∷◌, Option, Some, None, length, slice_get, refl, sym, ◌∙◌, ap, arith, inl, inr, ◌⊎◌}
-use Rattle.std.proofs.lemmas.Bool.{and_parts, and_right, not-true, eq-eqb, ne_eqb}
+use Rattle.std.proofs.Common.{◌≡◌, ◌≢◌, ℕ, zero, suc, ◌+◌, ◌<◌, ◌≤◌, Bool, true, false, cond, not, ◌&&◌, List, [], ◌∷◌, Option, Some, None, length, slice_get, refl, sym, ◌∙◌, ap, arith, inl, inr, ◌⊎◌}
+use Rattle.std.proofs.lemmas.Bool.{and_parts, and_right, not-true}
 use Rattle.std.proofs.lemmas.List.Elements.{filter_agree}
 use Rattle.std.specs.FinSet as finite
 use Rattle.std.specs.List.{filter, range_with_len}
 use Rattle.std.specs.Option.{option_map_or}
 use Rattle.quorum.specs.Sets.{Replicas}
-use Rattle.quorum.specs.Bits.{contains-insert}
+use Rattle.quorum.proofs.MoreVotes.{insert-other, insert-same}
 use Rattle.world_steps.specs.Configs.{Config}
 use Rattle.world_steps.specs.declared.nodes.Node.{Node}
 use Rattle.world_steps.specs.declared.system.System.{System}
@@ -87,12 +87,6 @@ candidate_first s set replica others e =
     let below = first.below in
     candidate_found s set replica first.passes (omega (arith, below))
 
-pub insert_other : (set : Replicas) (r k : ℕ) → k ≢ r → finite.contains (finite.insert set r) k ≡ finite.contains set k
-insert_other set r k ne = contains-insert set r k ∙ ap (λ b. b || finite.contains set k) (ne_eqb k r ne)
-
-pub insert_same : (set : Replicas) (r : ℕ) → finite.contains (finite.insert set r) r ≡ true
-insert_same set r = contains-insert set r r ∙ ap (λ b. b || finite.contains set r) (eq-eqb r r refl)
-
 -- the same replicas are up
 abbrev pub SameUp : System → System → Type 0
 SameUp s t = (m : ℕ) → is_up t m ≡ is_up s m
@@ -102,8 +96,8 @@ pub candidates_rest : (s t : System) (set : Replicas) (r : ℕ) (others : List �
 candidates_rest s t set r others ups config e =
     ap (λ (c : Config). filter (is_candidate t (finite.insert set r)) (range_with_len 0 (length c.quorums.votes))) config
     ∙ rest_of (is_candidate s set) (is_candidate t (finite.insert set r)) r 0 (length s.config.quorums.votes) others
-    (λ m ne. ap (λ b. b && not (finite.contains (finite.insert set r) m)) (ups m) ∙ ap (λ b. is_up s m && not b) (insert_other set r m ne))
-    (ap (λ b. is_up t r && not b) (insert_same set r) ∙ and_right (is_up t r) false refl)
+    (λ m ne. ap (λ b. b && not (finite.contains (finite.insert set r) m)) (ups m) ∙ ap (λ b. is_up s m && not b) (insert-other set r m ne))
+    (ap (λ b. is_up t r && not b) (insert-same set r) ∙ and_right (is_up t r) false refl)
     e
 
 pub candidates_same : (s t : System) (set : Replicas) → SameUp s t → t.config ≡ s.config → candidates t set ≡ candidates s set

@@ -7,7 +7,7 @@ use Rattle.world_steps.specs.declared.system.System.{System}
 use Rattle.world_settle.specs.Settling.{candidates, with_all}
 use Rattle.world_settle.specs.Refusing.{IsLeastCount, replicas_up}
 use Rattle.world_settle.proofs.CandidateLemmas.{candidates_rest}
-use Rattle.world_settle.specs.Counts.{all_votes, few_candidates}
+use Rattle.world_settle.proofs.LeastCounts.{all_votes, few_candidates}
 
 -- with its first candidate a set has one candidate less
 pub rest_is : (s : System) (set : Replicas) (r : ℕ) (others : List ℕ) → candidates s set ≡ r ∷ others → candidates s (finite.insert set r) ≡ others

@@ -4,6 +4,7 @@ use Rattle.std.specs.FinMap as finite
 use Rattle.std.specs.Option.{option_map_or}
 use Rattle.replica.specs.declared.replies.Reply.{Reply}
 use Rattle.replica.specs.declared.requests.Request.{Request}
+use Rattle.client_phases.specs.Clients.{request_of}
 use Rattle.client_phases.specs.declared.clients.Client.{Client}
 use Rattle.client_phases.specs.declared.rules.Rules.{Rules}
 use Rattle.client_phases.specs.declared.states.State.{State}
@@ -15,16 +16,16 @@ use Rattle.network.specs.declared.messages.Message.{Message}
 use Rattle.network.specs.declared.messages.Message.TheVariants.{ToReplica, ToClient}
 use Rattle.world_steps.specs.Refusals.{refusal_of}
 use Rattle.world_steps.specs.Runs.{next, after_from}
-use Rattle.world_steps.specs.Systems.{system_after, send, deliver, arrive, handle, take, respond}
+use Rattle.world_steps.specs.Systems.{system_after, send, send_to, deliver, arrive, handle, take, respond}
 use Rattle.world_steps.specs.declared.nodes.Node.{Node}
 use Rattle.world_steps.specs.declared.refusal.Refusal.{Refusal}
 use Rattle.world_steps.specs.declared.step.Step.{Step}
 use Rattle.world_steps.specs.declared.step.Step.TheVariants as step
 use Rattle.world_steps.specs.declared.system.System.{System}
-use Rattle.world_settle.specs.Settling.{Settles, round}
-use Rattle.world_settle.specs.Settling.Settles.{answers, asks}
+use Rattle.world_settle.specs.Settling.{AreSettleSteps, round}
+use Rattle.world_settle.specs.Settling.AreSettleSteps.{answers, asks}
 use Rattle.world_settle.specs.SettleAnswers.{KeepsEarlier}
-use Rattle.world_settle.proofs.Rounds.{get_other, removed_other}
+use Rattle.network.proofs.Lookups.{get_other, removed_other}
 
 -- a pool with no fewer messages sent, where those before a number keep their copies
 pub record Keeps (n : ℕ) (old new : Pool) : Type 0 where
@@ -68,16 +69,13 @@ IsLater n (step.Deliver flight) = n ≤ flight
 IsLater n (step.Respond name) = Unit {0}
 IsLater n other = ⊥
 
-sent_by : (n : ℕ) (s : System) (replica : ℕ) (rules : Rules) (state : State) → n ≤ s.pool.sent → Keeps n s.pool (send s replica (Some (record { rules = rules; state = state }))).pool
-sent_by n s replica rules (Ask asking) h = keeps_sent n s.pool _ h
-sent_by n s replica rules (Put chosen counted) h = keeps_sent n s.pool _ h
-sent_by n s replica rules Idle h = keeps_itself n s.pool
-sent_by n s replica rules (Ready chosen) h = keeps_itself n s.pool
-sent_by n s replica rules Stopped h = keeps_itself n s.pool
+sent_by : (n : ℕ) (s : System) (replica : ℕ) (request : Option Request) → n ≤ s.pool.sent → Keeps n s.pool (send_to s replica request).pool
+sent_by n s replica (Some request) h = keeps_sent n s.pool _ h
+sent_by n s replica None h = keeps_itself n s.pool
 
 sent_found : (n : ℕ) (s : System) (replica : ℕ) (found : Option Client) → n ≤ s.pool.sent → Keeps n s.pool (send s replica found).pool
 sent_found n s replica None h = keeps_itself n s.pool
-sent_found n s replica (Some client) h = sent_by n s replica client.rules client.state h
+sent_found n s replica (Some client) h = sent_by n s replica (request_of client) h
 
 handled_found : (n : ℕ) (s : System) (number : ℕ) (request : Request) (node : Option Node) (caller : Option ℕ) → n ≤ s.pool.sent → Keeps n s.pool (handle s number request node caller).pool
 handled_found n s number request (Some node) (Some client) h = keeps_sent n s.pool _ h
@@ -135,7 +133,7 @@ keeps_after n s (step ∷ steps) later h =
 round_later : (n : ℕ) (s : System) (name replica : ℕ) → n ≤ s.pool.sent → AllLater n (round s name replica)
 round_later n s name replica h = (tt, (h, (omega arith, tt)))
 
-all_later : (n name : ℕ) (s : System) (steps : List Step) → Settles name s steps → n ≤ s.pool.sent → AllLater n steps
+all_later : (n name : ℕ) (s : System) (steps : List Step) → AreSettleSteps name s steps → n ≤ s.pool.sent → AllLater n steps
 all_later n name s steps (answers t ready) h = (tt, tt)
 all_later n name s steps (asks t replica others rest requests first settles) h =
     let sent = (keeps_after n t (round t name replica) (round_later n t name replica h) h).sent in
@@ -146,6 +144,6 @@ front_later n [] rest h = tt
 front_later n (step ∷ taken) rest h = (h.0, front_later n taken rest h.1)
 
 -- the first of the steps that complete a call leave earlier flights their copies
-pub keeps_earlier : (s : System) (name : ℕ) (taken rest : List Step) → Settles name s (taken ++ rest) → KeepsEarlier s (after_from s taken)
+pub keeps_earlier : (s : System) (name : ℕ) (taken rest : List Step) → AreSettleSteps name s (taken ++ rest) → KeepsEarlier s (after_from s taken)
 keeps_earlier s name taken rest settles =
     (keeps_after s.pool.sent s taken (front_later s.pool.sent taken rest (all_later s.pool.sent name s (taken ++ rest) settles (omega arith))) (omega arith)).copies

@@ -12,30 +12,27 @@ use Rattle.world_steps.specs.Systems.{send}
 use Rattle.world_steps.specs.declared.step.Step.{Step}
 use Rattle.world_steps.specs.declared.step.Step.TheVariants as step
 use Rattle.world_steps.specs.declared.system.System.{System}
-use Rattle.world_steps.specs.Passed.{passed, client_there, request_there}
-use Rattle.world_settle.specs.Settling.{Settles, candidates, counted_at, round}
-use Rattle.world_settle.specs.Settling.Settles.{answers, asks}
+use Rattle.world_steps.proofs.Passed.{send_passed}
+use Rattle.world_settle.specs.Settling.{AreSettleSteps, candidates, counted_at, round}
+use Rattle.world_settle.specs.Settling.AreSettleSteps.{answers, asks}
 use Rattle.world_settle.specs.Refusing.{MaySettle, Needs, NeedsAt}
-use Rattle.world_settle.specs.SettleAnswers.{Completes, IsWithin, KeepsEarlier, SettlesBy, Takes, TakesAll, TakesSome}
+use Rattle.world_settle.specs.SettleAnswers.{Completes, IsWithin, KeepsEarlier, SettlesBy, TakesSteps, TakesAll, TakesSome}
 use Rattle.world_settle.specs.declared.errors.SettleError.{SettleError}
 use Rattle.world_settle.specs.declared.errors.SettleError.TheVariants as error
-use Rattle.world_settle.specs.Counts.{few_candidates, least_within}
+use Rattle.world_settle.proofs.LeastCounts.{few_candidates, least_within}
 use Rattle.world_settle.proofs.Earlier.{keeps_earlier}
 use Rattle.world_settle.proofs.Plans.{Plan, StepsKeepSound, plan_of, ready_or_asking, steps_once, within_of}
-use Rattle.world_settle.proofs.Rounds.{next_moved, sent_by}
+use Rattle.world_steps.proofs.Onward.{after_append}
+use Rattle.world_steps.proofs.StepAnswers.{next_moved}
+use Rattle.world_settle.proofs.Rounds.{sent_by}
 
 -- ---- a round
 
 -- a request that isn't refused takes the next number
 pub sent_next : (s : System) (name replica : ℕ) → refusal_of s (step.Send name replica) ≡ None → (next s (step.Send name replica)).pool.sent ≡ s.pool.sent + 1
 sent_next s name replica none =
-    let first = passed _ _ _ none in
-    let second = passed _ _ _ first.1 in
-    let third = passed _ _ _ second.1 in
-    let fourth = passed _ _ _ third.1 in
-    let (client, is) = client_there s name second.0 in
-    let (request, sends) = request_there s name client is fourth.0 in
-    ap (λ (t : System). t.pool.sent) (next_moved s (step.Send name replica) none ∙ ap (send s replica) is ∙ sent_by s replica client.rules client.state request sends)
+    let (client, request, is, sends, room) = send_passed s name replica none in
+    ap (λ (t : System). t.pool.sent) (next_moved s (step.Send name replica) none ∙ ap (send s replica) is ∙ sent_by s replica client request sends)
 
 pub stopped_second : (s t u : System) (name replica count k : ℕ) (why : SettleError) → t ≡ next s (step.Send name replica) → k ≡ count + 1 → why ≡ error.Memory k → u ≡ t
     → TakesSome s (round s name replica) count why u
@@ -51,7 +48,7 @@ stopped_second s t u name replica count k why first counted is same = record {
 pub ended_third : (s t u v : System) (name replica count k j reply : ℕ) (result : Result ℕ SettleError) → t ≡ next s (step.Send name replica) → k ≡ count + 1
     → u ≡ next t (step.Deliver s.pool.sent) → j ≡ k + 1 → reply ≡ s.pool.sent + 1
     → IfOk result (λ after. after ≡ j + 1) → OnOk result (v ≡ next u (step.Deliver reply)) → IfErr result (λ why. why ≡ error.Memory j) → OnErr result (v ≡ u)
-    → Takes s (round s name replica) count result v
+    → TakesSteps s (round s name replica) count result v
 ended_third s t u v name replica count k j reply (Ok after) first one second two third counted is memory same =
     let before : u ≡ next (next s (step.Send name replica)) (step.Deliver s.pool.sent) = second ∙ ap (λ x. next x (step.Deliver s.pool.sent)) first in
     record { counted = omega (arith, one, two, counted); after_all = is ∙ ap (λ n. next u (step.Deliver n)) third ∙ ap (λ x. next x (step.Deliver (s.pool.sent + 1))) before }
@@ -70,10 +67,10 @@ ended_third s t u v name replica count k j reply (Err why) first one second two 
 pub record Going (old : System) (name : ℕ) (current : System) (count : ℕ) : Type 0 where
   pub taken : List Step
   pub rest : List Step
-  pub settles : Settles name old (taken ++ rest)
+  pub settles : AreSettleSteps name old (taken ++ rest)
   pub there : current ≡ after_from old taken
   pub counted : count ≡ length taken
-  pub onward : Settles name current rest
+  pub onward : AreSettleSteps name current rest
   pub accepted : AreAccepted current rest
   pub sound : IsSound current
   pub few : length taken + length rest ≤ 91
@@ -106,10 +103,6 @@ going_none keeps s name sound may =
     let most = needs_few s name may.room.asked may.room.kept sound.sound.lawful may.room.needs in
     record { taken = []; rest = plan.steps; settles = plan.settles; there = refl; counted = refl; onward = plan.settles; accepted = plan.taken; sound = sound; few = omega (arith, few, most) }
 
-after_append : (s : System) (xs ys : List Step) → after_from s (xs ++ ys) ≡ after_from (after_from s xs) ys
-after_append s [] ys = refl
-after_append s (x ∷ xs) ys = after_append (next s x) xs ys
-
 some_first : (xs ys : List Step) → xs ≢ [] → xs ++ ys ≢ []
 some_first [] ys some e = absurd (some refl)
 some_first (x ∷ xs) ys some e = absurd cc
@@ -118,20 +111,20 @@ some_first (x ∷ xs) ys some e = absurd cc
 pub record Ahead (s : System) (name : ℕ) (rest : List Step) (replica : ℕ) : Type 0 where
   pub steps : List Step
   pub splits : rest ≡ round s name replica ++ steps
-  pub onward : Settles name (after_from s (round s name replica)) steps
+  pub onward : AreSettleSteps name (after_from s (round s name replica)) steps
 
-pub ahead : (name : ℕ) (s : System) (rest : List Step) (replica : ℕ) (others : List ℕ) → Settles name s rest → has_request (phase_at s name) ≡ true → candidates s (counted_at s name) ≡ replica ∷ others → Ahead s name rest replica
+pub ahead : (name : ℕ) (s : System) (rest : List Step) (replica : ℕ) (others : List ℕ) → AreSettleSteps name s rest → has_request (phase_at s name) ≡ true → candidates s (counted_at s name) ≡ replica ∷ others → Ahead s name rest replica
 ahead name s rest replica others (answers t r) h e = absurd (ready_or_asking (phase_at s name) r h)
 ahead name s rest replica others (asks t first others' steps requests found more) h e =
     let same : first ≡ replica = cc in
     record {
       steps = steps;
       splits = ap (λ n. round s name n ++ steps) same;
-      onward = subst (λ n. Settles name (after_from s (round s name n)) steps) same more;
+      onward = subst (λ n. AreSettleSteps name (after_from s (round s name n)) steps) same more;
     }
 
 -- where no candidate is asked, the response is left
-last_one : (name : ℕ) (s : System) (rest : List Step) → Settles name s rest
+last_one : (name : ℕ) (s : System) (rest : List Step) → AreSettleSteps name s rest
     → ((replica : ℕ) (others : List ℕ) → has_request (phase_at s name) ≡ true → candidates s (counted_at s name) ≡ replica ∷ others → ⊥) → rest ≡ step.Respond name ∷ []
 last_one name s rest (answers t r) none = refl
 last_one name s rest (asks t first others steps requests found more) none = absurd (none first others requests found)
@@ -150,9 +143,9 @@ module _ (old : System) (name : ℕ) (current : System) (count : ℕ) (going : G
     pub going_few : count < 900
     going_few = let few = going.few in let counted = going.counted in omega (arith, few, counted)
 
-    all_steps : (first : List Step) (second : List Step) → first ++ second ≡ round current name replica → Settles name old ((going.taken ++ first) ++ (second ++ next_round.steps))
+    all_steps : (first : List Step) (second : List Step) → first ++ second ≡ round current name replica → AreSettleSteps name old ((going.taken ++ first) ++ (second ++ next_round.steps))
     all_steps first second e =
-        subst (Settles name old)
+        subst (AreSettleSteps name old)
         (ap (λ xs. going.taken ++ xs) (next_round.splits ∙ ap (λ xs. xs ++ next_round.steps) (sym e) ∙ append_assoc first second next_round.steps) ∙ sym (append_assoc going.taken first (second ++ next_round.steps)))
         going.settles
 
@@ -175,7 +168,7 @@ module _ (old : System) (name : ℕ) (current : System) (count : ℕ) (going : G
           settles = all_steps (round current name replica) [] (append-nil (round current name replica));
           there = takes.after_all ∙ after_first (round current name replica);
           counted = omega (arith, counted, added, long);
-          onward = subst (λ s. Settles name s steps) (sym takes.after_all) next_round.onward;
+          onward = subst (λ s. AreSettleSteps name s steps) (sym takes.after_all) next_round.onward;
           accepted = subst (λ s. AreAccepted s steps) (sym takes.after_all) h.1.1.1;
           sound = sound;
           few = omega (arith, few, long, split);
@@ -204,8 +197,8 @@ module _ (old : System) (name : ℕ) (current : System) (count : ℕ) (going : G
     pub last_taken : refusal_of current (step.Respond name) ≡ None
     last_taken = (subst (AreAccepted current) last_is going.accepted).0
 
-    last_settles : Settles name old (going.taken ++ step.Respond name ∷ [])
-    last_settles = subst (λ xs. Settles name old (going.taken ++ xs)) last_is going.settles
+    last_settles : AreSettleSteps name old (going.taken ++ step.Respond name ∷ [])
+    last_settles = subst (λ xs. AreSettleSteps name old (going.taken ++ xs)) last_is going.settles
 
     pub going_ended : (result : Result ℕ SettleError) (new : System) → MaySettle old name → IfOk result (λ after. after ≡ count + 1) → OnOk result (new ≡ next current (step.Respond name))
         → IfErr result (λ why. why ≡ error.Memory count) → OnErr result (new ≡ current) → SettlesBy old name result new
@@ -233,7 +226,7 @@ module _ (old : System) (name : ℕ) (current : System) (count : ℕ) (going : G
 -- ---- what is answered, and what it leaves
 pub settled_earlier : (old : System) (name : ℕ) (result : Result ℕ SettleError) (new : System) → SettlesBy old name result new → KeepsEarlier old new
 settled_earlier old name (Ok count) new h =
-    subst (KeepsEarlier old) (sym h.after) (keeps_earlier old name h.steps [] (subst (Settles name old) (sym (append-nil h.steps)) h.settles))
+    subst (KeepsEarlier old) (sym h.after) (keeps_earlier old name h.steps [] (subst (AreSettleSteps name old) (sym (append-nil h.steps)) h.settles))
 settled_earlier old name (Err (error.Memory count)) new h = subst (KeepsEarlier old) (sym h.after) (keeps_earlier old name h.taken h.rest h.settles)
 settled_earlier old name (Err error.NoMajority) new h = subst (KeepsEarlier old) (sym h.1) (λ flight less. refl)
 settled_earlier old name (Err error.NotPending) new h = subst (KeepsEarlier old) (sym h.1) (λ flight less. refl)

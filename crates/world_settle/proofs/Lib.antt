@@ -1,4 +1,3 @@
-pub mod Lookups
 pub mod CandidateLemmas
 pub mod Counting
 pub mod Standing
@@ -9,3 +8,4 @@ pub mod Earlier
 pub mod Plans
 pub mod Forward
 pub mod Bounds
+pub mod LeastCounts

@@ -1,5 +1,5 @@
 -- The steps that complete a pending call: there are some, and no others.
-use Rattle.std.proofs.Common.{◌≡◌, ℕ, zero, suc, ◌+◌, ◌*◌, ◌≤◌, true, false, not, is_none, length, List, [], ◌∷◌, ◌++◌, Option, None, Some, option_map, slice_get, refl, sym, ◌∙◌, ap, subst, inl, inr, arith}
+use Rattle.std.proofs.Common.{◌≡◌, ℕ, zero, suc, ◌+◌, ◌*◌, ◌≤◌, true, false, not, is_none, length, List, [], ◌∷◌, ◌++◌, Option, None, Some, option_map, slice_get, refl, sym, ◌∙◌, ap, subst, arith}
 use Rattle.std.specs.Prelude.{option_and_then}
 use Rattle.std.specs.FinMap as map
 use Rattle.std.specs.FinSet as finite
@@ -37,17 +37,19 @@ use Rattle.world_steps.specs.declared.refusal.Refusal.TheVariants as refusal
 use Rattle.world_steps.specs.declared.step.Step.{Step}
 use Rattle.world_steps.specs.declared.step.Step.TheVariants as step
 use Rattle.world_steps.specs.declared.system.System.{System}
-use Rattle.world_steps.specs.Callers.{caller_found}
-use Rattle.world_settle.proofs.Lookups.{slice_cases}
-use Rattle.world_steps.specs.Passed.{phase_is}
-use Rattle.world_settle.specs.Settling.{Settles, candidates, counted_at, is_up, round}
-use Rattle.world_settle.specs.Settling.Settles.{answers, asks}
+use Rattle.world_steps.proofs.Callers.{caller_found}
+use Rattle.network.proofs.Lookups.{get_same}
+use Rattle.world_steps.proofs.ReplicaSound.{read_alike}
+use Rattle.world_steps.proofs.StepAnswers.{next_moved}
+use Rattle.world_steps.proofs.Passed.{phase_is}
+use Rattle.world_settle.specs.Settling.{AreSettleSteps, candidates, counted_at, is_up, round}
+use Rattle.world_settle.specs.Settling.AreSettleSteps.{answers, asks}
 use Rattle.world_settle.specs.Refusing.{MaySettle, Needs, NeedsAt, pending_at}
 use Rattle.world_settle.specs.SettleAnswers.{Completes, IsWithin}
 use Rattle.world_settle.proofs.CandidateLemmas.{Candidate, candidate_first}
-use Rattle.world_settle.specs.Counts.{needs_once, some_candidate}
+use Rattle.world_settle.proofs.LeastCounts.{needs_once, some_candidate}
 use Rattle.world_settle.proofs.Replies.{Fewer, fewer_asked, fewer_kept, heard_pending, not_ask, not_put}
-use Rattle.world_settle.proofs.Rounds.{MayRound, get_same, handled_nodes, next_moved, pass, round_is, round_taken, asking_or_putting, third_system}
+use Rattle.world_settle.proofs.Rounds.{MayRound, handled_nodes, pass, round_is, round_taken, asking_or_putting, third_system}
 
 -- from a sound system steps lead to a sound one, as the law of the steps says
 abbrev pub StepsKeepSound : Type 0
@@ -56,7 +58,7 @@ StepsKeepSound = (s : System) (steps : List Step) → IsSound s → IsSound (aft
 -- steps that complete the call, none of which is refused
 pub record Plan (s : System) (name a b : ℕ) : Type 0 where
   pub steps : List Step
-  pub settles : Settles name s steps
+  pub settles : AreSettleSteps name s steps
   pub taken : AreAccepted s steps
   pub few : length steps ≤ 3 * (a + b) + 1
   pub completes : Completes s name (after_from s steps)
@@ -102,7 +104,7 @@ joined s t name a b c d replica others is first requests found same fewer plan =
     let done = plan.completes in
     record {
       steps = round s name replica ++ plan.steps;
-      settles = asks s replica others plan.steps requests found (subst (λ u. Settles name u plan.steps) (sym is) plan.settles);
+      settles = asks s replica others plan.steps requests found (subst (λ u. AreSettleSteps name u plan.steps) (sym is) plan.settles);
       taken = (first.0, (first.1.0, (first.1.1.0, subst (λ u. AreAccepted u plan.steps) (sym is) plan.taken)));
       few = omega (arith, few, fewer);
       completes = record {
@@ -129,10 +131,7 @@ made_by s sound name call w = caller_found s.history.rows sound.sound.recorded c
 pub up_after : (s : System) (replica : ℕ) (request : Request) (node : Node) → slice_get s.nodes replica ≡ Some node
     → (m : ℕ) → option_map_or (λ (n : Node). n.is_up) (slice_get (handled_nodes s replica request node) m) false ≡ is_up s m
 up_after s replica request node is m =
-    elim (slice_cases s.nodes replica node (record node { replica = replica_after node.replica request }) m is) [
-      | inl here ↦ ap (λ o. option_map_or (λ (n : Node). n.is_up) o false) here.1 ∙ sym (ap (is_up s) here.0 ∙ ap (λ o. option_map_or (λ (n : Node). n.is_up) o false) is)
-      | inr there ↦ ap (λ o. option_map_or (λ (n : Node). n.is_up) o false) there.1
-    ]
+    read_alike (λ o. option_map_or (λ (n : Node). n.is_up) o false) s.nodes replica node (record node { replica = replica_after node.replica request }) is refl m
 
 -- the plans for systems that need fewer replicas
 abbrev Further : System → ℕ → ℕ → ℕ → Type 0
@@ -222,11 +221,11 @@ ready_or_asking (Some phase.Put) r h = cc
 ready_or_asking (Some phase.Ready) r h = cc
 ready_or_asking (Some phase.Stopped) r h = cc
 
-pub steps_once : (name : ℕ) (s : System) (steps other : List Step) → Settles name s steps → Settles name s other → steps ≡ other
+pub steps_once : (name : ℕ) (s : System) (steps other : List Step) → AreSettleSteps name s steps → AreSettleSteps name s other → steps ≡ other
 steps_once name s steps other (answers t r) (answers u q) = refl
 steps_once name s steps other (answers t r) (asks u replica others rest h e more) = absurd (ready_or_asking (phase_at s name) r h)
 steps_once name s steps other (asks t replica others rest h e more) (answers u r) = absurd (ready_or_asking (phase_at s name) r h)
 steps_once name s steps other (asks t replica others rest h e more) (asks u replica' others' rest' h' e' more') =
     let same : replica ≡ replica' = cc in
-    let tails : rest ≡ rest' = steps_once name (after_from s (round s name replica)) rest rest' more (subst (λ n. Settles name (after_from s (round s name n)) rest') (sym same) more') in
+    let tails : rest ≡ rest' = steps_once name (after_from s (round s name replica)) rest rest' more (subst (λ n. AreSettleSteps name (after_from s (round s name n)) rest') (sym same) more') in
     ap (λ n. round s name n ++ rest) same ∙ ap (λ xs. round s name replica' ++ xs) tails

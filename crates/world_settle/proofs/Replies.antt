@@ -26,7 +26,7 @@ use Rattle.world_steps.specs.declared.system.System.{System}
 use Rattle.world_settle.specs.Settling.{candidates}
 use Rattle.world_settle.specs.Refusing.{IsLeastCount, Needs}
 use Rattle.world_settle.proofs.CandidateLemmas.{Candidate, SameUp, candidates_rest, candidates_same}
-use Rattle.world_settle.specs.Counts.{fewer_needed}
+use Rattle.world_settle.proofs.LeastCounts.{fewer_needed}
 
 -- ---- a reply from a replica that isn't counted counts
 counts_now : (rules : Rules) (call : Call) (counted : Replicas) (replica : ℕ) → finite.contains counted replica ≡ false → replica < length rules.quorums.votes → counts rules call counted call.op replica ≡ true

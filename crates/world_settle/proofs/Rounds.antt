@@ -1,14 +1,10 @@
 -- A round: its three steps, none of which is refused, and the system that they leave.
-use Rattle.std.proofs.Common.{◌≡◌, ◌≢◌, ℕ, ◌+◌, ◌≤◌, Bool, true, false, cond, not, is_none, is_some, length, slice_set, List, Option, None, Some, option_map, slice_get, refl, sym, ◌∙◌, ap, subst, inl, inr, arith}
-use Rattle.std.proofs.lemmas.Bool.{lt-leb, ne_eqb}
+use Rattle.std.proofs.Common.{◌≡◌, ℕ, ◌+◌, ◌≤◌, Bool, true, false, cond, not, is_none, length, slice_set, List, Option, None, Some, option_map, slice_get, refl, sym, ◌∙◌, ap, subst, arith}
+use Rattle.std.proofs.lemmas.Bool.{lt-leb}
 use Rattle.std.proofs.lemmas.Option.{slice_get_within}
-use Rattle.std.specs.Cmp.{nat_cmp_total, unsigned_tied}
 use Rattle.std.specs.FinMap as finite
-use Rattle.std.specs.Ordering.{nat_cmp}
 use Rattle.replica.specs.Replicas.{replica_after, reply_of}
 use Rattle.replica.specs.declared.requests.Request.{Request}
-use Rattle.client_phases.specs.Asking.{query_of}
-use Rattle.client_phases.specs.Calls.{put_of}
 use Rattle.client_phases.specs.Clients.{client_after, phase_of, request_of, reply_result}
 use Rattle.client_phases.specs.declared.clients.Client.{Client}
 use Rattle.client_phases.specs.declared.rules.Rules.{Rules}
@@ -23,62 +19,34 @@ use Rattle.world_steps.specs.Clients.{with_client}
 use Rattle.world_steps.specs.Moves.{IsClient}
 use Rattle.world_steps.specs.Refusals.{refusal_of, arrival_refusals, first_of, phase_at, is_stopped, has_request, is_down, no_such_client, no_such_replica, flights_full}
 use Rattle.world_steps.specs.Runs.{AreAccepted, next, after_from}
-use Rattle.world_steps.specs.Systems.{system_after, send, deliver, handle, lose, take, op_of, answered_op, with_note}
+use Rattle.world_steps.specs.Systems.{send, send_to, deliver, handle, lose, take, op_of, answered_op, with_note}
 use Rattle.world_steps.specs.declared.nodes.Node.{Node}
 use Rattle.world_steps.specs.declared.refusal.Refusal.{Refusal}
 use Rattle.world_steps.specs.declared.refusal.Refusal.TheVariants as refusal
-use Rattle.world_steps.specs.declared.step.Step.{Step}
 use Rattle.world_steps.specs.declared.step.Step.TheVariants as step
 use Rattle.world_steps.specs.declared.system.System.{System}
-use Rattle.world_settle.proofs.Lookups.{get_cases}
-use Rattle.world_steps.specs.Passed.{phase_is}
+use Rattle.network.proofs.Lookups.{get_other, get_same, removed_other}
+use Rattle.world_steps.proofs.Passed.{phase_is}
+use Rattle.world_steps.proofs.StepAnswers.{next_moved}
 use Rattle.world_settle.specs.Settling.{round}
-
--- ---- maps by number
-module _ {X : Type 0} where
-  pub get_same : (m : finite.FinMap nat_cmp X) (k : ℕ) (v : X) → finite.get (finite.insert m k v) k ≡ Some v
-  get_same m k v = elim (get_cases m k v k) [ inl here ↦ here.1 | inr there ↦ absurd (there.0 refl) ]
-
-  pub get_other : (m : finite.FinMap nat_cmp X) (k : ℕ) (v : X) (q : ℕ) → q ≢ k → finite.get (finite.insert m k v) q ≡ finite.get m q
-  get_other m k v q ne = elim (get_cases m k v q) [ inl here ↦ absurd (ne here.0) | inr there ↦ there.1 ]
-
-  pub removed_other : (m : finite.FinMap nat_cmp X) (k q : ℕ) → q ≢ k → finite.get (finite.remove m k) q ≡ finite.get m q
-  removed_other m k q ne = finite.get-remove nat_cmp_total m k q ∙ ap (λ b. cond b None (finite.get m q)) (unsigned_tied q k ∙ ne_eqb q k ne)
 
 -- ---- steps that aren't refused
 pub pass : (why : Refusal) (test : Bool) (rest : Option Refusal) → test ≡ false → rest ≡ None → cond test (Some why) rest ≡ None
 pass why true rest e r = absurd cc
 pass why false rest e r = r
 
-pub next_moved : (s : System) (step : Step) → refusal_of s step ≡ None → next s step ≡ system_after s step
-next_moved s step e = ap (λ o. cond (is_some o) s (system_after s step)) e
-
 -- ---- a client with a request
-not_stopped : (rules : Rules) (state : State) (request : Request) → request_of (record { rules = rules; state = state }) ≡ Some request → is_stopped (Some (phase_of (record { rules = rules; state = state }))) ≡ false
-not_stopped rules (Ask asking) request e = refl
-not_stopped rules (Put chosen counted) request e = refl
-not_stopped rules Idle request e = absurd cc
-not_stopped rules (Ready chosen) request e = absurd cc
-not_stopped rules Stopped request e = absurd cc
+asks_or_puts : (rules : Rules) (state : State) (request : Request) → request_of (record { rules = rules; state = state }) ≡ Some request
+    → (is_stopped (Some (phase_of (record { rules = rules; state = state }))) ≡ false) × (has_request (Some (phase_of (record { rules = rules; state = state }))) ≡ true)
+asks_or_puts rules (Ask asking) request e = (refl, refl)
+asks_or_puts rules (Put chosen counted) request e = (refl, refl)
+asks_or_puts rules Idle request e = absurd cc
+asks_or_puts rules (Ready chosen) request e = absurd cc
+asks_or_puts rules Stopped request e = absurd cc
 
-sending : (rules : Rules) (state : State) (request : Request) → request_of (record { rules = rules; state = state }) ≡ Some request → has_request (Some (phase_of (record { rules = rules; state = state }))) ≡ true
-sending rules (Ask asking) request e = refl
-sending rules (Put chosen counted) request e = refl
-sending rules Idle request e = absurd cc
-sending rules (Ready chosen) request e = absurd cc
-sending rules Stopped request e = absurd cc
-
-pub sent_by : (s : System) (replica : ℕ) (rules : Rules) (state : State) (request : Request) → request_of (record { rules = rules; state = state }) ≡ Some request
-    → send s replica (Some (record { rules = rules; state = state })) ≡ record s { pool = with_sent s.pool (ToReplica replica request) }
-sent_by s replica rules (Ask asking) request e =
-    let same : query_of asking ≡ request = cc in
-    ap (λ (q : Request). let x : System = record s { pool = with_sent s.pool (ToReplica replica q) } in x) same
-sent_by s replica rules (Put chosen counted) request e =
-    let same : put_of chosen ≡ request = cc in
-    ap (λ (q : Request). let x : System = record s { pool = with_sent s.pool (ToReplica replica q) } in x) same
-sent_by s replica rules Idle request e = absurd cc
-sent_by s replica rules (Ready chosen) request e = absurd cc
-sent_by s replica rules Stopped request e = absurd cc
+pub sent_by : (s : System) (replica : ℕ) (client : Client) (request : Request) → request_of client ≡ Some request
+    → send s replica (Some client) ≡ record s { pool = with_sent s.pool (ToReplica replica request) }
+sent_by s replica client request e = ap (send_to s replica) e
 
 -- ---- what a round finds: a client with a request, a replica that is up, who made the call, and room for two flights
 pub record MayRound (s : System) (name replica : ℕ) (client : Client) (request : Request) (node : Node) : Type 0 where
@@ -116,10 +84,10 @@ third_system s name replica client request node = record s {
 
 module _ (s : System) (name replica : ℕ) (client : Client) (request : Request) (node : Node) (may : MayRound s name replica client request node) where
   in_phase : is_stopped (phase_at s name) ≡ false
-  in_phase = ap is_stopped (phase_is s name client may.is) ∙ not_stopped client.rules client.state request may.sends
+  in_phase = ap is_stopped (phase_is s name client may.is) ∙ (asks_or_puts client.rules client.state request may.sends).0
 
   pub asking_or_putting : has_request (phase_at s name) ≡ true
-  asking_or_putting = ap has_request (phase_is s name client may.is) ∙ sending client.rules client.state request may.sends
+  asking_or_putting = ap has_request (phase_is s name client may.is) ∙ (asks_or_puts client.rules client.state request may.sends).1
 
   -- the request is sent
   send_taken : refusal_of s (step.Send name replica) ≡ None
@@ -133,7 +101,7 @@ module _ (s : System) (name replica : ℕ) (client : Client) (request : Request)
       (pass refusal.FlightsFull (flights_full s) None (lt-leb s.pool.limit s.pool.sent (omega (arith, room))) refl))))
 
   first_is : next s (step.Send name replica) ≡ first_system s replica request
-  first_is = next_moved s (step.Send name replica) send_taken ∙ ap (send s replica) may.is ∙ sent_by s replica client.rules client.state request may.sends
+  first_is = next_moved s (step.Send name replica) send_taken ∙ ap (send s replica) may.is ∙ sent_by s replica client request may.sends
 
   -- the request comes to the replica
   request_there : message_of (first_system s replica request).pool.flights s.pool.sent ≡ Some (ToReplica replica request)

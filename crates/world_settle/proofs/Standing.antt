@@ -16,7 +16,7 @@ use Rattle.client_phases.specs.declared.states.State.TheVariants.{Idle, Ask, Put
 use Rattle.world_steps.specs.declared.system.System.{System}
 use Rattle.world_steps.specs.Refusals.{phase_at}
 use Rattle.world_settle.specs.Settling.{candidates, counted_at}
-use Rattle.world_settle.specs.Refusing.{IsLeastCount, IsPending, NeedsAt}
+use Rattle.world_settle.specs.Refusing.{IsLeastCount, HasPendingCall, NeedsAt}
 
 -- so many candidates bring the set to so many votes
 abbrev pub IsLeastFor : System → ℕ → Replicas → ℕ → Type 0
@@ -24,10 +24,10 @@ IsLeastFor s votes set count = IsLeastCount (λ quorum. votes ≤ votes_of s.con
 
 -- the pending call needs so many replicas
 abbrev pub NeedsInAll : System → ℕ → ℕ → Type 0
-NeedsInAll s name count = IsPending s name × (a : ℕ) × (b : ℕ) × NeedsAt s name a b × (count ≡ a + b) × (count ≤ 30)
+NeedsInAll s name count = HasPendingCall s name × (a : ℕ) × (b : ℕ) × NeedsAt s name a b × (count ≡ a + b) × (count ≤ 30)
 
 module _ (s : System) (name : ℕ) where
-  pending : (client : Client) → map.get s.members.clients name ≡ Some client → IsSome (pending_of client) → IsPending s name
+  pending : (client : Client) → map.get s.members.clients name ≡ Some client → IsSome (pending_of client) → HasPendingCall s name
   pending client is some = subst IsSome (sym (ap (option_and_then pending_of) is)) some
 
   puts_by : (rules : Rules) (state : State) (counted : Replicas) (count : ℕ) → map.get s.members.clients name ≡ Some (record { rules = rules; state = state })

@@ -3,4 +3,3 @@ pub mod Settling
 pub mod Refusing
 pub mod SettleAnswers
 pub mod Numbers
-pub mod Counts

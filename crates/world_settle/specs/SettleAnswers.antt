@@ -13,30 +13,31 @@ use Rattle.world_steps.specs.Runs.{after_from}
 use Rattle.world_steps.specs.declared.step.Step.{Step}
 use Rattle.world_steps.specs.declared.system.System.{System}
 use Rattle.world_settle.specs.Agreeing.{RepliesAgree}
-use Rattle.world_settle.specs.Settling.{Settles}
+use Rattle.world_settle.specs.Settling.{AreSettleSteps}
 use Rattle.world_settle.specs.Refusing.{MaySettle, IsUnsettled, NeedsAt, pending_at}
 use Rattle.world_settle.specs.declared.errors.SettleError.{SettleError}
 use Rattle.world_settle.specs.declared.errors.SettleError.TheVariants as error
 
--- all the steps, so many of them
+-- all steps that complete the call were taken, so many
 pub record AllTaken (old : System) (name count : ℕ) (new : System) : Type 0 where
   pub may : MaySettle old name
   pub steps : List Step
-  pub settles : Settles name old steps
+  pub settles : AreSettleSteps name old steps
   pub counted : length steps ≡ count
   pub after : new ≡ after_from old steps
 
--- the first of the steps, so many of them, and not all
+-- the first of the steps that complete the call were taken, so many, and not all
 pub record SomeTaken (old : System) (name count : ℕ) (new : System) : Type 0 where
   pub may : MaySettle old name
   pub taken : List Step
   pub rest : List Step
-  pub settles : Settles name old (taken ++ rest)
+  pub settles : AreSettleSteps name old (taken ++ rest)
   pub some_left : rest ≢ []
   pub counted : length taken ≡ count
   pub after : new ≡ after_from old taken
 
--- what is answered, and what it leaves
+-- what `settle` answers and leaves: the count of all steps and the system after them; for memory
+-- the count of those that were taken; or a refusal, and the system as it was
 abbrev pub SettlesBy : System → ℕ → Result ℕ SettleError → System → Type 0
 SettlesBy old name (Ok count) new = AllTaken old name count new
 SettlesBy old name (Err (error.Memory count)) new = SomeTaken old name count new
@@ -44,13 +45,13 @@ SettlesBy old name (Err error.NoMajority) new = IsUnsettled old name error.NoMaj
 SettlesBy old name (Err error.NotPending) new = IsUnsettled old name error.NotPending × (new ≡ old)
 SettlesBy old name (Err error.Room) new = IsUnsettled old name error.Room × (new ≡ old)
 
--- all of these steps, after so many
+-- all of these steps are taken, after so many
 pub record TakesAll (old : System) (steps : List Step) (before after : ℕ) (new : System) : Type 0
   where
     pub counted : after ≡ before + length steps
     pub after_all : new ≡ after_from old steps
 
--- the first of these steps and not all, after so many
+-- the first of these steps are taken and not all, after so many
 pub record TakesSome (old : System) (steps : List Step) (before : ℕ) (why : SettleError)
     (new : System) : Type 0 where
   pub taken : List Step
@@ -60,10 +61,10 @@ pub record TakesSome (old : System) (steps : List Step) (before : ℕ) (why : Se
   pub counted : why ≡ error.Memory (before + length taken)
   pub after_some : new ≡ after_from old taken
 
--- the steps are taken, after so many, until an allocation is refused
-abbrev pub Takes : System → List Step → ℕ → Result ℕ SettleError → System → Type 0
-Takes old steps before (Ok after) new = TakesAll old steps before after new
-Takes old steps before (Err why) new = TakesSome old steps before why new
+-- the steps are taken, after so many, until an allocation fails
+abbrev pub TakesSteps : System → List Step → ℕ → Result ℕ SettleError → System → Type 0
+TakesSteps old steps before (Ok after) new = TakesAll old steps before after new
+TakesSteps old steps before (Err why) new = TakesSome old steps before why new
 
 -- flights that were sent earlier keep the copies that they had
 abbrev pub KeepsEarlier : System → System → Type 0

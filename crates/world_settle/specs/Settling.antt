@@ -41,10 +41,10 @@ round s name replica =
     step.Send name replica ∷ step.Deliver s.pool.sent ∷ step.Deliver (s.pool.sent + 1) ∷ []
 
 -- the steps that complete the client's pending call
-pub data Settles (name : ℕ) : System → List Step → Type 0 where
+pub data AreSettleSteps (name : ℕ) : System → List Step → Type 0 where
   answers : (s : System) → is_ready (phase_at s name) ≡ true
-      → Settles name s (step.Respond name ∷ [])
+      → AreSettleSteps name s (step.Respond name ∷ [])
   asks : (s : System) (replica : ℕ) (others : List ℕ) (steps : List Step)
       → has_request (phase_at s name) ≡ true → candidates s (counted_at s name) ≡ replica ∷ others
-      → Settles name (after_from s (round s name replica)) steps
-      → Settles name s (round s name replica ++ steps)
+      → AreSettleSteps name (after_from s (round s name replica)) steps
+      → AreSettleSteps name s (round s name replica ++ steps)

@@ -1,5 +1,6 @@
 //! The replicas that a call may ask next.
 ghost use Rattle.std.specs.Prelude.{◌≡◌, ◌≤◌, ℕ, List, [], ◌∷◌, MatchOption, true};
+ghost use Rattle.tag.specs.Limits.{replica_limit};
 ghost use Rattle.quorum.specs.Quorums.{votes_of};
 ghost use Rattle.world_steps.specs.Refusals.{has_request, phase_at};
 ghost use Rattle.world_settle.specs.Refusing.{IsLeastCount, replicas_up};
@@ -42,7 +43,7 @@ pub(crate) fn candidates_needed(world: &World, counted: ReplicaSet, votes: u8) -
     ensures least { IsLeastCount
         (λ quorum. votes ≤ votes_of world.now.config.quorums.votes quorum) counted
         (candidates world.now counted) result }
-    ensures few { result ≤ 15 }
+    ensures few { result ≤ replica_limit }
 {
     let quorums = world.config().quorums();
     let mut set = counted;
@@ -77,7 +78,7 @@ pub(crate) fn counted_at(world: &World, client: ClientId) -> ReplicaSet
     }
 }
 
-/// The replica that the client's next request goes to; none where it neither asks nor puts.
+/// The replica that the client's next request goes to; none if it neither asks nor puts.
 pub(crate) fn next_replica(world: &World, client: ClientId) -> Option<ReplicaId>
     ensures { MatchOption result
         ((replica : ℕ) (others : List ℕ) → has_request (phase_at world.now client) ≡ true

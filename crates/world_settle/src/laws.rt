@@ -8,7 +8,7 @@ ghost use Rattle.world_steps.specs.declared.system.System.{System};
 ghost use Rattle.world_settle.specs.Agreeing.{RepliesAgree};
 ghost use Rattle.world_settle.specs.Refusing.{MaySettle, NeedsAt};
 ghost use Rattle.world_settle.specs.SettleAnswers.{IsWithin};
-ghost use Rattle.world_settle.specs.Settling.{Settles};
+ghost use Rattle.world_settle.specs.Settling.{AreSettleSteps};
 
 use world_steps::laws::steps_keep_a_system_sound;
 
@@ -16,7 +16,7 @@ use world_steps::laws::steps_keep_a_system_sound;
 /// refused, and they are at most three for each replica that is needed, and one.
 pub fn a_pending_call_has_steps()
     ensures { (s : System) (name : ℕ) → IsSound s → MaySettle s name
-        → (steps : List Step) × Settles name s steps × AreAccepted s steps
+        → (steps : List Step) × AreSettleSteps name s steps × AreAccepted s steps
         × IsWithin s name (length steps) }
 {
     steps_keep_a_system_sound();
@@ -24,12 +24,12 @@ pub fn a_pending_call_has_steps()
 
 /// The steps that complete a pending call are one list.
 pub fn the_steps_are_one_list()
-    ensures { (s : System) (name : ℕ) (steps other : List Step) → Settles name s steps
-        → Settles name s other → steps ≡ other }
+    ensures { (s : System) (name : ℕ) (steps other : List Step) → AreSettleSteps name s steps
+        → AreSettleSteps name s other → steps ≡ other }
 {}
 
 /// A call needs no more replicas than the quorums have votes. With majorities of n replicas it then
-/// takes at most 6 (n / 2 + 1) + 1 steps, where all divisions round down.
+/// takes at most 6 (n / 2 + 1) + 1 steps, and all divisions round down.
 pub fn a_call_needs_few_replicas()
     ensures quorums { (s : System) (name a b : ℕ) → IsSound s → NeedsAt s name a b
         → (a ≤ s.config.quorums.ask) × (b ≤ s.config.quorums.put) }
@@ -42,7 +42,7 @@ pub fn a_call_needs_few_replicas()
 /// replica that it still asks, and one.
 pub fn a_short_read_that_agrees_takes_few_steps()
     ensures { (s : System) (name a : ℕ) (steps : List Step)
-        → IsSound s → MaySettle s name → RepliesAgree s name a → Settles name s steps
+        → IsSound s → MaySettle s name → RepliesAgree s name a → AreSettleSteps name s steps
         → length steps ≤ 3 * a + 1 }
 {
     steps_keep_a_system_sound();

@@ -1,7 +1,8 @@
 //! Whether a pending call can be completed.
 ghost use Rattle.std.specs.Prelude.{◌≡◌, ◌+◌, ◌≤◌, ℕ, MatchOption, MatchResult};
 ghost use Rattle.world_steps.specs.SoundSystems.{IsSound};
-ghost use Rattle.world_settle.specs.Refusing.{HasMajority, IsNotPending, IsPending, IsUnsettled, MaySettle, NeedsAt};
+ghost use Rattle.world_settle.specs.Refusing.{HasMajority, HasNoPendingCall, HasPendingCall};
+ghost use Rattle.world_settle.specs.Refusing.{IsUnsettled, MaySettle, NeedsAt};
 
 use crate::SettleError;
 use crate::candidates::{candidates_needed, counted_at, phase_at, replicas_up};
@@ -11,11 +12,11 @@ use tag::ClientId;
 use world_steps::World;
 
 /// How many replicas the client's pending call needs, those that are asked and those that are to
-/// keep its pair counted apart; none where no call is pending.
+/// keep its pair counted apart; none if no call is pending.
 fn replicas_needed(world: &World, client: ClientId) -> Option<u32>
     requires { HasMajority world.now }
-    ensures { MatchOption result (IsNotPending world.now client)
-        (λ count. IsPending world.now client × (a : ℕ) × (b : ℕ) × NeedsAt world.now client a b
+    ensures { MatchOption result (HasNoPendingCall world.now client)
+        (λ count. HasPendingCall world.now client × (a : ℕ) × (b : ℕ) × NeedsAt world.now client a b
         × (count ≡ a + b) × (count ≤ 30)) }
 {
     let quorums = world.config().quorums();

@@ -6,7 +6,7 @@ ghost use Rattle.world_steps.specs.SoundSystems.{IsSound};
 ghost use Rattle.world_settle.specs.Refusing.{MaySettle};
 ghost use Rattle.world_settle.specs.SettleAnswers.{Completes, IsWithin, IsWithinForMajorities};
 ghost use Rattle.world_settle.specs.SettleAnswers.{IsWithinIfAgreed, KeepsEarlier, SettlesBy};
-ghost use Rattle.world_settle.specs.SettleAnswers.{Takes};
+ghost use Rattle.world_settle.specs.SettleAnswers.{TakesSteps};
 ghost use Rattle.world_settle.specs.Settling.{round};
 
 use crate::SettleError;
@@ -41,7 +41,7 @@ fn round(
 ) -> Result<u32, SettleError>
     requires taken { AreAccepted world.old (round world.old client replica) }
     requires few { count < 900 }
-    ensures takes { Takes world.old (round world.old client replica) count result world.new }
+    ensures takes { TakesSteps world.old (round world.old client replica) count result world.new }
     ensures sound { IsSound world.new }
 {
     let request = world.pool().sent();

@@ -10,6 +10,7 @@ use Rattle.replica.specs.declared.pairs.Pair.{Pair}
 use Rattle.replica.specs.declared.replies.Reply.{Reply}
 use Rattle.replica.specs.declared.replies.Reply.TheVariants.{Held, Kept}
 use Rattle.replica.specs.declared.requests.Request.{Request}
+use Rattle.client_phases.specs.Clients.{request_of}
 use Rattle.client_phases.specs.Asking.{Asking, counts, asking_with}
 use Rattle.client_phases.specs.Calls.{Chosen, answer_from}
 use Rattle.client_phases.specs.States.{asking_outcome, putting_outcome, reply_outcome}
@@ -34,7 +35,7 @@ use Rattle.world_steps.specs.Runs.{next}
 use Rattle.world_steps.specs.Sound.{Pending, StateSound, tags_of}
 use Rattle.world_steps.specs.Sound.StateSound.{SoundAsking, SoundReady}
 use Rattle.world_steps.specs.SoundSystems.{IsSound, held_in}
-use Rattle.world_steps.specs.Systems.{answered_op, deliver, handle, invoke, system_after, next_call, op_of, respond, send, set_up, stop, take, with_note}
+use Rattle.world_steps.specs.Systems.{answered_op, deliver, handle, invoke, system_after, next_call, op_of, respond, send, send_to, set_up, stop, take, with_note}
 use Rattle.world_steps.specs.declared.nodes.Node.{Node}
 use Rattle.world_steps.specs.declared.step.Step.{Step}
 use Rattle.world_steps.specs.declared.step.Step.TheVariants as step
@@ -127,16 +128,13 @@ module _ (s : System) where
     responded_row name None is = NoRow refl
     responded_row name (Some client) is = responded_by name client.rules client.state (state_of name client is)
 
-    sent_by : (found : Option ℕ) (replica : ℕ) (rules : Rules) (state : State) → Adds found (send s replica (Some (record { rules = rules; state = state })))
-    sent_by found replica rules Idle = NoRow refl
-    sent_by found replica rules (Ask asking) = NoRow refl
-    sent_by found replica rules (Put chosen counted) = NoRow refl
-    sent_by found replica rules (Ready chosen) = NoRow refl
-    sent_by found replica rules Stopped = NoRow refl
+    sent_by : (found : Option ℕ) (replica : ℕ) (request : Option Request) → Adds found (send_to s replica request)
+    sent_by found replica (Some request) = NoRow refl
+    sent_by found replica None = NoRow refl
 
     sent_row : (found : Option ℕ) (replica : ℕ) (client : Option Client) → Adds found (send s replica client)
     sent_row found replica None = NoRow refl
-    sent_row found replica (Some client) = sent_by found replica client.rules client.state
+    sent_row found replica (Some client) = sent_by found replica (request_of client)
 
     stopped_row : (name : ℕ) (client : Option Client) → Adds (Some name) (stop s name client)
     stopped_row name None = NoRow refl

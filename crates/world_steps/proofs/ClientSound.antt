@@ -18,20 +18,20 @@ use Rattle.world_steps.specs.Sound.StateSound.{SoundIdle, SoundStopped}
 use Rattle.world_steps.specs.SoundSystems.{AreNamed, Flies, IsIn, IsSound, IsWaiting, held_in, rules_of}
 use Rattle.world_steps.specs.Systems.{join, invoke, respond, stop, next_call}
 use Rattle.world_steps.specs.declared.system.System.{System}
-use Rattle.world_steps.proofs.Lookups.{get_cases}
+use Rattle.network.proofs.Lookups.{get_cases}
 use Rattle.world_steps.proofs.Named.{named_insert, named_push}
 use Rattle.world_steps.proofs.RowLaws.{count_push}
 use Rattle.world_steps.proofs.RowSteps.{responding, invoking}
-use Rattle.world_steps.proofs.SameRows.{Turned, turning}
-use Rattle.world_steps.proofs.SameRows.Turned.{Other, This}
+use Rattle.world_steps.proofs.SameRows.{Became, becoming}
+use Rattle.world_steps.proofs.SameRows.Became.{Other, This}
 use Rattle.world_steps.proofs.Waiting.{nobody_asked}
 
 -- ---- which states clients are in, once one became another
 same_client : (a b : Client) → Some a ≡ Some b → a ≡ b
 same_client a b e = cc
 
-pub turned_insert : (clients : Clients) (name : ℕ) (new : Client) (d : ℕ) (x : State) → IsIn (finite.insert clients name new) d x → Turned (IsIn clients) name new.state d x
-turned_insert clients name new d x i =
+pub became_insert : (clients : Clients) (name : ℕ) (new : Client) (d : ℕ) (x : State) → IsIn (finite.insert clients name new) d x → Became (IsIn clients) name new.state d x
+became_insert clients name new d x i =
     elim (get_cases clients name new d) [
       | inl here ↦ This here.0 (ap (λ (c : Client). c.state) (same_client (record { rules = i.rules; state = x }) new (sym i.is ∙ here.1)))
       | inr there ↦ Other there.0 (record { rules = i.rules; is = sym there.1 ∙ i.is })
@@ -81,12 +81,12 @@ module _ (s : System) (sound : IsSound s) where
   join_sound name new =
       let client : Client = client_of name s.config.quorums s.config.reads in
       turned_system s sound (s.members.joined ++ name ∷ []) name client s.history (named_push s.members sound.named name client new) refl tt sound.calls refl
-      (turning s.config.quorums s.history.rows (held_in s.nodes) (Flies s.pool.flights) (IsIn s.members.clients) (IsIn (finite.insert s.members.clients name client)) name Idle sound.sound
+      (becoming s.config.quorums s.history.rows (held_in s.nodes) (Flies s.pool.flights) (IsIn s.members.clients) (IsIn (finite.insert s.members.clients name client)) name Idle sound.sound
       (SoundIdle (λ p op key action is.
       let was : (state : State) × IsIn s.members.clients name state = sound.sound.joined p op name key action is in
       let none : None ≡ Some (record { rules = was.1.rules; state = was.0 }) = sym new ∙ was.1.is in
       absurd cc))
-      tt (turned_insert s.members.clients name client) (there_insert s.members.clients name client))
+      tt (became_insert s.members.clients name client) (there_insert s.members.clients name client))
 
   -- ---- a client invokes a call
   invoked_sound : (name : ℕ) (key : List ℕ) (action : Action) (client : Client) → IsClient s name client → client.state ≡ Idle → call_count s.history.rows < s.history.limit
@@ -98,7 +98,7 @@ module _ (s : System) (sound : IsSound s) where
       turned_system s sound s.members.joined name new (with_row s.history (Invoke call.op name key action)) (named_insert s.members sound.named name client new is) (sound.ruled name client is) (nobody_asked s.config.quorums sound.sound.lawful) (omega (arith, counted, room)) refl
       (invoking s.config.quorums s.history.rows (held_in s.nodes) (Flies s.pool.flights) (IsIn s.members.clients) (IsIn (finite.insert s.members.clients name new)) name call sound.sound
       (record { rules = client.rules; is = is ∙ ap (λ x. Some (record { rules = client.rules; state = x })) idle })
-      refl (turned_insert s.members.clients name new) (there_insert s.members.clients name new))
+      refl (became_insert s.members.clients name new) (there_insert s.members.clients name new))
 
   pub invoke_sound : (name : ℕ) (key : List ℕ) (action : Action) (client : Client) → IsClient s name client → client.state ≡ Idle → call_count s.history.rows < s.history.limit
       → IsSound (invoke s name key action (finite.get s.members.clients name))
@@ -114,7 +114,7 @@ module _ (s : System) (sound : IsSound s) where
       turned_system s sound s.members.joined name new (with_row s.history (Respond chosen.call.op (answer_from chosen))) (named_insert s.members sound.named name _ new is) (sound.ruled name _ is) tt (omega (arith, counted, calls)) refl
       (responding s.config.quorums s.history.rows (held_in s.nodes) (Flies s.pool.flights) (IsIn s.members.clients) (IsIn (finite.insert s.members.clients name new)) name chosen sound.sound
       (record { rules = client.rules; is = is })
-      (turned_insert s.members.clients name new) (there_insert s.members.clients name new))
+      (became_insert s.members.clients name new) (there_insert s.members.clients name new))
 
   pub respond_sound : (name : ℕ) (client : Client) (chosen : Chosen) → IsClient s name client → client.state ≡ Ready chosen → IsSound (respond s name (finite.get s.members.clients name))
   respond_sound name client chosen is ready =
@@ -127,8 +127,8 @@ module _ (s : System) (sound : IsSound s) where
   stopped_sound name (Some client) is =
       let new : Client = client_after_stop client in
       turned_system s sound s.members.joined name new s.history (named_insert s.members sound.named name client new is) (sound.ruled name client is) tt sound.calls refl
-      (turning s.config.quorums s.history.rows (held_in s.nodes) (Flies s.pool.flights) (IsIn s.members.clients) (IsIn (finite.insert s.members.clients name new)) name Stopped sound.sound
-      SoundStopped tt (turned_insert s.members.clients name new) (there_insert s.members.clients name new))
+      (becoming s.config.quorums s.history.rows (held_in s.nodes) (Flies s.pool.flights) (IsIn s.members.clients) (IsIn (finite.insert s.members.clients name new)) name Stopped sound.sound
+      SoundStopped tt (became_insert s.members.clients name new) (there_insert s.members.clients name new))
 
   pub stop_sound : (name : ℕ) → IsSound (stop s name (finite.get s.members.clients name))
   stop_sound name = stopped_sound name (finite.get s.members.clients name) refl

@@ -12,7 +12,7 @@ use Rattle.client_phases.specs.declared.clients.Client.{Client}
 use Rattle.client_phases.specs.declared.rules.Rules.{Rules}
 use Rattle.client_phases.specs.declared.states.State.{State}
 use Rattle.client_phases.specs.declared.states.State.TheVariants.{Idle, Ready}
-use Rattle.network.specs.Flights.{copies_of, message_of}
+use Rattle.network.specs.Flights.{copies_of, copy_limit, message_of}
 use Rattle.network.specs.declared.flights.Flight.{Flight}
 use Rattle.network.specs.declared.messages.Message.{Message}
 use Rattle.network.specs.declared.messages.Message.TheVariants.{ToReplica, ToClient}
@@ -28,11 +28,11 @@ use Rattle.world_steps.specs.declared.step.Step.{Step}
 use Rattle.world_steps.specs.declared.step.Step.TheVariants as step
 use Rattle.world_steps.specs.declared.system.System.{System}
 use Rattle.world_steps.proofs.Answering.{response_fits}
-use Rattle.world_steps.specs.Callers.{caller_found}
+use Rattle.world_steps.proofs.Callers.{caller_found}
 use Rattle.world_steps.proofs.Following.{not_busy, response_follows, heard_notes}
 use Rattle.world_steps.proofs.Heard.{hears}
-use Rattle.world_steps.proofs.Lookups.{there_below}
-use Rattle.world_steps.specs.Passed.{passed, client_there, idle_there, ready_there, request_there, replica_there, room_for_call, room_for_flight}
+use Rattle.tag.proofs.Lists.{get_at}
+use Rattle.world_steps.proofs.Passed.{passed, client_there, invoke_passed, replica_there, respond_passed, room_for_flight, send_passed}
 
 -- the message of a flight flies
 pub flies : (s : System) (flight : ℕ) (message : Message) → message_of s.pool.flights flight ≡ Some message → Flies s.pool.flights message
@@ -60,36 +60,25 @@ module _ (s : System) (sound : IsSound s) where
 
   may_invoke : (name : ℕ) (key : List ℕ) (action : Action) → refusal_of s (step.Invoke name key action) ≡ None → MayInvoke s name
   may_invoke name key action none =
-      let first = passed _ _ _ none in
-      let second = passed _ _ _ first.1 in
-      let third = passed _ _ _ second.1 in
-      let fourth = passed _ _ _ third.1 in
-      let (client, is) = client_there s name first.0 in
-      let idle : client.state ≡ Idle = idle_there s name client is third.0 in
+      let (client, is, idle, room) = invoke_passed s name key action none in
       record {
         client = client;
         is = is;
         idle = ap (λ x. phase_of (record { rules = client.rules; state = x })) idle;
         not_busy = not_busy s.config.quorums s.history.rows (tags_of (held_in s.nodes)) name (state_sound name client is Idle idle);
-        room = room_for_call s fourth.0;
+        room = room;
       }
 
   may_send : (name replica : ℕ) → refusal_of s (step.Send name replica) ≡ None → MaySend s name
   may_send name replica none =
-      let first = passed _ _ _ none in
-      let second = passed _ _ _ first.1 in
-      let third = passed _ _ _ second.1 in
-      let fourth = passed _ _ _ third.1 in
-      let fifth = passed _ _ _ fourth.1 in
-      let (client, is) = client_there s name second.0 in
-      let (request, sends) = request_there s name client is fourth.0 in
-      record { client = client; is = is; request = request; sends = sends; room = room_for_flight s fifth.0 }
+      let (client, request, is, sends, room) = send_passed s name replica none in
+      record { client = client; is = is; request = request; sends = sends; room = room }
 
   may_handle : (number : ℕ) (request : Request) → Flies s.pool.flights (ToReplica number request) → first_of (arrival_refusals s (Some (ToReplica number request))) ≡ None → MayHandle s number request
   may_handle number request f none =
       let first = passed _ _ _ none in
       let second = passed _ _ _ first.1 in
-      let (node, is) = there_below s.nodes number (sound.to_replicas number request f) in
+      let (node, is) = get_at s.nodes number (sound.to_replicas number request f) in
       let (key, call) = begun s.history.rows (tags_of (held_in s.nodes)) number request (sound.sound.messages (ToReplica number request) f) in
       record {
         node = node;
@@ -124,11 +113,7 @@ module _ (s : System) (sound : IsSound s) where
 
   may_respond : (name : ℕ) → refusal_of s (step.Respond name) ≡ None → MayRespond s name
   may_respond name none =
-      let first = passed _ _ _ none in
-      let second = passed _ _ _ first.1 in
-      let third = passed _ _ _ second.1 in
-      let (client, is) = client_there s name first.0 in
-      let (chosen, ready) = ready_there s name client is third.0 in
+      let (client, chosen, is, ready) = respond_passed s name none in
       record {
         client = client;
         is = is;
@@ -151,7 +136,7 @@ may_repeat s flight none =
     let second = passed _ _ _ first.1 in
     record {
       is_there = λ e. absurd (let t : true ≡ false = sym (ap is_none e) ∙ first.0 in cc);
-      not_full = λ e. absurd (eqb-false (copies_of s.pool.flights flight) 1000 second.0 e);
+      not_full = λ e. absurd (eqb-false (copies_of s.pool.flights flight) copy_limit second.0 e);
     }
 
 pub may_move : (s : System) (step : Step) → IsSound s → refusal_of s step ≡ None → MayMove s step

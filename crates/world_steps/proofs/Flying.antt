@@ -6,7 +6,7 @@ use Rattle.network.specs.Pools.{Pool, with_sent, with_one_less, with_one_more}
 use Rattle.network.specs.declared.flights.Flight.{Flight}
 use Rattle.network.specs.declared.messages.Message.{Message}
 use Rattle.world_steps.specs.SoundSystems.{Flies}
-use Rattle.world_steps.proofs.Lookups.{get_cases, get_removed}
+use Rattle.network.proofs.Lookups.{get_cases, removed}
 
 same_message : (m n : Message) (i j : ℕ) → ◌≡◌ {A = Option Flight} (Some (record { message = m; copies = i })) (Some (record { message = n; copies = j })) → m ≡ n
 same_message m n i j e =
@@ -34,7 +34,7 @@ copied flights number copies flight is m f =
 
 less_by : (flights : Flights) (number : ℕ) (flight : Flight) (last : Bool) → finite.get flights number ≡ Some flight
     → (m : Message) → Flies (cond last (finite.remove flights number) (with_copies flights number flight.message (flight.copies - 1))) m → Flies flights m
-less_by flights number flight true is m f = record { number = f.number; copies = f.copies; is = get_removed flights number f.number (record { message = m; copies = f.copies }) f.is }
+less_by flights number flight true is m f = record { number = f.number; copies = f.copies; is = (removed flights number f.number (record { message = m; copies = f.copies }) f.is).1 }
 less_by flights number flight false is m f = copied flights number (flight.copies - 1) flight is m f
 
 less_found : (flights : Flights) (number : ℕ) (found : Option Flight) → finite.get flights number ≡ found → (m : Message) → Flies (one_less flights number found) m → Flies flights m

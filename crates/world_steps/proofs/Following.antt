@@ -20,7 +20,7 @@ use Rattle.client_phases.specs.declared.outcomes.Taken.TheVariants as outcome
 use Rattle.client_phases.specs.declared.rules.Rules.{Rules}
 use Rattle.client_phases.specs.declared.states.State.{State}
 use Rattle.client_phases.specs.declared.states.State.TheVariants.{Idle, Ask, Put, Ready, Stopped}
-use Rattle.recorder.specs.Histories.{Fits, IsBusy, IsPendingCall, MayFollow}
+use Rattle.recorder.specs.Histories.{FitsAction, IsBusy, IsPendingCall, MayFollow}
 use Rattle.recorder.specs.declared.row.Row.{Row}
 use Rattle.recorder.specs.declared.row.Row.TheVariants.{Invoke, Note, Respond}
 use Rattle.world_steps.specs.Moves.{MayNote}
@@ -28,14 +28,14 @@ use Rattle.world_steps.specs.Sound.{Completed, Pending, StateSound, Tags}
 use Rattle.world_steps.specs.Sound.StateSound.{SoundIdle, SoundAsking, SoundReady}
 use Rattle.world_steps.specs.Systems.{answered_op}
 use Rattle.world_steps.specs.declared.system.System.{System}
-use Rattle.world_steps.proofs.Replies.{both_true}
-use Rattle.world_steps.proofs.RowLaws.{same_op}
-use Rattle.world_steps.proofs.Lookups.{place_of, contained}
+use Rattle.tag.proofs.Lists.{Contains-slice_get, place_of}
+use Rattle.tag.proofs.SameTags.{same_op}
+use Rattle.std.proofs.lemmas.Bool.{and_parts}
 
 pub pending_call : (R : List Row) (c : ℕ) (call : Call) → Pending R c call → IsPendingCall R call.op c call.action
 pending_call R c call w = record {
   key = call.key;
-  invoked = contained R w.place (Invoke call.op c call.key call.action) w.is;
+  invoked = Contains-slice_get R w.place (Invoke call.op c call.key call.action) w.is;
   unanswered = λ (returned, h). let at = place_of R (Respond call.op returned) h in w.unanswered at.0 returned at.1;
 }
 
@@ -44,14 +44,14 @@ pub not_busy : (quorums : Quorums) (R : List Row) (tags : Tags) (c : ℕ) → St
 not_busy quorums R tags c (SoundIdle done) (op, action, call) =
     let begun = place_of R (Invoke op c call.key action) call.invoked in
     let end : Completed R op = done begun.0 op call.key action begun.1 in
-    call.unanswered (end.returned, contained R end.place (Respond op end.returned) end.is)
+    call.unanswered (end.returned, Contains-slice_get R end.place (Respond op end.returned) end.is)
 
 -- a call that is still asking may be noted
 pub note_follows : (quorums : Quorums) (R : List Row) (tags : Tags) (c : ℕ) (asking : Asking) → StateSound quorums R tags c (Ask asking) → (tag : Tag) → MayFollow R (Note asking.call.op tag)
 note_follows quorums R tags c asking (SoundAsking w quiet g h) tag =
     ((c, asking.call.action, pending_call R c asking.call w), λ (other, has). let at = place_of R (Note asking.call.op other) has in quiet at.0 other at.1)
 
-answer_fits : (op : OpId) (key : List ℕ) (action : Action) (pair : Pair) → Fits action (answer_from (record { call = record { op = op; key = key; action = action }; pair = pair }))
+answer_fits : (op : OpId) (key : List ℕ) (action : Action) (pair : Pair) → FitsAction action (answer_from (record { call = record { op = op; key = key; action = action }; pair = pair }))
 answer_fits op key Read pair = tt
 answer_fits op key (Write value) pair = tt
 
@@ -70,7 +70,7 @@ noted_after s op follows outcome.Ready = tt
 
 -- a reply that counts names the pending call
 pub counts_op : (rules : Rules) (call : Call) (counted : Replicas) (op : OpId) (replica : ℕ) → counts rules call counted op replica ≡ true → op ≡ call.op
-counts_op rules call counted op replica e = same_op op call.op (eqb-true op.0 call.op.0 (both_true (nat_eq op.0 call.op.0) _ e).0)
+counts_op rules call counted op replica e = same_op op call.op (eqb-true op.0 call.op.0 (and_parts (nat_eq op.0 call.op.0) _ e).0)
 
 asked_notes : (s : System) (rules : Rules) (asking : Asking) (op : OpId) (replica : ℕ) (pair : Pair) (b : Bool) → counts rules asking.call asking.counted op replica ≡ b
     → ((tag : Tag) → MayFollow s.history.rows (Note asking.call.op tag)) → MayNote s op (cond {A = State × Taken} b (asking_outcome rules (asking_with asking replica pair)) (Ask asking, Stale)).1

@@ -13,7 +13,7 @@ use Rattle.replica.specs.declared.pairs.Pair.{Pair}
 use Rattle.network.specs.declared.messages.Message.{Message}
 use Rattle.client_phases.specs.declared.calls.Call.{Call}
 use Rattle.client_phases.specs.declared.states.State.{State}
-use Rattle.world_steps.specs.Sound.{Tags, tags_of, At, IsAtMost, Invoked, Noted, Completed, IsGood, Answered, MessageSound, AllHold, Pending, QuorumHolds, StateSound, Told, QuorumTells}
+use Rattle.world_steps.specs.Sound.{Tags, At, IsNoGreater, Invoked, Noted, Completed, IsGood, Answered, MessageSound, AllHold, Pending, QuorumHolds, StateSound, Told, QuorumTells, WasWritten}
 use Rattle.world_steps.specs.Sound.IsGood.{Unwritten, Wrote}
 use Rattle.world_steps.specs.Sound.MessageSound.{SoundQuery, SoundPut, SoundHeld, SoundKept}
 use Rattle.world_steps.specs.Sound.StateSound.{SoundIdle, SoundAsking, SoundPutting, SoundReady, SoundStopped}
@@ -22,7 +22,7 @@ use Rattle.world_steps.proofs.RowLaws.{Extends}
 
 -- replica tags never fall
 abbrev pub Rises : Tags → Tags → Type 0
-Rises old new = (r : ℕ) (k : List ℕ) → IsAtMost (old r k) (new r k)
+Rises old new = (r : ℕ) (k : List ℕ) → IsNoGreater (old r k) (new r k)
 
 pub invoked_more : (R S : List Row) → Extends R S → (op : OpId) (k : List ℕ) → Invoked R op k → Invoked S op k
 invoked_more R S more op k i = record { place = i.place; client = i.client; action = i.action; is = more _ _ i.is }
@@ -33,10 +33,14 @@ noted_more R S more op t n = record { place = n.place; is = more _ _ n.is }
 pub completed_more : (R S : List Row) → Extends R S → (op : OpId) → Completed R op → Completed S op
 completed_more R S more op n = record { place = n.place; returned = n.returned; is = more _ _ n.is }
 
+abbrev pub written_more : (R S : List Row) → Extends R S → (key : List ℕ) (tag : Tag) → WasWritten R key tag → WasWritten S key tag
+written_more R S more key tag w =
+    record { op = w.op; client = w.client; value = w.value; place = w.place; invoked = more _ _ w.invoked; note = w.note; noted = more _ _ w.noted }
+
 pub good_more : (R S : List Row) → Extends R S → (k : List ℕ) (pair : Pair) → IsGood R k pair → IsGood S k pair
 good_more R S more k pair (Unwritten e) = Unwritten e
 good_more R S more k pair (Wrote s) =
-    Wrote (record { op = s.op; client = s.client; value = s.value; place = s.place; invoked = more _ _ s.invoked; note = s.note; noted = more _ _ s.noted; same = s.same })
+    Wrote (record { write = written_more R S more k pair.tag s.write; same = s.same })
 
 pub answered_more : (R S : List Row) → Extends R S → (op : OpId) (returned : Returned) → Answered R op returned → Answered S op returned
 answered_more R S more op returned a =
@@ -85,11 +89,11 @@ state_more quorums R S old new more up c none quiet same x SoundStopped = SoundS
 
 -- what is told was told before, with a tag no greater; or it is at least what the replica holds
 pub data Older (F : Message → Type 0) (C : ℕ → State → Type 0) (tags : Tags) (k : List ℕ) (u : OpId) (r : ℕ) (v : Tag) : Type 0 where
-  Heard : (w : Tag) → Told F C u r w → IsAtMost w v → Older F C tags k u r v
-  Present : IsAtMost (tags r k) v → Older F C tags k u r v
+  Heard : (w : Tag) → Told F C u r w → IsNoGreater w v → Older F C tags k u r v
+  Present : IsNoGreater (tags r k) v → Older F C tags k u r v
 
 pub told_older : (quorums : Quorums) (R : List Row) (tags : Tags) (F : Message → Type 0) (C : ℕ → State → Type 0) (s : ℕ) (k : List ℕ) (t : Tag) (q : QuorumTells quorums R tags F C s k t)
-    → (r p : ℕ) (u : OpId) (d : ℕ) (b : Action) (v : Tag) → finite.contains q.quorum r ≡ true → At R p (Invoke u d k b) → s < p → Older F C tags k u r v → IsAtMost t v
+    → (r p : ℕ) (u : OpId) (d : ℕ) (b : Action) (v : Tag) → finite.contains q.quorum r ≡ true → At R p (Invoke u d k b) → s < p → Older F C tags k u r v → IsNoGreater t v
 told_older quorums R tags F C s k t q r p u d b v h i l (Heard w a le) = at_most_trans t w v (q.told r p u d b w h i l a) le
 told_older quorums R tags F C s k t q r p u d b v h i l (Present le) = at_most_trans t (tags r k) v (q.hold r h) le
 

@@ -1,11 +1,12 @@
 -- What a replica's handling leaves, and how a send is taken back.
-use Rattle.std.proofs.Common.{◌≡◌, ℕ, zero, suc, ◌+◌, ◌-◌, ◌<◌, Bool, true, List, [], ◌∷◌, Option, Some, None, Result, Ok, Err, is_err, length, slice_get, slice_set, inl, inr, sym, ap, subst, ◌∙◌, arith, cond}
+use Rattle.std.proofs.Common.{◌≡◌, ℕ, ◌+◌, ◌-◌, ◌<◌, Bool, true, List, Option, Some, None, Result, Ok, Err, is_err, length, slice_get, slice_set, inl, inr, sym, ap, subst, ◌∙◌, arith, cond}
 use Rattle.std.specs.Prelude.{OnSome, OnErr, IsSome}
 use Rattle.std.proofs.lemmas.Option.{slice_get_cases}
 use Rattle.std.specs.Option.{option_map_or}
 use Rattle.std.specs.Ordering.{nat_cmp, eq_by_cmp, is_eq}
 use Rattle.std.specs.Cmp.{nat_cmp_total, tied_itself}
 use Rattle.std.specs.FinMap as finite
+use Rattle.tag.proofs.Lists.{set_same}
 use Rattle.tag.specs.declared.numbers.OpId.{OpId}
 use Rattle.replica.specs.Replicas.{replica_after}
 use Rattle.replica.specs.declared.requests.Request.{Request}
@@ -14,7 +15,7 @@ use Rattle.network.specs.Flights.{copies_of}
 use Rattle.network.specs.declared.flights.Flight.{Flight}
 use Rattle.network.specs.Pools.{IsBag, Pool, with_sent, without_last}
 use Rattle.network.specs.declared.messages.Message.{Message}
-use Rattle.network.specs.Unsending.{unsent-sent}
+use Rattle.network.proofs.Unsending.{unsent-sent}
 use Rattle.world_steps.specs.Systems.{set_up}
 use Rattle.world_steps.specs.declared.nodes.Node.{Node}
 use Rattle.world_steps.specs.declared.system.System.{System}
@@ -26,12 +27,6 @@ on_err (Err x) e h = h
 pub on_some : {T P : Type 0} (o : Option T) → IsSome o → OnSome o P → P
 on_some None e h = absurd cc
 on_some (Some x) e h = h
-
--- an element that is written where it stands changes nothing
-pub set_same : {X : Type 0} (xs : List X) (i : ℕ) (x : X) → slice_get xs i ≡ Some x → slice_set xs i x ≡ xs
-set_same [] i x e = absurd cc
-set_same (y ∷ ys) zero x e = let same : y ≡ x = cc in ap (λ z. z ∷ ys) (sym same)
-set_same (y ∷ ys) (suc i) x e = ap (λ zs. y ∷ zs) (set_same ys i x e)
 
 -- a query leaves the replicas
 pub told_same : (nodes : List Node) (number : ℕ) (node : Node) (request : Request) (op : OpId) (key : List ℕ) → request ≡ Query op key → slice_get nodes number ≡ Some node
@@ -59,11 +54,11 @@ unsent_system s after message nodes pool p n u bag =
     n u
 
 -- a replica that goes up or down
-pub turned_up : (s : System) (number : ℕ) (is_up : Bool) (nodes : List Node) → number < length s.nodes
+pub set_up_is : (s : System) (number : ℕ) (is_up : Bool) (nodes : List Node) → number < length s.nodes
     → ((node : Node) → slice_get s.nodes number ≡ Some node → nodes ≡ slice_set s.nodes number (record node { is_up = is_up }))
     → ◌≡◌ {A = System} (record s { nodes = nodes }) (set_up s number is_up (slice_get s.nodes number))
-turned_up s number is_up nodes h turned =
+set_up_is s number is_up nodes h became =
     elim (slice_get_cases s.nodes number).1 [
-      | inl w ↦ ap (λ (n : List Node). let x : System = record s { nodes = n } in x) (turned w.0 w.2) ∙ sym (ap (set_up s number is_up) w.2)
+      | inl w ↦ ap (λ (n : List Node). let x : System = record s { nodes = n } in x) (became w.0 w.2) ∙ sym (ap (set_up s number is_up) w.2)
       | inr w ↦ absurd (omega (arith, w.0))
     ]

@@ -1,7 +1,7 @@
 -- The tags of sound rows justify each part of them.
 use Rattle.std.proofs.Common.{◌≡◌, ◌≢◌, ℕ, ◌<◌, ◌⊎◌, ◌∙◌, List, Option, Some, None, sym, ap, subst, inl, inr, arith}
 use Rattle.std.specs.List.{slice_get, Contains}
-use Rattle.std.proofs.lemmas.Option.{slice_get-get_or, slice_get_within, get_or_from_slice_get}
+use Rattle.tag.proofs.Lists.{Contains-slice_get, place_of}
 use Rattle.tag.specs.Tags.{Tag, IsBelow, least}
 use Rattle.tag.specs.declared.actions.Action.TheVariants.{Write}
 use Rattle.tag.specs.declared.actions.Returned.{Returned}
@@ -15,16 +15,9 @@ use Rattle.recorder.specs.Records.{IsRecorded, IsPart}
 use Rattle.recorder.specs.Sound.{IsRead, IsWrite, IsNoted, TagSound}
 use Rattle.replica.specs.declared.pairs.Pair.{Pair}
 use Rattle.client_phases.specs.Calls.{answer_from}
-use Rattle.world_steps.specs.Sound.{At, IsAtMost, Source, IsGood, Answered, RowsSound}
+use Rattle.world_steps.specs.Sound.{At, IsNoGreater, Source, IsGood, Answered, RowsSound}
 use Rattle.world_steps.specs.Sound.IsGood.{Unwritten, Wrote}
 use Rattle.world_steps.proofs.TagLaws.{at_most_cases, not_below_itself}
-
--- what a list contains stands at a place, and what stands at one it contains
-place_of : {X : Type 0} (xs : List X) (x : X) → Contains xs x → (k : ℕ) × (slice_get xs k ≡ Some x)
-place_of xs x h = (h.0, slice_get-get_or xs h.0 x h.1 ∙ ap Some h.2)
-
-contained : {X : Type 0} (xs : List X) (k : ℕ) (x : X) → slice_get xs k ≡ Some x → Contains xs x
-contained xs k x h = (k, slice_get_within xs k x h, get_or_from_slice_get xs k x x h)
 
 order_cases : (m n : ℕ) → (m < n) ⊎ ((n < m) ⊎ (m ≡ n))
 order_cases m n = grind arith
@@ -52,7 +45,7 @@ module _ (rows : List Row) (sound : RowsSound rows) (key : List ℕ) (part : Lis
       ]
 
   -- ---- tags rise along precedence
-  rises : (a b : Call) (s t : Tag) → Precedes a b → IsNoted part a s → IsNoted part b t → IsAtMost s t × ((value : List ℕ) → b.action ≡ Write value → IsBelow s t)
+  rises : (a b : Call) (s t : Tag) → Precedes a b → IsNoted part a s → IsNoted part b t → IsNoGreater s t × ((value : List ℕ) → b.action ≡ Write value → IsBelow s t)
   rises a b s t (response, e, lt) m n =
       let p : IsRecorded rows key a = recorded_as a m.recorded in
       let q : IsRecorded rows key b = recorded_as b n.recorded in
@@ -116,7 +109,8 @@ module _ (rows : List Row) (sound : RowsSound rows) (key : List ℕ) (part : Lis
   unwritten_value : (pair : Pair) → pair.tag ≡ least → IsGood rows key pair → pair.value ≡ None
   unwritten_value pair e (Unwritten none) = ap (λ (p : Pair). p.value) none
   unwritten_value pair e (Wrote s) =
-      let h : (0 < pair.tag.number) × (pair.tag.writer ≡ s.client) = sound.own s.place s.note s.op s.client key s.value pair.tag s.invoked s.noted in
+      let w = s.write in
+      let h : (0 < pair.tag.number) × (pair.tag.writer ≡ w.client) = sound.own w.place w.note w.op w.client key w.value pair.tag w.invoked w.noted in
       let z : pair.tag.number ≡ 0 = ap (λ (t : Tag). t.number) e in
       absurd (omega (arith, h.0, z))
 
@@ -130,14 +124,15 @@ module _ (rows : List Row) (sound : RowsSound rows) (key : List ℕ) (part : Lis
 
   source_is : (pair : Pair) → Source rows key pair → WriteIs pair.tag pair.value
   source_is pair s =
-      let (write, has, place) = is.all s.place s.op s.client (Write s.value) s.invoked in
+      let w = s.write in
+      let (write, has, place) = is.all w.place w.op w.client (Write w.value) w.invoked in
       let p : IsRecorded rows key write = recorded_as write has in
-      let here : At rows s.place (Invoke write.op write.client key write.action) = subst (λ z. At rows z (Invoke write.op write.client key write.action)) place p.begun in
-      let there : At rows s.place (Invoke s.op s.client key (Write s.value)) = s.invoked in
-      let ops : s.op ≡ write.op = cc in
-      let actions : write.action ≡ Write s.value = cc in
-      let noted : Contains rows (Note write.op pair.tag) = contained rows s.note (Note write.op pair.tag) (subst (λ o. At rows s.note (Note o pair.tag)) ops s.noted) in
-      record { write = write; value = s.value; noted = record { recorded = has; noted = (p.noted pair.tag).1 noted }; writes = actions; same = s.same }
+      let here : At rows w.place (Invoke write.op write.client key write.action) = subst (λ z. At rows z (Invoke write.op write.client key write.action)) place p.begun in
+      let there : At rows w.place (Invoke w.op w.client key (Write w.value)) = w.invoked in
+      let ops : w.op ≡ write.op = cc in
+      let actions : write.action ≡ Write w.value = cc in
+      let noted : Contains rows (Note write.op pair.tag) = Contains-slice_get rows w.note (Note write.op pair.tag) (subst (λ o. At rows w.note (Note o pair.tag)) ops w.noted) in
+      record { write = write; value = w.value; noted = record { recorded = has; noted = (p.noted pair.tag).1 noted }; writes = actions; same = s.same }
 
   good_write : (pair : Pair) → pair.tag ≢ least → IsGood rows key pair → WriteIs pair.tag pair.value
   good_write pair other (Unwritten none) = absurd (other (ap (λ (p : Pair). p.tag) none))
@@ -148,7 +143,7 @@ module _ (rows : List Row) (sound : RowsSound rows) (key : List ℕ) (part : Lis
   tags_justify = record {
     noted = λ call h (response, e).
         let answer : Answered rows call.op response.returned = sound.answered response.place call.op response.returned (response_at call response h e) in
-        (answer.pair.tag, ((recorded_as call h).noted answer.pair.tag).1 (contained rows answer.note (Note call.op answer.pair.tag) answer.noted));
+        (answer.pair.tag, ((recorded_as call h).noted answer.pair.tag).1 (Contains-slice_get rows answer.note (Note call.op answer.pair.tag) answer.noted));
     rising = λ a b s t precedes m n. at_most_cases s t (rises a b s t precedes m n).0;
     rising_to_writes = λ a b s t w precedes m n. (rises a b s t precedes m n).1 w.0 w.1;
     distinct = λ a b tag v w m n. one_write a b tag v w m n;

@@ -9,7 +9,7 @@ use Rattle.replica.specs.declared.replies.Reply.{Reply}
 use Rattle.replica.specs.declared.requests.Request.{Request}
 use Rattle.replica.specs.declared.requests.Request.TheVariants.{Query, Put}
 use Rattle.client_phases.specs.Calls.{answer_from}
-use Rattle.client_phases.specs.Clients.{client_after, client_of, client_after_invoke, client_after_respond, client_after_stop, reply_result}
+use Rattle.client_phases.specs.Clients.{client_after, client_of, client_after_invoke, client_after_respond, client_after_stop, reply_result, request_of}
 use Rattle.client_phases.specs.declared.clients.Client.{Client}
 use Rattle.client_phases.specs.declared.outcomes.Taken.{Taken}
 use Rattle.client_phases.specs.declared.outcomes.Taken.TheVariants.{Stale, Counted, Noted, Agreed}
@@ -29,15 +29,15 @@ use Rattle.world_steps.specs.Configs.{Config}
 use Rattle.world_steps.specs.Lasting.{Grows, HasJoined}
 use Rattle.world_steps.specs.Refusals.{refusal_of}
 use Rattle.world_steps.specs.Runs.{after, after_from, next}
-use Rattle.world_steps.specs.Sound.{IsAtMost}
+use Rattle.world_steps.specs.Sound.{IsNoGreater}
 use Rattle.world_steps.specs.SoundSystems.{held_in}
-use Rattle.world_steps.specs.Systems.{answered_op, deliver, handle, invoke, system_after, next_call, op_of, opening, respond, send, set_up, stop, take, with_note}
+use Rattle.world_steps.specs.Systems.{answered_op, deliver, handle, invoke, system_after, next_call, op_of, opening, respond, send, send_to, set_up, stop, take, with_note}
 use Rattle.world_steps.specs.declared.nodes.Node.{Node}
 use Rattle.world_steps.specs.declared.step.Step.{Step}
 use Rattle.world_steps.specs.declared.step.Step.TheVariants as step
 use Rattle.world_steps.specs.declared.system.System.{System}
 use Rattle.world_steps.proofs.ReplicaSound.{adopted_at, held_same}
-use Rattle.world_steps.proofs.Lookups.{get_cases}
+use Rattle.network.proofs.Lookups.{get_cases}
 use Rattle.world_steps.proofs.SameRows.{adopted_rises}
 use Rattle.world_steps.proofs.TagLaws.{at_most_itself, at_most_trans, equal_at_most}
 
@@ -53,7 +53,7 @@ grouped (x ∷ xs) ys zs = ap (λ l. x ∷ l) (grouped xs ys zs)
 -- those that joined are still there, replicas hold no less, and rows came after those that were there
 record Lasts (s t : System) : Type 0 where
   joined : (name : ℕ) → HasJoined s name → HasJoined t name
-  held : (number : ℕ) (key : List ℕ) → IsAtMost (held_in s.nodes number key).tag (held_in t.nodes number key).tag
+  held : (number : ℕ) (key : List ℕ) → IsNoGreater (held_in s.nodes number key).tag (held_in t.nodes number key).tag
   rows : Grows s.history.rows t.history.rows
 
 there : (clients : Clients) (name : ℕ) (new : Client) (d : ℕ) → (client : Client) × (finite.get clients d ≡ Some client) → (client : Client) × (finite.get (finite.insert clients name new) d ≡ Some client)
@@ -71,7 +71,7 @@ lasts_both s t u a b = record {
 }
 
 module _ (s : System) where
-  level : (number : ℕ) (key : List ℕ) → IsAtMost (held_in s.nodes number key).tag (held_in s.nodes number key).tag
+  level : (number : ℕ) (key : List ℕ) → IsNoGreater (held_in s.nodes number key).tag (held_in s.nodes number key).tag
   level number key = at_most_itself (held_in s.nodes number key).tag
 
   same_rows : Grows s.history.rows s.history.rows
@@ -97,14 +97,11 @@ module _ (s : System) where
 
   sent : (replica : ℕ) (found : Option Client) → Lasts s (send s replica found)
   sent replica None = still
-  sent replica (Some client) = by_state client.rules client.state
+  sent replica (Some client) = by_request (request_of client)
     where
-      by_state : (rules : Rules) (state : State) → Lasts s (send s replica (Some (record { rules = rules; state = state })))
-      by_state rules Idle = still
-      by_state rules (Ask asking) = record { joined = λ name has. has; held = level; rows = same_rows }
-      by_state rules (Putting chosen counted) = record { joined = λ name has. has; held = level; rows = same_rows }
-      by_state rules (Ready chosen) = still
-      by_state rules Stopped = still
+      by_request : (request : Option Request) → Lasts s (send_to s replica request)
+      by_request (Some request) = record { joined = λ name has. has; held = level; rows = same_rows }
+      by_request None = still
 
   answered : (name : ℕ) (found : Option Client) → Lasts s (respond s name found)
   answered name None = still
@@ -127,7 +124,7 @@ module _ (s : System) where
 
   -- ---- steps of replicas
   same : (number : ℕ) (node new : Node) → slice_get s.nodes number ≡ Some node → new.replica.pairs ≡ node.replica.pairs
-      → (r : ℕ) (key : List ℕ) → IsAtMost (held_in s.nodes r key).tag (held_in (slice_set s.nodes number new) r key).tag
+      → (r : ℕ) (key : List ℕ) → IsNoGreater (held_in s.nodes r key).tag (held_in (slice_set s.nodes number new) r key).tag
   same number node new is pairs r key = equal_at_most _ _ (ap (λ (p : Pair). p.tag) (held_same s.nodes number node new is pairs r key))
 
   handled : (number : ℕ) (request : Request) (found : Option Node) (caller : Option ℕ) → slice_get s.nodes number ≡ found → Lasts s (handle s number request found caller)
@@ -182,7 +179,7 @@ pub joined_after : (config : Config) (steps later : List Step) (name : ℕ) → 
 joined_after config steps later = (lasts_after config steps later).joined
 
 pub held_after : (config : Config) (steps later : List Step) (number : ℕ) (key : List ℕ)
-    → IsAtMost (held_in (after config steps).nodes number key).tag (held_in (after config (steps ++ later)).nodes number key).tag
+    → IsNoGreater (held_in (after config steps).nodes number key).tag (held_in (after config (steps ++ later)).nodes number key).tag
 held_after config steps later = (lasts_after config steps later).held
 
 pub rows_after : (config : Config) (steps later : List Step) → Grows (after config steps).history.rows (after config (steps ++ later)).history.rows

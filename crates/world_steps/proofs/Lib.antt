@@ -1,5 +1,6 @@
 pub mod TagLaws
 pub mod RowLaws
+pub mod CountBelow
 pub mod Counts
 pub mod WriteCounts
 pub mod Frames
@@ -10,7 +11,6 @@ pub mod RowSteps
 pub mod Replies
 pub mod Heard
 pub mod Justified
-pub mod Lookups
 pub mod Answering
 pub mod Following
 pub mod Finding
@@ -33,3 +33,6 @@ pub mod RunningCounts
 pub mod LastingLaws
 pub mod AddingLaws
 pub mod Stopping
+pub mod Passed
+pub mod Callers
+pub mod StepAnswers

@@ -1,5 +1,7 @@
 -- One more row keeps the rows sound.
 use Rattle.std.proofs.Common.{◌≡◌, ℕ, ◌+◌, ◌<◌, ◌≤◌, List, length, sym, ◌∙◌, ap, subst, inl, inr, arith}
+use Rattle.std.proofs.lemmas.Option.{slice_get_within}
+use Rattle.tag.proofs.Lists.{push_cases}
 use Rattle.tag.specs.Tags.{Tag, IsBelow}
 use Rattle.tag.specs.declared.numbers.OpId.{OpId}
 use Rattle.tag.specs.declared.actions.Action.{Action}
@@ -8,12 +10,11 @@ use Rattle.tag.specs.declared.actions.Returned.{Returned}
 use Rattle.recorder.specs.declared.row.Row.{Row}
 use Rattle.recorder.specs.declared.row.Row.TheVariants.{Invoke, Note, Respond}
 use Rattle.recorder.specs.Histories.{call_count}
-use Rattle.world_steps.specs.Sound.{At, IsAtMost, Completed, IsFromWrite, NotNoted, Answered, RowsSound, noted_below, write_count}
-use Rattle.world_steps.proofs.RowLaws.{more, extends, before, after_push, within, count_push}
+use Rattle.world_steps.specs.Sound.{At, IsNoGreater, Completed, IsFromWrite, NotNoted, Answered, RowsSound, noted_below, write_count}
+use Rattle.world_steps.proofs.RowLaws.{more, extends, before, count_push, same_key}
 use Rattle.world_steps.proofs.Counts.{noted_below_push, noted_below_note, noted_below_wider, not_noted}
 use Rattle.world_steps.proofs.WriteCounts.{from_more, write_count_note, write_count_rises}
 use Rattle.world_steps.proofs.Frames.{answered_more}
-use Rattle.world_steps.proofs.SameRows.{same_key}
 
 -- the count of noted calls never falls
 noted_rises : (R : List Row) (x : Row) (k : ℕ) → call_count (more R x) ≡ call_count R + k → noted_below R (call_count R) ≤ noted_below (more R x) (call_count (more R x))
@@ -39,9 +40,9 @@ rows_respond R op returned rows answer =
           let found : (s : ℕ) × (r : Returned) × (s < q) × At R s (Respond o r) = rows.sequential p q o u c k l a b (invokes p o c k a i) (invokes q u c l b j) lt in
           (found.0, found.1, found.2, extends R x found.0 (Respond o found.1) found.3);
       rising = λ s p q o u c d r k a b t v m n is ip iq lt im in1.
-          elim (after_push R x s (Respond o r) is) [
+          elim (push_cases R x s (Respond o r) is) [
             | inl old ↦ rows.rising s p q o u c d r k a b t v m n old (invokes p o c k a ip) (invokes q u d k b iq) lt (notes m o t im) (notes n u v in1)
-            | inr new ↦ let w : q < length R = within R q (Invoke u d k b) (invokes q u d k b iq) in absurd (omega (arith, new.0, w, lt))
+            | inr new ↦ let w : q < length R = slice_get_within R q (Invoke u d k b) (invokes q u d k b iq) in absurd (omega (arith, new.0, w, lt))
           ];
       own = λ p n o c k value t i j. rows.own p n o c k value t (invokes p o c k (Write value) i) (notes n o t j);
       bounded = λ p o t i.
@@ -54,7 +55,7 @@ rows_respond R op returned rows answer =
           let g : write_count R k ≤ write_count (more R x) k = write_count_rises k R x 0 n in
           omega (arith, h, g);
       answered = λ s o r i.
-          elim (after_push R x s (Respond o r) i) [
+          elim (push_cases R x s (Respond o r) i) [
             | inl old ↦ answered_more R (more R x) (extends R x) o r (rows.answered s o r old)
             | inr new ↦
                 let eo : op ≡ o = cc in
@@ -76,41 +77,41 @@ rows_invoke R op c key action rows next done =
     -- a noted call was begun before
     let noted_before : (p m : ℕ) (o : OpId) (d : ℕ) (k : List ℕ) (a : Action) (t : Tag) → At (more R x) p (Invoke o d k a) → At R m (Note o t) → At R p (Invoke o d k a) =
     λ p m o d k a t i j.
-    elim (after_push R x p (Invoke o d k a) i) [
+    elim (push_cases R x p (Invoke o d k a) i) [
       | inl old ↦ old
       | inr new ↦ let e : op ≡ o = cc in absurd (other o e (rows.noted_known m o t j))
     ] in
     record {
       once = λ p q o d e k l a b i j.
-          elim (after_push R x p (Invoke o d k a) i) [
-            | inl pold ↦ elim (after_push R x q (Invoke o e l b) j) [
+          elim (push_cases R x p (Invoke o d k a) i) [
+            | inl pold ↦ elim (push_cases R x q (Invoke o e l b) j) [
               | inl qold ↦ rows.once p q o d e k l a b pold qold
               | inr qnew ↦ let z : op ≡ o = cc in absurd (other o z (rows.fresh p o d k a pold))
             ]
-            | inr pnew ↦ elim (after_push R x q (Invoke o e l b) j) [
+            | inr pnew ↦ elim (push_cases R x q (Invoke o e l b) j) [
               | inl qold ↦ let z : op ≡ o = cc in absurd (other o z (rows.fresh q o e l b qold))
               | inr qnew ↦ pnew.0 ∙ sym qnew.0
             ]
           ];
       fresh = λ p o d k a i.
-          elim (after_push R x p (Invoke o d k a) i) [
+          elim (push_cases R x p (Invoke o d k a) i) [
             | inl old ↦ let h : o.0 < call_count R = rows.fresh p o d k a old in omega (arith, h, n)
             | inr new ↦ let e : op ≡ o = cc in let z : op.0 ≡ o.0 = ap (λ (u : OpId). u.0) e in omega (arith, z, n, next)
           ];
       noted_once = λ p q o t u i j. rows.noted_once p q o t u (notes p o t i) (notes q o u j);
       noted_known = λ p o t i. let h : o.0 < call_count R = rows.noted_known p o t (notes p o t i) in omega (arith, h, n);
       sequential = λ p q o u d k l a b i j lt.
-          elim (after_push R x q (Invoke u d l b) j) [
+          elim (push_cases R x q (Invoke u d l b) j) [
             | inl qold ↦
-                let w : q < length R = within R q (Invoke u d l b) qold in
-                let pold : At R p (Invoke o d k a) = elim (after_push R x p (Invoke o d k a) i) [ inl old ↦ old | inr new ↦ absurd (omega (arith, new.0, w, lt)) ] in
+                let w : q < length R = slice_get_within R q (Invoke u d l b) qold in
+                let pold : At R p (Invoke o d k a) = elim (push_cases R x p (Invoke o d k a) i) [ inl old ↦ old | inr new ↦ absurd (omega (arith, new.0, w, lt)) ] in
                 let found : (s : ℕ) × (r : Returned) × (s < q) × At R s (Respond o r) = rows.sequential p q o u d k l a b pold qold lt in
                 (found.0, found.1, found.2, extends R x found.0 (Respond o found.1) found.3)
             | inr qnew ↦
-                let pold : At R p (Invoke o d k a) = elim (after_push R x p (Invoke o d k a) i) [ inl old ↦ old | inr new ↦ absurd (omega (arith, new.0, qnew.0, lt)) ] in
+                let pold : At R p (Invoke o d k a) = elim (push_cases R x p (Invoke o d k a) i) [ inl old ↦ old | inr new ↦ absurd (omega (arith, new.0, qnew.0, lt)) ] in
                 let e : d ≡ c = cc in
                 let found : Completed R o = done p o k a (subst (λ m. At R p (Invoke o m k a)) e pold) in
-                let w : found.place < length R = within R found.place (Respond o found.returned) found.is in
+                let w : found.place < length R = slice_get_within R found.place (Respond o found.returned) found.is in
                 (found.place, found.returned, omega (arith, w, qnew.0), extends R x found.place (Respond o found.returned) found.is)
           ];
       rising = λ s p q o u d e r k a b t v m n is ip iq lt im in1.
@@ -139,7 +140,7 @@ rows_invoke R op c key action rows next done =
 abbrev pub AboveDone : List Row → ℕ → List ℕ → Action → Tag → Type 0
 AboveDone R q k b v =
     (s p : ℕ) (o : OpId) (c m : ℕ) (r : Returned) (a : Action) (t : Tag) → At R s (Respond o r) → At R p (Invoke o c k a) → At R m (Note o t) → s < q
-    → IsAtMost t v × ((value : List ℕ) → b ≡ Write value → IsBelow t v)
+    → IsNoGreater t v × ((value : List ℕ) → b ≡ Write value → IsBelow t v)
 
 -- that of a write is its client's
 abbrev pub IsOwn : ℕ → Action → Tag → Type 0
@@ -161,18 +162,18 @@ rows_note R op c q key action tag rows known quiet above mine small written few 
       once = λ p q o c d k l a b i j. rows.once p q o c d k l a b (invokes p o c k a i) (invokes q o d l b j);
       fresh = λ p o c k a i. let h : o.0 < call_count R = rows.fresh p o c k a (invokes p o c k a i) in omega (arith, h, n);
       noted_once = λ p q o t u i j.
-          elim (after_push R x p (Note o t) i) [
-            | inl pold ↦ elim (after_push R x q (Note o u) j) [
+          elim (push_cases R x p (Note o t) i) [
+            | inl pold ↦ elim (push_cases R x q (Note o u) j) [
               | inl qold ↦ rows.noted_once p q o t u pold qold
               | inr qnew ↦ let e : o ≡ op = cc in absurd (quiet p t (subst (λ m. At R p (Note m t)) e pold))
             ]
-            | inr pnew ↦ elim (after_push R x q (Note o u) j) [
+            | inr pnew ↦ elim (push_cases R x q (Note o u) j) [
               | inl qold ↦ let e : o ≡ op = cc in absurd (quiet q u (subst (λ m. At R q (Note m u)) e qold))
               | inr qnew ↦ cc
             ]
           ];
       noted_known = λ p o t i.
-          elim (after_push R x p (Note o t) i) [
+          elim (push_cases R x p (Note o t) i) [
             | inl old ↦ let h : o.0 < call_count R = rows.noted_known p o t old in omega (arith, h, n)
             | inr new ↦
                 let e : op ≡ o = cc in
@@ -187,8 +188,8 @@ rows_note R op c q key action tag rows known quiet above mine small written few 
           let rs : At R s (Respond o r) = responds s o r is in
           let hp : At R p (Invoke o d k a) = invokes p o d k a ip in
           let hz : At R z (Invoke u e k b) = invokes z u e k b iz in
-          elim (after_push R x m (Note o t) im) [
-            | inl mold ↦ elim (after_push R x n (Note u v) in1) [
+          elim (push_cases R x m (Note o t) im) [
+            | inl mold ↦ elim (push_cases R x n (Note u v) in1) [
               | inl nold ↦ rows.rising s p z o u d e r k a b t v m n rs hp hz lt mold nold
               | inr nnew ↦
                   let eu : u ≡ op = cc in
@@ -199,14 +200,14 @@ rows_note R op c q key action tag rows known quiet above mine small written few 
                   let ek : k ≡ key = cc in
                   let eb : b ≡ action = cc in
                   let slt : s < q = omega (arith, places, lt) in
-                  let found : IsAtMost t tag × ((value : List ℕ) → action ≡ Write value → IsBelow t tag) =
+                  let found : IsNoGreater t tag × ((value : List ℕ) → action ≡ Write value → IsBelow t tag) =
                   above s p o d m r a t rs (subst (λ w. At R p (Invoke o d w a)) ek hp) mold slt in
-                  subst (λ w. IsAtMost t w × ((value : List ℕ) → b ≡ Write value → IsBelow t w)) ev (found.0, λ value h. found.1 value (sym eb ∙ h))
+                  subst (λ w. IsNoGreater t w × ((value : List ℕ) → b ≡ Write value → IsBelow t w)) ev (found.0, λ value h. found.1 value (sym eb ∙ h))
             ]
             | inr mnew ↦ let eo : op ≡ o = cc in absurd (not_done s o r rs eo)
           ];
       own = λ p m o d k value t i j.
-          elim (after_push R x m (Note o t) j) [
+          elim (push_cases R x m (Note o t) j) [
             | inl old ↦ rows.own p m o d k value t (invokes p o d k (Write value) i) old
             | inr new ↦
                 let eo : o ≡ op = cc in
@@ -223,12 +224,12 @@ rows_note R op c q key action tag rows known quiet above mine small written few 
           let g : noted_below R (call_count R) + 1 ≤ noted_below (more R x) (call_count R) = noted_below_note R op tag (call_count R) (not_noted R op quiet) fresh in
           let m : call_count (more R x) ≡ call_count R = omega (arith, n) in
           let e : noted_below (more R x) (call_count (more R x)) ≡ noted_below (more R x) (call_count R) = ap (noted_below (more R x)) m in
-          elim (after_push R x p (Note o t) i) [
+          elim (push_cases R x p (Note o t) i) [
             | inl old ↦ let h : t.number ≤ noted_below R (call_count R) = rows.bounded p o t old in omega (arith, h, g, e)
             | inr new ↦ let h : tag ≡ t = cc in let z : tag.number ≡ t.number = ap (λ (u : Tag). u.number) h in omega (arith, z, small, g, e)
           ];
       written = λ p m o d k a t i j.
-          elim (after_push R x m (Note o t) j) [
+          elim (push_cases R x m (Note o t) j) [
             | inl old ↦ from_more R (more R x) (extends R x) k t (rows.written p m o d k a t (invokes p o d k a i) old)
             | inr new ↦
                 let eo : o ≡ op = cc in
@@ -238,7 +239,7 @@ rows_note R op c q key action tag rows known quiet above mine small written few 
                 subst (λ w. IsFromWrite (more R x) k w) et (subst (λ w. IsFromWrite (more R x) w tag) ek written)
           ];
       counted = λ p m o d k value t i j.
-          elim (after_push R x m (Note o t) j) [
+          elim (push_cases R x m (Note o t) j) [
             | inl old ↦
                 let h : t.number ≤ write_count R k = rows.counted p m o d k value t (invokes p o d k (Write value) i) old in
                 let g : write_count R k ≤ write_count (more R x) k = write_count_rises k R x 0 n in

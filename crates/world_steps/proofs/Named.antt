@@ -1,11 +1,11 @@
 -- The names that joined stay those of the clients.
 use Rattle.std.proofs.Common.{◌≡◌, ℕ, length, Option, None, Some, sym, ◌∙◌, ap, inl, inr, slice_get}
 use Rattle.std.specs.FinMap as finite
+use Rattle.tag.proofs.Lists.{push_cases, slice_get-push_last, slice_get-push_left}
 use Rattle.client_phases.specs.declared.clients.Client.{Client}
 use Rattle.world_steps.specs.Clients.{Members, with_client, with_member}
 use Rattle.world_steps.specs.SoundSystems.{AreNamed}
-use Rattle.world_steps.proofs.Lookups.{get_cases}
-use Rattle.world_steps.proofs.RowLaws.{after_push, kept_by_push, pushed}
+use Rattle.network.proofs.Lookups.{get_cases}
 
 module _ (members : Members) (named : AreNamed members) (name : ℕ) where
   -- ---- a client becomes another
@@ -38,23 +38,23 @@ module _ (members : Members) (named : AreNamed members) (name : ℕ) where
         elim (get_cases members.clients name new d) [
           | inl here ↦ (new, here.1)
           | inr there ↦
-              elim (after_push members.joined name place d at) [
+              elim (push_cases members.joined name place d at) [
                 | inl old ↦ let (client, was) = named.joined place d old in (client, there.1 ∙ was)
                 | inr last ↦ absurd (there.0 (sym last.1))
               ]
         ];
     listed = λ d client e.
         elim (get_cases members.clients name new d) [
-          | inl here ↦ (length members.joined, pushed members.joined name ∙ ap Some (sym here.0))
-          | inr there ↦ let (place, at) = named.listed d client (sym there.1 ∙ e) in (place, kept_by_push members.joined name place d at)
+          | inl here ↦ (length members.joined, slice_get-push_last members.joined name ∙ ap Some (sym here.0))
+          | inr there ↦ let (place, at) = named.listed d client (sym there.1 ∙ e) in (place, slice_get-push_left members.joined name place d at)
         ];
     once = λ p q d i j.
-        elim (after_push members.joined name p d i) [
-          | inl old ↦ elim (after_push members.joined name q d j) [
+        elim (push_cases members.joined name p d i) [
+          | inl old ↦ elim (push_cases members.joined name q d j) [
             | inl older ↦ named.once p q d old older
             | inr last ↦ absurd (not_joined none p (old ∙ ap Some (sym last.1)))
           ]
-          | inr new_p ↦ elim (after_push members.joined name q d j) [
+          | inr new_p ↦ elim (push_cases members.joined name q d j) [
             | inl old ↦ absurd (not_joined none q (old ∙ ap Some (sym new_p.1)))
             | inr new_q ↦ new_p.0 ∙ sym new_q.0
           ]

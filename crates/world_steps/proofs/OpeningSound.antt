@@ -3,6 +3,7 @@ use Rattle.std.proofs.Common.{◌≡◌, ℕ, zero, suc, ◌≤◌, unwrap_or, t
 use Rattle.std.specs.Cmp.Lexicographic.{slice_cmp}
 use Rattle.std.specs.FinMap as finite
 use Rattle.std.specs.Ordering.{nat_cmp}
+use Rattle.tag.proofs.Lists.{push_cases}
 use Rattle.quorum.specs.Quorums.{IsLawful}
 use Rattle.replica.specs.Pairs.{no_pair, pair_of}
 use Rattle.network.specs.declared.flights.Flight.{Flight}
@@ -14,7 +15,6 @@ use Rattle.world_steps.specs.Sound.IsGood.{Unwritten}
 use Rattle.world_steps.specs.SoundSystems.{Flies, IsSound, held_in, pair_in}
 use Rattle.world_steps.specs.Systems.{opening}
 use Rattle.world_steps.specs.declared.nodes.Node.{Node}
-use Rattle.world_steps.proofs.RowLaws.{after_push}
 
 -- ---- the replicas as they begin
 abbrev first_node : ℕ → Node
@@ -27,7 +27,7 @@ nodes_length (suc n) = length-append (nodes_below n) (first_node n ∷ []) ∙ o
 pub node_below : (n number : ℕ) (node : Node) → slice_get (nodes_below n) number ≡ Some node → node ≡ first_node number
 node_below zero number node e = absurd cc
 node_below (suc n) number node e =
-    elim (after_push (nodes_below n) (first_node n) number node e) [
+    elim (push_cases (nodes_below n) (first_node n) number node e) [
       | inl old ↦ node_below n number node old
       | inr last ↦ sym last.1 ∙ ap first_node (sym (last.0 ∙ nodes_length n))
     ]

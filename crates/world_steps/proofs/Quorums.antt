@@ -5,7 +5,7 @@ use Rattle.std.specs.FinSet as finite
 use Rattle.quorum.specs.Sets.{Replicas}
 use Rattle.quorum.specs.Bits.{contains-insert}
 use Rattle.quorum.specs.Quorums.{Quorums, IsLawful, Share, is_ask_quorum, is_put_quorum, votes_of}
-use Rattle.quorum.specs.Meet.{quorums_share}
+use Rattle.quorum.proofs.SharedReplicas.{quorums_share}
 
 pub quorums_meet : (quorums : Quorums) (s t : Replicas) → IsLawful quorums → is_ask_quorum quorums s ≡ true → is_put_quorum quorums t ≡ true → Share quorums s t
 quorums_meet quorums s t lawful p q = quorums_share quorums s t lawful (leb-true quorums.ask (votes_of quorums.votes s) p) (leb-true quorums.put (votes_of quorums.votes t) q)

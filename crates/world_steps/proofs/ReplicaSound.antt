@@ -1,6 +1,7 @@
 -- Replicas that handle requests, stop and start keep the system sound.
 use Rattle.std.proofs.Common.{◌≡◌, ℕ, ◌<◌, ◌⊎◌, Bool, length, length-set, List, Option, None, Some, refl, sym, ◌∙◌, ap, subst, inl, inr, slice_get, slice_set}
 use Rattle.std.proofs.Math.Path.{fun_ext}
+use Rattle.std.proofs.lemmas.Option.{slice_get_within}
 use Rattle.std.specs.FinMap as finite
 use Rattle.tag.specs.declared.numbers.OpId.{OpId}
 use Rattle.quorum.specs.Quorums.{Quorums}
@@ -11,7 +12,7 @@ use Rattle.replica.specs.declared.replies.Reply.{Reply}
 use Rattle.replica.specs.declared.replies.Reply.TheVariants.{Held, Kept}
 use Rattle.replica.specs.declared.requests.Request.{Request}
 use Rattle.replica.specs.declared.requests.Request.TheVariants.{Query, Put}
-use Rattle.replica.specs.Insertions.{pair_of-adopt_other}
+use Rattle.replica.proofs.Insertions.{pair_of-adopt_other, same_key_or_not}
 use Rattle.client_phases.specs.Asking.{newer}
 use Rattle.client_phases.specs.declared.clients.Client.{Client}
 use Rattle.client_phases.specs.declared.states.State.{State}
@@ -26,9 +27,9 @@ use Rattle.world_steps.specs.SoundSystems.{Flies, IsIn, IsSound, held_in, pair_i
 use Rattle.world_steps.specs.Systems.{handle, op_of, set_up}
 use Rattle.world_steps.specs.declared.nodes.Node.{Node}
 use Rattle.world_steps.specs.declared.system.System.{System}
-use Rattle.world_steps.specs.Callers.{caller_found}
+use Rattle.world_steps.proofs.Callers.{caller_found}
 use Rattle.world_steps.proofs.Flying.{flies_sent}
-use Rattle.world_steps.proofs.Lookups.{slice_cases, same_key_or_not}
+use Rattle.tag.proofs.Lists.{slice_get-set}
 use Rattle.world_steps.proofs.SameRows.{queried, adopting, Adopted, pair_of-adopt}
 use Rattle.world_steps.proofs.SameRows.Adopted.{Same, Changed}
 
@@ -36,14 +37,20 @@ use Rattle.world_steps.proofs.SameRows.Adopted.{Same, Changed}
 same_node : (a b : Node) → Some a ≡ Some b → a ≡ b
 same_node a b e = cc
 
+-- what is read of the new element as of the old one is read at each place as before
+pub read_alike : {X Y : Type 0} (f : Option X → Y) (xs : List X) (i : ℕ) (old new : X) → slice_get xs i ≡ Some old → f (Some new) ≡ f (Some old)
+    → (k : ℕ) → f (slice_get (slice_set xs i new) k) ≡ f (slice_get xs k)
+read_alike f xs i old new is same k =
+    elim (slice_get-set xs i k new (slice_get_within xs i old is)) [
+      | inl here ↦ ap f here.1 ∙ same ∙ sym (ap f is) ∙ ap (λ n. f (slice_get xs n)) (sym here.0)
+      | inr there ↦ ap f there.1
+    ]
+
 -- with the same pairs all hold what they held
 pub held_same : (nodes : List Node) (number : ℕ) (old new : Node) → slice_get nodes number ≡ Some old → new.replica.pairs ≡ old.replica.pairs
     → (r : ℕ) (k : List ℕ) → held_in nodes r k ≡ held_in (slice_set nodes number new) r k
 held_same nodes number old new is same r k =
-    elim (slice_cases nodes number old new r is) [
-      | inl here ↦ ap (λ n. held_in nodes n k) here.0 ∙ ap (λ o. pair_in o k) is ∙ ap (λ (p : Pairs). pair_of p k) (sym same) ∙ sym (ap (λ o. pair_in o k) here.1)
-      | inr there ↦ sym (ap (λ o. pair_in o k) there.1)
-    ]
+    sym (read_alike (λ o. pair_in o k) nodes number old new is (ap (λ (p : Pairs). pair_of p k) same) r)
 
 pub same_pairs : (quorums : Quorums) (R : List Row) (P Q : ℕ → List ℕ → Pair) (F : Message → Type 0) (C : ℕ → State → Type 0) → ((r : ℕ) (k : List ℕ) → P r k ≡ Q r k) → Sound quorums R P F C → Sound quorums R Q F C
 same_pairs quorums R P Q F C e sound = subst (λ S. Sound quorums R S F C) (fun_ext (λ r. fun_ext (λ k. e r k))) sound
@@ -58,7 +65,7 @@ module _ (nodes : List Node) (number : ℕ) (node : Node) (key : List ℕ) (pair
 
   pub adopted_at : (r : ℕ) (k : List ℕ) → Adopted (held_in nodes) number key pair r k (held_in adopted r k)
   adopted_at r k =
-      elim (slice_cases nodes number node adopter r is) [
+      elim (slice_get-set nodes number r adopter (slice_get_within nodes number node is)) [
         | inl here ↦
             let now : held_in adopted r k ≡ pair_of (adopt node.replica.pairs key pair) k = ap (λ o. pair_in o k) here.1 in
             elim (same_key_or_not k key) [
@@ -73,7 +80,7 @@ module _ (nodes : List Node) (number : ℕ) (node : Node) (key : List ℕ) (pair
 
   adopted_there : held_in adopted number key ≡ newer (held_in nodes number key) pair
   adopted_there =
-      elim (slice_cases nodes number node adopter number is) [
+      elim (slice_get-set nodes number number adopter (slice_get_within nodes number node is)) [
         | inl here ↦ ap (λ o. pair_in o key) here.1 ∙ pair_of-adopt node.replica.pairs key pair ∙ ap (λ p. newer p pair) (sym (ap (λ o. pair_in o key) is))
         | inr there ↦ absurd (there.0 refl)
       ]
@@ -90,7 +97,7 @@ module _ (s : System) (sound : IsSound s) where
     ruled = sound.ruled;
     waiting = sound.waiting;
     numbered = λ n found at.
-        elim (slice_cases s.nodes number node new n is) [
+        elim (slice_get-set s.nodes number n new (slice_get_within s.nodes number node is)) [
           | inl here ↦ ap (λ (x : Node). x.replica.number) (same_node found new (sym at ∙ here.1)) ∙ same ∙ sound.numbered number node is ∙ sym here.0
           | inr there ↦ sound.numbered n found (sym there.1 ∙ at)
         ];

@@ -23,7 +23,7 @@ use Rattle.world_steps.specs.declared.system.System.{System}
 use Rattle.world_steps.proofs.Heard.{op_in, rows_after, hearing}
 use Rattle.world_steps.proofs.Named.{named_insert}
 use Rattle.world_steps.proofs.RowLaws.{count_push}
-use Rattle.world_steps.proofs.ClientSound.{turned_system, turned_insert, there_insert}
+use Rattle.world_steps.proofs.ClientSound.{turned_system, became_insert, there_insert}
 use Rattle.world_steps.proofs.Waiting.{heard_waits}
 
 -- ---- the record after a reply was taken
@@ -75,7 +75,7 @@ module _ (s : System) (sound : IsSound s) (name : ℕ) (reply : Reply) (flies : 
       (subst (λ r. Sound s.config.quorums r (held_in s.nodes) (Flies s.pool.flights) (IsIn clients)) rows
       (hearing s.config.quorums s.history.rows (held_in s.nodes) (Flies s.pool.flights) (IsIn s.members.clients) (IsIn clients) name name client.rules client.state reply
       (ap (λ (r : Rules). r.name) ruled) (ap (λ (r : Rules). r.quorums) ruled) sound.sound (record { rules = client.rules; is = is }) flies
-      (turned_insert s.members.clients name new) (there_insert s.members.clients name new)))
+      (became_insert s.members.clients name new) (there_insert s.members.clients name new)))
 
   taken_found : (found : Option Client) → finite.get s.members.clients name ≡ found → IsSound (take s name reply found)
   taken_found None is = sound

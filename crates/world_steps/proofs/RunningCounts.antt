@@ -1,10 +1,11 @@
 -- How many clients run, step by step.
 use Rattle.std.proofs.Common.{◌≡◌, ◌≢◌, ℕ, zero, suc, ◌+◌, ◌≤◌, Bool, true, false, cond, List, [], ◌∷◌, ◌++◌, Option, None, Some, refl, sym, ◌∙◌, ap, subst, inl, inr, arith, slice_get}
 use Rattle.std.specs.FinMap as finite
+use Rattle.std.proofs.lemmas.Bool.{not-false}
 use Rattle.tag.specs.declared.actions.Action.{Action}
 use Rattle.replica.specs.declared.replies.Reply.{Reply}
 use Rattle.replica.specs.declared.requests.Request.{Request}
-use Rattle.client_phases.specs.Clients.{client_after, client_of, client_after_invoke, phase_of, client_after_respond, client_after_stop}
+use Rattle.client_phases.specs.Clients.{client_after, client_of, client_after_invoke, phase_of, client_after_respond, client_after_stop, request_of}
 use Rattle.client_phases.specs.declared.clients.Client.{Client}
 use Rattle.client_phases.specs.declared.rules.Rules.{Rules}
 use Rattle.client_phases.specs.declared.states.State.{State}
@@ -18,14 +19,15 @@ use Rattle.world_steps.specs.Moves.{IsClient}
 use Rattle.world_steps.specs.Refusals.{arrival_refusals, first_of, is_stopped, no_such_client, phase_at, refusal_of}
 use Rattle.world_steps.specs.Runs.{join_count, stop_count}
 use Rattle.world_steps.specs.SoundSystems.{IsSound}
-use Rattle.world_steps.specs.Systems.{deliver, handle, invoke, system_after, next_call, op_of, respond, send, set_up, stop, take}
+use Rattle.world_steps.specs.Systems.{deliver, handle, invoke, system_after, next_call, op_of, respond, send, send_to, set_up, stop, take}
 use Rattle.world_steps.specs.declared.nodes.Node.{Node}
 use Rattle.world_steps.specs.declared.step.Step.{Step}
 use Rattle.world_steps.specs.declared.step.Step.TheVariants as step
 use Rattle.world_steps.specs.declared.system.System.{System}
-use Rattle.world_steps.proofs.Lookups.{get_cases, none_of}
+use Rattle.network.proofs.Lookups.{get_cases}
+use Rattle.tag.proofs.Options.{none_from_is_none}
 use Rattle.world_steps.proofs.Named.{not_joined}
-use Rattle.world_steps.specs.Passed.{passed, not_not, client_there, phase_is}
+use Rattle.world_steps.proofs.Passed.{passed, client_there, phase_is}
 
 -- one more, or none
 abbrev one : Bool → ℕ
@@ -104,21 +106,18 @@ module _ (s : System) where
   still : NoneMore s
   still = omega arith
 
-  turned : (name : ℕ) (new : Client) → is_running (finite.get s.members.clients name) ≡ true
+  became : (name : ℕ) (new : Client) → is_running (finite.get s.members.clients name) ≡ true
       → running_among (finite.insert s.members.clients name new) s.members.joined + 0 ≤ running_count s.members + 0
-  turned name new ran = let rest = none_more s.members.clients name new s.members.joined ran in omega (arith, rest)
+  became name new ran = let rest = none_more s.members.clients name new s.members.joined ran in omega (arith, rest)
 
   -- ---- steps that leave the clients as they are
   sent : (replica : ℕ) (found : Option Client) → NoneMore (send s replica found)
   sent replica None = still
-  sent replica (Some client) = by_state client.rules client.state
+  sent replica (Some client) = by_request (request_of client)
     where
-      by_state : (rules : Rules) (state : State) → NoneMore (send s replica (Some (record { rules = rules; state = state })))
-      by_state rules Idle = still
-      by_state rules (Ask asking) = still
-      by_state rules (Put chosen counted) = still
-      by_state rules (Ready chosen) = still
-      by_state rules Stopped = still
+      by_request : (request : Option Request) → NoneMore (send_to s replica request)
+      by_request (Some request) = still
+      by_request None = still
 
   handled : (number : ℕ) (request : Request) (found : Option Node) (caller : Option ℕ) → NoneMore (handle s number request found caller)
   handled number request (Some node) (Some client) = still
@@ -132,7 +131,7 @@ module _ (s : System) where
   -- ---- a client takes a reply
   heard : (name : ℕ) (reply : Reply) (found : Option Client) → finite.get s.members.clients name ≡ found → is_stopped (phase_at s name) ≡ false → NoneMore (take s name reply found)
   heard name reply None is goes = still
-  heard name reply (Some client) is goes = turned name (client_after client reply) (runs name client is goes)
+  heard name reply (Some client) is goes = became name (client_after client reply) (runs name client is goes)
 
   delivered : (flight : ℕ) (found : Option Message) → message_of s.pool.flights flight ≡ found → refusal_of s (step.Deliver flight) ≡ None → NoneMore (deliver s flight found)
   delivered flight None is none = still
@@ -146,14 +145,14 @@ module _ (s : System) where
       let first = passed _ _ _ none in
       let second = passed _ _ _ first.1 in
       let (client, is) = client_there s name first.0 in
-      subst (λ found. NoneMore (invoke s name key action found)) (sym is) (turned name (client_after_invoke client (next_call s) key action) (runs name client is second.0))
+      subst (λ found. NoneMore (invoke s name key action found)) (sym is) (became name (client_after_invoke client (next_call s) key action) (runs name client is second.0))
 
   -- ---- a client answers
   responded_by : (name : ℕ) (rules : Rules) (state : State) → is_running (finite.get s.members.clients name) ≡ true → NoneMore (respond s name (Some (record { rules = rules; state = state })))
   responded_by name rules Idle ran = still
   responded_by name rules (Ask asking) ran = still
   responded_by name rules (Put chosen counted) ran = still
-  responded_by name rules (Ready chosen) ran = turned name (client_after_respond (record { rules = rules; state = Ready chosen })) ran
+  responded_by name rules (Ready chosen) ran = became name (client_after_respond (record { rules = rules; state = Ready chosen })) ran
   responded_by name rules Stopped ran = still
 
   answered : (name : ℕ) → refusal_of s (step.Respond name) ≡ None → NoneMore (system_after s (step.Respond name))
@@ -177,7 +176,7 @@ module _ (s : System) where
   -- ---- a client joins
   joins : (name : ℕ) → IsSound s → refusal_of s (step.Join name) ≡ None → running_count (system_after s (step.Join name)).members + 0 ≤ running_count s.members + 1
   joins name sound none =
-      let away = none_of (finite.get s.members.clients name) (not_not (no_such_client s name) (passed _ _ _ none).0) in
+      let away = none_from_is_none (finite.get s.members.clients name) (not-false (no_such_client s name) (passed _ _ _ none).0) in
       let more = one_joins s.members.clients name (client_of name s.config.quorums s.config.reads) s.members.joined (not_joined s.members sound.named name away) in
       omega (arith, more)
 

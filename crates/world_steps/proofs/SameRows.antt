@@ -13,17 +13,17 @@ use Rattle.replica.specs.Pairs.{Pairs, pair_of, adopt}
 use Rattle.replica.specs.declared.pairs.Pair.{Pair}
 use Rattle.replica.specs.declared.requests.Request.{Request}
 use Rattle.replica.specs.declared.replies.Reply.TheVariants.{Held, Kept}
-use Rattle.replica.specs.Insertions.{pair_of-insert_same}
+use Rattle.replica.proofs.Insertions.{pair_of-insert_same}
 use Rattle.network.specs.declared.messages.Message.{Message}
 use Rattle.network.specs.declared.messages.Message.TheVariants.{ToReplica, ToClient}
 use Rattle.client_phases.specs.Asking.{Asking, newer}
 use Rattle.client_phases.specs.declared.states.State.{State}
 use Rattle.client_phases.specs.declared.states.State.TheVariants.{Ask}
-use Rattle.world_steps.specs.Sound.{At, IsAtMost, Invoked, Noted, IsGood, RowsSound, MessageSound, StateSound, Told, Sound, Tags, tags_of}
+use Rattle.world_steps.specs.Sound.{At, IsNoGreater, Invoked, Noted, IsGood, RowsSound, MessageSound, StateSound, Told, Sound, Tags, tags_of}
 use Rattle.world_steps.specs.Sound.MessageSound.{SoundHeld, SoundKept}
 use Rattle.world_steps.specs.Sound.Told.{InReply, InAsking}
 use Rattle.world_steps.proofs.TagLaws.{at_most_itself, equal_at_most, newer_than_old, newer_than_new, newer_is}
-use Rattle.world_steps.proofs.RowLaws.{Extends}
+use Rattle.world_steps.proofs.RowLaws.{Extends, same_key}
 use Rattle.world_steps.proofs.Frames.{Rises, message_more, state_more, tells_more, Older}
 use Rattle.world_steps.proofs.Frames.Older.{Heard, Present}
 
@@ -82,19 +82,6 @@ requested quorums R P F G C to request sound new more =
     sound.states (λ c x h. (x, h))
     (λ r q u d k b v i a. request_older F G C (tags_of P) to request more k u r v a)
 
--- a call has one key and one client
-pub same_key : (R : List Row) → RowsSound R → (p q : ℕ) (o : OpId) (c d : ℕ) (k l : List ℕ) (a b : Action) → At R p (Invoke o c k a) → At R q (Invoke o d l b) → k ≡ l
-same_key R rows p q o c d k l a b i j =
-    let e : p ≡ q = rows.once p q o c d k l a b i j in
-    let h : At R q (Invoke o c k a) = subst (λ n. At R n (Invoke o c k a)) e i in
-    cc
-
-pub same_client : (R : List Row) → RowsSound R → (p q : ℕ) (o : OpId) (c d : ℕ) (k l : List ℕ) (a b : Action) → At R p (Invoke o c k a) → At R q (Invoke o d l b) → c ≡ d
-same_client R rows p q o c d k l a b i j =
-    let e : p ≡ q = rows.once p q o c d k l a b i j in
-    let h : At R q (Invoke o c k a) = subst (λ n. At R n (Invoke o c k a)) e i in
-    cc
-
 reply_older : (R : List Row) → RowsSound R → (P : ℕ → List ℕ → Pair) (F G : Message → Type 0) (C : ℕ → State → Type 0) (to : ℕ) (op : OpId) (at : ℕ) (key : List ℕ) → Invoked R op key
     → ((m : Message) → G m → F m ⊎ (m ≡ ToClient to (Held op at (P at key).tag (P at key).value)))
     → (q d : ℕ) (b : Action) (k : List ℕ) (u : OpId) (r : ℕ) (v : Tag) → At R q (Invoke u d k b) → Told G C u r v → Older F C (tags_of P) k u r v
@@ -137,11 +124,11 @@ pair_of-adopt pairs key pair = either (is_lt (tag_cmp (pair_of pairs key).tag pa
     either : (b : Bool) → pair_of (cond b (map.insert pairs key pair) pairs) key ≡ cond b pair (pair_of pairs key)
     either b = elim b as (λ c. pair_of (cond c (map.insert pairs key pair) pairs) key ≡ cond c pair (pair_of pairs key)) [ true ↦ pair_of-insert_same pairs key pair | false ↦ refl ]
 
-pub adopted_rises : (P : ℕ → List ℕ → Pair) (at : ℕ) (key : List ℕ) (pair : Pair) (r : ℕ) (k : List ℕ) (new : Pair) → Adopted P at key pair r k new → IsAtMost (P r k).tag new.tag
+pub adopted_rises : (P : ℕ → List ℕ → Pair) (at : ℕ) (key : List ℕ) (pair : Pair) (r : ℕ) (k : List ℕ) (new : Pair) → Adopted P at key pair r k new → IsNoGreater (P r k).tag new.tag
 adopted_rises P at key pair r k new (Same e) = equal_at_most (P r k).tag new.tag (sym (ap (λ (p : Pair). p.tag) e))
 adopted_rises P at key pair r k new (Changed a b e) =
     let h : P r k ≡ P at key = cc in
-    subst (λ (p : Pair). IsAtMost p.tag new.tag) (sym h) (subst (λ (p : Pair). IsAtMost (P at key).tag p.tag) (sym e) (newer_than_old (P at key) pair))
+    subst (λ (p : Pair). IsNoGreater p.tag new.tag) (sym h) (subst (λ (p : Pair). IsNoGreater (P at key).tag p.tag) (sym e) (newer_than_old (P at key) pair))
 
 pub newer_good : (R : List Row) (k : List ℕ) (old new : Pair) → IsGood R k old → IsGood R k new → IsGood R k (newer old new)
 newer_good R k old new p q = elim (newer_is old new) [ inl e ↦ subst (IsGood R k) (sym e) p | inr e ↦ subst (IsGood R k) (sym e) q ]
@@ -166,7 +153,7 @@ pub adopting : (quorums : Quorums) (R : List Row) (P Q : ℕ → List ℕ → Pa
     → Sound quorums R Q G C
 adopting quorums R P Q F G C to op at key pair sound known noted good adopted there more =
     let up : Rises (tags_of P) (tags_of Q) = λ r k. adopted_rises P at key pair r k (Q r k) (adopted r k) in
-    let stored : IsAtMost pair.tag (Q at key).tag = subst (λ (p : Pair). IsAtMost pair.tag p.tag) (sym there) (newer_than_new (P at key) pair) in
+    let stored : IsNoGreater pair.tag (Q at key).tag = subst (λ (p : Pair). IsNoGreater pair.tag p.tag) (sym there) (newer_than_new (P at key) pair) in
     same_rows quorums R P Q F G C C sound up
     (λ r k. adopted_good R P at key pair r k (Q r k) sound.pairs good (adopted r k))
     (λ m g. elim (more m g) [
@@ -178,9 +165,9 @@ adopting quorums R P Q F G C to op at key pair sound known noted good adopted th
     (λ r q u d k b v i a. kept_older F G C (tags_of P) to op at more k u r v a)
 
 -- a client's new state, all others as before
-pub data Turned (C : ℕ → State → Type 0) (c : ℕ) (new : State) (d : ℕ) (x : State) : Type 0 where
-  Other : d ≢ c → C d x → Turned C c new d x
-  This : d ≡ c → x ≡ new → Turned C c new d x
+pub data Became (C : ℕ → State → Type 0) (c : ℕ) (new : State) (d : ℕ) (x : State) : Type 0 where
+  Other : d ≢ c → C d x → Became C c new d x
+  This : d ≡ c → x ≡ new → Became C c new d x
 
 -- what a client has counted, it was told
 abbrev pub CountsAnswers : (F : Message → Type 0) (C : ℕ → State → Type 0) → Tags → State → Type 0
@@ -188,31 +175,31 @@ CountsAnswers F C tags (Ask asking) = (r : ℕ) (k : List ℕ) → finite.contai
 CountsAnswers F C tags state = Unit {0}
 
 state_older : (F : Message → Type 0) (C : ℕ → State → Type 0) (tags : Tags) (c : ℕ) (new : State) → CountsAnswers F C tags new
-    → (k : List ℕ) (u : OpId) (r : ℕ) (v : Tag) (d : ℕ) (asking : Asking) → Turned C c new d (Ask asking)
+    → (k : List ℕ) (u : OpId) (r : ℕ) (v : Tag) (d : ℕ) (asking : Asking) → Became C c new d (Ask asking)
     → asking.call.op ≡ u → finite.contains asking.counted r ≡ true → asking.best.tag ≡ v → Older F C tags k u r v
 state_older F C tags c new counts k u r v d asking (Other ne h) e i t = Heard v (InAsking d asking h e i t) (at_most_itself v)
 state_older F C tags c new counts k u r v d asking (This e x) f i t =
     let answers : CountsAnswers F C tags (Ask asking) = subst (CountsAnswers F C tags) (sym x) counts in
     subst (λ o. Older F C tags k o r v) f (subst (λ w. Older F C tags k asking.call.op r w) t (answers r k i))
 
-pub turned_older : (F : Message → Type 0) (C D : ℕ → State → Type 0) (tags : Tags) (c : ℕ) (new : State) → CountsAnswers F C tags new → ((d : ℕ) (x : State) → D d x → Turned C c new d x)
+pub became_older : (F : Message → Type 0) (C D : ℕ → State → Type 0) (tags : Tags) (c : ℕ) (new : State) → CountsAnswers F C tags new → ((d : ℕ) (x : State) → D d x → Became C c new d x)
     → (k : List ℕ) (u : OpId) (r : ℕ) (v : Tag) → Told F D u r v → Older F C tags k u r v
-turned_older F C D tags c new counts turned k u r v (InReply d value f) = Heard v (InReply d value f) (at_most_itself v)
-turned_older F C D tags c new counts turned k u r v (InAsking d asking f e h t) = state_older F C tags c new counts k u r v d asking (turned d _ f) e h t
+became_older F C D tags c new counts became k u r v (InReply d value f) = Heard v (InReply d value f) (at_most_itself v)
+became_older F C D tags c new counts became k u r v (InAsking d asking f e h t) = state_older F C tags c new counts k u r v d asking (became d _ f) e h t
 
 turned_sound : (quorums : Quorums) (R : List Row) (tags : Tags) (C : ℕ → State → Type 0) (c : ℕ) (new : State) → StateSound quorums R tags c new
-    → ((d : ℕ) (x : State) → C d x → StateSound quorums R tags d x) → (d : ℕ) (x : State) → Turned C c new d x → StateSound quorums R tags d x
+    → ((d : ℕ) (x : State) → C d x → StateSound quorums R tags d x) → (d : ℕ) (x : State) → Became C c new d x → StateSound quorums R tags d x
 turned_sound quorums R tags C c new good all d x (Other ne h) = all d x h
 turned_sound quorums R tags C c new good all d x (This e is) = subst (λ n. StateSound quorums R tags n x) (sym e) (subst (StateSound quorums R tags c) (sym is) good)
 
 -- a client goes on to another state, with no row
-pub turning : (quorums : Quorums) (R : List Row) (P : ℕ → List ℕ → Pair) (F : Message → Type 0) (C D : ℕ → State → Type 0) (c : ℕ) (new : State)
+pub becoming : (quorums : Quorums) (R : List Row) (P : ℕ → List ℕ → Pair) (F : Message → Type 0) (C D : ℕ → State → Type 0) (c : ℕ) (new : State)
     → Sound quorums R P F C → StateSound quorums R (tags_of P) c new → CountsAnswers F C (tags_of P) new
-    → ((d : ℕ) (x : State) → D d x → Turned C c new d x)
+    → ((d : ℕ) (x : State) → D d x → Became C c new d x)
     → ((d : ℕ) (x : State) → C d x → (y : State) × D d y)
     → Sound quorums R P F D
-turning quorums R P F C D c new sound good counts turned there =
+becoming quorums R P F C D c new sound good counts became there =
     same_rows quorums R P P F F C D sound (tags_stay P) sound.pairs sound.messages
-    (λ d x h. turned_sound quorums R (tags_of P) C c new good sound.states d x (turned d x h))
+    (λ d x h. turned_sound quorums R (tags_of P) C c new good sound.states d x (became d x h))
     there
-    (λ r q u d k b v i a. turned_older F C D (tags_of P) c new counts turned k u r v a)
+    (λ r q u d k b v i a. became_older F C D (tags_of P) c new counts became k u r v a)

@@ -1,5 +1,5 @@
 -- The tags of a key come from its noted writes.
-use Rattle.std.proofs.Common.{◌≡◌, ℕ, List, Option, subst, sym}
+use Rattle.std.proofs.Common.{◌≡◌, ℕ, List, Option, subst}
 use Rattle.tag.specs.Tags.{Tag}
 use Rattle.tag.specs.declared.actions.Action.{Action}
 use Rattle.tag.specs.declared.numbers.OpId.{OpId}
@@ -9,12 +9,12 @@ use Rattle.replica.specs.declared.pairs.Pair.{Pair}
 use Rattle.replica.specs.declared.replies.Reply.TheVariants.{Held}
 use Rattle.replica.specs.declared.requests.Request.TheVariants.{Put}
 use Rattle.network.specs.declared.messages.Message.TheVariants.{ToReplica, ToClient}
+use Rattle.world_steps.proofs.RowLaws.{same_key}
 use Rattle.world_steps.specs.Sound.{At, IsFromWrite, IsGood, MessageSound, RowsSound, Tags, tags_of}
 use Rattle.world_steps.specs.Sound.MessageSound.{SoundHeld, SoundPut}
 use Rattle.world_steps.specs.Sources.{ComesFromWrites, HeldComeFromWrites, NotesComeFromWrites, PutsComeFromWrites, RepliesComeFromWrites}
 use Rattle.world_steps.specs.SoundSystems.{IsSound, held_in}
 use Rattle.world_steps.specs.declared.system.System.{System}
-use Rattle.world_steps.proofs.SameRows.{same_key}
 use Rattle.world_steps.proofs.WriteCounts.{from_counted, good_from}
 
 module _ (R : List Row) (rows : RowsSound R) where

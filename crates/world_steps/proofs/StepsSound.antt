@@ -1,6 +1,7 @@
 -- Each step, and each list of steps, keeps the system sound.
 use Rattle.std.proofs.Common.{◌≡◌, ℕ, ◌≤◌, true, false, cond, is_some, List, [], ◌∷◌, Option, None, Some, refl}
 use Rattle.std.specs.FinMap as finite
+use Rattle.std.proofs.lemmas.Bool.{not-false}
 use Rattle.tag.specs.declared.actions.Action.{Action}
 use Rattle.quorum.specs.Quorums.{IsLawful}
 use Rattle.network.specs.Flights.{message_of}
@@ -17,33 +18,25 @@ use Rattle.world_steps.specs.declared.step.Step.TheVariants as step
 use Rattle.world_steps.specs.declared.system.System.{System}
 use Rattle.world_steps.proofs.Finding.{flies}
 use Rattle.world_steps.proofs.ReplicaSound.{handle_sound, set_up_sound}
-use Rattle.world_steps.proofs.Lookups.{none_of}
+use Rattle.tag.proofs.Options.{none_from_is_none}
 use Rattle.world_steps.proofs.OpeningSound.{opening_sound}
-use Rattle.world_steps.specs.Passed.{passed, not_not, client_there, idle_there, ready_there, replica_there, room_for_call}
+use Rattle.world_steps.proofs.Passed.{passed, invoke_passed, replica_there, respond_passed}
 use Rattle.world_steps.proofs.Sending.{send_sound, lose_sound, repeat_sound}
 use Rattle.world_steps.proofs.ReplySound.{take_sound}
 use Rattle.world_steps.proofs.ClientSound.{join_sound, invoke_sound, respond_sound, stop_sound}
 
 module _ (s : System) (sound : IsSound s) where
   joined_sound : (name : ℕ) → refusal_of s (step.Join name) ≡ None → IsSound (join s name)
-  joined_sound name none = join_sound s sound name (none_of (finite.get s.members.clients name) (not_not (no_such_client s name) (passed _ _ _ none).0))
+  joined_sound name none = join_sound s sound name (none_from_is_none (finite.get s.members.clients name) (not-false (no_such_client s name) (passed _ _ _ none).0))
 
   asked_sound : (name : ℕ) (key : List ℕ) (action : Action) → refusal_of s (step.Invoke name key action) ≡ None → IsSound (invoke s name key action (finite.get s.members.clients name))
   asked_sound name key action none =
-      let first = passed _ _ _ none in
-      let second = passed _ _ _ first.1 in
-      let third = passed _ _ _ second.1 in
-      let fourth = passed _ _ _ third.1 in
-      let (client, is) = client_there s name first.0 in
-      invoke_sound s sound name key action client is (idle_there s name client is third.0) (room_for_call s fourth.0)
+      let (client, is, idle, room) = invoke_passed s name key action none in
+      invoke_sound s sound name key action client is idle room
 
   answered_sound : (name : ℕ) → refusal_of s (step.Respond name) ≡ None → IsSound (respond s name (finite.get s.members.clients name))
   answered_sound name none =
-      let first = passed _ _ _ none in
-      let second = passed _ _ _ first.1 in
-      let third = passed _ _ _ second.1 in
-      let (client, is) = client_there s name first.0 in
-      let (chosen, ready) = ready_there s name client is third.0 in
+      let (client, chosen, is, ready) = respond_passed s name none in
       respond_sound s sound name client chosen is ready
 
   -- ---- a message comes, and a copy of it goes

@@ -4,7 +4,7 @@ use Rattle.std.specs.FinMap as finite
 use Rattle.tag.specs.declared.actions.Action.{Action}
 use Rattle.replica.specs.declared.replies.Reply.{Reply}
 use Rattle.replica.specs.declared.requests.Request.{Request}
-use Rattle.client_phases.specs.Clients.{client_after, client_after_invoke, client_after_respond, client_after_stop, client_of, phase_of}
+use Rattle.client_phases.specs.Clients.{client_after, client_after_invoke, client_after_respond, client_after_stop, client_of, phase_of, request_of}
 use Rattle.client_phases.specs.declared.clients.Client.{Client}
 use Rattle.client_phases.specs.declared.rules.Rules.{Rules}
 use Rattle.client_phases.specs.declared.states.State.{State}
@@ -17,14 +17,14 @@ use Rattle.world_steps.specs.Clients.{Clients}
 use Rattle.world_steps.specs.Lasting.{HasStopped}
 use Rattle.world_steps.specs.Refusals.{Table, calls_full, first_of, is_idle, is_stopped, no_such_client, phase_at, refusal_of}
 use Rattle.world_steps.specs.Runs.{after_from, next}
-use Rattle.world_steps.specs.Systems.{deliver, handle, invoke, next_call, op_of, respond, send, set_up, stop, system_after, take}
+use Rattle.world_steps.specs.Systems.{deliver, handle, invoke, next_call, op_of, respond, send, send_to, set_up, stop, system_after, take}
 use Rattle.world_steps.specs.declared.nodes.Node.{Node}
 use Rattle.world_steps.specs.declared.refusal.Refusal.{Refusal}
 use Rattle.world_steps.specs.declared.refusal.Refusal.TheVariants as refusal
 use Rattle.world_steps.specs.declared.step.Step.{Step}
 use Rattle.world_steps.specs.declared.step.Step.TheVariants as step
 use Rattle.world_steps.specs.declared.system.System.{System}
-use Rattle.world_steps.proofs.Lookups.{get_cases}
+use Rattle.network.proofs.Lookups.{get_cases}
 
 -- ---- what refusals leave out
 
@@ -71,14 +71,11 @@ module _ (s : System) (d : ℕ) (is : HasStopped s d) where
 
   sent : (replica : ℕ) (found : Option Client) → HasStopped (send s replica found) d
   sent replica None = is
-  sent replica (Some client) = by_state client.rules client.state
+  sent replica (Some client) = by_request (request_of client)
     where
-      by_state : (rules : Rules) (state : State) → HasStopped (send s replica (Some (record { rules = rules; state = state }))) d
-      by_state rules Idle = is
-      by_state rules (Ask asking) = is
-      by_state rules (Put chosen counted) = is
-      by_state rules (Ready chosen) = is
-      by_state rules Stopped = is
+      by_request : (request : Option Request) → HasStopped (send_to s replica request) d
+      by_request (Some request) = is
+      by_request None = is
 
   answered : (name : ℕ) (found : Option Client) → finite.get s.members.clients name ≡ found → HasStopped (respond s name found) d
   answered name None there = is

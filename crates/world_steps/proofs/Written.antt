@@ -6,7 +6,7 @@ use Rattle.std.specs.BTreeMap.{BTreeMap, WritesThrough, Updates, get}
 use Rattle.std.specs.FinMap as finite
 use Rattle.std.specs.FinMap.{nat_cmp-IsAntisymmetric}
 use Rattle.client_phases.specs.declared.clients.Client.{Client}
-use Rattle.replica.specs.Maps.{get-from_tree, from_tree-insert, from_tree-written}
+use Rattle.replica.proofs.Maps.{get-from_tree, from_tree-insert, from_tree-written}
 use Rattle.world_steps.specs.Clients.{Clients, Members, with_client, with_member}
 
 abbrev pub Tree : Type 0

@@ -24,11 +24,12 @@ with_member members name client = record {
   clients = finite.insert members.clients name client;
 }
 
--- a client became another
+-- the client of a name becomes another
 abbrev pub with_client : Members → ℕ → Client → Members
 with_client members name client =
     record members { clients = finite.insert members.clients name client }
 
+-- a client in that phase isn't stopped
 abbrev goes_on : Phase → Bool
 goes_on phase.Stopped = false
 goes_on other = true

@@ -10,6 +10,3 @@ pub mod Sources
 pub mod Moves
 pub mod Lasting
 pub mod Numbers
-pub mod Callers
-pub mod Passed
-pub mod StepAnswers

@@ -32,8 +32,8 @@ abbrev pub At : List Row → ℕ → Row → Type 0
 At rows place row = slice_get rows place ≡ Some row
 
 -- the tag is below another, or that one
-abbrev pub IsAtMost : Tag → Tag → Type 0
-IsAtMost a b = (a.number < b.number) ⊎ ((a.number ≡ b.number) × (a.writer ≤ b.writer))
+abbrev pub IsNoGreater : Tag → Tag → Type 0
+IsNoGreater a b = (a.number < b.number) ⊎ ((a.number ≡ b.number) × (a.writer ≤ b.writer))
 
 -- ---- what the record has of a call
 
@@ -55,10 +55,11 @@ pub record Completed (rows : List Row) (op : OpId) : Type 0 where
   pub returned : Returned
   pub is : At rows place (Respond op returned)
 
--- its tag isn't fixed; it isn't answered
+-- its tag isn't fixed
 abbrev pub NotNoted : List Row → OpId → Type 0
 NotNoted rows op = (place : ℕ) (tag : Tag) → At rows place (Note op tag) → ⊥
 
+-- it isn't answered
 abbrev pub NotCompleted : List Row → OpId → Type 0
 NotCompleted rows op = (place : ℕ) (returned : Returned) → At rows place (Respond op returned) → ⊥
 
@@ -77,16 +78,20 @@ pub record Pending (rows : List Row) (client : ℕ) (call : Call) : Type 0 where
 
 -- ---- tags come from notes
 
--- a write on the key was noted with the pair's tag, and the pair has its value
-pub record Source (rows : List Row) (key : List ℕ) (pair : Pair) : Type 0 where
+-- a write on the key was noted with the tag
+pub record WasWritten (rows : List Row) (key : List ℕ) (tag : Tag) : Type 0 where
   pub op : OpId
   pub client : ℕ
   pub value : List ℕ
   pub place : ℕ
   pub invoked : At rows place (Invoke op client key (Write value))
   pub note : ℕ
-  pub noted : At rows note (Note op pair.tag)
-  pub same : pair.value ≡ Some value
+  pub noted : At rows note (Note op tag)
+
+-- a write on the key was noted with the pair's tag, and the pair has its value
+pub record Source (rows : List Row) (key : List ℕ) (pair : Pair) : Type 0 where
+  pub write : WasWritten rows key pair.tag
+  pub same : pair.value ≡ Some write.value
 
 -- the pair is that of a key which nobody wrote, or comes from a noted write
 pub data IsGood (rows : List Row) (key : List ℕ) (pair : Pair) : Type 0 where
@@ -114,6 +119,11 @@ pub record Answered (rows : List Row) (op : OpId) (returned : Returned) : Type 0
     pair = pair;
   })
 
+-- how many numbers below n pass the test
+abbrev pub count_below : (ℕ → Bool) → ℕ → ℕ
+count_below test zero = 0
+count_below test (suc n) = count_below test n + (if test n then 1 else 0)
+
 -- the row is a note of the call with that number
 abbrev pub is_note_of : ℕ → Row → Bool
 is_note_of number (Note op tag) = nat_eq op.0 number
@@ -127,20 +137,9 @@ is_noted (row ∷ rows) number = is_note_of number row || is_noted rows number
 
 -- how many of the first n calls have a note
 abbrev pub noted_below : List Row → ℕ → ℕ
-noted_below rows zero = 0
-noted_below rows (suc n) = noted_below rows n + (if is_noted rows n then 1 else 0)
+noted_below rows n = count_below (is_noted rows) n
 
 -- ---- the tags of a key
-
--- a write on the key was noted with the tag
-pub record WasWritten (rows : List Row) (key : List ℕ) (tag : Tag) : Type 0 where
-  pub op : OpId
-  pub client : ℕ
-  pub value : List ℕ
-  pub place : ℕ
-  pub invoked : At rows place (Invoke op client key (Write value))
-  pub note : ℕ
-  pub noted : At rows note (Note op tag)
 
 -- the least tag, or that of a noted write on the key
 abbrev pub IsFromWrite : List Row → List ℕ → Tag → Type 0
@@ -161,11 +160,6 @@ is_write_on (row ∷ rows) key number = begins_write key number row || is_write_
 -- the call with that number is a noted write on the key
 abbrev pub is_noted_write : List Row → List ℕ → ℕ → Bool
 is_noted_write rows key number = is_noted rows number && is_write_on rows key number
-
--- how many numbers below n pass the test
-abbrev pub count_below : (ℕ → Bool) → ℕ → ℕ
-count_below test zero = 0
-count_below test (suc n) = count_below test n + (if test n then 1 else 0)
 
 -- how many writes on the key are noted
 abbrev pub write_count : List Row → List ℕ → ℕ
@@ -191,7 +185,7 @@ pub record RowsSound (rows : List Row) : Type 0 where
       (t v : Tag) (m n : ℕ)
       → At rows s (Respond o returned) → At rows p (Invoke o c k a) → At rows q (Invoke u d k b)
       → s < q → At rows m (Note o t) → At rows n (Note u v)
-      → IsAtMost t v × ((value : List ℕ) → b ≡ Write value → IsBelow t v)
+      → IsNoGreater t v × ((value : List ℕ) → b ≡ Write value → IsBelow t v)
   -- a write's tag has a number above 0, and is of its own client
   pub own : (p n : ℕ) (o : OpId) (c : ℕ) (k value : List ℕ) (t : Tag)
       → At rows p (Invoke o c k (Write value)) → At rows n (Note o t)
@@ -223,7 +217,7 @@ tags_of pairs replica key = (pairs replica key).tag
 -- each of these replicas holds at least that tag for the key
 abbrev pub AllHold : Tags → Replicas → List ℕ → Tag → Type 0
 AllHold tags set key tag =
-    (replica : ℕ) → finite.contains set replica ≡ true → IsAtMost tag (tags replica key)
+    (replica : ℕ) → finite.contains set replica ≡ true → IsNoGreater tag (tags replica key)
 
 -- a put quorum holds at least that tag for the key
 pub record QuorumHolds (quorums : Quorums) (tags : Tags) (key : List ℕ) (tag : Tag) : Type 0 where
@@ -244,15 +238,15 @@ pub data MessageSound (rows : List Row) (tags : Tags) : Message → Type 0 where
   SoundHeld : {client : ℕ} {op : OpId} {replica : ℕ} {tag : Tag} {value : Option (List ℕ)}
       (key : List ℕ)
       → Invoked rows op key → IsGood rows key (record { tag = tag; value = value })
-      → IsAtMost tag (tags replica key)
+      → IsNoGreater tag (tags replica key)
       → MessageSound rows tags (ToClient client (Held op replica tag value))
   SoundKept : {client : ℕ} {op : OpId} {replica : ℕ} (key : List ℕ) (tag : Tag)
-      → Invoked rows op key → Noted rows op tag → IsAtMost tag (tags replica key)
+      → Invoked rows op key → Noted rows op tag → IsNoGreater tag (tags replica key)
       → MessageSound rows tags (ToClient client (Kept op replica))
 
 -- a client's state: an idle one has completed its calls; one that asks has counted replicas that
 -- hold at least the least tag that they told; one that puts has counted replicas that hold at least
--- the tag that it puts; where the answer is there, a put quorum holds the tag
+-- the tag that it puts; for one that is ready, a put quorum holds the tag
 pub data StateSound (quorums : Quorums) (rows : List Row) (tags : Tags) (client : ℕ) : State
     → Type 0 where
   SoundIdle : ((place : ℕ) (op : OpId) (key : List ℕ) (action : Action)
@@ -296,7 +290,7 @@ pub record QuorumTells (quorums : Quorums) (rows : List Row) (tags : Tags) (Flie
   pub hold : AllHold tags quorum key tag
   pub told : (replica later : ℕ) (op : OpId) (client : ℕ) (action : Action) (found : Tag)
       → finite.contains quorum replica ≡ true → At rows later (Invoke op client key action)
-      → place < later → Told Flies IsIn op replica found → IsAtMost tag found
+      → place < later → Told Flies IsIn op replica found → IsNoGreater tag found
 
 -- the invariant: of the rows of the record, the pair that each replica holds for each key, the
 -- messages that fly, and the state that each client is in

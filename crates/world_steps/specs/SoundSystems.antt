@@ -1,6 +1,7 @@
 -- What holds of every system that steps reach.
 use Rattle.std.specs.Prelude.{ℕ, ◌≡◌, ◌<◌, ◌≤◌, false, List, Option, Some, None, length, slice_get}
 use Rattle.std.specs.FinMap as finite
+use Rattle.tag.specs.Limits.{call_limit}
 use Rattle.quorum.specs.Quorums.{Quorums, is_ask_quorum, is_put_quorum}
 use Rattle.replica.specs.Pairs.{no_pair, pair_of}
 use Rattle.replica.specs.declared.pairs.Pair.{Pair}
@@ -31,11 +32,12 @@ pub record IsIn (clients : Clients) (name : ℕ) (state : State) : Type 0 where
   pub rules : Rules
   pub is : finite.get clients name ≡ Some (record { rules = rules; state = state })
 
--- the pair that a replica holds for a key
+-- the pair that a replica holds for a key, if the replica is there
 abbrev pub pair_in : Option Node → List ℕ → Pair
 pair_in None key = no_pair
 pair_in (Some node) key = pair_of node.replica.pairs key
 
+-- the pair that the replica of that number holds for a key
 abbrev pub held_in : List Node → ℕ → List ℕ → Pair
 held_in nodes number key = pair_in (slice_get nodes number) key
 
@@ -82,6 +84,6 @@ pub record IsSound (s : System) : Type 0 where
   pub to_clients : (name : ℕ) (reply : Reply) → Flies s.pool.flights (ToClient name reply)
       → (client : Client) × (finite.get s.members.clients name ≡ Some client)
   pub calls : call_count s.history.rows ≤ s.history.limit
-  pub limit : s.history.limit ≤ 1000000
+  pub limit : s.history.limit ≤ call_limit
   pub named : AreNamed s.members
   pub configured : IsConfigured s

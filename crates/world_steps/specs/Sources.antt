@@ -18,30 +18,31 @@ pub record ComesFromWrites (rows : List Row) (key : List ℕ) (tag : Tag) : Type
   pub from : IsFromWrite rows key tag
   pub few : tag.number ≤ write_count rows key
 
--- the tag that a call on the key was noted with does, of a read as of a write
-abbrev pub NotesComeFromWrites : System → Type 0
-NotesComeFromWrites s =
-    (place note client : ℕ) (op : OpId) (key : List ℕ) (action : Action) (tag : Tag)
-    → At s.history.rows place (Invoke op client key action) → At s.history.rows note (Note op tag)
-    → ComesFromWrites s.history.rows key tag
+module _ (s : System) where
+  -- the tag that a call on the key was noted with does, of a read as of a write
+  abbrev pub NotesComeFromWrites : Type 0
+  NotesComeFromWrites =
+      (place note client : ℕ) (op : OpId) (key : List ℕ) (action : Action) (tag : Tag)
+      → At s.history.rows place (Invoke op client key action) → At s.history.rows note (Note op tag)
+      → ComesFromWrites s.history.rows key tag
 
--- so does the tag that a replica holds for the key
-abbrev pub HeldComeFromWrites : System → Type 0
-HeldComeFromWrites s = (number : ℕ) (key : List ℕ)
-    → ComesFromWrites s.history.rows key (held_in s.nodes number key).tag
+  -- so does the tag that a replica holds for the key
+  abbrev pub HeldComeFromWrites : Type 0
+  HeldComeFromWrites = (number : ℕ) (key : List ℕ)
+      → ComesFromWrites s.history.rows key (held_in s.nodes number key).tag
 
--- so does the tag of a put on the key that is in flight
-abbrev pub PutsComeFromWrites : System → Type 0
-PutsComeFromWrites s =
-    (number : ℕ) (op : OpId) (key : List ℕ) (tag : Tag) (value : Option (List ℕ))
-    → Flies s.pool.flights (ToReplica number (Put op key tag value))
-    → ComesFromWrites s.history.rows key tag
+  -- so does the tag of a put on the key that is in flight
+  abbrev pub PutsComeFromWrites : Type 0
+  PutsComeFromWrites =
+      (number : ℕ) (op : OpId) (key : List ℕ) (tag : Tag) (value : Option (List ℕ))
+      → Flies s.pool.flights (ToReplica number (Put op key tag value))
+      → ComesFromWrites s.history.rows key tag
 
--- and the tag that is told, in flight, to a call on the key
-abbrev pub RepliesComeFromWrites : System → Type 0
-RepliesComeFromWrites s =
-    (place name client number : ℕ) (op : OpId) (key : List ℕ) (action : Action) (tag : Tag)
-    (value : Option (List ℕ))
-    → At s.history.rows place (Invoke op client key action)
-    → Flies s.pool.flights (ToClient name (Held op number tag value))
-    → ComesFromWrites s.history.rows key tag
+  -- and the tag that is told, in flight, to a call on the key
+  abbrev pub RepliesComeFromWrites : Type 0
+  RepliesComeFromWrites =
+      (place name client number : ℕ) (op : OpId) (key : List ℕ) (action : Action) (tag : Tag)
+      (value : Option (List ℕ))
+      → At s.history.rows place (Invoke op client key action)
+      → Flies s.pool.flights (ToClient name (Held op number tag value))
+      → ComesFromWrites s.history.rows key tag

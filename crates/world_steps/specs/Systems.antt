@@ -47,7 +47,7 @@ opening config = record {
   history = record { rows = []; limit = config.calls };
 }
 
--- ---- what a step makes of the system, where nothing refuses it
+-- ---- what a step makes of the system if nothing refuses it
 
 -- a client joins, idle
 abbrev pub join : System → ℕ → System
@@ -56,9 +56,9 @@ join s name = record s {
       s.config.reads);
 }
 
--- a client that becomes another, one that isn't there stays away
-abbrev pub turn : System → ℕ → Client → System
-turn s name client = record s { members = with_client s.members name client }
+-- the client of a name becomes another
+abbrev pub set_client : System → ℕ → Client → System
+set_client s name client = record s { members = with_client s.members name client }
 
 -- the number of the next call
 abbrev pub next_call : System → OpId
@@ -67,11 +67,12 @@ next_call s = record { 0 = call_count s.history.rows }
 -- a client asks for a further call, which is recorded
 abbrev pub invoke : System → ℕ → List ℕ → Action → Option Client → System
 invoke s name key action (Some client) =
-    record (turn s name (client_after_invoke client (next_call s) key action))
+    record (set_client s name (client_after_invoke client (next_call s) key action))
     { history = with_row s.history (Invoke (next_call s) name key action) }
 invoke s name key action None = s
 
-abbrev send_to : System → ℕ → Option Request → System
+-- a request is sent to a replica
+abbrev pub send_to : System → ℕ → Option Request → System
 send_to s replica (Some request) = record s { pool = with_sent s.pool (ToReplica replica request) }
 send_to s replica None = s
 
@@ -80,6 +81,7 @@ abbrev pub send : System → ℕ → Option Client → System
 send s replica (Some client) = send_to s replica (request_of client)
 send s replica None = s
 
+-- the call of a request
 abbrev pub op_of : Request → OpId
 op_of (Query op key) = op
 op_of (Put op key tag value) = op
@@ -92,6 +94,7 @@ handle s number request (Some node) (Some client) = record s {
 }
 handle s number request _ _ = s
 
+-- the call of a reply
 abbrev pub answered_op : Reply → OpId
 answered_op (Held op replica tag value) = op
 answered_op (Kept op replica) = op
@@ -105,7 +108,7 @@ with_note history op outcome = history
 -- a client takes a reply
 abbrev pub take : System → ℕ → Reply → Option Client → System
 take s name reply (Some client) =
-    record (turn s name (client_after client reply))
+    record (set_client s name (client_after client reply))
     { history = with_note s.history (answered_op reply) (reply_result client reply) }
 take s name reply None = s
 
@@ -128,9 +131,10 @@ abbrev pub deliver : System → ℕ → Option Message → System
 deliver s flight (Some message) = lose (arrive s message) flight
 deliver s flight None = s
 
+-- a client in that state answers, if it is ready
 abbrev respond_in : System → ℕ → Client → State → System
 respond_in s name client (Ready chosen) =
-    record (turn s name (client_after_respond client))
+    record (set_client s name (client_after_respond client))
     { history = with_row s.history (Respond chosen.call.op (answer_from chosen)) }
 respond_in s name client state = s
 
@@ -141,7 +145,7 @@ respond s name None = s
 
 -- a client stops for good
 abbrev pub stop : System → ℕ → Option Client → System
-stop s name (Some client) = turn s name (client_after_stop client)
+stop s name (Some client) = set_client s name (client_after_stop client)
 stop s name None = s
 
 -- a replica goes up or down with what it stored
@@ -150,7 +154,7 @@ set_up s number is_up (Some node) =
     record s { nodes = slice_set s.nodes number (record node { is_up = is_up }) }
 set_up s number is_up None = s
 
--- what a step makes of the system
+-- the system after a step that nothing refuses
 abbrev pub system_after : System → Step → System
 system_after s (step.Join name) = join s name
 system_after s (step.Invoke name key action) =
@@ -164,26 +168,31 @@ system_after s (step.StopClient name) = stop s name (finite.get s.members.client
 system_after s (step.StopReplica number) = set_up s number false (slice_get s.nodes number)
 system_after s (step.StartReplica number) = set_up s number true (slice_get s.nodes number)
 
--- ---- what a step answers, where nothing refuses it
+-- ---- what a step answers if nothing refuses it
 
+-- what a client makes of a reply
 abbrev take_effect : Reply → Option Client → Option Effect
 take_effect reply (Some client) = Some (effect.Taken (reply_result client reply))
 take_effect reply None = None
 
+-- what comes of a delivery: a reply with the next number, or what a client makes of one
 abbrev arrival_effect : System → Option Message → Option Effect
 arrival_effect s (Some (ToReplica number request)) = Some (effect.Answered s.pool.sent)
 arrival_effect s (Some (ToClient name reply)) =
     take_effect reply (finite.get s.members.clients name)
 arrival_effect s None = None
 
+-- the call that is answered in a state
 abbrev response_effect : State → Option Effect
 response_effect (Ready chosen) = Some (effect.Responded chosen.call.op)
 response_effect state = None
 
+-- the call that a client answers
 abbrev respond_effect : Option Client → Option Effect
 respond_effect (Some client) = response_effect client.state
 respond_effect None = None
 
+-- what a step answers
 abbrev pub effect_of : System → Step → Option Effect
 effect_of s (step.Join name) = Some effect.Joined
 effect_of s (step.Invoke name key action) = Some (effect.Invoked (next_call s))

@@ -1,7 +1,8 @@
 //! What is fixed of a world before its first step.
 ghost use Rattle.std.specs.Prelude.{◌≡◌, ◌≤◌, ◌↔◌, IsSome, IfSome, length};
+ghost use Rattle.tag.specs.Limits.{call_limit};
 ghost use Rattle.quorum.specs.Quorums.{IsLawful, majority_of};
-ghost use Rattle.world_steps.specs.Configs.{AreInRange, config_of};
+ghost use Rattle.world_steps.specs.Configs.{AreAllowedSizes, config_of, message_limit};
 
 use client_phases::ReadMode;
 use quorum::Quorums;
@@ -19,13 +20,14 @@ pub struct Config {
 
 impl Model for Config {
     ghost use Rattle.std.specs.Prelude.{◌≤◌};
-    ghost use Rattle.world_steps.specs.Configs.{Config};
+    ghost use Rattle.tag.specs.Limits.{call_limit};
+    ghost use Rattle.world_steps.specs.Configs.{Config, message_limit};
 
     ghost Value = { Config };
 
     ghost view = { λ c. record { quorums = c.quorums; reads = c.reads; calls = c.calls; flights = c.flights } };
 
-    ghost invariant = { λ c. (c.calls ≤ 1000000) × (c.flights ≤ 16000000) };
+    ghost invariant = { λ c. (c.calls ≤ call_limit) × (c.flights ≤ message_limit) };
 
     ghost inverse = { λ v. record { quorums = v.quorums; reads = v.reads; calls = v.calls; flights = v.flights } };
 }
@@ -34,7 +36,7 @@ impl Config {
     /// So many replicas, calls and messages, with majorities as quorums and full reads. `None` comes
     /// exactly outside the ranges.
     pub fn new(replicas: u8, calls: u32, flights: u32) -> Option<Config>
-        ensures some { IsSome result ↔ AreInRange replicas calls flights }
+        ensures some { IsSome result ↔ AreAllowedSizes replicas calls flights }
         ensures value { IfSome result (λ config. config ≡ config_of replicas calls flights) }
     {
         let in_range = replicas >= 1
@@ -54,14 +56,14 @@ impl Config {
         })
     }
 
-    /// The same with that way of reading.
+    /// The same with these reads.
     pub fn with_reads(self, reads: ReadMode) -> Config
         ensures { result ≡ record self { reads = reads } }
     {
         Config { reads, ..self }
     }
 
-    /// The same with those quorums; `None` comes exactly where their count of replicas is another.
+    /// The same with those quorums; `None` comes exactly if their count of replicas is another.
     pub fn with_quorums(self, quorums: Quorums) -> Option<Config>
         ensures some { IsSome result ↔ (length quorums.votes ≡ length self.quorums.votes) }
         ensures value { IfSome result (λ config. config ≡ record self { quorums = quorums }) }
@@ -98,7 +100,7 @@ impl Config {
     /// How many calls may be invoked.
     pub fn calls(self) -> u32
         ensures calls { result ≡ self.calls }
-        ensures most { result ≤ 1000000 }
+        ensures most { result ≤ call_limit }
     {
         self.calls
     }
@@ -106,7 +108,7 @@ impl Config {
     /// How many messages may be sent.
     pub fn flights(self) -> u32
         ensures flights { result ≡ self.flights }
-        ensures most { result ≤ 16000000 }
+        ensures most { result ≤ message_limit }
     {
         self.flights
     }

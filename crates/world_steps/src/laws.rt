@@ -1,5 +1,6 @@
 //! Laws of the definitions, each the contract of a function that does nothing.
 ghost use Rattle.std.specs.Prelude.{◌≡◌, ◌≤◌, ◌+◌, ◌++◌, ◌∷◌, [], Err, List, None, Result, ℕ};
+ghost use Rattle.tag.specs.Limits.{call_limit};
 ghost use Rattle.quorum.specs.Quorums.{IsLawful};
 ghost use Rattle.recorder.specs.Records.{IsPart};
 ghost use Rattle.recorder.specs.Sound.{TagSound};
@@ -9,7 +10,7 @@ ghost use Rattle.world_steps.specs.Configs.{Config};
 ghost use Rattle.world_steps.specs.Lasting.{AddsRowOf, Grows, HasJoined, HasStopped, client_in};
 ghost use Rattle.world_steps.specs.Refusals.{refusal_of};
 ghost use Rattle.world_steps.specs.Runs.{AreAccepted, Steps, after, after_from, join_count, next, stop_count};
-ghost use Rattle.world_steps.specs.Sound.{IsAtMost};
+ghost use Rattle.world_steps.specs.Sound.{IsNoGreater};
 ghost use Rattle.world_steps.specs.SoundSystems.{IsSound, held_in};
 ghost use Rattle.world_steps.specs.Sources.{HeldComeFromWrites, NotesComeFromWrites};
 ghost use Rattle.world_steps.specs.Sources.{PutsComeFromWrites, RepliesComeFromWrites};
@@ -22,14 +23,14 @@ ghost use Rattle.world_steps.specs.declared.system.System.{System};
 /// For every configuration and every list of steps the system that they leave is sound.
 pub fn every_run_is_sound()
     ensures { (config : Config) (steps : List Step) → IsLawful config.quorums
-        → config.calls ≤ 1000000 → IsSound (after config steps) }
+        → config.calls ≤ call_limit → IsSound (after config steps) }
 {}
 
 /// For every configuration and every list of steps each key's part of the record has sound tags, so
 /// that its calls sorted by tag are an order of it.
 pub fn every_run_has_sound_tags()
     ensures { (config : Config) (steps : List Step) (key : List ℕ) (part : List Call)
-        → IsLawful config.quorums → config.calls ≤ 1000000
+        → IsLawful config.quorums → config.calls ≤ call_limit
         → IsPart (after config steps).history.rows key part → TagSound part }
 {}
 
@@ -37,13 +38,13 @@ pub fn every_run_has_sound_tags()
 /// or that of a noted write on its key, and its number is at most how many writes on the key are noted.
 pub fn tags_come_from_writes()
     ensures notes { (config : Config) (steps : List Step) → IsLawful config.quorums
-        → config.calls ≤ 1000000 → NotesComeFromWrites (after config steps) }
+        → config.calls ≤ call_limit → NotesComeFromWrites (after config steps) }
     ensures held { (config : Config) (steps : List Step) → IsLawful config.quorums
-        → config.calls ≤ 1000000 → HeldComeFromWrites (after config steps) }
+        → config.calls ≤ call_limit → HeldComeFromWrites (after config steps) }
     ensures puts { (config : Config) (steps : List Step) → IsLawful config.quorums
-        → config.calls ≤ 1000000 → PutsComeFromWrites (after config steps) }
+        → config.calls ≤ call_limit → PutsComeFromWrites (after config steps) }
     ensures replies { (config : Config) (steps : List Step) → IsLawful config.quorums
-        → config.calls ≤ 1000000 → RepliesComeFromWrites (after config steps) }
+        → config.calls ≤ call_limit → RepliesComeFromWrites (after config steps) }
 {}
 
 /// What a list with one more step leaves is the next system after the list. Where each step of the list
@@ -57,7 +58,7 @@ pub fn a_list_may_have_one_more_step()
         × AreAccepted (opening config) (steps ++ step ∷ []) }
 {}
 
-/// What a step answers is the next system, but where it was refused for memory.
+/// What a step answers is the next system, unless it was refused for memory.
 pub fn a_step_leaves_the_next_system()
     ensures { (s : System) (step : Step) (result : Result Effect Refusal) (new : System)
         → Steps s step result new → (result ≡ Err Refusal.Memory → ⊥) → new ≡ next s step }
@@ -84,7 +85,7 @@ pub fn further_steps_take_nothing_away()
     ensures joined { (config : Config) (steps later : List Step) (name : ℕ)
         → HasJoined (after config steps) name → HasJoined (after config (steps ++ later)) name }
     ensures held { (config : Config) (steps later : List Step) (number : ℕ) (key : List ℕ)
-        → IsAtMost (held_in (after config steps).nodes number key).tag
+        → IsNoGreater (held_in (after config steps).nodes number key).tag
         (held_in (after config (steps ++ later)).nodes number key).tag }
     ensures rows { (config : Config) (steps later : List Step)
         → Grows (after config steps).history.rows (after config (steps ++ later)).history.rows }

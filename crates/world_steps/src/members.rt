@@ -6,7 +6,7 @@ ghost use Rattle.std.specs.Cmp.{and_per, nat_eq_equiv, on_per, partial_equiv_fro
 ghost use Rattle.std.specs.Cmp.Lexicographic.{lists_per, pointwise};
 ghost use Rattle.std.specs.Ordering.{eq_of_both, on};
 ghost use Rattle.client_phases.specs.contracts.clients.ClientPartialEq.TheImpl.Laws as client;
-ghost use Rattle.client_phases.specs.Clients.{MayTake, client_after, client_after_invoke, phase_of};
+ghost use Rattle.client_phases.specs.Clients.{MayReceive, client_after, client_after_invoke, phase_of};
 ghost use Rattle.client_phases.specs.Clients.{client_after_respond, client_after_stop};
 ghost use Rattle.client_phases.specs.Clients.{reply_result};
 ghost use Rattle.client_phases.specs.declared.clients.Client.{Client};
@@ -112,7 +112,7 @@ impl Members {
     /// Has a client take a reply.
     pub(crate) fn take(&mut self, name: ClientId, reply: Reply)
         requires { (client : Client) → finite.get self.old.clients name ≡ Some client
-            → MayTake client reply }
+            → MayReceive client reply }
         ensures { (client : Client) → finite.get self.old.clients name ≡ Some client
             → self.new ≡ with_client self.old name (client_after client reply) }
     {

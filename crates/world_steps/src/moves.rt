@@ -155,8 +155,8 @@ impl System {
         Ok(Effect::Answered(flight))
     }
 
-    /// Records the note of a call, where what its client takes settles the call's tag.
-    fn note_settled(&mut self, op: OpId, taken: &Taken) -> Result<(), Memory>
+    /// Records the note of a call, if what its client takes fixes the call's tag.
+    fn note_outcome(&mut self, op: OpId, taken: &Taken) -> Result<(), Memory>
         requires { MayNote self.old op taken.now }
         ensures ok { OnOk result (self.new
             ≡ record self.old { history = with_note self.old.history op taken.now }) }
@@ -181,7 +181,7 @@ impl System {
             Some(client) => client.foresee(&reply),
             None => unreachable!(),
         };
-        self.note_settled(answered_op(&reply), &taken)?;
+        self.note_outcome(answered_op(&reply), &taken)?;
         self.members.take(name, reply);
         Ok(Effect::Taken(taken))
     }
@@ -202,7 +202,7 @@ impl System {
         Ok(effect)
     }
 
-    /// A copy of the flight goes, where there is one.
+    /// A copy of the flight goes, if there is one.
     fn lose(&mut self, flight: u32)
         ensures { self.new ≡ lose self.old flight }
     {

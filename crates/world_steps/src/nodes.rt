@@ -2,6 +2,7 @@
 ghost use Rattle.std.specs.Prelude.{◌≡◌, ◌<◌, ◌≤◌, ◌++◌, ◌∷◌, IfOk, OnOk, OnErr, length, slice_get, slice_set, Some};
 ghost use Rattle.std.specs.Option.{option_copied};
 ghost use Rattle.std.specs.Cmp.Lexicographic.{lists_per, pointwise};
+ghost use Rattle.tag.specs.Limits.{replica_limit};
 ghost use Rattle.replica.specs.Replicas.{TakesNoMemory, replica_after, reply_of};
 ghost use Rattle.world_steps.specs.contracts.nodes.NodePartialEq.TheImpl.Laws as node;
 ghost use Rattle.world_steps.specs.declared.nodes.Node.{Node};
@@ -51,7 +52,7 @@ impl PartialEq for Nodes {
 impl Nodes {
     /// So many replicas, 15 at most, that are up and have stored nothing.
     pub(crate) fn new(alloc: Global, count: u8) -> Result<Nodes, Memory>
-        requires { count ≤ 15 }
+        requires { count ≤ replica_limit }
         ensures { IfOk result (λ nodes. nodes ≡ nodes_below count) }
     {
         let mut list = Vec::with_capacity(alloc, usize::from(count))?;

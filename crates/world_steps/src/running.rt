@@ -10,9 +10,9 @@ use crate::{Config, Refusal, Step, World};
 use std::alloc::Global;
 use tag::Memory;
 
-/// Takes a step, and passes over a refusal other than for memory. An error comes only where something
-/// may grow for the step.
-#[tactic(auto, using(crate::specs::StepAnswers::next_is))]
+/// Takes a step, and passes over a refusal other than for memory. An error comes only if the step
+/// may allocate.
+#[tactic(auto, using(crate::proofs::StepAnswers::next_is))]
 fn advance(world: &mut World, step: &Step) -> Result<(), Memory>
     ensures next { OnOk result (world.new ≡ next world.old step.now) }
     ensures sound { OnOk result (IsSound world.new) }

@@ -1,6 +1,6 @@
 //! The steps of a world.
 ghost use Rattle.std.specs.Prelude.{◌≡◌, IfOk, OnErr};
-ghost use Rattle.world_steps.specs.Runs.{HasText};
+ghost use Rattle.world_steps.specs.Runs.{HoldsTexts};
 
 use tag::{Action, ClientId, Key, Memory, ReplicaId};
 
@@ -53,10 +53,10 @@ pub enum Step {
 }
 
 impl Step {
-    /// An equal step. `Memory` comes only where there is a text to copy.
+    /// An equal step. `Memory` comes only if there is a text to copy.
     pub fn copy(&self) -> Result<Step, Memory>
         ensures equal { IfOk result (λ step. step ≡ self.now) }
-        ensures err { OnErr result (HasText self.now) }
+        ensures err { OnErr result (HoldsTexts self.now) }
     {
         match self {
             Step::Join { client } => Ok(Step::Join { client: *client }),

@@ -3,7 +3,8 @@ ghost use Rattle.std.specs.Prelude.{◌≡◌, [], ◌∷◌, List, ℕ, Some, t
 ghost use Rattle.tag.specs.declared.actions.Action.{Action};
 ghost use Rattle.replica.specs.declared.requests.Request.{Request};
 ghost use Rattle.network.specs.declared.messages.Message.{Message};
-ghost use Rattle.world_steps.specs.Refusals.{refusal_of, phase_at, first_of, arrival_refusals, flights_full};
+ghost use Rattle.world_steps.specs.Refusals.{◌when◌, refusal_of, phase_at, first_of, arrival_refusals};
+ghost use Rattle.world_steps.specs.Refusals.{flights_full};
 ghost use Rattle.world_steps.specs.declared.step.Step.{Step};
 
 use crate::system::System;

@@ -1,5 +1,6 @@
 //! The system of clients, replicas, the network between them and the record.
 ghost use Rattle.std.specs.Prelude.{◌≡◌, ◌≤◌, IfOk};
+ghost use Rattle.tag.specs.Limits.{call_limit};
 ghost use Rattle.quorum.specs.Quorums.{IsLawful};
 ghost use Rattle.world_steps.specs.Systems.{opening};
 
@@ -26,7 +27,7 @@ impl System {
     pub(crate) fn new(alloc: Global, config: Config) -> Result<System, Memory>
         ensures system { IfOk result (λ system. system ≡ opening config) }
         ensures lawful { IsLawful config.quorums }
-        ensures few { config.calls ≤ 1000000 }
+        ensures few { config.calls ≤ call_limit }
     {
         let (replicas, calls) = (config.replicas(), config.calls());
         Ok(System {

@@ -57,7 +57,7 @@ impl PartialEq for World {
 
 impl World {
     /// The world before the first step: nobody joined, all replicas are up and empty, nothing was sent
-    /// or recorded. `Memory` comes only where an allocation was refused.
+    /// or recorded. `Memory` comes only if an allocation was refused.
     pub fn new(alloc: Global, config: Config) -> Result<World, Memory>
         ensures opening { IfOk result (λ world. world ≡ opening config) }
         ensures sound { IfOk result (λ world. IsSound world) }
@@ -69,7 +69,7 @@ impl World {
     /// Takes a step, and answers what it did.
     ///
     /// Of the refusals that apply the one with the lowest number is answered, and the world then
-    /// equals what it was. `Memory` comes only where no other applies and an allocation was refused; the
+    /// equals what it was. `Memory` comes only if no other applies and an allocation was refused; the
     /// steps `Lose`, `Repeat`, `StopClient`, `StopReplica` and `StartReplica` take no memory.
     pub fn step(&mut self, step: Step) -> Result<Effect, Refusal>
         ensures step { Steps self.old step result self.new }

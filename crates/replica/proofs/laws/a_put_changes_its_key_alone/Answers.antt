@@ -1,4 +1,4 @@
-use Rattle.replica.specs.Insertions.{pair_of-adopt_other}
+use Rattle.replica.proofs.Insertions.{pair_of-adopt_other}
 use Rattle.replica.proofs.laws.a_put_changes_its_key_alone.Goals as goal
 
 pub returns : goal.returns

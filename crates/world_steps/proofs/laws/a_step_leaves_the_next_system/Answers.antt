@@ -1,4 +1,4 @@
-use Rattle.world_steps.specs.StepAnswers.{next_is}
+use Rattle.world_steps.proofs.StepAnswers.{next_is}
 use Rattle.world_steps.proofs.laws.a_step_leaves_the_next_system.Goals as goal
 
 pub returns : goal.returns

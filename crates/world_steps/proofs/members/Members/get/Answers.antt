@@ -1,6 +1,6 @@
 use Rattle.std.proofs.Common.{sym, ◌∙◌}
 use Rattle.std.specs.Cmp.{nat_cmp_total}
-use Rattle.replica.specs.Maps.{get-from_tree}
+use Rattle.replica.proofs.Maps.{get-from_tree}
 use Rattle.world_steps.proofs.members.Members.get.Goals as goal
 
 pub returns : goal.returns

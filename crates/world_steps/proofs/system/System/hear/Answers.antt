@@ -8,7 +8,7 @@ use Rattle.world_steps.specs.Moves.{MayNote}
 use Rattle.world_steps.proofs.system.System.hear.Goals as goal
 
 -- the client that was found is the one that may take the reply
-pub note_settled-requires : goal.note_settled-requires
-note_settled-requires c =
+pub note_outcome-requires : goal.note_outcome-requires
+note_outcome-requires c =
     let same : c.requires.client ≡ c.in-Some.client.now = same_Some _ _ (sym c.requires.is ∙ sym c.get.ensures ∙ ap option_copied c.in-Some.is) in
     rw (c.answered_op.ensures, c.foresee-taken.ensures) (subst (λ (k : Client). MayNote c.args.self.now (answered_op c.args.reply) (reply_result k c.args.reply)) same c.requires.notes)

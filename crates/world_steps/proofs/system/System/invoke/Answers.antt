@@ -18,9 +18,9 @@ returns-in-Ok c =
     let row : c.invoke.new.self ≡ with_row s.history (Invoke (next_call s) c.args.name c.in_ok-copy.field-0 c.in_ok-copy-2.field-0) = (rw c.in-Ok.is at c.invoke.ensures.row).1 in
     let same : c.invoke.new.self ≡ with_row s.history (Invoke (next_call s) c.args.name c.args.key c.args.action) =
     row ∙ ap (λ k. with_row s.history (Invoke (next_call s) c.args.name k c.in_ok-copy-2.field-0)) c.in_ok-copy.ensures ∙ ap (λ (a : Action). with_row s.history (Invoke (next_call s) c.args.name c.args.key a)) c.in_ok-copy-2.ensures in
-    let turned : c.invoke-in-Ok.new.self ≡ with_client s.members c.args.name (client_after_invoke client (next_call s) c.args.key c.args.action) =
+    let became : c.invoke-in-Ok.new.self ≡ with_client s.members c.args.name (client_after_invoke client (next_call s) c.args.key c.args.action) =
     c.invoke-in-Ok.ensures client c.requires.is ∙ ap (λ o. with_client s.members c.args.name (client_after_invoke client o c.args.key c.args.action)) op_is in (
       ap (λ o. Some (Invoked o)) (sym op_is),
-      (λ i. record { config = s.config; members = turned i; nodes = s.nodes; pool = s.pool; history = same i })
+      (λ i. record { config = s.config; members = became i; nodes = s.nodes; pool = s.pool; history = same i })
           ∙ ap (λ (o : Option Client). invoke s c.args.name c.args.key c.args.action o) (sym c.requires.is),
     )

@@ -2,21 +2,15 @@
 use Rattle.std.specs.Prelude.{◌≡◌, ◌≢◌, ℕ, Bool, true, false, List, Some, cond}
 use Rattle.std.specs.Option.{unwrap_or}
 use Rattle.std.specs.Ordering.{nat_cmp, is_eq, is_lt, eq_by_cmp}
-use Rattle.std.specs.declared.cmp.Ordering.{Ordering}
-use Rattle.std.specs.declared.cmp.Ordering.TheVariants.{Less, Equal, Greater}
 use Rattle.std.specs.Cmp.{tied_itself}
 use Rattle.std.specs.Cmp.Lexicographic.{slice_cmp, nat_list_cmp_total}
 use Rattle.std.specs.FinMap as finite
 use Rattle.std.specs.FinMap.{nat_cmp-IsAntisymmetric, slice_cmp-IsAntisymmetric}
-use Rattle.std.proofs.Common.{ap, ◌∙◌, refl}
-use Rattle.std.proofs.lemmas.Bool.{false≢true}
+use Rattle.std.proofs.Common.{◌⊎◌, ap, ◌∙◌, inl, inr, refl, sym, true≢false}
+use Rattle.std.proofs.lemmas.Bool.{false_from_ne_true}
+use Rattle.tag.proofs.Orderings.{equal_from_is_eq}
 use Rattle.tag.specs.Tags.{tag_cmp}
 use Rattle.replica.specs.Pairs.{Pair, Pairs, no_pair, pair_of, adopt}
-
-equal : (o : Ordering) → is_eq o ≡ true → o ≡ Equal
-equal Less e = absurd (false≢true e)
-equal Equal e = refl
-equal Greater e = absurd (false≢true e)
 
 -- ---- the pair of a key after an insertion
 pub pair_of-insert : (pairs : Pairs) (key : List ℕ) (pair : Pair) (q : List ℕ)
@@ -34,17 +28,23 @@ pair_of-insert_same pairs key pair = pair_of-insert pairs key pair key
     ∙ ap (λ o. cond (is_eq o) pair (pair_of pairs key)) (tied_itself nat_list_cmp_total key)
 
 pub same_key : (q key : List ℕ) → eq_by_cmp (slice_cmp nat_cmp) q key ≡ true → q ≡ key
-same_key q key e = slice_cmp-IsAntisymmetric nat_cmp-IsAntisymmetric q key (equal _ e)
+same_key q key e = slice_cmp-IsAntisymmetric nat_cmp-IsAntisymmetric q key (equal_from_is_eq _ e)
 
-other_key : (q key : List ℕ) (b : Bool) → eq_by_cmp (slice_cmp nat_cmp) q key ≡ b → q ≢ key → b
-    ≡ false
-other_key q key true e apart = absurd (apart (same_key q key e))
-other_key q key false e apart = refl
+-- a key is another or not
+pub same_key_or_not : (q key : List ℕ) → (q ≡ key) ⊎ (q ≢ key)
+same_key_or_not q key = by (eq_by_cmp (slice_cmp nat_cmp) q key) refl
+  where
+    by : (b : Bool) → eq_by_cmp (slice_cmp nat_cmp) q key ≡ b → (q ≡ key) ⊎ (q ≢ key)
+    by true e = inl (same_key q key e)
+    by false e = inr (λ is.
+        true≢false (sym (ap is_eq (tied_itself nat_list_cmp_total q))
+        ∙ ap (λ k. eq_by_cmp (slice_cmp nat_cmp) q k) is ∙ e))
 
 pub pair_of-insert_other : (pairs : Pairs) (key : List ℕ) (pair : Pair) (q : List ℕ) → q ≢ key
     → pair_of (finite.insert pairs key pair) q ≡ pair_of pairs q
 pair_of-insert_other pairs key pair q apart = pair_of-insert pairs key pair q
-    ∙ ap (λ b. cond b pair (pair_of pairs q)) (other_key q key _ refl apart)
+    ∙ ap (λ b. cond b pair (pair_of pairs q))
+    (false_from_ne_true (eq_by_cmp (slice_cmp nat_cmp) q key) (λ e. apart (same_key q key e)))
 
 -- ---- the pair of a key after a put
 pub pair_of-adopt_other : (pairs : Pairs) (key q : List ℕ) (pair : Pair) → q ≢ key

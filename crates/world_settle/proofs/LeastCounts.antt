@@ -1,13 +1,14 @@
 -- How many candidates make a quorum.
-use Rattle.std.proofs.Common.{◌≡◌, ℕ, zero, suc, ◌+◌, ◌<◌, ◌≤◌, ◌⊎◌, Bool, true, false, cond, not}
+use Rattle.std.proofs.Common.{◌≡◌, ℕ, zero, suc, ◌+◌, ◌<◌, ◌≤◌, Bool, true, false, cond, not}
 use Rattle.std.proofs.Common.{◌&&◌, ◌||◌, nat_eq, nat_le, List, [], ◌∷◌, take, length, slice_index}
 use Rattle.std.proofs.Common.{refl, sym, ◌∙◌, ap, subst, arith, inl, inr, leb-true, eqb-true}
-use Rattle.std.proofs.lemmas.Bool.{le-leb, cases_lt, cases_order}
+use Rattle.std.proofs.lemmas.Bool.{and_right, cases_order, le-leb}
 use Rattle.std.proofs.lemmas.List.{take_all}
 use Rattle.std.proofs.lemmas.List.FromFn.{length-range_with_len}
 use Rattle.std.specs.FinSet as finite
 use Rattle.std.specs.List.{filter, range_with_len}
 use Rattle.std.specs.Ordering.{nat_cmp}
+use Rattle.tag.proofs.Below.{below_or_last}
 use Rattle.quorum.specs.Sets.{Replicas}
 use Rattle.quorum.specs.Bits.{contains-insert}
 use Rattle.quorum.specs.Quorums.{IsAskQuorum, IsPutQuorum, votes_below, votes_of}
@@ -54,11 +55,7 @@ member_by p m x rest all false true tail is same tails e =
 member_by p m x rest all false false tail is same tails e = tails ∙ e
 
 member_filter : (p : ℕ → Bool) (m : ℕ) (xs : List ℕ) → member m (filter p xs) ≡ (p m && member m xs)
-member_filter p m [] = none (p m)
-  where
-    none : (b : Bool) → false ≡ (b && false)
-    none true = refl
-    none false = refl
+member_filter p m [] = sym (and_right (p m) false refl)
 member_filter p m (x ∷ xs) = member_by p m x (member m (filter p xs)) (member m xs) (p x) (nat_eq m
     x) (filter p xs) refl refl refl (member_filter p m xs)
 
@@ -118,15 +115,11 @@ pub record Least (test : ℕ → Bool) : Type 0 where
 seek_by : (test : ℕ → Bool) (k : ℕ) (b : Bool) → test k ≡ b → ((m : ℕ) → m < k → test m ≡ true → ⊥)
     → (((m : ℕ) → m < suc k → test m ≡ true → ⊥) → Least test) → Least test
 seek_by test k true is none later = record { count = k; holds = is; least = none }
-seek_by test k false is none later = later (λ m less h. elim (lower m k less) [
+seek_by test k false is none later = later (λ m less h. elim (below_or_last m k less) [
   | inl low ↦ none m low
       h
   | inr same ↦ (let e : test k ≡ true = ap test (sym same) ∙ h in cc)
 ])
-  where
-    lower : (m k : ℕ) → m < suc k → (m < k) ⊎ (m ≡ k)
-    lower m k less =
-        elim (cases_lt m k) [ inl lt ↦ inl lt | inr ge ↦ inr (omega (arith, ge, less)) ]
 
 seek : (test : ℕ → Bool) (fuel k : ℕ) → ((m : ℕ) → m < k → test m ≡ true → ⊥) → test (fuel + k)
     ≡ true → Least test

@@ -1,11 +1,12 @@
 -- A tree map, seen as the finite map of its entries.
-use Rattle.std.proofs.Common.{◌≡◌, ◌+◌, Bool, true, false, ◌&&◌, suc, List, [], ◌∷◌, Option, Some}
+use Rattle.std.proofs.Common.{◌≡◌, ◌+◌, Bool, true, false, ◌&&◌, not, suc, List, [], ◌∷◌, Option, Some}
 use Rattle.std.proofs.Common.{None, IsSome, cond, is_some, length, ap, sym, ◌∙◌, refl, add-one}
 use Rattle.std.specs.declared.cmp.Ordering.{Ordering}
 use Rattle.std.specs.declared.cmp.Ordering.TheVariants.{Less}
 use Rattle.std.specs.Ordering.{is_eq, eq_by_cmp}
 use Rattle.std.specs.List.{AllByRecursion}
 use Rattle.std.specs.List.Sorted.{IsStrictlySortedBy}
+use Rattle.std.proofs.lemmas.Bool.{and_left, and_right, not-false, not-true}
 use Rattle.std.proofs.lemmas.List.{nil_from_length}
 use Rattle.std.proofs.lemmas.Map.Keys.{sorted_head, sorted_tail}
 use Rattle.std.specs.Cmp.{IsTotalOrder, eq_by_cmp_equiv}
@@ -15,10 +16,6 @@ use Rattle.std.specs.Cmp.Lexicographic.{pointwise}
 use Rattle.std.specs.FinMap as finite
 use Rattle.std.specs.FinMap.{IsAntisymmetric, find, put}
 use Rattle.std.specs.FinMap.Entries.{by_order}
-
-pub and-false : (b : Bool) → (b && false) ≡ false
-and-false true = refl
-and-false false = refl
 
 module _ {K X : Type 0} {R : K → K → Ordering} (total : IsTotalOrder R) where
   -- both look along the entries for the first that the order ties with the key
@@ -118,13 +115,23 @@ length-pointwise E [] [] apart = absurd (apart refl)
 length-pointwise E [] (y ∷ ys) apart = refl
 length-pointwise E (x ∷ xs) [] apart = refl
 length-pointwise E (x ∷ xs) (y ∷ ys) apart =
-    ap (λ b. E x y && b) (length-pointwise E xs ys (λ e. apart (ap suc e))) ∙ and-false (E x y)
+    ap (λ b. E x y && b) (length-pointwise E xs ys (λ e. apart (ap suc e))) ∙ and_right (E x y) false refl
 
--- so do trees of two sizes
-pub apart-trees : {K X : Type 0} {R : K → K → Ordering} (total : IsTotalOrder R) (E : K × X → K × X
-    → Bool) (m n : BTreeMap K X) → IsOrdered R m → IsOrdered R n
-    → (length m.entries ≡ length n.entries → ⊥)
-    → pointwise E (finite.entries (finite.from_entries {R = R} m.entries))
-    (finite.entries (finite.from_entries {R = R} n.entries)) ≡ false
-apart-trees total E m n m_ordered n_ordered apart =
-    pointwise-trees total E m n m_ordered n_ordered ∙ length-pointwise E m.entries n.entries apart
+-- ---- an equality of two parts: something in front, and two trees
+module _ {K X : Type 0} {R : K → K → Ordering} (total : IsTotalOrder R) (E : K × X → K × X → Bool) (front : Bool) (m n : BTreeMap K X) where
+  abbrev trees_alike : Bool
+  trees_alike = pointwise E (finite.entries (finite.from_entries {R = R} m.entries)) (finite.entries (finite.from_entries {R = R} n.entries))
+
+  -- the fronts differ
+  pub apart_in_front : true ≡ not front → false ≡ (front && trees_alike)
+  apart_in_front e = sym (and_left front trees_alike (not-true front (sym e)))
+
+  -- trees of two sizes differ
+  pub apart_in_size : IsOrdered R m → IsOrdered R n → (length m.entries ≡ length n.entries → ⊥) → false ≡ (front && trees_alike)
+  apart_in_size m_ordered n_ordered apart =
+      sym (and_right front trees_alike (pointwise-trees total E m n m_ordered n_ordered ∙ length-pointwise E m.entries n.entries apart))
+
+  -- the fronts are equal: the entries decide
+  pub alike_in_front : false ≡ not front → IsOrdered R m → IsOrdered R n → pointwise E m.entries n.entries ≡ (front && trees_alike)
+  alike_in_front e m_ordered n_ordered =
+      sym (pointwise-trees total E m n m_ordered n_ordered) ∙ sym (ap (λ b. b && trees_alike) (not-false front (sym e)))

@@ -1,40 +1,26 @@
 -- The caller of a call that is begun once.
 use Rattle.std.proofs.Common.{◌≡◌, ℕ, zero, suc, Bool, true, false, cond, nat_eq, eqb-true, List}
-use Rattle.std.proofs.Common.{[], ◌∷◌, Option, None, Some, refl, ap, sym, subst, ◌∙◌}
+use Rattle.std.proofs.Common.{[], ◌∷◌, Option, None, Some, refl, ap}
 use Rattle.std.proofs.lemmas.Bool.{eqb-false, false≢true}
+use Rattle.tag.proofs.SameTags.{same_op}
 use Rattle.tag.specs.declared.actions.Action.{Action}
 use Rattle.tag.specs.declared.numbers.OpId.{OpId}
 use Rattle.recorder.specs.Histories.{caller_of, is_invoke}
 use Rattle.recorder.specs.declared.row.Row.{Row}
 use Rattle.recorder.specs.declared.row.Row.TheVariants.{Invoke, Note, Respond}
 use Rattle.world_steps.specs.Sound.{At, RowsSound, Invoked}
+use Rattle.world_steps.proofs.RowLaws.{same_client}
 
--- the call that a row begins, and its client; where it begins none, those that are given
+-- the call that a row begins; where it begins none, the one that is given
 abbrev begun_call : OpId → Option Row → OpId
 begun_call other None = other
 begun_call other (Some (Invoke op client key action)) = op
 begun_call other (Some (Note op tag)) = other
 begun_call other (Some (Respond op returned)) = other
 
-abbrev beginner : ℕ → Option Row → ℕ
-beginner other None = other
-beginner other (Some (Invoke op client key action)) = client
-beginner other (Some (Note op tag)) = other
-beginner other (Some (Respond op returned)) = other
-
 abbrev begins : Option Row → Bool
 begins None = false
 begins (Some row) = is_invoke row
-
-same_op : (o u : OpId) → o.0 ≡ u.0 → o ≡ u
-same_op o u e = λ i. record { 0 = e i }
-
-same_client : (R : List Row) → RowsSound R
-    → (p q : ℕ) (o : OpId) (c d : ℕ) (k l : List ℕ) (a b : Action) → At R p (Invoke o c k a)
-    → At R q (Invoke o d l b) → c ≡ d
-same_client R rows p q o c d k l a b i j =
-    ap (beginner c) (sym (subst (λ n. At R n (Invoke o c k a)) (rows.once p q o c d k l a b i j) i)
-    ∙ j)
 
 -- each row that begins the call names the client
 abbrev NamesOnly : List Row → OpId → ℕ → Type 0

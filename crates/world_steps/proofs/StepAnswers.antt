@@ -15,6 +15,10 @@ pub next_by : (s : System) (step : Step) (found : Option Refusal) → refusal_of
     → next s step ≡ cond (is_some found) s (system_after s step)
 next_by s step found e = ap (λ o. cond (is_some o) s (system_after s step)) e
 
+-- a step that nothing refuses is made
+pub next_moved : (s : System) (step : Step) → refusal_of s step ≡ None → next s step ≡ system_after s step
+next_moved s step none = next_by s step None none
+
 -- a step that isn't refused for memory leaves the next system
 pub next_is : (s : System) (step : Step) (result : Result Effect Refusal) (new : System)
     → Steps s step result new → (result ≡ Err refusal.Memory → ⊥) → new ≡ next s step

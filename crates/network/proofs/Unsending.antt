@@ -1,29 +1,16 @@
 -- A send that is taken back leaves nothing.
-use Rattle.std.proofs.Common.{◌≡◌, ℕ, ◌+◌, ◌-◌, Bool, true, false, Option, Some, None, cond, ap}
+use Rattle.std.proofs.Common.{◌≡◌, ℕ, ◌+◌, ◌-◌, Bool, true, false, Some, None, cond, ap}
 use Rattle.std.proofs.Common.{sym, ◌∙◌, refl}
 use Rattle.std.proofs.Math.Nat.{add-sub_cancel, lt_irrefl}
-use Rattle.std.proofs.lemmas.Bool.{false≢true}
-use Rattle.std.specs.declared.cmp.Ordering.{Ordering}
-use Rattle.std.specs.declared.cmp.Ordering.TheVariants.{Less, Equal, Greater}
-use Rattle.std.specs.Ordering.{nat_cmp, eq_by_cmp, is_eq}
+use Rattle.std.specs.Ordering.{nat_cmp, eq_by_cmp}
 use Rattle.std.specs.Cmp.{nat_cmp_total}
 use Rattle.std.specs.FinMap as finite
 use Rattle.std.specs.FinMap.{nat_cmp-IsAntisymmetric}
+use Rattle.tag.proofs.Orderings.{same_number}
 use Rattle.network.specs.Flights.{Flight, Flights}
 use Rattle.network.specs.Pools.{IsBag, Pool, with_sent, without_last}
 use Rattle.network.specs.declared.messages.Message.{Message}
-
-equal : (o : Ordering) → is_eq o ≡ true → o ≡ Equal
-equal Less e = absurd (false≢true e)
-equal Equal e = refl
-equal Greater e = absurd (false≢true e)
-
-same_number : (q k : ℕ) → eq_by_cmp nat_cmp q k ≡ true → q ≡ k
-same_number q k e = nat_cmp-IsAntisymmetric q k (equal _ e)
-
-none_of : {X : Type 0} (o : Option X) → ((x : X) → o ≡ Some x → ⊥) → o ≡ None
-none_of None h = refl
-none_of (Some x) h = absurd (h x refl)
+use Rattle.network.proofs.Lookups.{none_of}
 
 back : (flights : Flights) (k q : ℕ) (flight : Flight) (b : Bool) → eq_by_cmp nat_cmp q k ≡ b
     → finite.get flights k ≡ None → cond b None (cond b (Some flight) (finite.get flights q))
