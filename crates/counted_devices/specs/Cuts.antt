@@ -7,6 +7,10 @@ use Rattle.std.specs.List.{flat_map}
 abbrev pub with_end : List ℕ → List ℕ
 with_end line = line ++ 10 ∷ []
 
+-- the most bytes that a line may have
+abbrev pub longest_line : ℕ
+longest_line = 65536
+
 -- no end of a line stands there
 abbrev pub HasNoEnd : List ℕ → Type 0
 HasNoEnd bytes = All (λ b. b ≢ 10) bytes

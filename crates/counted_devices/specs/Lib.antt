@@ -3,10 +3,9 @@ pub mod FaultTexts
 pub mod Cuts
 pub mod Counts
 pub mod Devices
+pub mod DeviceStates
 pub mod Deliveries
 pub mod ReadFaults
+pub mod Answers
+pub mod FirstFaults
 pub mod Sendings
-pub mod Leaving
-pub mod CutLemmas
-pub mod Consuming
-pub mod CutOnce

@@ -13,9 +13,9 @@ pub record Leaves (old new : Option (List ℕ)) (text rest : List ℕ) : Type 0 
   pub sent : Appends old new out
   pub whole : text ≡ out ++ rest
 
--- what went out is a beginning of the text
-abbrev pub Begins : Option (List ℕ) → Option (List ℕ) → List ℕ → Type 0
-Begins old new text = (rest : List ℕ) × Leaves old new text rest
+-- between two states of a writer a beginning of the text went out
+abbrev pub AppendsPrefix : Option (List ℕ) → Option (List ℕ) → List ℕ → Type 0
+AppendsPrefix old new text = (rest : List ℕ) × Leaves old new text rest
 
 -- a device's fault comes only where the count of failures grew
 abbrev pub HasFailedBy : WriteFault → ℕ → ℕ → Type 0
@@ -28,7 +28,7 @@ Sends contents old new text = Appends (contents old) (contents new) text
 
 -- between two states of a writer a beginning of the text went out
 abbrev pub SendsStart : {W : Type 0} → (W → Option (List ℕ)) → W → W → List ℕ → Type 0
-SendsStart contents old new text = Begins (contents old) (contents new) text
+SendsStart contents old new text = AppendsPrefix (contents old) (contents new) text
 
 -- between two states of a writer a beginning of the text went out, and that rest waits
 abbrev pub SendsBut : {W : Type 0} → (W → Option (List ℕ)) → W → W → List ℕ → List ℕ → Type 0

@@ -1,10 +1,11 @@
 -- Steps that may fail, one after another.
 use Rattle.std.proofs.Common.{◌≡◌, ◌⊎◌, inl, inr, Bool, true, false, cond, Result, Ok, Err, refl, ap}
 use Rattle.fault_script.specs.declared.fault.LineFault.{LineFault}
-use Rattle.fault_script.specs.Says.{◌>>=◌}
+use Rattle.counted_devices.specs.Answers.{◌>>=◌}
 
 -- what two steps gave, the first of them gave something
-pub after : {A B : Type 0} (r : Result A LineFault) (f : A → Result B LineFault) (y : B) → (r >>= f) ≡ Ok y → (x : A) × (r ≡ Ok x) × (f x ≡ Ok y)
+pub after : {A B : Type 0} (r : Result A LineFault) (f : A → Result B LineFault) (y : B) → (r >>= f) ≡ Ok y → (x : A) × (r ≡ Ok x)
+    × (f x ≡ Ok y)
 after (Ok x) f y e = (x, refl, e)
 after (Err fault) f y e = absurd (cc)
 
@@ -19,7 +20,8 @@ picked true x y w e = inl (refl, e)
 picked false x y w e = inr e
 
 -- what is made of one answer
-pub mapped : {A B : Type 0} (r : Result A LineFault) (f : A → B) (y : B) → (r >>= (λ x. done (f x))) ≡ Ok y → (x : A) × (r ≡ Ok x) × (f x ≡ y)
+pub mapped : {A B : Type 0} (r : Result A LineFault) (f : A → B) (y : B) → (r >>= (λ x. done (f x))) ≡ Ok y → (x : A) × (r ≡ Ok x)
+    × (f x ≡ y)
 mapped (Ok x) f y e = (x, refl, inside (f x) y e)
 mapped (Err fault) f y e = absurd (cc)
 

@@ -1,5 +1,7 @@
 -- What lines made so far, and one line more.
-use Rattle.std.proofs.Common.{ℕ, ◌≡◌, ◌==◌, ◌+◌, List, [], ◌∷◌, ◌++◌, length, Bool, true, false, cond, Option, Some, None, Result, Ok, Err, bytes_eq, codes, nat_le, slice_index, refl, sym, ap, ◌∙◌, subst, arith, length-append}
+use Rattle.std.proofs.Common.{ℕ, ◌≡◌, ◌==◌, ◌+◌, List, [], ◌∷◌, ◌++◌, length, Bool, true, false}
+use Rattle.std.proofs.Common.{cond, Option, Some, None, Result, Ok, Err, bytes_eq, codes, nat_le}
+use Rattle.std.proofs.Common.{slice_index, refl, sym, ap, ◌∙◌, subst, arith, length-append}
 use Rattle.std.proofs.lemmas.List.Sums.{fold-append}
 use Rattle.std.proofs.lemmas.List.Elements.{filter_map-append}
 use Rattle.fault_script.specs.declared.draft.Draft.{Draft}
@@ -11,46 +13,62 @@ use Rattle.fault_script.specs.declared.fault.LineFault.TheVariants.{NoReplicas, 
 use Rattle.world_steps.specs.Configs.{Config}
 use Rattle.fault_script.specs.declared.parse_line.Last.TheVariants.{Replicas}
 use Rattle.fault_script.specs.Words.{words, behind_word, without_return}
-use Rattle.fault_script.specs.Says.{◌>>=◌}
+use Rattle.counted_devices.specs.Answers.{◌>>=◌}
 use Rattle.fault_script.specs.Settings.{replicas_in}
 use Rattle.fault_script.specs.LineMeanings.{first_said, said_in, command_says, words_say, text_says}
-use Rattle.fault_script.specs.Lines.{Shows, is_long, is_no_text, says}
-use Rattle.fault_script.specs.Scripts.{SaidLine, AreRead, no_line, blank_line, command_line, opened_after, opened_of, command_by, commands_of}
+use Rattle.fault_script.specs.Lines.{ScriptLineSays, is_long, is_no_text, says}
+use Rattle.fault_script.specs.Scripts.{SaidLine, ScriptLinesSay, no_line, blank_line, command_line}
+use Rattle.fault_script.specs.Scripts.{opened_after, opened_of, command_by, commands_of}
 use Rattle.fault_script.specs.Feeds.{IsDraft, DrawsBy}
 use Rattle.fault_script.proofs.Chains.{after}
 
 opened-more : (saids : List SaidLine) (placed : SaidLine) → opened_of (saids ++ placed ∷ []) ≡ opened_after (opened_of saids) placed.said
 opened-more saids placed = fold-append (λ (before : Option ConfigSoFar) (p : SaidLine). opened_after before p.said) None saids (placed ∷ [])
 
-commands-more : (saids : List SaidLine) (placed : SaidLine) → commands_of (saids ++ placed ∷ []) ≡ commands_of saids ++ commands_of (placed ∷ [])
+commands-more : (saids : List SaidLine) (placed : SaidLine) → commands_of (saids ++ placed ∷ []) ≡ commands_of saids
+    ++ commands_of (placed ∷ [])
 commands-more saids placed = filter_map-append (λ (p : SaidLine). command_by p.line p.said) saids (placed ∷ [])
 
 -- one line more
-pub drafted_more : (saids : List SaidLine) (placed : SaidLine) (old new : Draft) → IsDraft saids old → new.opened ≡ opened_after old.opened placed.said → new.commands.items ≡ old.commands.items ++ commands_of (placed ∷ []) → new.count ≡ old.count + 1 → IsDraft (saids ++ placed ∷ []) new
+pub drafted_more : (saids : List SaidLine) (placed : SaidLine) (old new : Draft) → IsDraft saids old → new.opened
+    ≡ opened_after old.opened placed.said → new.commands.items ≡ old.commands.items ++ commands_of (placed ∷ []) → new.count
+    ≡ old.count + 1 → IsDraft (saids ++ placed ∷ []) new
 drafted_more saids placed old new d opened commands count = record {
   opened = opened ∙ ap (λ (o : Option ConfigSoFar). opened_after o placed.said) d.opened ∙ sym (opened-more saids placed);
   commands = commands ∙ ap (λ xs. xs ++ commands_of (placed ∷ [])) d.commands ∙ sym (commands-more saids placed);
   counted = omega (arith, count, d.counted, length-append saids (placed ∷ []));
 }
 
-shows_at : (saids : List SaidLine) (draft : Draft) (line : List ℕ) (r : Result (Option Said) LineFault) → IsDraft saids draft → Shows draft.opened draft.count line r → Shows (opened_of saids) (length saids) line r
+shows_at : (saids : List SaidLine) (draft : Draft) (line : List ℕ) (r : Result (Option Said) LineFault) → IsDraft saids draft
+    → ScriptLineSays draft.opened draft.count line r → ScriptLineSays (opened_of saids) (length saids) line r
 shows_at saids draft line r d h =
-    let P : Option ConfigSoFar → Type 0 = λ o. Shows o draft.count line r in
-    let Q : ℕ → Type 0 = λ n. Shows (opened_of saids) n line r in
+    let P : Option ConfigSoFar → Type 0 = λ o. ScriptLineSays o draft.count line r in
+    let Q : ℕ → Type 0 = λ n. ScriptLineSays (opened_of saids) n line r in
     subst Q d.counted (subst P d.opened h)
 
 -- a blank line, or a comment
-pub drawn_blank : (earlier : List (List ℕ)) (saids : List SaidLine) (draft : Draft) (line : List ℕ) (number : ℕ) → AreRead earlier saids → IsDraft saids draft → Shows draft.opened draft.count line (Ok None) → DrawsBy earlier line number (Ok tt) draft
-drawn_blank earlier saids draft line number read d h = (saids, blank_line earlier saids line read (shows_at saids draft line (Ok None) d h), d)
+pub drawn_blank : (earlier : List (List ℕ)) (saids : List SaidLine) (draft : Draft) (line : List ℕ) (number : ℕ)
+    → ScriptLinesSay earlier saids → IsDraft saids draft → ScriptLineSays draft.opened draft.count line (Ok None)
+    → DrawsBy earlier line number (Ok tt) draft
+drawn_blank earlier saids draft line number read d h =
+    (saids, blank_line earlier saids line read (shows_at saids draft line (Ok None) d h), d)
 
 -- a command
-pub drawn_command : (earlier : List (List ℕ)) (saids : List SaidLine) (old new : Draft) (line : List ℕ) (number : ℕ) (said : Said) → AreRead earlier saids → IsDraft saids old → number ≡ length earlier + 1 → Shows old.opened old.count line (Ok (Some said)) → ((saids : List SaidLine) → IsDraft saids old → IsDraft (saids ++ record { line = number; said = said } ∷ []) new) → DrawsBy earlier line number (Ok tt) new
+pub drawn_command : (earlier : List (List ℕ)) (saids : List SaidLine) (old new : Draft) (line : List ℕ) (number : ℕ) (said : Said)
+    → ScriptLinesSay earlier saids → IsDraft saids old → number ≡ length earlier + 1
+    → ScriptLineSays old.opened old.count line (Ok (Some said))
+    → ((saids : List SaidLine) → IsDraft saids old → IsDraft (saids ++ record { line = number; said = said } ∷ []) new)
+    → DrawsBy earlier line number (Ok tt) new
 drawn_command earlier saids old new line number said read d counted h more =
-    let P : ℕ → Type 0 = λ n. IsDraft (saids ++ record { line = n; said = said } ∷ []) new in
-    (saids ++ record { line = length earlier + 1; said = said } ∷ [], command_line earlier saids line said read (shows_at saids old line (Ok (Some said)) d h), subst P counted (more saids d))
+    let P : ℕ → Type 0 = λ n. IsDraft (saids ++ record { line = n; said = said } ∷ []) new in (
+      saids ++ record { line = length earlier + 1; said = said } ∷ [],
+      command_line earlier saids line said read (shows_at saids old line (Ok (Some said)) d h),
+      subst P counted (more saids d),
+    )
 
 -- a line that says something says it by its words
-said_by : (before : Option ConfigSoFar) (count : ℕ) (line : List ℕ) (r : Result (Option Said) LineFault) (said : Option Said) → Shows before count line r → r ≡ Ok said → text_says before count (without_return line) ≡ Ok said
+said_by : (before : Option ConfigSoFar) (count : ℕ) (line : List ℕ) (r : Result (Option Said) LineFault) (said : Option Said)
+    → ScriptLineSays before count line r → r ≡ Ok said → text_says before count (without_return line) ≡ Ok said
 said_by before count line r said (is_long h) e = absurd (cc)
 said_by before count line r said (is_no_text short h) e = absurd (cc)
 said_by before count line r said (says x short text h) e = h ∙ e
@@ -75,7 +93,8 @@ first_by false args said e = absurd (cc)
 abbrev here : Said → Result (Option Said) LineFault
 here said = Ok (Some said)
 
-command_by_words : (a b : Bool) (verb args : List ℕ) (said : Said) → cond a (Ok None) (cond b (Err TooManyCommands) (said_in None verb args >>= here)) ≡ Ok (Some said) → Sets said
+command_by_words : (a b : Bool) (verb args : List ℕ) (said : Said)
+    → cond a (Ok None) (cond b (Err TooManyCommands) (said_in None verb args >>= here)) ≡ Ok (Some said) → Sets said
 unfolding said_in first_said
 command_by_words true b verb args said e = absurd (cc)
 command_by_words false true verb args said e = absurd (cc)
@@ -100,11 +119,11 @@ some_set (Some opened) (Runs c) h e = cc
 some_set None (Runs c) h e = elim (h refl) [ ]
 
 -- where there is no configuration, there is no command
-pub no_command : (lines : List (List ℕ)) (saids : List SaidLine) → AreRead lines saids → opened_of saids ≡ None → saids ≡ []
+pub no_command : (lines : List (List ℕ)) (saids : List SaidLine) → ScriptLinesSay lines saids → opened_of saids ≡ None → saids ≡ []
 no_command lines saids no_line e = refl
 no_command lines saids (blank_line earlier x line read h) e = no_command earlier x read e
 no_command lines saids (command_line earlier x line said read h) e =
     absurd (some_set (opened_of x) said
-    (λ nothing. let P : Option ConfigSoFar → Type 0 = λ o. Shows o (length x) line (Ok (Some said)) in
+    (λ nothing. let P : Option ConfigSoFar → Type 0 = λ o. ScriptLineSays o (length x) line (Ok (Some said)) in
     text_sets (length x) (without_return line) said (said_by None (length x) line (Ok (Some said)) (Some said) (subst P nothing h) refl))
     (sym (opened-more x (record { line = length earlier + 1; said = said })) ∙ e))

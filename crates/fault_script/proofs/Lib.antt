@@ -6,7 +6,6 @@ mod VoteRows
 mod LineLemmas
 mod DraftLemmas
 mod FeedLemmas
-mod Consuming
 mod ReadingBack
 mod FormsBack
 mod SettingsBack

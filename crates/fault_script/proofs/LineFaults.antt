@@ -1,7 +1,10 @@
 -- Which fault a line's words have: none of a form that may stand there is unknown, one of a form is out of range.
-use Rattle.std.proofs.Common.{ℕ, zero, suc, ◌≡◌, ◌≢◌, ◌↔◌, ◌⊎◌, ◌&&◌, inl, inr, List, [], ◌∷◌, ◌++◌, length, Bool, true, false, cond, Option, Some, None, Result, Ok, Err, codes, bytes_eq, nat_le, refl, sym, ap, ◌∙◌, subst, arith}
+use Rattle.std.proofs.Common.{ℕ, zero, suc, ◌≡◌, ◌≢◌, ◌↔◌, ◌⊎◌, ◌&&◌, inl, inr, List, [], ◌∷◌, ◌++◌}
+use Rattle.std.proofs.Common.{length, Bool, true, false, cond, Option, Some, None, Result, Ok, Err}
+use Rattle.std.proofs.Common.{codes, bytes_eq, nat_le, refl, sym, ap, ◌∙◌, subst, arith}
 use Rattle.std.specs.List.{AllZip}
 use Rattle.std.specs.Cmp.Lexicographic.{bytes_decides}
+use Rattle.tag.proofs.Lists.{same_head}
 use Rattle.client_phases.specs.declared.rules.ReadMode.{ReadMode}
 use Rattle.client_phases.specs.declared.rules.ReadMode.TheVariants.{Full, Short}
 use Rattle.quorum.specs.Quorums.{Quorums}
@@ -13,20 +16,28 @@ use Rattle.fault_script.specs.declared.parse_line.Said.{Said}
 use Rattle.fault_script.specs.declared.parse_line.Said.TheVariants.{Opens, Runs}
 use Rattle.fault_script.specs.declared.fault.LineFault.{LineFault}
 use Rattle.fault_script.specs.declared.fault.LineFault.TheVariants.{NoReplicas, UnknownCommand, Range}
-use Rattle.fault_script.specs.Words.{words, is_numeral, decimal_value, u64_of, number_of}
-use Rattle.fault_script.specs.Says.{◌>>=◌, needed_word, needed_number, needed_text, nothing_more, number_or, in_range, within}
-use Rattle.fault_script.specs.Settings.{config_in, replicas_in, mode_of, reads_in, vote_count, numbers_in, is_lawful, quorums_of, votes_in}
+use Rattle.fault_script.specs.Words.{words, behind_three, is_numeral, decimal_value, u64_of, number_of}
+use Rattle.counted_devices.specs.Answers.{◌>>=◌}
+use Rattle.fault_script.specs.Says.{needed_word, needed_number, needed_text, nothing_more, number_or, in_range, within}
+use Rattle.fault_script.specs.Settings.{after_replicas, after_reads, after_votes, config_in}
+use Rattle.fault_script.specs.Settings.{replicas_in, mode_of, reads_in, vote_count, numbers_in}
+use Rattle.fault_script.specs.Settings.{is_lawful, quorums_of, votes_in}
 use Rattle.fault_script.specs.Commands.{command_in}
-use Rattle.fault_script.specs.LineMeanings.{reads_behind, votes_set, votes_behind, first_said, said_in}
-use Rattle.fault_script.specs.Forms.{IsValue, of_any_size, HasForm}
-use Rattle.fault_script.specs.SettingForms.{SaysReplicas, alone, with_calls, with_flights, SaysReads, SaysVotes, MayVote, SaysBehind, replicas, reads, votes, runs}
-use Rattle.fault_script.specs.LineFaults.{AreNumerals, HasReplicasForm, HasVotesForm, HasFormBehind, replicas_form, reads_form, votes_form, command_form, LacksReplicas, HasWordFault}
+use Rattle.fault_script.specs.LineMeanings.{reads_said, votes_set, votes_said, first_said, said_in}
+use Rattle.fault_script.specs.Forms.{IsNumeralOf, of_any_size, HasForm}
+use Rattle.fault_script.specs.SettingForms.{SaysReplicas, alone, with_calls, with_flights}
+use Rattle.fault_script.specs.SettingForms.{SaysReads, SaysVotes, MayVote, SaysAfter, replicas}
+use Rattle.fault_script.specs.SettingForms.{reads, votes, runs}
+use Rattle.fault_script.specs.LineFaults.{AreNumerals, HasReplicasForm, HasVotesForm, HasFormAfter}
+use Rattle.fault_script.specs.LineFaults.{replicas_form, reads_form, votes_form, command_form}
+use Rattle.fault_script.specs.LineFaults.{LacksReplicas, HasWordFault}
 use Rattle.fault_script.proofs.Chains.{done}
 use Rattle.fault_script.proofs.ReadingBack.{Found, word_is, number_next, number_first, number_by, nothing_back, text_back}
-use Rattle.fault_script.proofs.FormsBack.{third}
 use Rattle.fault_script.proofs.SettingsBack.{Counts, Rows, row_back, row_words, behind_put, behind_ask, behind_votes}
 use Rattle.fault_script.proofs.SaidBack.{IsPlain, command_plain, said_back, said_there}
-use Rattle.fault_script.proofs.FormFaults.{Either, unknown, out_of_range, err_after, number_err, nothing_err, text_err, range_err, command_err, command_known, form_of_said}
+use Rattle.fault_script.proofs.FormFaults.{Either, unknown, out_of_range, err_after, number_err}
+use Rattle.fault_script.proofs.FormFaults.{nothing_err, text_err, range_err, command_err}
+use Rattle.fault_script.proofs.FormFaults.{command_known, form_of_said}
 
 -- ---- what a step tells
 
@@ -41,16 +52,20 @@ Told Form (Ok x) = Unit {0}
 Told Form (Err fault) = IsFormFault Form fault
 
 module _ (Form : Type 0) where
-  bind : {A B : Type 0} (r : Result A LineFault) (f : A → Result B LineFault) → Told Form r → ((x : A) → Told Form (f x)) → Told Form (r >>= f)
+  bind : {A B : Type 0} (r : Result A LineFault) (f : A → Result B LineFault) → Told Form r → ((x : A) → Told Form (f x))
+      → Told Form (r >>= f)
   bind (Ok x) f h k = k x
   bind (Err e) f h k = h
 
   -- the next word is a number or not
-  number_then : {X : Type 0} (w : List ℕ) (rest : List (List ℕ)) (k : Found → Result X LineFault) → (Form → is_numeral w ≡ true) → (is_numeral w ≡ true → Told Form (k (u64_of (decimal_value w), rest))) → Told Form (needed_number (w ∷ rest) >>= k)
+  number_then : {X : Type 0} (w : List ℕ) (rest : List (List ℕ)) (k : Found → Result X LineFault) → (Form → is_numeral w ≡ true)
+      → (is_numeral w ≡ true → Told Form (k (u64_of (decimal_value w), rest))) → Told Form (needed_number (w ∷ rest) >>= k)
   unfolding needed_number needed_word number_of
   number_then {X = X} w rest k has go = by (is_numeral w) refl
     where
-      by : (b : Bool) → is_numeral w ≡ b → Told Form ((cond {A = Result (Option ℕ) LineFault} b (Ok (u64_of (decimal_value w))) (Err UnknownCommand) >>= (λ number. done (number, rest))) >>= k)
+      by : (b : Bool) → is_numeral w ≡ b
+          → Told Form ((cond {A = Result (Option ℕ) LineFault} b (Ok (u64_of (decimal_value w))) (Err UnknownCommand) >>=
+          (λ number. done (number, rest))) >>= k)
       by true e = go e
       by false e = λ h. let yes = has h in absurd (cc)
 
@@ -71,7 +86,8 @@ module _ (Form : Type 0) where
       bind (within 1 16000000 q) _ (within_told 1 16000000 q form) (λ flights. tt)))
 
   -- the fault of a step, once it is known when that fails
-  told_by : {X : Type 0} (r : Result X LineFault) → ((e : LineFault) → r ≡ Err e → Either e Form) → (Form → r ≡ Err UnknownCommand → ⊥) → Told Form r
+  told_by : {X : Type 0} (r : Result X LineFault) → ((e : LineFault) → r ≡ Err e → Either e Form) → (Form → r ≡ Err UnknownCommand → ⊥)
+      → Told Form r
   unfolding Either
   told_by (Ok x) fails known = tt
   told_by {X = X} (Err e) fails known =
@@ -127,17 +143,16 @@ no_reads ws full short (Short, h) = short h
 other : (a b : List ℕ) → bytes_eq a b ≡ false → a ≢ b
 other a b apart equal = let yes = (bytes_decides a b).1 equal in cc
 
-head_of : (a b : List ℕ) (us vs : List (List ℕ)) → a ∷ us ≡ b ∷ vs → a ≡ b
-head_of a b us vs e = cc
-
 mode_told : (w : List ℕ) → Told (ReadsForm (w ∷ [])) (mode_of w)
 unfolding mode_of
 mode_told w = by (bytes_eq w (codes "full")) (bytes_eq w (codes "short")) refl refl
   where
-    by : (b c : Bool) → bytes_eq w (codes "full") ≡ b → bytes_eq w (codes "short") ≡ c → Told (ReadsForm (w ∷ [])) (cond {A = Result ReadMode LineFault} b (Ok Full) (cond c (Ok Short) (Err UnknownCommand)))
+    by : (b c : Bool) → bytes_eq w (codes "full") ≡ b → bytes_eq w (codes "short") ≡ c
+        → Told (ReadsForm (w ∷ [])) (cond {A = Result ReadMode LineFault} b (Ok Full) (cond c (Ok Short) (Err UnknownCommand)))
     by true c e f = tt
     by false true e f = tt
-    by false false e f = no_reads (w ∷ []) (λ h. other w (codes "full") e (head_of w (codes "full") [] [] h)) (λ h. other w (codes "short") f (head_of w (codes "short") [] [] h))
+    by false false e f = no_reads (w ∷ []) (λ h. other w (codes "full") e (same_head w (codes "full") [] [] h))
+        (λ h. other w (codes "short") f (same_head w (codes "short") [] [] h))
 
 reads_told : (ws : List (List ℕ)) → Told (ReadsForm ws) (reads_in ws)
 unfolding reads_in needed_word nothing_more
@@ -201,7 +216,8 @@ votes_err n ws e h = elim (err_after (numbers_in n ws) _ e h) [
                   votes = r.words;
                   ask = ask.0;
                   put = put.0;
-                  all = row_words ws r.words v.0.1 s.0 a.0.1 t.0 p.0.1 ask.0 put.0 r.all (text_back (codes "ask") v.0.1 s.0 s.1) ask.1 (text_back (codes "put") a.0.1 t.0 t.1) put.1 (nothing_back p.0.1 z.0 z.1);
+                  all = row_words ws r.words v.0.1 s.0 a.0.1 t.0 p.0.1 ask.0 put.0 r.all (text_back (codes "ask") v.0.1 s.0 s.1) ask.1
+                      (text_back (codes "put") a.0.1 t.0 t.1) put.1 (nothing_back p.0.1 z.0 z.1);
                   numbers = numerals r.words v.0.0 r.each;
                   count_is = as_many r.words v.0.0 r.each ∙ r.count;
                   asks = numeral_of ask.0 a.0.0 ask.2;
@@ -215,7 +231,8 @@ votes_err n ws e h = elim (err_after (numbers_in n ws) _ e h) [
 ]
 
 -- so many numbers are read
-numbers_read : (n : ℕ) (ws rest : List (List ℕ)) → AreNumerals ws → length ws ≡ n → (row : List ℕ) × (numbers_in n (ws ++ rest) ≡ Ok (row, rest))
+numbers_read : (n : ℕ) (ws rest : List (List ℕ)) → AreNumerals ws → length ws ≡ n → (row : List ℕ)
+    × (numbers_in n (ws ++ rest) ≡ Ok (row, rest))
 unfolding numbers_in
 numbers_read zero [] rest h count = ([], refl)
 numbers_read zero (w ∷ ws) rest h count = absurd (omega (arith, count))
@@ -224,7 +241,8 @@ numbers_read (suc n) (w ∷ ws) rest h count =
     let o = u64_of (decimal_value w) in
     let more = numbers_read n ws rest h.1 (omega (arith, count)) in (
       vote_count o ∷ more.0,
-      ap (λ r. r >>= (λ (first : Found). numbers_in n first.1 >>= (λ (others : Rows). done (vote_count first.0 ∷ others.0, others.1)))) (number_first w (ws ++ rest) o (numeral_read w h.0))
+      ap (λ r. r >>= (λ (first : Found). numbers_in n first.1 >>= (λ (others : Rows). done (vote_count first.0 ∷ others.0, others.1))))
+          (number_first w (ws ++ rest) o (numeral_read w h.0))
           ∙ ap (λ r. r >>= (λ (others : Rows). done (vote_count o ∷ others.0, others.1))) more.1,
     )
 
@@ -249,7 +267,7 @@ votes_told n ws = told_by (HasVotesForm n ws) (votes_in n ws) (λ e h. votes_err
 -- ---- a line after the lines before it
 
 FormAt : List ℕ → List ℕ → Option ConfigSoFar → Type 0
-FormAt verb args before = HasFormBehind verb (words args) (third args) before
+FormAt verb args before = HasFormAfter verb (words args) (behind_three args) before
 
 -- an answer without a fault, or with one of a form
 abbrev Judged : (N Form : Type 0) → Result Said LineFault → Type 0
@@ -282,12 +300,16 @@ first_judged : (verb args : List ℕ) → Judged (LacksReplicas verb None) (Form
 unfolding said_in first_said FormAt
 first_judged verb args = by (bytes_eq verb (codes "replicas")) refl
   where
-    by : (b : Bool) → bytes_eq verb (codes "replicas") ≡ b → Judged (LacksReplicas verb None) (FormAt verb args None) (cond b (replicas_in (words args) >>= (λ config. done (Opens (record { config = config; last = last.Replicas })))) (Err NoReplicas))
+    by : (b : Bool) → bytes_eq verb (codes "replicas") ≡ b
+        → Judged (LacksReplicas verb None) (FormAt verb args None)
+        (cond b (replicas_in (words args) >>= (λ config. done (Opens (after_replicas config)))) (Err NoReplicas))
     by true e =
         let is = word_is verb (codes "replicas") e in
-        let r : Result Said LineFault = replicas_in (words args) >>= (λ config. done (Opens (record { config = config; last = last.Replicas }))) in
+        let r : Result Said LineFault = replicas_in (words args) >>= (λ config. done (Opens (after_replicas config))) in
         judged (LacksReplicas verb None) (FormAt verb args None) r (λ lacks. lacks.other is)
-        (lifted (HasReplicasForm (words args)) (FormAt verb args None) r (λ h. replicas_form is h) (λ h. replicas_only verb args h) (made (HasReplicasForm (words args)) (replicas_in (words args)) (λ config. Opens (record { config = config; last = last.Replicas })) (replicas_told (words args))))
+        (lifted (HasReplicasForm (words args)) (FormAt verb args None) r (λ h. replicas_form is h) (λ h. replicas_only verb args h)
+        (made (HasReplicasForm (words args)) (replicas_in (words args)) (λ config. Opens (after_replicas config))
+        (replicas_told (words args))))
     by false e = record { first = refl; other = other verb (codes "replicas") e }
 
 two_words : (a b verb : List ℕ) → verb ≡ a → verb ≡ b → bytes_eq a b ≡ false → ⊥
@@ -296,8 +318,8 @@ two_words a b verb h k apart = other a b apart (sym h ∙ k)
 test_of : (verb name : List ℕ) → verb ≡ name → bytes_eq verb name ≡ false → ⊥
 test_of verb name is apart = other verb name apart is
 
-plain_form : (verb args : List ℕ) → HasForm verb (words args) (third args) → IsPlain verb
-plain_form verb args form = command_plain of_any_size verb (words args) (third args) form.command form.spelled
+plain_form : (verb args : List ℕ) → HasForm verb (words args) (behind_three args) → IsPlain verb
+plain_form verb args form = command_plain of_any_size verb (words args) (behind_three args) form.command form.spelled
 
 no_second : (verb args : List ℕ) (o : ConfigSoFar) → verb ≡ codes "replicas" → FormAt verb args (Some o) → ⊥
 unfolding FormAt
@@ -305,84 +327,104 @@ no_second verb args _ is (reads_form opened mode here first h) = two_words (code
 no_second verb args _ is (votes_form opened here may h) = two_words (codes "replicas") (codes "votes") verb is here refl
 no_second verb args _ is (command_form opened h) = test_of verb (codes "replicas") is (plain_form verb args h).no_replicas
 
-reads_only : (verb args : List ℕ) (o : ConfigSoFar) → verb ≡ codes "reads" → FormAt verb args (Some o) → (o.last ≡ last.Replicas) × ReadsForm (words args)
+reads_only : (verb args : List ℕ) (o : ConfigSoFar) → verb ≡ codes "reads" → FormAt verb args (Some o) → (o.last ≡ last.Replicas)
+    × ReadsForm (words args)
 unfolding FormAt ReadsForm
 reads_only verb args _ is (reads_form opened mode here first h) = (first, (mode, h))
 reads_only verb args _ is (votes_form opened here may h) = absurd (two_words (codes "reads") (codes "votes") verb is here refl)
 reads_only verb args _ is (command_form opened h) = absurd (test_of verb (codes "reads") is (plain_form verb args h).no_reads)
 
-votes_only : (verb args : List ℕ) (o : ConfigSoFar) → verb ≡ codes "votes" → FormAt verb args (Some o) → MayVote o.last × HasVotesForm (length o.config.quorums.votes) (words args)
+votes_only : (verb args : List ℕ) (o : ConfigSoFar) → verb ≡ codes "votes" → FormAt verb args (Some o) → MayVote o.last
+    × HasVotesForm (length o.config.quorums.votes) (words args)
 unfolding FormAt
 votes_only verb args _ is (reads_form opened mode here first h) = absurd (two_words (codes "votes") (codes "reads") verb is here refl)
 votes_only verb args _ is (votes_form opened here may h) = (may, h)
 votes_only verb args _ is (command_form opened h) = absurd (test_of verb (codes "votes") is (plain_form verb args h).no_votes)
 
-command_only : (verb args : List ℕ) (o : ConfigSoFar) → bytes_eq verb (codes "reads") ≡ false → bytes_eq verb (codes "votes") ≡ false → FormAt verb args (Some o) → HasForm verb (words args) (third args)
+command_only : (verb args : List ℕ) (o : ConfigSoFar) → bytes_eq verb (codes "reads") ≡ false → bytes_eq verb (codes "votes") ≡ false
+    → FormAt verb args (Some o) → HasForm verb (words args) (behind_three args)
 unfolding FormAt
 command_only verb args _ no_reads no_votes (reads_form opened mode here first h) = absurd (test_of verb (codes "reads") here no_reads)
 command_only verb args _ no_reads no_votes (votes_form opened here may h) = absurd (test_of verb (codes "votes") here no_votes)
 command_only verb args _ no_reads no_votes (command_form opened h) = h
 
-set_reads : Config → ReadMode → ConfigSoFar
-set_reads config mode = record { config = record config { reads = mode }; last = last.Reads }
-
-reads_at : (verb args : List ℕ) (config : Config) (before : Last) → verb ≡ codes "reads" → Told (FormAt verb args (Some (record { config = config; last = before }))) (reads_behind config before (words args))
-unfolding reads_behind set_reads ReadsForm FormAt
+reads_at : (verb args : List ℕ) (config : Config) (before : Last) → verb ≡ codes "reads"
+    → Told (FormAt verb args (Some (record { config = config; last = before }))) (reads_said config before (words args))
+unfolding reads_said ReadsForm FormAt
 reads_at verb args config last.Replicas is =
     let o : ConfigSoFar = record { config = config; last = last.Replicas } in
-    lifted (ReadsForm (words args)) (FormAt verb args (Some o)) (reads_in (words args) >>= (λ mode. done (set_reads config mode))) (λ h. reads_form o h.0 is refl h.1) (λ f. (reads_only verb args o is f).1) (made (ReadsForm (words args)) (reads_in (words args)) (set_reads config) (reads_told (words args)))
-reads_at verb args config last.Reads is = λ f. let first = (reads_only verb args (record { config = config; last = last.Reads }) is f).0 in cc
-reads_at verb args config last.Other is = λ f. let first = (reads_only verb args (record { config = config; last = last.Other }) is f).0 in cc
+    lifted (ReadsForm (words args)) (FormAt verb args (Some o)) (reads_in (words args) >>= (λ mode. done (after_reads config mode)))
+    (λ h. reads_form o h.0 is refl h.1) (λ f. (reads_only verb args o is f).1)
+    (made (ReadsForm (words args)) (reads_in (words args)) (after_reads config) (reads_told (words args)))
+reads_at verb args config last.Reads is = λ f. let first =
+    (reads_only verb args (record { config = config; last = last.Reads }) is f).0 in cc
+reads_at verb args config last.Other is = λ f. let first =
+    (reads_only verb args (record { config = config; last = last.Other }) is f).0 in cc
 
-set_votes : Config → Quorums → ConfigSoFar
-set_votes config quorums = record { config = record config { quorums = quorums }; last = last.Other }
-
-voted_at : (verb args : List ℕ) (config : Config) (before : Last) → verb ≡ codes "votes" → MayVote before → Told (FormAt verb args (Some (record { config = config; last = before }))) (votes_set config (words args))
-unfolding votes_set set_votes FormAt
+voted_at : (verb args : List ℕ) (config : Config) (before : Last) → verb ≡ codes "votes" → MayVote before
+    → Told (FormAt verb args (Some (record { config = config; last = before }))) (votes_set config (words args))
+unfolding votes_set FormAt
 voted_at verb args config before is may =
     let o : ConfigSoFar = record { config = config; last = before } in
     let F = HasVotesForm (length config.quorums.votes) (words args) in
     let r = votes_in (length config.quorums.votes) (words args) in
-    lifted F (FormAt verb args (Some o)) (r >>= (λ quorums. done (set_votes config quorums))) (λ h. votes_form o is may h) (λ f. (votes_only verb args o is f).1) (made F r (set_votes config) (votes_told (length config.quorums.votes) (words args)))
+    lifted F (FormAt verb args (Some o)) (r >>= (λ quorums. done (after_votes config quorums))) (λ h. votes_form o is may h)
+    (λ f. (votes_only verb args o is f).1) (made F r (after_votes config) (votes_told (length config.quorums.votes) (words args)))
 
-votes_at : (verb args : List ℕ) (config : Config) (before : Last) → verb ≡ codes "votes" → Told (FormAt verb args (Some (record { config = config; last = before }))) (votes_behind config before (words args))
-unfolding votes_behind
+votes_at : (verb args : List ℕ) (config : Config) (before : Last) → verb ≡ codes "votes"
+    → Told (FormAt verb args (Some (record { config = config; last = before }))) (votes_said config before (words args))
+unfolding votes_said
 votes_at verb args config last.Replicas is = voted_at verb args config last.Replicas is tt
 votes_at verb args config last.Reads is = voted_at verb args config last.Reads is tt
 votes_at verb args config last.Other is = λ f. (votes_only verb args (record { config = config; last = last.Other }) is f).0
 
-command_told : (verb args : List ℕ) → Told (HasForm verb (words args) (third args)) (command_in verb args)
-command_told verb args = told_by (HasForm verb (words args) (third args)) (command_in verb args) (λ e h. command_err verb args e h) (λ form h. command_known verb args form.command form.spelled h)
+command_told : (verb args : List ℕ) → Told (HasForm verb (words args) (behind_three args)) (command_in verb args)
+command_told verb args = told_by (HasForm verb (words args) (behind_three args)) (command_in verb args)
+    (λ e h. command_err verb args e h) (λ form h. command_known verb args form.command form.spelled h)
 
 later_told : (verb args : List ℕ) (o : ConfigSoFar) → Told (FormAt verb args (Some o)) (said_in (Some o) verb args)
 unfolding said_in FormAt
-later_told verb args o = by (bytes_eq verb (codes "replicas")) (bytes_eq verb (codes "reads")) (bytes_eq verb (codes "votes")) refl refl refl
+later_told verb args o = by (bytes_eq verb (codes "replicas")) (bytes_eq verb (codes "reads")) (bytes_eq verb (codes "votes")) refl refl
+    refl
   where
-    by : (a b c : Bool) → bytes_eq verb (codes "replicas") ≡ a → bytes_eq verb (codes "reads") ≡ b → bytes_eq verb (codes "votes") ≡ c → Told (FormAt verb args (Some o)) (cond {A = Result Said LineFault} a (Err UnknownCommand) (cond b (reads_behind o.config o.last (words args) >>= (λ set. done (Opens set))) (cond c (votes_behind o.config o.last (words args) >>= (λ set. done (Opens set))) (command_in verb args >>= (λ command. done (Runs command))))))
+    by : (a b c : Bool) → bytes_eq verb (codes "replicas") ≡ a → bytes_eq verb (codes "reads") ≡ b → bytes_eq verb (codes "votes") ≡ c
+        → Told (FormAt verb args (Some o))
+        (cond {A = Result Said LineFault} a (Err UnknownCommand)
+        (cond b (reads_said o.config o.last (words args) >>= (λ set. done (Opens set)))
+        (cond c (votes_said o.config o.last (words args) >>= (λ set. done (Opens set)))
+        (command_in verb args >>= (λ command. done (Runs command))))))
     by true b c e f g = λ h. no_second verb args o (word_is verb (codes "replicas") e) h
-    by false true c e f g = made (FormAt verb args (Some o)) (reads_behind o.config o.last (words args)) Opens (reads_at verb args o.config o.last (word_is verb (codes "reads") f))
-    by false false true e f g = made (FormAt verb args (Some o)) (votes_behind o.config o.last (words args)) Opens (votes_at verb args o.config o.last (word_is verb (codes "votes") g))
+    by false true c e f g = made (FormAt verb args (Some o)) (reads_said o.config o.last (words args)) Opens
+        (reads_at verb args o.config o.last (word_is verb (codes "reads") f))
+    by false false true e f g = made (FormAt verb args (Some o)) (votes_said o.config o.last (words args)) Opens
+        (votes_at verb args o.config o.last (word_is verb (codes "votes") g))
     by false false false e f g =
-        let H = HasForm verb (words args) (third args) in
-        lifted H (FormAt verb args (Some o)) (command_in verb args >>= (λ command. done (Runs command))) (λ h. command_form o h) (λ h. command_only verb args o f g h) (made H (command_in verb args) Runs (command_told verb args))
+        let H = HasForm verb (words args) (behind_three args) in
+        lifted H (FormAt verb args (Some o)) (command_in verb args >>= (λ command. done (Runs command))) (λ h. command_form o h)
+        (λ h. command_only verb args o f g h) (made H (command_in verb args) Runs (command_told verb args))
 
-said_judged : (before : Option ConfigSoFar) (verb args : List ℕ) → Judged (LacksReplicas verb before) (FormAt verb args before) (said_in before verb args)
+said_judged : (before : Option ConfigSoFar) (verb args : List ℕ)
+    → Judged (LacksReplicas verb before) (FormAt verb args before) (said_in before verb args)
 said_judged None verb args = first_judged verb args
-said_judged (Some o) verb args = judged (LacksReplicas verb (Some o)) (FormAt verb args (Some o)) (said_in (Some o) verb args) (λ lacks. let none = lacks.first in cc) (later_told verb args o)
+said_judged (Some o) verb args =
+    judged (LacksReplicas verb (Some o)) (FormAt verb args (Some o)) (said_in (Some o) verb args) (λ lacks. let none = lacks.first in cc)
+    (later_told verb args o)
 
 -- ---- what is said has a form
 
 replicas_has : (ws : List (List ℕ)) (config : Config) → SaysReplicas ws config → HasReplicasForm ws
-replicas_has ws config (alone n h) = subst (λ l. HasReplicasForm l) (sym h.all) (record { numbers = (h.is.digits, tt); least = omega arith; most = omega arith })
-replicas_has ws config (with_calls n calls h) = subst (λ l. HasReplicasForm l) (sym h.all) (record { numbers = (h.is.digits, (h.are.digits, tt)); least = omega arith; most = omega arith })
-replicas_has ws config (with_flights n calls flights h) = subst (λ l. HasReplicasForm l) (sym h.all) (record { numbers = (h.is.digits, (h.are.digits, (h.be.digits, tt))); least = omega arith; most = omega arith })
+replicas_has ws config (alone w n is) = record { numbers = (is.digits, tt); least = omega arith; most = omega arith }
+replicas_has ws config (with_calls w v n c is are) =
+    record { numbers = (is.digits, (are.digits, tt)); least = omega arith; most = omega arith }
+replicas_has ws config (with_flights w v u n c f is are be) =
+    record { numbers = (is.digits, (are.digits, (be.digits, tt))); least = omega arith; most = omega arith }
 
-values_numerals : (ws : List (List ℕ)) (ns : List ℕ) → AllZip IsValue ws ns → AreNumerals ws
+values_numerals : (ws : List (List ℕ)) (ns : List ℕ) → AllZip IsNumeralOf ws ns → AreNumerals ws
 values_numerals [] ns h = tt
 values_numerals (w ∷ ws) [] h = absurd h
 values_numerals (w ∷ ws) (n ∷ ns) h = (h.0.digits, values_numerals ws ns h.1)
 
-values_many : (ws : List (List ℕ)) (ns : List ℕ) → AllZip IsValue ws ns → length ws ≡ length ns
+values_many : (ws : List (List ℕ)) (ns : List ℕ) → AllZip IsNumeralOf ws ns → length ws ≡ length ns
 values_many [] [] h = refl
 values_many [] (n ∷ ns) h = absurd h
 values_many (w ∷ ws) [] h = absurd h
@@ -401,12 +443,14 @@ votes_has count ws quorums h =
       puts = h.puts.digits;
     }
 
-form_said : (before : Option ConfigSoFar) (verb args : List ℕ) (said : Said) → SaysBehind verb (words args) (third args) before said → FormAt verb args before
+form_said : (before : Option ConfigSoFar) (verb args : List ℕ) (said : Said)
+    → SaysAfter verb (words args) (behind_three args) before said → FormAt verb args before
 unfolding FormAt
 form_said before verb args said (replicas config is h) = replicas_form is (replicas_has (words args) config h)
-form_said before verb args said (reads config mode is h) = reads_form (record { config = config; last = last.Replicas }) mode is refl h
-form_said before verb args said (votes config earlier quorums is may h) = votes_form (record { config = config; last = earlier }) is may (votes_has (length config.quorums.votes) (words args) quorums h)
-form_said before verb args said (runs opened c h) = command_form opened (form_of_said verb (words args) (third args) c h)
+form_said before verb args said (reads old mode is first h) = reads_form old mode is first h
+form_said before verb args said (votes old quorums is may h) =
+    votes_form old is may (votes_has (length old.config.quorums.votes) (words args) quorums h)
+form_said before verb args said (runs opened c h) = command_form opened (form_of_said verb (words args) (behind_three args) c h)
 
 form_first : (before : Option ConfigSoFar) (verb args : List ℕ) → FormAt verb args before → LacksReplicas verb before → ⊥
 form_first None verb args form lacks = lacks.other (first_word verb args form)
@@ -415,7 +459,9 @@ form_first (Some o) verb args form lacks = let none = lacks.first in cc
 -- ---- the fault that is told is the one that there is
 
 module _ (before : Option ConfigSoFar) (verb args : List ℕ) where
-  which : (f : LineFault) → HasWordFault before verb args f → ((f ≡ NoReplicas) × LacksReplicas verb before) ⊎ (((f ≡ UnknownCommand) × (LacksReplicas verb before → ⊥) × (FormAt verb args before → ⊥)) ⊎ ((f ≡ Range) × FormAt verb args before))
+  which : (f : LineFault) → HasWordFault before verb args f → ((f ≡ NoReplicas) × LacksReplicas verb before)
+      ⊎ (((f ≡ UnknownCommand) × (LacksReplicas verb before → ⊥) × (FormAt verb args before → ⊥))
+      ⊎ ((f ≡ Range) × FormAt verb args before))
   unfolding FormAt
   which NoReplicas h = inl (refl, h)
   which UnknownCommand h = inr (inl (refl, h.0, h.1))
@@ -441,25 +487,29 @@ module _ (before : Option ConfigSoFar) (verb args : List ℕ) where
         ]
       ]
 
-  told_fault : (g : LineFault) → said_in before verb args ≡ Err g → Judged (LacksReplicas verb before) (FormAt verb args before) (Err g) → HasWordFault before verb args g
+  told_fault : (g : LineFault) → said_in before verb args ≡ Err g → Judged (LacksReplicas verb before) (FormAt verb args before) (Err g)
+      → HasWordFault before verb args g
   unfolding FormAt
   told_fault NoReplicas e t = t
   told_fault UnknownCommand e t = t
   told_fault Range e t = (t, λ said s. let there = said_there before verb args said s in cc)
   told_fault _ e t = absurd t
 
-  never_said : (f : LineFault) (said : Said) → SaysBehind verb (words args) (third args) before said → HasWordFault before verb args f → ⊥
+  never_said : (f : LineFault) (said : Said) → SaysAfter verb (words args) (behind_three args) before said
+      → HasWordFault before verb args f → ⊥
   unfolding FormAt
   never_said NoReplicas said s h = form_first before verb args (form_said before verb args said s) h
   never_said UnknownCommand said s h = h.1 (form_said before verb args said s)
   never_said Range said s h = h.1 said s
   never_said _ said s h = h
 
-  fault_by : (r : Result Said LineFault) (f : LineFault) → said_in before verb args ≡ r → Judged (LacksReplicas verb before) (FormAt verb args before) r → (r ≡ Err f) ↔ HasWordFault before verb args f
+  fault_by : (r : Result Said LineFault) (f : LineFault) → said_in before verb args ≡ r
+      → Judged (LacksReplicas verb before) (FormAt verb args before) r → (r ≡ Err f) ↔ HasWordFault before verb args f
   fault_by (Ok said) f at t = (λ e. cc, λ h. absurd (never_said f said (said_back before verb args said at) h))
   fault_by (Err g) f at t =
       let P : LineFault → Type 0 = λ x. HasWordFault before verb args x in
       (λ e. let same : g ≡ f = cc in subst P same (told_fault g at t), λ h. ap (λ (x : LineFault). Err x) (one g f (told_fault g at t) h))
 
-pub word_fault : (before : Option ConfigSoFar) (verb args : List ℕ) (f : LineFault) → (said_in before verb args ≡ Err f) ↔ HasWordFault before verb args f
+pub word_fault : (before : Option ConfigSoFar) (verb args : List ℕ) (f : LineFault) → (said_in before verb args ≡ Err f)
+    ↔ HasWordFault before verb args f
 word_fault before verb args f = fault_by before verb args (said_in before verb args) f refl (said_judged before verb args)

@@ -1,8 +1,19 @@
 -- Numbers that grow by a digit.
-use Rattle.std.proofs.Common.{ℕ, zero, suc, ◌≡◌, ◌<◌, ◌≤◌, ◌+◌, ◌*◌, ◌-◌, ◌^◌, inl, inr, List, [], ◌∷◌, length, get_or, take, Option, Some, None, Bool, true, false, cond, fold, nat_lt, refl, ap, arith}
+use Rattle.std.proofs.Common.{ℕ, zero, suc, ◌≡◌, ◌<◌, ◌≤◌, ◌+◌, ◌*◌, ◌-◌, ◌^◌, ◌&&◌, inl, inr, List}
+use Rattle.std.proofs.Common.{[], ◌∷◌, length, get_or, take, Option, Some, None, Bool, true, false}
+use Rattle.std.proofs.Common.{cond, fold, nat_le, nat_lt, refl, ap, arith}
 use Rattle.std.proofs.lemmas.List.Sums.{fold_more}
-use Rattle.std.proofs.lemmas.Bool.{cases_lt, lt-ltb, le-ltb, ltb-true}
+use Rattle.std.specs.Bool.{Decides}
+use Rattle.std.proofs.lemmas.Bool.{cases_lt, le-leb, leb-true, lt-ltb, le-ltb, ltb-true}
+use Rattle.std.proofs.lemmas.Bool.Decides.{Decides-and}
 use Rattle.fault_script.specs.Words.{u64_of, decimal_value}
+
+-- the test of a range says what the range says
+pub range_decides : (least most n : ℕ) → Decides (nat_le least n && nat_le n most) ((least ≤ n) × (n ≤ most))
+range_decides least most n = Decides-and (nat_le least n) (nat_le n most) (leb-true least n, le-leb least n) (
+  leb-true n most,
+  le-leb n most,
+)
 
 pub u64_of-small : (n : ℕ) → n < 2 ^ 64 → u64_of n ≡ Some n
 u64_of-small n lt = ap (λ (b : Bool). cond b (Some n) None) (lt-ltb n (2 ^ 64) lt)
@@ -23,10 +34,14 @@ large_by n false e = refl
 
 pub large-u64_of : (n : ℕ) → u64_of n ≡ None → 2 ^ 64 ≤ n
 large-u64_of n e =
-    elim (cases_lt n (2 ^ 64)) [ inl lt ↦ absurd (let f = large_by n (nat_lt n (2 ^ 64)) e in let t = lt-ltb n (2 ^ 64) lt in cc) | inr le ↦ omega arith ]
+    elim (cases_lt n (2 ^ 64)) [
+      | inl lt ↦ absurd (let f = large_by n (nat_lt n (2 ^ 64)) e in let t = lt-ltb n (2 ^ 64) lt in cc)
+      | inr le ↦ omega arith
+    ]
 
 -- one digit more
-pub value-more : (xs : List ℕ) (i : ℕ) → i < length xs → decimal_value (take (i + 1) xs) ≡ decimal_value (take i xs) * 10 + (get_or xs i 0 - 48)
+pub value-more : (xs : List ℕ) (i : ℕ) → i < length xs → decimal_value (take (i + 1) xs)
+    ≡ decimal_value (take i xs) * 10 + (get_or xs i 0 - 48)
 value-more xs i lt = fold_more (λ (n digit : ℕ). n * 10 + (digit - 48)) 0 xs i 0 lt
 
 -- a number doesn't fall by more digits
@@ -34,7 +49,8 @@ grows_from : (ys : List ℕ) (n : ℕ) → n ≤ fold (λ (n digit : ℕ). n * 1
 grows_from [] n = omega arith
 grows_from (y ∷ ys) n = omega (arith, grows_from ys (n * 10 + (y - 48)))
 
-take_grows : (xs : List ℕ) (k n : ℕ) → fold (λ (n digit : ℕ). n * 10 + (digit - 48)) n (take k xs) ≤ fold (λ (n digit : ℕ). n * 10 + (digit - 48)) n xs
+take_grows : (xs : List ℕ) (k n : ℕ) → fold (λ (n digit : ℕ). n * 10 + (digit - 48)) n (take k xs)
+    ≤ fold (λ (n digit : ℕ). n * 10 + (digit - 48)) n xs
 take_grows [] zero n = omega arith
 take_grows [] (suc k) n = omega arith
 take_grows (x ∷ xs) zero n = grows_from (x ∷ xs) n

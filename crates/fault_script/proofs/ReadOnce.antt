@@ -1,17 +1,19 @@
 -- Bytes are read as one script.
-use Rattle.std.proofs.Common.{ℕ, ◌≡◌, ◌+◌, List, [], ◌∷◌, ◌++◌, length, Option, Some, None, Result, Ok, refl, sym, ap, ◌∙◌, subst, arith, length-append}
+use Rattle.std.proofs.Common.{ℕ, ◌≡◌, ◌+◌, List, [], ◌∷◌, ◌++◌, length, Option, Some, None, Result}
+use Rattle.std.proofs.Common.{Ok, refl, sym, ap, ◌∙◌, subst, arith, length-append}
 use Rattle.std.specs.Prelude.{option_map}
 use Rattle.counted_devices.specs.Cuts.{last_lines}
-use Rattle.counted_devices.specs.CutOnce.{splits_once}
+use Rattle.counted_devices.proofs.CutOnce.{splits_once}
 use Rattle.fault_script.specs.declared.command.Script.{Script}
 use Rattle.fault_script.specs.declared.parse_line.ConfigSoFar.{ConfigSoFar}
 use Rattle.fault_script.specs.declared.parse_line.Said.{Said}
 use Rattle.fault_script.specs.declared.fault.LineFault.{LineFault}
-use Rattle.fault_script.specs.Lines.{Shows, is_long, is_no_text, says}
-use Rattle.fault_script.specs.Scripts.{SaidLine, opened_of, commands_of, AreRead, no_line, blank_line, command_line, Commands}
+use Rattle.fault_script.specs.Lines.{ScriptLineSays, is_long, is_no_text, says}
+use Rattle.fault_script.specs.Scripts.{SaidLine, opened_of, commands_of, ScriptLinesSay, no_line, blank_line, command_line, IsScript}
 
 -- a line shows one thing
-shows_once : (before : Option ConfigSoFar) (count : ℕ) (line : List ℕ) (a b : Result (Option Said) LineFault) → Shows before count line a → Shows before count line b → a ≡ b
+shows_once : (before : Option ConfigSoFar) (count : ℕ) (line : List ℕ) (a b : Result (Option Said) LineFault)
+    → ScriptLineSays before count line a → ScriptLineSays before count line b → a ≡ b
 shows_once before count line a b (is_long h) (is_long k) = refl
 shows_once before count line a b (is_long h) (is_no_text short k) = absurd (omega arith)
 shows_once before count line a b (is_long h) (says y short text k) = absurd (omega arith)
@@ -38,15 +40,16 @@ never_empty xs x e = omega (arith, ap length e, length-append xs (x ∷ []))
 abbrev shown : Option Said → Result (Option Said) LineFault
 shown said = Ok said
 
-same_shown : (before earlier : List SaidLine) (x y : List ℕ) (a b : Option Said) → before ≡ earlier → x ≡ y → Shows (opened_of before) (length before) x (Ok a) → Shows (opened_of earlier) (length earlier) y (Ok b) → a ≡ b
+same_shown : (before earlier : List SaidLine) (x y : List ℕ) (a b : Option Said) → before ≡ earlier → x ≡ y
+    → ScriptLineSays (opened_of before) (length before) x (Ok a) → ScriptLineSays (opened_of earlier) (length earlier) y (Ok b) → a ≡ b
 same_shown before earlier x y a b p q h k =
-    let P : List SaidLine → Type 0 = λ s. Shows (opened_of s) (length s) x (Ok a) in
-    let Q : List ℕ → Type 0 = λ l. Shows (opened_of earlier) (length earlier) l (Ok a) in
+    let P : List SaidLine → Type 0 = λ s. ScriptLineSays (opened_of s) (length s) x (Ok a) in
+    let Q : List ℕ → Type 0 = λ l. ScriptLineSays (opened_of earlier) (length earlier) l (Ok a) in
     let e : shown a ≡ shown b = shows_once (opened_of earlier) (length earlier) y (Ok a) (Ok b) (subst Q q (subst P p h)) k in
     cc
 
 -- lines are read in one way
-read_once : (ls ms : List (List ℕ)) (xs ys : List SaidLine) → ls ≡ ms → AreRead ls xs → AreRead ms ys → xs ≡ ys
+read_once : (ls ms : List (List ℕ)) (xs ys : List SaidLine) → ls ≡ ms → ScriptLinesSay ls xs → ScriptLinesSay ms ys → xs ≡ ys
 read_once ls ms xs ys e no_line no_line = refl
 read_once ls ms xs ys e no_line (blank_line ns zs m k s) = absurd (never_empty ns m e)
 read_once ls ms xs ys e no_line (command_line ns zs m said k s) = absurd (never_empty ns m e)
@@ -71,10 +74,12 @@ read_once ls ms xs ys e (command_line ks ws l said h r) (command_line ns zs m ot
     λ i. before i ++ record { line = length (w.0 i) + 1; said = one i } ∷ []
 
 -- bytes are read as one script
-pub script_once : (bytes : List ℕ) (a b : Script) → Commands bytes a → Commands bytes b → (a.config ≡ b.config) × (a.commands.items ≡ b.commands.items)
+pub script_once : (bytes : List ℕ) (a b : Script) → IsScript bytes a → IsScript bytes b → (a.config ≡ b.config)
+    × (a.commands.items ≡ b.commands.items)
 script_once bytes a b h k =
     let w = splits_once bytes h.lines k.lines h.rest k.rest h.splits k.splits in
     let lines : last_lines h.lines h.rest ≡ last_lines k.lines k.rest = λ i. last_lines (w.0 i) (w.1 i) in
     let same = read_once (last_lines h.lines h.rest) (last_lines k.lines k.rest) h.saids k.saids lines h.read k.read in
-    let config = sym h.made.config ∙ ap (λ (s : List SaidLine). option_map (λ (opened : ConfigSoFar). opened.config) (opened_of s)) same ∙ k.made.config in
+    let config = sym h.made.config ∙ ap (λ (s : List SaidLine). option_map (λ (opened : ConfigSoFar). opened.config) (opened_of s)) same
+    ∙ k.made.config in
     (cc, h.made.commands ∙ ap commands_of same ∙ sym k.made.commands)

@@ -1,13 +1,15 @@
 -- What words say as a command: the steps that read it, turned round.
-use Rattle.std.proofs.Common.{ℕ, ◌≡◌, ◌≤◌, ◌<◌, ◌^◌, ◌&&◌, inl, inr, List, [], ◌∷◌, Bool, true, false, cond, Option, Some, None, Result, Ok, Err, bytes_eq, nat_le, refl, ap, ◌∙◌, arith}
+use Rattle.std.proofs.Common.{ℕ, ◌≡◌, ◌≤◌, ◌<◌, ◌^◌, ◌&&◌, inl, inr, List, [], ◌∷◌, Bool, true}
+use Rattle.std.proofs.Common.{false, cond, Option, Some, None, Result, Ok, Err, bytes_eq, nat_le}
+use Rattle.std.proofs.Common.{refl, ap, ◌∙◌, arith}
 use Rattle.std.specs.Cmp.Lexicographic.{bytes_decides}
-use Rattle.std.proofs.lemmas.Bool.{leb-true, le-leb}
 use Rattle.fault_script.specs.declared.fault.LineFault.{LineFault}
 use Rattle.fault_script.specs.declared.fault.LineFault.TheVariants.{UnknownCommand}
 use Rattle.fault_script.specs.Words.{is_numeral, decimal_value, u64_of, number_of}
-use Rattle.fault_script.specs.Says.{◌>>=◌, needed_text, needed_word, nothing_more, needed_number, one_number, in_range, within}
+use Rattle.counted_devices.specs.Answers.{◌>>=◌}
+use Rattle.fault_script.specs.Says.{needed_text, needed_word, nothing_more, needed_number, one_number, in_range, within}
 use Rattle.fault_script.specs.Forms.{IsNumber, One}
-use Rattle.fault_script.proofs.NumberLemmas.{small-u64_of, u64_of-small}
+use Rattle.fault_script.proofs.NumberLemmas.{range_decides, small-u64_of, u64_of-small}
 use Rattle.fault_script.proofs.Chains.{after, done, inside, picked}
 
 -- a test of a word, and the word
@@ -22,28 +24,25 @@ pub range_there : {X : Type 0} (b : Bool) (x : X) → b ≡ true → in_range b 
 range_there true x e = refl
 range_there false x e = absurd (cc)
 
-both : (a b : Bool) → (a && b) ≡ true → (a ≡ true) × (b ≡ true)
-both true true e = (refl, refl)
-both true false e = absurd (cc)
-both false b e = absurd (cc)
-
 within_back : (least most : ℕ) (o : Option ℕ) (n : ℕ) → within least most o ≡ Ok n → (o ≡ Some n) × (least ≤ n) × (n ≤ most)
 unfolding within
 within_back least most None n e = absurd (cc)
 within_back least most (Some m) n e =
     let w = range_back (nat_le least m && nat_le m most) m n e in
-    let t = both (nat_le least m) (nat_le m most) w.0 in
-    (ap Some w.1, omega (arith, w.1, leb-true least m t.0), omega (arith, w.1, leb-true m most t.1))
+    let t = (range_decides least most m).0 w.0 in
+    (ap Some w.1, omega (arith, w.1, t.0), omega (arith, w.1, t.1))
 
 within_there : (least most n : ℕ) → least ≤ n → n ≤ most → within least most (Some n) ≡ Ok n
 unfolding within
-within_there least most n low high = range_there (nat_le least n && nat_le n most) n (ap (λ (b : Bool). b && nat_le n most) (le-leb least n low) ∙ le-leb n most high)
+within_there least most n low high = range_there (nat_le least n && nat_le n most) n ((range_decides least most n).1 (low, high))
 
-pub number_by : (word : List ℕ) (b : Bool) (o : Option ℕ) → cond b (Ok (u64_of (decimal_value word))) (Err UnknownCommand) ≡ done o → (b ≡ true) × (u64_of (decimal_value word) ≡ o)
+pub number_by : (word : List ℕ) (b : Bool) (o : Option ℕ) → cond b (Ok (u64_of (decimal_value word))) (Err UnknownCommand) ≡ done o
+    → (b ≡ true) × (u64_of (decimal_value word) ≡ o)
 number_by word true o e = (refl, inside (u64_of (decimal_value word)) o e)
 number_by word false o e = absurd (cc)
 
-pub number_back : (least most : ℕ) (word : List ℕ) (o : Option ℕ) (n : ℕ) → number_of word ≡ Ok o → within least most o ≡ Ok n → IsNumber least most word n
+pub number_back : (least most : ℕ) (word : List ℕ) (o : Option ℕ) (n : ℕ) → number_of word ≡ Ok o → within least most o ≡ Ok n
+    → IsNumber least most word n
 unfolding number_of
 number_back least most word o n e h =
     let w = number_by word (is_numeral word) o e in
@@ -97,7 +96,8 @@ unfolding needed_number needed_word
 number_first w ws o e = ap (λ r. r >>= (λ number. done (number, ws))) e
 
 -- one number is all
-pub one_back : (least most : ℕ) (ws : List (List ℕ)) (o : Option ℕ) (n : ℕ) → one_number ws ≡ Ok o → within least most o ≡ Ok n → One (IsNumber least most) ws n
+pub one_back : (least most : ℕ) (ws : List (List ℕ)) (o : Option ℕ) (n : ℕ) → one_number ws ≡ Ok o → within least most o ≡ Ok n
+    → One (IsNumber least most) ws n
 unfolding one_number
 one_back least most ws o n e h =
     let a = after (needed_number ws) _ o e in
@@ -114,7 +114,8 @@ one_back least most ws o n e h =
 pub one_there : (least most : ℕ) (ws : List (List ℕ)) (n : ℕ) → most < 2 ^ 64 → One (IsNumber least most) ws n → one_number ws ≡ Ok (Some n)
 unfolding one_number nothing_more
 one_there least most ws n fits h =
-    ap one_number h.all ∙ ap (λ r. r >>= (λ (number : Found). nothing_more number.1 >>= (λ nothing. done number.0))) (number_first h.word [] (Some n) (number_there least most h.word n fits h.is))
+    ap one_number h.all ∙ ap (λ r. r >>= (λ (number : Found). nothing_more number.1 >>= (λ nothing. done number.0)))
+    (number_first h.word [] (Some n) (number_there least most h.word n fits h.is))
 
 -- the next word is that one
 pub text_back : (text : List ℕ) (ws others : List (List ℕ)) → needed_text text ws ≡ Ok others → ws ≡ text ∷ others

@@ -1,23 +1,27 @@
 -- Texts of a script's run.
-use Rattle.std.proofs.Common.{ℕ, ◌≡◌, true, false, List, Option, Result, Ok, Err, MatchResult, IfOk, IfErr, is_ok, sym, ap, ◌∙◌, subst}
+use Rattle.std.proofs.Common.{ℕ, ◌≡◌, true, false, List, Result, Ok, Err, MatchResult, IfOk, IfErr, is_ok, sym, ap, ◌∙◌, subst}
 use Rattle.world_steps.specs.Systems.{opening}
 use Rattle.recorder.specs.Histories.{Recorded}
 use Rattle.recorder.specs.Records.{IsPart}
 use Rattle.recorder.specs.Sound.{TagSound}
 use Rattle.recorder.specs.declared.part.Call.{Call}
 use Rattle.recorder.specs.declared.row.Row.{Row}
-use Rattle.counted_devices.specs.Deliveries.{Delivers}
+use Rattle.counted_devices.specs.Deliveries.{ReadsFrom}
+use Rattle.counted_devices.specs.DeviceStates.{DeviceStates}
 use Rattle.file_format.specs.ReadAgain.{IsTextOf}
 use Rattle.file_format.specs.Texts.{history_text}
-use Rattle.fault_script.specs.Deliveries.{ReadsAll}
+use Rattle.fault_script.specs.Faults.{ScriptError}
+use Rattle.fault_script.specs.Scripts.{IsScript}
 use Rattle.fault_script.specs.Running.{IsRunSoFar}
 use Rattle.fault_script.specs.Simulations.{IsSoundRun, Simulates}
 use Rattle.fault_script.specs.declared.command.Script.{Script}
 use Rattle.fault_script.specs.declared.script_run.ScriptRun.{ScriptRun}
 
 -- the run of all commands, and the text of its record
-pub run_of : (script : Script) (run : ScriptRun) (history : Recorded) (text : List ℕ) → IsRunSoFar (opening script.config) script.commands.items run
-    → history ≡ run.world.history → ((key : List ℕ) (part : List Call) → IsPart run.world.history.rows key part → TagSound part) → text ≡ history_text history.rows → IsTextOf text history.rows
+pub run_of : (script : Script) (run : ScriptRun) (history : Recorded) (text : List ℕ)
+    → IsRunSoFar (opening script.config) script.commands.items run
+    → history ≡ run.world.history → ((key : List ℕ) (part : List Call) → IsPart run.world.history.rows key part → TagSound part)
+    → text ≡ history_text history.rows → IsTextOf text history.rows
     → (rows : List Row) × IsSoundRun script rows run.messages.items × (text ≡ history_text rows)
 run_of script run history text so_far is sound written read =
     let P : List ℕ → Type 0 = λ t. IsTextOf t history.rows in
@@ -35,7 +39,8 @@ abbrev ok : {T D : Type 0} → T → Result T D
 ok x = Ok x
 
 -- what was parsed, where the error was named anew
-pub parsed : {T E D : Type 0} (r : Result T E) (s : Result T D) (x : T) (P : T → Type 0) (Q : E → Type 0) → MatchResult r (λ y. s ≡ Ok y) Q → is_ok s ≡ is_ok r → s ≡ Ok x → IfOk r P → P x
+pub parsed : {T E D : Type 0} (r : Result T E) (s : Result T D) (x : T) (P : T → Type 0) (Q : E → Type 0)
+    → MatchResult r (λ y. s ≡ Ok y) Q → is_ok s ≡ is_ok r → s ≡ Ok x → IfOk r P → P x
 parsed {T} {E} {D} (Ok y) s x P Q cases same was h =
     let both : ok {T = T} {D = D} y ≡ ok x = sym cases ∙ was in
     let one : y ≡ x = cc in
@@ -45,9 +50,10 @@ parsed {T} {E} {D} (Err e) s x P Q cases same was h =
     absurd cc
 
 -- a script that was read, the texts of its run, and what holds of them
-pub simulated : {old new : Option (List ℕ)} {P : List ℕ → List ℕ → Type 0} (script : Script) (messages text : List ℕ) → Delivers old new (ReadsAll new script)
-    → (rows : List Row) × IsSoundRun script rows messages × (text ≡ history_text rows) → P messages text → Simulates old new P
-simulated {old} {new} {P} script messages text read (rows, run, is) fact = record {
+pub simulated : {reader : DeviceStates} {P : List ℕ → List ℕ → Type 0} (script : Script) (messages text : List ℕ)
+    → ReadsFrom IsScript reader script
+    → (rows : List Row) × IsSoundRun script rows messages × (text ≡ history_text rows) → P messages text → Simulates reader P
+simulated {reader} {P} script messages text read (rows, run, is) fact = record {
   script = script;
   read = read;
   rows = rows;
@@ -55,6 +61,14 @@ simulated {old} {new} {P} script messages text read (rows, run, is) fact = recor
   run = run;
   fact = subst (P messages) is fact;
 }
+
+-- the same of a script that was parsed, where the error was named anew
+pub run_parsed : {D : Type 0} {P : List ℕ → List ℕ → Type 0} (reader : DeviceStates) (r : Result Script ScriptError) (s : Result Script D)
+    (script : Script) (messages text : List ℕ) (Q : ScriptError → Type 0) → MatchResult r (λ y. s ≡ Ok y) Q → is_ok s ≡ is_ok r
+    → s ≡ Ok script → IfOk r (ReadsFrom IsScript reader) → (rows : List Row) × IsSoundRun script rows messages × (text ≡ history_text rows)
+    → P messages text → Simulates reader P
+run_parsed {D} {P} reader r s script messages text Q cases same was read run fact =
+    simulated {reader = reader} {P = P} script messages text (parsed r s script (ReadsFrom IsScript reader) Q cases same was read) run fact
 
 -- what holds after every error holds after this one
 pub begun_at : {T E P : Type 0} (r : Result T E) (error : E) → r ≡ Err error → IfErr r (λ e. P) → P

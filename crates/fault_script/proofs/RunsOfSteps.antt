@@ -13,19 +13,17 @@ use Rattle.world_steps.specs.Systems.{system_after, opening}
 use Rattle.world_steps.specs.declared.refusal.Refusal.{Refusal}
 use Rattle.world_steps.specs.declared.step.Step.{Step}
 use Rattle.world_steps.specs.declared.system.System.{System}
+use Rattle.world_steps.proofs.Onward.{after_append}
 use Rattle.fault_script.specs.declared.command.Command.{Command}
 use Rattle.fault_script.specs.declared.command.NumberedCommand.{NumberedCommand}
 use Rattle.fault_script.specs.declared.command.Script.{Script}
-use Rattle.fault_script.specs.ScriptRuns.{Walk, stride, walk_after, Runs, takes, refuses, finishes, stays, randomly, RunsAll, done, goes, IsRunOf}
+use Rattle.fault_script.specs.ScriptRuns.{Walk, stride, walk_after, Runs, takes, refuses, finishes}
+use Rattle.fault_script.specs.ScriptRuns.{stays, randomly, RunsAll, done, goes, IsRunOf}
 
 -- a step that isn't refused is the next one
-next_moved : (s : System) (step : Step) (found : Option Refusal) → refusal_of s step ≡ found → found ≡ None → system_after s step ≡ next s step
+next_moved : (s : System) (step : Step) (found : Option Refusal) → refusal_of s step ≡ found → found ≡ None → system_after s step
+    ≡ next s step
 next_moved s step found is none = sym (ap (λ (o : Option Refusal). cond (is_some o) s (system_after s step)) (is ∙ none))
-
--- steps and then others
-after_append : (s : System) (xs ys : List Step) → after_from s (xs ++ ys) ≡ after_from (after_from s xs) ys
-after_append s [] ys = refl
-after_append s (x ∷ xs) ys = after_append (next s x) xs ys
 
 -- some steps lead from the one system to the other
 pub record Leads (old new : System) : Type 0 where
@@ -50,14 +48,17 @@ stride_leads walk = one_step walk.system (step_of walk.system (draw walk.generat
 
 walk_leads : (walk : Walk) (count : ℕ) → Leads walk.system (walk_after walk count).system
 walk_leads walk zero = no_step walk.system
-walk_leads walk (suc count) = leads_on walk.system (walk_after walk count).system (stride (walk_after walk count)).system (walk_leads walk count) (stride_leads (walk_after walk count))
+walk_leads walk (suc count) =
+    leads_on walk.system (walk_after walk count).system (stride (walk_after walk count)).system (walk_leads walk count)
+    (stride_leads (walk_after walk count))
 
 one_leads : (line : ℕ) (a b : System) (command : Command) (message : List ℕ) → Runs line a command b message → Leads a b
 one_leads line a b command message (takes s step none) = record { steps = step ∷ []; is = next_moved s step (refusal_of s step) refl none }
 one_leads line a b command message (refuses s step why refused) = no_step s
 one_leads line a b command message (finishes s name steps may settles) = record { steps = steps; is = refl }
 one_leads line a b command message (stays s name why holds) = no_step s
-one_leads line a b command message (randomly s seed count) = walk_leads (record { system = s; generator = generator_of seed; taken = 0 }) count
+one_leads line a b command message (randomly s seed count) =
+    walk_leads (record { system = s; generator = generator_of seed; taken = 0 }) count
 
 pub all_lead : (a b : System) (commands : List NumberedCommand) (messages : List ℕ) → RunsAll a commands b messages → Leads a b
 all_lead a b commands messages (done s) = no_step s
@@ -66,11 +67,13 @@ all_lead a b commands messages (goes s mid last numbered others first rest one a
 
 -- each part of what steps leave has sound tags, as the law of the steps says
 abbrev pub StepsLeaveSoundTags : Type 0
-StepsLeaveSoundTags = (config : Config) (steps : List Step) (key : List ℕ) (part : List Call) → IsLawful config.quorums → config.calls ≤ 1000000
+StepsLeaveSoundTags = (config : Config) (steps : List Step) (key : List ℕ) (part : List Call) → IsLawful config.quorums → config.calls
+    ≤ 1000000
     → IsPart (after config steps).history.rows key part → TagSound part
 
 -- so it is sound
-pub run_sound : StepsLeaveSoundTags → (script : Script) (rows : List Row) (messages key : List ℕ) (part : List Call) → IsLawful script.config.quorums → script.config.calls ≤ 1000000 → IsRunOf script rows messages → IsPart rows key part → TagSound part
+pub run_sound : StepsLeaveSoundTags → (script : Script) (rows : List Row) (messages key : List ℕ) (part : List Call)
+    → IsLawful script.config.quorums → script.config.calls ≤ 1000000 → IsRunOf script rows messages → IsPart rows key part → TagSound part
 run_sound tags script rows messages key part lawful calls run is =
     let led = all_lead (opening script.config) run.last script.commands.items messages run.runs in
     let P : List Row → Type 0 = λ r. IsPart r key part in

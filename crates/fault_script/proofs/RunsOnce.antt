@@ -5,8 +5,8 @@ use Rattle.recorder.specs.declared.row.Row.{Row}
 use Rattle.world_settle.specs.Refusing.{IsUnsettled, MaySettle, pending_at}
 use Rattle.world_settle.specs.declared.errors.SettleError.{SettleError}
 use Rattle.world_settle.specs.declared.errors.SettleError.TheVariants as settle
-use Rattle.world_settle.specs.Counts.{needs_once}
-use Rattle.world_settle.specs.Settling.{Settles}
+use Rattle.world_settle.proofs.LeastCounts.{needs_once}
+use Rattle.world_settle.specs.Settling.{AreSettleSteps}
 use Rattle.world_steps.specs.Runs.{after_from}
 use Rattle.world_steps.specs.Systems.{opening}
 use Rattle.world_steps.specs.declared.step.Step.{Step}
@@ -38,20 +38,23 @@ one_reason s name settle.NoMajority settle.Room h (majority, pending, full) = ab
 one_reason s name settle.NoMajority (settle.Memory steps) h k = absurd k
 one_reason s name settle.NotPending settle.NoMajority (majority, none) k = absurd (omega (arith, k, majority))
 one_reason s name settle.NotPending settle.NotPending h k = refl
-one_reason s name settle.NotPending settle.Room (majority, none) (again, pending, full) = absurd (never_both (pending_at s name) pending none)
+one_reason s name settle.NotPending settle.Room (majority, none) (again, pending, full) =
+    absurd (never_both (pending_at s name) pending none)
 one_reason s name settle.NotPending (settle.Memory steps) h k = absurd k
 one_reason s name settle.Room settle.NoMajority (majority, pending, full) k = absurd (omega (arith, k, majority))
-one_reason s name settle.Room settle.NotPending (majority, pending, full) (again, none) = absurd (never_both (pending_at s name) pending none)
+one_reason s name settle.Room settle.NotPending (majority, pending, full) (again, none) =
+    absurd (never_both (pending_at s name) pending none)
 one_reason s name settle.Room settle.Room h k = refl
 one_reason s name settle.Room (settle.Memory steps) h k = absurd k
 one_reason s name (settle.Memory steps) because h k = absurd h
 
 -- the steps that complete a call are one list, as the law of settling says
 abbrev pub StepsAreOneList : Type 0
-StepsAreOneList = (s : System) (name : ℕ) (steps other : List Step) → Settles name s steps → Settles name s other → steps ≡ other
+StepsAreOneList = (s : System) (name : ℕ) (steps other : List Step) → AreSettleSteps name s steps → AreSettleSteps name s other → steps ≡ other
 
 -- a command has one outcome
-runs_once : StepsAreOneList → (line : ℕ) (command : Command) (s a b : System) (m n : List ℕ) → Runs line s command a m → Runs line s command b n → (a ≡ b) × (m ≡ n)
+runs_once : StepsAreOneList → (line : ℕ) (command : Command) (s a b : System) (m n : List ℕ) → Runs line s command a m
+    → Runs line s command b n → (a ≡ b) × (m ≡ n)
 runs_once steps_once line command s a b m n (takes t step none) (takes u other again) = (refl, refl)
 runs_once steps_once line command s a b m n (takes t step none) (refuses u other why refused) = absurd cc
 runs_once steps_once line command s a b m n (refuses t step why refused) (takes u other none) = absurd cc
@@ -59,21 +62,28 @@ runs_once steps_once line command s a b m n (refuses t step why refused) (refuse
     let both : Some why ≡ Some because = sym refused ∙ again in
     let same : why ≡ because = cc in
     (refl, ap (refused_message line) same)
-runs_once steps_once line command s a b m n (finishes t name steps may settles) (finishes u other others again settled) = (ap (after_from t) (steps_once t name steps others settles settled), refl)
-runs_once steps_once line command s a b m n (finishes t name steps may settles) (stays u other why holds) = absurd (may_not t name why may holds)
-runs_once steps_once line command s a b m n (stays t name why holds) (finishes u other steps may settles) = absurd (may_not t name why may holds)
-runs_once steps_once line command s a b m n (stays t name why holds) (stays u other because again) = (refl, ap (unfinished_message line) (one_reason t name why because holds again))
+runs_once steps_once line command s a b m n (finishes t name steps may settles) (finishes u other others again settled) =
+    (ap (after_from t) (steps_once t name steps others settles settled), refl)
+runs_once steps_once line command s a b m n (finishes t name steps may settles) (stays u other why holds) =
+    absurd (may_not t name why may holds)
+runs_once steps_once line command s a b m n (stays t name why holds) (finishes u other steps may settles) =
+    absurd (may_not t name why may holds)
+runs_once steps_once line command s a b m n (stays t name why holds) (stays u other because again) =
+    (refl, ap (unfinished_message line) (one_reason t name why because holds again))
 runs_once steps_once line command s a b m n (randomly t seed count) (randomly u first more) = (refl, refl)
 
-all_once : StepsAreOneList → (a b c : System) (commands : List NumberedCommand) (m n : List ℕ) → RunsAll a commands b m → RunsAll a commands c n → (b ≡ c) × (m ≡ n)
+all_once : StepsAreOneList → (a b c : System) (commands : List NumberedCommand) (m n : List ℕ) → RunsAll a commands b m
+    → RunsAll a commands c n → (b ≡ c) × (m ≡ n)
 all_once steps_once a b c commands m n (done s) (done t) = (refl, refl)
-all_once steps_once a b c commands m n (goes s mid last numbered others message messages one all) (goes t between end same rest told tolds two also) =
+all_once steps_once a b c commands m n (goes s mid last numbered others message messages one all)
+    (goes t between end same rest told tolds two also) =
     let w = runs_once steps_once numbered.line numbered.command s mid between message told one two in
     let P : System → Type 0 = λ x. RunsAll x others end tolds in
     let v = all_once steps_once mid last end others messages tolds all (subst P (sym w.0) also) in
     (v.0, λ i. w.1 i ++ v.1 i)
 
-pub run_once : StepsAreOneList → (script : Script) (rows others : List Row) (messages told : List ℕ) → IsRunOf script rows messages → IsRunOf script others told → (rows ≡ others) × (messages ≡ told)
+pub run_once : StepsAreOneList → (script : Script) (rows others : List Row) (messages told : List ℕ) → IsRunOf script rows messages
+    → IsRunOf script others told → (rows ≡ others) × (messages ≡ told)
 run_once steps_once script rows others messages told h k =
     let w = all_once steps_once (opening script.config) h.last k.last script.commands.items messages told h.runs k.runs in
     (sym h.recorded ∙ ap (λ (s : System). s.history.rows) w.0 ∙ k.recorded, w.1)

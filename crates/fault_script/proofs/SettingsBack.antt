@@ -1,5 +1,7 @@
 -- What words say as a line of the configuration: the steps that read it, turned round.
-use Rattle.std.proofs.Common.{ℕ, zero, suc, ◌≡◌, ◌≤◌, ◌<◌, ◌^◌, ◌*◌, inl, inr, List, [], ◌∷◌, ◌++◌, length, sum, Bool, cond, Option, Some, None, Result, Ok, Err, codes, bytes_eq, refl, sym, ap, ◌∙◌, subst, arith}
+use Rattle.std.proofs.Common.{ℕ, zero, suc, ◌≡◌, ◌≤◌, ◌<◌, ◌^◌, ◌*◌, inl, inr, List, [], ◌∷◌, ◌++◌}
+use Rattle.std.proofs.Common.{length, sum, Bool, cond, Option, Some, None, Result, Ok, Err, codes}
+use Rattle.std.proofs.Common.{bytes_eq, refl, sym, ap, ◌∙◌, subst, arith}
 use Rattle.std.specs.Prelude.{All}
 use Rattle.std.specs.List.{AllZip}
 use Rattle.std.proofs.lemmas.List.Sums.{sum_by-le}
@@ -10,14 +12,17 @@ use Rattle.world_steps.specs.Configs.{Config, config_of}
 use Rattle.fault_script.specs.declared.fault.LineFault.{LineFault}
 use Rattle.fault_script.specs.declared.fault.LineFault.TheVariants.{UnknownCommand}
 use Rattle.fault_script.specs.Words.{is_numeral, decimal_value, u64_of, number_of}
-use Rattle.fault_script.specs.Says.{◌>>=◌, needed_word, needed_number, needed_text, nothing_more, number_or, within}
+use Rattle.counted_devices.specs.Answers.{◌>>=◌}
+use Rattle.fault_script.specs.Says.{needed_word, needed_number, needed_text, nothing_more, number_or, within}
 use Rattle.fault_script.specs.Settings.{config_in, replicas_in, mode_of, reads_in, vote_count, numbers_in, is_lawful, quorums_of, votes_in}
-use Rattle.fault_script.specs.Forms.{IsNumber, IsValue}
+use Rattle.fault_script.specs.Forms.{IsNumber, IsNumeralOf}
 use Rattle.fault_script.specs.SettingForms.{SaysReplicas, alone, with_calls, with_flights, SaysReads, SaysVotes}
 use Rattle.fault_script.proofs.NumberLemmas.{small-u64_of, u64_of-small}
 use Rattle.fault_script.proofs.VoteLemmas.{lawful_decides}
 use Rattle.fault_script.proofs.Chains.{after, done, inside, picked}
-use Rattle.fault_script.proofs.ReadingBack.{word_is, range_back, range_there, number_back, number_there, number_in_range, nothing_back, word_back, Found, number_next, number_first, number_by, text_back}
+use Rattle.fault_script.proofs.ReadingBack.{word_is, range_back, range_there, number_back}
+use Rattle.fault_script.proofs.ReadingBack.{number_there, number_in_range, nothing_back, word_back}
+use Rattle.fault_script.proofs.ReadingBack.{Found, number_next, number_first, number_by, text_back}
 
 pub reads_back : (ws : List (List ℕ)) (mode : ReadMode) → reads_in ws ≡ Ok mode → SaysReads ws mode
 unfolding reads_in mode_of
@@ -41,7 +46,8 @@ reads_there ws Full h = ap reads_in h
 reads_there ws Short h = ap reads_in h
 
 -- the numbers of `replicas`
-numbers_back : (o p q : Option ℕ) (config : Config) → config_in o p q ≡ Ok config → (l : ℕ) × (m : ℕ) × (n : ℕ) × (within 1 15 o ≡ Ok l) × (within 1 1000000 p ≡ Ok m) × (within 1 16000000 q ≡ Ok n) × (config_of l m n ≡ config)
+numbers_back : (o p q : Option ℕ) (config : Config) → config_in o p q ≡ Ok config → (l : ℕ) × (m : ℕ) × (n : ℕ) × (within 1 15 o ≡ Ok l)
+    × (within 1 1000000 p ≡ Ok m) × (within 1 16000000 q ≡ Ok n) × (config_of l m n ≡ config)
 unfolding config_in
 numbers_back o p q config e =
     let l = after (within 1 15 o) _ config e in
@@ -63,31 +69,36 @@ unfolding number_or
 given_back d [] x e = missing refl (sym (inside (Some d, []) x e))
 given_back d (w ∷ ws) x e = let n = number_next (w ∷ ws) x e in given n.0 n.1 n.2
 
-replicas_by : (ws : List (List ℕ)) (w : List ℕ) (a c f : Found) (l m n : ℕ) → ws ≡ w ∷ a.1 → number_of w ≡ Ok a.0 → f.1 ≡ [] → within 1 15 a.0 ≡ Ok l → within 1 1000000 c.0 ≡ Ok m → within 1 16000000 f.0 ≡ Ok n → Given 1000000 a.1 c → Given 4000000 c.1 f → SaysReplicas ws (config_of l m n)
+-- what is said of some words is said of the same words
+words_are : (ws vs : List (List ℕ)) (config : Config) → ws ≡ vs → SaysReplicas vs config → SaysReplicas ws config
+words_are ws vs config e says = let P : List (List ℕ) → Type 0 = λ l. SaysReplicas l config in subst P (sym e) says
+
+-- a number that is missing is the one that stands for it
+given_as : (d most n : ℕ) (rest : List (List ℕ)) (x : Found) → x ≡ (Some d, rest) → within 1 most x.0 ≡ Ok n → d ≡ n
+given_as d most n rest x is e = default_of d 1 most n (ap (within 1 most) (sym (ap (λ (y : Found). y.0) is)) ∙ e)
+
+replicas_by : (ws : List (List ℕ)) (w : List ℕ) (a c f : Found) (l m n : ℕ) → ws ≡ w ∷ a.1 → number_of w ≡ Ok a.0 → f.1 ≡ []
+    → within 1 15 a.0 ≡ Ok l → within 1 1000000 c.0 ≡ Ok m → within 1 16000000 f.0 ≡ Ok n → Given 1000000 a.1 c → Given 4000000 c.1 f
+    → SaysReplicas ws (config_of l m n)
 replicas_by ws w a c f l m n all first none e1 e2 e3 (missing no_calls is_calls) (missing no_flights is_flights) =
-    let calls : 1000000 ≡ m = default_of 1000000 1 1000000 m (ap (within 1 1000000) (sym (ap (λ (x : Found). x.0) is_calls)) ∙ e2) in
-    let flights : 4000000 ≡ n = default_of 4000000 1 16000000 n (ap (within 1 16000000) (sym (ap (λ (x : Found). x.0) is_flights)) ∙ e3) in
     let P : ℕ → Type 0 = λ k. SaysReplicas ws (config_of l k n) in
     let Q : ℕ → Type 0 = λ k. SaysReplicas ws (config_of l 1000000 k) in
-    subst P calls (subst Q flights (alone l (record { word = w; all = all ∙ ap (λ (x : List (List ℕ)). w ∷ x) no_calls; is = number_back 1 15 w a.0 l first e1 })))
+    subst P (given_as 1000000 1000000 m [] c is_calls e2) (subst Q (given_as 4000000 16000000 n [] f is_flights e3)
+    (words_are ws (w ∷ []) _ (all ∙ ap (λ (x : List (List ℕ)). w ∷ x) no_calls) (alone w l (number_back 1 15 w a.0 l first e1))))
 replicas_by ws w a c f l m n all first none e1 e2 e3 (missing no_calls is_calls) (given v more second) =
     let nothing : c.1 ≡ [] = ap (λ (x : Found). x.1) is_calls in
     let clash : [] ≡ v ∷ f.1 = sym nothing ∙ more in
     absurd (cc)
 replicas_by ws w a c f l m n all first none e1 e2 e3 (given v more second) (missing no_flights is_flights) =
-    let flights : 4000000 ≡ n = default_of 4000000 1 16000000 n (ap (within 1 16000000) (sym (ap (λ (x : Found). x.0) is_flights)) ∙ e3) in
     let Q : ℕ → Type 0 = λ k. SaysReplicas ws (config_of l m k) in
-    subst Q flights (with_calls l m (record { first = w; second = v; all = all ∙ ap (λ (x : List (List ℕ)). w ∷ x) (more ∙ ap (λ (x : List (List ℕ)). v ∷ x) no_flights); is = number_back 1 15 w a.0 l first e1; are = number_back 1 1000000 v c.0 m second e2 }))
+    subst Q (given_as 4000000 16000000 n [] f is_flights e3)
+    (words_are ws (w ∷ v ∷ []) _ (all ∙ ap (λ (x : List (List ℕ)). w ∷ x) (more ∙ ap (λ (x : List (List ℕ)). v ∷ x) no_flights))
+    (with_calls w v l m (number_back 1 15 w a.0 l first e1) (number_back 1 1000000 v c.0 m second e2)))
 replicas_by ws w a c f l m n all first none e1 e2 e3 (given v more second) (given u most last) =
-    with_flights l m n (record {
-      first = w;
-      second = v;
-      third = u;
-      all = all ∙ ap (λ (x : List (List ℕ)). w ∷ x) (more ∙ ap (λ (x : List (List ℕ)). v ∷ x) (most ∙ ap (λ (x : List (List ℕ)). u ∷ x) none));
-      is = number_back 1 15 w a.0 l first e1;
-      are = number_back 1 1000000 v c.0 m second e2;
-      be = number_back 1 16000000 u f.0 n last e3;
-    })
+    words_are ws (w ∷ v ∷ u ∷ []) _ (all
+    ∙ ap (λ (x : List (List ℕ)). w ∷ x) (more ∙ ap (λ (x : List (List ℕ)). v ∷ x) (most ∙ ap (λ (x : List (List ℕ)). u ∷ x) none)))
+    (with_flights w v u l m n (number_back 1 15 w a.0 l first e1) (number_back 1 1000000 v c.0 m second e2)
+    (number_back 1 16000000 u f.0 n last e3))
 
 pub replicas_back : (ws : List (List ℕ)) (config : Config) → replicas_in ws ≡ Ok config → SaysReplicas ws config
 unfolding replicas_in
@@ -99,12 +110,15 @@ replicas_back ws config e =
     let w = number_next ws a.0 a.1 in
     let k = numbers_back a.0.0 c.0.0 f.0.0 config n.2 in
     let P : Config → Type 0 = λ x. SaysReplicas ws x in
-    subst P k.6 (replicas_by ws w.0 a.0 c.0 f.0 k.0 k.1 k.2 w.1 w.2 (nothing_back f.0.1 n.0 n.1) k.3 k.4 k.5 (given_back 1000000 a.0.1 c.0 c.1) (given_back 4000000 c.0.1 f.0 f.1))
+    subst P k.6 (replicas_by ws w.0 a.0 c.0 f.0 k.0 k.1 k.2 w.1 w.2 (nothing_back f.0.1 n.0 n.1) k.3 k.4 k.5
+    (given_back 1000000 a.0.1 c.0 c.1) (given_back 4000000 c.0.1 f.0 f.1))
 
-number_is : (least most : ℕ) (word : List ℕ) (n : ℕ) (rest : List (List ℕ)) → most < 2 ^ 64 → IsNumber least most word n → needed_number (word ∷ rest) ≡ Ok (Some n, rest)
+number_is : (least most : ℕ) (word : List ℕ) (n : ℕ) (rest : List (List ℕ)) → most < 2 ^ 64 → IsNumber least most word n
+    → needed_number (word ∷ rest) ≡ Ok (Some n, rest)
 number_is least most word n rest fits is = number_first word rest (Some n) (number_there least most word n fits is)
 
-config_there : (l m n : ℕ) → within 1 15 (Some l) ≡ Ok l → within 1 1000000 (Some m) ≡ Ok m → within 1 16000000 (Some n) ≡ Ok n → config_in (Some l) (Some m) (Some n) ≡ Ok (config_of l m n)
+config_there : (l m n : ℕ) → within 1 15 (Some l) ≡ Ok l → within 1 1000000 (Some m) ≡ Ok m → within 1 16000000 (Some n) ≡ Ok n
+    → config_in (Some l) (Some m) (Some n) ≡ Ok (config_of l m n)
 unfolding config_in
 config_there l m n e1 e2 e3 =
     ap (λ r. r >>= (λ a. within 1 1000000 (Some m) >>= (λ b. within 1 16000000 (Some n) >>= (λ c. done (config_of a b c))))) e1
@@ -130,21 +144,19 @@ behind_first a = number_or 1000000 a.1 >>= (λ c. behind_calls a.0 c)
 
 pub replicas_there : (ws : List (List ℕ)) (config : Config) → SaysReplicas ws config → replicas_in ws ≡ Ok config
 unfolding replicas_in number_or nothing_more
-replicas_there ws config (alone n h) =
-    ap replicas_in h.all
-    ∙ ap (λ r. r >>= behind_first) (number_is 1 15 h.word n [] (omega arith) h.is)
-    ∙ config_there n 1000000 4000000 (number_in_range 1 15 h.word n h.is) calls_default flights_default
-replicas_there ws config (with_calls n calls h) =
-    ap replicas_in h.all
-    ∙ ap (λ r. r >>= behind_first) (number_is 1 15 h.first n (h.second ∷ []) (omega arith) h.is)
-    ∙ ap (λ r. r >>= behind_calls (Some n)) (number_is 1 1000000 h.second calls [] (omega arith) h.are)
-    ∙ config_there n calls 4000000 (number_in_range 1 15 h.first n h.is) (number_in_range 1 1000000 h.second calls h.are) flights_default
-replicas_there ws config (with_flights n calls flights h) =
-    ap replicas_in h.all
-    ∙ ap (λ r. r >>= behind_first) (number_is 1 15 h.first n (h.second ∷ h.third ∷ []) (omega arith) h.is)
-    ∙ ap (λ r. r >>= behind_calls (Some n)) (number_is 1 1000000 h.second calls (h.third ∷ []) (omega arith) h.are)
-    ∙ ap (λ r. r >>= behind_flights (Some n) (Some calls)) (number_is 1 16000000 h.third flights [] (omega arith) h.be)
-    ∙ config_there n calls flights (number_in_range 1 15 h.first n h.is) (number_in_range 1 1000000 h.second calls h.are) (number_in_range 1 16000000 h.third flights h.be)
+replicas_there ws config (alone w n is) =
+    ap (λ r. r >>= behind_first) (number_is 1 15 w n [] (omega arith) is)
+    ∙ config_there n 1000000 4000000 (number_in_range 1 15 w n is) calls_default flights_default
+replicas_there ws config (with_calls w v n calls is are) =
+    ap (λ r. r >>= behind_first) (number_is 1 15 w n (v ∷ []) (omega arith) is)
+    ∙ ap (λ r. r >>= behind_calls (Some n)) (number_is 1 1000000 v calls [] (omega arith) are)
+    ∙ config_there n calls 4000000 (number_in_range 1 15 w n is) (number_in_range 1 1000000 v calls are) flights_default
+replicas_there ws config (with_flights w v u n calls flights is are be) =
+    ap (λ r. r >>= behind_first) (number_is 1 15 w n (v ∷ u ∷ []) (omega arith) is)
+    ∙ ap (λ r. r >>= behind_calls (Some n)) (number_is 1 1000000 v calls (u ∷ []) (omega arith) are)
+    ∙ ap (λ r. r >>= behind_flights (Some n) (Some calls)) (number_is 1 16000000 u flights [] (omega arith) be)
+    ∙ config_there n calls flights (number_in_range 1 15 w n is) (number_in_range 1 1000000 v calls are)
+    (number_in_range 1 16000000 u flights be)
 
 -- votes: the words, and what they count as
 unfoldable pub Counts : List ℕ → ℕ → Type 0
@@ -183,14 +195,14 @@ vote_count_small : (o : Option ℕ) (v : ℕ) → vote_count o ≡ v → v < 255
 vote_count_small None v e lt = absurd (omega arith)
 vote_count_small (Some n) v e lt = let same : n ≡ v = omega arith in ap Some same
 
-value_back : (word : List ℕ) (v : ℕ) → Counts word v → v < 255 → IsValue word v
+value_back : (word : List ℕ) (v : ℕ) → Counts word v → v < 255 → IsNumeralOf word v
 unfolding Counts number_of
 value_back word v c lt =
     let w = number_by word (is_numeral word) c.0 c.1 in
     let s = small-u64_of (decimal_value word) v (w.1 ∙ vote_count_small c.0 v c.2 lt) in
     record { digits = w.0; value = s.1 }
 
-value_there : (word : List ℕ) (v : ℕ) → v < 255 → IsValue word v → number_of word ≡ Ok (Some v)
+value_there : (word : List ℕ) (v : ℕ) → v < 255 → IsNumeralOf word v → number_of word ≡ Ok (Some v)
 unfolding number_of
 value_there word v lt is =
     ap (λ (b : Bool). cond {A = Result (Option ℕ) LineFault} b (Ok (u64_of (decimal_value word))) (Err UnknownCommand)) is.digits
@@ -208,13 +220,15 @@ few_tail v votes h k d lt = h (suc k) d (omega arith)
 few_head : (v : ℕ) (votes : List ℕ) → FewEach (v ∷ votes) → v ≤ 9
 few_head v votes h = (h 0 0 (omega arith)).1
 
-values_back : (ws : List (List ℕ)) (votes : List ℕ) → FewEach votes → AllZip Counts ws votes → AllZip IsValue ws votes
+values_back : (ws : List (List ℕ)) (votes : List ℕ) → FewEach votes → AllZip Counts ws votes → AllZip IsNumeralOf ws votes
 values_back [] [] few h = tt
 values_back [] (v ∷ votes) few h = h
 values_back (w ∷ ws) [] few h = h
-values_back (w ∷ ws) (v ∷ votes) few h = (value_back w v h.0 (omega (arith, few_head v votes few)), values_back ws votes (few_tail v votes few) h.1)
+values_back (w ∷ ws) (v ∷ votes) few h =
+    (value_back w v h.0 (omega (arith, few_head v votes few)), values_back ws votes (few_tail v votes few) h.1)
 
-row_there : (n : ℕ) (ws : List (List ℕ)) (votes : List ℕ) (rest : List (List ℕ)) → FewEach votes → AllZip IsValue ws votes → length votes ≡ n → numbers_in n (ws ++ rest) ≡ Ok (votes, rest)
+row_there : (n : ℕ) (ws : List (List ℕ)) (votes : List ℕ) (rest : List (List ℕ)) → FewEach votes → AllZip IsNumeralOf ws votes
+    → length votes ≡ n → numbers_in n (ws ++ rest) ≡ Ok (votes, rest)
 unfolding numbers_in
 row_there zero [] [] rest few h count = refl
 row_there zero [] (v ∷ votes) rest few h count = absurd (omega arith)
@@ -225,8 +239,10 @@ row_there (suc n) [] (v ∷ votes) rest few h count = absurd h
 row_there (suc n) (w ∷ ws) [] rest few h count = absurd h
 row_there (suc n) (w ∷ ws) (v ∷ votes) rest few h count =
     let lt : v < 255 = omega (arith, few_head v votes few) in
-    ap (λ r. r >>= (λ (first : Found). numbers_in n first.1 >>= (λ (others : Rows). done (vote_count first.0 ∷ others.0, others.1)))) (number_first w (ws ++ rest) (Some v) (value_there w v lt h.0))
-    ∙ ap (λ r. r >>= (λ (others : Rows). done (vote_count (Some v) ∷ others.0, others.1))) (row_there n ws votes rest (few_tail v votes few) h.1 (omega arith))
+    ap (λ r. r >>= (λ (first : Found). numbers_in n first.1 >>= (λ (others : Rows). done (vote_count first.0 ∷ others.0, others.1))))
+    (number_first w (ws ++ rest) (Some v) (value_there w v lt h.0))
+    ∙ ap (λ r. r >>= (λ (others : Rows). done (vote_count (Some v) ∷ others.0, others.1)))
+    (row_there n ws votes rest (few_tail v votes few) h.1 (omega arith))
     ∙ ap (λ (k : ℕ). done (k ∷ votes, rest)) (vote_count_same v lt)
 
 each_most : (votes : List ℕ) → FewEach votes → All (λ v. v ≤ 9) votes
@@ -236,10 +252,15 @@ sum_few : (votes : List ℕ) → FewEach votes → sum votes ≤ length votes * 
 sum_few votes few = sum_by-le (λ v. v) 9 votes (each_most votes few)
 
 quorum_small : (q : Quorums) → IsLawful q → (q.ask < 255) × (q.put < 255)
-quorum_small q l = (omega (arith, sum_few q.votes l.each_votes, l.most_ask, l.most_replicas), omega (arith, sum_few q.votes l.each_votes, l.most_put, l.most_replicas))
+quorum_small q l = (
+  omega (arith, sum_few q.votes l.each_votes, l.most_ask, l.most_replicas),
+  omega (arith, sum_few q.votes l.each_votes, l.most_put, l.most_replicas),
+)
 
 -- the words of such a line, part by part
-pub row_words : (ws votes behind_votes asking behind_ask putting behind_put : List (List ℕ)) (ask put : List ℕ) → ws ≡ votes ++ behind_votes → behind_votes ≡ codes "ask" ∷ asking → asking ≡ ask ∷ behind_ask → behind_ask ≡ codes "put" ∷ putting → putting ≡ put ∷ behind_put → behind_put ≡ [] → ws ≡ votes ++ codes "ask" ∷ ask ∷ codes "put" ∷ put ∷ []
+pub row_words : (ws votes behind_votes asking behind_ask putting behind_put : List (List ℕ)) (ask put : List ℕ) → ws ≡ votes
+    ++ behind_votes → behind_votes ≡ codes "ask" ∷ asking → asking ≡ ask ∷ behind_ask → behind_ask ≡ codes "put" ∷ putting → putting
+    ≡ put ∷ behind_put → behind_put ≡ [] → ws ≡ votes ++ codes "ask" ∷ ask ∷ codes "put" ∷ put ∷ []
 row_words ws votes behind_votes asking behind_ask putting behind_put ask put a b d e f g = cc
 
 pub votes_back : (n : ℕ) (ws : List (List ℕ)) (q : Quorums) → votes_in n ws ≡ Ok q → SaysVotes n ws q
@@ -279,7 +300,8 @@ abbrev pub behind_put : List ℕ → ℕ → Found → Result Quorums LineFault
 behind_put votes ask put = nothing_more put.1 >>= (λ nothing. quorums_of votes ask (vote_count put.0))
 
 abbrev pub behind_ask : List ℕ → Found → Result Quorums LineFault
-behind_ask votes ask = needed_text (codes "put") ask.1 >>= (λ putting. needed_number putting >>= (λ put. behind_put votes (vote_count ask.0) put))
+behind_ask votes ask = needed_text (codes "put") ask.1 >>=
+    (λ putting. needed_number putting >>= (λ put. behind_put votes (vote_count ask.0) put))
 
 abbrev pub behind_votes : Rows → Result Quorums LineFault
 behind_votes votes = needed_text (codes "ask") votes.1 >>= (λ asking. needed_number asking >>= (λ ask. behind_ask votes.0 ask))
@@ -292,8 +314,11 @@ unfolding votes_in needed_text needed_word nothing_more
 votes_there n ws q h =
     let small = quorum_small q h.lawful in
     ap (votes_in n) h.all
-    ∙ ap (λ r. r >>= behind_votes) (row_there n h.votes q.votes (codes "ask" ∷ h.ask ∷ codes "put" ∷ h.put ∷ []) h.lawful.each_votes h.each h.count_is)
-    ∙ ap (λ r. r >>= behind_ask q.votes) (number_first h.ask (codes "put" ∷ h.put ∷ []) (Some q.ask) (value_there h.ask q.ask small.0 h.asks))
-    ∙ ap (λ r. r >>= behind_put q.votes (vote_count (Some q.ask))) (number_first h.put [] (Some q.put) (value_there h.put q.put small.1 h.puts))
+    ∙ ap (λ r. r >>= behind_votes)
+    (row_there n h.votes q.votes (codes "ask" ∷ h.ask ∷ codes "put" ∷ h.put ∷ []) h.lawful.each_votes h.each h.count_is)
+    ∙ ap (λ r. r >>= behind_ask q.votes)
+    (number_first h.ask (codes "put" ∷ h.put ∷ []) (Some q.ask) (value_there h.ask q.ask small.0 h.asks))
+    ∙ ap (λ r. r >>= behind_put q.votes (vote_count (Some q.ask)))
+    (number_first h.put [] (Some q.put) (value_there h.put q.put small.1 h.puts))
     ∙ (λ i. quorums_of q.votes (vote_count_same q.ask small.0 i) (vote_count_same q.put small.1 i))
     ∙ quorums_there q h.lawful

@@ -7,15 +7,14 @@ use Rattle.std.proofs.lemmas.Bool.{leb-true, le-leb}
 use Rattle.std.proofs.lemmas.Bool.Decides.{Decides-and, Decides-by_and, Decides-ltb}
 use Rattle.quorum.specs.Quorums.{Quorums, IsLawful}
 use Rattle.fault_script.specs.Settings.{is_lawful}
+use Rattle.fault_script.proofs.NumberLemmas.{range_decides}
 
 le_decides : (a b : ℕ) → Decides (nat_le a b) (a ≤ b)
 le_decides a b = (leb-true a b, le-leb a b)
 
-few_decides : (v : ℕ) → Decides (nat_le 1 v && nat_le v 9) ((1 ≤ v) × (v ≤ 9))
-few_decides v = Decides-and (nat_le 1 v) (nat_le v 9) (le_decides 1 v) (le_decides v 9)
-
 each_decides : (votes : List ℕ) → Decides (list_all (λ v. nat_le 1 v && nat_le v 9) votes) (All (λ v. (1 ≤ v) × (v ≤ 9)) votes)
-each_decides votes = Decides-by_and (λ v. nat_le 1 v && nat_le v 9) (λ v. (1 ≤ v) × (v ≤ 9)) (list_all (λ v. nat_le 1 v && nat_le v 9)) few_decides refl (λ _ _. refl) votes
+each_decides votes = Decides-by_and (λ v. nat_le 1 v && nat_le v 9) (λ v. (1 ≤ v) × (v ≤ 9)) (list_all (λ v. nat_le 1 v && nat_le v 9))
+    (range_decides 1 9) refl (λ _ _. refl) votes
 
 pub lawful_decides : (q : Quorums) → Decides (is_lawful q) (IsLawful q)
 lawful_decides q =

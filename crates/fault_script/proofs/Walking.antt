@@ -1,5 +1,6 @@
 -- Random steps, one after another.
-use Rattle.std.proofs.Common.{ℕ, suc, ◌≡◌, ◌+◌, Bool, true, false, is_some, is_none, not, cond, Ok, Err, inl, inr, sym, ap, ◌∙◌, subst, arith}
+use Rattle.std.proofs.Common.{ℕ, suc, ◌≡◌, ◌+◌, Bool, true, false, is_some, is_none, not, cond, Ok}
+use Rattle.std.proofs.Common.{Err, inl, inr, sym, ap, ◌∙◌, subst, arith}
 use Rattle.rand_pcg.specs.Lcg.{Lcg}
 use Rattle.random_steps.specs.Choices.{draw, step_of}
 use Rattle.world_steps.specs.Refusals.{refusal_of}
@@ -9,25 +10,27 @@ use Rattle.world_steps.specs.declared.refusal.Refusal.{Refusal}
 use Rattle.world_steps.specs.declared.refusal.Refusal.TheVariants as refusal
 use Rattle.world_steps.specs.declared.step.Step.{Step}
 use Rattle.world_steps.specs.declared.system.System.{System}
-use Rattle.world_steps.specs.StepAnswers.{next_is}
+use Rattle.world_steps.proofs.StepAnswers.{next_is}
 use Rattle.fault_script.specs.ScriptRuns.{Walk, stride, walk_after}
 
 -- the steps of a step of a system: the next one, and whether it was refused
 pub is_taken : (s new : System) (step : Step) (effect : Effect) → Steps s step (Ok effect) new → true ≡ is_none (refusal_of s step)
 is_taken s new step effect (none, is, moves) = sym (ap is_none none)
 
-pub is_passed : (s new : System) (step : Step) (why : Refusal) → Steps s step (Err why) new → (why ≡ refusal.Memory → ⊥) → false ≡ is_none (refusal_of s step)
+pub is_passed : (s new : System) (step : Step) (why : Refusal) → Steps s step (Err why) new → (why ≡ refusal.Memory → ⊥) → false
+    ≡ is_none (refusal_of s step)
 is_passed s new step why (inl refused, same) fine = sym (ap is_none refused)
 is_passed s new step why (inr (none, memory, grows), same) fine = absurd (fine memory)
 
 pub moves_taken : (s new : System) (step : Step) (effect : Effect) → Steps s step (Ok effect) new → new ≡ next s step
 moves_taken s new step effect h = next_is s step (Ok effect) new h (λ e. absurd cc)
 
-pub moves_passed : (s new : System) (step : Step) (why : Refusal) → Steps s step (Err why) new → (why ≡ refusal.Memory → ⊥) → new ≡ next s step
+pub moves_passed : (s new : System) (step : Step) (why : Refusal) → Steps s step (Err why) new → (why ≡ refusal.Memory → ⊥) → new
+    ≡ next s step
 moves_passed s new step why h fine = next_is s step (Err why) new h (λ e. let same : why ≡ refusal.Memory = cc in fine same)
 
 -- a walk stands there
-pub record IsAt (walk : Walk) (system : System) (generator : Lcg) (taken : ℕ) : Type 0 where
+pub record IsWalkAt (walk : Walk) (system : System) (generator : Lcg) (taken : ℕ) : Type 0 where
   pub system_is : system ≡ walk.system
   pub generator_is : generator ≡ walk.generator
   pub taken_is : taken ≡ walk.taken
@@ -42,12 +45,14 @@ counts true walk taken e = e
 counts false walk taken e = ap (λ n. n + 1) e
 
 -- one random step more
-pub goes_on : (walk : Walk) (s new : System) (g rest : Lcg) (n m : ℕ) (was : Bool) → IsAt walk s g n
-    → new ≡ next s (step_of s (draw g)) → rest ≡ (draw g).rest → was ≡ is_none (refusal_of s (step_of s (draw g))) → m ≡ counted was n → IsAt (stride walk) new rest m
+pub goes_on : (walk : Walk) (s new : System) (g rest : Lcg) (n m : ℕ) (was : Bool) → IsWalkAt walk s g n
+    → new ≡ next s (step_of s (draw g)) → rest ≡ (draw g).rest → was ≡ is_none (refusal_of s (step_of s (draw g))) → m ≡ counted was n
+    → IsWalkAt (stride walk) new rest m
 unfolding stride
 goes_on walk s new g rest n m was at is drawn taken more =
     let refused : Bool = is_some (refusal_of walk.system (step_of walk.system (draw walk.generator))) in
-    let same : was ≡ not refused = taken ∙ (λ i. is_none (refusal_of (at.system_is i) (step_of (at.system_is i) (draw (at.generator_is i))))) in
+    let same : was ≡ not refused = taken
+    ∙ (λ i. is_none (refusal_of (at.system_is i) (step_of (at.system_is i) (draw (at.generator_is i))))) in
     record {
       system_is = is ∙ (λ i. next (at.system_is i) (step_of (at.system_is i) (draw (at.generator_is i))));
       generator_is = drawn ∙ ap (λ (x : Lcg). (draw x).rest) at.generator_is;
@@ -55,9 +60,10 @@ goes_on walk s new g rest n m was at is drawn taken more =
     }
 
 -- the same, counted
-pub walk_on : (start : Walk) (turn : ℕ) (s new : System) (g rest : Lcg) (n m : ℕ) (was : Bool) → IsAt (walk_after start turn) s g n
-    → new ≡ next s (step_of s (draw g)) → rest ≡ (draw g).rest → was ≡ is_none (refusal_of s (step_of s (draw g))) → m ≡ counted was n → IsAt (walk_after start (turn + 1)) new rest m
+pub walk_on : (start : Walk) (turn : ℕ) (s new : System) (g rest : Lcg) (n m : ℕ) (was : Bool) → IsWalkAt (walk_after start turn) s g n
+    → new ≡ next s (step_of s (draw g)) → rest ≡ (draw g).rest → was ≡ is_none (refusal_of s (step_of s (draw g))) → m ≡ counted was n
+    → IsWalkAt (walk_after start (turn + 1)) new rest m
 walk_on start turn s new g rest n m was at is drawn taken more =
-    let P : ℕ → Type 0 = λ k. IsAt (walk_after start k) new rest m in
+    let P : ℕ → Type 0 = λ k. IsWalkAt (walk_after start k) new rest m in
     let one : suc turn ≡ turn + 1 = omega arith in
     subst P one (goes_on (walk_after start turn) s new g rest n m was at is drawn taken more)

@@ -9,21 +9,24 @@ use Rattle.fault_script.specs.declared.command.Command.TheVariants as command
 use Rattle.fault_script.specs.declared.fault.LineFault.{LineFault}
 use Rattle.fault_script.specs.declared.fault.LineFault.TheVariants.{UnknownCommand}
 use Rattle.fault_script.specs.Words.{words, behind_word}
-use Rattle.fault_script.specs.Says.{◌>>=◌, needed_word, needed_text, needed_number, one_number}
+use Rattle.counted_devices.specs.Answers.{◌>>=◌}
+use Rattle.fault_script.specs.Says.{needed_word, needed_text, needed_number, one_number}
 use Rattle.fault_script.specs.Says.{nothing_more, within, client_of, replica_of, flight_of, key_of}
 use Rattle.fault_script.specs.Says.{value_of}
 
--- one name of a client, one number of a replica or of a flight
+-- one name of a client
 unfoldable pub client_in : List (List ℕ) → Result ℕ LineFault
 client_in words = do
   number ← one_number words
   client_of number
 
+-- one number of a replica
 unfoldable pub replica_in : List (List ℕ) → Result ℕ LineFault
 replica_in words = do
   number ← one_number words
   replica_of number
 
+-- one number of a message
 unfoldable pub flight_in : List (List ℕ) → Result ℕ LineFault
 flight_in words = do
   number ← one_number words
@@ -61,17 +64,21 @@ send_in words = do
   number ← replica_of replica.0
   Ok (step.Send name number)
 
+-- the step that one number says, of a client, a replica or a message
+abbrev pub step_by : (List (List ℕ) → Result ℕ LineFault) → (ℕ → Step) → List (List ℕ)
+    → Result Step LineFault
+step_by number_in make words = do
+  number ← number_in words
+  Ok (make number)
+
 -- `client CLIENT` or `replica REPLICA`
 unfoldable pub stopped_in : List ℕ → List (List ℕ) → Result Step LineFault
 stopped_in kind words =
-    if bytes_eq kind (codes "client") then (do
-      client ← client_in words
-      Ok (step.StopClient client))
-    else if bytes_eq kind (codes "replica") then (do
-      replica ← replica_in words
-      Ok (step.StopReplica replica))
+    if bytes_eq kind (codes "client") then step_by client_in step.StopClient words
+    else if bytes_eq kind (codes "replica") then step_by replica_in step.StopReplica words
     else Err UnknownCommand
 
+-- what is stopped: a client or a replica
 unfoldable pub stop_in : List (List ℕ) → Result Step LineFault
 stop_in words = do
   kind ← needed_word words
@@ -84,40 +91,38 @@ start_in words = do
   replica ← replica_in others
   Ok (step.StartReplica replica)
 
+-- the greatest seed of random steps
+abbrev pub last_seed : ℕ
+last_seed = 18446744073709551615
+
+-- the most random steps of one command
+abbrev pub random_step_limit : ℕ
+random_step_limit = 1000000
+
 -- `SEED COUNT`
 unfoldable pub random_in : List (List ℕ) → Result Command LineFault
 random_in words = do
   seed ← needed_number words
   count ← needed_number seed.1
   nothing ← nothing_more count.1
-  first ← within 0 18446744073709551615 seed.0
-  steps ← within 0 1000000 count.0
+  first ← within 0 last_seed seed.0
+  steps ← within 0 random_step_limit count.0
   Ok (command.Random first steps)
 
 -- a step of a client
 unfoldable pub client_step_in : List ℕ → List (List ℕ) → Result Step LineFault
 client_step_in verb words =
-    if bytes_eq verb (codes "join") then (do
-      client ← client_in words
-      Ok (step.Join client))
+    if bytes_eq verb (codes "join") then step_by client_in step.Join words
     else if bytes_eq verb (codes "send") then send_in words
-    else if bytes_eq verb (codes "respond") then (do
-      client ← client_in words
-      Ok (step.Respond client))
+    else if bytes_eq verb (codes "respond") then step_by client_in step.Respond words
     else Err UnknownCommand
 
--- a step on a flight, or one that stops or starts, or one of a client
+-- a step on a message, or one that stops or starts, or one of a client
 unfoldable pub step_in : List ℕ → List (List ℕ) → Result Step LineFault
 step_in verb words =
-    if bytes_eq verb (codes "deliver") then (do
-      flight ← flight_in words
-      Ok (step.Deliver flight))
-    else if bytes_eq verb (codes "lose") then (do
-      flight ← flight_in words
-      Ok (step.Lose flight))
-    else if bytes_eq verb (codes "repeat") then (do
-      flight ← flight_in words
-      Ok (step.Repeat flight))
+    if bytes_eq verb (codes "deliver") then step_by flight_in step.Deliver words
+    else if bytes_eq verb (codes "lose") then step_by flight_in step.Lose words
+    else if bytes_eq verb (codes "repeat") then step_by flight_in step.Repeat words
     else if bytes_eq verb (codes "stop") then stop_in words
     else if bytes_eq verb (codes "start") then start_in words
     else client_step_in verb words

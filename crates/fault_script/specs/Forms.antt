@@ -2,11 +2,14 @@
 use Rattle.std.specs.Prelude.{ℕ, ◌≡◌, ◌≤◌, List, [], ◌∷◌, codes, true}
 use Rattle.tag.specs.declared.actions.Action.{Action}
 use Rattle.tag.specs.declared.actions.Action.TheVariants.{Read, Write}
+use Rattle.tag.specs.Limits.{client_limit}
 use Rattle.tag.specs.Names.{is_key, is_value}
 use Rattle.world_steps.specs.declared.step.Step.{Step}
 use Rattle.world_steps.specs.declared.step.Step.TheVariants as step
 use Rattle.fault_script.specs.declared.command.Command.{Command}
 use Rattle.fault_script.specs.declared.command.Command.TheVariants as command
+use Rattle.fault_script.specs.Commands.{last_seed, random_step_limit}
+use Rattle.fault_script.specs.Says.{last_flight, last_replica}
 use Rattle.fault_script.specs.Words.{is_numeral, decimal_value}
 
 -- the word is that number, one or more digits and nothing else, and it is in its range
@@ -16,17 +19,8 @@ pub record IsNumber (least most : ℕ) (word : List ℕ) (n : ℕ) : Type 0 wher
   pub low : least ≤ n
   pub high : n ≤ most
 
-abbrev pub IsClient : List ℕ → ℕ → Type 0
-IsClient = IsNumber 1 65535
-
-abbrev pub IsReplica : List ℕ → ℕ → Type 0
-IsReplica = IsNumber 0 14
-
-abbrev pub IsFlight : List ℕ → ℕ → Type 0
-IsFlight = IsNumber 0 4294967295
-
 -- the word is that number, in its range or not
-pub record IsValue (word : List ℕ) (n : ℕ) : Type 0 where
+pub record IsNumeralOf (word : List ℕ) (n : ℕ) : Type 0 where
   pub digits : is_numeral word ≡ true
   pub value : decimal_value word ≡ n
 
@@ -47,7 +41,19 @@ in_ranges = record {
 -- numbers are numbers, and nothing else is asked
 abbrev pub of_any_size : Demands
 of_any_size =
-    record { Number = λ least most. IsValue; Key = λ key. Unit {0}; Value = λ value. Unit {0} }
+    record { Number = λ least most. IsNumeralOf; Key = λ key. Unit {0}; Value = λ value. Unit {0} }
+
+-- the word is a client's name
+abbrev pub IsClientWord : Demands → List ℕ → ℕ → Type 0
+IsClientWord demands = demands.Number 1 client_limit
+
+-- the word is a replica's number
+abbrev pub IsReplicaWord : Demands → List ℕ → ℕ → Type 0
+IsReplicaWord demands = demands.Number 0 last_replica
+
+-- the word is a message's number
+abbrev pub IsFlightWord : Demands → List ℕ → ℕ → Type 0
+IsFlightWord demands = demands.Number 0 last_flight
 
 -- one word after the first, and what it is
 pub record One (Is : List ℕ → ℕ → Type 0) (args : List (List ℕ)) (n : ℕ) : Type 0 where
@@ -56,8 +62,8 @@ pub record One (Is : List ℕ → ℕ → Type 0) (args : List (List ℕ)) (n : 
   pub is : Is word n
 
 -- a name and one word
-pub record NameAndOne (name : List ℕ) (Is : List ℕ → ℕ
-    → Type 0) (args : List (List ℕ)) (n : ℕ) : Type 0 where
+pub record NameAndOne (name : List ℕ) (Is : List ℕ → ℕ → Type 0) (args : List (List ℕ)) (n : ℕ) :
+    Type 0 where
   pub word : List ℕ
   pub all : args ≡ name ∷ word ∷ []
   pub is : Is word n
@@ -75,64 +81,67 @@ pub record SaysRead (demands : Demands) (args : List (List ℕ)) (client : ℕ) 
   where
     pub caller : List ℕ
     pub all : args ≡ caller ∷ codes "read" ∷ key ∷ []
-    pub is : demands.Number 1 65535 caller client
+    pub is : IsClientWord demands caller client
     pub named : demands.Key key
 
--- `CLIENT write KEY`, and the value is all that stands after the one space or tab after the key
+-- `CLIENT write KEY VALUE`: the value is all that stands after the one space or tab after the key
 pub record SaysWrite (demands : Demands) (args : List (List ℕ)) (behind_key : List ℕ) (client : ℕ)
     (key value : List ℕ) : Type 0 where
   pub caller : List ℕ
   pub others : List (List ℕ)
   pub all : args ≡ caller ∷ codes "write" ∷ key ∷ others
-  pub is : demands.Number 1 65535 caller client
+  pub is : IsClientWord demands caller client
   pub named : demands.Key key
   pub written : behind_key ≡ value
   pub short : demands.Value value
 
-abbrev pub SaysInvoke : Demands → List (List ℕ) → List ℕ → ℕ → List ℕ → Action → Type 0
-SaysInvoke demands args behind_key client key Read = SaysRead demands args client key
-SaysInvoke demands args behind_key client key (Write value) =
+-- what a call asks: the words after `invoke` are of a read, or of a write with its value
+abbrev pub SaysCall : Demands → List (List ℕ) → List ℕ → ℕ → List ℕ → Action → Type 0
+SaysCall demands args behind_key client key Read = SaysRead demands args client key
+SaysCall demands args behind_key client key (Write value) =
     SaysWrite demands args behind_key client key value
 
 -- the table: the first word, the words after it and what stands after the fourth word spell that
 -- step
 abbrev pub SpellsStep : Demands → List ℕ → List (List ℕ) → List ℕ → Step → Type 0
 SpellsStep demands verb args behind_key (step.Join client) =
-    (verb ≡ codes "join") × One (demands.Number 1 65535) args client
+    (verb ≡ codes "join") × One (IsClientWord demands) args client
 SpellsStep demands verb args behind_key (step.Invoke client key action) =
-    (verb ≡ codes "invoke") × SaysInvoke demands args behind_key client key action
+    (verb ≡ codes "invoke") × SaysCall demands args behind_key client key action
 SpellsStep demands verb args behind_key (step.Send client replica) =
-    (verb ≡ codes "send") × Two (demands.Number 1 65535) (demands.Number 0 14) args client replica
+    (verb ≡ codes "send") × Two (IsClientWord demands) (IsReplicaWord demands) args client replica
 SpellsStep demands verb args behind_key (step.Deliver flight) =
-    (verb ≡ codes "deliver") × One (demands.Number 0 4294967295) args flight
+    (verb ≡ codes "deliver") × One (IsFlightWord demands) args flight
 SpellsStep demands verb args behind_key (step.Lose flight) =
-    (verb ≡ codes "lose") × One (demands.Number 0 4294967295) args flight
+    (verb ≡ codes "lose") × One (IsFlightWord demands) args flight
 SpellsStep demands verb args behind_key (step.Repeat flight) =
-    (verb ≡ codes "repeat") × One (demands.Number 0 4294967295) args flight
+    (verb ≡ codes "repeat") × One (IsFlightWord demands) args flight
 SpellsStep demands verb args behind_key (step.Respond client) =
-    (verb ≡ codes "respond") × One (demands.Number 1 65535) args client
+    (verb ≡ codes "respond") × One (IsClientWord demands) args client
 SpellsStep demands verb args behind_key (step.StopClient client) =
-    (verb ≡ codes "stop") × NameAndOne (codes "client") (demands.Number 1 65535) args client
+    (verb ≡ codes "stop") × NameAndOne (codes "client") (IsClientWord demands) args client
 SpellsStep demands verb args behind_key (step.StopReplica replica) =
-    (verb ≡ codes "stop") × NameAndOne (codes "replica") (demands.Number 0 14) args replica
+    (verb ≡ codes "stop") × NameAndOne (codes "replica") (IsReplicaWord demands) args replica
 SpellsStep demands verb args behind_key (step.StartReplica replica) =
-    (verb ≡ codes "start") × NameAndOne (codes "replica") (demands.Number 0 14) args replica
+    (verb ≡ codes "start") × NameAndOne (codes "replica") (IsReplicaWord demands) args replica
 
+-- the same of a command
 abbrev pub Spells : Demands → List ℕ → List (List ℕ) → List ℕ → Command → Type 0
 Spells demands verb args behind_key (command.Step s) = SpellsStep demands verb args behind_key s
 Spells demands verb args behind_key (command.Finish client) =
-    (verb ≡ codes "finish") × One (demands.Number 1 65535) args client
+    (verb ≡ codes "finish") × One (IsClientWord demands) args client
 Spells demands verb args behind_key (command.Random seed count) = (verb ≡ codes "random")
-    × Two (demands.Number 0 18446744073709551615) (demands.Number 0 1000000) args seed count
+    × Two (demands.Number 0 last_seed) (demands.Number 0 random_step_limit) args seed count
 
--- they say that command: they spell it, and everything is in its range
+-- the words say that step: they spell it, and everything is in its range
 abbrev pub SaysStep : List ℕ → List (List ℕ) → List ℕ → Step → Type 0
 SaysStep = SpellsStep in_ranges
 
+-- the words say that command
 abbrev pub SaysCommand : List ℕ → List (List ℕ) → List ℕ → Command → Type 0
 SaysCommand = Spells in_ranges
 
--- they have a form of the table, in range or not
+-- the words have a form of the table, in range or not
 pub record HasForm (verb : List ℕ) (args : List (List ℕ)) (behind_key : List ℕ) : Type 0 where
   pub command : Command
   pub spelled : Spells of_any_size verb args behind_key command

@@ -11,7 +11,6 @@ pub mod LineMeanings
 pub mod Lines
 pub mod Scripts
 pub mod Feeds
-pub mod Deliveries
 pub mod MessageTexts
 pub mod ScriptRuns
 pub mod Simulations

@@ -9,9 +9,9 @@ use Rattle.fault_script.specs.declared.fault.LineFault.TheVariants.{Range}
 use Rattle.fault_script.specs.declared.parse_line.Last.TheVariants as last
 use Rattle.fault_script.specs.declared.parse_line.ConfigSoFar.{ConfigSoFar}
 use Rattle.fault_script.specs.declared.parse_line.Said.{Said}
-use Rattle.fault_script.specs.Words.{words, behind_word, is_numeral}
+use Rattle.fault_script.specs.Words.{words, behind_three, is_numeral}
 use Rattle.fault_script.specs.Forms.{HasForm}
-use Rattle.fault_script.specs.SettingForms.{SaysReads, MayVote, SaysBehind}
+use Rattle.fault_script.specs.SettingForms.{SaysReads, MayVote, SaysAfter}
 
 -- the words are numbers, of any size
 abbrev pub AreNumerals : List (List ℕ) → Type 0
@@ -36,36 +36,32 @@ pub record HasVotesForm (count : ℕ) (args : List (List ℕ)) : Type 0 where
   pub puts : is_numeral put ≡ true
 
 -- the words have a form of a line that may stand after the lines before it, in range or not
-pub data HasFormBehind (verb : List ℕ) (args : List (List ℕ)) (behind_key : List ℕ) : Option
+pub data HasFormAfter (verb : List ℕ) (args : List (List ℕ)) (behind_key : List ℕ) : Option
     ConfigSoFar → Type 0 where
   replicas_form : verb ≡ codes "replicas" → HasReplicasForm args
-      → HasFormBehind verb args behind_key None
+      → HasFormAfter verb args behind_key None
   reads_form : (opened : ConfigSoFar) (mode : ReadMode) → verb ≡ codes "reads" → opened.last
-      ≡ last.Replicas → SaysReads args mode → HasFormBehind verb args behind_key (Some opened)
+      ≡ last.Replicas → SaysReads args mode → HasFormAfter verb args behind_key (Some opened)
   votes_form : (opened : ConfigSoFar) → verb ≡ codes "votes" → MayVote opened.last
       → HasVotesForm (length opened.config.quorums.votes) args
-      → HasFormBehind verb args behind_key (Some opened)
+      → HasFormAfter verb args behind_key (Some opened)
   command_form : (opened : ConfigSoFar) → HasForm verb args behind_key
-      → HasFormBehind verb args behind_key (Some opened)
+      → HasFormAfter verb args behind_key (Some opened)
 
 -- the first command isn't `replicas`
 pub record LacksReplicas (verb : List ℕ) (before : Option ConfigSoFar) : Type 0 where
   pub first : before ≡ None
   pub other : verb ≢ codes "replicas"
 
--- what stands after the third word of a text
-abbrev pub behind_third : List ℕ → List ℕ
-behind_third text = behind_word (behind_word (behind_word text))
-
 -- a line of that first word, and of that text after it, may stand after the lines before it by its
 -- form
 abbrev pub HasFormAt : Option ConfigSoFar → List ℕ → List ℕ → Type 0
-HasFormAt before verb args = HasFormBehind verb (words args) (behind_third args) before
+HasFormAt before verb args = HasFormAfter verb (words args) (behind_three args) before
 
 -- it says nothing there
 abbrev pub SaysNothing : Option ConfigSoFar → List ℕ → List ℕ → Type 0
 SaysNothing before verb args =
-    (said : Said) → SaysBehind verb (words args) (behind_third args) before said → ⊥
+    (said : Said) → SaysAfter verb (words args) (behind_three args) before said → ⊥
 
 -- it has that fault there, and none before it in order of number
 abbrev pub HasWordFault : Option ConfigSoFar → List ℕ → List ℕ → LineFault → Type 0

@@ -6,15 +6,21 @@ use Rattle.world_settle.specs.declared.errors.SettleError.{SettleError}
 use Rattle.world_steps.specs.Numbers.{refusal_name, refusal_number}
 use Rattle.world_steps.specs.declared.refusal.Refusal.{Refusal}
 
+-- the command of that line was refused, in those words, with the reason's number and name
+unfoldable pub reason_message : ℕ → List ℕ → ℕ → List ℕ → List ℕ
+reason_message line refused number name = codes "line " ++ decimal line ++ refused
+    ++ decimal number ++ codes " " ++ name ++ codes "\n"
+
 -- the step of that line was refused
 unfoldable pub refused_message : ℕ → Refusal → List ℕ
-refused_message line why = codes "line " ++ decimal line ++ codes ": refused "
-    ++ decimal (refusal_number why) ++ codes " " ++ refusal_name why ++ codes "\n"
+refused_message line why =
+    reason_message line (codes ": refused ") (refusal_number why) (refusal_name why)
 
 -- the call that was to be finished at that line wasn't
 unfoldable pub unfinished_message : ℕ → SettleError → List ℕ
-unfinished_message line why = codes "line " ++ decimal line ++ codes ": finish refused "
-    ++ decimal (settle_error_number why) ++ codes " " ++ settle_error_name why ++ codes "\n"
+unfinished_message line why =
+    reason_message line (codes ": finish refused ") (settle_error_number why)
+    (settle_error_name why)
 
 -- of so many random steps so many were taken
 unfoldable pub random_message : ℕ → ℕ → ℕ → List ℕ

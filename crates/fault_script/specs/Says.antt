@@ -1,28 +1,12 @@
 -- What words say, read one after another: a word that is missing, or one too many, is a fault.
-use Rattle.std.specs.Prelude.{ℕ, ◌≡◌, ◌&&◌, List, [], ◌∷◌, Bool, Option, Some, None, Result, Ok}
-use Rattle.std.specs.Prelude.{Err, nat_le, bytes_eq, if◌then◌else◌}
+use Rattle.std.specs.Prelude.{ℕ, ◌&&◌, List, [], ◌∷◌, Bool, Option, Some, None, Result, Ok, Err}
+use Rattle.std.specs.Prelude.{nat_le, bytes_eq, if◌then◌else◌}
+use Rattle.tag.specs.Limits.{client_limit}
 use Rattle.tag.specs.Names.{is_key, is_value}
+use Rattle.counted_devices.specs.Answers.{◌>>=◌}
 use Rattle.fault_script.specs.declared.fault.LineFault.{LineFault}
 use Rattle.fault_script.specs.declared.fault.LineFault.TheVariants.{UnknownCommand, Range}
-use Rattle.fault_script.specs.Faults.{Stop}
-use Rattle.counted_devices.specs.declared.read_fault.Stop.TheVariants as stop
 use Rattle.fault_script.specs.Words.{number_of}
-
--- the first fault of two steps, or what the second makes of the first
-infixl 10 ◌>>=◌
-abbrev pub ◌>>=◌ : {A B : Type 0} → Result A LineFault → (A → Result B LineFault)
-    → Result B LineFault
-(Ok x) >>= f = f x
-(Err e) >>= f = Err e
-
--- what a function returned, seen by view, is what is said, unless memory ran out
-abbrev pub Fails : {Y : Type 0} → Stop → Result Y LineFault → Type 0
-Fails stop.Memory said = Unit {0}
-Fails (stop.Fault f) said = said ≡ Err f
-
-abbrev pub Gives : {X Y : Type 0} → (X → Y) → Result X Stop → Result Y LineFault → Type 0
-Gives view (Ok x) said = said ≡ Ok (view x)
-Gives view (Err e) said = Fails e said
 
 -- the next word, and those after it
 unfoldable pub needed_word : List (List ℕ) → Result (List ℕ × List (List ℕ)) LineFault
@@ -63,21 +47,35 @@ one_number words = do
 abbrev pub in_range : {X : Type 0} → Bool → X → Result X LineFault
 in_range fits x = if fits then Ok x else Err Range
 
+-- a number outside its range is a fault
 unfoldable pub within : ℕ → ℕ → Option ℕ → Result ℕ LineFault
 within least most None = Err Range
 within least most (Some n) = in_range (nat_le least n && nat_le n most) n
 
+-- the greatest number of a replica
+abbrev pub last_replica : ℕ
+last_replica = 14
+
+-- the greatest number of a message
+abbrev pub last_flight : ℕ
+last_flight = 4294967295
+
+-- a client's name, in its range
 abbrev pub client_of : Option ℕ → Result ℕ LineFault
-client_of number = within 1 65535 number
+client_of number = within 1 client_limit number
 
+-- a replica's number, in its range
 abbrev pub replica_of : Option ℕ → Result ℕ LineFault
-replica_of number = within 0 14 number
+replica_of number = within 0 last_replica number
 
+-- a message's number, in its range
 abbrev pub flight_of : Option ℕ → Result ℕ LineFault
-flight_of number = within 0 4294967295 number
+flight_of number = within 0 last_flight number
 
+-- a key, in its range
 abbrev pub key_of : List ℕ → Result (List ℕ) LineFault
 key_of key = in_range (is_key key) key
 
+-- a value, in its range
 abbrev pub value_of : List ℕ → Result (List ℕ) LineFault
 value_of value = in_range (is_value value) value

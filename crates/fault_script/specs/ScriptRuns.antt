@@ -6,7 +6,7 @@ use Rattle.rand_pcg.specs.Lcg.{Lcg}
 use Rattle.random_steps.specs.Choices.{draw, generator_of, step_of}
 use Rattle.recorder.specs.declared.row.Row.{Row}
 use Rattle.world_settle.specs.Refusing.{IsUnsettled, MaySettle}
-use Rattle.world_settle.specs.Settling.{Settles}
+use Rattle.world_settle.specs.Settling.{AreSettleSteps}
 use Rattle.world_settle.specs.declared.errors.SettleError.{SettleError}
 use Rattle.world_steps.specs.Refusals.{refusal_of}
 use Rattle.world_steps.specs.Runs.{after_from, next}
@@ -37,6 +37,7 @@ stride walk =
       taken = if is_some (refusal_of walk.system step) then walk.taken else walk.taken + 1;
     }
 
+-- so many random steps more
 abbrev pub walk_after : Walk → ℕ → Walk
 walk_after walk zero = walk
 walk_after walk (suc n) = stride (walk_after walk n)
@@ -52,7 +53,8 @@ pub data Runs (line : ℕ) : System → Command → System → List ℕ → Type
       → Runs line s (command.Step step) (system_after s step) []
   refuses : (s : System) (step : Step) (why : Refusal) → refusal_of s step ≡ Some why
       → Runs line s (command.Step step) s (refused_message line why)
-  finishes : (s : System) (name : ℕ) (steps : List Step) → MaySettle s name → Settles name s steps
+  finishes : (s : System) (name : ℕ) (steps : List Step) → MaySettle s name
+      → AreSettleSteps name s steps
       → Runs line s (command.Finish name) (after_from s steps) []
   stays : (s : System) (name : ℕ) (why : SettleError) → IsUnsettled s name why
       → Runs line s (command.Finish name) s (unfinished_message line why)

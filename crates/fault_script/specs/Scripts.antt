@@ -10,7 +10,7 @@ use Rattle.fault_script.specs.declared.parse_line.ConfigSoFar.{ConfigSoFar}
 use Rattle.fault_script.specs.declared.parse_line.Said.{Said}
 use Rattle.fault_script.specs.declared.parse_line.Said.TheVariants.{Opens, Runs}
 use Rattle.fault_script.specs.declared.fault.LineFault.{LineFault}
-use Rattle.fault_script.specs.Lines.{Shows}
+use Rattle.fault_script.specs.Lines.{ScriptLineSays}
 
 -- what a line says, and its number from 1
 pub record SaidLine : Type 0 where
@@ -27,31 +27,34 @@ opened_after (Some opened) (Runs command) = Some (record { config = opened.confi
 abbrev pub opened_of : List SaidLine → Option ConfigSoFar
 opened_of saids = fold (λ before placed. opened_after before placed.said) None saids
 
--- a command of its line; a line of the configuration has none
+-- the command of a line; a line of the configuration has none
 abbrev pub command_by : ℕ → Said → Option NumberedCommand
 command_by line (Opens opened) = None
 command_by line (Runs command) = Some (record { line = line; command = command })
 
+-- the commands of those lines
 abbrev pub commands_of : List SaidLine → List NumberedCommand
 commands_of saids = filter_map (λ placed. command_by placed.line placed.said) saids
 
--- the lines are read as those: each is blank or a comment, or says the next of them after those
--- before
-pub data AreRead : List (List ℕ) → List SaidLine → Type 0 where
-  no_line : AreRead [] []
-  blank_line : (lines : List (List ℕ)) (saids : List SaidLine) (line : List ℕ) → AreRead lines saids
-      → Shows (opened_of saids) (length saids) line (Ok None) → AreRead (lines ++ line ∷ []) saids
+-- the lines say those: each is blank or a comment, or says the next of them after those before
+pub data ScriptLinesSay : List (List ℕ) → List SaidLine → Type 0 where
+  no_line : ScriptLinesSay [] []
+  blank_line : (lines : List (List ℕ)) (saids : List SaidLine) (line : List ℕ)
+      → ScriptLinesSay lines saids → ScriptLineSays (opened_of saids) (length saids) line (Ok None)
+      → ScriptLinesSay (lines ++ line ∷ []) saids
   command_line : (lines : List (List ℕ)) (saids : List SaidLine) (line : List ℕ) (said : Said)
-      → AreRead lines saids → Shows (opened_of saids) (length saids) line (Ok (Some said))
-      → AreRead (lines ++ line ∷ []) (saids ++ record { line = length lines + 1; said = said } ∷ [])
+      → ScriptLinesSay lines saids
+      → ScriptLineSays (opened_of saids) (length saids) line (Ok (Some said))
+      → ScriptLinesSay (lines ++ line ∷ [])
+      (saids ++ record { line = length lines + 1; said = said } ∷ [])
 
 -- the line after those lines has that fault, and that number
-pub record HasFault (earlier : List (List ℕ)) (line : List ℕ) (number : ℕ) (fault : LineFault) :
+pub record LineHasFault (earlier : List (List ℕ)) (line : List ℕ) (number : ℕ) (fault : LineFault) :
     Type 0 where
   pub saids : List SaidLine
-  pub read : AreRead earlier saids
+  pub read : ScriptLinesSay earlier saids
   pub counted : number ≡ length earlier + 1
-  pub faulty : Shows (opened_of saids) (length saids) line (Err fault)
+  pub faulty : ScriptLineSays (opened_of saids) (length saids) line (Err fault)
 
 -- the script is made of what the lines say: the last configuration, and the commands in their order
 pub record IsMadeOf (saids : List SaidLine) (script : Script) : Type 0 where
@@ -59,13 +62,13 @@ pub record IsMadeOf (saids : List SaidLine) (script : Script) : Type 0 where
       ≡ Some script.config
   pub commands : script.commands.items ≡ commands_of saids
 
--- the bytes are the lines of that script
-pub record Commands (bytes : List ℕ) (script : Script) : Type 0 where
+-- the bytes are lines that say what the script is made of
+pub record IsScript (bytes : List ℕ) (script : Script) : Type 0 where
   pub lines : List (List ℕ)
   pub rest : List ℕ
   pub splits : Splits bytes lines rest
   pub saids : List SaidLine
-  pub read : AreRead (last_lines lines rest) saids
+  pub read : ScriptLinesSay (last_lines lines rest) saids
   pub made : IsMadeOf saids script
 
 -- the bytes are lines without a command
@@ -73,4 +76,4 @@ pub record HasNoCommand (bytes : List ℕ) : Type 0 where
   pub lines : List (List ℕ)
   pub rest : List ℕ
   pub splits : Splits bytes lines rest
-  pub read : AreRead (last_lines lines rest) []
+  pub read : ScriptLinesSay (last_lines lines rest) []

@@ -3,37 +3,59 @@ use Rattle.std.specs.Prelude.{ℕ, zero, suc, ◌+◌, ◌&&◌, List, [], ◌�
 use Rattle.std.specs.Prelude.{Result, Ok, Err, codes, bytes_eq, length, min, nat_le, nat_lt, sum}
 use Rattle.std.specs.Prelude.{if◌then◌else◌}
 use Rattle.std.specs.List.{list_all}
+use Rattle.tag.specs.Limits.{call_limit, replica_limit}
 use Rattle.quorum.specs.Quorums.{Quorums}
 use Rattle.client_phases.specs.declared.rules.ReadMode.{ReadMode}
 use Rattle.client_phases.specs.declared.rules.ReadMode.TheVariants.{Full, Short}
-use Rattle.world_steps.specs.Configs.{Config, config_of}
+use Rattle.world_steps.specs.Configs.{Config, config_of, message_limit}
+use Rattle.fault_script.specs.declared.parse_line.Last.TheVariants as last
+use Rattle.fault_script.specs.declared.parse_line.ConfigSoFar.{ConfigSoFar}
 use Rattle.fault_script.specs.declared.fault.LineFault.{LineFault}
 use Rattle.fault_script.specs.declared.fault.LineFault.TheVariants.{UnknownCommand}
-use Rattle.fault_script.specs.Says.{◌>>=◌, needed_word, needed_text, needed_number, number_or}
+use Rattle.counted_devices.specs.Answers.{◌>>=◌}
+use Rattle.fault_script.specs.Says.{needed_word, needed_text, needed_number, number_or}
 use Rattle.fault_script.specs.Says.{nothing_more, in_range, within}
 
--- so many replicas, calls and messages
+-- the configuration so far after `replicas`
+abbrev pub after_replicas : Config → ConfigSoFar
+after_replicas config = record { config = config; last = last.Replicas }
+
+-- the configuration so far after `reads`
+abbrev pub after_reads : Config → ReadMode → ConfigSoFar
+after_reads config mode = record { config = record config { reads = mode }; last = last.Reads }
+
+-- the configuration so far after `votes`
+abbrev pub after_votes : Config → Quorums → ConfigSoFar
+after_votes config quorums =
+    record { config = record config { quorums = quorums }; last = last.Other }
+
+-- so many replicas, and at most so many calls and messages
 unfoldable pub config_in : Option ℕ → Option ℕ → Option ℕ → Result Config LineFault
 config_in replicas calls flights = do
-  n ← within 1 15 replicas
-  most_calls ← within 1 1000000 calls
-  most_flights ← within 1 16000000 flights
-  Ok (config_of n most_calls most_flights)
+  n ← within 1 replica_limit replicas
+  c ← within 1 call_limit calls
+  m ← within 1 message_limit flights
+  Ok (config_of n c m)
 
--- `N [CALLS [FLIGHTS]]`, with 1,000,000 calls and 4,000,000 messages where none are said
+-- how many messages there are where a script says none
+abbrev pub default_flights : ℕ
+default_flights = 4000000
+
+-- `N [CALLS [FLIGHTS]]`
 unfoldable pub replicas_in : List (List ℕ) → Result Config LineFault
 replicas_in words = do
   replicas ← needed_number words
-  calls ← number_or 1000000 replicas.1
-  flights ← number_or 4000000 calls.1
+  calls ← number_or call_limit replicas.1
+  flights ← number_or default_flights calls.1
   nothing ← nothing_more flights.1
   config_in replicas.0 calls.0 flights.0
 
--- `full` or `short`
+-- the way of reading of that name
 unfoldable pub mode_of : List ℕ → Result ReadMode LineFault
 mode_of word = if bytes_eq word (codes "full") then Ok Full else if bytes_eq word (codes "short")
     then Ok Short else Err UnknownCommand
 
+-- `full` or `short`, and nothing more
 unfoldable pub reads_in : List (List ℕ) → Result ReadMode LineFault
 reads_in words = do
   mode ← needed_word words
@@ -57,7 +79,7 @@ numbers_in (suc n) words = do
 abbrev pub is_lawful : Quorums → Bool
 is_lawful quorums =
     nat_le 1 (length quorums.votes)
-    && nat_le (length quorums.votes) 15
+    && nat_le (length quorums.votes) replica_limit
     && list_all (λ v. nat_le 1 v && nat_le v 9) quorums.votes
     && nat_le 1 quorums.ask
     && nat_le quorums.ask (sum quorums.votes)
@@ -65,6 +87,7 @@ is_lawful quorums =
     && nat_le quorums.put (sum quorums.votes)
     && nat_lt (sum quorums.votes) (quorums.ask + quorums.put)
 
+-- the quorums, if the rules hold of them
 abbrev pub quorums_of : List ℕ → ℕ → ℕ → Result Quorums LineFault
 quorums_of votes ask put = in_range (is_lawful (record { votes = votes; ask = ask; put = put }))
     (record { votes = votes; ask = ask; put = put })

@@ -1,15 +1,17 @@
 -- What a simulation reads and writes.
-use Rattle.std.specs.Prelude.{ℕ, ◌≡◌, List, Option}
+use Rattle.std.specs.Prelude.{ℕ, ◌≡◌, List}
+use Rattle.std.specs.Io.KnownBytes.{Appends}
 use Rattle.counted_devices.specs.Counts.{IsOneMore}
-use Rattle.counted_devices.specs.Deliveries.{Delivers}
-use Rattle.counted_devices.specs.Sendings.{Sends, SendsStart}
+use Rattle.counted_devices.specs.Deliveries.{ReadsFrom}
+use Rattle.counted_devices.specs.DeviceStates.{DeviceStates}
+use Rattle.counted_devices.specs.Sendings.{AppendsPrefix}
 use Rattle.file_format.specs.ReadAgain.{IsTextOf}
 use Rattle.file_format.specs.Texts.{history_text}
 use Rattle.recorder.specs.Records.{IsPart}
 use Rattle.recorder.specs.Sound.{TagSound}
 use Rattle.recorder.specs.declared.part.Call.{Call}
 use Rattle.recorder.specs.declared.row.Row.{Row}
-use Rattle.fault_script.specs.Deliveries.{ReadsAll}
+use Rattle.fault_script.specs.Scripts.{IsScript}
 use Rattle.fault_script.specs.ScriptRuns.{IsRunOf}
 use Rattle.fault_script.specs.declared.command.Script.{Script}
 use Rattle.fault_script.specs.Faults.{ScriptError}
@@ -23,11 +25,11 @@ pub record IsSoundRun (script : Script) (rows : List Row) (messages : List ℕ) 
   pub text : IsTextOf (history_text rows) rows
   pub sound : (key : List ℕ) (part : List Call) → IsPart rows key part → TagSound part
 
--- the bytes that a reader gave, to its end, are a script, and the messages and the text of the
--- record of a run of it have that
-pub record Simulates (old new : Option (List ℕ)) (P : List ℕ → List ℕ → Type 0) : Type 0 where
+-- the reader's bytes, to its end, are a script, and of the messages and the text of the record of a
+-- run of it that holds
+pub record Simulates (reader : DeviceStates) (P : List ℕ → List ℕ → Type 0) : Type 0 where
   pub script : Script
-  pub read : Delivers old new (ReadsAll new script)
+  pub read : ReadsFrom IsScript reader script
   pub rows : List Row
   pub messages : List ℕ
   pub run : IsSoundRun script rows messages
@@ -44,20 +46,15 @@ abbrev pub AreTextsOf : Script → List ℕ → List ℕ → Type 0
 AreTextsOf script messages history =
     (rows : List Row) × IsSoundRun script rows messages × (history ≡ history_text rows)
 
--- two writers took a text each, all of it
-abbrev pub SendsBoth : {M W : Type 0} → (M → Option (List ℕ)) → M → M → (W → Option (List ℕ)) → W
-    → W → List ℕ → List ℕ → Type 0
-SendsBoth said_by messages_old messages_new written_by old new messages text =
-    Sends said_by messages_old messages_new messages × Sends written_by old new text
+-- the text went out to the writer, and nothing else
+abbrev pub TakesText : DeviceStates → List ℕ → Type 0
+TakesText writer text = Appends writer.old writer.new text
 
--- the first of two writers failed after a beginning of its text, and the second took nothing
-abbrev pub FailsFirst : {M W : Type 0} → (M → Option (List ℕ)) → (M → ℕ) → M → M → W → W → List ℕ
-    → Type 0
-FailsFirst said_by failures messages_old messages_new old new messages =
-    SendsStart said_by messages_old messages_new messages
-    × IsOneMore (failures messages_old) (failures messages_new) × (new ≡ old)
+-- the first writer took the messages, and the second the history's text
+abbrev pub SendsBoth : DeviceStates → DeviceStates → List ℕ → List ℕ → Type 0
+SendsBoth messages out said text = TakesText messages said × TakesText out text
 
--- the writer failed after a beginning of its text
-abbrev pub FailsBehind : {W : Type 0} → (W → Option (List ℕ)) → (W → ℕ) → W → W → List ℕ → Type 0
-FailsBehind written_by failures old new text =
-    SendsStart written_by old new text × IsOneMore (failures old) (failures new)
+-- the writer failed after a beginning of the text
+abbrev pub FailsAfterStart : DeviceStates → List ℕ → Type 0
+FailsAfterStart writer text =
+    AppendsPrefix writer.old writer.new text × IsOneMore writer.failures writer.failures_now

@@ -1,5 +1,6 @@
 //! What the lines of a script made so far.
 ghost use Rattle.std.specs.Prelude.{ℕ, ◌≡◌, ◌<◌, ◌++◌, ◌∷◌, [], List, OnOk};
+ghost use Rattle.fault_script.specs.LineMeanings.{command_limit};
 ghost use Rattle.fault_script.specs.Scripts.{SaidLine, opened_after};
 ghost use Rattle.fault_script.specs.declared.command.Command.{Command};
 
@@ -20,7 +21,7 @@ pub struct Draft {
 }
 
 /// The configuration after a command.
-fn behind_command(before: Option<ConfigSoFar>) -> Option<ConfigSoFar>
+fn after_command(before: Option<ConfigSoFar>) -> Option<ConfigSoFar>
     ensures { (command : Command) → result ≡ opened_after before (Said.Runs command) }
 {
     match before {
@@ -48,7 +49,7 @@ impl Draft {
 
     /// Sets the configuration, as a line of whatever number says.
     fn open(&mut self, opened: ConfigSoFar)
-        requires { self.old.count < 1000000 }
+        requires { self.old.count < command_limit }
         ensures { (saids : List SaidLine) (line : ℕ) → IsDraft saids self.old
             → IsDraft (saids ++ record { line = line; said = Said.Opens opened } ∷ []) self.new }
     {
@@ -58,12 +59,12 @@ impl Draft {
 
     /// Adds the command of the line of that number.
     fn run(&mut self, line: u64, command: Command) -> Result<(), Memory>
-        requires { self.old.count < 1000000 }
+        requires { self.old.count < command_limit }
         ensures { OnOk result ((saids : List SaidLine) → IsDraft saids self.old
             → IsDraft (saids ++ record { line = line; said = Said.Runs command } ∷ []) self.new) }
     {
         self.commands.push(NumberedCommand { line, command })?;
-        self.opened = behind_command(self.opened);
+        self.opened = after_command(self.opened);
         self.count += 1;
         Ok(())
     }

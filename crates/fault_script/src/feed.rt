@@ -1,6 +1,7 @@
 //! A script that comes in blocks.
 ghost use Rattle.std.specs.Prelude.{ℕ, ◌≡◌, ◌<◌, ◌≤◌, ◌+◌, ◌^◌, ◌++◌, List, [], length, OnOk};
 ghost use Rattle.counted_devices.specs.Cuts.{HasNoEnd, with_end};
+ghost use Rattle.counted_devices.specs.FirstFaults.{FeedAnswers, FileAnswers};
 
 use crate::command::Script;
 use crate::draft::Draft;
@@ -19,11 +20,12 @@ pub struct Feed {
 }
 
 impl Feed {
-    ghost use Rattle.fault_script.specs.Feeds.{Stands, FeedAnswers, FeedAnswersAtLineEnd, Ends};
+    ghost use Rattle.fault_script.specs.Feeds.{IsFed, LineEndAnswers, script_faults};
+    ghost use Rattle.fault_script.specs.Scripts.{IsScript};
 
     /// No byte yet.
     pub(crate) fn new(alloc: Global) -> Feed
-        ensures stands { Stands [] result }
+        ensures fed { IsFed [] result }
         ensures lines { result.progress.lines ≡ 0 }
         ensures rest { length result.rest.items ≡ 0 }
     {
@@ -47,8 +49,8 @@ impl Feed {
     /// Keeps bytes of the line that is under way.
     fn keep(&mut self, chunk: &[u8]) -> Result<(), ScriptError>
         requires { self.old.progress.lines < 2 ^ 63 }
-        ensures fed { (bytes : List ℕ) → Stands bytes self.old → HasNoEnd chunk.now
-            → FeedAnswers (bytes ++ chunk.now) result self.new }
+        ensures fed { (bytes : List ℕ) → IsFed bytes self.old → HasNoEnd chunk.now
+            → FeedAnswers script_faults IsFed (bytes ++ chunk.now) result self.new }
         ensures lines { OnOk result (self.new.progress.lines ≡ self.old.progress.lines) }
         ensures rest { OnOk result (length self.new.rest.items
             ≡ length self.old.rest.items + length chunk.now) }
@@ -65,8 +67,8 @@ impl Feed {
     /// Ends the line that is under way, of which these are the last bytes.
     fn end_line(&mut self, chunk: &[u8]) -> Result<(), ScriptError>
         requires { self.old.progress.lines < 2 ^ 63 }
-        ensures ended { (bytes : List ℕ) → Stands bytes self.old → HasNoEnd chunk.now
-            → FeedAnswersAtLineEnd (bytes ++ with_end chunk.now) result self.new }
+        ensures ended { (bytes : List ℕ) → IsFed bytes self.old → HasNoEnd chunk.now
+            → LineEndAnswers (bytes ++ with_end chunk.now) result self.new }
         ensures lines { OnOk result (self.new.progress.lines ≡ self.old.progress.lines + 1) }
         ensures rest { OnOk result (length self.new.rest.items ≡ 0) }
     {
@@ -83,8 +85,8 @@ impl Feed {
     pub(crate) fn feed(&mut self, block: &[u8]) -> Result<(), ScriptError>
         requires { self.old.progress.lines + length self.old.rest.items
             + length block.now < 2 ^ 63 }
-        ensures fed { (bytes : List ℕ) → Stands bytes self.old
-            → FeedAnswers (bytes ++ block.now) result self.new }
+        ensures fed { (bytes : List ℕ) → IsFed bytes self.old
+            → FeedAnswers script_faults IsFed (bytes ++ block.now) result self.new }
         ensures room { OnOk result (self.new.progress.lines + length self.new.rest.items
             ≤ self.old.progress.lines + length self.old.rest.items + length block.now) }
     {
@@ -99,7 +101,7 @@ impl Feed {
     /// The script, at the end of the bytes.
     pub(crate) fn finish(self) -> Result<Script, ScriptError>
         requires { self.progress.lines < 2 ^ 63 }
-        ensures { (bytes : List ℕ) → Stands bytes self → Ends bytes result }
+        ensures { (bytes : List ℕ) → IsFed bytes self → FileAnswers script_faults IsScript bytes result }
     {
         let Feed { mut progress, rest } = self;
         if !rest.is_empty() {

@@ -1,27 +1,28 @@
 //! Laws of the definitions, each the contract of a function that does nothing.
 ghost use Rattle.std.specs.Prelude.{ℕ, ◌≡◌, ◌≤◌, ◌↔◌, List, Ok, Err, Option};
-ghost use Rattle.quorum.specs.Quorums.{IsLawful};
-ghost use Rattle.recorder.specs.Records.{IsPart};
-ghost use Rattle.recorder.specs.Sound.{TagSound};
-ghost use Rattle.recorder.specs.declared.part.Call.{Call};
-ghost use Rattle.recorder.specs.declared.row.Row.{Row};
-ghost use Rattle.world_steps.specs.Runs.{after};
-ghost use Rattle.world_steps.specs.Systems.{opening};
-ghost use Rattle.world_steps.specs.declared.step.Step.{Step};
-ghost use Rattle.world_steps.specs.declared.system.System.{System};
-ghost use Rattle.fault_script.specs.declared.command.Command.{Command};
-ghost use Rattle.fault_script.specs.declared.command.Script.{Script};
-ghost use Rattle.fault_script.specs.Scripts.{Commands};
-ghost use Rattle.fault_script.specs.ScriptRuns.{RunsAll, IsRunOf};
 ghost use Rattle.fault_script.specs.Words.{words, behind_three};
-ghost use Rattle.fault_script.specs.Commands.{command_in};
-ghost use Rattle.fault_script.specs.declared.fault.LineFault.TheVariants.{UnknownCommand, Range};
-ghost use Rattle.fault_script.specs.Forms.{SaysCommand, HasForm};
-ghost use Rattle.fault_script.specs.declared.parse_line.ConfigSoFar.{ConfigSoFar};
-ghost use Rattle.fault_script.specs.declared.parse_line.Said.{Said};
+ghost use Rattle.tag.specs.Limits.{call_limit};
+ghost use Rattle.fault_script.specs.SettingForms.{SaysAfter};
+ghost use Rattle.fault_script.specs.Scripts.{IsScript};
+ghost use Rattle.fault_script.specs.ScriptRuns.{RunsAll, IsRunOf};
 ghost use Rattle.fault_script.specs.LineMeanings.{said_in};
-ghost use Rattle.fault_script.specs.SettingForms.{SaysBehind};
 ghost use Rattle.fault_script.specs.LineFaults.{HasWordFault};
+ghost use Rattle.fault_script.specs.Forms.{SaysCommand, HasForm};
+ghost use Rattle.fault_script.specs.Commands.{command_in};
+ghost use Rattle.fault_script.specs.declared.parse_line.Said.{Said};
+ghost use Rattle.fault_script.specs.declared.parse_line.ConfigSoFar.{ConfigSoFar};
+ghost use Rattle.fault_script.specs.declared.fault.LineFault.TheVariants.{UnknownCommand, Range};
+ghost use Rattle.fault_script.specs.declared.command.Script.{Script};
+ghost use Rattle.fault_script.specs.declared.command.Command.{Command};
+ghost use Rattle.world_steps.specs.declared.system.System.{System};
+ghost use Rattle.world_steps.specs.declared.step.Step.{Step};
+ghost use Rattle.world_steps.specs.Systems.{opening};
+ghost use Rattle.world_steps.specs.Runs.{after};
+ghost use Rattle.recorder.specs.declared.row.Row.{Row};
+ghost use Rattle.recorder.specs.declared.part.Call.{Call};
+ghost use Rattle.recorder.specs.Sound.{TagSound};
+ghost use Rattle.recorder.specs.Records.{IsPart};
+ghost use Rattle.quorum.specs.Quorums.{IsLawful};
 ghost use Rattle.file_format.specs.LineFaults.{FaultsAre};
 
 use world_settle::laws::the_steps_are_one_list;
@@ -37,7 +38,7 @@ pub fn a_command_is_read_where_its_words_say_it()
 pub fn a_line_is_read_where_its_words_say_it()
     ensures { (before : Option ConfigSoFar) (verb args : List ℕ) (said : Said)
         → (said_in before verb args ≡ Ok said)
-        ↔ SaysBehind verb (words args) (behind_three args) before said }
+        ↔ SaysAfter verb (words args) (behind_three args) before said }
 {}
 
 /// A command without a form is unknown; one that has a form and isn't read is out of range.
@@ -59,7 +60,7 @@ pub fn a_line_has_the_fault_of_its_words()
 
 /// Bytes are read as one script.
 pub fn bytes_are_read_as_one_script()
-    ensures { (bytes : List ℕ) (a b : Script) → Commands bytes a → Commands bytes b
+    ensures { (bytes : List ℕ) (a b : Script) → IsScript bytes a → IsScript bytes b
         → (a.config ≡ b.config) × (a.commands.items ≡ b.commands.items) }
 {}
 
@@ -74,7 +75,7 @@ pub fn every_script_run_is_one_of_steps()
 /// sorted by tag are an order of it.
 pub fn every_script_run_has_sound_tags()
     ensures { (script : Script) (rows : List Row) (messages : List ℕ) (key : List ℕ)
-        (part : List Call) → IsLawful script.config.quorums → script.config.calls ≤ 1000000
+        (part : List Call) → IsLawful script.config.quorums → script.config.calls ≤ call_limit
         → IsRunOf script rows messages → IsPart rows key part → TagSound part }
 {
     every_run_has_sound_tags();

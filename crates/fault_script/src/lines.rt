@@ -1,6 +1,7 @@
 //! Lines of a script.
 ghost use Rattle.std.specs.Prelude.{◌<◌, IfOk, IsSome};
-ghost use Rattle.fault_script.specs.Lines.{ShowsBy};
+ghost use Rattle.fault_script.specs.LineMeanings.{command_limit};
+ghost use Rattle.fault_script.specs.Lines.{ReadsScriptLine};
 
 use crate::LineFault;
 use crate::fault::Stop;
@@ -19,8 +20,8 @@ pub(crate) fn shown_by(
     count: usize,
     line: &[u8],
 ) -> Result<Option<Said>, Stop>
-    ensures shown { ShowsBy before count line.now result }
-    ensures few { IfOk result (λ said. IsSome said → count < 1000000) }
+    ensures shown { ReadsScriptLine before count line.now result }
+    ensures few { IfOk result (λ said. IsSome said → count < command_limit) }
 {
     if line.len() > LONGEST {
         return Err(Stop::Fault(LineFault::TooLong));

@@ -1,6 +1,6 @@
 //! Messages of a script's run, as they are written.
 ghost use Rattle.std.specs.Prelude.{ℕ, ◌≡◌, ◌≢◌, ◌++◌, codes, decimal, OnOk};
-ghost use Rattle.fault_script.specs.MessageTexts.{random_message, refused_message, unfinished_message};
+ghost use Rattle.fault_script.specs.MessageTexts.{random_message, reason_message, refused_message, unfinished_message};
 
 use itoa::Buffer;
 use tag::Memory;
@@ -25,6 +25,24 @@ fn append_number(messages: &mut Vec<u8>, before: &str, number: u64) -> Result<()
     append(messages, digits.format(number))
 }
 
+/// Says that the command of that line was refused, in those words, with the reason's number and name.
+fn append_reason(
+    messages: &mut Vec<u8>,
+    line: u64,
+    refused: &str,
+    number: u8,
+    name: &str,
+) -> Result<(), Memory>
+    ensures { OnOk result (messages.new.items
+        ≡ messages.old.items ++ reason_message line refused.now number name.now) }
+{
+    append_number(messages, "line ", line)?;
+    append_number(messages, refused, u64::from(number))?;
+    append(messages, " ")?;
+    append(messages, name)?;
+    append(messages, "\n")
+}
+
 /// Says that the step of that line was refused. A refusal for memory isn't said but passed on.
 pub(crate) fn message_refused(messages: &mut Vec<u8>, line: u64, why: Refusal) -> Result<(), Memory>
     ensures said { OnOk result
@@ -34,11 +52,7 @@ pub(crate) fn message_refused(messages: &mut Vec<u8>, line: u64, why: Refusal) -
     if let Refusal::Memory = why {
         return Err(Memory);
     }
-    append_number(messages, "line ", line)?;
-    append_number(messages, ": refused ", u64::from(why.number()))?;
-    append(messages, " ")?;
-    append(messages, why.name())?;
-    append(messages, "\n")
+    append_reason(messages, line, ": refused ", why.number(), why.name())
 }
 
 /// Says that the call that was to be finished at that line wasn't. Want of memory isn't said but
@@ -55,11 +69,13 @@ pub(crate) fn message_unfinished(
     if let SettleError::Memory(_) = why {
         return Err(Memory);
     }
-    append_number(messages, "line ", line)?;
-    append_number(messages, ": finish refused ", u64::from(why.number()))?;
-    append(messages, " ")?;
-    append(messages, why.name())?;
-    append(messages, "\n")
+    append_reason(
+        messages,
+        line,
+        ": finish refused ",
+        why.number(),
+        why.name(),
+    )
 }
 
 /// Says how many of the random steps of that line were taken.

@@ -3,7 +3,8 @@ ghost use Rattle.std.specs.Prelude.{◌≡◌, ◌≤◌, ◌+◌, ◌*◌, IfOk
 ghost use Rattle.std.specs.List.{list_all};
 ghost use Rattle.std.specs.Char.{is_ascii_digit};
 ghost use Rattle.fault_script.specs.Words.{is_numeral, u64_of, decimal_value, behind_word, number_of, words};
-ghost use Rattle.fault_script.specs.Says.{Gives, needed_number, number_or, one_number, within};
+ghost use Rattle.counted_devices.specs.Answers.{Gives};
+ghost use Rattle.fault_script.specs.Says.{needed_number, number_or, one_number, within};
 ghost use Rattle.fault_script.specs.Says.{client_of, replica_of, flight_of, key_of, value_of};
 
 use crate::LineFault;

@@ -1,7 +1,7 @@
 //! The commands after the configuration.
 ghost use Rattle.std.specs.Prelude.{◌≡◌, ◌≤◌, IfOk};
 ghost use Rattle.fault_script.specs.Words.{words, behind_word};
-ghost use Rattle.fault_script.specs.Says.{Gives};
+ghost use Rattle.counted_devices.specs.Answers.{Gives};
 ghost use Rattle.fault_script.specs.Commands.{client_in, replica_in, flight_in, action_in};
 ghost use Rattle.fault_script.specs.Commands.{invoke_in, send_in, stopped_in, stop_in, start_in};
 ghost use Rattle.fault_script.specs.Commands.{random_in, client_step_in, step_in, command_in};

@@ -1,8 +1,9 @@
 //! What a line says after the lines before it.
 ghost use Rattle.std.specs.Prelude.{◌≡◌, ◌==◌, ◌<◌, slice_index, IfOk, IsSome};
 ghost use Rattle.fault_script.specs.Words.{words};
-ghost use Rattle.fault_script.specs.Says.{Gives};
-ghost use Rattle.fault_script.specs.LineMeanings.{reads_behind, votes_set, votes_behind};
+ghost use Rattle.counted_devices.specs.Answers.{Gives};
+ghost use Rattle.fault_script.specs.LineMeanings.{command_limit};
+ghost use Rattle.fault_script.specs.LineMeanings.{reads_said, votes_set, votes_said};
 ghost use Rattle.fault_script.specs.LineMeanings.{first_said, said_in, command_says, text_says};
 
 use crate::LineFault;
@@ -40,10 +41,10 @@ pub enum Said {
     Runs(Command),
 }
 
-#[tactic(auto, unfolding(crate::specs::LineMeanings::reads_behind))]
-fn reads_behind(opened: ConfigSoFar, args: &str) -> Result<ConfigSoFar, Stop>
+#[tactic(auto, unfolding(crate::specs::LineMeanings::reads_said))]
+fn reads_said(opened: ConfigSoFar, args: &str) -> Result<ConfigSoFar, Stop>
     ensures { Gives (λ opened. opened) result
-        (reads_behind opened.config opened.last (words args.now)) }
+        (reads_said opened.config opened.last (words args.now)) }
 {
     match opened.last {
         Last::Replicas => {
@@ -71,10 +72,10 @@ fn votes_set(config: Config, args: &str) -> Result<ConfigSoFar, Stop>
     }
 }
 
-#[tactic(auto, unfolding(crate::specs::LineMeanings::votes_behind))]
-fn votes_behind(opened: ConfigSoFar, args: &str) -> Result<ConfigSoFar, Stop>
+#[tactic(auto, unfolding(crate::specs::LineMeanings::votes_said))]
+fn votes_said(opened: ConfigSoFar, args: &str) -> Result<ConfigSoFar, Stop>
     ensures { Gives (λ opened. opened) result
-        (votes_behind opened.config opened.last (words args.now)) }
+        (votes_said opened.config opened.last (words args.now)) }
 {
     match opened.last {
         Last::Replicas | Last::Reads => votes_set(opened.config, args),
@@ -109,10 +110,10 @@ fn said_in(alloc: Global, before: Option<ConfigSoFar>, verb: &str, args: &str) -
     if is(verb, "replicas") {
         Err(Stop::Fault(LineFault::UnknownCommand))
     } else if is(verb, "reads") {
-        let opened = reads_behind(opened, args)?;
+        let opened = reads_said(opened, args)?;
         Ok(Said::Opens(opened))
     } else if is(verb, "votes") {
-        let opened = votes_behind(opened, args)?;
+        let opened = votes_said(opened, args)?;
         Ok(Said::Opens(opened))
     } else {
         let command = command_in(alloc, verb, args)?;
@@ -140,7 +141,7 @@ fn command_says(
     args: &str,
 ) -> Result<Option<Said>, Stop>
     ensures said { Gives (λ said. said) result (command_says before count verb.now args.now) }
-    ensures few { IfOk result (λ said. IsSome said → count < 1000000) }
+    ensures few { IfOk result (λ said. IsSome said → count < command_limit) }
 {
     if is_comment(verb) {
         return Ok(None);
@@ -161,7 +162,7 @@ pub(crate) fn text_says(
     text: &str,
 ) -> Result<Option<Said>, Stop>
     ensures said { Gives (λ said. said) result (text_says before count text.now) }
-    ensures few { IfOk result (λ said. IsSome said → count < 1000000) }
+    ensures few { IfOk result (λ said. IsSome said → count < command_limit) }
 {
     match next_word(text) {
         Some((verb, args)) => command_says(alloc, before, count, verb, args),

@@ -1,7 +1,8 @@
 //! The lines of the configuration.
 ghost use Rattle.std.specs.Prelude.{◌≡◌, ◌≤◌, length, take, IfOk};
+ghost use Rattle.tag.specs.Limits.{replica_limit};
 ghost use Rattle.fault_script.specs.Words.{words};
-ghost use Rattle.fault_script.specs.Says.{Gives};
+ghost use Rattle.counted_devices.specs.Answers.{Gives};
 ghost use Rattle.fault_script.specs.Settings.{vote_count, config_in, replicas_in, mode_of};
 ghost use Rattle.fault_script.specs.Settings.{reads_in, numbers_in, quorums_of, votes_in};
 
@@ -83,7 +84,7 @@ fn vote_count(number: Option<u64>) -> u8
 
 /// So many numbers of votes, in a row of 15, and what stands after them.
 fn numbers_in(count: u8, args: &str) -> Result<([u8; 15], &str), Stop>
-    requires { count ≤ 15 }
+    requires { count ≤ replica_limit }
     ensures { Gives (λ found. (take count found.0, words found.1.now)) result
         (numbers_in count (words args.now)) }
 {
@@ -110,7 +111,7 @@ fn quorums_of(votes: &[u8], ask: u8, put: u8) -> Result<Quorums, Stop>
 /// The quorums that stand after `votes`, for so many replicas.
 #[tactic(auto, unfolding(crate::specs::Settings::votes_in))]
 pub(crate) fn votes_in(replicas: u8, args: &str) -> Result<Quorums, Stop>
-    requires { replicas ≤ 15 }
+    requires { replicas ≤ replica_limit }
     ensures said { Gives (λ quorums. quorums) result (votes_in replicas (words args.now)) }
     ensures count { IfOk result (λ quorums. length quorums.votes ≡ replicas) }
 {

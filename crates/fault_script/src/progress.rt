@@ -14,13 +14,13 @@ pub struct Progress {
 }
 
 impl Progress {
-    ghost use Rattle.fault_script.specs.Feeds.{IsAt, Takes, EndsBy};
+    ghost use Rattle.fault_script.specs.Feeds.{HasReadScript, ReadsNextLine, EndsBy};
 
     /// Takes the next line.
     pub(crate) fn take(&mut self, line: &[u8]) -> Result<(), ScriptError>
         requires { self.old.lines < 2 ^ 63 }
-        ensures taken { (before : List (List ℕ)) → IsAt before self.old
-            → Takes before line.now result self.new }
+        ensures taken { (before : List (List ℕ)) → HasReadScript before self.old
+            → ReadsNextLine before line.now result self.new }
         ensures lines { OnOk result (self.new.lines ≡ self.old.lines + 1) }
     {
         let number = self.lines + 1;
@@ -35,7 +35,7 @@ impl Progress {
 
     /// The script that the lines make.
     pub(crate) fn finish(self) -> Result<Script, ScriptError>
-        ensures { (lines : List (List ℕ)) → IsAt lines self → EndsBy lines result }
+        ensures { (lines : List (List ℕ)) → HasReadScript lines self → EndsBy lines result }
     {
         let Draft {
             opened,

@@ -1,8 +1,12 @@
 //! Scripts from readers.
 ghost use Rattle.std.specs.Prelude.{ℕ, ◌≡◌, ◌<◌, ◌≤◌, ◌+◌, ◌^◌, List, Option, length, true, false, IfOk, IfErr, OnOk};
 ghost use Rattle.std.specs.Io.KnownBytes.{IsAtEnd};
+ghost use Rattle.counted_devices.specs.Deliveries.{Holds, HoldsAll, ReadsFrom};
+ghost use Rattle.counted_devices.specs.DeviceStates.{states, states_since};
+ghost use Rattle.counted_devices.specs.FirstFaults.{ReadsOn, StopsFrom};
 ghost use Rattle.counted_devices.specs.ReadFaults.{FailsFrom};
-ghost use Rattle.fault_script.specs.Deliveries.{GoesOn, Holds, HoldsAll, ReadsFrom, StopsFrom};
+ghost use Rattle.fault_script.specs.Feeds.{IsFed, script_faults};
+ghost use Rattle.fault_script.specs.Scripts.{IsScript};
 
 use crate::command::Script;
 use crate::feed::Feed;
@@ -28,8 +32,9 @@ fn feed_next<R: CountedRead>(
 ) -> Result<bool, ScriptError>
     requires some { 0 < length room.old }
     requires fed { feed.old.progress.lines + length feed.old.rest.items ≤ R.given reader.old }
-    ensures goes { (start : Option (List ℕ)) → Holds start (R.remaining reader.old) feed.old
-        → GoesOn R.remaining R.failures start reader.old reader.new result feed.new }
+    ensures goes { (start : Option (List ℕ)) → Holds IsFed start (R.remaining reader.old) feed.old
+        → ReadsOn script_faults (λ bytes more. IsFed bytes feed.new)
+        (states_since start R.remaining R.failures reader.old reader.new) result }
     ensures fed { IfOk result (λ _. feed.new.progress.lines + length feed.new.rest.items
         ≤ R.given reader.new) }
     ensures end { IfOk result (λ more. more ≡ false → IsAtEnd (R.remaining reader.new)) }
@@ -57,10 +62,11 @@ fn feed_in_blocks<R: CountedRead>(
     room: &mut [u8],
 ) -> Result<Feed, ScriptError>
     requires { 0 < length room.old }
-    ensures holds { IfOk result (HoldsAll R.remaining reader.old reader.new) }
+    ensures holds { IfOk result (HoldsAll IsFed (states R.remaining R.failures reader.old reader.new)) }
     ensures counted { OnOk result (R.failures reader.new ≡ R.failures reader.old) }
-    ensures error { IfErr result (λ error. StopsFrom R.remaining reader.old reader.new error
-        × FailsFrom R.failures reader.old reader.new error) }
+    ensures error { IfErr result (λ error.
+        StopsFrom script_faults (states R.remaining R.failures reader.old reader.new) error
+        × FailsFrom (states R.remaining R.failures reader.old reader.new) error) }
     ensures room { IfOk result (λ feed. feed.progress.lines < 2 ^ 63) }
 {
     let mut feed = Feed::new(alloc);
@@ -75,10 +81,10 @@ fn feed_in_blocks<R: CountedRead>(
 /// a fault, then `Device` at the line under way where the reader failed. `Memory` comes only where
 /// an allocation was refused. The reader keeps what follows the bytes that were read.
 pub fn parse<R: CountedRead>(alloc: Global, reader: &mut R) -> Result<Script, ScriptError>
-    ensures read { IfOk result (ReadsFrom R.remaining reader.old reader.new) }
+    ensures read { IfOk result (ReadsFrom IsScript (states R.remaining R.failures reader.old reader.new)) }
     ensures counted { OnOk result (R.failures reader.new ≡ R.failures reader.old) }
-    ensures fault { IfErr result (StopsFrom R.remaining reader.old reader.new) }
-    ensures device { IfErr result (FailsFrom R.failures reader.old reader.new) }
+    ensures fault { IfErr result (StopsFrom script_faults (states R.remaining R.failures reader.old reader.new)) }
+    ensures device { IfErr result (FailsFrom (states R.remaining R.failures reader.old reader.new)) }
 {
     let Ok(mut room) = room_for(alloc, BLOCK) else {
         return Err(ScriptError {

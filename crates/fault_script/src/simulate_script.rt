@@ -1,10 +1,12 @@
 //! Scripts from readers, and the records of their runs to writers.
 ghost use Rattle.std.specs.Prelude.{◌≡◌, ◌⊎◌, IfErr, IfOk, IsErrOf, OnOk};
+ghost use Rattle.counted_devices.specs.DeviceStates.{states};
+ghost use Rattle.counted_devices.specs.FirstFaults.{StopsFrom};
 ghost use Rattle.counted_devices.specs.ReadFaults.{FailsFrom};
-ghost use Rattle.counted_devices.specs.Sendings.{Sends};
-ghost use Rattle.fault_script.specs.Deliveries.{StopsFrom};
+ghost use Rattle.fault_script.specs.Feeds.{script_faults};
 ghost use Rattle.fault_script.specs.Numbers.{simulate_error_name, simulate_error_number};
-ghost use Rattle.fault_script.specs.Simulations.{AreTextsOf, FailsBehind, FailsFirst, IfScript, SendsBoth, Simulates};
+ghost use Rattle.fault_script.specs.Simulations.{AreTextsOf, FailsAfterStart, IfScript, SendsBoth};
+ghost use Rattle.fault_script.specs.Simulations.{Simulates, TakesText};
 
 use crate::command::Script;
 use crate::script_run::ScriptRun;
@@ -86,13 +88,13 @@ fn write_texts<W: CountedWrite, M: CountedWrite>(
     out: &mut W,
     messages: &mut M,
 ) -> Result<(), SimulateError>
-    ensures written { OnOk result (SendsBoth M.contents messages.old messages.new
-        W.contents out.old out.new texts.now.messages.items texts.now.history.items) }
+    ensures written { OnOk result (SendsBoth (states M.contents M.failures messages.old messages.new)
+        (states W.contents W.failures out.old out.new) texts.now.messages.items texts.now.history.items) }
     ensures begun { IfErr result (λ error.
-        FailsFirst M.contents M.failures messages.old messages.new out.old out.new
-        texts.now.messages.items
-        ⊎ (Sends M.contents messages.old messages.new texts.now.messages.items
-        × FailsBehind W.contents W.failures out.old out.new texts.now.history.items)) }
+        (FailsAfterStart (states M.contents M.failures messages.old messages.new) texts.now.messages.items
+        × (out.new ≡ out.old))
+        ⊎ (TakesText (states M.contents M.failures messages.old messages.new) texts.now.messages.items
+        × FailsAfterStart (states W.contents W.failures out.old out.new) texts.now.history.items)) }
     ensures device { IfErr result (λ error. error ≡ SimulateError.Device) }
 {
     if write_text(texts.messages.as_slice(), messages).is_err() {
@@ -120,16 +122,17 @@ pub fn simulate<R: CountedRead, W: CountedWrite, M: CountedWrite>(
     out: &mut W,
     messages: &mut M,
 ) -> Result<(), SimulateError>
-    ensures written { OnOk result (Simulates (R.remaining reader.old) (R.remaining reader.new)
-        (SendsBoth M.contents messages.old messages.new W.contents out.old out.new)) }
+    ensures written { OnOk result (Simulates (states R.remaining R.failures reader.old reader.new)
+        (SendsBoth (states M.contents M.failures messages.old messages.new)
+        (states W.contents W.failures out.old out.new))) }
     ensures begun { IsErrOf result SimulateError.Device
-        → Simulates (R.remaining reader.old) (R.remaining reader.new) (λ said text.
-        FailsFirst M.contents M.failures messages.old messages.new out.old out.new said
-        ⊎ (Sends M.contents messages.old messages.new said
-        × FailsBehind W.contents W.failures out.old out.new text)) }
+        → Simulates (states R.remaining R.failures reader.old reader.new) (λ said text.
+        (FailsAfterStart (states M.contents M.failures messages.old messages.new) said × (out.new ≡ out.old))
+        ⊎ (TakesText (states M.contents M.failures messages.old messages.new) said
+        × FailsAfterStart (states W.contents W.failures out.old out.new) text)) }
     ensures fault { IfErr result (λ error. IfScript error (λ why.
-        StopsFrom R.remaining reader.old reader.new why
-        × FailsFrom R.failures reader.old reader.new why
+        StopsFrom script_faults (states R.remaining R.failures reader.old reader.new) why
+        × FailsFrom (states R.remaining R.failures reader.old reader.new) why
         × (out.new ≡ out.old) × (messages.new ≡ messages.old))) }
     ensures memory { IsErrOf result SimulateError.Memory
         → (out.new ≡ out.old) × (messages.new ≡ messages.old) }

@@ -2,7 +2,8 @@
 ghost use Rattle.std.specs.Prelude.{◌≡◌, ◌∷◌, [], not, position, IfSome, MatchOption, IfOk, bytes_eq};
 ghost use Rattle.std.specs.List.{before_first, after_first};
 ghost use Rattle.fault_script.specs.Words.{is_space, words, behind_word, without_return, without_spaces};
-ghost use Rattle.fault_script.specs.Says.{Gives, needed_word, nothing_more, needed_text};
+ghost use Rattle.counted_devices.specs.Answers.{Gives};
+ghost use Rattle.fault_script.specs.Says.{needed_word, nothing_more, needed_text};
 
 use crate::LineFault;
 use crate::fault::Stop;

@@ -1,5 +1,8 @@
 -- Compact texts of values without floats: they read back, they are UTF-8, no end of a line stands in them.
-use Rattle.std.proofs.Common.{◌≡◌, ◌≢◌, ◌<◌, ◌≤◌, ◌+◌, ◌*◌, ◌%◌, ◌^◌, ℕ, zero, suc, List, [], ◌∷◌, ◌++◌, Bool, true, false, cond, ◌&&◌, ◌==◌, nat_lt, not, length, get_or, Some, Option, decimal, IsUtf8, option_and_then, refl, sym, ap, ◌∙◌, subst, inl, inr, arith, append-nil, length-append}
+use Rattle.std.proofs.Common.{◌≡◌, ◌≢◌, ◌<◌, ◌≤◌, ◌+◌, ◌*◌, ◌%◌, ◌^◌, ℕ, zero, suc, List, [], ◌∷◌}
+use Rattle.std.proofs.Common.{◌++◌, Bool, true, false, cond, ◌&&◌, ◌==◌, nat_lt, not, length}
+use Rattle.std.proofs.Common.{get_or, Some, Option, decimal, IsUtf8, option_and_then, refl, sym, ap}
+use Rattle.std.proofs.Common.{◌∙◌, subst, inl, inr, arith, append-nil, length-append}
 use Rattle.std.specs.Prelude.{⊤}
 use Rattle.std.proofs.lemmas.Bool.{and_parts, and_from, cases_lt, cases_eq, ne_eqb}
 use Rattle.std.proofs.lemmas.Fmt.{decimal_by_steps, length-decimal-le, IsAscii-decimal}
@@ -14,23 +17,25 @@ use Rattle.json.proofs.Printed.Tokens.{tokens-print}
 use Rattle.json.proofs.Printed.Trees.{value-json_tokens, ArePrintable-json_tokens}
 use Rattle.json.proofs.Printed.Strings.{escape_byte_plain}
 use Rattle.json.proofs.Printed.Utf8.{IsUtf8-are_ascii, IsUtf8-quoted, IsUtf8-boolean}
-use Rattle.serde_json.specs.Data.{Num, unsigned, negative, float, Data, null, boolean, number, string, array, object, Items, no_items, item, Members, no_members, member}
+use Rattle.serde_json.specs.Data.{Num, unsigned, negative, float, Data, null, boolean, number}
+use Rattle.serde_json.specs.Data.{string, array, object, Items, no_items, item, Members, no_members}
+use Rattle.serde_json.specs.Data.{member}
 use Rattle.serde_json.specs.Read.{of_json, read, max_depth}
 use Rattle.serde_json.specs.Written.{outline, items_outline, members_outline, compact_text, items_text, members_text, comma_if}
 use Rattle.serde_json.proofs.Texts.{print-outline}
 use Rattle.counted_devices.specs.Cuts.{HasNoEnd}
 
 -- a value whose texts are UTF-8 and whose numbers have 64 bits and no sign
-abbrev pub IsCount : Num → Type 0
-IsCount (unsigned n) = n < 2 ^ 64
-IsCount (negative z) = ⊥
-IsCount (float x) = ⊥
+abbrev pub IsPlainNumber : Num → Type 0
+IsPlainNumber (unsigned n) = n < 2 ^ 64
+IsPlainNumber (negative z) = ⊥
+IsPlainNumber (float x) = ⊥
 
 abbrev mutual
   pub IsSimple : Data → Type 0
   IsSimple null = ⊤
   IsSimple (boolean b) = ⊤
-  IsSimple (number n) = IsCount n
+  IsSimple (number n) = IsPlainNumber n
   IsSimple (string s) = IsUtf8 s
   IsSimple (array ds) = AreSimple ds
   IsSimple (object ms) = HaveSimple ms
@@ -64,11 +69,14 @@ mutual
   members_numbers no_members h = tt
   members_numbers (member k d ms) h = (numbers d h.1, members_numbers ms h.2)
 
-pub read-compact_text : (d : Data) → IsSimple d → tree.depth (outline d) ≤ max_depth → of_json (outline d) ≡ Some d → read (compact_text d) ≡ Some d
+pub read-compact_text : (d : Data) → IsSimple d → tree.depth (outline d) ≤ max_depth → of_json (outline d) ≡ Some d
+    → read (compact_text d) ≡ Some d
 read-compact_text d simple shallow back =
     let ts = tree.json_tokens (outline d) in
-    let told : tokens (compact_text d) ≡ ts ++ [] = ap tokens (sym (print-outline d)) ∙ tokens-print ts (ArePrintable-json_tokens (outline d) (numbers d simple)) ∙ sym (append-nil ts) in
-    ap (λ (o : Option (json.Json × List Token)). option_and_then of_json (option_and_then (λ p. json.if_last p.0 p.1) o)) (ap (json.value max_depth) told ∙ value-json_tokens (outline d) max_depth [] shallow) ∙ back
+    let told : tokens (compact_text d) ≡ ts ++ [] = ap tokens (sym (print-outline d))
+    ∙ tokens-print ts (ArePrintable-json_tokens (outline d) (numbers d simple)) ∙ sym (append-nil ts) in
+    ap (λ (o : Option (json.Json × List Token)). option_and_then of_json (option_and_then (λ p. json.if_last p.0 p.1) o))
+    (ap (json.value max_depth) told ∙ value-json_tokens (outline d) max_depth [] shallow) ∙ back
 
 -- ---- they are UTF-8
 
@@ -88,17 +96,23 @@ mutual
   IsUtf8-compact_text (number (float x)) h = absurd h
   IsUtf8-compact_text (string s) h = IsUtf8-quoted s h
   IsUtf8-compact_text (array ds) h = IsUtf8-append (91 ∷ []) (items_text false ds) (IsUtf8-are_ascii (91 ∷ []) refl) (items_utf8 false ds h)
-  IsUtf8-compact_text (object ms) h = IsUtf8-append (123 ∷ []) (members_text false ms) (IsUtf8-are_ascii (123 ∷ []) refl) (members_utf8 false ms h)
+  IsUtf8-compact_text (object ms) h =
+      IsUtf8-append (123 ∷ []) (members_text false ms) (IsUtf8-are_ascii (123 ∷ []) refl) (members_utf8 false ms h)
 
   items_utf8 : (later : Bool) (ds : Items) → AreSimple ds → IsUtf8 (items_text later ds)
   items_utf8 later no_items h = IsUtf8-are_ascii (93 ∷ []) refl
-  items_utf8 later (item d ds) h = IsUtf8-append (comma_if later) (compact_text d ++ items_text true ds) (comma_utf8 later) (IsUtf8-append (compact_text d) (items_text true ds) (IsUtf8-compact_text d h.0) (items_utf8 true ds h.1))
+  items_utf8 later (item d ds) h =
+      IsUtf8-append (comma_if later) (compact_text d ++ items_text true ds) (comma_utf8 later)
+      (IsUtf8-append (compact_text d) (items_text true ds) (IsUtf8-compact_text d h.0) (items_utf8 true ds h.1))
 
   members_utf8 : (later : Bool) (ms : Members) → HaveSimple ms → IsUtf8 (members_text later ms)
   members_utf8 later no_members h = IsUtf8-are_ascii (125 ∷ []) refl
   members_utf8 later (member k d ms) h =
       let rest = compact_text d ++ members_text true ms in
-      IsUtf8-append (comma_if later) (quoted k ++ 58 ∷ rest) (comma_utf8 later) (IsUtf8-append (quoted k) (58 ∷ rest) (IsUtf8-quoted k h.0) (IsUtf8-append (58 ∷ []) rest (IsUtf8-are_ascii (58 ∷ []) refl) (IsUtf8-append (compact_text d) (members_text true ms) (IsUtf8-compact_text d h.1) (members_utf8 true ms h.2))))
+      IsUtf8-append (comma_if later) (quoted k ++ 58 ∷ rest) (comma_utf8 later)
+      (IsUtf8-append (quoted k) (58 ∷ rest) (IsUtf8-quoted k h.0)
+      (IsUtf8-append (58 ∷ []) rest (IsUtf8-are_ascii (58 ∷ []) refl)
+      (IsUtf8-append (compact_text d) (members_text true ms) (IsUtf8-compact_text d h.1) (members_utf8 true ms h.2))))
 
 -- ---- no end of a line stands in them
 
@@ -108,7 +122,8 @@ no_end (x ∷ xs) = not (x == 10) && no_end xs
 
 no_end-append : (xs ys : List ℕ) → no_end xs ≡ true → no_end ys ≡ true → no_end (xs ++ ys) ≡ true
 no_end-append [] ys h k = k
-no_end-append (x ∷ xs) ys h k = let p = and_parts (not (x == 10)) (no_end xs) h in and_from (not (x == 10)) (no_end (xs ++ ys)) p.0 (no_end-append xs ys p.1 k)
+no_end-append (x ∷ xs) ys h k = let p = and_parts (not (x == 10)) (no_end xs) h in
+    and_from (not (x == 10)) (no_end (xs ++ ys)) p.0 (no_end-append xs ys p.1 k)
 
 unlike : (x : ℕ) → x ≢ 10 → no_end (x ∷ []) ≡ true
 unlike x other = ap (λ (b : Bool). not b && true) (ne_eqb x 10 other)
@@ -155,7 +170,8 @@ quoted_no_end : (s : List ℕ) → no_end (quoted s) ≡ true
 quoted_no_end s = no_end-append (escape s) (34 ∷ []) (escape_no_end s) refl
 
 digits_no_end : (n : ℕ) → n < 2 ^ 64 → no_end (decimal n) ≡ true
-digits_no_end n h = decimal_by_steps (λ m ds. no_end ds ≡ true) (λ m lt. unlike (48 + m) (λ e. omega arith)) (λ m ds ge u. no_end-append ds ((48 + m % 10) ∷ []) u (unlike (48 + m % 10) (λ e. omega arith))) n h
+digits_no_end n h = decimal_by_steps (λ m ds. no_end ds ≡ true) (λ m lt. unlike (48 + m) (λ e. omega arith))
+    (λ m ds ge u. no_end-append ds ((48 + m % 10) ∷ []) u (unlike (48 + m % 10) (λ e. omega arith))) n h
 
 comma_no_end : (later : Bool) → no_end (comma_if later) ≡ true
 comma_no_end true = refl
@@ -175,13 +191,17 @@ mutual
 
   items_no_end : (later : Bool) (ds : Items) → AreSimple ds → no_end (items_text later ds) ≡ true
   items_no_end later no_items h = refl
-  items_no_end later (item d ds) h = no_end-append (comma_if later) (compact_text d ++ items_text true ds) (comma_no_end later) (no_end-append (compact_text d) (items_text true ds) (text_no_end d h.0) (items_no_end true ds h.1))
+  items_no_end later (item d ds) h =
+      no_end-append (comma_if later) (compact_text d ++ items_text true ds) (comma_no_end later)
+      (no_end-append (compact_text d) (items_text true ds) (text_no_end d h.0) (items_no_end true ds h.1))
 
   members_no_end : (later : Bool) (ms : Members) → HaveSimple ms → no_end (members_text later ms) ≡ true
   members_no_end later no_members h = refl
   members_no_end later (member k d ms) h =
       let rest = compact_text d ++ members_text true ms in
-      no_end-append (comma_if later) (quoted k ++ 58 ∷ rest) (comma_no_end later) (no_end-append (quoted k) (58 ∷ rest) (quoted_no_end k) (no_end-append (compact_text d) (members_text true ms) (text_no_end d h.1) (members_no_end true ms h.2)))
+      no_end-append (comma_if later) (quoted k ++ 58 ∷ rest) (comma_no_end later)
+      (no_end-append (quoted k) (58 ∷ rest) (quoted_no_end k)
+      (no_end-append (compact_text d) (members_text true ms) (text_no_end d h.1) (members_no_end true ms h.2)))
 
 pub HasNoEnd-compact_text : (d : Data) → IsSimple d → HasNoEnd (compact_text d)
 HasNoEnd-compact_text d h = HasNoEnd-no_end (compact_text d) (text_no_end d h)

@@ -1,31 +1,37 @@
 -- Which fault a value has as the header of a history file of either version, or as a row of a hall.
-use Rattle.std.proofs.Common.{ℕ, ◌≡◌, ◌↔◌, ◌&&◌, List, Bool, true, false, cond, Option, Some, None, Result, Ok, Err, codes, bytes_eq, nat_le, nat_lt, ◌==◌, refl, sym, ap, ◌∙◌, subst, arith, eqb-true, eq-eqb}
-use Rattle.std.proofs.lemmas.Bool.{ltb-false}
+use Rattle.std.proofs.Common.{ℕ, ◌≡◌, ◌↔◌, ◌&&◌, List, Bool, true, false, cond, Option, Some, None}
+use Rattle.std.proofs.Common.{Result, Ok, Err, codes, bytes_eq, nat_le, nat_lt, ◌==◌, refl, sym, ap}
+use Rattle.std.proofs.Common.{◌∙◌, subst, arith, eqb-true, eq-eqb}
+use Rattle.std.proofs.lemmas.Bool.{ltb-false, both_ways}
 use Rattle.serde_json.specs.Data.{Data}
 use Rattle.quorum.specs.Quorums.{Quorums, IsLawful}
-use Rattle.recorder.specs.Halls.{IsCount}
+use Rattle.recorder.specs.Halls.{IsHallCount}
 use Rattle.file_format.specs.declared.fault.LineFault.{LineFault}
 use Rattle.file_format.specs.declared.fault.LineFault.TheVariants.{NoHeader, Version, Member, Range}
 use Rattle.file_format.specs.declared.file_header.FileHeader.{FileHeader}
 use Rattle.file_format.specs.declared.file_header.FileHeader.TheVariants.{Version1, Version2}
 use Rattle.file_format.specs.declared.hall_row.HallRow.{HallRow}
-use Rattle.file_format.specs.FileHeaders.{count_of, quorums_of, are_quorums, told_in, version_of, file_header_of, file_header_in}
+use Rattle.file_format.specs.FileHeaders.{are_quorums, told_in, file_header_of, file_header_in}
 use Rattle.file_format.specs.HallRows.{only_row_in, placed_row_in, hall_row_in}
-use Rattle.file_format.specs.LineFaults.{LacksQuorumMember, no_ask, no_halls, no_put, no_votes, AreQuorumsOutOfRange, bad_count, bad_quorums, LacksRowMember, LacksPlacedMember, no_hall, of_row, IsRowOutOfRange, IsPlacedOutOfRange, great_hall, bad_row, IsMemberFault, HasHallRowFault, IsOfVersion, HasFileHeaderFault}
-use Rattle.file_format.specs.Members.{needed_member, in_range, text_at, number_at, numbers_at}
+use Rattle.file_format.specs.LineFaults.{LacksQuorumMember, no_ask, no_halls, no_put, no_votes}
+use Rattle.file_format.specs.LineFaults.{AreQuorumsOutOfRange, bad_count, bad_quorums}
+use Rattle.file_format.specs.LineFaults.{LacksRowMember, LacksPlacedMember, no_hall, of_row}
+use Rattle.file_format.specs.LineFaults.{IsRowOutOfRange, IsPlacedOutOfRange, great_hall, bad_row}
+use Rattle.file_format.specs.LineFaults.{IsMemberFault, HasHallRowFault, IsOfVersion}
+use Rattle.file_format.specs.LineFaults.{HasFileHeaderFault}
+use Rattle.file_format.specs.Members.{text_at, number_at, numbers_at}
 use Rattle.file_format.specs.Rows.{row_in}
 use Rattle.file_format.specs.Says.{HasText, HasNumber, SaysQuorums, SaysFileHeader, SaysPlacedRow}
-use Rattle.file_format.proofs.LineFaults.{Told, bind, need, range, one, decided, one_number, two_texts, equal_to, row_told, row_complete, row_within}
+use Rattle.file_format.proofs.LineFaults.{Told, bind, need, range, one, decided, one_number}
+use Rattle.file_format.proofs.LineFaults.{two_texts, equal_to, row_told, row_complete, row_within}
 use Rattle.file_format.proofs.QuorumRules.{count_there, lawful_there}
-use Rattle.file_format.proofs.SayingRows.{found, row_back}
+use Rattle.file_format.proofs.SayingRows.{row_back}
 use Rattle.file_format.proofs.SayingHalls.{told_back, hall_row_back}
-
-yes_no : (b : Bool) → b ≡ false → b ≡ true → ⊥
-yes_no b e f = cc
 
 -- ---- headers
 
-quorums_have : (d : Data) (ask halls put : ℕ) (votes : List ℕ) → HasNumber d (codes "ask") ask → HasNumber d (codes "halls") halls → HasNumber d (codes "put") put → numbers_at (codes "votes") d ≡ Some votes → LacksQuorumMember d → ⊥
+quorums_have : (d : Data) (ask halls put : ℕ) (votes : List ℕ) → HasNumber d (codes "ask") ask → HasNumber d (codes "halls") halls
+    → HasNumber d (codes "put") put → numbers_at (codes "votes") d ≡ Some votes → LacksQuorumMember d → ⊥
 quorums_have d ask halls put votes a h p v (no_ask lacks) = lacks ask a
 quorums_have d ask halls put votes a h p v (no_halls lacks) = lacks halls h
 quorums_have d ask halls put votes a h p v (no_put lacks) = lacks put p
@@ -36,24 +42,24 @@ unfolding told_in
 told_told d =
     let L = LacksQuorumMember d in
     let O = AreQuorumsOutOfRange d in
-    bind L O (needed_member (number_at (codes "ask") d)) _ (need L O (number_at (codes "ask") d) (λ lacks. no_ask lacks)) (λ ask a.
-    bind L O (needed_member (number_at (codes "halls") d)) _ (need L O (number_at (codes "halls") d) (λ lacks. no_halls lacks)) (λ halls h.
-    bind L O (needed_member (number_at (codes "put") d)) _ (need L O (number_at (codes "put") d) (λ lacks. no_put lacks)) (λ put p.
-    bind L O (needed_member (numbers_at (codes "votes") d)) _ (need L O (numbers_at (codes "votes") d) (λ lacks. no_votes lacks)) (λ votes v.
-    let at_ask = found (number_at (codes "ask") d) ask a in
-    let at_halls = found (number_at (codes "halls") d) halls h in
-    let at_put = found (number_at (codes "put") d) put p in
-    let at_votes = found (numbers_at (codes "votes") d) votes v in
-    let all : LacksQuorumMember d → ⊥ = quorums_have d ask halls put votes at_ask at_halls at_put at_votes in
+    need L O (number_at (codes "ask") d) _ (λ lacks. no_ask lacks) (λ ask a.
+    need L O (number_at (codes "halls") d) _ (λ lacks. no_halls lacks) (λ halls h.
+    need L O (number_at (codes "put") d) _ (λ lacks. no_put lacks) (λ put p.
+    need L O (numbers_at (codes "votes") d) _ (λ lacks. no_votes lacks) (λ votes v.
+    let all : LacksQuorumMember d → ⊥ = quorums_have d ask halls put votes a h p v in
     let told : Quorums = record { votes = votes; ask = ask; put = put } in
-    bind L O (count_of halls) _ (range L O (nat_le 1 halls && nat_le halls 64) halls (λ out. (all, bad_count halls at_halls (λ c. yes_no (nat_le 1 halls && nat_le halls 64) out (count_there halls c))))) (λ count c.
-    bind L O (quorums_of votes ask put) _ (range L O (are_quorums votes ask put) told (λ out. (all, bad_quorums told at_votes at_ask at_put (λ law. yes_no (are_quorums votes ask put) out (lawful_there votes ask put law))))) (λ quorums q. tt))))))
+    let no_count : (nat_le 1 halls && nat_le halls 64) ≡ false → IsHallCount halls → ⊥ =
+    λ out c. both_ways (nat_le 1 halls && nat_le halls 64) out (count_there halls c) in
+    let no_law : are_quorums votes ask put ≡ false → IsLawful told → ⊥ =
+    λ out law. both_ways (are_quorums votes ask put) out (lawful_there votes ask put law) in
+    range L O (nat_le 1 halls && nat_le halls 64) halls _ (λ out. (all, bad_count halls h (no_count out))) (
+    range L O (are_quorums votes ask put) told _ (λ out. (all, bad_quorums told v a p (no_law out))) tt)))))
 
 same_votes : (d : Data) (a b : List ℕ) → numbers_at (codes "votes") d ≡ Some a → numbers_at (codes "votes") d ≡ Some b → a ≡ b
 same_votes d a b h k = let e : Some a ≡ Some b = sym h ∙ k in cc
 
 quorums_within : (d : Data) (halls : ℕ) (quorums : Quorums) → SaysQuorums d halls quorums → AreQuorumsOutOfRange d → ⊥
-quorums_within d halls quorums s (bad_count n h never) = never (subst IsCount (one_number d (codes "halls") halls n s.told h) s.count)
+quorums_within d halls quorums s (bad_count n h never) = never (subst IsHallCount (one_number d (codes "halls") halls n s.told h) s.count)
 quorums_within d halls quorums s (bad_quorums others v a p never) =
     let votes = same_votes d quorums.votes others.votes s.votes v in
     let ask = one_number d (codes "ask") quorums.ask others.ask s.ask a in
@@ -69,25 +75,28 @@ abbrev Headed : Data → Result FileHeader LineFault → Type 0
 Headed d (Ok header) = SaysFileHeader d header
 Headed d (Err fault) = HasFileHeaderFault d fault
 
-inside_fault : (d : Data) (f : LineFault) → IsOfVersion d 2 → IsMemberFault (LacksQuorumMember d) (AreQuorumsOutOfRange d) f → HasFileHeaderFault d f
+inside_fault : (d : Data) (f : LineFault) → IsOfVersion d 2 → IsMemberFault (LacksQuorumMember d) (AreQuorumsOutOfRange d) f
+    → HasFileHeaderFault d f
 inside_fault d Member v h = (v, h)
 inside_fault d Range v h = (v, h)
 inside_fault d _ v h = absurd h
 
-version_headed : (d : Data) (r : Result FileHeader LineFault) → told_in d ≡ r → Told (LacksQuorumMember d) (AreQuorumsOutOfRange d) r → IsOfVersion d 2 → Headed d r
+version_headed : (d : Data) (r : Result FileHeader LineFault) → told_in d ≡ r → Told (LacksQuorumMember d) (AreQuorumsOutOfRange d) r
+    → IsOfVersion d 2 → Headed d r
 version_headed d (Ok header) e told v = told_back d header v.abd v.told e
 version_headed d (Err f) e told v = inside_fault d f v told
 
-other_version : (d : Data) (version n : ℕ) → HasNumber d (codes "version") version → (version == n) ≡ false → HasNumber d (codes "version") n → ⊥
+other_version : (d : Data) (version n : ℕ) → HasNumber d (codes "version") version → (version == n) ≡ false
+    → HasNumber d (codes "version") n → ⊥
 other_version d version n here apart there =
     let same : version ≡ n = one_number d (codes "version") version n here there in
-    yes_no (version == n) apart (equal_numbers version n same)
+    both_ways (version == n) apart (equal_numbers version n same)
   where
     equal_numbers : (m n : ℕ) → m ≡ n → (m == n) ≡ true
     equal_numbers m n e = eq-eqb m n e
 
-headed : (d : Data) (abd : Option (List ℕ)) (version : Option ℕ) → text_at (codes "abd") d ≡ abd → number_at (codes "version") d ≡ version → Headed d (file_header_of abd version d)
-unfolding file_header_of version_of
+headed : (d : Data) (abd : Option (List ℕ)) (version : Option ℕ) → text_at (codes "abd") d ≡ abd → number_at (codes "version") d
+    ≡ version → Headed d (file_header_of abd version d)
 headed d None version here there = λ h. cc
 headed d (Some abd) None here there = by (bytes_eq abd (codes "history")) refl
   where
@@ -96,16 +105,23 @@ headed d (Some abd) None here there = by (bytes_eq abd (codes "history")) refl
     by false e = λ h. two_texts d (codes "abd") abd (codes "history") here h e
 headed d (Some abd) (Some version) here there = by (bytes_eq abd (codes "history")) (version == 1) (version == 2) refl refl refl
   where
-    by : (a b c : Bool) → bytes_eq abd (codes "history") ≡ a → (version == 1) ≡ b → (version == 2) ≡ c → Headed d (cond a (cond b (Ok Version1) (cond c (told_in d) (Err Version))) (Err NoHeader))
+    by : (a b c : Bool) → bytes_eq abd (codes "history") ≡ a → (version == 1) ≡ b → (version == 2) ≡ c
+        → Headed d (cond a (cond b (Ok Version1) (cond c (told_in d) (Err Version))) (Err NoHeader))
     by true true c e f g = record { abd = here ∙ equal_to abd (codes "history") e; version = there ∙ ap Some (eqb-true version 1 f) }
-    by true false true e f g = version_headed d (told_in d) refl (told_told d) (record { abd = here ∙ equal_to abd (codes "history") e; told = there ∙ ap Some (eqb-true version 2 g) })
-    by true false false e f g = (here ∙ equal_to abd (codes "history") e, other_version d version 1 there f, other_version d version 2 there g)
+    by true false true e f g = version_headed d (told_in d) refl (told_told d)
+        (record { abd = here ∙ equal_to abd (codes "history") e; told = there ∙ ap Some (eqb-true version 2 g) })
+    by true false false e f g = (
+      here ∙ equal_to abd (codes "history") e,
+      other_version d version 1 there f,
+      other_version d version 2 there g,
+    )
     by false b c e f g = λ h. two_texts d (codes "abd") abd (codes "history") here h e
 
 -- of which kind a fault is
 data Kind (d : Data) (f : LineFault) : Type 0 where
   no_name : f ≡ NoHeader → (HasText d (codes "abd") (codes "history") → ⊥) → Kind d f
-  no_version : f ≡ Version → HasText d (codes "abd") (codes "history") → (HasNumber d (codes "version") 1 → ⊥) → (HasNumber d (codes "version") 2 → ⊥) → Kind d f
+  no_version : f ≡ Version → HasText d (codes "abd") (codes "history") → (HasNumber d (codes "version") 1 → ⊥)
+      → (HasNumber d (codes "version") 2 → ⊥) → Kind d f
   no_member : IsOfVersion d 2 → IsMemberFault (LacksQuorumMember d) (AreQuorumsOutOfRange d) f → Kind d f
 
 kind_of : (d : Data) (f : LineFault) → HasFileHeaderFault d f → Kind d f
@@ -136,7 +152,8 @@ sound_kind d (Version2 halls quorums) f s (no_version e named h i) = i s.version
 sound_kind d (Version2 halls quorums) f s (no_member v m) =
     let L = LacksQuorumMember d in
     let O = AreQuorumsOutOfRange d in
-    no_fault L O f (quorums_have d quorums.ask halls quorums.put quorums.votes s.ask s.told s.put s.votes) (quorums_within d halls quorums s) m
+    no_fault L O f (quorums_have d quorums.ask halls quorums.put quorums.votes s.ask s.told s.put s.votes)
+    (quorums_within d halls quorums s) m
   where
     no_fault : (L O : Type 0) (f : LineFault) → (L → ⊥) → (O → ⊥) → IsMemberFault L O f → ⊥
     no_fault L O Member l o h = l h
@@ -151,7 +168,8 @@ header_decided d (Err g) f t =
 
 pub file_header_fault : (d : Data) (fault : LineFault) → (file_header_in d ≡ Err fault) ↔ HasFileHeaderFault d fault
 unfolding file_header_in
-file_header_fault d fault = header_decided d (file_header_in d) fault (headed d (text_at (codes "abd") d) (number_at (codes "version") d) refl refl)
+file_header_fault d fault = header_decided d (file_header_in d) fault
+    (headed d (text_at (codes "abd") d) (number_at (codes "version") d) refl refl)
 
 -- ---- rows
 
@@ -174,11 +192,12 @@ unfolding placed_row_in
 placed_told halls d =
     let L = LacksPlacedMember d in
     let O = IsPlacedOutOfRange halls d in
-    bind L O (needed_member (number_at (codes "hall") d)) _ (need L O (number_at (codes "hall") d) (λ lacks. no_hall lacks)) (λ number n.
-    let at_hall = found (number_at (codes "hall") d) number n in
-    bind L O (row_in d) _ (wider (LacksRowMember d) (IsRowOutOfRange d) L O (row_in d) (λ lacks. of_row lacks) (λ row. placed_has d number at_hall row) (λ out. bad_row out) (row_told d)) (λ said e.
+    need L O (number_at (codes "hall") d) _ (λ lacks. no_hall lacks) (λ number n.
+    bind L O (row_in d) _ (wider (LacksRowMember d) (IsRowOutOfRange d) L O (row_in d) (λ lacks. of_row lacks)
+    (λ row. placed_has d number n row) (λ out. bad_row out) (row_told d)) (λ said e.
     let row = row_back d said e in
-    bind L O (in_range (nat_lt number halls) number) _ (range L O (nat_lt number halls) number (λ out. (placed_has d number at_hall (row_complete d said row), great_hall number at_hall (ltb-false number halls out)))) (λ place p. tt)))
+    range L O (nat_lt number halls) number _ (λ out.
+    (placed_has d number n (row_complete d said row), great_hall number n (ltb-false number halls out))) tt))
 
 placed_within : (halls : ℕ) (d : Data) (item : HallRow) → SaysPlacedRow halls d item → IsPlacedOutOfRange halls d → ⊥
 placed_within halls d item s (great_hall n h g) = omega (arith, s.below, one_number d (codes "hall") item.hall n s.hall h, g)
@@ -192,11 +211,13 @@ only_told d =
     bind L O (row_in d) _ (row_told d) (λ said e. tt)
 
 -- the fault that is told is the one that the value has after that header
-pub hall_row_fault : (header : FileHeader) (d : Data) (fault : LineFault) → (hall_row_in header d ≡ Err fault) ↔ HasHallRowFault header d fault
+pub hall_row_fault : (header : FileHeader) (d : Data) (fault : LineFault) → (hall_row_in header d ≡ Err fault)
+    ↔ HasHallRowFault header d fault
 unfolding hall_row_in
 hall_row_fault Version1 d fault =
     decided (LacksRowMember d) (IsRowOutOfRange d) (only_row_in d) fault (only_told d) (λ item e.
     let s = hall_row_back Version1 d item e in (row_complete d item.row s.1, row_within d item.row s.1))
 hall_row_fault (Version2 halls quorums) d fault =
     decided (LacksPlacedMember d) (IsPlacedOutOfRange halls d) (placed_row_in halls d) fault (placed_told halls d) (λ item e.
-    let s = hall_row_back (Version2 halls quorums) d item e in (placed_has d item.hall s.hall (row_complete d item.row s.said), placed_within halls d item s))
+    let s = hall_row_back (Version2 halls quorums) d item e in
+    (placed_has d item.hall s.hall (row_complete d item.row s.said), placed_within halls d item s))

@@ -8,7 +8,7 @@ pub mod WrittenOrders
 mod TakenLines
 pub mod EachElement
 pub mod Converting
-pub mod Looking
+pub mod FoundMembers
 pub mod OrderPieces
 pub mod Showing
 mod OrdersByNumber
@@ -30,3 +30,7 @@ pub mod OneRowMore
 pub mod Votes
 pub mod OneHall
 mod WritingOn
+pub mod ListedNumbers
+pub mod Chunks
+pub mod Zips
+pub mod PieceByPiece

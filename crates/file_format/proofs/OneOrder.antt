@@ -18,12 +18,14 @@ module _ {X : Type 0} (At : X → ℕ → Type 0) where
   }
 
   head_once : (x : X) (xs : List X) (i : ℕ) → InOrder (x ∷ xs) → slice_get xs i ≡ Some x → ⊥
-  head_once x xs i o e = let m = o.has 0 x refl in let less = o.rises 0 (suc i) x x m.0 m.0 (omega arith) refl e m.1 m.1 in omega (arith, less)
+  head_once x xs i o e = let m = o.has 0 x refl in let less = o.rises 0 (suc i) x x m.0 m.0 (omega arith) refl e m.1 m.1 in
+      omega (arith, less)
 
   Within : List X → List X → Type 0
   Within xs ys = (i : ℕ) (x : X) → slice_get xs i ≡ Some x → (j : ℕ) × (slice_get ys j ≡ Some x)
 
-  heads : (x y : X) (xs ys : List X) (i j : ℕ) → InOrder (x ∷ xs) → InOrder (y ∷ ys) → slice_get (y ∷ ys) i ≡ Some x → slice_get (x ∷ xs) j ≡ Some y → x ≡ y
+  heads : (x y : X) (xs ys : List X) (i j : ℕ) → InOrder (x ∷ xs) → InOrder (y ∷ ys) → slice_get (y ∷ ys) i ≡ Some x
+      → slice_get (x ∷ xs) j ≡ Some y → x ≡ y
   heads x y xs ys zero j p q at_x at_y = cc
   heads x y xs ys (suc i) zero p q at_x at_y = cc
   heads x y xs ys (suc i) (suc j) p q at_x at_y =
@@ -54,25 +56,37 @@ module _ {X : Type 0} (At : X → ℕ → Type 0) where
       cc
 
 keys_in_order : (names keys : List (List ℕ)) → AreFirsts names keys → InOrder (λ key m. IsFirstAt names key m) keys
-keys_in_order names keys h = record { has = λ i key e. h.each i key e; rises = λ i j a b m n less at_i at_j f g. h.ordered i j a b m n less at_i at_j f g }
+keys_in_order names keys h = record {
+  has = λ i key e. h.each i key e;
+  rises =
+      λ i j a b m n less at_i at_j f g. h.ordered i j a b m n less at_i at_j f g;
+}
 
-among : (names keys others : List (List ℕ)) → AreFirsts names keys → AreFirsts names others → Within (λ key m. IsFirstAt names key m) keys others
+among : (names keys others : List (List ℕ)) → AreFirsts names keys → AreFirsts names others
+    → Within (λ key m. IsFirstAt names key m) keys others
 unfolding Within
 among names keys others h k = λ i key e. let f = h.each i key e in k.all f.0 key f.1.here
 
 keys_once : (names keys others : List (List ℕ)) → AreFirsts names keys → AreFirsts names others → keys ≡ others
-keys_once names keys others h k = same_list (λ key m. IsFirstAt names key m) keys others (keys_in_order names keys h) (keys_in_order names others k) (among names keys others h k) (among names others keys k h)
+keys_once names keys others h k =
+    same_list (λ key m. IsFirstAt names key m) keys others (keys_in_order names keys h) (keys_in_order names others k)
+    (among names keys others h k) (among names others keys k h)
 
 -- an order is its key's, and what the pieces give for it
 ordered : List KeyOrder → List ℕ → KeyOrder
 ordered pieces key = record { key = key; order = order_on key pieces }
 
-by_keys : (pieces orders : List KeyOrder) → ((i : ℕ) (order : KeyOrder) → slice_get orders i ≡ Some order → order.order ≡ order_on order.key pieces) → orders ≡ map (ordered pieces) (map key_in orders)
+by_keys : (pieces orders : List KeyOrder)
+    → ((i : ℕ) (order : KeyOrder) → slice_get orders i ≡ Some order → order.order ≡ order_on order.key pieces) → orders
+    ≡ map (ordered pieces) (map key_in orders)
 unfolding ordered
 by_keys pieces [] each = refl
 by_keys pieces (order ∷ orders) each =
-    ap₂ (λ (o : KeyOrder) (os : List KeyOrder). o ∷ os) (ap (λ (ops : List OpId). record { key = order.key; order = ops }) (each 0 order refl)) (by_keys pieces orders (λ i o e. each (suc i) o e))
+    ap₂ (λ (o : KeyOrder) (os : List KeyOrder). o ∷ os)
+    (ap (λ (ops : List OpId). record { key = order.key; order = ops }) (each 0 order refl))
+    (by_keys pieces orders (λ i o e. each (suc i) o e))
 
 pub joined_once : (pieces a b : List KeyOrder) → AreJoined pieces a → AreJoined pieces b → a ≡ b
 joined_once pieces a b h k =
-    by_keys pieces a h.each ∙ ap (map (ordered pieces)) (keys_once (map key_in pieces) (map key_in a) (map key_in b) h.keys k.keys) ∙ sym (by_keys pieces b k.each)
+    by_keys pieces a h.each ∙ ap (map (ordered pieces)) (keys_once (map key_in pieces) (map key_in a) (map key_in b) h.keys k.keys)
+    ∙ sym (by_keys pieces b k.each)

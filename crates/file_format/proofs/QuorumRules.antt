@@ -1,14 +1,17 @@
 -- The numbers that a header of version 2 may tell: the test of them, and the rules.
-use Rattle.std.proofs.Common.{ℕ, zero, suc, ◌≡◌, ◌≤◌, ◌<◌, ◌+◌, ◌&&◌, List, [], ◌∷◌, Bool, true, false, length, get_or, sum, nat_le, nat_lt, Result, Ok, Err, refl, arith}
+use Rattle.std.proofs.Common.{ℕ, zero, suc, ◌≡◌, ◌≤◌, ◌<◌, ◌+◌, ◌&&◌, List, [], ◌∷◌, Bool, true}
+use Rattle.std.proofs.Common.{false, length, get_or, sum, nat_le, nat_lt, Result, Ok, Err, refl}
+use Rattle.std.proofs.Common.{arith}
 use Rattle.std.specs.List.{All, list_all}
 use Rattle.std.proofs.lemmas.Bool.{leb-true, le-leb, ltb-true, lt-ltb, and_parts, and_from}
 use Rattle.std.proofs.lemmas.List.Sums.{sum_by-le}
 use Rattle.quorum.specs.Quorums.{IsLawful}
-use Rattle.recorder.specs.Halls.{IsCount}
+use Rattle.recorder.specs.Halls.{IsHallCount}
 use Rattle.file_format.specs.declared.fault.LineFault.{LineFault}
 use Rattle.file_format.specs.declared.fault.LineFault.TheVariants.{Range}
 use Rattle.file_format.specs.FileHeaders.{are_votes, is_reached, are_quorums, quorums_of, count_of}
 use Rattle.file_format.specs.Members.{in_range}
+use Rattle.file_format.proofs.SayingRows.{fits}
 
 abbrev IsVote : ℕ → Type 0
 IsVote v = (1 ≤ v) × (v ≤ 9)
@@ -34,9 +37,11 @@ all_back (v ∷ votes) e =
 
 all_there : (votes : List ℕ) → All IsVote votes → list_all is_vote votes ≡ true
 all_there [] h = refl
-all_there (v ∷ votes) h = and_from (is_vote v) (list_all is_vote votes) (vote_there v (h 0 v (omega arith))) (all_there votes (λ k d lt. h (suc k) d (omega arith)))
+all_there (v ∷ votes) h = and_from (is_vote v) (list_all is_vote votes) (vote_there v (h 0 v (omega arith)))
+    (all_there votes (λ k d lt. h (suc k) d (omega arith)))
 
-pub lawful_back : (votes : List ℕ) (ask put : ℕ) → are_quorums votes ask put ≡ true → IsLawful (record { votes = votes; ask = ask; put = put })
+pub lawful_back : (votes : List ℕ) (ask put : ℕ) → are_quorums votes ask put ≡ true
+    → IsLawful (record { votes = votes; ask = ask; put = put })
 lawful_back votes ask put e =
     let a = and_parts (are_votes votes && is_reached votes ask && is_reached votes put) (nat_lt (sum votes) (ask + put)) e in
     let b = and_parts (are_votes votes && is_reached votes ask) (is_reached votes put) a.0 in
@@ -56,13 +61,15 @@ lawful_back votes ask put e =
       overlap = ltb-true (sum votes) (ask + put) a.1;
     }
 
-pub lawful_there : (votes : List ℕ) (ask put : ℕ) → IsLawful (record { votes = votes; ask = ask; put = put }) → are_quorums votes ask put ≡ true
+pub lawful_there : (votes : List ℕ) (ask put : ℕ) → IsLawful (record { votes = votes; ask = ask; put = put }) → are_quorums votes ask put
+    ≡ true
 lawful_there votes ask put h =
     and_from (are_votes votes && is_reached votes ask && is_reached votes put) (nat_lt (sum votes) (ask + put))
     (and_from (are_votes votes && is_reached votes ask) (is_reached votes put)
     (and_from (are_votes votes) (is_reached votes ask)
     (and_from (nat_le 1 (length votes) && nat_le (length votes) 15) (list_all is_vote votes)
-    (and_from (nat_le 1 (length votes)) (nat_le (length votes) 15) (le-leb 1 (length votes) h.some_replica) (le-leb (length votes) 15 h.most_replicas))
+    (and_from (nat_le 1 (length votes)) (nat_le (length votes) 15) (le-leb 1 (length votes) h.some_replica)
+    (le-leb (length votes) 15 h.most_replicas))
     (all_there votes h.each_votes))
     (and_from (nat_le 1 ask) (nat_le ask (sum votes)) (le-leb 1 ask h.some_ask) (le-leb ask (sum votes) h.most_ask)))
     (and_from (nat_le 1 put) (nat_le put (sum votes)) (le-leb 1 put h.some_put) (le-leb put (sum votes) h.most_put)))
@@ -75,19 +82,18 @@ pub out_of_range : {X : Type 0} (b : Bool) (x : X) → (b ≡ true → ⊥) → 
 out_of_range true x never = absurd (never refl)
 out_of_range false x never = refl
 
-pub number_in_range : {X : Type 0} (b : Bool) (x : X) → b ≡ true → in_range b x ≡ Ok x
-number_in_range true x e = refl
-number_in_range false x e = absurd (cc)
-
 pub votes_few : (votes : List ℕ) (ask put : ℕ) → IsLawful (record { votes = votes; ask = ask; put = put }) → sum votes ≤ 135
 votes_few votes ask put h = omega (arith, h.most_replicas, sum_by-le (λ (v : ℕ). v) 9 votes (λ k d lt. (h.each_votes k d lt).1))
 
 -- outside the rules the quorums are refused
-pub refused_unlawful : (votes : List ℕ) (ask put : ℕ) → (IsLawful (record { votes = votes; ask = ask; put = put }) → ⊥) → quorums_of votes ask put ≡ refused
+pub refused_unlawful : (votes : List ℕ) (ask put : ℕ) → (IsLawful (record { votes = votes; ask = ask; put = put }) → ⊥)
+    → quorums_of votes ask put ≡ refused
 refused_unlawful votes ask put never = out_of_range (are_quorums votes ask put) _ (λ e. never (lawful_back votes ask put e))
 
 pub refused_great : (votes : List ℕ) (ask put : ℕ) → ((ask ≤ 255) × (put ≤ 255) → ⊥) → quorums_of votes ask put ≡ refused
-refused_great votes ask put great = refused_unlawful votes ask put (λ h. great (omega (arith, votes_few votes ask put h, h.most_ask), omega (arith, votes_few votes ask put h, h.most_put)))
+refused_great votes ask put great =
+    refused_unlawful votes ask put
+    (λ h. great (omega (arith, votes_few votes ask put h, h.most_ask), omega (arith, votes_few votes ask put h, h.most_put)))
 
 small_all : (votes : List ℕ) → list_all is_vote votes ≡ true → list_all (λ n. nat_le n 9) votes ≡ true
 small_all [] e = refl
@@ -99,22 +105,21 @@ small_all (v ∷ votes) e =
 pub refused_big : (votes : List ℕ) (ask put : ℕ) → (list_all (λ n. nat_le n 9) votes ≡ true → ⊥) → quorums_of votes ask put ≡ refused
 refused_big votes ask put big = refused_unlawful votes ask put (λ h. big (small_all votes (all_there votes h.each_votes)))
 
-pub lawful_taken : (votes : List ℕ) (ask put : ℕ) → IsLawful (record { votes = votes; ask = ask; put = put }) → quorums_of votes ask put ≡ Ok (record { votes = votes; ask = ask; put = put })
-lawful_taken votes ask put h = number_in_range (are_quorums votes ask put) _ (lawful_there votes ask put h)
+pub lawful_taken : (votes : List ℕ) (ask put : ℕ) → IsLawful (record { votes = votes; ask = ask; put = put }) → quorums_of votes ask put
+    ≡ Ok (record { votes = votes; ask = ask; put = put })
+lawful_taken votes ask put h = fits (are_quorums votes ask put) _ (lawful_there votes ask put h)
 
 -- ---- how many halls there are
 
-pub count_back : (halls : ℕ) → (nat_le 1 halls && nat_le halls 64) ≡ true → IsCount halls
-count_back halls e = let p = and_parts (nat_le 1 halls) (nat_le halls 64) e in record { least = leb-true 1 halls p.0; most = leb-true halls 64 p.1 }
+pub count_back : (halls : ℕ) → (nat_le 1 halls && nat_le halls 64) ≡ true → IsHallCount halls
+count_back halls e = let p = and_parts (nat_le 1 halls) (nat_le halls 64) e in
+    record { least = leb-true 1 halls p.0; most = leb-true halls 64 p.1 }
 
-pub count_there : (halls : ℕ) → IsCount halls → (nat_le 1 halls && nat_le halls 64) ≡ true
+pub count_there : (halls : ℕ) → IsHallCount halls → (nat_le 1 halls && nat_le halls 64) ≡ true
 count_there halls h = and_from (nat_le 1 halls) (nat_le halls 64) (le-leb 1 halls h.least) (le-leb halls 64 h.most)
 
-pub refused_count : (halls : ℕ) → (IsCount halls → ⊥) → count_of halls ≡ refused
+pub refused_count : (halls : ℕ) → (IsHallCount halls → ⊥) → count_of halls ≡ refused
 refused_count halls never = out_of_range _ halls (λ e. never (count_back halls e))
 
-pub taken_count : (halls : ℕ) → IsCount halls → count_of halls ≡ Ok halls
-taken_count halls h = number_in_range _ halls (count_there halls h)
-
-pub not_both : (b : Bool) → b ≡ false → b ≡ true → ⊥
-not_both b e f = cc
+pub taken_count : (halls : ℕ) → IsHallCount halls → count_of halls ≡ Ok halls
+taken_count halls h = fits _ halls (count_there halls h)

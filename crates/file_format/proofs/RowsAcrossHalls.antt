@@ -1,17 +1,19 @@
 -- Rows of several halls, one after another: what one row more makes of each hall, and the fault that it has.
-use Rattle.std.proofs.Common.{ℕ, zero, suc, ◌≡◌, ◌≢◌, ◌<◌, ◌≤◌, ◌+◌, ◌⊎◌, inl, inr, List, [], ◌∷◌, ◌++◌, Bool, true, false, cond, Some, length, set, map, nat_eq, refl, sym, ap, ◌∙◌, subst, arith, append-nil, eq-eqb, eqb-true}
+use Rattle.std.proofs.Common.{ℕ, zero, suc, ◌≡◌, ◌≢◌, ◌<◌, ◌≤◌, ◌+◌, ◌⊎◌, inl, inr, List, [], ◌∷◌}
+use Rattle.std.proofs.Common.{◌++◌, Bool, true, false, cond, Some, length, set, map, nat_eq, refl}
+use Rattle.std.proofs.Common.{sym, ap, ◌∙◌, subst, arith, append-nil, eq-eqb, eqb-true}
 use Rattle.std.specs.List.{slice_get, filter}
 use Rattle.std.proofs.lemmas.Bool.{cases_eq, cases_lt}
 use Rattle.std.proofs.lemmas.List.{map-append, length-set}
 use Rattle.std.proofs.lemmas.List.Elements.{filter-append}
 use Rattle.std.proofs.lemmas.List.Sums.{sum_by-cons}
 use Rattle.std.proofs.lemmas.Option.{slice_get_within}
+use Rattle.tag.proofs.Lists.{slice_get-set, push_cases}
 use Rattle.recorder.specs.declared.row.Row.{Row}
 use Rattle.recorder.specs.declared.row.Row.TheVariants.{Invoke, Note, Respond}
 use Rattle.recorder.specs.Answers.{with_row}
 use Rattle.recorder.specs.Halls.{RecordedHalls, FallsTo, hall_calls}
 use Rattle.recorder.specs.Histories.{Recorded, IsWellFormed, is_invoke, call_count}
-use Rattle.recorder.specs.Lists.{slice_get-set, push_cases}
 use Rattle.file_format.specs.declared.fault.LineFault.{LineFault}
 use Rattle.file_format.specs.declared.fault.LineFault.TheVariants.{Range, KeyInAnotherHall}
 use Rattle.file_format.specs.declared.file_header.FileHeader.{FileHeader}
@@ -19,9 +21,9 @@ use Rattle.file_format.specs.declared.hall_row.HallRow.{HallRow}
 use Rattle.file_format.specs.FileHeaders.{halls_in}
 use Rattle.file_format.specs.HallPlaces.{row_in_hall, rows_of, calls_together, IsOfItsHall, IsMisplacedInHall}
 use Rattle.file_format.specs.HistoriesFormat.{AreHistories, MakesHistories, histories_format}
-use Rattle.file_format.specs.Places.{IsOneTooMany, IsMisplacedBehind}
+use Rattle.file_format.specs.Places.{IsOneTooMany, IsMisplacedAfter}
 use Rattle.file_format.proofs.OneFault.{IsSharp}
-use Rattle.file_format.proofs.SharpFormats.{one_misplaced, never_misplaced, has_room}
+use Rattle.file_format.proofs.SharpFormats.{calls-append, slice_get-here, one_misplaced, never_misplaced, has_room}
 
 -- ---- the rows of a hall
 
@@ -52,19 +54,18 @@ pub one_apart : (hall : ℕ) (item : HallRow) → item.hall ≢ hall → rows_of
 one_apart hall item apart = left_out (nat_eq item.hall hall) item (unequal item.hall hall apart)
 
 pub rows_here : (items : List HallRow) (item : HallRow) → rows_of item.hall (items ++ item ∷ []) ≡ rows_of item.hall items ++ item.row ∷ []
-rows_here items item = rows-append item.hall items (item ∷ []) ∙ ap (λ (rs : List Row). rows_of item.hall items ++ rs) (one_here item.hall item refl)
+rows_here items item = rows-append item.hall items (item ∷ [])
+    ∙ ap (λ (rs : List Row). rows_of item.hall items ++ rs) (one_here item.hall item refl)
 
-pub rows_apart : (hall : ℕ) (items : List HallRow) (item : HallRow) → item.hall ≢ hall → rows_of hall (items ++ item ∷ []) ≡ rows_of hall items
-rows_apart hall items item apart = rows-append hall items (item ∷ []) ∙ ap (λ (rs : List Row). rows_of hall items ++ rs) (one_apart hall item apart) ∙ append-nil (rows_of hall items)
+pub rows_apart : (hall : ℕ) (items : List HallRow) (item : HallRow) → item.hall ≢ hall → rows_of hall (items ++ item ∷ [])
+    ≡ rows_of hall items
+rows_apart hall items item apart = rows-append hall items (item ∷ [])
+    ∙ ap (λ (rs : List Row). rows_of hall items ++ rs) (one_apart hall item apart) ∙ append-nil (rows_of hall items)
 
 -- ---- how many calls there are
 
 abbrev pub begins : Row → ℕ
 begins row = cond (is_invoke row) 1 0
-
-pub calls-append : (xs ys : List Row) → call_count (xs ++ ys) ≡ call_count xs + call_count ys
-calls-append [] ys = omega arith
-calls-append (row ∷ xs) ys = omega (arith, calls-append xs ys)
 
 pub calls_more : (rows : List Row) (row : Row) → call_count (rows ++ row ∷ []) ≡ call_count rows + begins row
 calls_more rows row = calls-append rows (row ∷ []) ∙ omega arith
@@ -82,21 +83,27 @@ unfolding calls_below
 below_none zero = refl
 below_none (suc n) = omega (arith, below_none n)
 
-rows_first : (hall : ℕ) (item : HallRow) (items : List HallRow) → rows_of hall (item ∷ items) ≡ rows_of hall (item ∷ []) ++ rows_of hall items
+rows_first : (hall : ℕ) (item : HallRow) (items : List HallRow) → rows_of hall (item ∷ items) ≡ rows_of hall (item ∷ [])
+    ++ rows_of hall items
 rows_first hall item items = rows-append hall (item ∷ []) items
 
-count_apart : (hall : ℕ) (item : HallRow) (items : List HallRow) → item.hall ≢ hall → call_count (rows_of hall (item ∷ items)) ≡ call_count (rows_of hall items)
-count_apart hall item items apart = ap call_count (rows_first hall item items ∙ ap (λ (rs : List Row). rs ++ rows_of hall items) (one_apart hall item apart))
+count_apart : (hall : ℕ) (item : HallRow) (items : List HallRow) → item.hall ≢ hall → call_count (rows_of hall (item ∷ items))
+    ≡ call_count (rows_of hall items)
+count_apart hall item items apart =
+    ap call_count (rows_first hall item items ∙ ap (λ (rs : List Row). rs ++ rows_of hall items) (one_apart hall item apart))
 
-count_here : (hall : ℕ) (item : HallRow) (items : List HallRow) → item.hall ≡ hall → call_count (rows_of hall (item ∷ items)) ≡ begins item.row + call_count (rows_of hall items)
-count_here hall item items here = ap call_count (rows_first hall item items ∙ ap (λ (rs : List Row). rs ++ rows_of hall items) (one_here hall item here))
+count_here : (hall : ℕ) (item : HallRow) (items : List HallRow) → item.hall ≡ hall → call_count (rows_of hall (item ∷ items))
+    ≡ begins item.row + call_count (rows_of hall items)
+count_here hall item items here =
+    ap call_count (rows_first hall item items ∙ ap (λ (rs : List Row). rs ++ rows_of hall items) (one_here hall item here))
 
 below_apart : (n : ℕ) (item : HallRow) (items : List HallRow) → n ≤ item.hall → calls_below n (item ∷ items) ≡ calls_below n items
 unfolding calls_below
 below_apart zero item items above = refl
 below_apart (suc n) item items above = omega (arith, below_apart n item items (omega arith), count_apart n item items (λ e. omega arith))
 
-below_here : (n : ℕ) (item : HallRow) (items : List HallRow) → item.hall < n → calls_below n (item ∷ items) ≡ begins item.row + calls_below n items
+below_here : (n : ℕ) (item : HallRow) (items : List HallRow) → item.hall < n → calls_below n (item ∷ items)
+    ≡ begins item.row + calls_below n items
 unfolding calls_below
 below_here zero item items under = absurd (omega arith)
 below_here (suc n) item items under =
@@ -115,26 +122,22 @@ below_all n (item ∷ items) h = omega (arith, below_here n item items (h 0 item
 
 -- the halls' histories, where each has its rows
 abbrev AreOf : List HallRow → List Recorded → Type 0
-AreOf items halls = (hall : ℕ) (history : Recorded) → slice_get halls hall ≡ Some history → call_count history.rows ≡ call_count (rows_of hall items)
-
-get-front : {X : Type 0} (xs : List X) (x : X) (k : ℕ) (y : X) → slice_get xs k ≡ Some y → slice_get (xs ++ x ∷ []) k ≡ Some y
-get-front [] x k y e = absurd (cc)
-get-front (z ∷ xs) x zero y e = e
-get-front (z ∷ xs) x (suc k) y e = get-front xs x k y e
-
-get-last : {X : Type 0} (xs : List X) (x : X) → slice_get (xs ++ x ∷ []) (length xs) ≡ Some x
-get-last [] x = refl
-get-last (z ∷ xs) x = get-last xs x
+AreOf items halls = (hall : ℕ) (history : Recorded) → slice_get halls hall ≡ Some history → call_count history.rows
+    ≡ call_count (rows_of hall items)
 
 -- counted from the last hall down
-halls_from : (items : List HallRow) (first : ℕ) (halls : List Recorded) → ((hall : ℕ) (history : Recorded) → slice_get halls hall ≡ Some history → call_count history.rows ≡ call_count (rows_of (first + hall) items)) → calls_below first items + hall_calls halls ≡ calls_below (first + length halls) items
+halls_from : (items : List HallRow) (first : ℕ) (halls : List Recorded)
+    → ((hall : ℕ) (history : Recorded) → slice_get halls hall ≡ Some history → call_count history.rows
+    ≡ call_count (rows_of (first + hall) items)) → calls_below first items + hall_calls halls ≡ calls_below (first + length halls) items
 unfolding calls_below
 halls_from items first [] h = let same : first + 0 ≡ first = omega arith in rw same (omega arith)
 halls_from items first (history ∷ halls) h =
     let here : first + 0 ≡ first = omega arith in
     let next : first + suc (length halls) ≡ suc first + length halls = omega arith in
-    let own : call_count history.rows ≡ call_count (rows_of first items) = h 0 history refl ∙ ap (λ (n : ℕ). call_count (rows_of n items)) here in
-    let more = halls_from items (suc first) halls (λ hall other e. h (suc hall) other e ∙ ap (λ (n : ℕ). call_count (rows_of n items)) (shift first hall)) in
+    let own : call_count history.rows ≡ call_count (rows_of first items) = h 0 history refl
+    ∙ ap (λ (n : ℕ). call_count (rows_of n items)) here in
+    let more = halls_from items (suc first) halls (λ hall other e. h (suc hall) other e
+    ∙ ap (λ (n : ℕ). call_count (rows_of n items)) (shift first hall)) in
     rw next (omega (arith, more, own, sum_by-cons (λ (r : Recorded). call_count r.rows) history halls, below_next first))
   where
     shift : (first hall : ℕ) → first + suc hall ≡ suc first + hall
@@ -147,10 +150,14 @@ none_below : (items : List HallRow) → calls_below 0 items ≡ 0
 unfolding calls_below
 none_below items = refl
 
-pub all_calls : (header : FileHeader) (items : List HallRow) (histories : RecordedHalls) → MakesHistories header items histories → AreHistories header items → hall_calls histories.halls ≡ calls_together items
+pub all_calls : (header : FileHeader) (items : List HallRow) (histories : RecordedHalls) → MakesHistories header items histories
+    → AreHistories header items → hall_calls histories.halls ≡ calls_together items
 all_calls header items histories made fits =
-    let counted = halls_from items 0 histories.halls (λ hall history e. ap (λ (h : Recorded). call_count h.rows) (made.each hall history e) ∙ ap (λ (n : ℕ). call_count (rows_of n items)) (below_zero hall)) in
-    let whole : calls_below (0 + length histories.halls) items ≡ calls_below (halls_in header) items = ap (λ (n : ℕ). calls_below n items) (plain (length histories.halls) ∙ made.count) in
+    let counted = halls_from items 0 histories.halls
+    (λ hall history e. ap (λ (h : Recorded). call_count h.rows) (made.each hall history e)
+    ∙ ap (λ (n : ℕ). call_count (rows_of n items)) (below_zero hall)) in
+    let whole : calls_below (0 + length histories.halls) items ≡ calls_below (halls_in header) items =
+    ap (λ (n : ℕ). calls_below n items) (plain (length histories.halls) ∙ made.count) in
     let everything = below_all (halls_in header) items (λ k item e. (fits.placed k item e).below) in
     omega (arith, counted, whole, everything, none_below items)
   where
@@ -169,24 +176,29 @@ pub record IsNext (header : FileHeader) (items : List HallRow) (old : RecordedHa
   pub here : slice_get old.halls item.hall ≡ Some history
 
 -- at the end of its hall's rows
-own_rows : (header : FileHeader) (items : List HallRow) (old : RecordedHalls) (item : HallRow) (history : Recorded) → IsNext header items old item history → history ≡ record { rows = rows_of item.hall items; limit = 1000000 }
+own_rows : (header : FileHeader) (items : List HallRow) (old : RecordedHalls) (item : HallRow) (history : Recorded)
+    → IsNext header items old item history → history ≡ record { rows = rows_of item.hall items; limit = 1000000 }
 own_rows header items old item history h = h.made.each item.hall history h.here
 
 pub few_more : (calls : ℕ) (row : Row) → calls ≤ 1000000 → (IsOneTooMany calls row → ⊥) → calls + begins row ≤ 1000000
-few_more calls (Invoke op client key action) few room = elim (cases calls) [ inl many ↦ absurd (room many) | inr less ↦ omega (arith, less) ]
+few_more calls (Invoke op client key action) few room =
+    elim (cases calls) [ inl many ↦ absurd (room many) | inr less ↦ omega (arith, less) ]
   where
     cases : (n : ℕ) → (1000000 ≤ n) ⊎ (n < 1000000)
     cases n = elim (cases_lt n 1000000) [ inl less ↦ inr less | inr many ↦ inl many ]
 few_more calls (Note op tag) few room = omega (arith, few)
 few_more calls (Respond op returned) few room = omega (arith, few)
 
-pub fits_more : (header : FileHeader) (items : List HallRow) (old : RecordedHalls) (item : HallRow) (history : Recorded) → IsNext header items old item history → IsWellFormed (history.rows ++ item.row ∷ []) → (IsOneTooMany (hall_calls old.halls) item.row → ⊥) → AreHistories header (items ++ item ∷ [])
+pub fits_more : (header : FileHeader) (items : List HallRow) (old : RecordedHalls) (item : HallRow) (history : Recorded)
+    → IsNext header items old item history → IsWellFormed (history.rows ++ item.row ∷ [])
+    → (IsOneTooMany (hall_calls old.halls) item.row → ⊥) → AreHistories header (items ++ item ∷ [])
 fits_more header items old item history h formed room = record {
   formed = λ hall. elim (cases_eq item.hall hall) [
     | inl here ↦
         let own = ap (λ (r : Recorded). r.rows) (own_rows header items old item history h) in
         let P : ℕ → Type 0 = λ n. IsWellFormed (rows_of n (items ++ item ∷ [])) in
-        subst P here (subst IsWellFormed (sym (rows_here items item)) (subst (λ (rs : List Row). IsWellFormed (rs ++ item.row ∷ [])) own formed))
+        subst P here (subst IsWellFormed (sym (rows_here items item))
+        (subst (λ (rs : List Row). IsWellFormed (rs ++ item.row ∷ [])) own formed))
     | inr apart ↦ subst IsWellFormed (sym (rows_apart hall items item apart)) (h.fits.formed hall)
   ];
   placed = λ k other e. elim (push_cases items item k other e) [
@@ -199,18 +211,22 @@ fits_more header items old item history h formed room = record {
       omega (arith, together_more items item, few_more (calls_together items) item.row h.fits.few room_there);
 }
 
-pub makes_more : (header : FileHeader) (items : List HallRow) (old new : RecordedHalls) (item : HallRow) (history : Recorded) → IsNext header items old item history → new.halls ≡ set old.halls item.hall (with_row history item.row) → new.quorums ≡ old.quorums → MakesHistories header (items ++ item ∷ []) new
+pub makes_more : (header : FileHeader) (items : List HallRow) (old new : RecordedHalls) (item : HallRow) (history : Recorded)
+    → IsNext header items old item history → new.halls ≡ set old.halls item.hall (with_row history item.row) → new.quorums ≡ old.quorums
+    → MakesHistories header (items ++ item ∷ []) new
 makes_more header items old new item history h halls quorums = record {
   count = ap length halls ∙ length-set old.halls item.hall (with_row history item.row) ∙ h.made.count;
   each = λ hall other e.
-      let there : slice_get (set old.halls item.hall (with_row history item.row)) hall ≡ Some other = ap (λ (hs : List Recorded). slice_get hs hall) (sym halls) ∙ e in
+      let there : slice_get (set old.halls item.hall (with_row history item.row)) hall ≡ Some other =
+      ap (λ (hs : List Recorded). slice_get hs hall) (sym halls) ∙ e in
       elim (slice_get-set old.halls item.hall hall (with_row history item.row) (slice_get_within old.halls item.hall history h.here)) [
         | inl same ↦
             let is : Some (with_row history item.row) ≡ Some other = sym same.1 ∙ there in
             let own : with_row history item.row ≡ record { rows = rows_of item.hall (items ++ item ∷ []); limit = 1000000 } = own_more in
             inside_some (sym is) ∙ own ∙ ap (λ (n : ℕ). record { rows = rows_of n (items ++ item ∷ []); limit = 1000000 }) (sym same.0)
         | inr apart ↦
-            h.made.each hall other (sym apart.1 ∙ there) ∙ ap (λ (rs : List Row). record { rows = rs; limit = 1000000 }) (sym (rows_apart hall items item (λ e. apart.0 (sym e))))
+            h.made.each hall other (sym apart.1 ∙ there)
+            ∙ ap (λ (rs : List Row). record { rows = rs; limit = 1000000 }) (sym (rows_apart hall items item (λ e. apart.0 (sym e))))
       ];
   told = quorums ∙ h.made.told;
 }
@@ -219,33 +235,41 @@ makes_more header items old new item history h halls quorums = record {
     inside_some e = cc
 
     own_more : with_row history item.row ≡ record { rows = rows_of item.hall (items ++ item ∷ []); limit = 1000000 }
-    own_more = ap (λ (r : Recorded). with_row r item.row) (own_rows header items old item history h) ∙ ap (λ (rs : List Row). record { rows = rs; limit = 1000000 }) (sym (rows_here items item))
+    own_more = ap (λ (r : Recorded). with_row r item.row) (own_rows header items old item history h)
+        ∙ ap (λ (rs : List Row). record { rows = rs; limit = 1000000 }) (sym (rows_here items item))
 
 -- a fault among its hall's rows is one among all rows
-pub in_hall : (halls : ℕ) (items : List HallRow) (item : HallRow) (f : LineFault) → IsOfItsHall halls item → IsMisplacedBehind (calls_together items) (rows_of item.hall items) item.row f → IsMisplacedInHall halls items item f
+pub in_hall : (halls : ℕ) (items : List HallRow) (item : HallRow) (f : LineFault) → IsOfItsHall halls item
+    → IsMisplacedAfter (calls_together items) (rows_of item.hall items) item.row f → IsMisplacedInHall halls items item f
 in_hall halls items item Range placed h = absurd h
 in_hall halls items item KeyInAnotherHall placed h = absurd h
 in_hall halls items item _ placed h = (placed, h)
 
-pub misplaced : (header : FileHeader) (items : List HallRow) (old : RecordedHalls) (item : HallRow) (history : Recorded) (f : LineFault) → IsNext header items old item history → IsMisplacedBehind (hall_calls old.halls) history.rows item.row f → IsMisplacedInHall (halls_in header) items item f
+pub misplaced : (header : FileHeader) (items : List HallRow) (old : RecordedHalls) (item : HallRow) (history : Recorded) (f : LineFault)
+    → IsNext header items old item history → IsMisplacedAfter (hall_calls old.halls) history.rows item.row f
+    → IsMisplacedInHall (halls_in header) items item f
 misplaced header items old item history f h bad =
     let own = ap (λ (r : Recorded). r.rows) (own_rows header items old item history h) in
     let calls = all_calls header items old h.made h.fits in
-    in_hall (halls_in header) items item f h.placed (subst (λ (n : ℕ). IsMisplacedBehind n (rows_of item.hall items) item.row f) calls (subst (λ (rs : List Row). IsMisplacedBehind (hall_calls old.halls) rs item.row f) own bad))
+    in_hall (halls_in header) items item f h.placed
+    (subst (λ (n : ℕ). IsMisplacedAfter n (rows_of item.hall items) item.row f) calls
+    (subst (λ (rs : List Row). IsMisplacedAfter (hall_calls old.halls) rs item.row f) own bad))
 
 -- ---- one fault
 
 data Kind (halls : ℕ) (items : List HallRow) (item : HallRow) (f : LineFault) : Type 0 where
   no_hall : f ≡ Range → halls ≤ item.hall → Kind halls items item f
   another : f ≡ KeyInAnotherHall → item.hall < halls → (FallsTo halls item.hall item.row → ⊥) → Kind halls items item f
-  behind : IsOfItsHall halls item → IsMisplacedBehind (calls_together items) (rows_of item.hall items) item.row f → Kind halls items item f
+  behind : IsOfItsHall halls item → IsMisplacedAfter (calls_together items) (rows_of item.hall items) item.row f → Kind halls items item f
 
-kind_of : (halls : ℕ) (items : List HallRow) (item : HallRow) (f : LineFault) → IsMisplacedInHall halls items item f → Kind halls items item f
+kind_of : (halls : ℕ) (items : List HallRow) (item : HallRow) (f : LineFault) → IsMisplacedInHall halls items item f
+    → Kind halls items item f
 kind_of halls items item Range h = no_hall refl h
 kind_of halls items item KeyInAnotherHall h = another refl h.below h.apart
 kind_of halls items item _ h = behind h.0 h.1
 
-same_kind : (halls : ℕ) (items : List HallRow) (item : HallRow) (f g : LineFault) → Kind halls items item f → Kind halls items item g → f ≡ g
+same_kind : (halls : ℕ) (items : List HallRow) (item : HallRow) (f g : LineFault) → Kind halls items item f → Kind halls items item g → f
+    ≡ g
 same_kind halls items item f g (no_hall e h) (no_hall k i) = e ∙ sym k
 same_kind halls items item f g (no_hall e h) (another k i j) = absurd (omega (arith, h, i))
 same_kind halls items item f g (no_hall e h) (behind p b) = absurd (omega (arith, h, p.below))
@@ -256,24 +280,27 @@ same_kind halls items item f g (behind p b) (no_hall k i) = absurd (omega (arith
 same_kind halls items item f g (behind p b) (another k i j) = absurd (j p.falls)
 same_kind halls items item f g (behind p b) (behind q c) = one_misplaced (calls_together items) (rows_of item.hall items) item.row f g b c
 
-at_end : (items : List HallRow) (item : HallRow) (more : List HallRow) → slice_get (items ++ item ∷ more) (length items) ≡ Some item
-at_end [] item more = refl
-at_end (i ∷ items) item more = at_end items item more
-
-rows_on : (items : List HallRow) (item : HallRow) (more : List HallRow) → rows_of item.hall (items ++ item ∷ more) ≡ rows_of item.hall items ++ item.row ∷ rows_of item.hall more
+rows_on : (items : List HallRow) (item : HallRow) (more : List HallRow) → rows_of item.hall (items ++ item ∷ more)
+    ≡ rows_of item.hall items ++ item.row ∷ rows_of item.hall more
 rows_on items item more =
     rows-append item.hall items (item ∷ more)
-    ∙ ap (λ (rs : List Row). rows_of item.hall items ++ rs) (rows_first item.hall item more ∙ ap (λ (rs : List Row). rs ++ rows_of item.hall more) (one_here item.hall item refl))
+    ∙ ap (λ (rs : List Row). rows_of item.hall items ++ rs) (rows_first item.hall item more
+    ∙ ap (λ (rs : List Row). rs ++ rows_of item.hall more) (one_here item.hall item refl))
 
-never_faulty : (header : FileHeader) (items : List HallRow) (item : HallRow) (more : List HallRow) (f : LineFault) → AreHistories header (items ++ item ∷ more) → Kind (halls_in header) items item f → ⊥
-never_faulty header items item more f fits (no_hall e h) = omega (arith, h, (fits.placed (length items) item (at_end items item more)).below)
-never_faulty header items item more f fits (another e h i) = i (fits.placed (length items) item (at_end items item more)).falls
+never_faulty : (header : FileHeader) (items : List HallRow) (item : HallRow) (more : List HallRow) (f : LineFault)
+    → AreHistories header (items ++ item ∷ more) → Kind (halls_in header) items item f → ⊥
+never_faulty header items item more f fits (no_hall e h) =
+    omega (arith, h, (fits.placed (length items) item (slice_get-here items item more)).below)
+never_faulty header items item more f fits (another e h i) = i (fits.placed (length items) item (slice_get-here items item more)).falls
 never_faulty header items item more f fits (behind p b) =
     let few = subst (λ (rs : List Row). call_count rs ≤ 1000000) (map-append row_in_hall items (item ∷ more)) fits.few in
-    never_misplaced (calls_together items) (rows_of item.hall items) item.row (rows_of item.hall more) f (subst IsWellFormed (rows_on items item more) (fits.formed item.hall)) (has_room (map row_in_hall items) item.row (map row_in_hall more) few) b
+    never_misplaced (calls_together items) (rows_of item.hall items) item.row (rows_of item.hall more) f
+    (subst IsWellFormed (rows_on items item more) (fits.formed item.hall))
+    (has_room (map row_in_hall items) item.row (map row_in_hall more) few) b
 
 pub histories_sharp : IsSharp histories_format
 histories_sharp = record {
-  one = λ header items item f g h k. same_kind (halls_in header) items item f g (kind_of (halls_in header) items item f h) (kind_of (halls_in header) items item g k);
+  one = λ header items item f g h k.
+      same_kind (halls_in header) items item f g (kind_of (halls_in header) items item f h) (kind_of (halls_in header) items item g k);
   none = λ header items item more f h k. never_faulty header items item more f h (kind_of (halls_in header) items item f k);
 }

@@ -1,8 +1,10 @@
 -- What a value says as a header, or as a line of an order file: the steps that read it, turned round.
-use Rattle.std.proofs.Common.{ℕ, zero, suc, ◌≡◌, ◌<◌, ◌^◌, ◌&&◌, List, [], ◌∷◌, Bool, true, false, cond, Option, Some, None, Result, Ok, Err, codes, bytes_eq, nat_lt, ◌==◌, map, refl, sym, ap, ◌∙◌, subst, arith, eqb-true}
+use Rattle.std.proofs.Common.{ℕ, zero, suc, ◌≡◌, ◌<◌, ◌^◌, ◌&&◌, List, [], ◌∷◌, Bool, true, false}
+use Rattle.std.proofs.Common.{cond, Option, Some, None, Result, Ok, Err, codes, bytes_eq, nat_lt}
+use Rattle.std.proofs.Common.{◌==◌, map, refl, sym, ap, ◌∙◌, subst, arith, eqb-true}
 use Rattle.std.specs.List.{slice_get, list_all}
 use Rattle.std.specs.Cmp.Lexicographic.{bytes_decides}
-use Rattle.std.proofs.lemmas.Bool.{ltb-true, lt-ltb}
+use Rattle.std.proofs.lemmas.Bool.{ltb-true, lt-ltb, and_parts}
 use Rattle.serde_json.specs.Data.{Data}
 use Rattle.tag.specs.declared.numbers.OpId.{OpId}
 use Rattle.tag.specs.Names.{is_key}
@@ -12,7 +14,7 @@ use Rattle.file_format.specs.Members.{needed_member, text_at, number_at, numbers
 use Rattle.file_format.specs.Headers.{header_of, header_in}
 use Rattle.file_format.specs.OrderLines.{op_at, calls_of, piece_in}
 use Rattle.file_format.specs.Says.{SaysHeader, SaysPiece}
-use Rattle.file_format.proofs.SayingRows.{after, found, within, both, fits, done, inside}
+use Rattle.file_format.proofs.SayingRows.{after, found, within, fits, done, inside}
 
 numbers_back : (numbers : List ℕ) → map (λ (op : OpId). op.0) (map op_at numbers) ≡ numbers
 numbers_back [] = refl
@@ -22,17 +24,22 @@ ops_back : (ops : List OpId) → map op_at (map (λ (op : OpId). op.0) ops) ≡ 
 ops_back [] = refl
 ops_back (op ∷ ops) = ap (λ (l : List OpId). op ∷ l) (ops_back ops)
 
-range_back : (numbers : List ℕ) → list_all (λ n. nat_lt n (2 ^ 32)) numbers ≡ true → (k : ℕ) (op : OpId) → slice_get (map op_at numbers) k ≡ Some op → op.0 < 2 ^ 32
+range_back : (numbers : List ℕ) → list_all (λ n. nat_lt n (2 ^ 32)) numbers ≡ true → (k : ℕ) (op : OpId)
+    → slice_get (map op_at numbers) k ≡ Some op → op.0 < 2 ^ 32
 range_back [] all k op e = absurd (cc)
 range_back (n ∷ numbers) all zero op e =
-    let b = both (nat_lt n (2 ^ 32)) (list_all (λ m. nat_lt m (2 ^ 32)) numbers) all in
+    let b = and_parts (nat_lt n (2 ^ 32)) (list_all (λ m. nat_lt m (2 ^ 32)) numbers) all in
     let same : op_at n ≡ op = cc in
     omega (arith, ap (λ (o : OpId). o.0) same, ltb-true n (2 ^ 32) b.0)
-range_back (n ∷ numbers) all (suc k) op e = range_back numbers (both (nat_lt n (2 ^ 32)) (list_all (λ m. nat_lt m (2 ^ 32)) numbers) all).1 k op e
+range_back (n ∷ numbers) all (suc k) op e =
+    range_back numbers (and_parts (nat_lt n (2 ^ 32)) (list_all (λ m. nat_lt m (2 ^ 32)) numbers) all).1 k op e
 
-range_there : (ops : List OpId) → ((k : ℕ) (op : OpId) → slice_get ops k ≡ Some op → op.0 < 2 ^ 32) → list_all (λ n. nat_lt n (2 ^ 32)) (map (λ (op : OpId). op.0) ops) ≡ true
+range_there : (ops : List OpId) → ((k : ℕ) (op : OpId) → slice_get ops k ≡ Some op → op.0 < 2 ^ 32)
+    → list_all (λ n. nat_lt n (2 ^ 32)) (map (λ (op : OpId). op.0) ops) ≡ true
 range_there [] range = refl
-range_there (op ∷ ops) range = ap (λ (b : Bool). b && list_all (λ n. nat_lt n (2 ^ 32)) (map (λ (o : OpId). o.0) ops)) (lt-ltb op.0 (2 ^ 32) (range 0 op refl)) ∙ range_there ops (λ k o e. range (suc k) o e)
+range_there (op ∷ ops) range =
+    ap (λ (b : Bool). b && list_all (λ n. nat_lt n (2 ^ 32)) (map (λ (o : OpId). o.0) ops)) (lt-ltb op.0 (2 ^ 32) (range 0 op refl))
+    ∙ range_there ops (λ k o e. range (suc k) o e)
 
 pub piece_back : (d : Data) (piece : KeyOrder) → piece_in d ≡ Ok piece → SaysPiece d piece
 unfolding piece_in
@@ -48,16 +55,19 @@ piece_back d piece e =
     subst P (inside (record { key = key.0; order = order.0 }) piece order.2) (record {
       subject = found (text_at (codes "key") d) text.0 text.1 ∙ ap Some k.1;
       named = subst (λ (t : List ℕ). is_key t ≡ true) k.1 k.0;
-      order = found (numbers_at (codes "order") d) numbers.0 numbers.1 ∙ ap Some (sym (numbers_back numbers.0) ∙ ap (map (λ (op : OpId). op.0)) o.1);
+      order = found (numbers_at (codes "order") d) numbers.0 numbers.1
+          ∙ ap Some (sym (numbers_back numbers.0) ∙ ap (map (λ (op : OpId). op.0)) o.1);
       range = subst Range o.1 (range_back numbers.0 o.0);
     })
 
-calls_there : (ops : List OpId) → ((k : ℕ) (op : OpId) → slice_get ops k ≡ Some op → op.0 < 2 ^ 32) → calls_of (map (λ (op : OpId). op.0) ops) ≡ Ok ops
+calls_there : (ops : List OpId) → ((k : ℕ) (op : OpId) → slice_get ops k ≡ Some op → op.0 < 2 ^ 32)
+    → calls_of (map (λ (op : OpId). op.0) ops) ≡ Ok ops
 calls_there ops range = fits _ (map op_at (map (λ (op : OpId). op.0) ops)) (range_there ops range) ∙ ap done (ops_back ops)
 
 pub piece_there : (d : Data) (piece : KeyOrder) → SaysPiece d piece → piece_in d ≡ Ok piece
 unfolding piece_in
-piece_there d piece s = rw s.subject (rw s.order (rw (fits (is_key piece.key) piece.key s.named) (rw (calls_there piece.order s.range) refl)))
+piece_there d piece s = rw s.subject
+    (rw s.order (rw (fits (is_key piece.key) piece.key s.named) (rw (calls_there piece.order s.range) refl)))
 
 abbrev nothing : Result (Unit {0}) LineFault
 nothing = Ok (tt {0})
@@ -71,7 +81,8 @@ never : (b : Bool) (f g : LineFault) → cond b (Err f) (Err g) ≡ nothing → 
 never true f g e = cc
 never false f g e = cc
 
-header_back_of : (name : List ℕ) (d : Data) (abd : Option (List ℕ)) (version : Option ℕ) → text_at (codes "abd") d ≡ abd → number_at (codes "version") d ≡ version → header_of name abd version ≡ nothing → SaysHeader name d
+header_back_of : (name : List ℕ) (d : Data) (abd : Option (List ℕ)) (version : Option ℕ) → text_at (codes "abd") d ≡ abd
+    → number_at (codes "version") d ≡ version → header_of name abd version ≡ nothing → SaysHeader name d
 unfolding header_of
 header_back_of name d None version here there e = absurd (cc)
 header_back_of name d (Some abd) None here there e = absurd (never (bytes_eq abd name) _ _ e)

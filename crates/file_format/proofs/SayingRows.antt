@@ -1,7 +1,9 @@
 -- What a value says as a row, member by member: the steps that read it, turned round.
-use Rattle.std.proofs.Common.{ℕ, ◌≡◌, ◌≤◌, ◌<◌, ◌^◌, ◌⊎◌, ◌&&◌, inl, inr, List, Bool, true, false, cond, Option, Some, None, Result, Ok, Err, codes, bytes_eq, is_some, option_and_then, nat_lt, nat_le, refl, sym, ap, ◌∙◌, subst, arith}
+use Rattle.std.proofs.Common.{ℕ, ◌≡◌, ◌≤◌, ◌<◌, ◌^◌, ◌⊎◌, ◌&&◌, inl, inr, List, Bool, true, false}
+use Rattle.std.proofs.Common.{cond, Option, Some, None, Result, Ok, Err, codes, bytes_eq, is_some}
+use Rattle.std.proofs.Common.{option_and_then, nat_lt, nat_le, refl, sym, ap, ◌∙◌, subst, arith}
 use Rattle.std.specs.Cmp.Lexicographic.{bytes_decides}
-use Rattle.std.proofs.lemmas.Bool.{ltb-true, lt-ltb, leb-true, le-leb}
+use Rattle.std.proofs.lemmas.Bool.{ltb-true, lt-ltb, leb-true, le-leb, and_parts}
 use Rattle.serde_json.specs.Data.{Data, null, boolean, number, string, array, object}
 use Rattle.serde_json.specs.Find.{get, as_null, as_str}
 use Rattle.tag.specs.declared.actions.Action.{Action}
@@ -15,11 +17,15 @@ use Rattle.recorder.specs.declared.row.Row.{Row}
 use Rattle.recorder.specs.declared.row.Row.TheVariants.{Invoke, Note, Respond}
 use Rattle.file_format.specs.declared.fault.LineFault.{LineFault}
 use Rattle.file_format.specs.declared.fault.LineFault.TheVariants.{Range}
-use Rattle.file_format.specs.Members.{◌>>=◌, needed_member, in_range, text_at, number_at, op_of, client_of, key_of, value_of, tag_of}
-use Rattle.file_format.specs.Rows.{invocation_of, written_in, action_of, invoke_in, note_in, answer_of, returned_of, respond_in, row_of, row_in}
-use Rattle.file_format.specs.Says.{HasText, HasValue, HasCall, HasAction, reads, writes, HasAnswer, written, absent, answered, SaysRow}
+use Rattle.counted_devices.specs.Answers.{◌>>=◌}
+use Rattle.file_format.specs.Members.{needed_member, in_range, text_at, number_at, op_of, client_of, key_of, value_of, tag_of}
+use Rattle.file_format.specs.Rows.{invocation_of, written_in, action_of, invoke_in, note_in}
+use Rattle.file_format.specs.Rows.{answer_of, returned_of, respond_in, row_of, row_in}
+use Rattle.file_format.specs.Says.{HasText, HasValue, HasCall, HasAction, reads, writes, HasAnswer}
+use Rattle.file_format.specs.Says.{written, answered_null, answered, SaysRow}
 
-pub after : {A B : Type 0} (r : Result A LineFault) (f : A → Result B LineFault) (y : B) → (r >>= f) ≡ Ok y → (x : A) × (r ≡ Ok x) × (f x ≡ Ok y)
+pub after : {A B : Type 0} (r : Result A LineFault) (f : A → Result B LineFault) (y : B) → (r >>= f) ≡ Ok y → (x : A) × (r ≡ Ok x)
+    × (f x ≡ Ok y)
 after (Ok x) f y e = (x, refl, e)
 after (Err fault) f y e = absurd (cc)
 
@@ -31,18 +37,15 @@ pub within : {X : Type 0} (b : Bool) (x y : X) → in_range b x ≡ Ok y → (b 
 within true x y e = (refl, cc)
 within false x y e = absurd (cc)
 
-pub both : (a b : Bool) → (a && b) ≡ true → (a ≡ true) × (b ≡ true)
-both true true e = (refl, refl)
-both true false e = absurd (cc)
-both false b e = absurd (cc)
-
-one_of : {X : Type 0} (a b c : Bool) (x y z : Result X LineFault) (w : X) → cond a x (cond b y (cond c z (Err Range))) ≡ Ok w → ((a ≡ true) × (x ≡ Ok w)) ⊎ (((b ≡ true) × (y ≡ Ok w)) ⊎ ((c ≡ true) × (z ≡ Ok w)))
+one_of : {X : Type 0} (a b c : Bool) (x y z : Result X LineFault) (w : X) → cond a x (cond b y (cond c z (Err Range))) ≡ Ok w
+    → ((a ≡ true) × (x ≡ Ok w)) ⊎ (((b ≡ true) × (y ≡ Ok w)) ⊎ ((c ≡ true) × (z ≡ Ok w)))
 one_of true b c x y z w e = inl (refl, e)
 one_of false true c x y z w e = inr (inl (refl, e))
 one_of false false true x y z w e = inr (inr (refl, e))
 one_of false false false x y z w e = absurd (cc)
 
-either : {X : Type 0} (a b : Bool) (x y : Result X LineFault) (w : X) → cond a x (cond b y (Err Range)) ≡ Ok w → ((a ≡ true) × (x ≡ Ok w)) ⊎ ((b ≡ true) × (y ≡ Ok w))
+either : {X : Type 0} (a b : Bool) (x y : Result X LineFault) (w : X) → cond a x (cond b y (Err Range)) ≡ Ok w
+    → ((a ≡ true) × (x ≡ Ok w)) ⊎ ((b ≡ true) × (y ≡ Ok w))
 either true b x y w e = inl (refl, e)
 either false true x y w e = inr (refl, e)
 either false false x y w e = absurd (cc)
@@ -78,7 +81,8 @@ written_back d action e =
     let v = after (value_of t.0) _ action t.2 in
     (v.0, value_back d t.0 v.0 (found (text_at (codes "value") d) t.0 t.1) v.1, sym (inside (Write v.0) action v.2))
 
-pub action_back : (d : Data) (name : List ℕ) (action : Action) → text_at (codes "do") d ≡ Some name → action_of name d ≡ Ok action → HasAction d action
+pub action_back : (d : Data) (name : List ℕ) (action : Action) → text_at (codes "do") d ≡ Some name → action_of name d ≡ Ok action
+    → HasAction d action
 unfolding action_of
 action_back d name action here e =
     elim (either (bytes_eq name (codes "read")) (bytes_eq name (codes "write")) (Ok Read) (written_in d) action e) [
@@ -94,7 +98,7 @@ action_back d name action here e =
 client_back : (given client : ℕ) → client_of given ≡ Ok client → (given ≡ client) × (1 ≤ client) × (client ≤ 65535)
 client_back given client e =
     let w = within (nat_le 1 given && nat_le given 65535) given client e in
-    let b = both (nat_le 1 given) (nat_le given 65535) w.0 in
+    let b = and_parts (nat_le 1 given) (nat_le given 65535) w.0 in
     (w.1, omega (arith, w.1, leb-true 1 given b.0), omega (arith, w.1, leb-true given 65535 b.1))
 
 invoke_back : (d : Data) (row : Row) → HasText d (codes "row") (codes "invoke") → invoke_in d ≡ Ok row → SaysRow d row
@@ -131,7 +135,7 @@ note_back d row kind e =
     let op = after (op_of call.0) _ row writer.2 in
     let tag = after (tag_of number.0 writer.0) _ row op.2 in
     let w = within _ (record { number = number.0; writer = writer.0 }) tag.0 tag.1 in
-    let b = both (nat_le number.0 1000000) (nat_le writer.0 65535) w.0 in
+    let b = and_parts (nat_le number.0 1000000) (nat_le writer.0 65535) w.0 in
     let n : number.0 ≡ tag.0.number = ap (λ (t : Tag). t.number) w.1 in
     let v : writer.0 ≡ tag.0.writer = ap (λ (t : Tag). t.writer) w.1 in
     let P : Row → Type 0 = λ r. SaysRow d r in
@@ -160,7 +164,8 @@ null_of (string s) e = absurd (cc)
 null_of (array ds) e = absurd (cc)
 null_of (object ms) e = absurd (cc)
 
-answer_back : (d : Data) (o : Option (List ℕ)) (returned : Returned) → text_at (codes "value") d ≡ o → answer_of o ≡ Ok returned → HasAnswer d returned
+answer_back : (d : Data) (o : Option (List ℕ)) (returned : Returned) → text_at (codes "value") d ≡ o → answer_of o ≡ Ok returned
+    → HasAnswer d returned
 unfolding answer_of
 answer_back d None returned here e = absurd (cc)
 answer_back d (Some text) returned here e =
@@ -168,13 +173,15 @@ answer_back d (Some text) returned here e =
     let P : Returned → Type 0 = λ r. HasAnswer d r in
     subst P (inside (Value (Some v.0)) returned v.2) (answered v.0 (value_back d text v.0 here v.1))
 
-returned_case : (d member : Data) (b : Bool) (returned : Returned) → get (codes "value") d ≡ Some member → is_some (as_null member) ≡ b → cond b (Ok (Value None)) (answer_of (as_str member)) ≡ Ok returned → HasAnswer d returned
+returned_case : (d member : Data) (b : Bool) (returned : Returned) → get (codes "value") d ≡ Some member → is_some (as_null member) ≡ b
+    → cond b (Ok (Value None)) (answer_of (as_str member)) ≡ Ok returned → HasAnswer d returned
 returned_case d member true returned here test e =
     let P : Returned → Type 0 = λ r. HasAnswer d r in
-    subst P (inside (Value None) returned e) (absent (here ∙ ap Some (null_of member test)))
+    subst P (inside (Value None) returned e) (answered_null (here ∙ ap Some (null_of member test)))
 returned_case d member false returned here test e = answer_back d (as_str member) returned (ap (option_and_then as_str) here) e
 
-pub returned_back : (d : Data) (o : Option Data) (returned : Returned) → get (codes "value") d ≡ o → returned_of o ≡ Ok returned → HasAnswer d returned
+pub returned_back : (d : Data) (o : Option Data) (returned : Returned) → get (codes "value") d ≡ o → returned_of o ≡ Ok returned
+    → HasAnswer d returned
 unfolding returned_of
 returned_back d None returned here e =
     let P : Returned → Type 0 = λ r. HasAnswer d r in
@@ -199,10 +206,16 @@ pub row_back : (d : Data) (row : Row) → row_in d ≡ Ok row → SaysRow d row
 unfolding row_in row_of
 row_back d row e =
     let kind = after (needed_member (text_at (codes "row") d)) _ row e in
-    let here : (name : List ℕ) → bytes_eq kind.0 name ≡ true → HasText d (codes "row") name = λ name equal. found (text_at (codes "row") d) kind.0 kind.1 ∙ ap Some ((bytes_decides kind.0 name).0 equal) in
-    elim (one_of (bytes_eq kind.0 (codes "invoke")) (bytes_eq kind.0 (codes "note")) (bytes_eq kind.0 (codes "respond")) (invoke_in d) (note_in d) (respond_in d) row kind.2) [
+    let here : (name : List ℕ) → bytes_eq kind.0 name ≡ true → HasText d (codes "row") name =
+    λ name equal. found (text_at (codes "row") d) kind.0 kind.1 ∙ ap Some ((bytes_decides kind.0 name).0 equal) in
+    elim (one_of (bytes_eq kind.0 (codes "invoke")) (bytes_eq kind.0 (codes "note")) (bytes_eq kind.0 (codes "respond")) (invoke_in d)
+    (note_in d) (respond_in d) row kind.2) [
       | inl w ↦ invoke_back d row (here (codes "invoke") w.0) w.1
-      | inr other ↦ elim other [ inl w ↦ note_back d row (here (codes "note") w.0) w.1 | inr w ↦ respond_back d row (here (codes "respond") w.0) w.1 ]
+      | inr other ↦ elim other [
+        | inl w ↦ note_back d row (here (codes "note") w.0) w.1
+        | inr w ↦
+            respond_back d row (here (codes "respond") w.0) w.1
+      ]
     ]
 
 -- backward: what the members say is read
@@ -214,17 +227,22 @@ op_there : (op : OpId) → op.0 < 2 ^ 32 → op_of op.0 ≡ Ok op
 op_there op range = fits (nat_lt op.0 (2 ^ 32)) op (lt-ltb op.0 (2 ^ 32) range)
 
 client_there : (client : ℕ) → 1 ≤ client → client ≤ 65535 → client_of client ≡ Ok client
-client_there client least most = fits (nat_le 1 client && nat_le client 65535) client (ap (λ (b : Bool). b && nat_le client 65535) (le-leb 1 client least) ∙ le-leb client 65535 most)
+client_there client least most =
+    fits (nat_le 1 client && nat_le client 65535) client (ap (λ (b : Bool). b && nat_le client 65535) (le-leb 1 client least)
+    ∙ le-leb client 65535 most)
 
 tag_there : (tag : Tag) → tag.number ≤ 1000000 → tag.writer ≤ 65535 → tag_of tag.number tag.writer ≡ Ok tag
-tag_there tag few named = fits (nat_le tag.number 1000000 && nat_le tag.writer 65535) tag (ap (λ (b : Bool). b && nat_le tag.writer 65535) (le-leb tag.number 1000000 few) ∙ le-leb tag.writer 65535 named)
+tag_there tag few named = fits (nat_le tag.number 1000000 && nat_le tag.writer 65535) tag
+    (ap (λ (b : Bool). b && nat_le tag.writer 65535) (le-leb tag.number 1000000 few) ∙ le-leb tag.writer 65535 named)
 
-action_there : (d : Data) (action : Action) → HasAction d action → (name : List ℕ) × HasText d (codes "do") name × (action_of name d ≡ Ok action)
+action_there : (d : Data) (action : Action) → HasAction d action → (name : List ℕ) × HasText d (codes "do") name
+    × (action_of name d ≡ Ok action)
 unfolding action_of written_in
 action_there d Read (reads here) = (codes "read", here, refl)
 action_there d (Write _) (writes value here v) = (codes "write", here, rw v.text (rw (fits (is_value value) value v.short) refl))
 
-text_there : (o : Option Data) (value : List ℕ) → option_and_then as_str o ≡ Some value → is_value value ≡ true → returned_of o ≡ Ok (Value (Some value))
+text_there : (o : Option Data) (value : List ℕ) → option_and_then as_str o ≡ Some value → is_value value ≡ true → returned_of o
+    ≡ Ok (Value (Some value))
 unfolding returned_of answer_of
 text_there None value e short = absurd (cc)
 text_there (Some null) value e short = absurd (cc)
@@ -237,13 +255,17 @@ text_there (Some (string s)) value e short = let same : s ≡ value = cc in rw s
 answer_there : (d : Data) (returned : Returned) → HasAnswer d returned → returned_of (get (codes "value") d) ≡ Ok returned
 unfolding returned_of answer_of
 answer_there d Written (written here) = rw here refl
-answer_there d (Value None) (absent here) = rw here refl
+answer_there d (Value None) (answered_null here) = rw here refl
 answer_there d (Value (Some _)) (answered value v) = text_there (get (codes "value") d) value v.text v.short
 
 pub row_there : (d : Data) (row : Row) → SaysRow d row → row_in d ≡ Ok row
 unfolding row_in row_of invoke_in invocation_of note_in respond_in
 row_there d (Invoke op client key action) s =
     let does = action_there d action s.asks in
-    rw s.kind (rw s.call.call (rw s.caller (rw s.subject (rw does.1 (rw does.2 (rw (op_there op s.call.range) (rw (client_there client s.least s.most) (rw (fits (is_key key) key s.named) refl))))))))
-row_there d (Note op tag) s = rw s.kind (rw s.call.call (rw s.number (rw s.writer (rw (op_there op s.call.range) (rw (tag_there tag s.few s.named) refl)))))
-row_there d (Respond op returned) s = rw s.kind (rw s.call.call (rw (answer_there d returned s.answers) (rw (op_there op s.call.range) refl)))
+    rw s.kind (rw s.call.call (rw s.caller
+    (rw s.subject (rw does.1 (rw does.2
+    (rw (op_there op s.call.range) (rw (client_there client s.least s.most) (rw (fits (is_key key) key s.named) refl))))))))
+row_there d (Note op tag) s =
+    rw s.kind (rw s.call.call (rw s.number (rw s.writer (rw (op_there op s.call.range) (rw (tag_there tag s.few s.named) refl)))))
+row_there d (Respond op returned) s =
+    rw s.kind (rw s.call.call (rw (answer_there d returned s.answers) (rw (op_there op s.call.range) refl)))

@@ -1,13 +1,16 @@
 -- A value's meaning fails by its members alone: never as a line that is too long or no JSON.
-use Rattle.std.proofs.Common.{ℕ, ◌≡◌, ◌≤◌, List, length, Bool, true, false, cond, Option, Some, None, Result, Ok, Err, subst}
+use Rattle.std.proofs.Common.{ℕ, ◌≡◌, ◌≤◌, List, length, Bool, true, false, cond, Option, Some, None}
+use Rattle.std.proofs.Common.{Result, Ok, Err, codes, subst}
 use Rattle.serde_json.specs.Data.{Data}
 use Rattle.tag.specs.declared.actions.Action.{Action}
 use Rattle.file_format.specs.declared.fault.LineFault.{LineFault}
 use Rattle.file_format.specs.declared.fault.LineFault.TheVariants.{NotJson, NoHeader, Version, Range, TooLong}
-use Rattle.file_format.specs.Faults.{Stop}
+use Rattle.file_format.specs.Faults.{LineStop}
 use Rattle.counted_devices.specs.declared.read_fault.Stop.TheVariants as stop
-use Rattle.file_format.specs.Members.{◌>>=◌, Gives, needed_member, in_range}
-use Rattle.file_format.specs.Rows.{invocation_of, written_in, action_of, invoke_in, note_in, answer_of, returned_of, respond_in, row_of, row_in}
+use Rattle.counted_devices.specs.Answers.{◌>>=◌, Gives}
+use Rattle.file_format.specs.Members.{needed_member, in_range, text_at, number_at}
+use Rattle.file_format.specs.Rows.{invocation_of, written_in, action_of, invoke_in, note_in}
+use Rattle.file_format.specs.Rows.{answer_of, returned_of, respond_in, row_of, row_in}
 use Rattle.file_format.specs.OrderLines.{piece_in}
 use Rattle.file_format.specs.Headers.{header_of, header_in}
 use Rattle.file_format.specs.declared.file_header.FileHeader.{FileHeader}
@@ -15,7 +18,7 @@ use Rattle.file_format.specs.declared.file_header.FileHeader.TheVariants.{Versio
 use Rattle.file_format.specs.FileHeaders.{told_in, version_of, file_header_of, file_header_in}
 use Rattle.file_format.specs.HallRows.{only_row_in, placed_row_in, hall_row_in}
 use Rattle.file_format.specs.Formats.{IsFine, IsOfMembers}
-use Rattle.file_format.specs.Lines.{Shows, ShowsBy}
+use Rattle.file_format.specs.Lines.{LineShows, LineShowsBy}
 use Rattle.file_format.specs.Documents.{IsJson}
 
 pub record Well {X : Type 0} (r : Result X LineFault) : Type 0 where
@@ -107,18 +110,16 @@ unfolding told_in
 told-well d = search (bind, need, range, ok) depth 30
 
 version-well : (version : ℕ) (d : Data) → Well (version_of version d)
-unfolding version_of
 version-well version d = search (choice, told-well, no_version, ok) depth 20
 
 file_header-well : (abd : Option (List ℕ)) (version : Option ℕ) (d : Data) → Well (file_header_of abd version d)
-unfolding file_header_of
 file_header-well None version d = record { fine = tt }
 file_header-well (Some abd) None d = search (choice, no_header, no_version) depth 20
 file_header-well (Some abd) (Some version) d = search (choice, version-well, no_header) depth 20
 
 pub file_header_in-well : (d : Data) → Well (file_header_in d)
 unfolding file_header_in
-file_header_in-well d = file_header-well _ _ d
+file_header_in-well d = file_header-well (text_at (codes "abd") d) (number_at (codes "version") d) d
 
 only_row-well : (d : Data) → Well (only_row_in d)
 unfolding only_row_in
@@ -137,7 +138,8 @@ pub piece_in-well : (d : Data) → Well (piece_in d)
 unfolding piece_in
 piece_in-well d = search (bind, need, range, ok) depth 20
 
-fault_shown : {X : Type 0} (meaning : Data → Result X LineFault) (line : List ℕ) (d : Data) (fault : LineFault) → length line ≤ 65536 → IsJson line d → meaning d ≡ Err fault → IsOfMembers fault → Shows meaning line (Err fault)
+fault_shown : {X : Type 0} (meaning : Data → Result X LineFault) (line : List ℕ) (d : Data) (fault : LineFault) → length line ≤ 65536
+    → IsJson line d → meaning d ≡ Err fault → IsOfMembers fault → LineShows meaning line (Err fault)
 fault_shown meaning line d NotJson short json meant well = absurd well
 fault_shown meaning line d TooLong short json meant well = absurd well
 fault_shown meaning line d _ short json meant well = record { short = short; value = d; json = json; meant = meant }
@@ -146,7 +148,9 @@ fine_at : {X : Type 0} (r : Result X LineFault) (fault : LineFault) → r ≡ Er
 fine_at {X = X} r fault e w = let P : Result X LineFault → Type 0 = λ x. IsFine x in subst P e w.fine
 
 -- what was made of a line's value is what the line shows
-pub shown : {X : Type 0} (meaning : Data → Result X LineFault) (line : List ℕ) (d : Data) (r : Result X Stop) → length line ≤ 65536 → IsJson line d → Well (meaning d) → Gives (λ x. x) r (meaning d) → ShowsBy meaning line r
+pub shown : {X : Type 0} (meaning : Data → Result X LineFault) (line : List ℕ) (d : Data) (r : Result X LineStop) → length line ≤ 65536
+    → IsJson line d → Well (meaning d) → Gives (λ x. x) r (meaning d) → LineShowsBy meaning line r
 shown meaning line d (Ok x) short json well given = record { short = short; value = d; json = json; meant = given }
 shown meaning line d (Err stop.Memory) short json well given = tt
-shown meaning line d (Err (stop.Fault fault)) short json well given = fault_shown meaning line d fault short json given (fine_at (meaning d) fault given well)
+shown meaning line d (Err (stop.Fault fault)) short json well given =
+    fault_shown meaning line d fault short json given (fine_at (meaning d) fault given well)

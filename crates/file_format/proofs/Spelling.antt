@@ -1,5 +1,7 @@
 -- The bytes of each kind of line.
-use Rattle.std.proofs.Common.{◌≡◌, ℕ, Bool, true, false, not, ◌&&◌, ◌==◌, nat_le, List, [], ◌∷◌, ◌++◌, Option, Some, None, decimal, refl, sym, ap, ap₂, ◌∙◌, subst, append_assoc, arith, eq-eqb, take, drop, length, ◌-◌}
+use Rattle.std.proofs.Common.{◌≡◌, ℕ, Bool, true, false, not, ◌&&◌, ◌==◌, nat_le, List, [], ◌∷◌}
+use Rattle.std.proofs.Common.{◌++◌, Option, Some, None, decimal, refl, sym, ap, ap₂, ◌∙◌, subst}
+use Rattle.std.proofs.Common.{append_assoc, arith, eq-eqb, take, drop, length, ◌-◌}
 use Rattle.std.specs.Prelude.{codes}
 use Rattle.std.specs.List.{list_all}
 use Rattle.std.proofs.lemmas.Bool.{and_parts, leb-true}
@@ -20,14 +22,17 @@ use Rattle.counted_devices.specs.Cuts.{with_end}
 use Rattle.file_format.specs.declared.file_header.FileHeader.TheVariants.{Version2}
 use Rattle.file_format.specs.PlainTexts.{is_plain}
 use Rattle.file_format.specs.RowTexts.{row_bytes}
-use Rattle.file_format.specs.Texts.{whole, header_data, file_header_data, numbers_data, row_data, hall_member, hall_text, answered_value, piece_data, calls_data, line_text, placed_text, piece_text}
+use Rattle.file_format.specs.Texts.{whole, header_data, file_header_data, numbers_data, row_data}
+use Rattle.file_format.specs.Texts.{hall_member, hall_text, answered_member, piece_data, calls_data}
+use Rattle.file_format.specs.Texts.{line_text, row_text_with, piece_text}
 
 abbrev end : List ℕ
 end = 10 ∷ []
 
 pub header_bytes : (name : List ℕ) → line_text (header_data name) ≡ codes "{\"abd\":" ++ (quoted name ++ codes ",\"version\":1}\n")
 unfolding line_text header_data escape_byte
-header_bytes name = rw (decimal_digit 1 (omega arith)) (ap (λ (s : List ℕ). codes "{\"abd\":" ++ s) (append_assoc (quoted name) (codes ",\"version\":1}") end))
+header_bytes name = rw (decimal_digit 1 (omega arith))
+    (ap (λ (s : List ℕ). codes "{\"abd\":" ++ s) (append_assoc (quoted name) (codes ",\"version\":1}") end))
 
 -- numbers and texts of a line, each with what stands before it, and then the last bytes
 abbrev member_bytes : List ℕ → List ℕ → List ℕ → List ℕ
@@ -49,7 +54,8 @@ abbrev on_key : List ℕ → List ℕ → List ℕ
 on_key key rest = member_bytes (codes ",\"key\":") (quoted key) rest
 
 abbrev begins_invoke : ℕ → ℕ → List ℕ → List ℕ
-begins_invoke call client rest = member_bytes (codes "{\"call\":") (decimal call) (member_bytes (codes ",\"client\":") (decimal client) rest)
+begins_invoke call client rest =
+    member_bytes (codes "{\"call\":") (decimal call) (member_bytes (codes ",\"client\":") (decimal client) rest)
 
 invoke_end : (call client : ℕ) (rest : List ℕ) → begins_invoke call client rest ++ end ≡ begins_invoke call client (rest ++ end)
 invoke_end call client rest =
@@ -57,23 +63,34 @@ invoke_end call client rest =
     ∙ ap (λ (s : List ℕ). member_bytes (codes "{\"call\":") (decimal call) s) (member_end (codes ",\"client\":") (decimal client) rest)
 
 pub read_bytes : (hall : Option ℕ) (op : OpId) (client : ℕ) (key : List ℕ)
-    → placed_text hall (Invoke op client key Read) ≡ codes "{\"call\":" ++ (decimal op.0 ++ (codes ",\"client\":" ++ (decimal client ++ (codes ",\"do\":\"read\"" ++ (hall_text hall ++ (codes ",\"key\":" ++ (quoted key ++ codes ",\"row\":\"invoke\"}\n")))))))
+    → row_text_with hall (Invoke op client key Read) ≡ codes "{\"call\":"
+    ++ (decimal op.0 ++ (codes ",\"client\":"
+    ++ (decimal client ++ (codes ",\"do\":\"read\""
+    ++ (hall_text hall ++ (codes ",\"key\":" ++ (quoted key ++ codes ",\"row\":\"invoke\"}\n")))))))
 unfolding line_text row_data escape_byte
 read_bytes hall op client key =
     let action = codes ",\"do\":\"read\"" in
     let others = on_key key (codes ",\"row\":\"invoke\"}") in
-    ap (λ (s : List ℕ). begins_invoke op.0 client (action ++ s) ++ end) (hall_there hall (member (codes "key") (string key) (member (codes "row") (string (codes "invoke")) no_members)))
+    ap (λ (s : List ℕ). begins_invoke op.0 client (action ++ s) ++ end)
+    (hall_there hall (member (codes "key") (string key) (member (codes "row") (string (codes "invoke")) no_members)))
     ∙ invoke_end op.0 client (member_bytes action (hall_text hall) others)
     ∙ ap (λ (s : List ℕ). begins_invoke op.0 client s) (member_end action (hall_text hall) others
-    ∙ ap (λ (s : List ℕ). member_bytes action (hall_text hall) s) (member_end (codes ",\"key\":") (quoted key) (codes ",\"row\":\"invoke\"}")))
+    ∙ ap (λ (s : List ℕ). member_bytes action (hall_text hall) s)
+    (member_end (codes ",\"key\":") (quoted key) (codes ",\"row\":\"invoke\"}")))
 
 pub write_bytes : (hall : Option ℕ) (op : OpId) (client : ℕ) (key value : List ℕ)
-    → placed_text hall (Invoke op client key (Write value)) ≡ codes "{\"call\":" ++ (decimal op.0 ++ (codes ",\"client\":" ++ (decimal client ++ (codes ",\"do\":\"write\"" ++ (hall_text hall ++ (codes ",\"key\":" ++ (quoted key ++ (codes ",\"row\":\"invoke\",\"value\":" ++ (quoted value ++ codes "}\n")))))))))
+    → row_text_with hall (Invoke op client key (Write value)) ≡ codes "{\"call\":"
+    ++ (decimal op.0 ++ (codes ",\"client\":"
+    ++ (decimal client ++ (codes ",\"do\":\"write\""
+    ++ (hall_text hall ++ (codes ",\"key\":"
+    ++ (quoted key ++ (codes ",\"row\":\"invoke\",\"value\":" ++ (quoted value ++ codes "}\n")))))))))
 unfolding line_text row_data escape_byte
 write_bytes hall op client key value =
     let action = codes ",\"do\":\"write\"" in
     let others = on_key key (writes_value value) in
-    ap (λ (s : List ℕ). begins_invoke op.0 client (action ++ s) ++ end) (hall_there hall (member (codes "key") (string key) (member (codes "row") (string (codes "invoke")) (member (codes "value") (string value) no_members))))
+    ap (λ (s : List ℕ). begins_invoke op.0 client (action ++ s) ++ end)
+    (hall_there hall (member (codes "key") (string key)
+    (member (codes "row") (string (codes "invoke")) (member (codes "value") (string value) no_members))))
     ∙ invoke_end op.0 client (member_bytes action (hall_text hall) others)
     ∙ ap (λ (s : List ℕ). begins_invoke op.0 client s) (member_end action (hall_text hall) others
     ∙ ap (λ (s : List ℕ). member_bytes action (hall_text hall) s) (member_end (codes ",\"key\":") (quoted key) (writes_value value)
@@ -83,54 +100,71 @@ write_bytes hall op client key value =
 abbrev begins_later : ℕ → Option ℕ → List ℕ → List ℕ
 begins_later call hall rest = member_bytes (codes "{\"call\":") (decimal call) (hall_text hall ++ rest)
 
-later_end : (call : ℕ) (hall : Option ℕ) (others : Members) (rest : List ℕ) → members_text true others ≡ rest → (codes "{\"call\":" ++ (decimal call ++ members_text true (hall_member hall others))) ++ end ≡ begins_later call hall (rest ++ end)
+later_end : (call : ℕ) (hall : Option ℕ) (others : Members) (rest : List ℕ) → members_text true others ≡ rest
+    → (codes "{\"call\":" ++ (decimal call ++ members_text true (hall_member hall others))) ++ end ≡ begins_later call hall (rest ++ end)
 later_end call hall others rest same =
-    ap (λ (s : List ℕ). (codes "{\"call\":" ++ (decimal call ++ s)) ++ end) (hall_there hall others ∙ ap (λ (s : List ℕ). hall_text hall ++ s) same)
+    ap (λ (s : List ℕ). (codes "{\"call\":" ++ (decimal call ++ s)) ++ end) (hall_there hall others
+    ∙ ap (λ (s : List ℕ). hall_text hall ++ s) same)
     ∙ member_end (codes "{\"call\":") (decimal call) (hall_text hall ++ rest)
     ∙ ap (λ (s : List ℕ). member_bytes (codes "{\"call\":") (decimal call) s) (append_assoc (hall_text hall) rest end)
 
 pub note_bytes : (hall : Option ℕ) (op : OpId) (tag : Tag)
-    → placed_text hall (Note op tag) ≡ codes "{\"call\":" ++ (decimal op.0 ++ (hall_text hall ++ (codes ",\"number\":" ++ (decimal tag.number ++ (codes ",\"row\":\"note\",\"writer\":" ++ (decimal tag.writer ++ codes "}\n"))))))
+    → row_text_with hall (Note op tag) ≡ codes "{\"call\":"
+    ++ (decimal op.0 ++ (hall_text hall
+    ++ (codes ",\"number\":" ++ (decimal tag.number
+    ++ (codes ",\"row\":\"note\",\"writer\":" ++ (decimal tag.writer ++ codes "}\n"))))))
 unfolding line_text row_data escape_byte
 note_bytes hall op tag =
     let writer = member_bytes (codes ",\"row\":\"note\",\"writer\":") (decimal tag.writer) (codes "}") in
-    let others = member (codes "number") (whole tag.number) (member (codes "row") (string (codes "note")) (member (codes "writer") (whole tag.writer) no_members)) in
+    let others = member (codes "number") (whole tag.number)
+    (member (codes "row") (string (codes "note")) (member (codes "writer") (whole tag.writer) no_members)) in
     later_end op.0 hall others (member_bytes (codes ",\"number\":") (decimal tag.number) writer) refl
     ∙ ap (λ (s : List ℕ). begins_later op.0 hall s) (member_end (codes ",\"number\":") (decimal tag.number) writer
-    ∙ ap (λ (s : List ℕ). member_bytes (codes ",\"number\":") (decimal tag.number) s) (member_end (codes ",\"row\":\"note\",\"writer\":") (decimal tag.writer) (codes "}")))
+    ∙ ap (λ (s : List ℕ). member_bytes (codes ",\"number\":") (decimal tag.number) s)
+    (member_end (codes ",\"row\":\"note\",\"writer\":") (decimal tag.writer) (codes "}")))
 
-pub written_bytes : (hall : Option ℕ) (op : OpId) → placed_text hall (Respond op Written) ≡ codes "{\"call\":" ++ (decimal op.0 ++ (hall_text hall ++ codes ",\"row\":\"respond\"}\n"))
+pub written_bytes : (hall : Option ℕ) (op : OpId) → row_text_with hall (Respond op Written) ≡ codes "{\"call\":"
+    ++ (decimal op.0 ++ (hall_text hall ++ codes ",\"row\":\"respond\"}\n"))
 unfolding line_text row_data escape_byte
-written_bytes hall op = later_end op.0 hall (member (codes "row") (string (codes "respond")) no_members) (codes ",\"row\":\"respond\"}") refl
+written_bytes hall op = later_end op.0 hall (member (codes "row") (string (codes "respond")) no_members) (codes ",\"row\":\"respond\"}")
+    refl
 
 -- what a read's response has after its call
 abbrev pub answer_members : Option (List ℕ) → Members
-answer_members answer = member (codes "row") (string (codes "respond")) (answered_value (Value answer))
+answer_members answer = member (codes "row") (string (codes "respond")) (answered_member (Value answer) no_members)
 
 pub absent_bytes : with_end (members_text true (answer_members None)) ≡ codes ",\"row\":\"respond\",\"value\":null}\n"
 unfolding escape_byte
 absent_bytes = refl
 
-pub answered_bytes : (value : List ℕ) → with_end (members_text true (answer_members (Some value))) ≡ codes ",\"row\":\"respond\",\"value\":" ++ (quoted value ++ codes "}\n")
+pub answered_bytes : (value : List ℕ) → with_end (members_text true (answer_members (Some value)))
+    ≡ codes ",\"row\":\"respond\",\"value\":" ++ (quoted value ++ codes "}\n")
 unfolding escape_byte
 answered_bytes value = member_end (codes ",\"row\":\"respond\",\"value\":") (quoted value) (codes "}")
 
-pub respond_bytes : (hall : Option ℕ) (op : OpId) (answer : Option (List ℕ)) → placed_text hall (Respond op (Value answer)) ≡ codes "{\"call\":" ++ (decimal op.0 ++ (hall_text hall ++ with_end (members_text true (answer_members answer))))
+pub respond_bytes : (hall : Option ℕ) (op : OpId) (answer : Option (List ℕ)) → row_text_with hall (Respond op (Value answer))
+    ≡ codes "{\"call\":" ++ (decimal op.0 ++ (hall_text hall ++ with_end (members_text true (answer_members answer))))
 unfolding line_text row_data escape_byte
 respond_bytes hall op answer = later_end op.0 hall (answer_members answer) (members_text true (answer_members answer)) refl
 
-pub piece_bytes : (key : List ℕ) (order : List OpId) → piece_text (record { key = key; order = order }) ≡ codes "{\"key\":" ++ (quoted key ++ (codes ",\"order\":[" ++ (items_text false (calls_data order) ++ codes "}\n")))
+pub piece_bytes : (key : List ℕ) (order : List OpId) → piece_text (record { key = key; order = order }) ≡ codes "{\"key\":"
+    ++ (quoted key ++ (codes ",\"order\":[" ++ (items_text false (calls_data order) ++ codes "}\n")))
 unfolding line_text piece_data escape_byte
 piece_bytes key order =
     member_end (codes "{\"key\":") (quoted key) (member_bytes (codes ",\"order\":[") (items_text false (calls_data order)) (codes "}"))
-    ∙ ap (λ (s : List ℕ). member_bytes (codes "{\"key\":") (quoted key) s) (member_end (codes ",\"order\":[") (items_text false (calls_data order)) (codes "}"))
+    ∙ ap (λ (s : List ℕ). member_bytes (codes "{\"key\":") (quoted key) s)
+    (member_end (codes ",\"order\":[") (items_text false (calls_data order)) (codes "}"))
 
 -- the header of version 2
 abbrev told_votes : List ℕ → List ℕ
 told_votes votes = member_bytes (codes ",\"version\":2,\"votes\":[") (items_text false (numbers_data votes)) (codes "}")
 
 pub quorums_bytes : (halls : ℕ) (quorums : Quorums)
-    → line_text (file_header_data (Version2 halls quorums)) ≡ codes "{\"abd\":\"history\",\"ask\":" ++ (decimal quorums.ask ++ (codes ",\"halls\":" ++ (decimal halls ++ (codes ",\"put\":" ++ (decimal quorums.put ++ (codes ",\"version\":2,\"votes\":[" ++ (items_text false (numbers_data quorums.votes) ++ codes "}\n")))))))
+    → line_text (file_header_data (Version2 halls quorums)) ≡ codes "{\"abd\":\"history\",\"ask\":"
+    ++ (decimal quorums.ask ++ (codes ",\"halls\":"
+    ++ (decimal halls ++ (codes ",\"put\":"
+    ++ (decimal quorums.put ++ (codes ",\"version\":2,\"votes\":["
+    ++ (items_text false (numbers_data quorums.votes) ++ codes "}\n")))))))
 unfolding line_text file_header_data escape_byte
 quorums_bytes halls quorums =
     let votes = told_votes quorums.votes in
@@ -138,9 +172,11 @@ quorums_bytes halls quorums =
     let count = member_bytes (codes ",\"halls\":") (decimal halls) put in
     rw (decimal_digit 2 (omega arith)) (
     member_end (codes "{\"abd\":\"history\",\"ask\":") (decimal quorums.ask) count
-    ∙ ap (λ (s : List ℕ). member_bytes (codes "{\"abd\":\"history\",\"ask\":") (decimal quorums.ask) s) (member_end (codes ",\"halls\":") (decimal halls) put
+    ∙ ap (λ (s : List ℕ). member_bytes (codes "{\"abd\":\"history\",\"ask\":") (decimal quorums.ask) s)
+    (member_end (codes ",\"halls\":") (decimal halls) put
     ∙ ap (λ (s : List ℕ). member_bytes (codes ",\"halls\":") (decimal halls) s) (member_end (codes ",\"put\":") (decimal quorums.put) votes
-    ∙ ap (λ (s : List ℕ). member_bytes (codes ",\"put\":") (decimal quorums.put) s) (member_end (codes ",\"version\":2,\"votes\":[") (items_text false (numbers_data quorums.votes)) (codes "}")))))
+    ∙ ap (λ (s : List ℕ). member_bytes (codes ",\"put\":") (decimal quorums.put) s)
+    (member_end (codes ",\"version\":2,\"votes\":[") (items_text false (numbers_data quorums.votes)) (codes "}")))))
 
 -- ---- a row's line without its end
 
@@ -149,18 +185,29 @@ behind_call call rest = codes "{\"call\":" ++ (decimal call ++ rest)
 
 pub compact_row : (hall : Option ℕ) (row : Row) → compact_text (row_data hall row) ≡ row_bytes hall row
 unfolding row_data escape_byte
-compact_row hall (Invoke op client key Read) = ap (λ (s : List ℕ). begins_invoke op.0 client (codes ",\"do\":\"read\"" ++ s)) (hall_there hall (member (codes "key") (string key) (member (codes "row") (string (codes "invoke")) no_members)))
-compact_row hall (Invoke op client key (Write value)) = ap (λ (s : List ℕ). begins_invoke op.0 client (codes ",\"do\":\"write\"" ++ s)) (hall_there hall (member (codes "key") (string key) (member (codes "row") (string (codes "invoke")) (member (codes "value") (string value) no_members))))
-compact_row hall (Note op tag) = ap (λ (s : List ℕ). behind_call op.0 s) (hall_there hall (member (codes "number") (whole tag.number) (member (codes "row") (string (codes "note")) (member (codes "writer") (whole tag.writer) no_members))))
-compact_row hall (Respond op Written) = ap (λ (s : List ℕ). behind_call op.0 s) (hall_there hall (member (codes "row") (string (codes "respond")) no_members))
+compact_row hall (Invoke op client key Read) =
+    ap (λ (s : List ℕ). begins_invoke op.0 client (codes ",\"do\":\"read\"" ++ s))
+    (hall_there hall (member (codes "key") (string key) (member (codes "row") (string (codes "invoke")) no_members)))
+compact_row hall (Invoke op client key (Write value)) =
+    ap (λ (s : List ℕ). begins_invoke op.0 client (codes ",\"do\":\"write\"" ++ s))
+    (hall_there hall (member (codes "key") (string key)
+    (member (codes "row") (string (codes "invoke")) (member (codes "value") (string value) no_members))))
+compact_row hall (Note op tag) =
+    ap (λ (s : List ℕ). behind_call op.0 s)
+    (hall_there hall (member (codes "number") (whole tag.number)
+    (member (codes "row") (string (codes "note")) (member (codes "writer") (whole tag.writer) no_members))))
+compact_row hall (Respond op Written) =
+    ap (λ (s : List ℕ). behind_call op.0 s) (hall_there hall (member (codes "row") (string (codes "respond")) no_members))
 compact_row hall (Respond op (Value None)) = ap (λ (s : List ℕ). behind_call op.0 s) (hall_there hall (answer_members None))
 compact_row hall (Respond op (Value (Some value))) = ap (λ (s : List ℕ). behind_call op.0 s) (hall_there hall (answer_members (Some value)))
 
 -- ---- bytes that come one after another
 
-pub then : (out mid new before middle rest : List ℕ) → mid ≡ out ++ (before ++ middle) → new ≡ mid ++ rest → new ≡ out ++ (before ++ (middle ++ rest))
+pub then : (out mid new before middle rest : List ℕ) → mid ≡ out ++ (before ++ middle) → new ≡ mid ++ rest → new ≡ out
+    ++ (before ++ (middle ++ rest))
 then out mid new before middle rest first more =
-    more ∙ ap (λ (s : List ℕ). s ++ rest) first ∙ append_assoc out (before ++ middle) rest ∙ ap (λ (s : List ℕ). out ++ s) (append_assoc before middle rest)
+    more ∙ ap (λ (s : List ℕ). s ++ rest) first ∙ append_assoc out (before ++ middle) rest
+    ∙ ap (λ (s : List ℕ). out ++ s) (append_assoc before middle rest)
 
 pub spelled : (out new line bytes : List ℕ) → line ≡ bytes → new ≡ out ++ bytes → new ≡ out ++ line
 spelled out new line bytes same grown = grown ∙ ap (λ (s : List ℕ). out ++ s) (sym same)
@@ -196,14 +243,17 @@ escape_plain (x ∷ s) h =
 pub quoted_plain : (s : List ℕ) → list_all is_plain s ≡ true → 34 ∷ (s ++ 34 ∷ []) ≡ quoted s
 quoted_plain s h = ap (λ (t : List ℕ). 34 ∷ (t ++ 34 ∷ [])) (sym (escape_plain s h))
 
-pub quoted_whole : (out before first mark text last all : List ℕ) → list_all is_plain text ≡ true → first ≡ out ++ before → mark ≡ first ++ 34 ∷ [] → last ≡ mark ++ text → all ≡ last ++ 34 ∷ [] → all ≡ out ++ (before ++ quoted text)
+pub quoted_whole : (out before first mark text last all : List ℕ) → list_all is_plain text ≡ true → first ≡ out ++ before → mark ≡ first
+    ++ 34 ∷ [] → last ≡ mark ++ text → all ≡ last ++ 34 ∷ [] → all ≡ out ++ (before ++ quoted text)
 quoted_whole out before first mark text last all plain p q r s =
     s ∙ ap (λ (l : List ℕ). l ++ 34 ∷ []) (r ∙ ap (λ (l : List ℕ). l ++ text) (q ∙ ap (λ (l : List ℕ). l ++ 34 ∷ []) p))
-    ∙ append_assoc ((out ++ before) ++ 34 ∷ []) text (34 ∷ []) ∙ append_assoc (out ++ before) (34 ∷ []) (text ++ 34 ∷ []) ∙ append_assoc out before (34 ∷ (text ++ 34 ∷ []))
+    ∙ append_assoc ((out ++ before) ++ 34 ∷ []) text (34 ∷ []) ∙ append_assoc (out ++ before) (34 ∷ []) (text ++ 34 ∷ [])
+    ∙ append_assoc out before (34 ∷ (text ++ 34 ∷ []))
     ∙ ap (λ (l : List ℕ). out ++ (before ++ l)) (quoted_plain text plain)
 
 -- a text in quotation marks that has no escape, and what is after it
-pub quoted_first : (bytes inside taken text left rest : List ℕ) → list_all is_plain text ≡ true → bytes ≡ 34 ∷ inside → inside ≡ taken ++ left → text ≡ taken → left ≡ 34 ∷ rest → bytes ≡ quoted text ++ rest
+pub quoted_first : (bytes inside taken text left rest : List ℕ) → list_all is_plain text ≡ true → bytes ≡ 34 ∷ inside → inside ≡ taken
+    ++ left → text ≡ taken → left ≡ 34 ∷ rest → bytes ≡ quoted text ++ rest
 quoted_first bytes inside taken text left rest plain p q r s =
     p ∙ ap (λ (l : List ℕ). 34 ∷ l) (q ∙ ap₂ (λ (a b : List ℕ). a ++ b) (sym r) s)
     ∙ ap (λ (l : List ℕ). 34 ∷ l) (sym (append_assoc text (34 ∷ []) rest))
@@ -215,4 +265,5 @@ take_whole [] = refl
 take_whole (x ∷ xs) = ap (λ (l : List ℕ). x ∷ l) (take_whole xs)
 
 pub cut_whole : (n : ℕ) (xs : List ℕ) → xs ≡ take n xs ++ take (length xs - n) (drop n xs)
-cut_whole n xs = sym (take-append-drop n xs) ∙ ap (λ (l : List ℕ). take n xs ++ l) (sym (ap (λ (k : ℕ). take k (drop n xs)) (sym (length-drop n xs)) ∙ take_whole (drop n xs)))
+cut_whole n xs = sym (take-append-drop n xs)
+    ∙ ap (λ (l : List ℕ). take n xs ++ l) (sym (ap (λ (k : ℕ). take k (drop n xs)) (sym (length-drop n xs)) ∙ take_whole (drop n xs)))

@@ -1,5 +1,7 @@
 -- A file whose lines are those of its items is read as them.
-use Rattle.std.proofs.Common.{◌≡◌, ◌<◌, ◌≤◌, ℕ, zero, suc, List, [], ◌∷◌, ◌++◌, length, get_or, Some, Result, Ok, codes, IsUtf8, map, refl, sym, ap, ◌∙◌, arith, append-nil, length-append}
+use Rattle.std.proofs.Common.{◌≡◌, ◌<◌, ◌≤◌, ℕ, zero, suc, List, [], ◌∷◌, ◌++◌, length, get_or}
+use Rattle.std.proofs.Common.{Some, Result, Ok, codes, IsUtf8, map, refl, sym, ap, ◌∙◌, arith}
+use Rattle.std.proofs.Common.{append-nil, length-append}
 use Rattle.std.specs.Prelude.{All}
 use Rattle.std.specs.List.{slice_get, flat_map, AllZip}
 use Rattle.json.specs.Print.{quoted}
@@ -13,7 +15,7 @@ use Rattle.file_format.specs.declared.fault.LineFault.{LineFault}
 use Rattle.file_format.specs.Formats.{Format}
 use Rattle.file_format.specs.Files.{IsLineOf}
 use Rattle.file_format.specs.Headers.{header_in}
-use Rattle.file_format.specs.Lines.{Shows}
+use Rattle.file_format.specs.Lines.{LineShows}
 use Rattle.file_format.specs.Readings.{Reads}
 use Rattle.file_format.specs.Texts.{header_data, line_text}
 use Rattle.file_format.proofs.Compact.{IsSimple, read-compact_text, IsUtf8-compact_text, HasNoEnd-compact_text, length-quoted}
@@ -33,7 +35,8 @@ pub record IsGoodLine {X : Type 0} (meaning : Data → Result X LineFault) (d : 
   pub back : read (compact_text d) ≡ Some d
   pub meant : meaning d ≡ Ok thing
 
-pub line_of_item : {X : Type 0} (meaning : Data → Result X LineFault) (d : Data) (thing : X) → IsGoodLine meaning d thing → Shows meaning (compact_text d) (Ok thing)
+pub line_of_item : {X : Type 0} (meaning : Data → Result X LineFault) (d : Data) (thing : X) → IsGoodLine meaning d thing
+    → LineShows meaning (compact_text d) (Ok thing)
 line_of_item meaning d thing h = record { short = h.short; value = d; json = (IsUtf8-compact_text d h.simple, h.back); meant = h.meant }
 
 header_simple : (name : List ℕ) → IsUtf8 name → IsSimple (header_data name)
@@ -42,11 +45,18 @@ header_simple name text = (IsUtf8-are_ascii (codes "abd") refl, text, (IsUtf8-ar
 
 header_read : (name : List ℕ) → IsUtf8 name → read (compact_text (header_data name)) ≡ Some (header_data name)
 unfolding header_data
-header_read name text = read-compact_text (header_data name) (header_simple name text) (omega arith) (rw (number_of-decimal 1 (omega arith)) refl)
+header_read name text = read-compact_text (header_data name) (header_simple name text) (omega arith)
+    (rw (number_of-decimal 1 (omega arith)) refl)
 
 header_short : (name : List ℕ) → length name ≤ 100 → length (compact_text (header_data name)) ≤ 65536
 header_short name short =
-    line_length (header_data name) (rw (header_bytes name) (omega (arith, length-append (codes "{\"abd\":") (quoted name ++ codes ",\"version\":1}\n"), length-append (quoted name) (codes ",\"version\":1}\n"), length-quoted name)))
+    line_length (header_data name)
+    (rw (header_bytes name) (omega (
+      arith,
+      length-append (codes "{\"abd\":") (quoted name ++ codes ",\"version\":1}\n"),
+      length-append (quoted name) (codes ",\"version\":1}\n"),
+      length-quoted name,
+    )))
 
 -- the header of a file of that name, and of version 1
 pub header_good : (name : List ℕ) → IsName name → IsGoodLine (header_in name) (header_data name) tt
@@ -80,14 +90,23 @@ module _ {Header Item : Type 0} (format : Format Header Item) (header : Header) 
   spelled : (items : List Item) → AreGood items → AllZip (IsLineOf format header) (map line_at items) items
   unfolding AreGood line_at
   spelled [] h = tt
-  spelled (thing ∷ items) h = (line_of_item (format.meaning header) (value thing) thing (h 0 thing refl), spelled items (λ k other e. h (suc k) other e))
+  spelled (thing ∷ items) h = (
+    line_of_item (format.meaning header) (value thing) thing (h 0 thing refl),
+    spelled items (λ k other e. h (suc k) other e),
+  )
 
   whole_lines : (items : List Item) → AreGood items → All HasNoEnd (map line_at items)
   unfolding AreGood line_at
   whole_lines [] h = λ k d lt. absurd (omega arith)
-  whole_lines (thing ∷ items) h = all_more (line_at thing) (map line_at items) (HasNoEnd-compact_text (value thing) (h 0 thing refl).simple) (whole_lines items (λ k other e. h (suc k) other e))
+  whole_lines (thing ∷ items) h =
+      all_more (line_at thing) (map line_at items) (HasNoEnd-compact_text (value thing) (h 0 thing refl).simple)
+      (whole_lines items (λ k other e. h (suc k) other e))
 
-  pub written_reads : {Contents : Type 0} (Makes : Header → List Item → Contents → Type 0) (first : Data) (items : List Item) (contents : Contents) → IsGoodLine format.heading first header → ((k : ℕ) (thing : Item) → slice_get items k ≡ Some thing → IsGoodLine (format.meaning header) (value thing) thing) → format.Fits header items → Makes header items contents → Reads format Makes (line_text first ++ flat_map (λ thing. line_text (value thing)) items) contents
+  pub written_reads : {Contents : Type 0} (Makes : Header → List Item → Contents → Type 0) (first : Data) (items : List Item)
+      (contents : Contents) → IsGoodLine format.heading first header
+      → ((k : ℕ) (thing : Item) → slice_get items k ≡ Some thing → IsGoodLine (format.meaning header) (value thing) thing)
+      → format.Admits header items → Makes header items contents
+      → Reads format Makes (line_text first ++ flat_map (λ thing. line_text (value thing)) items) contents
   unfolding line_text AreGood
   written_reads Makes first items contents head good fits made =
       let line = compact_text first in
@@ -95,7 +114,8 @@ module _ {Header Item : Type 0} (format : Format Header Item) (header : Header) 
         lines = line ∷ map line_at items;
         rest = [];
         splits = record {
-          whole = ap (λ (s : List ℕ). with_end line ++ s) (lines_text items) ∙ sym (append-nil (flat_map with_end (line ∷ map line_at items)));
+          whole = ap (λ (s : List ℕ). with_end line ++ s) (lines_text items)
+              ∙ sym (append-nil (flat_map with_end (line ∷ map line_at items)));
           each = all_more line (map line_at items) (HasNoEnd-compact_text first head.simple) (whole_lines items good);
           partial = λ k d lt. absurd (omega arith);
         };

@@ -6,21 +6,21 @@ use Rattle.recorder.specs.declared.order.KeyOrder.{KeyOrder}
 use Rattle.counted_devices.specs.Cuts.{with_end}
 use Rattle.file_format.specs.declared.file_header.FileHeader.{FileHeader}
 use Rattle.file_format.specs.declared.hall_row.HallRow.{HallRow}
-use Rattle.file_format.specs.FileHeaders.{halls_in, place_in}
-use Rattle.file_format.specs.Ranges.{IsInRange, IsOrderInRange}
-use Rattle.file_format.specs.Texts.{placed_text, piece_text, row_text}
+use Rattle.file_format.specs.FileHeaders.{halls_in, written_hall}
+use Rattle.file_format.specs.Ranges.{IsRowInRange, IsOrderInRange}
+use Rattle.file_format.specs.Texts.{row_text_with, piece_text, row_text}
 
 -- the line, with its end, is the one that is written for the row, whose fields are in their ranges
 pub record IsRowLine (line : List ℕ) (row : Row) : Type 0 where
   pub text : with_end line ≡ row_text row
-  pub range : IsInRange row
+  pub range : IsRowInRange row
 
 -- the same of a row of one of the halls after that header
 pub record IsHallRowLine (header : FileHeader) (line : List ℕ) (item : HallRow) : Type 0 where
-  pub text : with_end line ≡ placed_text (place_in header item.hall) item.row
+  pub text : with_end line ≡ row_text_with (written_hall header item.hall) item.row
   pub hall : item.hall < halls_in header
   pub few : item.hall < 64
-  pub range : IsInRange item.row
+  pub range : IsRowInRange item.row
 
 -- the same of a piece of an order, of at most 1,000 calls
 pub record IsPieceLine (line : List ℕ) (piece : KeyOrder) : Type 0 where

@@ -6,7 +6,7 @@ use Rattle.serde_json.specs.Read.{read, of_json}
 use Rattle.serde_json.specs.Find.{as_null, as_str}
 use Rattle.json.specs.Value.{value_view}
 use Rattle.file_format.specs.declared.fault.LineFault.TheVariants.{NotJson}
-use Rattle.file_format.specs.Faults.{Stop}
+use Rattle.file_format.specs.Faults.{LineStop}
 use Rattle.counted_devices.specs.declared.read_fault.Stop.TheVariants as stop
 use Rattle.file_format.specs.declared.document.Document.{Document}
 use Rattle.file_format.specs.declared.document.Member.{Member}
@@ -21,16 +21,16 @@ abbrev pub IsJson : List ℕ → Data → Type 0
 IsJson line d = IsUtf8 line × (read line ≡ Some d)
 
 -- the line's value was read, or it has none, or memory ran out
-abbrev pub IsRead : List ℕ → Result Document Stop → Type 0
-IsRead line (Ok document) = IsJson line (data_in document)
-IsRead line (Err (stop.Fault NotJson)) = (d : Data) → IsJson line d → ⊥
-IsRead line (Err (stop.Fault fault)) = ⊥
-IsRead line (Err stop.Memory) = Unit {0}
+abbrev pub ReadsDocument : List ℕ → Result Document LineStop → Type 0
+ReadsDocument line (Ok document) = IsJson line (data_in document)
+ReadsDocument line (Err (stop.Fault NotJson)) = (d : Data) → IsJson line d → ⊥
+ReadsDocument line (Err (stop.Fault fault)) = ⊥
+ReadsDocument line (Err stop.Memory) = Unit {0}
 
 -- what a member is that may be missing
-abbrev pub Describes : Option Data → Member → Type 0
-Describes found member.Missing = found ≡ None
-Describes found member.Null = found ≡ Some null
-Describes found (member.Text text) = found ≡ Some (string text.now)
-Describes found member.Other =
+abbrev pub Classifies : Option Data → Member → Type 0
+Classifies found member.Missing = found ≡ None
+Classifies found member.Null = found ≡ Some null
+Classifies found (member.Text text) = found ≡ Some (string text.now)
+Classifies found member.Other =
     (d : Data) × (found ≡ Some d) × (is_some (as_null d) ≡ false) × (as_str d ≡ None)

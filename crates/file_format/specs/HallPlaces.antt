@@ -7,8 +7,9 @@ use Rattle.recorder.specs.Histories.{call_count}
 use Rattle.file_format.specs.declared.fault.LineFault.{LineFault}
 use Rattle.file_format.specs.declared.fault.LineFault.TheVariants.{Range, KeyInAnotherHall}
 use Rattle.file_format.specs.declared.hall_row.HallRow.{HallRow}
-use Rattle.file_format.specs.Places.{IsMisplacedBehind}
+use Rattle.file_format.specs.Places.{IsMisplacedAfter}
 
+-- the row without its hall
 abbrev pub row_in_hall : HallRow → Row
 row_in_hall item = item.row
 
@@ -36,4 +37,4 @@ abbrev pub IsMisplacedInHall : ℕ → List HallRow → HallRow → LineFault �
 IsMisplacedInHall halls items item Range = halls ≤ item.hall
 IsMisplacedInHall halls items item KeyInAnotherHall = IsOfAnotherHall halls item
 IsMisplacedInHall halls items item fault = IsOfItsHall halls item
-    × IsMisplacedBehind (calls_together items) (rows_of item.hall items) item.row fault
+    × IsMisplacedAfter (calls_together items) (rows_of item.hall items) item.row fault

@@ -6,7 +6,8 @@ use Rattle.file_format.specs.declared.fault.LineFault.{LineFault}
 use Rattle.file_format.specs.declared.file_header.FileHeader.{FileHeader}
 use Rattle.file_format.specs.declared.file_header.FileHeader.TheVariants.{Version1, Version2}
 use Rattle.file_format.specs.declared.hall_row.HallRow.{HallRow}
-use Rattle.file_format.specs.Members.{◌>>=◌, number_at, needed_member, in_range}
+use Rattle.counted_devices.specs.Answers.{◌>>=◌}
+use Rattle.file_format.specs.Members.{number_at, needed_member, in_range}
 use Rattle.file_format.specs.Rows.{row_in}
 
 -- in version 1 every row is of hall 0

@@ -1,5 +1,6 @@
 -- What the histories of a file's halls carry while its rows come in.
 use Rattle.std.specs.Prelude.{ℕ, ◌≡◌, length, Some, slice_get}
+use Rattle.tag.specs.Limits.{call_limit}
 use Rattle.recorder.specs.Halls.{RecordedHalls, AreHalls, hall_calls}
 use Rattle.recorder.specs.Histories.{Recorded}
 use Rattle.file_format.specs.declared.hall_histories.HallHistories.TheInside.{Inside}
@@ -10,9 +11,9 @@ abbrev pub histories_in : Inside → RecordedHalls
 histories_in now = record { halls = now.halls.items; quorums = quorums_in now.header }
 
 -- they are those of a row of halls, each with room for 1,000,000 calls, and their calls are counted
-pub record IsUnderWay (now : Inside) : Type 0 where
+pub record AreHistoriesSoFar (now : Inside) : Type 0 where
   pub lawful : AreHalls (histories_in now)
   pub count : length now.halls.items ≡ halls_in now.header
   pub counted : now.calls ≡ hall_calls now.halls.items
   pub room : (hall : ℕ) (history : Recorded) → slice_get now.halls.items hall ≡ Some history
-      → history.limit ≡ 1000000
+      → history.limit ≡ call_limit

@@ -27,9 +27,6 @@ pub mod Texts
 pub mod PlainTexts
 pub mod Ranges
 pub mod ReadAgain
-pub mod Zips
-pub mod Chunks
-pub mod PieceByPiece
 pub mod RowTexts
 pub mod CanonicalLines
 pub mod Writings

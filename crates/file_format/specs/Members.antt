@@ -5,36 +5,21 @@ use Rattle.std.specs.Prelude.{Ok, Err, option_and_then, option_map, nat_lt, nat_
 use Rattle.serde_json.specs.Data.{Data, Items, no_items, item}
 use Rattle.serde_json.specs.Find.{get, as_number, as_u64, as_str, as_array}
 use Rattle.tag.specs.declared.numbers.OpId.{OpId}
+use Rattle.tag.specs.Limits.{call_limit, client_limit}
 use Rattle.tag.specs.Names.{is_key, is_value}
 use Rattle.tag.specs.Tags.{Tag}
 use Rattle.file_format.specs.declared.fault.LineFault.{LineFault}
 use Rattle.file_format.specs.declared.fault.LineFault.TheVariants.{Member, Range}
-use Rattle.file_format.specs.Faults.{Stop}
-use Rattle.counted_devices.specs.declared.read_fault.Stop.TheVariants as stop
-
--- the first fault of two steps, or what the second makes of the first
-infixl 10 ◌>>=◌
-abbrev pub ◌>>=◌ : {A B : Type 0} → Result A LineFault → (A → Result B LineFault)
-    → Result B LineFault
-(Ok x) >>= f = f x
-(Err e) >>= f = Err e
-
--- what a function returned, seen by view, is what is said, unless memory ran out
-abbrev pub Fails : {Y : Type 0} → Stop → Result Y LineFault → Type 0
-Fails stop.Memory said = Unit {0}
-Fails (stop.Fault f) said = said ≡ Err f
-
-abbrev pub Gives : {X Y : Type 0} → (X → Y) → Result X Stop → Result Y LineFault → Type 0
-Gives view (Ok x) said = said ≡ Ok (view x)
-Gives view (Err e) said = Fails e said
 
 -- the text, or the number, that is the value's member of that name
 abbrev pub text_at : List ℕ → Data → Option (List ℕ)
 text_at name d = option_and_then as_str (get name d)
 
+-- the number below 2^64 without a sign that the value is
 abbrev pub number_of : Data → Option ℕ
 number_of d = option_and_then as_u64 (as_number d)
 
+-- such a number that is the member of that name
 abbrev pub number_at : List ℕ → Data → Option ℕ
 number_at name d = option_and_then as_u64 (option_and_then as_number (get name d))
 
@@ -57,18 +42,23 @@ needed_member (Some x) = Ok x
 abbrev pub in_range : {X : Type 0} → Bool → X → Result X LineFault
 in_range fits x = if fits then Ok x else Err Range
 
+-- the number of a call, 0 to 4,294,967,295
 abbrev pub op_of : ℕ → Result OpId LineFault
 op_of call = in_range (nat_lt call (2 ^ 32)) (record { 0 = call })
 
+-- the name of a client, 1 to 65,535
 abbrev pub client_of : ℕ → Result ℕ LineFault
-client_of client = in_range (nat_le 1 client && nat_le client 65535) client
+client_of client = in_range (nat_le 1 client && nat_le client client_limit) client
 
+-- a key: 1 to 64 letters, digits, dots, underscores and dashes
 abbrev pub key_of : List ℕ → Result (List ℕ) LineFault
 key_of key = in_range (is_key key) key
 
+-- a value, of at most 256 bytes
 abbrev pub value_of : List ℕ → Result (List ℕ) LineFault
 value_of value = in_range (is_value value) value
 
+-- a tag: a number of at most 1,000,000, and a writer of at most 65,535
 abbrev pub tag_of : ℕ → ℕ → Result Tag LineFault
-tag_of number writer = in_range (nat_le number 1000000
-    && nat_le writer 65535) (record { number = number; writer = writer })
+tag_of number writer = in_range (nat_le number call_limit && nat_le writer client_limit)
+    (record { number = number; writer = writer })

@@ -3,6 +3,7 @@ use Rattle.std.specs.Prelude.{ℕ, ◌≡◌, ◌≤◌, ◌<◌, ◌+◌, List,
 use Rattle.std.specs.Prelude.{slice_get, sum_by, bytes_eq}
 use Rattle.std.specs.List.{flat_map}
 use Rattle.tag.specs.declared.numbers.OpId.{OpId}
+use Rattle.tag.specs.Limits.{call_limit}
 use Rattle.recorder.specs.declared.order.KeyOrder.{KeyOrder}
 use Rattle.file_format.specs.declared.fault.LineFault.{LineFault}
 use Rattle.file_format.specs.declared.fault.LineFault.TheVariants.{TooManyCalls}
@@ -10,9 +11,11 @@ use Rattle.file_format.specs.Formats.{Format}
 use Rattle.file_format.specs.Headers.{header_in}
 use Rattle.file_format.specs.OrderLines.{piece_in}
 
+-- the key of a piece
 abbrev pub key_in : KeyOrder → List ℕ
 key_in piece = piece.key
 
+-- the calls of a piece
 abbrev pub order_in : KeyOrder → List OpId
 order_in piece = piece.order
 
@@ -47,18 +50,19 @@ pub record AreJoined (pieces orders : List KeyOrder) : Type 0 where
 
 -- at most 1,000,000 calls together
 pub record AreFew (pieces : List KeyOrder) : Type 0 where
-  pub few : call_total pieces ≤ 1000000
+  pub few : call_total pieces ≤ call_limit
 
 -- the 1,000,001st call of all orders
 abbrev pub IsTooMany : List KeyOrder → KeyOrder → LineFault → Type 0
-IsTooMany pieces piece TooManyCalls = 1000000 < call_total pieces + length piece.order
+IsTooMany pieces piece TooManyCalls = call_limit < call_total pieces + length piece.order
 IsTooMany pieces piece fault = ⊥
 
+-- the format of an order file
 abbrev pub order_format : Format (Unit {0}) KeyOrder
 order_format = record {
   heading = header_in (codes "orders");
   meaning = λ header. piece_in;
-  Fits = λ header. AreFew;
+  Admits = λ header. AreFew;
   HasFault = λ header. IsTooMany;
 }
 

@@ -5,8 +5,10 @@ use Rattle.serde_json.specs.Data.{Data}
 use Rattle.tag.specs.declared.numbers.OpId.{OpId}
 use Rattle.recorder.specs.declared.order.KeyOrder.{KeyOrder}
 use Rattle.file_format.specs.declared.fault.LineFault.{LineFault}
-use Rattle.file_format.specs.Members.{◌>>=◌, text_at, numbers_at, needed_member, in_range, key_of}
+use Rattle.counted_devices.specs.Answers.{◌>>=◌}
+use Rattle.file_format.specs.Members.{text_at, numbers_at, needed_member, in_range, key_of}
 
+-- the call of that number
 abbrev pub op_at : ℕ → OpId
 op_at call = record { 0 = call }
 

@@ -6,6 +6,7 @@ use Rattle.tag.specs.declared.actions.Action.TheVariants.{Read, Write}
 use Rattle.tag.specs.declared.actions.Returned.{Returned}
 use Rattle.tag.specs.declared.actions.Returned.TheVariants.{Value, Written}
 use Rattle.tag.specs.declared.numbers.OpId.{OpId}
+use Rattle.tag.specs.Limits.{call_limit, client_limit}
 use Rattle.tag.specs.Names.{is_key, is_value}
 use Rattle.tag.specs.Tags.{Tag}
 use Rattle.recorder.specs.declared.row.Row.{Row}
@@ -23,10 +24,12 @@ pub record IsValue (value : List ℕ) : Type 0 where
   pub text : IsUtf8 value
   pub short : is_value value ≡ true
 
+-- a write's value is in its range
 abbrev pub HasValueIn : Action → Type 0
 HasValueIn Read = Unit {0}
 HasValueIn (Write value) = IsValue value
 
+-- a read's answer, if it has one, is in its range
 abbrev pub HasAnswerIn : Returned → Type 0
 HasAnswerIn Written = Unit {0}
 HasAnswerIn (Value None) = Unit {0}
@@ -36,38 +39,40 @@ HasAnswerIn (Value (Some value)) = IsValue value
 pub record IsInvocation (op : OpId) (client : ℕ) (key : List ℕ) (action : Action) : Type 0 where
   pub call : IsOp op
   pub least : 1 ≤ client
-  pub most : client ≤ 65535
+  pub most : client ≤ client_limit
   pub named : is_key key ≡ true
   pub asks : HasValueIn action
 
 -- a tag's number is at most 1,000,000, its writer at most 65,535
 pub record IsNote (op : OpId) (tag : Tag) : Type 0 where
   pub call : IsOp op
-  pub few : tag.number ≤ 1000000
-  pub named : tag.writer ≤ 65535
+  pub few : tag.number ≤ call_limit
+  pub named : tag.writer ≤ client_limit
 
+-- a response has a number of 32 bits and an answer in its range
 pub record IsResponse (op : OpId) (returned : Returned) : Type 0 where
   pub call : IsOp op
   pub answers : HasAnswerIn returned
 
 -- the row's fields are in their ranges
-abbrev pub IsInRange : Row → Type 0
-IsInRange (Invoke op client key action) = IsInvocation op client key action
-IsInRange (Note op tag) = IsNote op tag
-IsInRange (Respond op returned) = IsResponse op returned
+abbrev pub IsRowInRange : Row → Type 0
+IsRowInRange (Invoke op client key action) = IsInvocation op client key action
+IsRowInRange (Note op tag) = IsNote op tag
+IsRowInRange (Respond op returned) = IsResponse op returned
 
-abbrev pub AreInRange : List Row → Type 0
-AreInRange rows = (k : ℕ) (row : Row) → slice_get rows k ≡ Some row → IsInRange row
+-- each row's fields are in their ranges
+abbrev pub AreRowsInRange : List Row → Type 0
+AreRowsInRange rows = (k : ℕ) (row : Row) → slice_get rows k ≡ Some row → IsRowInRange row
 
 -- a history, with its rows' fields in their ranges
 pub record IsWritten (history : Recorded) : Type 0 where
   pub formed : IsWellFormed history.rows
-  pub ranges : AreInRange history.rows
+  pub ranges : AreRowsInRange history.rows
 
--- the same of the rows of each history
+-- the rows of each history are in their ranges
 abbrev pub HasRowsInRange : List Recorded → Type 0
-HasRowsInRange halls =
-    (hall : ℕ) (history : Recorded) → slice_get halls hall ≡ Some history → AreInRange history.rows
+HasRowsInRange halls = (hall : ℕ) (history : Recorded) → slice_get halls hall ≡ Some history
+    → AreRowsInRange history.rows
 
 -- the rows of each history are well-formed
 abbrev pub HaveFormed : List Recorded → Type 0
@@ -79,6 +84,7 @@ abbrev pub HasLawful : Option Quorums → Type 0
 HasLawful None = Unit {0}
 HasLawful (Some quorums) = IsLawful quorums
 
+-- each is a number of 32 bits
 abbrev pub AreOps : List OpId → Type 0
 AreOps ops = (k : ℕ) (op : OpId) → slice_get ops k ≡ Some op → IsOp op
 
@@ -87,6 +93,7 @@ pub record IsOrderInRange (order : KeyOrder) : Type 0 where
   pub named : is_key order.key ≡ true
   pub calls : AreOps order.order
 
+-- each order's key and calls are in their ranges
 abbrev pub AreOrdersInRange : List KeyOrder → Type 0
 AreOrdersInRange orders =
     (k : ℕ) (order : KeyOrder) → slice_get orders k ≡ Some order → IsOrderInRange order

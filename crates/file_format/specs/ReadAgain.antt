@@ -1,5 +1,6 @@
 -- Texts that are read as what they were made of, and as nothing else.
 use Rattle.std.specs.Prelude.{ℕ, ◌≡◌, List, map}
+use Rattle.tag.specs.Limits.{call_limit}
 use Rattle.recorder.specs.Halls.{RecordedHalls}
 use Rattle.recorder.specs.Histories.{Recorded}
 use Rattle.recorder.specs.declared.row.Row.{Row}
@@ -11,7 +12,7 @@ use Rattle.file_format.specs.OrderFormat.{order_format, MakesJoined}
 
 -- the text is read as the history of the rows, and as no other one
 pub record IsTextOf (text : List ℕ) (rows : List Row) : Type 0 where
-  pub read : Reads history_format MakesHistory text (record { rows = rows; limit = 1000000 })
+  pub read : Reads history_format MakesHistory text (record { rows = rows; limit = call_limit })
   pub alone : (history : Recorded) → Reads history_format MakesHistory text history → history.rows
       ≡ rows
 
@@ -23,7 +24,7 @@ pub record IsTextOfOrders (text : List ℕ) (orders : List KeyOrder) : Type 0 wh
 
 -- each history, with room for 1,000,000 calls
 abbrev pub with_room : List Recorded → List Recorded
-with_room halls = map (λ history. record { rows = history.rows; limit = 1000000 }) halls
+with_room halls = map (λ history. record { rows = history.rows; limit = call_limit }) halls
 
 -- the text is read as the histories' rows by hall and their quorums, and as no others
 pub record IsTextOfHistories (text : List ℕ) (histories : RecordedHalls) : Type 0 where

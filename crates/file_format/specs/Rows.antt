@@ -12,7 +12,8 @@ use Rattle.recorder.specs.declared.row.Row.{Row}
 use Rattle.recorder.specs.declared.row.Row.TheVariants.{Invoke, Note, Respond}
 use Rattle.file_format.specs.declared.fault.LineFault.{LineFault}
 use Rattle.file_format.specs.declared.fault.LineFault.TheVariants.{Member, Range}
-use Rattle.file_format.specs.Members.{◌>>=◌, text_at, number_at, needed_member, op_of, client_of}
+use Rattle.counted_devices.specs.Answers.{◌>>=◌}
+use Rattle.file_format.specs.Members.{text_at, number_at, needed_member, op_of, client_of}
 use Rattle.file_format.specs.Members.{key_of, value_of, tag_of}
 
 -- an invocation's row; `do` is one of two texts
@@ -23,16 +24,19 @@ invocation_of call client key action = do
   text ← key_of key
   Ok (Invoke op name text action)
 
+-- a write with the text that is the member `value`
 unfoldable pub written_in : Data → Result Action LineFault
 written_in d = do
   text ← needed_member (text_at (codes "value") d)
   value ← value_of text
   Ok (Write value)
 
+-- the action of that name: `read`, or `write` with its value
 unfoldable pub action_of : List ℕ → Data → Result Action LineFault
 action_of action d = if bytes_eq action (codes "read") then Ok Read
     else if bytes_eq action (codes "write") then written_in d else Err Range
 
+-- the invocation that the value says, or its fault
 unfoldable pub invoke_in : Data → Result Row LineFault
 invoke_in d = do
   call ← needed_member (number_at (codes "call") d)
@@ -42,6 +46,7 @@ invoke_in d = do
   action ← action_of name d
   invocation_of call client key action
 
+-- the note that the value says, or its fault
 unfoldable pub note_in : Data → Result Row LineFault
 note_in d = do
   call ← needed_member (number_at (codes "call") d)
@@ -58,10 +63,12 @@ answer_of (Some text) = do
   value ← value_of text
   Ok (Value (Some value))
 
+-- a write's response has no such member; a read's is null or a text
 unfoldable pub returned_of : Option Data → Result Returned LineFault
 returned_of None = Ok Written
 returned_of (Some d) = if is_some (as_null d) then Ok (Value None) else answer_of (as_str d)
 
+-- the response that the value says, or its fault
 unfoldable pub respond_in : Data → Result Row LineFault
 respond_in d = do
   call ← needed_member (number_at (codes "call") d)
@@ -69,6 +76,7 @@ respond_in d = do
   op ← op_of call
   Ok (Respond op returned)
 
+-- the row of that kind that the value says, or its fault
 unfoldable pub row_of : List ℕ → Data → Result Row LineFault
 row_of kind d = if bytes_eq kind (codes "invoke") then invoke_in d
     else if bytes_eq kind (codes "note") then note_in d else if bytes_eq kind (codes "respond")

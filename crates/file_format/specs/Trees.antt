@@ -11,7 +11,7 @@ use Rattle.std.specs.declared.alloc.Global.{Global}
 use Rattle.serde_json.specs.Find.{as_u64}
 use Rattle.serde_json.specs.Read.{number_of, max_depth}
 use Rattle.file_format.specs.declared.fault.LineFault.TheVariants.{NotJson}
-use Rattle.file_format.specs.Faults.{Stop}
+use Rattle.file_format.specs.Faults.{LineStop}
 use Rattle.counted_devices.specs.declared.read_fault.Stop.TheVariants as stop
 
 -- the tree of a whole text
@@ -47,7 +47,7 @@ all_unsigned (item j js) =
     option_and_then (λ n. option_map (λ ns. n ∷ ns) (all_unsigned js)) (unsigned_of j)
 
 -- the text's tree was read, or it has none, or memory ran out
-abbrev pub IsTree : List ℕ → Result (Value Global) Stop → Type 0
+abbrev pub IsTree : List ℕ → Result (Value Global) LineStop → Type 0
 IsTree text (Ok v) = tree_in text ≡ Some (value_view v)
 IsTree text (Err (stop.Fault NotJson)) = tree_in text ≡ None
 IsTree text (Err (stop.Fault fault)) = ⊥

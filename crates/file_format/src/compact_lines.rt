@@ -8,7 +8,7 @@ ghost use Rattle.std.specs.Prelude.{◌≡◌, ◌<◌, ◌≤◌, ◌++◌, cod
 ghost use Rattle.json.specs.Print.{quoted};
 ghost use Rattle.counted_devices.specs.Cuts.{with_end};
 ghost use Rattle.file_format.specs.CanonicalLines.{IsHallRowLine, IsPieceLine, IsRowLine};
-ghost use Rattle.file_format.specs.Ranges.{HasAnswerIn, HasValueIn, IsInRange, IsInvocation};
+ghost use Rattle.file_format.specs.Ranges.{HasAnswerIn, HasValueIn, IsRowInRange, IsInvocation};
 ghost use Rattle.file_format.specs.Ranges.{IsNote, IsOp, IsResponse, IsValue};
 ghost use Rattle.file_format.specs.LineRows.{row_said};
 ghost use Rattle.file_format.specs.RowTexts.{asked_text, noted_text, returned_text, row_bytes};
@@ -151,6 +151,23 @@ fn first_key<'a>(place: &LinePlace, bytes: &'a [u8]) -> Result<Option<(LineKey, 
     }
 }
 
+/// The hall, where it is a member, and the key that the bytes begin with, and what is after them.
+fn first_members<'a>(
+    place: &LinePlace,
+    bytes: &'a [u8],
+) -> Result<Option<(Option<u8>, LineKey, &'a [u8])>, Memory>
+    ensures { IfOk result (λ found. IfSome found
+        (λ p. bytes.now ≡ hall_text p.0 ++ (codes ",\"key\":" ++ (quoted p.1 ++ p.2.now)))) }
+{
+    let Some((hall, rest)) = first_hall(bytes) else {
+        return Ok(None);
+    };
+    let Some((key, rest)) = first_key(place, rest)? else {
+        return Ok(None);
+    };
+    Ok(Some((hall, key, rest)))
+}
+
 /// The value in quotation marks that is all that the bytes have before a brace.
 fn last_value(alloc: Global, seen: &mut SeenValues, bytes: &[u8]) -> Result<Option<Value>, Memory>
     ensures { IfOk result (λ found. IfSome found
@@ -171,11 +188,8 @@ fn asked_read(place: &LinePlace, bytes: &[u8]) -> Result<Option<Asked>, Memory>
         (λ asked. codes ",\"do\":\"read\"" ++ bytes.now
         ≡ asked_text asked.hall asked.key asked.action)) }
 {
-    let Some((hall, rest)) = first_hall(bytes) else {
-        return Ok(None);
-    };
-    match first_key(place, rest)? {
-        Some((key, rest)) if is_all(rest, b",\"row\":\"invoke\"}") => Ok(Some(Asked {
+    match first_members(place, bytes)? {
+        Some((hall, key, rest)) if is_all(rest, b",\"row\":\"invoke\"}") => Ok(Some(Asked {
             hall,
             key,
             action: Action::Read,
@@ -195,10 +209,7 @@ fn asked_write(
         (λ asked. codes ",\"do\":\"write\"" ++ bytes.now
         ≡ asked_text asked.hall asked.key asked.action)) }
 {
-    let Some((hall, rest)) = first_hall(bytes) else {
-        return Ok(None);
-    };
-    let Some((key, rest)) = first_key(place, rest)? else {
+    let Some((hall, key, rest)) = first_members(place, bytes)? else {
         return Ok(None);
     };
     let Some(rest) = behind(rest, b",\"row\":\"invoke\",\"value\":") else {
@@ -354,63 +365,63 @@ fn placed_row(
     }
 }
 
-// What the types of a row's fields keep, looked at for its ranges' sake.
+// That a row's fields are in their ranges, as their types keep them.
 
-fn look_at_call(op: OpId)
+fn call_in_range(op: OpId)
     ensures { IsOp op }
 {}
 
-fn look_at_value(value: &Value)
+fn value_in_range(value: &Value)
     ensures { IsValue value.now }
 {
     let _text = value.as_str();
 }
 
-fn look_at_action(action: &Action)
+fn action_in_range(action: &Action)
     ensures { HasValueIn action.now }
 {
     match action {
         Action::Read => {}
-        Action::Write(value) => look_at_value(value),
+        Action::Write(value) => value_in_range(value),
     }
 }
 
-fn look_at_answer(returned: &Returned)
+fn answer_in_range(returned: &Returned)
     ensures { HasAnswerIn returned.now }
 {
     match returned {
         Returned::Written => {}
         Returned::Value(None) => {}
-        Returned::Value(Some(value)) => look_at_value(value),
+        Returned::Value(Some(value)) => value_in_range(value),
     }
 }
 
-fn look_at_invocation(op: OpId, client: ClientId, key: &LineKey, action: &Action)
+fn invocation_in_range(op: OpId, client: ClientId, key: &LineKey, action: &Action)
     ensures { IsInvocation op client key.now action.now }
 {
-    look_at_call(op);
+    call_in_range(op);
     let _name = client.get();
     let _key = key.as_str();
-    look_at_action(action);
+    action_in_range(action);
 }
 
-fn look_at_note(op: OpId, tag: Tag)
+fn note_in_range(op: OpId, tag: Tag)
     ensures { IsNote op tag }
 {
-    look_at_call(op);
+    call_in_range(op);
     let _number = tag.number();
     let _writer = tag.writer();
 }
 
-fn look_at_response(op: OpId, returned: &Returned)
+fn response_in_range(op: OpId, returned: &Returned)
     ensures { IsResponse op returned.now }
 {
-    look_at_call(op);
-    look_at_answer(returned);
+    call_in_range(op);
+    answer_in_range(returned);
 }
 
-fn look_at_row(said: &SaidRow)
-    ensures { IsInRange (row_said said.now) }
+fn row_in_range(said: &SaidRow)
+    ensures { IsRowInRange (row_said said.now) }
 {
     match said {
         SaidRow::Invoke {
@@ -418,9 +429,9 @@ fn look_at_row(said: &SaidRow)
             client,
             key,
             action,
-        } => look_at_invocation(*op, *client, key, action),
-        SaidRow::Note { op, tag } => look_at_note(*op, *tag),
-        SaidRow::Respond { op, returned } => look_at_response(*op, returned),
+        } => invocation_in_range(*op, *client, key, action),
+        SaidRow::Note { op, tag } => note_in_range(*op, *tag),
+        SaidRow::Respond { op, returned } => response_in_range(*op, returned),
     }
 }
 
@@ -437,7 +448,7 @@ pub(crate) fn written_row(
     let Some(PlacedRow { hall, said }) = placed_row(alloc, place, seen, line)? else {
         return Ok(None);
     };
-    look_at_row(&said);
+    row_in_range(&said);
     match hall {
         None => Ok(Some(LineRow { said })),
         Some(_) => Ok(None),
@@ -475,7 +486,7 @@ pub(crate) fn written_hall_row(
     if !is_same(header.place(hall), member) {
         return Ok(None);
     }
-    look_at_row(&said);
+    row_in_range(&said);
     let row = LineRow { said };
     Ok(Some(HallRow { hall, row }))
 }

@@ -3,7 +3,8 @@ ghost use Rattle.std.specs.Prelude.{◌≡◌, true, option_map};
 ghost use Rattle.json.specs.Find.{as_array};
 ghost use Rattle.json.specs.Value.{value_view, items_view};
 ghost use Rattle.serde_json.specs.Find.{get};
-ghost use Rattle.file_format.specs.Members.{Gives, key_of, needed_member, text_at, number_at, numbers_at};
+ghost use Rattle.counted_devices.specs.Answers.{Gives};
+ghost use Rattle.file_format.specs.Members.{key_of, needed_member, text_at, number_at, numbers_at};
 ghost use Rattle.file_format.specs.Trees.{has_numbers, unsigned_of, all_unsigned};
 
 use crate::LineFault;
@@ -34,7 +35,7 @@ pub enum Member<'a> {
 }
 
 impl<'a> Document<'a> {
-    ghost use Rattle.file_format.specs.Documents.{data_in, Describes, IsRead};
+    ghost use Rattle.file_format.specs.Documents.{data_in, Classifies, ReadsDocument};
 
     /// The value that the line is; `NotJson` exactly where it is none.
     pub(crate) fn read(
@@ -43,7 +44,7 @@ impl<'a> Document<'a> {
         place: &'a LinePlace,
         scratch: &'a mut Scratch,
     ) -> Result<Document<'a>, Stop>
-        ensures { IsRead line.now result }
+        ensures { ReadsDocument line.now result }
     {
         let Ok(text) = str::from_utf8(line) else {
             return Err(Stop::Fault(LineFault::NotJson));
@@ -71,7 +72,7 @@ impl<'a> Document<'a> {
 
     /// The member of that name.
     pub(crate) fn member(&self, name: &str) -> Member<'_>
-        ensures { Describes (get name.now (data_in self.now)) result }
+        ensures { Classifies (get name.now (data_in self.now)) result }
     {
         let Some(value) = self.value.get(name) else {
             return Member::Missing;

@@ -2,8 +2,8 @@
 ghost use Rattle.std.specs.Prelude.{◌≡◌, ◌≤◌};
 ghost use Rattle.recorder.specs.Halls.{AreHalls, hall_of};
 ghost use Rattle.file_format.specs.Ranges.{HasLawful};
-ghost use Rattle.file_format.specs.Texts.{header_of};
-ghost use Rattle.file_format.specs.FileHeaders.{halls_in, quorums_in, place_in};
+ghost use Rattle.file_format.specs.Texts.{header_of_histories};
+ghost use Rattle.file_format.specs.FileHeaders.{halls_in, quorums_in, written_hall};
 
 use crate::line_key::LineKey;
 use quorum::Quorums;
@@ -22,7 +22,7 @@ impl FileHeader {
     /// The header of the histories' file: of version 2 where the quorums are known, else of version
     /// 1.
     pub(crate) fn of(histories: &Histories) -> FileHeader
-        ensures header { result ≡ header_of histories.now }
+        ensures header { result ≡ header_of_histories histories.now }
         ensures lawful { HasLawful histories.now.quorums }
         ensures halls { AreHalls histories.now }
     {
@@ -71,7 +71,7 @@ impl FileHeader {
 
     /// What a row of that hall has as its member `hall`.
     pub(crate) fn place(&self, hall: u8) -> Option<u8>
-        ensures { result ≡ place_in self.now hall }
+        ensures { result ≡ written_hall self.now hall }
     {
         match self {
             FileHeader::Version1 => None,

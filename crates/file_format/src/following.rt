@@ -1,8 +1,9 @@
 //! Rows that follow one another.
 ghost use Rattle.std.specs.Prelude.{ℕ, ◌≡◌, ◌≤◌};
+ghost use Rattle.tag.specs.Limits.{call_limit};
 ghost use Rattle.recorder.specs.declared.row.Row.{Row};
 ghost use Rattle.recorder.specs.Histories.{IsWellFormed, call_count};
-ghost use Rattle.file_format.specs.Places.{FollowsBehind, FollowsInHall, FollowsRow};
+ghost use Rattle.file_format.specs.Places.{FollowsAfter, FollowsInHall, FollowsRow};
 
 use crate::LineFault;
 use crate::fault::Stop;
@@ -42,7 +43,7 @@ fn follow_invoke(
 }
 
 fn follow_note(history: &mut History, op: OpId, tag: Tag) -> Result<(), Stop>
-    ensures { (earlier : ℕ) → FollowsBehind earlier history.old
+    ensures { (earlier : ℕ) → FollowsAfter earlier history.old
         (Row.Note op tag) result history.new }
 {
     match history.note(op, tag) {
@@ -54,7 +55,7 @@ fn follow_note(history: &mut History, op: OpId, tag: Tag) -> Result<(), Stop>
 }
 
 fn follow_respond(history: &mut History, op: OpId, returned: Returned) -> Result<(), Stop>
-    ensures { (earlier : ℕ) → FollowsBehind earlier history.old
+    ensures { (earlier : ℕ) → FollowsAfter earlier history.old
         (Row.Respond op returned) result history.new }
 {
     match history.respond(op, returned) {
@@ -103,9 +104,9 @@ pub(crate) fn follow_in_hall(
 /// The history is one of a file, and so may have 1,000,000 calls, as `History::new(alloc,
 /// MOST_CALLS)` makes it; that stays so.
 pub fn follow(history: &mut History, row: LineRow) -> Result<(), Stop>
-    requires limit { history.old.limit ≡ 1000000 }
+    requires limit { history.old.limit ≡ call_limit }
     ensures follows { FollowsRow history.old row result history.new }
-    ensures limit { history.new.limit ≡ 1000000 }
+    ensures limit { history.new.limit ≡ call_limit }
     ensures formed { IsWellFormed history.new.rows }
     ensures few { call_count history.new.rows ≤ history.new.limit }
 {

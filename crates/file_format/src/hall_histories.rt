@@ -32,11 +32,11 @@ impl Model for HallHistories {
 
     ghost Value = { RecordedHalls };
 
-    ghost use Rattle.file_format.specs.HallStates.{histories_in, IsUnderWay};
+    ghost use Rattle.file_format.specs.HallStates.{histories_in, AreHistoriesSoFar};
 
     ghost view = { histories_in };
 
-    ghost invariant = { IsUnderWay };
+    ghost invariant = { AreHistoriesSoFar };
 }
 
 impl HallHistories {

@@ -2,7 +2,8 @@
 ghost use Rattle.std.specs.Prelude.{◌≡◌, nat_lt};
 ghost use Rattle.file_format.specs.Documents.{data_in};
 ghost use Rattle.file_format.specs.HallRows.{only_row_in, placed_row_in, hall_row_in};
-ghost use Rattle.file_format.specs.Members.{Gives, in_range};
+ghost use Rattle.counted_devices.specs.Answers.{Gives};
+ghost use Rattle.file_format.specs.Members.{in_range};
 
 use crate::LineFault;
 use crate::document::Document;

@@ -1,7 +1,7 @@
 //! The header of a file.
 ghost use Rattle.std.specs.Prelude.{◌≡◌};
 ghost use Rattle.file_format.specs.Documents.{data_in};
-ghost use Rattle.file_format.specs.Members.{Gives};
+ghost use Rattle.counted_devices.specs.Answers.{Gives};
 ghost use Rattle.file_format.specs.Headers.{header_in, header_of};
 
 use crate::LineFault;

@@ -2,7 +2,7 @@
 ghost use Rattle.std.specs.Prelude.{◌≡◌, ◌∷◌, [], IfOk};
 ghost use Rattle.file_format.specs.FileHeaders.{file_header_in};
 ghost use Rattle.file_format.specs.Headers.{header_in};
-ghost use Rattle.file_format.specs.Lines.{ShowsBy, ShowsItem, ShowChunks};
+ghost use Rattle.file_format.specs.Lines.{LineShowsBy, ShowsItem, ShowChunks};
 
 use crate::LineFault;
 use crate::document::Document;
@@ -38,7 +38,7 @@ fn item_on<T: LineItem>(
     tools: &mut LineTools,
     line: &[u8],
 ) -> Result<T, Stop>
-    ensures { ShowsBy (T.meaning header) line.now result }
+    ensures { LineShowsBy (T.meaning header) line.now result }
 {
     if line.len() > LONGEST {
         return Err(Stop::Fault(LineFault::TooLong));
@@ -127,7 +127,7 @@ pub fn judge_chunk<T: LineItem>(
 
 /// What the line, without its end, says as the header of a history file of either version.
 pub fn judge_file_header(alloc: Global, line: &[u8]) -> Result<FileHeader, Stop>
-    ensures { ShowsBy file_header_in line.now result }
+    ensures { LineShowsBy file_header_in line.now result }
 {
     if line.len() > LONGEST {
         return Err(Stop::Fault(LineFault::TooLong));
@@ -140,7 +140,7 @@ pub fn judge_file_header(alloc: Global, line: &[u8]) -> Result<FileHeader, Stop>
 
 /// Whether the line, without its end, is the header of a file of that name.
 pub fn judge_header(alloc: Global, name: &str, line: &[u8]) -> Result<(), Stop>
-    ensures { ShowsBy (header_in name.now) line.now result }
+    ensures { LineShowsBy (header_in name.now) line.now result }
 {
     if line.len() > LONGEST {
         return Err(Stop::Fault(LineFault::TooLong));

@@ -1,13 +1,14 @@
 //! Laws of the definitions, each the contract of a function that does nothing.
 ghost use Rattle.std.specs.Prelude.{ℕ, ◌≡◌, ◌≢◌, ◌↔◌, List, [], ◌∷◌, None, Ok, Result};
 ghost use Rattle.serde_json.specs.Data.{Data};
+ghost use Rattle.tag.specs.Limits.{call_limit};
 ghost use Rattle.recorder.specs.declared.row.Row.{Row};
 ghost use Rattle.recorder.specs.declared.order.KeyOrder.{KeyOrder};
 ghost use Rattle.recorder.specs.Histories.{Recorded};
 ghost use Rattle.file_format.specs.declared.fault.LineFault.{LineFault};
 ghost use Rattle.file_format.specs.declared.fault.LineFault.TheVariants.{Version};
 ghost use Rattle.file_format.specs.CanonicalLines.{IsRowLine, IsHallRowLine, IsPieceLine};
-ghost use Rattle.file_format.specs.Lines.{Shows};
+ghost use Rattle.file_format.specs.Lines.{LineShows};
 ghost use Rattle.file_format.specs.LineFaults.{FaultsAre, HasRowFault, HasHallRowFault};
 ghost use Rattle.file_format.specs.LineFaults.{HasPieceFault, HasHeaderFault, HasFileHeaderFault};
 ghost use Rattle.file_format.specs.Readings.{Reads, FirstFaultInAll};
@@ -22,7 +23,7 @@ ghost use Rattle.recorder.specs.Halls.{RecordedHalls, AreHalls};
 ghost use Rattle.file_format.specs.ReadAgain.{IsTextOfHistories};
 ghost use Rattle.file_format.specs.OrderFormat.{order_format, MakesJoined, AreFew};
 ghost use Rattle.file_format.specs.OrderLines.{piece_in};
-ghost use Rattle.file_format.specs.Ranges.{AreInRange, HasRowsInRange, HaveFormed, HasLawful};
+ghost use Rattle.file_format.specs.Ranges.{AreRowsInRange, HasRowsInRange, HaveFormed, HasLawful};
 ghost use Rattle.file_format.specs.Ranges.{AreOrdersInRange, HaveDistinctKeys};
 ghost use Rattle.file_format.specs.Rows.{row_in};
 ghost use Rattle.file_format.specs.Says.{SaysRow, SaysHallRow, SaysHeader, SaysFileHeader, SaysPiece};
@@ -87,25 +88,25 @@ pub fn a_row_of_a_hall_has_the_fault_of_its_members()
 
 /// A line of a history file shows one row, or one fault.
 pub fn a_line_shows_one_row_or_fault()
-    ensures { (line : List ℕ) (a b : Result Row LineFault) → Shows row_in line a
-        → Shows row_in line b → a ≡ b }
+    ensures { (line : List ℕ) (a b : Result Row LineFault) → LineShows row_in line a
+        → LineShows row_in line b → a ≡ b }
 {}
 
 /// A line that is the one written for a row shows that row.
 pub fn a_line_written_for_a_row_shows_it()
-    ensures { (line : List ℕ) (row : Row) → IsRowLine line row → Shows row_in line (Ok row) }
+    ensures { (line : List ℕ) (row : Row) → IsRowLine line row → LineShows row_in line (Ok row) }
 {}
 
 /// After a header, a line that is the one written for a row of a hall shows that row.
 pub fn a_line_written_for_a_row_of_a_hall_shows_it()
     ensures { (header : FileHeader) (line : List ℕ) (item : HallRow)
-        → IsHallRowLine header line item → Shows (hall_row_in header) line (Ok item) }
+        → IsHallRowLine header line item → LineShows (hall_row_in header) line (Ok item) }
 {}
 
 /// A line that is the one written for a piece of an order shows that piece.
 pub fn a_line_written_for_a_piece_shows_it()
     ensures { (line : List ℕ) (piece : KeyOrder) → IsPieceLine line piece
-        → Shows piece_in line (Ok piece) }
+        → LineShows piece_in line (Ok piece) }
 {}
 
 /// Bytes are read as one history.
@@ -116,14 +117,14 @@ pub fn bytes_are_read_as_one_history()
 
 /// What is written of a history is read as that history.
 pub fn a_history_is_read_from_its_text()
-    ensures { (rows : List Row) → IsHistory rows → AreInRange rows
+    ensures { (rows : List Row) → IsHistory rows → AreRowsInRange rows
         → Reads history_format MakesHistory (history_text rows)
-        (record { rows = rows; limit = 1000000 }) }
+        (record { rows = rows; limit = call_limit }) }
 {}
 
 /// What is written of a history is read as no other one.
 pub fn a_text_is_read_as_its_history_alone()
-    ensures { (rows : List Row) (history : Recorded) → IsHistory rows → AreInRange rows
+    ensures { (rows : List Row) (history : Recorded) → IsHistory rows → AreRowsInRange rows
         → Reads history_format MakesHistory (history_text rows) history → history.rows ≡ rows }
 {}
 

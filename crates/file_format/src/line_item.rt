@@ -3,12 +3,12 @@ ghost use Rattle.std.specs.Prelude.{Result, Ok, IfOk, IfSome};
 ghost use Rattle.serde_json.specs.Data.{Data};
 ghost use Rattle.file_format.specs.declared.fault.LineFault.{LineFault};
 ghost use Rattle.file_format.specs.Documents.{data_in};
-ghost use Rattle.file_format.specs.Members.{Gives};
+ghost use Rattle.counted_devices.specs.Answers.{Gives};
 ghost use Rattle.file_format.specs.Rows.{row_in};
 ghost use Rattle.file_format.specs.HallRows.{hall_row_in};
 ghost use Rattle.file_format.specs.OrderLines.{piece_in};
 ghost use Rattle.file_format.specs.Formats.{IsFine};
-ghost use Rattle.file_format.specs.Lines.{Shows};
+ghost use Rattle.file_format.specs.Lines.{LineShows};
 
 use crate::compact_lines::{written_hall_row, written_piece, written_row};
 use crate::document::Document;
@@ -39,7 +39,7 @@ pub trait LineItem: Drop + Sized {
         line: &[u8],
     ) -> Result<Option<Self>, Memory>
         ensures { IfOk result (λ found. IfSome found
-            (λ item. Shows (meaning header) line.now (Ok item))) };
+            (λ item. LineShows (meaning header) line.now (Ok item))) };
 
     /// The item that the value says after that header.
     fn item_in(alloc: Global, header: Self::Header, document: &Document<'_>) -> Result<Self, Stop>

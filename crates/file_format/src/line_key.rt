@@ -83,7 +83,7 @@ pub(crate) struct EscapedKeys {
     copies: Vec<LineKey>,
 }
 
-/// Where a line stands: in which bytes, and where it ends there. It is only looked at, so a wrong
+/// Where a line stands: in which bytes, and where it ends there. It only says where to search, so a wrong
 /// place costs memory, and changes no answer.
 #[derive(Drop)]
 pub(crate) struct LinePlace {

@@ -2,7 +2,7 @@
 ghost use Rattle.std.specs.Prelude.{◌≡◌, ◌^◌, nat_lt};
 ghost use Rattle.std.specs.List.{list_all};
 ghost use Rattle.file_format.specs.Documents.{data_in};
-ghost use Rattle.file_format.specs.Members.{Gives};
+ghost use Rattle.counted_devices.specs.Answers.{Gives};
 ghost use Rattle.file_format.specs.OrderLines.{calls_of, piece_in};
 
 use crate::LineFault;

@@ -2,9 +2,9 @@
 ghost use Rattle.std.specs.Prelude.{◌≡◌, ℕ, nat_le, true, IfOk};
 ghost use Rattle.std.specs.List.{list_all};
 ghost use Rattle.file_format.specs.Documents.{data_in};
-ghost use Rattle.file_format.specs.FileHeaders.{quorums_of, count_of, told_in, version_of};
-ghost use Rattle.file_format.specs.FileHeaders.{file_header_in, file_header_of};
-ghost use Rattle.file_format.specs.Members.{Gives};
+ghost use Rattle.file_format.specs.FileHeaders.{quorums_of, count_of, told_in};
+ghost use Rattle.file_format.specs.FileHeaders.{file_header_in};
+ghost use Rattle.counted_devices.specs.Answers.{Gives};
 
 use crate::LineFault;
 use crate::document::Document;
@@ -77,7 +77,7 @@ fn told_in(alloc: Global, document: &Document<'_>) -> Result<FileHeader, Stop>
 }
 
 /// What the value says as the header of a history file of either version.
-#[tactic(auto, unfolding(crate::specs::FileHeaders::file_header_in, crate::specs::FileHeaders::file_header_of, crate::specs::FileHeaders::version_of))]
+#[tactic(auto, unfolding(crate::specs::FileHeaders::file_header_in))]
 pub(crate) fn file_header_in(alloc: Global, document: &Document<'_>) -> Result<FileHeader, Stop>
     ensures { Gives (λ header. header) result (file_header_in (data_in document.now)) }
 {

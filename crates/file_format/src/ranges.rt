@@ -1,6 +1,7 @@
 //! Numbers and texts in their ranges.
 ghost use Rattle.std.specs.Prelude.{◌≡◌};
-ghost use Rattle.file_format.specs.Members.{Gives, op_of, client_of, value_of, tag_of};
+ghost use Rattle.counted_devices.specs.Answers.{Gives};
+ghost use Rattle.file_format.specs.Members.{op_of, client_of, value_of, tag_of};
 
 use crate::LineFault;
 use crate::fault::Stop;

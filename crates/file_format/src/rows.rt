@@ -2,7 +2,7 @@
 ghost use Rattle.std.specs.Prelude.{◌≡◌, codes, Some};
 ghost use Rattle.serde_json.specs.Find.{get};
 ghost use Rattle.file_format.specs.Documents.{data_in};
-ghost use Rattle.file_format.specs.Members.{Gives};
+ghost use Rattle.counted_devices.specs.Answers.{Gives};
 ghost use Rattle.file_format.specs.Rows.{invocation_of, written_in, action_of, invoke_in, note_in};
 ghost use Rattle.file_format.specs.Rows.{answer_of, returned_of, respond_in, row_of, row_in};
 

@@ -2,15 +2,15 @@
 ghost use Rattle.std.specs.Prelude.{◌≡◌, ◌++◌, ◌<◌, ◌≤◌, true, false, codes, decimal, length, take, slice_index, OnOk};
 ghost use Rattle.std.specs.List.{list_all};
 ghost use Rattle.json.specs.Print.{quoted};
-ghost use Rattle.serde_json.specs.Data.{string, member};
+ghost use Rattle.serde_json.specs.Data.{string, member, no_members};
 ghost use Rattle.serde_json.specs.Written.{items_text, members_text};
 ghost use Rattle.counted_devices.specs.Cuts.{with_end};
 ghost use Rattle.tag.specs.Names.{is_key};
 ghost use Rattle.file_format.specs.PlainTexts.{is_plain};
 ghost use Rattle.file_format.specs.Ranges.{IsOp, HasAnswerIn, AreOps, IsInvocation, IsNote};
-ghost use Rattle.file_format.specs.Ranges.{IsResponse, IsInRange, IsOrderInRange};
-ghost use Rattle.file_format.specs.Texts.{header_data, file_header_data, hall_text, answered_value};
-ghost use Rattle.file_format.specs.Texts.{calls_data, numbers_data, line_text, placed_text};
+ghost use Rattle.file_format.specs.Ranges.{IsResponse, IsRowInRange, IsOrderInRange};
+ghost use Rattle.file_format.specs.Texts.{header_data, file_header_data, hall_text, answered_member};
+ghost use Rattle.file_format.specs.Texts.{calls_data, numbers_data, line_text, row_text_with};
 ghost use Rattle.file_format.specs.Texts.{piece_text};
 
 use crate::file_header::FileHeader;
@@ -180,7 +180,7 @@ fn append_invoke(
     action: &Action,
 ) -> Result<(), Memory>
     ensures text { OnOk result (out.new.items
-        ≡ out.old.items ++ placed_text hall (Row.Invoke op client key.now action.now)) }
+        ≡ out.old.items ++ row_text_with hall (Row.Invoke op client key.now action.now)) }
     ensures range { OnOk result (IsInvocation op client key.now action.now) }
 {
     append_number(out, b"{\"call\":", op.0)?;
@@ -202,7 +202,7 @@ fn append_invoke(
 
 fn append_note(out: &mut Vec<u8>, hall: Option<u8>, op: OpId, tag: Tag) -> Result<(), Memory>
     ensures text { OnOk result (out.new.items
-        ≡ out.old.items ++ placed_text hall (Row.Note op tag)) }
+        ≡ out.old.items ++ row_text_with hall (Row.Note op tag)) }
     ensures range { OnOk result (IsNote op tag) }
 {
     append_number(out, b"{\"call\":", op.0)?;
@@ -217,7 +217,7 @@ fn append_answer(out: &mut Vec<u8>, answer: &Option<Value>) -> Result<(), Memory
     ensures text { OnOk result (out.new.items
         ≡ out.old.items ++ with_end
         (members_text true (member (codes "row") (string (codes "respond"))
-        (answered_value (Returned.Value answer.now))))) }
+        (answered_member (Returned.Value answer.now) no_members)))) }
     ensures range { OnOk result (HasAnswerIn (Returned.Value answer.now)) }
 {
     match answer {
@@ -236,7 +236,7 @@ fn append_respond(
     returned: &Returned,
 ) -> Result<(), Memory>
     ensures text { OnOk result (out.new.items
-        ≡ out.old.items ++ placed_text hall (Row.Respond op returned.now)) }
+        ≡ out.old.items ++ row_text_with hall (Row.Respond op returned.now)) }
     ensures range { OnOk result (IsResponse op returned.now) }
 {
     append_number(out, b"{\"call\":", op.0)?;
@@ -249,8 +249,8 @@ fn append_respond(
 
 /// Adds the row's line, with its hall where that is a member.
 pub(crate) fn append_row(out: &mut Vec<u8>, hall: Option<u8>, row: &Row) -> Result<(), Memory>
-    ensures text { OnOk result (out.new.items ≡ out.old.items ++ placed_text hall row.now) }
-    ensures range { OnOk result (IsInRange row.now) }
+    ensures text { OnOk result (out.new.items ≡ out.old.items ++ row_text_with hall row.now) }
+    ensures range { OnOk result (IsRowInRange row.now) }
 {
     match row {
         Row::Invoke {

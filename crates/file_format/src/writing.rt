@@ -1,13 +1,14 @@
 //! Files to writers.
 ghost use Rattle.std.specs.Prelude.{◌≡◌, ◌++◌, OnOk, IfOk, IfErr};
 ghost use Rattle.std.specs.List.{flat_map};
+ghost use Rattle.counted_devices.specs.DeviceStates.{states};
 ghost use Rattle.file_format.specs.HistoryFormat.{IsHistory};
 ghost use Rattle.file_format.specs.OrderFormat.{AreFew};
-ghost use Rattle.file_format.specs.Ranges.{IsInRange, IsWritten, IsOrderInRange, HaveDistinctKeys};
+ghost use Rattle.file_format.specs.Ranges.{IsRowInRange, IsWritten, IsOrderInRange, HaveDistinctKeys};
 ghost use Rattle.file_format.specs.ReadAgain.{IsTextOf, IsTextOfHistories, IsTextOfOrders};
-ghost use Rattle.file_format.specs.Texts.{placed_text, piece_text, order_text, history_text};
+ghost use Rattle.file_format.specs.Texts.{row_text_with, piece_text, order_text, history_text};
 ghost use Rattle.file_format.specs.Texts.{histories_text, orders_text};
-ghost use Rattle.file_format.specs.Writings.{BreaksOff, Writes, WritesBut};
+ghost use Rattle.file_format.specs.Writings.{FailsWriting, Writes, WritesBut};
 
 use crate::file_header::FileHeader;
 use crate::texts::{MOST_IN_PIECE, append_file_header, append_header, append_piece, append_row};
@@ -49,11 +50,11 @@ fn write_row<W: CountedWrite>(
     batch: &mut Vec<u8>,
     writer: &mut W,
 ) -> Result<(), WriteFault>
-    ensures sent { OnOk result (WritesBut W.contents W.failures writer.old writer.new
-        (batch.old.items ++ placed_text hall row.now) batch.new.items) }
-    ensures broken { IfErr result (BreaksOff W.contents W.failures writer.old writer.new
-        (batch.old.items ++ placed_text hall row.now)) }
-    ensures range { OnOk result (IsInRange row.now) }
+    ensures sent { OnOk result (WritesBut (states W.contents W.failures writer.old writer.new)
+        (batch.old.items ++ row_text_with hall row.now) batch.new.items) }
+    ensures broken { IfErr result (FailsWriting (states W.contents W.failures writer.old writer.new)
+        (batch.old.items ++ row_text_with hall row.now)) }
+    ensures range { OnOk result (IsRowInRange row.now) }
 {
     append_row(batch, hall, row)?;
     relieve(batch, writer)
@@ -69,9 +70,9 @@ pub fn write_history<W: CountedWrite>(
     history: &History,
     writer: &mut W,
 ) -> Result<(), WriteFault>
-    ensures written { OnOk result (Writes W.contents W.failures writer.old writer.new
+    ensures written { OnOk result (Writes (states W.contents W.failures writer.old writer.new)
         (history_text history.now.rows)) }
-    ensures broken { IfErr result (BreaksOff W.contents W.failures writer.old writer.new
+    ensures broken { IfErr result (FailsWriting (states W.contents W.failures writer.old writer.new)
         (history_text history.now.rows)) }
     ensures read { OnOk result (IsTextOf (history_text history.now.rows) history.now.rows) }
 {
@@ -90,10 +91,10 @@ fn write_hall<W: CountedWrite>(
     batch: &mut Vec<u8>,
     writer: &mut W,
 ) -> Result<(), WriteFault>
-    ensures sent { OnOk result (WritesBut W.contents W.failures writer.old writer.new
-        (batch.old.items ++ flat_map (placed_text hall) history.now.rows) batch.new.items) }
-    ensures broken { IfErr result (BreaksOff W.contents W.failures writer.old writer.new
-        (batch.old.items ++ flat_map (placed_text hall) history.now.rows)) }
+    ensures sent { OnOk result (WritesBut (states W.contents W.failures writer.old writer.new)
+        (batch.old.items ++ flat_map (row_text_with hall) history.now.rows) batch.new.items) }
+    ensures broken { IfErr result (FailsWriting (states W.contents W.failures writer.old writer.new)
+        (batch.old.items ++ flat_map (row_text_with hall) history.now.rows)) }
     ensures range { OnOk result (IsWritten history.now) }
 {
     for row in history.rows() {
@@ -112,9 +113,9 @@ pub fn write_histories<W: CountedWrite>(
     histories: &Histories,
     writer: &mut W,
 ) -> Result<(), WriteFault>
-    ensures written { OnOk result (Writes W.contents W.failures writer.old writer.new
+    ensures written { OnOk result (Writes (states W.contents W.failures writer.old writer.new)
         (histories_text histories.now)) }
-    ensures broken { IfErr result (BreaksOff W.contents W.failures writer.old writer.new
+    ensures broken { IfErr result (FailsWriting (states W.contents W.failures writer.old writer.new)
         (histories_text histories.now)) }
     ensures read { OnOk result (IsTextOfHistories (histories_text histories.now) histories.now) }
 {
@@ -135,10 +136,10 @@ fn write_piece<W: CountedWrite>(
     batch: &mut Vec<u8>,
     writer: &mut W,
 ) -> Result<(), WriteFault>
-    ensures sent { OnOk result (WritesBut W.contents W.failures writer.old writer.new
+    ensures sent { OnOk result (WritesBut (states W.contents W.failures writer.old writer.new)
         (batch.old.items ++ piece_text (record { key = key.now; order = calls.now }))
         batch.new.items) }
-    ensures broken { IfErr result (BreaksOff W.contents W.failures writer.old writer.new
+    ensures broken { IfErr result (FailsWriting (states W.contents W.failures writer.old writer.new)
         (batch.old.items ++ piece_text (record { key = key.now; order = calls.now }))) }
     ensures range { OnOk result (IsOrderInRange (record { key = key.now; order = calls.now })) }
 {
@@ -152,9 +153,9 @@ fn write_order<W: CountedWrite>(
     batch: &mut Vec<u8>,
     writer: &mut W,
 ) -> Result<(), WriteFault>
-    ensures sent { OnOk result (WritesBut W.contents W.failures writer.old writer.new
+    ensures sent { OnOk result (WritesBut (states W.contents W.failures writer.old writer.new)
         (batch.old.items ++ order_text order.now) batch.new.items) }
-    ensures broken { IfErr result (BreaksOff W.contents W.failures writer.old writer.new
+    ensures broken { IfErr result (FailsWriting (states W.contents W.failures writer.old writer.new)
         (batch.old.items ++ order_text order.now)) }
     ensures range { OnOk result (IsOrderInRange order.now) }
 {
@@ -176,9 +177,9 @@ pub fn write_orders<W: CountedWrite>(
     orders: &[KeyOrder],
     writer: &mut W,
 ) -> Result<(), WriteFault>
-    ensures written { OnOk result (Writes W.contents W.failures writer.old writer.new
+    ensures written { OnOk result (Writes (states W.contents W.failures writer.old writer.new)
         (orders_text orders.now)) }
-    ensures broken { IfErr result (BreaksOff W.contents W.failures writer.old writer.new
+    ensures broken { IfErr result (FailsWriting (states W.contents W.failures writer.old writer.new)
         (orders_text orders.now)) }
     ensures read { OnOk result (HaveDistinctKeys orders.now → AreFew orders.now
         → IsTextOfOrders (orders_text orders.now) orders.now) }

@@ -4,7 +4,7 @@ use Rattle.std.proofs.Math.Seq.{take-append-add}
 use Rattle.std.proofs.lemmas.List.{length-take-le, take-append-le}
 use Rattle.std.proofs.lemmas.Slice.{take-put_mid_below}
 use Rattle.std.specs.Io.KnownBytes.{Consumes, Keeps}
-use Rattle.counted_devices.specs.Consuming.{Consumes-join, Consumes-keeps}
+use Rattle.counted_devices.proofs.Consuming.{Consumes-join, Consumes-keeps}
 use borrow.Rule.Slice.PartMut.{put_mid, post_of}
 
 take-filled : (a k n : ℕ) (xs ys : List ℕ) → a ≤ length xs → n ≤ length ys → take (a + n) (put_mid a k xs ys) ≡ take a xs ++ take n ys

@@ -1,26 +1,38 @@
--- Lines that are taken one after another.
+-- Lines that are read one after another.
 use Rattle.std.proofs.Common.{ℕ, ◌≡◌, ◌<◌, ◌+◌, List, [], ◌∷◌, ◌++◌, length, Result, Ok, Err, refl, sym, ap, ◌∙◌, append_assoc, append-nil, length-append, arith, subst, inl, inr}
 use Rattle.std.specs.List.{AllZip}
+use Rattle.std.proofs.lemmas.List.{nil_from_length}
+use Rattle.std.specs.Prelude.{MatchResult}
 use Rattle.file_format.specs.declared.judge_lines.Judgement.{Judgement}
 use Rattle.file_format.specs.declared.fault.LineFault.{LineFault}
 use Rattle.file_format.specs.Faults.{FileFault, FaultKind}
 use Rattle.counted_devices.specs.declared.read_fault.FaultKind.TheVariants as kind
 use Rattle.history_file.specs.declared.progress.Progress.{Progress}
-use Rattle.file_format.specs.Lines.{Shows, ShowsItem}
+use Rattle.file_format.specs.Lines.{LineShows, ShowsItem}
 use Rattle.file_format.specs.Formats.{Format}
 use Rattle.file_format.specs.Files.{IsHeader, IsLineOf, AreSpelled, AreLinesOf, HasFault, IsFirstFault}
-use Rattle.history_file.specs.Takings.{IsFirstOfKind, IsAt, AreTaken, Takes, TakesJudged, TakesLine}
-use Rattle.file_format.specs.Zips.{AllZip-push_both, front_and_back}
+use Rattle.history_file.specs.FileFaults.{IsFirstOfKind}
+use Rattle.history_file.specs.LinesRead.{HasRead, HasReadLines, ReadsJudged, ReadsShown}
+use Rattle.file_format.proofs.Zips.{AllZip-push_both, front_and_back}
 
 module _ {Header Item Contents : Type 0} (format : Format Header Item) (Makes : Header → List Item → Contents → Type 0) where
   AreSpelled-push : (before : List (List ℕ)) (header : Header) (items : List Item) (line : List ℕ) (item : Item) → 0 < length before → AreSpelled format before header items → IsLineOf format header line item → AreSpelled format (before ++ line ∷ []) header (items ++ item ∷ [])
   AreSpelled-push [] header items line item some h l = absurd (omega arith)
   AreSpelled-push (first ∷ lines) header items line item some h l = (h.0, AllZip-push_both (IsLineOf format header) lines items line item h.1 l)
 
+  -- no line is read yet
+  pub nothing_read : (header : Header) (progress : Progress Contents) → format.Admits header [] → progress.lines ≡ 0 → HasRead format Makes [] header progress
+  nothing_read header progress fits none = record {
+    items = [];
+    sound = record { spelled = refl; fits = fits };
+    made = λ some. absurd (omega (arith, some));
+    counted = none;
+  }
+
   -- an item's line more
-  pub taken_item : (before : List (List ℕ)) (header : Header) (line : List ℕ) (old new : Progress Contents) (item : Item) (at : IsAt format Makes before header old) → 0 < length before → IsLineOf format header line item
-      → format.Fits header (at.items ++ item ∷ []) → Makes header (at.items ++ item ∷ []) new.contents → new.lines ≡ old.lines + 1 → IsAt format Makes (before ++ line ∷ []) header new
-  taken_item before header line old new item at some l fits made lines = record {
+  pub item_read : (before : List (List ℕ)) (header : Header) (line : List ℕ) (old new : Progress Contents) (item : Item) (at : HasRead format Makes before header old) → 0 < length before → IsLineOf format header line item
+      → format.Admits header (at.items ++ item ∷ []) → Makes header (at.items ++ item ∷ []) new.contents → new.lines ≡ old.lines + 1 → HasRead format Makes (before ++ line ∷ []) header new
+  item_read before header line old new item at some l fits made lines = record {
     items = at.items ++ item ∷ [];
     sound = record { spelled = AreSpelled-push before header at.items line item some at.sound.spelled l; fits = fits };
     made = λ any. made;
@@ -31,39 +43,38 @@ module _ {Header Item Contents : Type 0} (format : Format Header Item) (Makes : 
   faulty_behind [] header items line item fault some l h = absurd (omega arith)
   faulty_behind (first ∷ lines) header items line item fault some l h = inr (item, l, h)
 
-  faulty_itself : (before : List (List ℕ)) (header : Header) (items : List Item) (line : List ℕ) (fault : LineFault) → 0 < length before → Shows (format.meaning header) line (Err fault) → HasFault format before header items line fault
+  faulty_itself : (before : List (List ℕ)) (header : Header) (items : List Item) (line : List ℕ) (fault : LineFault) → 0 < length before → LineShows (format.meaning header) line (Err fault) → HasFault format before header items line fault
   faulty_itself [] header items line fault some h = absurd (omega arith)
   faulty_itself (first ∷ lines) header items line fault some h = inl h
 
-  first_at : (before : List (List ℕ)) (header : Header) (line : List ℕ) (old : Progress Contents) (fault : LineFault) (number : ℕ) (at : IsAt format Makes before header old) → number ≡ old.lines + 1 → HasFault format before header at.items line fault → IsFirstFault format (before ++ line ∷ []) number fault
-  first_at before header line old fault number at counted faulty = record {
+  -- the line after lines without a fault has the first
+  pub first_after : (before : List (List ℕ)) (line : List ℕ) (header : Header) (items : List Item) (number : ℕ) (fault : LineFault) → AreLinesOf format before header items → number ≡ length before + 1 → HasFault format before header items line fault → IsFirstFault format (before ++ line ∷ []) number fault
+  first_after before line header items number fault sound counted faulty = record {
     earlier = before;
     line = line;
     later = [];
     place = refl;
-    counted = omega (arith, counted, at.counted);
+    counted = counted;
     header = header;
-    items = at.items;
-    sound = at.sound;
+    items = items;
+    sound = sound;
     faulty = faulty;
   }
 
+  first_at : (before : List (List ℕ)) (header : Header) (line : List ℕ) (old : Progress Contents) (fault : LineFault) (number : ℕ) (at : HasRead format Makes before header old) → number ≡ old.lines + 1 → HasFault format before header at.items line fault → IsFirstFault format (before ++ line ∷ []) number fault
+  first_at before header line old fault number at counted faulty = first_after before line header at.items number fault at.sound (omega (arith, counted, at.counted)) faulty
+
   -- an item's line that has a fault where it stands
-  pub stopped_item : (before : List (List ℕ)) (header : Header) (line : List ℕ) (old : Progress Contents) (item : Item) (fault : LineFault) (number : ℕ) (at : IsAt format Makes before header old) → 0 < length before → IsLineOf format header line item → number ≡ old.lines + 1
+  pub stopped_item : (before : List (List ℕ)) (header : Header) (line : List ℕ) (old : Progress Contents) (item : Item) (fault : LineFault) (number : ℕ) (at : HasRead format Makes before header old) → 0 < length before → IsLineOf format header line item → number ≡ old.lines + 1
       → format.HasFault header at.items item fault → IsFirstFault format (before ++ line ∷ []) number fault
   stopped_item before header line old item fault number at some l counted h = first_at before header line old fault number at counted (faulty_behind before header at.items line item fault some l h)
 
   -- a line that has a fault by itself
-  pub stopped_line : (before : List (List ℕ)) (header : Header) (line : List ℕ) (old : Progress Contents) (fault : LineFault) (number : ℕ) (at : IsAt format Makes before header old) → 0 < length before → Shows (format.meaning header) line (Err fault) → number ≡ old.lines + 1
+  pub stopped_line : (before : List (List ℕ)) (header : Header) (line : List ℕ) (old : Progress Contents) (fault : LineFault) (number : ℕ) (at : HasRead format Makes before header old) → 0 < length before → LineShows (format.meaning header) line (Err fault) → number ≡ old.lines + 1
       → IsFirstFault format (before ++ line ∷ []) number fault
   stopped_line before header line old fault number at some h counted = first_at before header line old fault number at counted (faulty_itself before header at.items line fault some h)
 
-  -- no line was taken
-  lines_none : (before : List (List ℕ)) → length before ≡ 0 → before ≡ []
-  lines_none [] e = refl
-  lines_none (line ∷ lines) e = absurd (omega arith)
-
-  opened : (header : Header) (line : List ℕ) (new : Progress Contents) → IsHeader format line header → format.Fits header [] → Makes header [] new.contents → new.lines ≡ 1 → IsAt format Makes (line ∷ []) header new
+  opened : (header : Header) (line : List ℕ) (new : Progress Contents) → IsHeader format line header → format.Admits header [] → Makes header [] new.contents → new.lines ≡ 1 → HasRead format Makes (line ∷ []) header new
   opened header line new h fits made lines = record {
     items = [];
     sound = record { spelled = (h, tt); fits = fits };
@@ -72,36 +83,27 @@ module _ {Header Item Contents : Type 0} (format : Format Header Item) (Makes : 
   }
 
   -- the first line, which is the header
-  pub taken_header : (before : List (List ℕ)) (header : Header) (line : List ℕ) (old new : Progress Contents) → AreTaken format Makes before old → old.lines ≡ 0 → IsHeader format line header → format.Fits header [] → Makes header [] new.contents → new.lines ≡ 1 → AreTaken format Makes (before ++ line ∷ []) new
-  taken_header before header line old new at none h fits made lines =
-      let P : List (List ℕ) → Type 0 = λ ls. AreTaken format Makes (ls ++ line ∷ []) new in
-      subst P (sym (lines_none before (sym at.1.counted ∙ none))) (header, opened header line new h fits made lines)
+  pub header_read : (before : List (List ℕ)) (header : Header) (line : List ℕ) (old new : Progress Contents) → HasReadLines format Makes before old → old.lines ≡ 0 → IsHeader format line header → format.Admits header [] → Makes header [] new.contents → new.lines ≡ 1 → HasReadLines format Makes (before ++ line ∷ []) new
+  header_read before header line old new at none h fits made lines =
+      let P : List (List ℕ) → Type 0 = λ ls. HasReadLines format Makes (ls ++ line ∷ []) new in
+      subst P (sym (nil_from_length before (sym at.1.counted ∙ none))) (header, opened header line new h fits made lines)
 
-  first_stopped : (header : Header) (items : List Item) (line : List ℕ) (fault : LineFault) → AreLinesOf format [] header items → Shows format.heading line (Err fault) → IsFirstFault format (line ∷ []) 1 fault
-  first_stopped header items line fault sound h = record {
-    earlier = [];
-    line = line;
-    later = [];
-    place = refl;
-    counted = refl;
-    header = header;
-    items = items;
-    sound = sound;
-    faulty = h;
-  }
+  first_stopped : (header : Header) (items : List Item) (line : List ℕ) (fault : LineFault) → AreLinesOf format [] header items → LineShows format.heading line (Err fault) → IsFirstFault format (line ∷ []) 1 fault
+  first_stopped header items line fault sound h = first_after [] line header items 1 fault sound refl h
 
   -- the first line has that fault
-  pub stopped_header : (before : List (List ℕ)) (line : List ℕ) (old : Progress Contents) (fault : LineFault) → AreTaken format Makes before old → old.lines ≡ 0 → Shows format.heading line (Err fault) → IsFirstFault format (before ++ line ∷ []) 1 fault
+  pub stopped_header : (before : List (List ℕ)) (line : List ℕ) (old : Progress Contents) (fault : LineFault) → HasReadLines format Makes before old → old.lines ≡ 0 → LineShows format.heading line (Err fault) → IsFirstFault format (before ++ line ∷ []) 1 fault
   stopped_header before line old fault at none h =
-      let empty : before ≡ [] = lines_none before (sym at.1.counted ∙ none) in
+      let empty : before ≡ [] = nil_from_length before (sym at.1.counted ∙ none) in
       let P : List (List ℕ) → Type 0 = λ ls. IsFirstFault format (ls ++ line ∷ []) 1 fault in
       let Q : List (List ℕ) → Type 0 = λ ls. AreLinesOf format ls at.0 at.1.items in
       subst P (sym empty) (first_stopped at.0 at.1.items line fault (subst Q empty at.1.sound) h)
 
   -- one line after the header, said without it
-  pub line_taken : (before : List (List ℕ)) (header : Header) (line : List ℕ) (result : Result (Unit {0}) FileFault) (new : Progress Contents) → Takes format Makes before header (line ∷ []) result new → TakesLine format Makes before line result new
-  line_taken before header line (Ok done) new at = (header, at)
-  line_taken before header line (Err fault) new first = first
+  pub line_read : (before : List (List ℕ)) (header : Header) (line : List ℕ) (result : Result (Unit {0}) FileFault) (new : Progress Contents) → MatchResult result (λ done. HasRead format Makes (before ++ line ∷ []) header new) (λ fault. IsFirstOfKind format (before ++ line ∷ []) fault.line fault.kind)
+      → MatchResult result (λ done. HasReadLines format Makes (before ++ line ∷ []) new) (λ fault. IsFirstOfKind format (before ++ line ∷ []) fault.line fault.kind)
+  line_read before header line (Ok done) new at = (header, at)
+  line_read before header line (Err fault) new first = first
 
   -- lines after the first fault change nothing
   pub IsFirstFault-more : (lines more : List (List ℕ)) (number : ℕ) (k : FaultKind) → IsFirstOfKind format lines number k → IsFirstOfKind format (lines ++ more) number k
@@ -119,16 +121,16 @@ module _ {Header Item Contents : Type 0} (format : Format Header Item) (Makes : 
   IsFirstFault-more lines more number kind.Device h = h
   IsFirstFault-more lines more number kind.Memory h = tt
 
-  -- some of the lines were taken, and what is left is judged
+  -- some of the lines were read, and what is left is judged
   pub record Half (before : List (List ℕ)) (header : Header) (lines : List (List ℕ)) (new : Progress Contents) (judgements : List (Judgement Item)) : Type 0 where
     pub done : List (List ℕ)
     pub rest : List (List ℕ)
     pub whole : lines ≡ done ++ rest
-    pub at : IsAt format Makes (before ++ done) header new
+    pub at : HasRead format Makes (before ++ done) header new
     pub shown : AllZip (ShowsItem (format.meaning header)) rest judgements
 
   pub record Goes (header : Header) (lines : List (List ℕ)) (old new : Progress Contents) (judgements : List (Judgement Item)) : Type 0 where
-    pub each : (before : List (List ℕ)) → IsAt format Makes before header old → 0 < length before → Half before header lines new judgements
+    pub each : (before : List (List ℕ)) → HasRead format Makes before header old → 0 < length before → Half before header lines new judgements
 
   pub Goes-start : (header : Header) (lines : List (List ℕ)) (old : Progress Contents) (judgements : List (Judgement Item)) → AllZip (ShowsItem (format.meaning header)) lines judgements → Goes header lines old old judgements
   Goes-start header lines old judgements shown = record {
@@ -136,7 +138,7 @@ module _ {Header Item Contents : Type 0} (format : Format Header Item) (Makes : 
       done = [];
       rest = lines;
       whole = refl;
-      at = let P : List (List ℕ) → Type 0 = λ ls. IsAt format Makes ls header old in subst P (sym (append-nil before)) at;
+      at = let P : List (List ℕ) → Type 0 = λ ls. HasRead format Makes ls header old in subst P (sym (append-nil before)) at;
       shown = shown;
     };
   }
@@ -144,46 +146,41 @@ module _ {Header Item Contents : Type 0} (format : Format Header Item) (Makes : 
   some_more : (before done : List (List ℕ)) → 0 < length before → 0 < length (before ++ done)
   some_more before done some = omega (arith, length-append before done)
 
-  half_step : (header : Header) (before lines done rest : List (List ℕ)) (mid new : Progress Contents) (j : Judgement Item) (js : List (Judgement Item)) → 0 < length before → lines ≡ done ++ rest → IsAt format Makes (before ++ done) header mid → AllZip (ShowsItem (format.meaning header)) rest (j ∷ js) → TakesJudged format Makes mid j (Ok tt) new → Half before header lines new js
+  half_step : (header : Header) (before lines done rest : List (List ℕ)) (mid new : Progress Contents) (j : Judgement Item) (js : List (Judgement Item)) → 0 < length before → lines ≡ done ++ rest → HasRead format Makes (before ++ done) header mid → AllZip (ShowsItem (format.meaning header)) rest (j ∷ js) → ReadsJudged format Makes mid j (Ok tt) (λ (done : Unit {0}). new) → Half before header lines new js
   half_step header before lines done [] mid new j js some whole at shown takes = absurd shown
   half_step header before lines done (line ∷ rest) mid new j js some whole at shown takes = record {
     done = done ++ line ∷ [];
     rest = rest;
     whole = whole ∙ sym (append_assoc done (line ∷ []) rest);
-    at = let P : List (List ℕ) → Type 0 = λ ls. IsAt format Makes ls header new in subst P (append_assoc before done (line ∷ [])) (takes (before ++ done) header line at (some_more before done some) shown.0);
+    at = let P : List (List ℕ) → Type 0 = λ ls. HasRead format Makes ls header new in subst P (append_assoc before done (line ∷ [])) (takes header line shown.0 (before ++ done) at (some_more before done some));
     shown = shown.1;
   }
 
-  pub Goes-step : (header : Header) (lines : List (List ℕ)) (old mid new : Progress Contents) (j : Judgement Item) (js : List (Judgement Item)) → Goes header lines old mid (j ∷ js) → TakesJudged format Makes mid j (Ok tt) new → Goes header lines old new js
+  pub Goes-step : (header : Header) (lines : List (List ℕ)) (old mid new : Progress Contents) (j : Judgement Item) (js : List (Judgement Item)) → Goes header lines old mid (j ∷ js) → ReadsJudged format Makes mid j (Ok tt) (λ (done : Unit {0}). new) → Goes header lines old new js
   Goes-step header lines old mid new j js goes takes = record {
     each = λ before at some. let h = goes.each before at some in half_step header before lines h.done h.rest mid new j js some h.whole h.at h.shown takes;
   }
 
-  half_stop : (header : Header) (before lines done rest : List (List ℕ)) (mid new : Progress Contents) (j : Judgement Item) (js : List (Judgement Item)) (fault : FileFault) → 0 < length before → lines ≡ done ++ rest → IsAt format Makes (before ++ done) header mid → AllZip (ShowsItem (format.meaning header)) rest (j ∷ js) → TakesJudged format Makes mid j (Err fault) new → IsFirstOfKind format (before ++ lines) fault.line fault.kind
+  half_stop : (header : Header) (before lines done rest : List (List ℕ)) (mid new : Progress Contents) (j : Judgement Item) (js : List (Judgement Item)) (fault : FileFault) → 0 < length before → lines ≡ done ++ rest → HasRead format Makes (before ++ done) header mid → AllZip (ShowsItem (format.meaning header)) rest (j ∷ js) → ReadsJudged format Makes mid j (Err fault) (λ (done : Unit {0}). new) → IsFirstOfKind format (before ++ lines) fault.line fault.kind
   half_stop header before lines done [] mid new j js fault some whole at shown takes = absurd shown
   half_stop header before lines done (line ∷ rest) mid new j js fault some whole at shown takes =
       let P : List (List ℕ) → Type 0 = λ ls. IsFirstOfKind format ls fault.line fault.kind in
-      let one = takes (before ++ done) header line at (some_more before done some) shown.0 in
+      let one = takes header line shown.0 (before ++ done) at (some_more before done some) in
       let same : ((before ++ done) ++ line ∷ []) ++ rest ≡ before ++ lines =
       append_assoc (before ++ done) (line ∷ []) rest ∙ append_assoc before done (line ∷ rest) ∙ ap (λ (ls : List (List ℕ)). before ++ ls) (sym whole) in
       subst P same (IsFirstFault-more ((before ++ done) ++ line ∷ []) rest fault.line fault.kind one)
 
-  pub Goes-stop : (header : Header) (lines : List (List ℕ)) (old mid new : Progress Contents) (j : Judgement Item) (js : List (Judgement Item)) (fault : FileFault) → Goes header lines old mid (j ∷ js) → TakesJudged format Makes mid j (Err fault) new → (before : List (List ℕ)) → IsAt format Makes before header old → 0 < length before → IsFirstOfKind format (before ++ lines) fault.line fault.kind
+  pub Goes-stop : (header : Header) (lines : List (List ℕ)) (old mid new : Progress Contents) (j : Judgement Item) (js : List (Judgement Item)) (fault : FileFault) → Goes header lines old mid (j ∷ js) → ReadsJudged format Makes mid j (Err fault) (λ (done : Unit {0}). new) → (before : List (List ℕ)) → HasRead format Makes before header old → 0 < length before → IsFirstOfKind format (before ++ lines) fault.line fault.kind
   Goes-stop header lines old mid new j js fault goes takes before at some =
       let h = goes.each before at some in half_stop header before lines h.done h.rest mid new j js fault some h.whole h.at h.shown takes
 
-  -- what becomes of the lines that show that, after others
-  abbrev pub TakesRun : List (Judgement Item) → Progress Contents → Result (Unit {0}) FileFault → Progress Contents → Type 0
-  TakesRun js old result new =
-      (header : Header) (lines : List (List ℕ)) → AllZip (ShowsItem (format.meaning header)) lines js → (before : List (List ℕ)) → IsAt format Makes before header old → 0 < length before → Takes format Makes before header lines result new
-
   -- a run of lines more
-  pub Goes-run : (header : Header) (lines : List (List ℕ)) (old mid new : Progress Contents) (js more : List (Judgement Item)) → Goes header lines old mid (js ++ more) → TakesRun js mid (Ok tt) new → Goes header lines old new more
+  pub Goes-run : (header : Header) (lines : List (List ℕ)) (old mid new : Progress Contents) (js more : List (Judgement Item)) → Goes header lines old mid (js ++ more) → ReadsShown format Makes mid js (Ok tt) (λ (done : Unit {0}). new) → Goes header lines old new more
   Goes-run header lines old mid new js more goes takes = record {
     each = λ before at some.
         let h = goes.each before at some in
         let p = front_and_back (ShowsItem (format.meaning header)) h.rest js more h.shown in
-        let P : List (List ℕ) → Type 0 = λ ls. IsAt format Makes ls header new in
+        let P : List (List ℕ) → Type 0 = λ ls. HasRead format Makes ls header new in
         record {
           done = h.done ++ p.front;
           rest = p.back;
@@ -193,7 +190,7 @@ module _ {Header Item Contents : Type 0} (format : Format Header Item) (Makes : 
         };
   }
 
-  pub Goes-run_stop : (header : Header) (lines : List (List ℕ)) (old mid new : Progress Contents) (js more : List (Judgement Item)) (fault : FileFault) → Goes header lines old mid (js ++ more) → TakesRun js mid (Err fault) new → (before : List (List ℕ)) → IsAt format Makes before header old → 0 < length before → IsFirstOfKind format (before ++ lines) fault.line fault.kind
+  pub Goes-run_stop : (header : Header) (lines : List (List ℕ)) (old mid new : Progress Contents) (js more : List (Judgement Item)) (fault : FileFault) → Goes header lines old mid (js ++ more) → ReadsShown format Makes mid js (Err fault) (λ (done : Unit {0}). new) → (before : List (List ℕ)) → HasRead format Makes before header old → 0 < length before → IsFirstOfKind format (before ++ lines) fault.line fault.kind
   Goes-run_stop header lines old mid new js more fault goes takes before at some =
       let h = goes.each before at some in
       let p = front_and_back (ShowsItem (format.meaning header)) h.rest js more h.shown in
@@ -203,9 +200,9 @@ module _ {Header Item Contents : Type 0} (format : Format Header Item) (Makes : 
       append_assoc (before ++ h.done) p.front p.back ∙ append_assoc before h.done (p.front ++ p.back) ∙ ap (λ (ls : List (List ℕ)). before ++ (h.done ++ ls)) (sym p.whole) ∙ ap (λ (ls : List (List ℕ)). before ++ ls) (sym h.whole) in
       subst P same (IsFirstFault-more ((before ++ h.done) ++ p.front) p.back fault.line fault.kind one)
 
-  half_end : (header : Header) (before lines done rest : List (List ℕ)) (new : Progress Contents) → lines ≡ done ++ rest → IsAt format Makes (before ++ done) header new → AllZip (ShowsItem (format.meaning header)) rest [] → IsAt format Makes (before ++ lines) header new
-  half_end header before lines done [] new whole at shown = let P : List (List ℕ) → Type 0 = λ ls. IsAt format Makes (before ++ ls) header new in subst P (sym (append-nil done) ∙ sym whole) at
+  half_end : (header : Header) (before lines done rest : List (List ℕ)) (new : Progress Contents) → lines ≡ done ++ rest → HasRead format Makes (before ++ done) header new → AllZip (ShowsItem (format.meaning header)) rest [] → HasRead format Makes (before ++ lines) header new
+  half_end header before lines done [] new whole at shown = let P : List (List ℕ) → Type 0 = λ ls. HasRead format Makes (before ++ ls) header new in subst P (sym (append-nil done) ∙ sym whole) at
   half_end header before lines done (line ∷ rest) new whole at shown = absurd shown
 
-  pub Goes-end : (header : Header) (lines : List (List ℕ)) (old new : Progress Contents) → Goes header lines old new [] → (before : List (List ℕ)) → IsAt format Makes before header old → 0 < length before → IsAt format Makes (before ++ lines) header new
+  pub Goes-end : (header : Header) (lines : List (List ℕ)) (old new : Progress Contents) → Goes header lines old new [] → (before : List (List ℕ)) → HasRead format Makes before header old → 0 < length before → HasRead format Makes (before ++ lines) header new
   Goes-end header lines old new goes before at some = let h = goes.each before at some in half_end header before lines h.done h.rest new h.whole h.at h.shown

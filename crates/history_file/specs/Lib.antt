@@ -1,9 +1,8 @@
 pub mod KeyedOrders
 pub mod Beginnings
-pub mod Takings
+pub mod FileFaults
+pub mod LinesRead
 pub mod Making
 pub mod Feeds
 pub mod Ahead
 pub mod Batches
-pub mod Deliveries
-pub mod PublicFeeds

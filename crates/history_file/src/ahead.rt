@@ -1,4 +1,4 @@
-//! A file whose lines are judged ahead of where they are taken.
+//! A file whose lines are judged ahead of where they are read.
 ghost use Rattle.std.specs.Prelude.{ℕ, ◌≡◌, ◌≤◌, ◌<◌, ◌+◌, ◌^◌, ◌++◌, List, [], None, length, IfOk, MatchResult};
 ghost use Rattle.std.specs.Thread.{IsSync};
 ghost use Rattle.counted_devices.specs.Cuts.{HasNoEnd};
@@ -16,7 +16,7 @@ use tag::Memory;
 /// The least bytes of a batch that is worth a thread.
 pub const LEAST: usize = 65_536;
 
-/// What the lines so far made but for the last block's, which were judged and are taken while the
+/// What the lines so far made but for the last block's, which were judged and are read while the
 /// next block is judged.
 #[derive(Drop)]
 pub struct Ahead<C, T> {
@@ -29,7 +29,8 @@ pub struct Ahead<C, T> {
 }
 
 impl<C: Contents> Ahead<C, C::Item> {
-    ghost use Rattle.history_file.specs.Ahead.{IsJudged, Records, IsAhead, StandsAhead, GoesAhead, CatchesUp, Settles};
+    ghost use Rattle.history_file.specs.Ahead.{IsJudged, IsAhead, StandsAhead, GoesAhead, CatchesUp, BecomesFeed};
+    ghost use Rattle.history_file.specs.LinesRead.{ReadsShown};
 
     /// No byte yet.
     pub(crate) fn new(alloc: Global) -> Ahead<C, C::Item>
@@ -49,7 +50,7 @@ impl<C: Contents> Ahead<C, C::Item> {
         }
     }
 
-    /// Takes the lines that were judged.
+    /// Adds the lines that were judged.
     fn catch_up(self) -> Result<Ahead<C, C::Item>, FileFault>
         ensures goes { (bytes : List ℕ) → IsAhead C.format C.Makes bytes self
             → CatchesUp C.format C.Makes bytes result }
@@ -76,9 +77,9 @@ impl<C: Contents> Ahead<C, C::Item> {
     }
 
     /// The feed that stands for all bytes so far.
-    pub(crate) fn settle(self) -> Result<Feed<C>, FileFault>
-        ensures settles { (bytes : List ℕ) → StandsAhead C.format C.Makes bytes self
-            → Settles C.format C.Makes bytes result }
+    pub(crate) fn into_feed(self) -> Result<Feed<C>, FileFault>
+        ensures becomes { (bytes : List ℕ) → StandsAhead C.format C.Makes bytes self
+            → BecomesFeed C.format C.Makes bytes result }
         ensures fed { IfOk result (λ feed. (feed.fed ≡ self.fed) × (feed.fault ≡ None)) }
     {
         let Ahead {
@@ -94,8 +95,8 @@ impl<C: Contents> Ahead<C, C::Item> {
         })
     }
 
-    /// Takes a block at once.
-    fn take_at_once(
+    /// Reads a block at once.
+    fn read_at_once(
         self,
         rt: &(impl Threads + Sync),
         tools: &ToolSets,
@@ -106,7 +107,7 @@ impl<C: Contents> Ahead<C, C::Item> {
             → GoesAhead C.format C.Makes (bytes ++ block.now) result }
         ensures count { IfOk result (λ new. new.fed ≡ self.fed + length block.now) }
     {
-        let mut feed = self.settle()?;
+        let mut feed = self.into_feed()?;
         feed.feed(rt, tools, block)?;
         let Feed {
             progress,
@@ -138,8 +139,8 @@ impl<C: Contents> Ahead<C, C::Item> {
         })
     }
 
-    /// Judges the next block while the lines before it are taken. A block that isn't worth a
-    /// thread, or before which no line came, is taken at once.
+    /// Judges the next block while the lines before it are read. A block that isn't worth a
+    /// thread, or before which no line came, is read at once.
     pub(crate) fn advance<R: Threads + Sync>(
         self,
         rt: &R,
@@ -152,7 +153,7 @@ impl<C: Contents> Ahead<C, C::Item> {
         ensures count { IfOk result (λ new. new.fed ≡ self.fed + length block.now) }
     {
         if self.progress.lines == 0 || block.len() < LEAST {
-            return self.take_at_once(rt, tools, block);
+            return self.read_at_once(rt, tools, block);
         }
         let Ahead {
             progress,
@@ -161,11 +162,11 @@ impl<C: Contents> Ahead<C, C::Item> {
         } = self;
         let alloc = *rest.allocator();
         let header = progress.contents.header();
-        let (taken, next) = join(
+        let (read, next) = join(
             rt,
             || -> Result<Progress<C>, FileFault>
                 requires { progress.lines + length judgements < 2 ^ 63 }
-                ensures taken { Records C.format C.Makes progress judgements result }
+                ensures read { ReadsShown C.format C.Makes progress judgements result (λ new. new) }
                 ensures lines { IfOk result (λ new. new.lines
                     ≡ progress.lines + length judgements) }
             { progress.record_owned(judgements) },
@@ -177,7 +178,7 @@ impl<C: Contents> Ahead<C, C::Item> {
                     + length judged.rest.items ≤ length rest.items + length block.entry.now) }
             { judge_block::<C, R>(rt, alloc, header, tools, rest.as_slice(), block) },
         );
-        let progress = taken?;
+        let progress = read?;
         let Ok(judged) = next else {
             return Err(FileFault::at(progress.lines + 1, Stop::Memory));
         };

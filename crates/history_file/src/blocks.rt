@@ -1,4 +1,4 @@
-//! Blocks of a file, cut into lines that are taken.
+//! Blocks of a file, cut into lines that are read.
 ghost use Rattle.std.specs.Prelude.{◌≡◌, ◌<◌, ◌≤◌, ◌+◌, ◌^◌, ◌++◌, length, IfOk, MatchResult};
 ghost use Rattle.counted_devices.specs.Cuts.{HasNoEnd};
 ghost use Rattle.history_file.specs.Feeds.{IsShort, Passes};
@@ -34,7 +34,7 @@ fn check_length(lines: u64, rest: &[u8]) -> Result<(), FileFault>
     Ok(())
 }
 
-/// Takes the whole lines of the bytes after the header, and gives the rest.
+/// Reads the whole lines of the bytes after the header, and gives the rest.
 fn pass<C: Contents>(
     rt: &(impl Threads + Sync),
     alloc: Global,
@@ -52,7 +52,7 @@ fn pass<C: Contents>(
     let Ok(found) = cut_chunks(alloc, bytes) else {
         return Err(memory_at(progress.lines + 1));
     };
-    progress.take_chunks(rt, alloc, tools, found.chunks.as_slice())?;
+    progress.read_chunks(rt, alloc, tools, found.chunks.as_slice())?;
     check_length(progress.lines, found.rest)?;
     match Vec::from_slice(alloc, found.rest) {
         Ok(rest) => Ok(rest),
@@ -72,10 +72,10 @@ fn lengthen(lines: u64, rest: &mut Vec<u8>, bytes: &[u8]) -> Result<(), FileFaul
     Ok(())
 }
 
-/// Takes the whole lines of the rest and the block after it; the rest is then what is left.
+/// Reads the whole lines of the rest and the block after it; the rest is then what is left.
 ///
-/// The block's first line is put after the rest; the others are taken where they lie.
-pub(crate) fn take_block<C: Contents>(
+/// The block's first line is put after the rest; the others are read where they lie.
+pub(crate) fn read_block<C: Contents>(
     rt: &(impl Threads + Sync),
     tools: &ToolSets,
     progress: &mut Progress<C>,
@@ -95,7 +95,7 @@ pub(crate) fn take_block<C: Contents>(
     };
     lengthen(progress.lines, rest, &block[..end])?;
     let alloc = *rest.allocator();
-    progress.take_line(rt, alloc, tools, rest.as_slice())?;
+    progress.read_line(rt, alloc, tools, rest.as_slice())?;
     *rest = pass(rt, alloc, tools, progress, &block[end + 1..])?;
     Ok(())
 }

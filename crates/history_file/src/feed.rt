@@ -2,7 +2,7 @@
 ghost use Rattle.std.specs.Prelude.{ℕ, ◌≡◌, ◌≤◌, ◌+◌, ◌^◌, ◌++◌, List, [], Some, None, length};
 ghost use Rattle.std.specs.Prelude.{IfOk, IfErr, MatchResult};
 
-use crate::blocks::take_block;
+use crate::blocks::read_block;
 use crate::format::Contents;
 use crate::progress::Progress;
 use file_format::{FaultKind, FileFault, LineFault, ToolSets};
@@ -21,11 +21,14 @@ pub struct Feed<C> {
 }
 
 impl<C: Contents> Feed<C> {
-    ghost use Rattle.history_file.specs.Feeds.{Stands, FeedAnswers, Ends};
+    ghost use Rattle.counted_devices.specs.FirstFaults.{FileAnswers};
+    ghost use Rattle.file_format.specs.Readings.{Reads};
+    ghost use Rattle.history_file.specs.FileFaults.{file_faults};
+    ghost use Rattle.history_file.specs.Feeds.{FeedsOn, StandsForLines};
 
     /// No byte yet.
     pub(crate) fn new(alloc: Global) -> Feed<C>
-        ensures { Stands C.format C.Makes [] result }
+        ensures { StandsForLines C.format C.Makes [] result }
     {
         Feed {
             progress: Progress {
@@ -45,7 +48,7 @@ impl<C: Contents> Feed<C> {
         self.progress.lines.saturating_add(1)
     }
 
-    /// Takes the next block.
+    /// Reads the next block.
     pub(crate) fn feed(
         &mut self,
         rt: &(impl Threads + Sync),
@@ -53,8 +56,7 @@ impl<C: Contents> Feed<C> {
         block: &[u8],
     ) -> Result<(), FileFault>
         requires { self.old.fed + length block.now ≤ 2 ^ 62 }
-        ensures fed { (bytes : List ℕ) → Stands C.format C.Makes bytes self.old
-            → FeedAnswers C.format C.Makes (bytes ++ block.now) result self.new }
+        ensures fed { FeedsOn C.format C.Makes self.old block.now result self.new }
         ensures count { MatchResult result (λ _. self.new.fed ≡ self.old.fed + length block.now)
             (λ _. self.new.fed ≡ self.old.fed) }
         ensures sound { IfOk result (λ _. self.new.fault ≡ None) }
@@ -65,7 +67,7 @@ impl<C: Contents> Feed<C> {
         if let Some(fault) = self.fault {
             return Err(fault);
         }
-        match take_block(rt, tools, &mut self.progress, &mut self.rest, block) {
+        match read_block(rt, tools, &mut self.progress, &mut self.rest, block) {
             Ok(()) => {
                 self.fed += block.len() as u64;
                 Ok(())
@@ -79,8 +81,8 @@ impl<C: Contents> Feed<C> {
 
     /// Ends the file.
     pub(crate) fn finish(self, rt: &(impl Threads + Sync), tools: &ToolSets) -> Result<C, FileFault>
-        ensures ends { (bytes : List ℕ) → Stands C.format C.Makes bytes self
-            → Ends C.format C.Makes bytes result }
+        ensures ends { (bytes : List ℕ) → StandsForLines C.format C.Makes bytes self
+            → FileAnswers (file_faults C.format) (Reads C.format C.Makes) bytes result }
         ensures kept { (fault : _) → self.fault ≡ Some fault → result ≡ Err fault }
     {
         let Feed {
@@ -93,7 +95,7 @@ impl<C: Contents> Feed<C> {
             return Err(fault);
         }
         if !rest.is_empty() {
-            progress.take_line(rt, *rest.allocator(), tools, rest.as_slice())?;
+            progress.read_line(rt, *rest.allocator(), tools, rest.as_slice())?;
         }
         if progress.lines == 0 {
             return Err(FileFault {

@@ -3,10 +3,13 @@ ghost use Rattle.std.specs.Prelude.{◌≡◌, List, [], ℕ, IfOk, map};
 ghost use Rattle.std.specs.Thread.{IsSync};
 ghost use Rattle.file_format.specs.Lines.{ShowChunks};
 ghost use Rattle.file_format.specs.Formats.{Format, Follows};
-ghost use Rattle.history_file.specs.Beginnings.{Begins};
+ghost use Rattle.file_format.specs.Readings.{Reads};
+ghost use Rattle.counted_devices.specs.FirstFaults.{FileAnswers};
+ghost use Rattle.history_file.specs.Beginnings.{BeginsFile};
+ghost use Rattle.history_file.specs.FileFaults.{file_faults};
 
 use crate::judgements::Judgements;
-use file_format::{Stop, ToolSets};
+use file_format::{FileFault, Stop, ToolSets};
 use std::alloc::Global;
 use std::thread::Threads;
 use tag::Memory;
@@ -18,21 +21,26 @@ pub trait Contents: Drop + Send {
 
     type Item: Drop + Send;
 
+    /// What the lines of a whole file are to those who read it.
+    type Whole: Drop + Send;
+
     ghost format: { Format Self.Header Self.Item };
 
     ghost Makes: { Self.Header → List Self.Item → Self → Type 0 };
+
+    ghost ReadsWhole: { List ℕ → Self.Whole → Type 0 };
 
     /// What stands here before the first line.
     fn opening(alloc: Global) -> Self
     where
         Self: Sized,
-        ensures some { (header : Self.Header) × format.Fits header [] };
+        ensures some { (header : Self.Header) × format.Admits header [] };
 
     /// What the first line makes.
     fn begin(alloc: Global, line: &[u8]) -> Result<Self, Stop>
     where
         Self: Sized,
-        ensures { Begins format Makes line.now result };
+        ensures { BeginsFile format Makes line.now result };
 
     /// What the first line said.
     fn header(&self) -> Self::Header
@@ -52,8 +60,15 @@ pub trait Contents: Drop + Send {
         ensures { IfOk result (λ judgements. ShowChunks (format.meaning header)
             (map (λ chunk. chunk.now) chunks.now) judgements) };
 
-    /// Takes the next item, or says which fault it has after the others.
+    /// Adds the next item, or says which fault it has after the others.
     fn follow(&mut self, item: Self::Item) -> Result<(), Stop>
         ensures { (header : Self.Header) (items : List Self.Item) → Makes header items self.old
-            → format.Fits header items → Follows format Makes header items item result self.new };
+            → format.Admits header items → Follows format Makes header items item result self.new };
+
+    /// What the contents of a whole file are.
+    fn whole(self) -> Result<Self::Whole, FileFault>
+    where
+        Self: Sized,
+        ensures { (bytes : List ℕ) → Reads format Makes bytes self
+            → FileAnswers (file_faults format) ReadsWhole bytes result };
 }

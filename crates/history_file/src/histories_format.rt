@@ -1,13 +1,16 @@
 //! The format of history files of either version.
-ghost use Rattle.file_format.specs.HistoriesFormat.{histories_format};
+ghost use Rattle.file_format.specs.HistoriesFormat.{histories_format, MakesHistories};
+ghost use Rattle.file_format.specs.Readings.{Reads};
 ghost use Rattle.history_file.specs.Making.{MakesHalls};
 
 use crate::format::Contents;
 use crate::judgements::Judgements;
 use crate::side_by_side::judge_chunks;
 use file_format::{
-    FileHeader, HallHistories, HallRow, LineFault, Stop, ToolSets, judge_file_header,
+    FaultKind, FileFault, FileHeader, HallHistories, HallRow, LineFault, Stop, ToolSets,
+    judge_file_header,
 };
+use recorder::Histories;
 use std::alloc::Global;
 use std::thread::Threads;
 use tag::Memory;
@@ -18,9 +21,13 @@ impl Contents for Option<HallHistories> {
 
     type Item = HallRow;
 
+    type Whole = Histories;
+
     ghost format = { histories_format };
 
     ghost Makes = { MakesHalls };
+
+    ghost ReadsWhole = { Reads histories_format MakesHistories };
 
     fn opening(_alloc: Global) -> Option<HallHistories> {
         None
@@ -55,6 +62,16 @@ impl Contents for Option<HallHistories> {
         match self {
             Some(histories) => histories.follow(item),
             None => Err(Stop::Fault(LineFault::NoHeader)),
+        }
+    }
+
+    fn whole(self) -> Result<Histories, FileFault> {
+        match self {
+            Some(histories) => Ok(histories.into_histories()),
+            None => Err(FileFault {
+                line: 1,
+                kind: FaultKind::Line(LineFault::NoHeader),
+            }),
         }
     }
 }

@@ -1,11 +1,12 @@
 //! The format of history files.
 ghost use Rattle.std.specs.Prelude.{◌≡◌, []};
 ghost use Rattle.file_format.specs.HistoryFormat.{history_format, MakesHistory};
+ghost use Rattle.file_format.specs.Readings.{Reads};
 
 use crate::format::Contents;
 use crate::judgements::Judgements;
 use crate::side_by_side::judge_chunks;
-use file_format::{LineRow, MOST_CALLS, Stop, ToolSets, follow, judge_header};
+use file_format::{FileFault, LineRow, MOST_CALLS, Stop, ToolSets, follow, judge_header};
 use recorder::History;
 use std::alloc::Global;
 use std::marker::Model;
@@ -40,7 +41,7 @@ impl FileHistory {
     }
 
     /// The history.
-    pub(crate) fn into_history(self) -> History
+    fn into_history(self) -> History
         ensures { result ≡ self }
     {
         self.history
@@ -52,9 +53,13 @@ impl Contents for FileHistory {
 
     type Item = LineRow;
 
+    type Whole = History;
+
     ghost format = { history_format };
 
     ghost Makes = { MakesHistory };
+
+    ghost ReadsWhole = { Reads history_format MakesHistory };
 
     fn opening(alloc: Global) -> FileHistory {
         FileHistory::new(alloc)
@@ -79,5 +84,9 @@ impl Contents for FileHistory {
 
     fn follow(&mut self, row: LineRow) -> Result<(), Stop> {
         follow(&mut self.history, row)
+    }
+
+    fn whole(self) -> Result<History, FileFault> {
+        Ok(self.into_history())
     }
 }

@@ -4,7 +4,7 @@
 //! A file comes in blocks of any size, from a reader or from the caller. What was read is what the
 //! lines say one for one, to the reader's end; a file with a fault is refused with its first one.
 //! A line is read where it lies. Of each chunk of lines one copy is made, which the keys of its
-//! lines share until the lines are taken; beside it only what a line adds to the answer is copied.
+//! lines share until the lines are read; beside it only what a line adds to the answer is copied.
 #![tactic(auto)]
 
 mod ahead;
@@ -13,19 +13,14 @@ mod blocks;
 mod feed;
 mod file_feed;
 mod format;
-mod histories_feed;
 mod histories_format;
-mod history_feed;
 mod history_format;
 mod judge_blocks;
 mod judgements;
-mod order_feed;
 mod order_format;
 mod progress;
 mod reading;
 mod side_by_side;
 
-pub use histories_feed::HistoriesFeed;
-pub use history_feed::HistoryFeed;
-pub use order_feed::OrderFeed;
+pub use file_feed::{HistoriesFeed, HistoryFeed, OrderFeed};
 pub use reading::{read_histories, read_history, read_orders};

@@ -1,12 +1,13 @@
 //! The format of order files.
 ghost use Rattle.std.specs.Prelude.{◌≡◌, ◌≤◌, []};
-ghost use Rattle.file_format.specs.OrderFormat.{order_format};
+ghost use Rattle.file_format.specs.OrderFormat.{order_format, MakesJoined};
+ghost use Rattle.file_format.specs.Readings.{Reads};
 
 use crate::format::Contents;
 use crate::judgements::Judgements;
 use crate::side_by_side::judge_chunks;
 use file_format::{
-    JoinedOrders, LineFault, MOST_CALLS, OrderPiece, Stop, ToolSets, join, judge_header,
+    FileFault, JoinedOrders, LineFault, MOST_CALLS, OrderPiece, Stop, ToolSets, join, judge_header,
 };
 use recorder::KeyOrder;
 use std::alloc::Global;
@@ -44,7 +45,7 @@ impl Orders {
     }
 
     /// The orders, in the order of their keys.
-    pub(crate) fn into_list(self) -> Vec<KeyOrder>
+    fn into_list(self) -> Vec<KeyOrder>
         ensures { result.items ≡ self.orders }
     {
         self.orders.into_list()
@@ -58,9 +59,13 @@ impl Contents for Orders {
 
     type Item = OrderPiece;
 
+    type Whole = Vec<KeyOrder>;
+
     ghost format = { order_format };
 
     ghost Makes = { MakesOrders };
+
+    ghost ReadsWhole = { λ bytes orders. Reads order_format MakesJoined bytes orders.items };
 
     fn opening(alloc: Global) -> Orders {
         Orders::new(alloc)
@@ -91,5 +96,9 @@ impl Contents for Orders {
         join(&mut self.orders, piece)?;
         self.calls += count;
         Ok(())
+    }
+
+    fn whole(self) -> Result<Vec<KeyOrder>, FileFault> {
+        Ok(self.into_list())
     }
 }

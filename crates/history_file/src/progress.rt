@@ -1,9 +1,8 @@
-//! How far the lines of a file were taken.
+//! How far the lines of a file were read.
 ghost use Rattle.std.specs.Prelude.{ℕ, ◌≡◌, ◌<◌, ◌≤◌, ◌+◌, ◌^◌, List, [], ◌∷◌, length, map, IfOk, OnOk};
 ghost use Rattle.std.specs.List.{flat_map};
-ghost use Rattle.history_file.specs.Ahead.{Records};
 ghost use Rattle.counted_devices.specs.Cuts.{HasNoEnd, with_end};
-ghost use Rattle.history_file.specs.Takings.{AreTaken, TakesJudged, TakesLine, TakesChunks, TakesShown};
+ghost use Rattle.history_file.specs.LinesRead.{ReadsChunks, ReadsJudged, ReadsLine, ReadsShown};
 
 use crate::format::Contents;
 use crate::judgements::Judgements;
@@ -19,11 +18,10 @@ pub struct Progress<C> {
 }
 
 impl<C: Contents> Progress<C> {
-    /// Takes the first line.
-    fn take_header(&mut self, alloc: Global, line: &[u8]) -> Result<(), FileFault>
+    /// Reads the first line.
+    fn read_header(&mut self, alloc: Global, line: &[u8]) -> Result<(), FileFault>
         requires { self.old.lines ≡ 0 }
-        ensures taken { (before : List (List ℕ)) → AreTaken C.format C.Makes before self.old
-            → TakesLine C.format C.Makes before line.now result self.new }
+        ensures read { ReadsLine C.format C.Makes self.old line.now result (λ _. self.new) }
         ensures lines { OnOk result (self.new.lines ≡ 1) }
     {
         match C::begin(alloc, line) {
@@ -36,10 +34,10 @@ impl<C: Contents> Progress<C> {
         }
     }
 
-    /// Takes what a later line shows.
-    fn take_judgement(&mut self, judgement: Judgement<C::Item>) -> Result<(), FileFault>
+    /// Adds what a later line shows.
+    fn add_judgement(&mut self, judgement: Judgement<C::Item>) -> Result<(), FileFault>
         requires { self.old.lines < 2 ^ 63 }
-        ensures taken { TakesJudged C.format C.Makes self.old judgement result self.new }
+        ensures read { ReadsJudged C.format C.Makes self.old judgement result (λ _. self.new) }
         ensures lines { OnOk result (self.new.lines ≡ self.old.lines + 1) }
     {
         let line = self.lines + 1;
@@ -55,22 +53,22 @@ impl<C: Contents> Progress<C> {
         }
     }
 
-    /// Takes what a run of later lines shows.
+    /// Adds what a run of later lines shows.
     fn record_run(&mut self, run: Vec<Judgement<C::Item>>) -> Result<(), FileFault>
         requires { self.old.lines + length run.items < 2 ^ 63 }
-        ensures taken { TakesShown C.format C.Makes self.old run.items result self.new }
+        ensures read { ReadsShown C.format C.Makes self.old run.items result (λ _. self.new) }
         ensures lines { OnOk result (self.new.lines ≡ self.old.lines + length run.items) }
     {
         for judgement in run {
-            self.take_judgement(judgement)?;
+            self.add_judgement(judgement)?;
         }
         Ok(())
     }
 
-    /// Takes what later lines show.
+    /// Adds what later lines show.
     pub(crate) fn record(&mut self, judgements: Judgements<C::Item>) -> Result<(), FileFault>
         requires { self.old.lines + length judgements < 2 ^ 63 }
-        ensures taken { TakesShown C.format C.Makes self.old judgements result self.new }
+        ensures read { ReadsShown C.format C.Makes self.old judgements result (λ _. self.new) }
         ensures lines { OnOk result (self.new.lines ≡ self.old.lines + length judgements) }
     {
         for run in judgements.into_runs() {
@@ -85,15 +83,15 @@ impl<C: Contents> Progress<C> {
         judgements: Judgements<C::Item>,
     ) -> Result<Progress<C>, FileFault>
         requires { self.lines + length judgements < 2 ^ 63 }
-        ensures taken { Records C.format C.Makes self judgements result }
+        ensures read { ReadsShown C.format C.Makes self judgements result (λ new. new) }
         ensures lines { IfOk result (λ new. new.lines ≡ self.lines + length judgements) }
     {
         self.record(judgements)?;
         Ok(self)
     }
 
-    /// Takes the lines of chunks that stand after the header.
-    pub(crate) fn take_chunks(
+    /// Reads the lines of chunks that stand after the header.
+    pub(crate) fn read_chunks(
         &mut self,
         rt: &(impl Threads + Sync),
         alloc: Global,
@@ -102,8 +100,8 @@ impl<C: Contents> Progress<C> {
     ) -> Result<(), FileFault>
         requires { self.old.lines + length
             (flat_map with_end (map (λ chunk. chunk.now) chunks.now)) < 2 ^ 63 }
-        ensures taken { TakesChunks C.format C.Makes self.old
-            (map (λ chunk. chunk.now) chunks.now) result self.new }
+        ensures read { ReadsChunks C.format C.Makes self.old
+            (map (λ chunk. chunk.now) chunks.now) result (λ _. self.new) }
         ensures more { OnOk result (self.old.lines ≤ self.new.lines) }
         ensures lines { OnOk result (self.new.lines ≤ self.old.lines + length
             (flat_map with_end (map (λ chunk. chunk.now) chunks.now))) }
@@ -114,8 +112,8 @@ impl<C: Contents> Progress<C> {
         }
     }
 
-    /// Takes a line.
-    pub(crate) fn take_line(
+    /// Reads a line.
+    pub(crate) fn read_line(
         &mut self,
         rt: &(impl Threads + Sync),
         alloc: Global,
@@ -123,15 +121,14 @@ impl<C: Contents> Progress<C> {
         line: &[u8],
     ) -> Result<(), FileFault>
         requires { self.old.lines + length line.now + 1 < 2 ^ 63 }
-        ensures taken { HasNoEnd line.now → (before : List (List ℕ))
-            → AreTaken C.format C.Makes before self.old
-            → TakesLine C.format C.Makes before line.now result self.new }
+        ensures read { HasNoEnd line.now
+            → ReadsLine C.format C.Makes self.old line.now result (λ _. self.new) }
         ensures some { OnOk result (0 < self.new.lines) }
         ensures lines { OnOk result (self.new.lines ≤ self.old.lines + length line.now + 1) }
     {
         if self.lines == 0 {
-            return self.take_header(alloc, line);
+            return self.read_header(alloc, line);
         }
-        self.take_chunks(rt, alloc, tools, &[line])
+        self.read_chunks(rt, alloc, tools, &[line])
     }
 }

@@ -2,8 +2,14 @@
 ghost use Rattle.std.specs.Prelude.{ℕ, ◌≡◌, ◌<◌, ◌≤◌, List, Option, length, true, false, IfOk};
 ghost use Rattle.std.specs.Prelude.{IfErr, OnOk, MatchResult};
 ghost use Rattle.std.specs.Io.KnownBytes.{IsAtEnd};
+ghost use Rattle.counted_devices.specs.DeviceStates.{states, states_since};
 ghost use Rattle.counted_devices.specs.ReadFaults.{FailsFrom};
-ghost use Rattle.history_file.specs.Deliveries.{GoesOn, HoldsAhead, HoldsAll, ReadsFrom, StopsFrom};
+ghost use Rattle.counted_devices.specs.Deliveries.{Holds, HoldsAll, ReadsFrom};
+ghost use Rattle.counted_devices.specs.FirstFaults.{ReadsOn, StopsFrom};
+ghost use Rattle.history_file.specs.FileFaults.{file_faults};
+ghost use Rattle.history_file.specs.Feeds.{StandsForLines};
+ghost use Rattle.history_file.specs.Ahead.{StandsAhead};
+ghost use Rattle.file_format.specs.Readings.{Reads};
 ghost use Rattle.file_format.specs.HistoryFormat.{history_format, MakesHistory};
 ghost use Rattle.file_format.specs.HistoriesFormat.{histories_format, MakesHistories};
 ghost use Rattle.file_format.specs.OrderFormat.{order_format, MakesJoined};
@@ -11,11 +17,9 @@ ghost use Rattle.file_format.specs.OrderFormat.{order_format, MakesJoined};
 use crate::ahead::{Ahead, LEAST};
 use crate::batches::{BLOCK, Behind, read_batch};
 use crate::feed::Feed;
+use crate::file_feed::finish_file;
 use crate::format::Contents;
-use crate::histories_feed::finish_histories;
-use crate::history_feed::finish_history;
 use crate::history_format::FileHistory;
-use crate::order_feed::finish_orders;
 use crate::order_format::Orders;
 use counted_devices::CountedRead;
 use file_format::{FaultKind, FileFault, HallHistories, ToolSets};
@@ -49,8 +53,9 @@ fn read_next<C: Contents, R: CountedRead, T: Threads + Sync>(
     requires some { 0 < length room.old }
     requires fed { ahead.fed ≤ R.given reader.old }
     ensures goes { (start : Option (List ℕ))
-        → HoldsAhead C.format C.Makes start (R.remaining reader.old) ahead
-        → GoesOn C.format C.Makes R.remaining R.failures start reader.old reader.new result }
+        → Holds (StandsAhead C.format C.Makes) start (R.remaining reader.old) ahead
+        → ReadsOn (file_faults C.format) (λ bytes next. StandsAhead C.format C.Makes bytes next.0)
+        (states_since start R.remaining R.failures reader.old reader.new) result }
     ensures fed { IfOk result (λ next. next.0.fed ≤ R.given reader.new) }
     ensures end { IfOk result (λ next. next.1 ≡ false → IsAtEnd (R.remaining reader.new)) }
     ensures more { IfOk result (λ next. next.1 ≡ true → R.given reader.old < R.given reader.new) }
@@ -62,7 +67,7 @@ fn read_next<C: Contents, R: CountedRead, T: Threads + Sync>(
         Behind::More => Ok((next, true)),
         Behind::End => Ok((next, false)),
         Behind::Failure => {
-            let feed = next.settle()?;
+            let feed = next.into_feed()?;
             Err(FileFault {
                 line: feed.line(),
                 kind: FaultKind::Device,
@@ -80,17 +85,18 @@ fn feed_in_blocks<C: Contents, R: CountedRead, T: Threads + Sync>(
     room: &mut [u8],
 ) -> Result<Feed<C>, FileFault>
     requires { 0 < length room.old }
-    ensures holds { IfOk result (HoldsAll C.format C.Makes R.remaining reader.old reader.new) }
+    ensures holds { IfOk result (HoldsAll (StandsForLines C.format C.Makes)
+        (states R.remaining R.failures reader.old reader.new)) }
     ensures counted { OnOk result (R.failures reader.new ≡ R.failures reader.old) }
     ensures fault { IfErr result (λ fault.
-        StopsFrom C.format R.remaining reader.old reader.new fault
-        × FailsFrom R.failures reader.old reader.new fault) }
+        StopsFrom (file_faults C.format) (states R.remaining R.failures reader.old reader.new) fault
+        × FailsFrom (states R.remaining R.failures reader.old reader.new) fault) }
 {
     let mut ahead = Ahead::<C, C::Item>::new(alloc);
     'reads: loop {
         let (next, more) = read_next(rt, tools, ahead, reader, room)?;
         if !more {
-            return next.settle();
+            return next.into_feed();
         }
         ahead = next;
     }
@@ -103,10 +109,12 @@ fn feed_all<C: Contents, R: CountedRead>(
     tools: &ToolSets,
     reader: &mut R,
 ) -> Result<Feed<C>, FileFault>
-    ensures holds { IfOk result (HoldsAll C.format C.Makes R.remaining reader.old reader.new) }
+    ensures holds { IfOk result (HoldsAll (StandsForLines C.format C.Makes)
+        (states R.remaining R.failures reader.old reader.new)) }
     ensures counted { OnOk result (R.failures reader.new ≡ R.failures reader.old) }
-    ensures fault { IfErr result (StopsFrom C.format R.remaining reader.old reader.new) }
-    ensures device { IfErr result (FailsFrom R.failures reader.old reader.new) }
+    ensures fault { IfErr result (StopsFrom (file_faults C.format)
+        (states R.remaining R.failures reader.old reader.new)) }
+    ensures device { IfErr result (FailsFrom (states R.remaining R.failures reader.old reader.new)) }
 {
     let size = batch_size(rayon::current_num_threads(rt));
     let Ok(mut room) = room_for(alloc, size) else {
@@ -116,6 +124,24 @@ fn feed_all<C: Contents, R: CountedRead>(
         });
     };
     feed_in_blocks(rt, alloc, tools, reader, room.as_mut_slice())
+}
+
+/// What the reader's bytes are, all of them up to its end.
+fn read_file<C: Contents, R: CountedRead>(
+    rt: &(impl Threads + Sync),
+    alloc: Global,
+    reader: &mut R,
+) -> Result<C::Whole, FileFault>
+    ensures read { IfOk result (ReadsFrom C.ReadsWhole
+        (states R.remaining R.failures reader.old reader.new)) }
+    ensures counted { OnOk result (R.failures reader.new ≡ R.failures reader.old) }
+    ensures fault { IfErr result (StopsFrom (file_faults C.format)
+        (states R.remaining R.failures reader.old reader.new)) }
+    ensures device { IfErr result (FailsFrom (states R.remaining R.failures reader.old reader.new)) }
+{
+    let tools = ToolSets::new();
+    let feed = feed_all::<C, R>(rt, alloc, &tools, reader)?;
+    finish_file(rt, &tools, feed)
 }
 
 /// The history that the reader's bytes are, all of them up to its end.
@@ -128,15 +154,14 @@ pub fn read_history<R: CountedRead>(
     alloc: Global,
     reader: &mut R,
 ) -> Result<History, FileFault>
-    ensures read { IfOk result
-        (ReadsFrom history_format MakesHistory R.remaining reader.old reader.new) }
+    ensures read { IfOk result (ReadsFrom (Reads history_format MakesHistory)
+        (states R.remaining R.failures reader.old reader.new)) }
     ensures counted { OnOk result (R.failures reader.new ≡ R.failures reader.old) }
-    ensures fault { IfErr result (StopsFrom history_format R.remaining reader.old reader.new) }
-    ensures device { IfErr result (FailsFrom R.failures reader.old reader.new) }
+    ensures fault { IfErr result (StopsFrom (file_faults history_format)
+        (states R.remaining R.failures reader.old reader.new)) }
+    ensures device { IfErr result (FailsFrom (states R.remaining R.failures reader.old reader.new)) }
 {
-    let tools = ToolSets::new();
-    let feed = feed_all::<FileHistory, R>(rt, alloc, &tools, reader)?;
-    finish_history(rt, &tools, feed)
+    read_file::<FileHistory, R>(rt, alloc, reader)
 }
 
 /// The histories by hall that the reader's bytes are, all of them up to its end: of version 2, or
@@ -148,15 +173,14 @@ pub fn read_histories<R: CountedRead>(
     alloc: Global,
     reader: &mut R,
 ) -> Result<Histories, FileFault>
-    ensures read { IfOk result
-        (ReadsFrom histories_format MakesHistories R.remaining reader.old reader.new) }
+    ensures read { IfOk result (ReadsFrom (Reads histories_format MakesHistories)
+        (states R.remaining R.failures reader.old reader.new)) }
     ensures counted { OnOk result (R.failures reader.new ≡ R.failures reader.old) }
-    ensures fault { IfErr result (StopsFrom histories_format R.remaining reader.old reader.new) }
-    ensures device { IfErr result (FailsFrom R.failures reader.old reader.new) }
+    ensures fault { IfErr result (StopsFrom (file_faults histories_format)
+        (states R.remaining R.failures reader.old reader.new)) }
+    ensures device { IfErr result (FailsFrom (states R.remaining R.failures reader.old reader.new)) }
 {
-    let tools = ToolSets::new();
-    let feed = feed_all::<Option<HallHistories>, R>(rt, alloc, &tools, reader)?;
-    finish_histories(rt, &tools, feed)
+    read_file::<Option<HallHistories>, R>(rt, alloc, reader)
 }
 
 /// The orders that the reader's bytes are, all of them up to its end: the keys in the order of
@@ -168,13 +192,12 @@ pub fn read_orders<R: CountedRead>(
     alloc: Global,
     reader: &mut R,
 ) -> Result<Vec<KeyOrder>, FileFault>
-    ensures read { IfOk result (λ orders.
-        ReadsFrom order_format MakesJoined R.remaining reader.old reader.new orders.items) }
+    ensures read { IfOk result (λ orders. ReadsFrom (Reads order_format MakesJoined)
+        (states R.remaining R.failures reader.old reader.new) orders.items) }
     ensures counted { OnOk result (R.failures reader.new ≡ R.failures reader.old) }
-    ensures fault { IfErr result (StopsFrom order_format R.remaining reader.old reader.new) }
-    ensures device { IfErr result (FailsFrom R.failures reader.old reader.new) }
+    ensures fault { IfErr result (StopsFrom (file_faults order_format)
+        (states R.remaining R.failures reader.old reader.new)) }
+    ensures device { IfErr result (FailsFrom (states R.remaining R.failures reader.old reader.new)) }
 {
-    let tools = ToolSets::new();
-    let feed = feed_all::<Orders, R>(rt, alloc, &tools, reader)?;
-    finish_orders(rt, &tools, feed)
+    read_file::<Orders, R>(rt, alloc, reader)
 }

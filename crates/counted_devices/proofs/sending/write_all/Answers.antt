@@ -1,6 +1,6 @@
 use Rattle.std.proofs.Common.{inl, ◌∙◌}
 use Rattle.std.proofs.lemmas.List.{take_rest}
-use Rattle.counted_devices.specs.Leaving.{Leaves-fewer}
+use Rattle.counted_devices.proofs.Leaving.{Leaves-fewer}
 use Rattle.counted_devices.proofs.sending.write_all.Goals as goal
 
 pub loop-rest-preserved : goal.loop-rest-preserved

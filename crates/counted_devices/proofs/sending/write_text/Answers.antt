@@ -1,5 +1,5 @@
 use Rattle.std.proofs.Common.{[]}
-use Rattle.counted_devices.specs.Leaving.{Leaves-none, Leaves-kept}
+use Rattle.counted_devices.proofs.Leaving.{Leaves-none, Leaves-kept}
 use Rattle.counted_devices.proofs.sending.write_text.Goals as goal
 
 pub returns-in-Err-clause-begun : goal.returns-in-Err-clause-begun

@@ -18,5 +18,6 @@ returns-in_err-number c =
 pub returns : goal.returns
 returns c =
     let digits = c.args.digits.now in
-    let all : c.loop-digit.number ≡ decimal_value digits = c.loop-digit.invariant.value ∙ ap decimal_value (take_all c.loop-digit.digit-index digits c.loop-digit-test.false) in
+    let all : c.loop-digit.number ≡ decimal_value digits = c.loop-digit.invariant.value
+    ∙ ap decimal_value (take_all c.loop-digit.digit-index digits c.loop-digit-test.false) in
     sym (ap u64_of (sym all) ∙ u64_of-small c.loop-digit.number c.loop-digit.invariant.small)

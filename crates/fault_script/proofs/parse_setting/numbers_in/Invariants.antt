@@ -7,4 +7,7 @@ use Rattle.fault_script.proofs.parse_setting.numbers_in.Given as goal
 
 abbrev pub invariant-loop-place : goal.invariant-loop-place
 invariant-loop-place l =
-    shadow (Utf8 l.behind) × record { read : numbers_in l.place (words l.args) ≡ Ok (take l.place l.votes, words l.behind); room : length l.votes ≡ 15 }
+    shadow (Utf8 l.behind) × record {
+      read : numbers_in l.place (words l.args) ≡ Ok (take l.place l.votes, words l.behind);
+      room : length l.votes ≡ 15;
+    }

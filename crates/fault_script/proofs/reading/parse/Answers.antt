@@ -1,14 +1,20 @@
-use Rattle.fault_script.proofs.Consuming.{finish_read, finish_fault, finish_device}
+use Rattle.counted_devices.proofs.Delivering.{finish_device, finish_fault, finish_read}
+use Rattle.counted_devices.specs.DeviceStates.{states}
+use Rattle.fault_script.specs.Feeds.{IsFed, script_faults}
+use Rattle.fault_script.specs.Scripts.{IsScript}
 use Rattle.fault_script.proofs.reading.parse.Goals as goal
 
 pub returns-clause-read : goal.returns-clause-read
 returns-clause-read g c =
-    finish_read (g.R.Read.remaining c.args.reader.now) (g.R.Read.remaining c.feed_in_blocks.new.reader) c.in_ok-feed.feed c.finish.result c.in_ok-feed.ensures.holds.0 c.in_ok-feed.ensures.holds.1 c.finish.ensures
+    let reader = states g.R.Read.remaining g.R.Counted.failures c.args.reader.now c.feed_in_blocks.new.reader in
+    finish_read script_faults IsFed IsScript reader c.in_ok-feed.feed c.finish.result c.in_ok-feed.ensures.holds c.finish.ensures
 
 pub returns-clause-fault : goal.returns-clause-fault
 returns-clause-fault g c =
-    finish_fault (g.R.Read.remaining c.args.reader.now) (g.R.Read.remaining c.feed_in_blocks.new.reader) c.in_ok-feed.feed c.finish.result c.in_ok-feed.ensures.holds.0 c.in_ok-feed.ensures.holds.1 c.finish.ensures
+    let reader = states g.R.Read.remaining g.R.Counted.failures c.args.reader.now c.feed_in_blocks.new.reader in
+    finish_fault script_faults IsFed IsScript reader c.in_ok-feed.feed c.finish.result c.in_ok-feed.ensures.holds c.finish.ensures
 
 pub returns-clause-device : goal.returns-clause-device
 returns-clause-device g c =
-    finish_device (g.R.Read.remaining c.args.reader.now) (g.R.Read.remaining c.feed_in_blocks.new.reader) c.in_ok-feed.feed c.finish.result _ _ c.in_ok-feed.ensures.holds.0 c.finish.ensures
+    let reader = states g.R.Read.remaining g.R.Counted.failures c.args.reader.now c.feed_in_blocks.new.reader in
+    finish_device script_faults IsFed IsScript reader c.in_ok-feed.feed c.finish.result c.in_ok-feed.ensures.holds c.finish.ensures

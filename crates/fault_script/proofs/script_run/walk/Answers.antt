@@ -17,6 +17,7 @@ loop-turn-preserved c =
       | else-branch w ↦ w.taken-is ∙ sym (ap (λ (b : Bool). counted b l.taken) w.if-branch.false)
     ] in
     record {
-      at = walk_on start l._turn l.world new.world l.steps new.steps l.taken c.if-branch.taken was l.invariant.at h.system h.generator h.taken on;
+      at = walk_on start l._turn l.world new.world l.steps new.steps l.taken c.if-branch.taken was l.invariant.at h.system h.generator
+          h.taken on;
       few = elim c.if-branch.branch [ then-branch w ↦ omega (arith, w.taken-is) | else-branch w ↦ omega (arith, w.taken-is) ];
     }

@@ -24,11 +24,13 @@ loop-count-preserved c =
       within = omega (arith, inside, c.min.ensures);
       few = omega (arith, inside, c.min.ensures);
       digits = more_digits bytes count (omega (arith, inside, c.min.ensures)) digit so_far.digits;
-      value = more_value bytes count c.loop-count.value c.from.result (omega (arith, inside, c.min.ensures)) digit so_far.value (omega (arith, c.from.ensures, digit));
+      value = more_value bytes count c.loop-count.value c.from.result (omega (arith, inside, c.min.ensures)) digit so_far.value
+          (omega (arith, c.from.ensures, digit));
     }
 
 pub returns : goal.returns
 returns c =
     let so_far = c.loop-count.invariant in
     let written = c.are_spelled.ensures in
-    spelled c.args.bytes.now c.loop-count.count c.loop-count.value (written.some c.if-not-are_spelled.false) so_far.within so_far.few (written.alone c.if-not-are_spelled.false) so_far.digits so_far.value
+    spelled c.args.bytes.now c.loop-count.count c.loop-count.value (written.some c.if-not-are_spelled.false) so_far.within so_far.few
+    (written.alone c.if-not-are_spelled.false) so_far.digits so_far.value

@@ -7,4 +7,5 @@ returns-in-Some-2 c =
     let hall = c.in-Some.hall in
     let answered = rw c.in-Some-2.is at c.in_ok-returned.ensures in
     let response = c.in-Some-behind-2.ensures ∙ ap (λ (s : List ℕ). codes ",\"row\":\"respond\"" ++ s) answered in
-    ap (λ (s : List ℕ). codes "{\"call\":" ++ (decimal c.args.op.0 ++ s)) (c.in-Some.ensures ∙ ap (λ (s : List ℕ). hall_text hall ++ s) response)
+    ap (λ (s : List ℕ). codes "{\"call\":" ++ (decimal c.args.op.0 ++ s)) (c.in-Some.ensures
+    ∙ ap (λ (s : List ℕ). hall_text hall ++ s) response)

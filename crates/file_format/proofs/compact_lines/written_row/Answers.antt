@@ -11,5 +11,5 @@ returns-in-None c =
     let text : line ≡ row_bytes found.hall (row_said found.said) = rw c.in-Some.is at c.in_ok-hall.ensures in
     record {
       text = row_line line _ (row_said found.said) (text ∙ ap (λ (hall : Option ℕ). row_bytes hall (row_said found.said)) c.in-None.is);
-      range = c.look_at_row.ensures;
+      range = c.row_in_range.ensures;
     }

@@ -5,4 +5,5 @@ use Rattle.file_format.specs.Trees.{all_unsigned}
 use Rattle.file_format.proofs.document.numbers_in.Given as goal
 
 abbrev pub invariant-loop-item : goal.invariant-loop-item
-invariant-loop-item l = all_unsigned (items_view l.items) ≡ option_map (λ (rest : List ℕ). l.numbers.items ++ rest) (all_unsigned (items_view (drop l.item-index l.items)))
+invariant-loop-item l = all_unsigned (items_view l.items)
+    ≡ option_map (λ (rest : List ℕ). l.numbers.items ++ rest) (all_unsigned (items_view (drop l.item-index l.items)))

@@ -1,8 +1,8 @@
 use Rattle.std.proofs.Common.{List, [], ◌∷◌, take, sym, subst}
 use Rattle.file_format.specs.declared.judge_lines.Judgement.{Judgement}
 use Rattle.file_format.specs.Lines.{ShowChunks}
-use Rattle.counted_devices.specs.CutLemmas.{behind, cut_at}
-use Rattle.file_format.specs.Chunks.{Shown, Shown-line, Shown-last}
+use Rattle.counted_devices.proofs.CutLemmas.{behind, cut_at}
+use Rattle.file_format.proofs.Chunks.{Shown, Shown-line, Shown-last}
 use Rattle.file_format.proofs.judge_lines.judge_with.Goals as goal
 
 pub loop-end-preserved : goal.loop-end-preserved
@@ -15,7 +15,9 @@ loop-end-preserved g c =
     let found = c.in-Some.ensures in
     let S : List (Judgement g.row.T.Denot) → Type 0 = λ js. Shown meaning chunk js (behind rest end) in
     record {
-      shown = subst S (sym c.in_ok-push.ensures.items) (Shown-line meaning chunk rest (take end rest) (behind rest end) at.run.items c.in_ok-judge.field-0 at.invariant.shown (cut_at rest end found.0 found.2) found.1 c.in_ok-judge.ensures);
+      shown = subst S (sym c.in_ok-push.ensures.items)
+          (Shown-line meaning chunk rest (take end rest) (behind rest end) at.run.items c.in_ok-judge.field-0 at.invariant.shown
+          (cut_at rest end found.0 found.2) found.1 c.in_ok-judge.ensures);
     }
 
 pub returns : goal.returns
@@ -24,4 +26,6 @@ returns g c =
     let chunk = c.args.chunk.now in
     let at = c.loop-end in
     let S : List (Judgement g.row.T.Denot) → Type 0 = λ js. ShowChunks meaning (chunk ∷ []) js in
-    subst S (sym c.in_ok-push-2.ensures.items) (Shown-last meaning chunk at.rest.now at.run.items c.in_ok-judge-2.field-0 at.invariant.shown c.in_default.ensures c.in_ok-judge-2.ensures)
+    subst S (sym c.in_ok-push-2.ensures.items)
+    (Shown-last meaning chunk at.rest.now at.run.items c.in_ok-judge-2.field-0 at.invariant.shown c.in_default.ensures
+    c.in_ok-judge-2.ensures)

@@ -1,5 +1,5 @@
 use Rattle.std.proofs.Common.{length}
-use Rattle.file_format.specs.Chunks.{Shown}
+use Rattle.file_format.proofs.Chunks.{Shown}
 use Rattle.file_format.proofs.judge_lines.judge_with.Given as goal
 
 abbrev pub invariant-loop-end : goal.invariant-loop-end

@@ -1,8 +1,10 @@
 use Rattle.std.proofs.Common.{List, ℕ, Ok, false, refl, ap, sym, ◌∙◌, subst, arith}
 use Rattle.quorum.specs.Quorums.{Quorums, IsLawful}
-use Rattle.file_format.proofs.QuorumRules.{refused_great, refused_big, refused_unlawful, lawful_taken, not_both}
+use Rattle.std.proofs.lemmas.Bool.{both_ways}
+use Rattle.file_format.proofs.QuorumRules.{refused_great, refused_big, refused_unlawful, lawful_taken}
 use Rattle.file_format.proofs.quorum_header.quorums_of.Goals as goal
-use Rattle.file_format.proofs.quorum_header.quorums_of.Goals.{then-ask-gt255-via-then-ask-gt255, then-ask-gt255-via-else-ask-gt255+then-put-gt255}
+use Rattle.file_format.proofs.quorum_header.quorums_of.Goals.{then-ask-gt255-via-then-ask-gt255}
+use Rattle.file_format.proofs.quorum_header.quorums_of.Goals.{then-ask-gt255-via-else-ask-gt255+then-put-gt255}
 
 pub returns-then-ask-gt255 : goal.returns-then-ask-gt255
 returns-then-ask-gt255 c =
@@ -13,7 +15,8 @@ returns-then-ask-gt255 c =
 
 pub returns-then-not-are_small : goal.returns-then-not-are_small
 returns-then-not-are_small c =
-    refused_big c.args.votes.now c.args.ask c.args.put (λ yes. not_both c.are_small.result c.if-not-are_small.true (c.are_small.ensures ∙ yes))
+    refused_big c.args.votes.now c.args.ask c.args.put
+    (λ yes. both_ways c.are_small.result c.if-not-are_small.true (c.are_small.ensures ∙ yes))
 
 pub returns-in-Some : goal.returns-in-Some
 returns-in-Some c =
@@ -30,4 +33,5 @@ returns c =
     let put = c.args.put in
     let with : List ℕ → Quorums = λ votes. record { votes = votes; ask = ask; put = put } in
     let same = c.as_slice.ensures.value ∙ c.in_ok-votes.ensures in
-    refused_unlawful c.args.votes.now ask put (λ law. not_both false refl (c.in-None.ensures.some.1 (subst (λ votes. IsLawful (with votes)) (sym same) law)))
+    refused_unlawful c.args.votes.now ask put
+    (λ law. both_ways false refl (c.in-None.ensures.some.1 (subst (λ votes. IsLawful (with votes)) (sym same) law)))

@@ -11,4 +11,6 @@ pub returns-in_ok-append_quoted-in-Some-clause-text : goal.returns-in_ok-append_
 returns-in_ok-append_quoted-in-Some-clause-text c =
     let value = c.in-Some.value in
     rw c.in-Some.is (on_ok_weaker c.append-in-Some.result (λ last. spelled _ _ _ _ (answered_bytes value)
-    (then _ _ _ (codes ",\"row\":\"respond\",\"value\":") (quoted value) (codes "}\n") (with_text _ _ (codes ",\"row\":\"respond\",\"value\":") c.as_str.result.now value c.as_str.ensures.text c.in_ok-append_quoted-in-Some.ensures) last)) c.append-in-Some.ensures)
+    (then _ _ _ (codes ",\"row\":\"respond\",\"value\":") (quoted value) (codes "}\n")
+    (with_text _ _ (codes ",\"row\":\"respond\",\"value\":") c.as_str.result.now value c.as_str.ensures.text
+    c.in_ok-append_quoted-in-Some.ensures) last)) c.append-in-Some.ensures)

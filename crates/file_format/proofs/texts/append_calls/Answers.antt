@@ -11,10 +11,13 @@ loop-place-preserved c =
     record {
       text = grind (arith, common_steps);
       range = elim c.if-place-gt0.branch [
-        | then-place-gt0+in_ok-append_number w ↦ before_next IsOp c.args.calls.now at.place _ w.in_ok-append_number.ensures.range at.invariant.range
-        | else-place-gt0+in_ok-append_number-2 w ↦ before_next IsOp c.args.calls.now at.place _ w.in_ok-append_number-2.ensures.range at.invariant.range
+        | then-place-gt0+in_ok-append_number w ↦
+            before_next IsOp c.args.calls.now at.place _ w.in_ok-append_number.ensures.range at.invariant.range
+        | else-place-gt0+in_ok-append_number-2 w ↦
+            before_next IsOp c.args.calls.now at.place _ w.in_ok-append_number-2.ensures.range at.invariant.range
       ];
     }
 
 pub returns-clause-range : goal.returns-clause-range
-returns-clause-range c = on_ok c.append.result (before_all IsOp c.args.calls.now c.loop-place.place (omega arith) c.loop-place.invariant.range)
+returns-clause-range c = on_ok c.append.result
+    (before_all IsOp c.args.calls.now c.loop-place.place (omega arith) c.loop-place.invariant.range)

@@ -7,6 +7,7 @@ use Rattle.file_format.proofs.texts.append_calls.Given as goal
 
 abbrev pub invariant-loop-place : goal.invariant-loop-place
 invariant-loop-place l = record {
-  text : l.out.items ++ items_text (nat_lt 0 l.place) (calls_data (drop l.place l.calls)) ≡ l.initial.out.items ++ items_text false (calls_data l.calls);
+  text : l.out.items ++ items_text (nat_lt 0 l.place) (calls_data (drop l.place l.calls)) ≡ l.initial.out.items
+      ++ items_text false (calls_data l.calls);
   range : AllBefore IsOp l.calls l.place;
 }

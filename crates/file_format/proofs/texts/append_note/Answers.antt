@@ -12,5 +12,8 @@ returns-clause-text c =
     on_ok_weaker c.append.result (λ last. spelled _ _ _ _ (note_bytes c.args.hall op tag)
     (then _ _ _ (codes "{\"call\":") (decimal op.0) _ c.in_ok-append_number.ensures.text
     (then _ _ _ (codes "") (hall_text c.args.hall) _ c.in_ok-append_hall.ensures
-    (then _ _ _ (codes ",\"number\":") (decimal tag.number) _ (with_number _ _ (codes ",\"number\":") c.number.result tag.number c.number.ensures.number c.in_ok-append_number-2.ensures.text)
-    (then _ _ _ (codes ",\"row\":\"note\",\"writer\":") (decimal tag.writer) (codes "}\n") (with_number _ _ (codes ",\"row\":\"note\",\"writer\":") c.writer.result tag.writer c.writer.ensures.writer c.in_ok-append_number-3.ensures.text) last))))) c.append.ensures
+    (then _ _ _ (codes ",\"number\":") (decimal tag.number) _
+    (with_number _ _ (codes ",\"number\":") c.number.result tag.number c.number.ensures.number c.in_ok-append_number-2.ensures.text)
+    (then _ _ _ (codes ",\"row\":\"note\",\"writer\":") (decimal tag.writer) (codes "}\n")
+    (with_number _ _ (codes ",\"row\":\"note\",\"writer\":") c.writer.result tag.writer c.writer.ensures.writer
+    c.in_ok-append_number-3.ensures.text) last))))) c.append.ensures

@@ -12,4 +12,6 @@ returns-clause-text c =
     let calls = c.args.calls.now in
     on_ok_weaker c.append-2.result (λ last. spelled _ _ _ _ (piece_bytes key calls)
     (then _ _ _ (codes "{\"key\":") (quoted key) _ (with_text _ _ (codes "{\"key\":") key key refl c.in_ok-append_quoted.ensures)
-    (then _ _ _ (codes ",\"order\":[") (items_text false (calls_data calls)) (codes "}\n") (both _ _ _ (codes ",\"order\":[") (items_text false (calls_data calls)) c.in_ok-append.ensures c.in_ok-append_calls.ensures.text) last))) c.append-2.ensures
+    (then _ _ _ (codes ",\"order\":[") (items_text false (calls_data calls)) (codes "}\n")
+    (both _ _ _ (codes ",\"order\":[") (items_text false (calls_data calls)) c.in_ok-append.ensures
+    c.in_ok-append_calls.ensures.text) last))) c.append-2.ensures

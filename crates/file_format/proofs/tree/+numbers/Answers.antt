@@ -10,7 +10,8 @@ items_have_numbers-has_numbers-requires t c =
     let x = c.item-item.result in
     let smaller : length (json_tokens (value_view x)) < length (items_tokens (items_view c.args.items.now.items)) =
     subst (λ ys. length (json_tokens (value_view x)) < length (items_tokens (items_view ys))) c.deref-item-items.ensures.value
-    (subst (λ y. length (json_tokens (value_view y)) < length (items_tokens (items_view xs))) (sym c.item-item.is) (item_smaller xs c.loop-item.item-index x (omega arith))) in
+    (subst (λ y. length (json_tokens (value_view y)) < length (items_tokens (items_view xs))) (sym c.item-item.is)
+    (item_smaller xs c.loop-item.item-index x (omega arith))) in
     search rules
 
 pub members_have_numbers-has_numbers-requires : goal.members_have_numbers-has_numbers-requires
@@ -19,5 +20,6 @@ members_have_numbers-has_numbers-requires t c =
     let x = c.member-item.result in
     let smaller : length (json_tokens (value_view x.1)) < length (members_tokens (members_view c.args.members.now.items)) =
     subst (λ ys. length (json_tokens (value_view x.1)) < length (members_tokens (members_view ys))) c.deref-member-items.ensures.value
-    (subst (λ y. length (json_tokens (value_view y.1)) < length (members_tokens (members_view xs))) (sym c.member-item.is) (member_smaller xs c.loop-member.member-index x (omega arith))) in
+    (subst (λ y. length (json_tokens (value_view y.1)) < length (members_tokens (members_view xs))) (sym c.member-item.is)
+    (member_smaller xs c.loop-member.member-index x (omega arith))) in
     search rules

@@ -14,7 +14,9 @@ abbrev pub decreases-members_have_numbers : goal.decreases-members_have_numbers
 decreases-members_have_numbers l = length (members_tokens (members_view l.members.now.items))
 
 abbrev pub invariant-items_have_numbers-loop-item : goal.invariant-items_have_numbers-loop-item
-invariant-items_have_numbers-loop-item l = items_have_numbers (items_view l.item-items) ≡ items_have_numbers (items_view (drop l.item-index l.item-items))
+invariant-items_have_numbers-loop-item l = items_have_numbers (items_view l.item-items)
+    ≡ items_have_numbers (items_view (drop l.item-index l.item-items))
 
 abbrev pub invariant-members_have_numbers-loop-member : goal.invariant-members_have_numbers-loop-member
-invariant-members_have_numbers-loop-member l = members_have_numbers (members_view l.member-items) ≡ members_have_numbers (members_view (drop l.member-index l.member-items))
+invariant-members_have_numbers-loop-member l = members_have_numbers (members_view l.member-items)
+    ≡ members_have_numbers (members_view (drop l.member-index l.member-items))

@@ -1,6 +1,6 @@
 use Rattle.std.proofs.Common.{◌≡◌, ◌++◌, drop}
 use Rattle.std.specs.List.{flat_map}
-use Rattle.file_format.specs.Ranges.{IsInRange}
+use Rattle.file_format.specs.Ranges.{IsRowInRange}
 use Rattle.file_format.specs.Texts.{row_text, history_text}
 use Rattle.file_format.proofs.EachElement.{AllBefore}
 use Rattle.file_format.proofs.writing.history_text.Given as goal
@@ -8,5 +8,5 @@ use Rattle.file_format.proofs.writing.history_text.Given as goal
 abbrev pub invariant-loop-row : goal.invariant-loop-row
 invariant-loop-row l = record {
   text : l.text.items ++ flat_map row_text (drop l.row-index l.row-items) ≡ history_text l.history.rows;
-  range : AllBefore IsInRange l.row-items l.row-index;
+  range : AllBefore IsRowInRange l.row-items l.row-index;
 }

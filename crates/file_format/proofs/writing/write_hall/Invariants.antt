@@ -1,14 +1,15 @@
 use Rattle.std.proofs.Common.{◌≡◌, ◌++◌, drop}
 use Rattle.std.specs.List.{flat_map}
 use Rattle.counted_devices.specs.Sendings.{Leaves}
-use Rattle.file_format.specs.Ranges.{IsInRange}
-use Rattle.file_format.specs.Texts.{placed_text}
+use Rattle.file_format.specs.Ranges.{IsRowInRange}
+use Rattle.file_format.specs.Texts.{row_text_with}
 use Rattle.file_format.proofs.EachElement.{AllBefore}
 use Rattle.file_format.proofs.writing.write_hall.Given as goal
 
 abbrev pub invariant-loop-row : goal.invariant-loop-row
 invariant-loop-row g l = record {
-  left : Leaves (g.W.Write.contents l.fn.writer) (g.W.Write.contents l.writer) (l.fn.batch.items ++ flat_map (placed_text l.hall) l.history.rows) (l.batch.items ++ flat_map (placed_text l.hall) (drop l.row-index l.row-items));
-  range : AllBefore IsInRange l.row-items l.row-index;
+  left : Leaves (g.W.Write.contents l.fn.writer) (g.W.Write.contents l.writer) (l.fn.batch.items
+      ++ flat_map (row_text_with l.hall) l.history.rows) (l.batch.items ++ flat_map (row_text_with l.hall) (drop l.row-index l.row-items));
+  range : AllBefore IsRowInRange l.row-items l.row-index;
   same : (g.W.Counted.failures l.writer) ≡ (g.W.Counted.failures l.fn.writer);
 }

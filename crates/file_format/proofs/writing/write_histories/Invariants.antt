@@ -8,7 +8,8 @@ use Rattle.file_format.proofs.writing.write_histories.Given as goal
 
 abbrev pub invariant-loop-hall : goal.invariant-loop-hall
 invariant-loop-hall g l = record {
-  left : Leaves (g.W.Write.contents l.fn.writer) (g.W.Write.contents l.writer) (histories_text l.histories) (l.batch.items ++ lines_from l.header l.hall (drop l.hall l.halls));
+  left : Leaves (g.W.Write.contents l.fn.writer) (g.W.Write.contents l.writer) (histories_text l.histories) (l.batch.items
+      ++ lines_from l.header l.hall (drop l.hall l.halls));
   range : AllBefore IsWritten l.halls l.hall;
   same : (g.W.Counted.failures l.writer) ≡ (g.W.Counted.failures l.fn.writer);
 }

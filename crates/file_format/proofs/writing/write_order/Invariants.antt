@@ -6,7 +6,8 @@ use Rattle.file_format.proofs.writing.write_order.Given as goal
 
 abbrev pub invariant-loop-rest : goal.invariant-loop-rest
 invariant-loop-rest g l = record {
-  left : Leaves (g.W.Write.contents l.fn.writer) (g.W.Write.contents l.writer) (l.fn.batch.items ++ order_text l.order) (l.batch.items ++ order_text (record { key = l.order.key; order = l.rest }));
+  left : Leaves (g.W.Write.contents l.fn.writer) (g.W.Write.contents l.writer) (l.fn.batch.items ++ order_text l.order) (l.batch.items
+      ++ order_text (record { key = l.order.key; order = l.rest }));
   range : AreOps l.rest → AreOps l.order.order;
   same : (g.W.Counted.failures l.writer) ≡ (g.W.Counted.failures l.fn.writer);
 }

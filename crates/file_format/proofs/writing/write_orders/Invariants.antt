@@ -8,7 +8,8 @@ use Rattle.file_format.proofs.writing.write_orders.Given as goal
 
 abbrev pub invariant-loop-order : goal.invariant-loop-order
 invariant-loop-order g l = record {
-  left : Leaves (g.W.Write.contents l.fn.writer) (g.W.Write.contents l.writer) (orders_text l.orders) (l.batch.items ++ flat_map order_text (drop l.order-index l.orders));
+  left : Leaves (g.W.Write.contents l.fn.writer) (g.W.Write.contents l.writer) (orders_text l.orders) (l.batch.items
+      ++ flat_map order_text (drop l.order-index l.orders));
   range : AllBefore IsOrderInRange l.orders l.order-index;
   same : (g.W.Counted.failures l.writer) ≡ (g.W.Counted.failures l.fn.writer);
 }

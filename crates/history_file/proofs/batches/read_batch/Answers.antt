@@ -1,7 +1,7 @@
 use Rattle.std.proofs.Common.{take, ◌-◌, ◌∙◌, refl, arith, subst}
 use Rattle.std.specs.Io.KnownBytes.{Consumes}
 use Rattle.counted_devices.specs.Counts.{IsOneMore}
-use Rattle.counted_devices.specs.Consuming.{Consumes-none}
+use Rattle.counted_devices.proofs.Consuming.{Consumes-none}
 use Rattle.history_file.proofs.Filling.{fills, fills_nothing, keeps_of_none}
 use Rattle.history_file.proofs.batches.read_batch.Goals as goal
 

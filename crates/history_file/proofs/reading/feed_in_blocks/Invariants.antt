@@ -1,10 +1,11 @@
 use Rattle.std.proofs.Common.{◌≡◌, ◌≤◌, ◌-◌, ◌^◌}
-use Rattle.history_file.specs.Deliveries.{HoldsAhead}
+use Rattle.counted_devices.specs.Deliveries.{Holds}
+use Rattle.history_file.specs.Ahead.{StandsAhead}
 use Rattle.history_file.proofs.reading.feed_in_blocks.Given as goal
 
 abbrev pub invariant-reads : goal.invariant-reads
 invariant-reads g l = record {
-  holds : HoldsAhead g.C.Contents.format g.C.Contents.Makes (g.R.Read.remaining l.fn.reader) (g.R.Read.remaining l.reader) l.ahead;
+  holds : Holds (StandsAhead g.C.Contents.format g.C.Contents.Makes) (g.R.Read.remaining l.fn.reader) (g.R.Read.remaining l.reader) l.ahead;
   same : (g.R.Counted.failures l.reader) ≡ (g.R.Counted.failures l.fn.reader);
   fed : l.ahead.fed ≤ (g.R.Counted.given l.reader);
 }

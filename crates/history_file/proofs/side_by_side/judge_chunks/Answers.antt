@@ -6,7 +6,7 @@ use Rattle.tag.specs.declared.memory.Memory.{Memory}
 use Rattle.file_format.specs.declared.judge_lines.Judgement.{Judgement}
 use Rattle.file_format.specs.Lines.{ShowChunks}
 use Rattle.rayon.proofs.ToStd.{slice-AllZip}
-use Rattle.file_format.specs.Chunks.{show_all}
+use Rattle.file_format.proofs.Chunks.{show_all}
 use Rattle.history_file.proofs.SideBySide.{collected}
 use Rattle.history_file.proofs.side_by_side.judge_chunks.Goals as goal
 

@@ -21,6 +21,7 @@ returns c =
     let l = c.loop-numbered in
     let commands = c.args.script.commands in
     let gives = c.into_iter-numbered-iterator.ensures.into_iter_gives in
-    let ended = YieldsList-end (YieldsList-from_vec commands.items gives.0 (omega (arith, gives.1, commands.ok.0))) l.yielded l.numbered-iterator l.yielded_by c.next.result c.next.new.self c.in-None.is c.next.ensures.steps in
+    let ended = YieldsList-end (YieldsList-from_vec commands.items gives.0 (omega (arith, gives.1, commands.ok.0))) l.yielded
+    l.numbered-iterator l.yielded_by c.next.result c.next.new.self c.in-None.is c.next.ensures.steps in
     let all : l.yielded ≡ commands.items = sym (map-id l.yielded) ∙ ended.0 in
     subst (λ (numbereds : List NumberedCommand). IsRunSoFar (opening c.args.script.config) numbereds l.run) all l.invariant

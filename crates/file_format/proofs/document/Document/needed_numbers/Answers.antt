@@ -4,9 +4,10 @@ use Rattle.std.specs.declared.alloc.Global.{Global}
 use Rattle.json.specs.Find.{as_array}
 use Rattle.json.specs.Json.{Json}
 use Rattle.json.specs.Value.{value_view}
-use Rattle.file_format.specs.Members.{Gives, needed_member}
+use Rattle.counted_devices.specs.Answers.{Gives}
+use Rattle.file_format.specs.Members.{needed_member}
 use Rattle.file_format.specs.Trees.{all_unsigned}
-use Rattle.file_format.proofs.Looking.{numbers_there}
+use Rattle.file_format.proofs.FoundMembers.{numbers_there}
 use Rattle.file_format.proofs.document.Document.needed_numbers.Goals as goal
 
 abbrev numbers_of : Option Json → Option (List ℕ)
@@ -33,4 +34,5 @@ returns-in-None c =
     let j = value_view c.args.self.now.value in
     let fits = c.args.self.now.numbers in
     let name = c.args.name.now in
-    ap needed_member (sym (ap (option_and_then all_unsigned) c.in-None.ensures ∙ ap numbers_of c.in-Some.ensures ∙ numbers_there name j fits))
+    ap needed_member (sym (ap (option_and_then all_unsigned) c.in-None.ensures ∙ ap numbers_of c.in-Some.ensures
+    ∙ numbers_there name j fits))

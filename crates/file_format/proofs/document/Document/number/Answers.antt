@@ -1,18 +1,9 @@
-use Rattle.std.proofs.Common.{ap, ◌∙◌}
-use Rattle.std.specs.Prelude.{option_and_then}
-use Rattle.json.specs.Value.{value_view}
-use Rattle.file_format.specs.Trees.{unsigned_of}
-use Rattle.file_format.proofs.Looking.{number_there}
+use Rattle.std.proofs.Common.{◌∙◌}
+use Rattle.file_format.proofs.FoundMembers.{found_number}
 use Rattle.file_format.proofs.document.Document.number.Goals as goal
 
 pub returns-in_err-get : goal.returns-in_err-get
-returns-in_err-get c =
-    let j = value_view c.args.self.now.value in
-    let fits = c.args.self.now.numbers in
-    rw c.from_residual.ensures (ap (option_and_then unsigned_of) c.in_err-get.ensures ∙ number_there c.args.name.now j fits)
+returns-in_err-get c = rw c.from_residual.ensures (found_number c.args.self.now c.args.name.now _ c.in_err-get.ensures)
 
 pub returns : goal.returns
-returns c =
-    let j = value_view c.args.self.now.value in
-    let fits = c.args.self.now.numbers in
-    c.number_in.ensures ∙ ap (option_and_then unsigned_of) c.in_ok-get.ensures ∙ number_there c.args.name.now j fits
+returns c = c.number_in.ensures ∙ found_number c.args.self.now c.args.name.now _ c.in_ok-get.ensures

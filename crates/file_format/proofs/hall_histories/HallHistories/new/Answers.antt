@@ -14,9 +14,12 @@ pub invariant_of-result : goal.invariant_of-result
 invariant_of-result c =
     let halls = c.loop.halls.items in
     let header = c.args.header in
-    let long : length halls ≡ halls_in header = omega (arith, c.loop.invariant.long, c.loop-test.false, c.loop.auto.counter-end, c.halls-end.ensures.count) in
+    let long : length halls ≡ halls_in header =
+    omega (arith, c.loop.invariant.long, c.loop-test.false, c.loop.auto.counter-end, c.halls-end.ensures.count) in
     record {
-      lawful = lawful_blank header halls c.loop.invariant.blank long (omega (arith, long, c.halls-end.ensures.count, c.halls-end.ensures.least)) (omega (arith, long, c.halls-end.ensures.count, c.halls-end.ensures.most));
+      lawful = lawful_blank header halls c.loop.invariant.blank long
+          (omega (arith, long, c.halls-end.ensures.count, c.halls-end.ensures.least))
+          (omega (arith, long, c.halls-end.ensures.count, c.halls-end.ensures.most));
       count = long;
       counted = counted_blank halls c.loop.invariant.blank;
       room = λ hall history e. ap (λ (r : Recorded). r.limit) (c.loop.invariant.blank hall history e);
@@ -26,5 +29,6 @@ pub returns-clause-made : goal.returns-clause-made
 returns-clause-made c =
     let halls = c.loop.halls.items in
     let header = c.args.header in
-    let long : length halls ≡ halls_in header = omega (arith, c.loop.invariant.long, c.loop-test.false, c.loop.auto.counter-end, c.halls-end.ensures.count) in
+    let long : length halls ≡ halls_in header =
+    omega (arith, c.loop.invariant.long, c.loop-test.false, c.loop.auto.counter-end, c.halls-end.ensures.count) in
     made_blank header halls c.loop.invariant.blank long

@@ -1,7 +1,7 @@
 use Rattle.std.proofs.Common.{◌∷◌, [], length, arith, ap}
 use Rattle.std.proofs.lemmas.List.Sums.{sum_by-append}
 use Rattle.recorder.specs.declared.order.KeyOrder.{KeyOrder}
-use Rattle.file_format.specs.PieceByPiece.{joined_more}
+use Rattle.file_format.proofs.PieceByPiece.{joined_more}
 use Rattle.history_file.specs.Making.{MakesOrders}
 use Rattle.history_file.proofs.order_format.OrdersContents.follow.Goals as goal
 

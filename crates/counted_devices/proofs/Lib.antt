@@ -1,0 +1,6 @@
+pub mod Consuming
+pub mod CutLemmas
+pub mod CutOnce
+pub mod Delivering
+pub mod FaultKinds
+pub mod Leaving
