@@ -1,4 +1,5 @@
--- Halls: a world with the journal of the steps that it took.
+-- Halls: a world with the journal of the steps that it took, as the log of a replicated state
+-- machine (Schneider 1990) with one machine.
 use Rattle.std.specs.Prelude.{ℕ, ◌≡◌, ◌≤◌, ◌+◌, ◌⊎◌, List, [], ◌∷◌, ◌++◌, None, Some, Result, Ok}
 use Rattle.std.specs.Prelude.{Err}
 use Rattle.world_steps.specs.Clients.{Members, running_count}
@@ -13,6 +14,10 @@ use Rattle.world_steps.specs.declared.step.Step.{Step}
 use Rattle.world_steps.specs.declared.step.Step.TheVariants as step
 use Rattle.world_steps.specs.declared.system.System.{System}
 
+-- the most elements that a list of a program has
+abbrev pub most_elements : ℕ
+most_elements = 9223372036854775807
+
 -- the configuration, the world, and the steps that the world took, the first first
 pub record Hall : Type 0 where
   pub config : Config
@@ -23,8 +28,7 @@ pub record Hall : Type 0 where
 abbrev pub opening_hall : Config → Hall
 opening_hall config = record { config = config; world = opening config; journal = [] }
 
--- the world is what the journal's steps make of the opening one, and each of them was accepted at
--- its place
+-- the world is what the journal's steps make of the opening one, and each of them was accepted
 pub record IsReplay (hall : Hall) : Type 0 where
   pub is : hall.world ≡ after hall.config hall.journal
   pub accepted : AreAccepted (opening hall.config) hall.journal
@@ -34,25 +38,24 @@ abbrev pub with_step : Hall → Step → Hall
 with_step hall step =
     record hall { world = system_after hall.world step; journal = hall.journal ++ step ∷ [] }
 
--- a step that the hall may refuse for memory: the place of a client's stop is free since the client
--- joined
+-- a step that the hall may refuse for memory: any but a client's stop, which has its room in the
+-- journal since the client joined
 abbrev pub MayWantMemory : Step → Type 0
 MayWantMemory (step.StopClient name) = ⊥
 MayWantMemory other = Unit {0}
 
--- the refusal is the one of the table; want of memory only where nothing refuses the step and it
--- may want memory
+-- the step is refused as the table says; or nothing refuses it but an allocation that failed
 abbrev pub IsRefused : System → Step → Refusal → Type 0
 IsRefused s step why = (refusal_of s step ≡ Some why)
     ⊎ ((refusal_of s step ≡ None) × (why ≡ refusal.Memory) × MayWantMemory step)
 
--- the step is taken and added to the journal, or neither
-abbrev pub Takes : Hall → Step → Result Effect Refusal → Hall → Type 0
-Takes old step (Ok effect) new = (refusal_of old.world step ≡ None)
+-- the hall took the step and added it to its journal, or refused it and stays as it was
+abbrev pub TakesOrRefuses : Hall → Step → Result Effect Refusal → Hall → Type 0
+TakesOrRefuses old step (Ok effect) new = (refusal_of old.world step ≡ None)
     × (effect_of old.world step ≡ Some effect) × (new ≡ with_step old step)
-Takes old step (Err why) new = IsRefused old.world step why × (new ≡ old)
+TakesOrRefuses old step (Err why) new = IsRefused old.world step why × (new ≡ old)
 
--- at most so many clients run, and after so many steps the journal has a place for the stop of each
-pub record HasPlaces (members : Members) (running steps capacity : ℕ) : Type 0 where
+-- at most so many clients run, and after so many steps the journal has room for the stop of each
+pub record HasRoomForStops (members : Members) (running steps capacity : ℕ) : Type 0 where
   pub counted : running_count members ≤ running
   pub free : steps + running ≤ capacity

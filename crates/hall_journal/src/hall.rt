@@ -8,7 +8,7 @@ ghost use Rattle.world_steps.specs.contracts.step.StepPartialEq.TheImpl.Laws as 
 ghost use Rattle.world_steps.specs.contracts.world.WorldPartialEq.TheImpl.Laws as world;
 ghost use Rattle.world_steps.specs.Runs.{join_count, stop_count};
 ghost use Rattle.world_steps.specs.SoundSystems.{IsSound};
-ghost use Rattle.hall_journal.specs.Halls.{IsReplay, MayWantMemory, Takes, opening_hall};
+ghost use Rattle.hall_journal.specs.Halls.{IsReplay, MayWantMemory, TakesOrRefuses, most_elements, opening_hall};
 
 use std::alloc::Global;
 use std::marker::Model;
@@ -18,11 +18,11 @@ use world_steps::{Config, Effect, Refusal, Step, World, laws};
 /// A world, and the journal of the steps that it took.
 ///
 /// Of every hall that exists the world is the one after the journal's steps, and each of them was
-/// accepted at its place.
+/// accepted.
 #[derive(Debug, Drop)]
 pub struct Hall {
     config: Config,
-    /// In a place of its own, so that a hall that goes from hand to hand is a few words.
+    /// In an allocation of its own, so that a hall that goes from hand to hand is a few words.
     world: Box<World>,
     journal: Vec<Step>,
     running: usize,
@@ -38,7 +38,7 @@ impl Model for Hall {
     ghost use Rattle.world_steps.specs.SoundSystems.{IsSound};
     ghost use Rattle.world_steps.specs.declared.step.Step.{Step};
     ghost use Rattle.world_steps.specs.declared.system.System.{System};
-    ghost use Rattle.hall_journal.specs.Halls.{Hall, HasPlaces, IsReplay};
+    ghost use Rattle.hall_journal.specs.Halls.{Hall, HasRoomForStops, IsReplay};
 
     ghost Value = { Hall };
 
@@ -58,7 +58,7 @@ impl Model for Hall {
       journal =
           h.journal.items;
     }) × IsSound h.world.value
-        × HasPlaces h.world.value.members h.running (vec_len h.journal) (vec_capacity h.journal) };
+        × HasRoomForStops h.world.value.members h.running (vec_len h.journal) (vec_capacity h.journal) };
 }
 
 impl PartialEq for Hall {
@@ -75,8 +75,8 @@ impl PartialEq for Hall {
 }
 
 impl Hall {
-    /// The hall before the first step: the opening world, and no step. `Memory` comes only where a
-    /// allocation was refused.
+    /// The hall before the first step: the opening world, and no step. `Memory` comes only if an
+    /// allocation failed.
     pub fn new(alloc: Global, config: Config) -> Result<Hall, Memory>
         ensures { IfOk result (λ hall. hall ≡ opening_hall config) }
     {
@@ -131,10 +131,10 @@ impl Hall {
     /// Has the world take a step, adds it to the journal, and answers what it did.
     ///
     /// Of the refusals that apply the one with the lowest number is answered, and the hall then equals
-    /// what it was. `Memory` comes only where no other applies and an allocation was refused; a client's stop
-    /// takes no memory, since its place in the journal is free from the time when the client joins.
+    /// what it was. `Memory` comes only if no other applies and an allocation failed; a client's stop needs
+    /// no memory, since the journal has room for it from the time when the client joins.
     pub fn take(&mut self, step: Step) -> Result<Effect, Refusal>
-        ensures takes { Takes self.old step result self.new }
+        ensures takes { TakesOrRefuses self.old step result self.new }
         ensures replay { IsReplay self.new }
         ensures sound { IsSound self.new.world }
     {
@@ -153,7 +153,7 @@ impl Hall {
 }
 
 /// Makes room for a step, and after it for the stops of all clients that then run. A client's stop has
-/// its place.
+/// its room already.
 fn make_room(journal: &mut Vec<Step>, running: usize, step: &Step) -> Result<(), Memory>
     requires free { vec_len journal.old + running ≤ vec_capacity journal.old }
     requires runs { stop_count step.now ≤ running }
@@ -175,7 +175,7 @@ fn make_room(journal: &mut Vec<Step>, running: usize, step: &Step) -> Result<(),
 /// How many clients run after a step, where so many did before.
 fn running_after(running: usize, step: &Step) -> usize
     requires runs { stop_count step.now ≤ running }
-    requires few { running ≤ 9223372036854775807 }
+    requires few { running ≤ most_elements }
     ensures { result + stop_count step.now ≡ running + join_count step.now }
 {
     match step {

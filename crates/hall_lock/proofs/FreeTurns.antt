@@ -2,6 +2,7 @@
 use Rattle.std.proofs.Common.{◌≡◌, ℕ, [], Option, Some, None, option_map, Result, refl, sym, ap, ◌∙◌, subst}
 use Rattle.std.specs.FinMap as finite
 use Rattle.std.specs.Ordering.{nat_cmp}
+use Rattle.tag.proofs.Options.{none_some}
 use Rattle.client_phases.specs.Clients.{phase_of}
 use Rattle.network.specs.declared.messages.Message.{Message}
 use Rattle.network.specs.declared.messages.Message.TheVariants.{ToReplica, ToClient}
@@ -16,8 +17,9 @@ use Rattle.world_steps.specs.declared.refusal.Refusal.{Refusal}
 use Rattle.world_steps.specs.declared.step.Step.{Step}
 use Rattle.hall_journal.specs.Halls.{Hall, IsReplay, opening_hall}
 use Rattle.hall_lock.specs.declared.rule.View.{View}
-use Rattle.hall_lock.specs.Turns.{AreRecorded, Delivers, IsCopied, IsToReplica, MayReturn, Receives, Returns, ServesFlight, ServesStep, Turns, guest, maker, view_at_rest}
-use Rattle.hall_lock.proofs.Rows.{none_some, none_stopped, whole}
+use Rattle.hall_lock.specs.Turns.{AreRecorded, DeliversFlight, IsCopied, IsToReplica, MayReturn, Receives, Returns, ServesFlight}
+use Rattle.hall_lock.specs.Turns.{ServesStep, Turns, guest, maker, view_at_rest}
+use Rattle.hall_lock.proofs.Rows.{none_stopped, grown_not}
 use Rattle.hall_lock.proofs.OneTurn.{rested}
 
 -- a request is for no client
@@ -26,7 +28,8 @@ to_replica replica None is = absurd is
 to_replica replica (Some (ToReplica number request)) is = refl
 to_replica replica (Some (ToClient name reply)) is = absurd is
 
-pub guest_recorded : (z : View) (hall : Hall) → z ≡ guest hall.world.history.rows → AreRecorded hall.world.history.rows → (z ≡ guest z.rows) × AreRecorded z.rows
+pub guest_recorded : (z : View) (hall : Hall) → z ≡ guest hall.world.history.rows → AreRecorded hall.world.history.rows
+    → (z ≡ guest z.rows) × AreRecorded z.rows
 guest_recorded z hall is recorded =
     let rows : z.rows ≡ hall.world.history.rows = ap (λ (y : View). y.rows) is in
     (is ∙ ap guest (sym rows), subst AreRecorded (sym rows) recorded)
@@ -35,12 +38,21 @@ pub free_turn : (v w z : View) (old new : Hall) → v ≡ guest v.rows → Recei
 free_turn v w z old new is received returned = rested v w z old new received.is returned ∙ ap (λ y. view_at_rest y new.world) is
 
 pub served : (v w : View) (step : Step) (result : Result Effect Refusal) → Turns v step result w → ServesStep v.rows step result w.rows
-served v w step result turn = record { before = turn.before; after = turn.after; grown = turn.knows.seen; took = turn.took; is = ap (λ (y : View). y.rows) turn.is }
+served v w step result turn = record {
+  before = turn.before;
+  after = turn.after;
+  grown = turn.knows.seen;
+  took = turn.took;
+  is = ap
+      (λ (y : View). y.rows) turn.is;
+}
 
-pub guest_turned : (v w : View) (step : Step) (result : Result Effect Refusal) → v ≡ guest v.rows → Turns v step result w → (w ≡ guest w.rows) × AreRecorded w.rows
+pub guest_turned : (v w : View) (step : Step) (result : Result Effect Refusal) → v ≡ guest v.rows → Turns v step result w
+    → (w ≡ guest w.rows) × AreRecorded w.rows
 guest_turned v w step result is turn = guest_recorded w turn.after (turn.is ∙ ap (λ y. view_at_rest y turn.after.world) is) turn.recorded
 
-pub served_flight : (v w z : View) (old new : Hall) (replica flight : ℕ) (result : Result Effect Refusal) → Receives v old w → Returns w new z → Delivers (IsToReplica replica) old flight result new → ServesFlight v.rows replica flight result z.rows
+pub served_flight : (v w z : View) (old new : Hall) (replica flight : ℕ) (result : Result Effect Refusal) → Receives v old w
+    → Returns w new z → DeliversFlight (IsToReplica replica) old flight result new → ServesFlight v.rows replica flight result z.rows
 served_flight v w z old new replica flight result received returned delivered = record {
   before = old;
   after = new;
@@ -51,10 +63,12 @@ served_flight v w z old new replica flight result received returned delivered = 
 
 pub grown_by : (v w z : View) (old new : Hall) → Receives v old w → Returns w new z → new ≡ old → Grows v.rows z.rows
 grown_by v w z old new received returned same =
-    let rows : z.rows ≡ old.world.history.rows = ap (λ (y : View). y.rows) (rested v w z old new received.is returned) ∙ ap (λ (h : Hall). h.world.history.rows) same in
+    let rows : z.rows ≡ old.world.history.rows = ap (λ (y : View). y.rows) (rested v w z old new received.is returned) ∙ ap
+    (λ (h : Hall). h.world.history.rows) same in
     subst (Grows v.rows) (sym rows) received.knows.seen
 
-pub copied : (v w : View) (hall : Hall) (history : Recorded) → Receives v hall w → IsReplay hall → IsSound hall.world → history ≡ hall.world.history → IsCopied v.rows history
+pub copied : (v w : View) (hall : Hall) (history : Recorded) → Receives v hall w → IsReplay hall → IsSound hall.world
+    → history ≡ hall.world.history → IsCopied v.rows history
 copied v w hall history received replay sound is = record {
   hall = hall;
   replay = replay;
@@ -74,9 +88,9 @@ none_halted config name is = none_stopped (sym (ap (λ o. is_stopped (option_map
 pub opens : (config : Config) (hall : Hall) (door : View) → hall ≡ opening_hall config → door ≡ maker → MayReturn door hall.world
 opens config hall door is made = subst (λ (y : View × Hall). MayReturn y.0 y.1.world) (λ i. (sym made i, sym is i)) (record {
   old = opening (config_of 1 1 1);
-  taken = refl;
+  held = refl;
   adds = record {
-    grown = whole [];
+    grown = grown_not [];
     own = λ place row late at. none_some at;
     joined = λ name joined. nobody (config_of 1 1 1) name joined;
     stopped = λ name is. none_halted (config_of 1 1 1) name is;

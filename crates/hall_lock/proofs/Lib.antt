@@ -1,5 +1,5 @@
 mod Results
-mod Rows
+pub mod Rows
 mod Moves
 mod OneTurn
 mod Joining

@@ -1,22 +1,22 @@
-//! A client's way to a hall.
+//! A client's pass to a hall.
 ghost use Rattle.std.specs.Prelude.{◌≡◌, ◌≤◌, ◌↔◌, true, Result, Ok, Err, Some, None, IfOk, IfErr};
-ghost use Rattle.std.specs.Prelude.{IfSome, OnErr, IsTrue, length, ℕ};
+ghost use Rattle.std.specs.Prelude.{IfSome, OnErr, OnOk, IsTrue, length, ℕ};
 ghost use Rattle.std.specs.Option.{option_copied};
 ghost use Rattle.network.specs.Flights.{message_of};
 ghost use Rattle.recorder.specs.declared.row.Row.TheVariants as row;
-ghost use Rattle.world_steps.specs.Lasting.{HasStopped};
+ghost use Rattle.world_steps.specs.Lasting.{HasStopped, client_in};
 ghost use Rattle.world_steps.specs.Refusals.{refusal_of};
 ghost use Rattle.world_steps.specs.declared.effect.Effect.{Effect};
 ghost use Rattle.world_steps.specs.declared.effect.Effect.TheVariants as effect;
 ghost use Rattle.world_steps.specs.declared.refusal.Refusal.{Refusal};
 ghost use Rattle.world_steps.specs.declared.step.Step.TheVariants as event;
-ghost use Rattle.hall_journal.specs.Halls.{Takes, with_step};
-ghost use Rattle.hall_lock.specs.Turns.{AddsRow, AreRecorded, Delivers, HoldsBack, IsDelayed};
-ghost use Rattle.hall_lock.specs.Turns.{IsQuiet, IsReady, IsToClient, AddsNoRow, LooksAt, MayTake};
+ghost use Rattle.hall_journal.specs.Halls.{TakesOrRefuses, most_elements, with_step};
+ghost use Rattle.hall_lock.specs.Turns.{AddsOwnRows, AddsRow, AreRecorded, DeliversFlight, HoldsBack, IsDelayed};
+ghost use Rattle.hall_lock.specs.Turns.{AddsNoRow, IsQuiet, IsReady, IsStepOfClient, IsToClient, LooksAt};
 ghost use Rattle.hall_lock.specs.Turns.{StandsIn, StaysStopped, TakesFlight, TakesReply, TakesTurn};
 ghost use Rattle.hall_lock.specs.Turns.{seat};
 
-use crate::door::{Door, attest};
+use crate::door::{Door, take_in};
 use client_phases::{Phase, Taken};
 use hall_journal::Hall;
 use network::Message;
@@ -25,9 +25,9 @@ use std::fmt;
 use std::marker::Model;
 use std::sync::Wait;
 use tag::{Action, ClientId, Key, Memory, OpId, Returned};
-use world_steps::{Effect, Refusal, Step, World, laws};
+use world_steps::{Effect, Refusal, Step, World};
 
-/// The way of a client to a hall. No other pass has this client: rows of its calls come by this one
+/// The pass of a client to a hall. No other pass has this client: rows of its calls come by this one
 /// alone.
 #[derive(Drop)]
 pub struct ClientPass {
@@ -95,7 +95,7 @@ pub enum Delay {
 }
 
 impl ClientPass {
-    /// The way of the client that this door's pass has.
+    /// The pass of the client that this door's pass has.
     pub(crate) fn new(client: ClientId, door: Door) -> ClientPass
         requires seat { door ≡ seat client door.rows door.is_stopped }
         requires recorded { AreRecorded door.rows }
@@ -118,10 +118,10 @@ impl ClientPass {
 
     /// One turn: the hall takes a step of this client that adds no row.
     pub fn take(&mut self, rt: &impl Wait, step: Step) -> Result<Effect, Refusal>
-        requires may { MayTake (Some self.old.client) step }
+        requires may { IsStepOfClient self.old.client step }
         requires quiet { IsQuiet step }
         ensures turned { TakesTurn self.old step result self.new }
-        ensures looked { AddsNoRow self.old self.new }
+        ensures no_row { AddsNoRow self.old self.new }
         ensures stays { StaysStopped self.old self.new }
         ensures recorded { AreRecorded self.new.rows }
     {
@@ -132,7 +132,7 @@ impl ClientPass {
     pub fn stop(&mut self, rt: &impl Wait)
         ensures turned { (result : Result Effect Refusal)
             × TakesTurn self.old (event.StopClient self.old.client) result self.new }
-        ensures looked { AddsNoRow self.old self.new }
+        ensures no_row { AddsNoRow self.old self.new }
         ensures stopped { self.new.is_stopped ≡ true }
         ensures recorded { AreRecorded self.new.rows }
     {
@@ -144,7 +144,7 @@ impl ClientPass {
 impl ClientPass {
     /// One turn: where the client stands. Once it was seen stopped it stands stopped.
     pub fn standing(&mut self, rt: &impl Wait) -> Standing
-        ensures looked { AddsNoRow self.old self.new }
+        ensures no_row { AddsNoRow self.old self.new }
         ensures told { LooksAt self.old
             (StandsIn self.old.client result.phase result.counted) self.new }
         ensures stopped { self.old.is_stopped ≡ true → result.phase ≡ Phase.Stopped }
@@ -152,7 +152,6 @@ impl ClientPass {
         ensures recorded { AreRecorded self.new.rows }
     {
         let hall = self.door.receive(rt);
-        attest(&hall);
         let standing = standing_in(hall.world(), self.client);
         self.door.give_back(rt, hall);
         standing
@@ -169,7 +168,7 @@ impl ClientPass {
         ensures begun { IfOk result (λ begun. AddsRow self.old
             (row.Invoke begun.op self.old.client key action) begun.place self.new) }
         ensures seen { IfOk result (λ begun. seen ≤ begun.place) }
-        ensures few { IfOk result (λ begun. begun.place ≤ 9223372036854775807) }
+        ensures few { IfOk result (λ begun. begun.place ≤ most_elements) }
         ensures turned { IfOk result (λ begun.
             TakesTurn self.old (event.Invoke self.old.client key action)
             (Ok (effect.Invoked begun.op)) self.new) }
@@ -179,13 +178,8 @@ impl ClientPass {
         ensures stays { StaysStopped self.old self.new }
         ensures recorded { AreRecorded self.new.rows }
     {
-        laws::a_step_adds_a_row_of_its_client();
-        laws::further_steps_take_nothing_away();
-        laws::a_stop_is_for_good();
         let mut hall = self.door.receive(rt);
-        attest(&hall);
         let begun = begin_in(&mut hall, self.client, key, action, seen);
-        attest(&hall);
         self.door.give_back(rt, hall);
         begun
     }
@@ -201,13 +195,8 @@ impl ClientPass {
         ensures stays { StaysStopped self.old self.new }
         ensures recorded { AreRecorded self.new.rows }
     {
-        laws::a_step_adds_a_row_of_its_client();
-        laws::further_steps_take_nothing_away();
-        laws::a_stop_is_for_good();
         let mut hall = self.door.receive(rt);
-        attest(&hall);
         let taken = deliver_in(&mut hall, self.client, flight);
-        attest(&hall);
         self.door.give_back(rt, hall);
         taken
     }
@@ -215,7 +204,7 @@ impl ClientPass {
     /// One turn: the client's call is answered, where it is ready.
     pub fn respond(&mut self, rt: &impl Wait) -> Result<Ended, Refusal>
         ensures copy { IfOk result (λ ended. ended.copy ≡ ended.returned) }
-        ensures few { IfOk result (λ ended. ended.place ≤ 9223372036854775807) }
+        ensures few { IfOk result (λ ended. ended.place ≤ most_elements) }
         ensures ended { IfOk result (λ ended. AddsRow self.old
             (row.Respond ended.op ended.returned) ended.place self.new) }
         ensures turned { IfOk result (λ ended.
@@ -227,13 +216,8 @@ impl ClientPass {
         ensures stays { StaysStopped self.old self.new }
         ensures recorded { AreRecorded self.new.rows }
     {
-        laws::a_step_adds_a_row_of_its_client();
-        laws::further_steps_take_nothing_away();
-        laws::a_stop_is_for_good();
         let mut hall = self.door.receive(rt);
-        attest(&hall);
         let ended = respond_in(&mut hall, self.client);
-        attest(&hall);
         self.door.give_back(rt, hall);
         ended
     }
@@ -247,24 +231,28 @@ fn begin_in(
     action: Action,
     seen: usize,
 ) -> Result<Begun, Delay>
-    ensures began { IfOk result (λ begun. Takes hall.old (event.Invoke client key action)
+    ensures began { IfOk result (λ begun. TakesOrRefuses hall.old (event.Invoke client key action)
         (Ok (effect.Invoked begun.op)) hall.new) }
     ensures place { IfOk result (λ begun.
         (length hall.old.world.history.rows ≡ begun.place) × (seen ≤ begun.place)) }
-    ensures few { IfOk result (λ begun. begun.place ≤ 9223372036854775807) }
+    ensures few { IfOk result (λ begun. begun.place ≤ most_elements) }
     ensures why { IfErr result (λ delay.
         HoldsBack hall.old (event.Invoke client key action) seen delay hall.new) }
     ensures delayed { OnErr result (hall.new ≡ hall.old) }
+    ensures adds { OnOk result (AddsOwnRows (Some client) hall.old.world hall.new.world) }
 {
     let place = hall.world().history().rows().len();
     if place < seen {
         return Err(Delay::Foreign);
     }
-    match hall.take(Step::Invoke {
-        client,
-        key,
-        action,
-    }) {
+    match take_in(
+        hall,
+        Step::Invoke {
+            client,
+            key,
+            action,
+        },
+    ) {
         Ok(Effect::Invoked(op)) => Ok(Begun { op, place }),
         Ok(_) => unreachable!(),
         Err(refusal) => Err(Delay::Refused(refusal)),
@@ -274,16 +262,18 @@ fn begin_in(
 /// Has the hall take the delivery, where the flight is for the client.
 fn deliver_in(hall: &mut Hall, client: ClientId, flight: u32) -> Result<Taken, Refusal>
     ensures took { IfOk result (λ taken.
-        Takes hall.old (event.Deliver flight) (Ok (effect.Taken taken)) hall.new
+        TakesOrRefuses hall.old (event.Deliver flight) (Ok (effect.Taken taken)) hall.new
         × IsToClient client (message_of hall.old.world.pool.flights flight)) }
     ensures refused { OnErr result (hall.new ≡ hall.old) }
     ensures why { IfErr result (λ why.
-        Delivers (IsToClient client) hall.old flight (Err why) hall.new) }
+        DeliversFlight (IsToClient client) hall.old flight (Err why) hall.new) }
+    ensures adds { OnOk result (AddsOwnRows (client_in hall.old.world (event.Deliver flight))
+        hall.old.world hall.new.world) }
 {
     if !is_for(hall.world().pool().look(flight), client) {
         return Err(Refusal::NotInFlight);
     }
-    match hall.take(Step::Deliver { flight }) {
+    match take_in(hall, Step::Deliver { flight }) {
         Ok(Effect::Taken(taken)) => Ok(taken),
         Ok(_) => unreachable!(),
         Err(refusal) => Err(refusal),
@@ -305,12 +295,13 @@ fn respond_in(hall: &mut Hall, client: ClientId) -> Result<Ended, Refusal>
     ensures ended { IfOk result (λ ended. (refusal_of hall.old.world (event.Respond client) ≡ None)
         × (hall.new ≡ with_step hall.old (event.Respond client))) }
     ensures why { IfErr result (λ why.
-        Takes hall.old (event.Respond client) (Err why) hall.new) }
+        TakesOrRefuses hall.old (event.Respond client) (Err why) hall.new) }
     ensures answer { IfOk result (λ ended. IsReady hall.old.world client ended.op ended.returned) }
     ensures place { IfOk result (λ ended. length hall.old.world.history.rows ≡ ended.place) }
     ensures copy { IfOk result (λ ended. ended.copy ≡ ended.returned) }
-    ensures few { IfOk result (λ ended. ended.place ≤ 9223372036854775807) }
+    ensures few { IfOk result (λ ended. ended.place ≤ most_elements) }
     ensures refused { OnErr result (hall.new ≡ hall.old) }
+    ensures adds { OnOk result (AddsOwnRows (Some client) hall.old.world hall.new.world) }
 {
     if let Some(refusal) = hall.world().refusal(&Step::Respond { client }) {
         return Err(refusal);
@@ -318,7 +309,7 @@ fn respond_in(hall: &mut Hall, client: ClientId) -> Result<Ended, Refusal>
     let place = hall.world().history().rows().len();
     let (op, returned) = answer_in(hall.world(), client)?;
     let copy = returned.copy()?;
-    match hall.take(Step::Respond { client }) {
+    match take_in(hall, Step::Respond { client }) {
         Ok(_) => Ok(Ended {
             op,
             place,

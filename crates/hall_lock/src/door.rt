@@ -1,9 +1,10 @@
-//! The way to a hall: the ends of its channel, and a pass of the rule.
+//! How a thread comes to a hall: the ends of the hall's channel, and a pass of the rule.
 ghost use Rattle.std.specs.Prelude.{◌≡◌, None, IfOk, IfSome, IsNone};
-ghost use Rattle.hall_lock.specs.Turns.{HasEntered, IsAtRest, KeepsStopped, MayReturn, MayTake};
-ghost use Rattle.hall_lock.specs.Turns.{Receives, Returns, Turns, guest, maker, seat_in};
+ghost use Rattle.hall_lock.specs.Turns.{AddsOwnRows, AreRecorded, HasEntered, IsAtRest, IsStepOfPass, KeepsStopped};
+ghost use Rattle.hall_lock.specs.Turns.{MayReturn, Receives, Returns, Turns, guest, maker, seat_in};
 ghost use Rattle.recorder.specs.Histories.{IsWellFormed};
-ghost use Rattle.hall_journal.specs.Halls.{IsReplay};
+ghost use Rattle.hall_journal.specs.Halls.{IsReplay, TakesOrRefuses};
+ghost use Rattle.world_steps.specs.Lasting.{client_in};
 ghost use Rattle.world_steps.specs.SoundSystems.{IsSound};
 
 use crate::rule::{Enter, Guest, OneHall, Receive, Return, View};
@@ -17,16 +18,16 @@ use std::thread;
 use tag::{ClientId, Memory};
 use world_steps::{Effect, Refusal, Step, laws};
 
-/// How often a thread looks for the hall before it sleeps.
-const LOOKS: u32 = 12;
+/// How often a thread tries to receive the hall before it sleeps.
+const TRIES: u32 = 12;
 
-/// After how many of these looks it only pauses, and keeps its processor.
+/// After how many of these tries it only pauses, and keeps its processor.
 const PAUSED: u32 = 4;
 
 /// How long such a pause is, in the processor's pauses.
 const PAUSES: u32 = 4;
 
-/// The way to one hall. A contract sees what its pass knows.
+/// The door to one hall. A contract sees what its pass knows.
 #[derive(Drop)]
 pub struct Door {
     sender: RuledSender<Hall, View, OneHall>,
@@ -50,11 +51,11 @@ impl Model for Door {
     ghost coded = { code_by (Option ℕ × (List Row × (Bool × Option System))) (coded× (coded_option
         coded_ℕ) (coded× (coded_list entry.the_row.coded)
         (coded× coded_bool (coded_option whole.the_row.coded))))
-        (λ v. (v.client, (v.rows, (v.is_stopped, v.taken)))) (λ p. record {
+        (λ v. (v.client, (v.rows, (v.is_stopped, v.held)))) (λ p. record {
           client = p.0;
           rows = p.1.0;
           is_stopped = p.1.1.0;
-          taken = p.1.1.1;
+          held = p.1.1.1;
         }) (λ _. refl) };
 
     ghost view = { λ d. pass_view d.pass };
@@ -75,7 +76,7 @@ impl Door {
         })
     }
 
-    /// Another door to the same hall, without a client. `Memory` comes only where an allocation was refused.
+    /// Another door to the same hall, without a client. `Memory` comes only if an allocation failed.
     pub(crate) fn guest(&mut self) -> Result<Door, Memory>
         ensures same { self.new ≡ self.old }
         ensures ok { IfOk result (λ door. door ≡ guest self.old.rows) }
@@ -90,18 +91,29 @@ impl Door {
         })
     }
 
-    /// Takes the hall.
-    ///
-    /// It looks a few times, and lets other threads run in between, before it sleeps: a turn is short, and a thread
-    /// that doesn't sleep needn't be woken.
+    /// Receives the hall.
     pub(crate) fn receive(&mut self, rt: &impl Wait) -> Hall
+        ensures received { Receives self.old result self.new }
+        ensures replay { IsReplay result }
+        ensures sound { IsSound result.world }
+    {
+        let hall = self.fetch(rt);
+        attest(&hall);
+        hall
+    }
+
+    /// Fetches the hall from its channel.
+    ///
+    /// It tries a few times, and lets other threads run in between, before it sleeps: a turn is short, and a thread
+    /// that doesn't sleep needn't be woken.
+    fn fetch(&mut self, rt: &impl Wait) -> Hall
         ensures { Receives self.old result self.new }
     {
-        for looks in 0..LOOKS {
-            if let Some(hall) = self.look(rt) {
+        for tries in 0..TRIES {
+            if let Some(hall) = self.try_receive(rt) {
                 return hall;
             }
-            if looks < PAUSED {
+            if tries < PAUSED {
                 pause();
             } else {
                 thread::yield_now();
@@ -110,9 +122,9 @@ impl Door {
         self.wait(rt)
     }
 
-    /// Takes the hall, where it lies in its channel.
-    fn look(&mut self, rt: &impl Wait) -> Option<Hall>
-        ensures taken { IfSome result (λ hall. Receives self.old hall self.new) }
+    /// Receives the hall, if it lies in its channel.
+    fn try_receive(&mut self, rt: &impl Wait) -> Option<Hall>
+        ensures received { IfSome result (λ hall. Receives self.old hall self.new) }
         ensures out { IsNone result → self.new ≡ self.old }
     {
         match self.receiver.try_recv_as::<Receive, _>(rt, &mut self.pass) {
@@ -121,7 +133,7 @@ impl Door {
         }
     }
 
-    /// Takes the hall, and sleeps until it lies in its channel.
+    /// Receives the hall, and sleeps until it lies in its channel.
     fn wait(&mut self, rt: &impl Wait) -> Hall
         ensures { Receives self.old result self.new }
     {
@@ -137,8 +149,10 @@ impl Door {
     pub(crate) fn give_named(&mut self, rt: &impl Wait, hall: Hall, client: ClientId)
         requires free { self.old.client ≡ None }
         requires joined { HasEntered self.old client hall.world }
-        ensures { self.new ≡ seat_in client hall.world }
+        ensures seat { self.new ≡ seat_in client hall.world }
+        ensures recorded { AreRecorded hall.world.history.rows }
     {
+        attest(&hall);
         let mut back = hall;
         for _ in rt.forever() {
             match self.sender.send_as::<Enter, _>(rt, &mut self.pass, back) {
@@ -154,7 +168,9 @@ impl Door {
         requires { MayReturn self.old hall.world }
         ensures back { Returns self.old hall self.new }
         ensures stays { KeepsStopped self.old hall.world }
+        ensures recorded { AreRecorded hall.world.history.rows }
     {
+        attest(&hall);
         let mut back = hall;
         for _ in rt.forever() {
             match self.sender.send_as::<Return, _>(rt, &mut self.pass, back) {
@@ -170,16 +186,11 @@ impl Door {
     /// One turn: the hall takes the step, or refuses it.
     pub(crate) fn take(&mut self, rt: &impl Wait, step: Step) -> Result<Effect, Refusal>
         requires rest { IsAtRest self.old }
-        requires may { MayTake self.old.client step }
+        requires may { IsStepOfPass self.old.client step }
         ensures { Turns self.old step result self.new }
     {
-        laws::a_step_adds_a_row_of_its_client();
-        laws::further_steps_take_nothing_away();
-        laws::a_stop_is_for_good();
         let mut hall = self.receive(rt);
-        attest(&hall);
-        let taken = hall.take(step);
-        attest(&hall);
+        let taken = take_in(&mut hall, step);
         self.give_back(rt, hall);
         taken
     }
@@ -192,8 +203,20 @@ fn pause() {
     }
 }
 
+/// Has the hall take a step, which adds rows of its own client's calls alone.
+pub(crate) fn take_in(hall: &mut Hall, step: Step) -> Result<Effect, Refusal>
+    ensures takes { TakesOrRefuses hall.old step result hall.new }
+    ensures adds { AddsOwnRows (client_in hall.old.world step) hall.old.world hall.new.world }
+{
+    laws::a_step_adds_a_row_of_its_client();
+    laws::further_steps_take_nothing_away();
+    laws::a_stop_is_for_good();
+    attest(hall);
+    hall.take(step)
+}
+
 /// What holds of every hall.
-pub(crate) fn attest(hall: &Hall)
+fn attest(hall: &Hall)
     ensures replay { IsReplay hall.now }
     ensures sound { IsSound hall.now.world }
     ensures formed { IsWellFormed hall.now.world.history.rows }

@@ -1,20 +1,20 @@
-//! A way to a hall without a client.
+//! A pass to a hall without a client.
 ghost use Rattle.std.specs.Prelude.{◌≡◌, ◌↔◌, false, Ok, Err, None, Some, IfOk, IfErr, OnOk, OnErr, IsTrue, [], ℕ};
 ghost use Rattle.std.specs.Fn.{FnOnceReturnsAt};
 ghost use Rattle.std.specs.Option.{option_copied};
 ghost use Rattle.network.specs.Flights.{message_of};
 ghost use Rattle.network.specs.declared.messages.Message.{Message};
 ghost use Rattle.recorder.specs.declared.row.Row.{Row};
-ghost use Rattle.world_steps.specs.Lasting.{Grows, receiver};
+ghost use Rattle.world_steps.specs.Lasting.{Grows, client_in};
 ghost use Rattle.world_steps.specs.SoundSystems.{IsSound};
 ghost use Rattle.world_steps.specs.declared.effect.Effect.TheVariants as effect;
 ghost use Rattle.world_steps.specs.declared.step.Step.TheVariants as event;
-ghost use Rattle.hall_journal.specs.Halls.{IsReplay, Takes};
-ghost use Rattle.hall_lock.specs.Turns.{AreRecorded, Delivers, Enters, HasNoCall, IsCopied};
-ghost use Rattle.hall_lock.specs.Turns.{IsToReplica, IsTold, MayTake, ServesFlight, ServesStep};
+ghost use Rattle.hall_journal.specs.Halls.{IsReplay, TakesOrRefuses};
+ghost use Rattle.hall_lock.specs.Turns.{AddsOwnRows, AreRecorded, DeliversFlight, HasNoCall, IsCopied};
+ghost use Rattle.hall_lock.specs.Turns.{IsStepOfNoClient, IsToReplica, IsTold, ServesFlight, ServesStep};
 
 use crate::client_pass::ClientPass;
-use crate::door::{Door, attest};
+use crate::door::{Door, take_in};
 use hall_journal::Hall;
 use network::Message;
 use recorder::History;
@@ -22,9 +22,9 @@ use std::alloc::Global;
 use std::marker::Model;
 use std::sync::Wait;
 use tag::{ClientId, Memory, ReplicaId};
-use world_steps::{Config, Effect, Refusal, Step, World, laws};
+use world_steps::{Config, Effect, Refusal, Step, World};
 
-/// A way to a hall that has no client, and so adds no row. A contract sees the rows that it has seen.
+/// A pass to a hall that has no client, and so adds no row. A contract sees the rows that it has seen.
 #[derive(Drop)]
 pub struct FreePass {
     door: Door,
@@ -43,19 +43,18 @@ impl Model for FreePass {
 }
 
 impl FreePass {
-    /// The first way to a new hall, which lies in its channel from now on. `Memory` comes only where a
-    /// allocation was refused.
+    /// The first pass to a new hall, which lies in its channel from now on. `Memory` comes only if an
+    /// allocation failed.
     pub fn open(rt: &impl Wait, alloc: Global, config: Config) -> Result<FreePass, Memory>
         ensures { IfOk result (λ pass. pass ≡ []) }
     {
         let hall = Hall::new(alloc, config)?;
         let mut door = Door::new(alloc)?;
-        attest(&hall);
         door.give_back(rt, hall);
         Ok(FreePass { door })
     }
 
-    /// Another way to the same hall. `Memory` comes only where an allocation was refused.
+    /// Another pass to the same hall. `Memory` comes only if an allocation failed.
     pub fn another(&mut self) -> Result<FreePass, Memory>
         ensures same { self.new ≡ self.old }
         ensures ok { IfOk result (λ pass. pass ≡ self.old) }
@@ -66,7 +65,7 @@ impl FreePass {
 
     /// One turn: the hall takes a step that names no client.
     pub fn take(&mut self, rt: &impl Wait, step: Step) -> Result<Effect, Refusal>
-        requires free { MayTake None step }
+        requires free { IsStepOfNoClient step }
         ensures { ServesStep self.old step result self.new }
     {
         self.door.take(rt, step)
@@ -85,13 +84,8 @@ impl FreePass {
         ensures refused { IfErr result (λ why.
             ServesFlight self.old replica flight (Err why) self.new) }
     {
-        laws::a_step_adds_a_row_of_its_client();
-        laws::further_steps_take_nothing_away();
-        laws::a_stop_is_for_good();
         let mut hall = self.door.receive(rt);
-        attest(&hall);
         let served = serve_in(&mut hall, replica, flight);
-        attest(&hall);
         self.door.give_back(rt, hall);
         served
     }
@@ -102,7 +96,6 @@ impl FreePass {
         ensures seen { Grows self.old self.new }
     {
         let hall = self.door.receive(rt);
-        attest(&hall);
         let copy = hall.world().history().copy();
         self.door.give_back(rt, hall);
         copy
@@ -115,26 +108,20 @@ impl FreePass {
         ensures seen { Grows self.old self.new }
     {
         let hall = self.door.receive(rt);
-        attest(&hall);
         let told = look(hall.world());
         self.door.give_back(rt, hall);
         told
     }
 
-    /// One turn: the client joins, and has this way from now on.
+    /// One turn: the client joins, and has this pass from now on.
     pub fn join(self, rt: &impl Wait, client: ClientId) -> Result<ClientPass, Refusal>
         ensures client { IfOk result (λ pass. pass.client ≡ client) }
         ensures running { IfOk result (λ pass. pass.is_stopped ≡ false) }
         ensures rows { IfOk result (λ pass. Grows self pass.rows × HasNoCall client pass.rows) }
     {
-        laws::further_steps_take_nothing_away();
-        laws::a_stop_is_for_good();
         let FreePass { mut door } = self;
         let mut hall = door.receive(rt);
-        attest(&hall);
-        let joined = join_in(&mut hall, client);
-        attest(&hall);
-        match joined {
+        match join_in(&mut hall, client) {
             Ok(()) => {
                 door.give_named(rt, hall, client);
                 Ok(ClientPass::new(client, door))
@@ -146,7 +133,7 @@ impl FreePass {
         }
     }
 
-    /// Takes the hall for good: whoever else has a way to it waits from now on.
+    /// Receives the hall for good: whoever else has a pass to it waits from now on.
     pub fn into_hall(self, rt: &impl Wait) -> Hall
         ensures rows { Grows self result.world.history.rows }
     {
@@ -158,16 +145,18 @@ impl FreePass {
 /// Has the hall take the delivery, where the flight is for the replica.
 fn serve_in(hall: &mut Hall, replica: ReplicaId, flight: u32) -> Result<u32, Refusal>
     ensures served { IfOk result (λ reply.
-        Takes hall.old (event.Deliver flight) (Ok (effect.Answered reply)) hall.new
+        TakesOrRefuses hall.old (event.Deliver flight) (Ok (effect.Answered reply)) hall.new
         × IsToReplica replica (message_of hall.old.world.pool.flights flight)) }
     ensures refused { OnErr result (hall.new ≡ hall.old) }
     ensures why { IfErr result (λ why.
-        Delivers (IsToReplica replica) hall.old flight (Err why) hall.new) }
+        DeliversFlight (IsToReplica replica) hall.old flight (Err why) hall.new) }
+    ensures adds { OnOk result (AddsOwnRows (client_in hall.old.world (event.Deliver flight))
+        hall.old.world hall.new.world) }
 {
     if !is_to(hall.world().pool().look(flight), replica) {
         return Err(Refusal::NotInFlight);
     }
-    match hall.take(Step::Deliver { flight }) {
+    match take_in(hall, Step::Deliver { flight }) {
         Ok(Effect::Answered(reply)) => Ok(reply),
         Ok(_) => unreachable!(),
         Err(refusal) => Err(refusal),
@@ -186,10 +175,11 @@ fn is_to(message: Option<&Message>, replica: ReplicaId) -> bool
 
 /// Has the hall take the client in.
 fn join_in(hall: &mut Hall, client: ClientId) -> Result<(), Refusal>
-    ensures joined { OnOk result (Takes hall.old (event.Join client) (Ok effect.Joined) hall.new) }
+    ensures joined { OnOk result (TakesOrRefuses hall.old (event.Join client) (Ok effect.Joined) hall.new) }
     ensures refused { OnErr result (hall.new ≡ hall.old) }
+    ensures adds { OnOk result (AddsOwnRows (Some client) hall.old.world hall.new.world) }
 {
-    match hall.take(Step::Join { client }) {
+    match take_in(hall, Step::Join { client }) {
         Ok(_) => Ok(()),
         Err(refusal) => Err(refusal),
     }

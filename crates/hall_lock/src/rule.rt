@@ -7,13 +7,13 @@ use tag::ClientId;
 use world_steps::World;
 
 /// What a pass knows: its client, if it has one; the rows that it has seen; whether the client was
-/// stopped in the hall as the pass last gave it back; and, while it holds the hall, the world that it
-/// took. No value of it is made.
+/// stopped in the hall when the pass last gave it back; and, while it holds the hall, the world that it
+/// received. No value of it is made.
 pub struct View {
     pub client: Option<ClientId>,
     pub rows: LinkedList<Row>,
     pub is_stopped: bool,
-    pub taken: Option<World>,
+    pub held: Option<World>,
 }
 
 /// There is one hall, and it lies in the channel or is out with one pass.
@@ -38,7 +38,7 @@ impl Split<View> for Guest {
     ghost right = { λ v. guest v.rows };
 }
 
-/// A receive: the hall is taken.
+/// A receive: the pass holds the hall from now on.
 pub struct Receive;
 
 impl Outcome<Hall, View> for Receive {

@@ -1,24 +1,33 @@
 -- The seats of a load's callers.
-use Rattle.std.proofs.Common.{◌≡◌, ◌<◌, ◌+◌, ℕ, suc, List, [], ◌∷◌, ◌++◌, Some, length, length-append, map, get_or, refl, sym, ap, subst, ◌∙◌, arith}
+use Rattle.std.proofs.Common.{◌≡◌, ◌<◌, ◌+◌, ℕ, suc, List, [], ◌∷◌, ◌++◌, Some, length, length-append, map, get_or, refl, sym, ap, subst}
+use Rattle.std.proofs.Common.{◌∙◌, arith}
 use Rattle.std.specs.List.{slice_get}
 use Rattle.std.specs.Option.{option_map}
 use Rattle.std.proofs.lemmas.List.{length-map}
-use Rattle.std.proofs.lemmas.Option.{get_or_from_slice_get, slice_get-get_or, slice_get-map, slice_get_within}
+use Rattle.std.proofs.lemmas.Option.{get_or_from_slice_get, same_Some, slice_get-get_or, slice_get-map, slice_get_within}
+use Rattle.tag.proofs.Options.{none_some}
+use Rattle.tag.proofs.Lists.{each_push}
 use Rattle.seats.specs.Seats.{Seat}
 use Rattle.run_options.specs.declared.load.LoadOptions.{LoadOptions}
 use Rattle.load.specs.Callers.{AreCalled, AreNew, AreOfSeats, AreSeated, IsCalled, IsFreshSeat, work_of}
 use Rattle.load.specs.declared.callers.Called.{Called}
 use Rattle.load.specs.declared.callers.Work.{Work}
-use Rattle.load.proofs.Lists.{each_more, none_some, same_some}
 
 pub seated_none : (seats : List Seat) → seats ≡ [] → AreSeated 0 seats
-seated_none seats none = record { count = ap length none; each = λ k s at. none_some (subst (λ (l : List Seat). slice_get l k ≡ Some s) none at) }
+seated_none seats none = record {
+  count = ap length none;
+  each = λ k s at. none_some
+      (subst (λ (l : List Seat). slice_get l k ≡ Some s) none at);
+}
 
 -- one more
-pub seated_more : (count : ℕ) (seats now : List Seat) (s : Seat) → AreSeated count seats → IsFreshSeat (count + 1) s → now ≡ seats ++ s ∷ [] → AreSeated (count + 1) now
+pub seated_more : (count : ℕ) (seats now : List Seat) (s : Seat) → AreSeated count seats → IsFreshSeat (count + 1) s
+    → now ≡ seats ++ s ∷ [] → AreSeated (count + 1) now
 seated_more count seats now s so_far fresh is = record {
-  count = let len : length now ≡ length seats + 1 = ap length is ∙ length-append seats (s ∷ []) in let before = so_far.count in omega (arith, len, before);
-  each = each_more (λ k one. IsFreshSeat (k + 1) one) seats now s so_far.each is (subst (λ n. IsFreshSeat (n + 1) s) (sym so_far.count) fresh);
+  count = let len : length now ≡ length seats + 1 = ap length is ∙ length-append seats (s ∷ []) in let before = so_far.count in omega
+      (arith, len, before);
+  each = each_push (λ k one. IsFreshSeat (k + 1) one) seats now s so_far.each is
+      (subst (λ n. IsFreshSeat (n + 1) s) (sym so_far.count) fresh);
 }
 
 -- those that are left have made no call either
@@ -32,7 +41,8 @@ pub seated_new : (count : ℕ) (seats : List Seat) → AreSeated count seats →
 seated_new count seats seated k s at = (seated.each k s at).log
 
 -- the callers of the seats are the load's
-pub called : (load : LoadOptions) (seats : List Seat) (callers : List Called) → AreSeated load.callers seats → AreOfSeats load.keys load.calls seats callers → AreCalled load callers
+pub called : (load : LoadOptions) (seats : List Seat) (callers : List Called) → AreSeated load.callers seats
+    → AreOfSeats load.keys load.calls seats callers → AreCalled load callers
 called load seats callers seated of = record {
   count = of.count ∙ seated.count;
   each = λ k one at.
@@ -45,8 +55,10 @@ called load seats callers seated of = record {
 }
 
 -- each of the threads that were started for the seats kept its promise
-pub kept : {H : Type 0} (f : H → Work) (keys calls : ℕ) (handles : List H) (seats : List Seat) (callers : List Called) → map f handles ≡ map (λ s. work_of keys calls s.client) seats → length callers ≡ length handles
-    → ((i : ℕ) (d : Called) → i < length handles → (h : H) × (h ≡ get_or handles i h) × IsCalled (f h) (get_or callers i d)) → AreOfSeats keys calls seats callers
+pub kept : {H : Type 0} (f : H → Work) (keys calls : ℕ) (handles : List H) (seats : List Seat) (callers : List Called)
+    → map f handles ≡ map (λ s. work_of keys calls s.client) seats → length callers ≡ length handles
+    → ((i : ℕ) (d : Called) → i < length handles → (h : H) × (h ≡ get_or handles i h) × IsCalled (f h) (get_or callers i d))
+    → AreOfSeats keys calls seats callers
 kept {H} f keys calls handles seats callers started len each =
     let work : Seat → Work = λ s. work_of keys calls s.client in
     let as_many : length handles ≡ length seats = sym (length-map handles f) ∙ ap length started ∙ length-map seats work in
@@ -60,6 +72,7 @@ kept {H} f keys calls handles seats callers started len each =
           let at_handle : slice_get handles k ≡ Some handle = slice_get-get_or handles k handle within ∙ ap Some (sym found.1) in
           let promised : slice_get (map f handles) k ≡ Some (f handle) = slice_get-map f handles k ∙ ap (option_map f) at_handle in
           let wanted : slice_get (map work seats) k ≡ Some (work s) = slice_get-map work seats k ∙ ap (option_map work) there in
-          let same : f handle ≡ work s = same_some (f handle) (work s) (sym promised ∙ ap (λ (l : List Work). slice_get l k) started ∙ wanted) in
+          let same : f handle ≡ work s = same_Some (f handle) (work s) (sym promised ∙ ap (λ (l : List Work). slice_get l k) started
+          ∙ wanted) in
           subst (λ (w : Work). IsCalled w one) same (subst (IsCalled (f handle)) (get_or_from_slice_get callers k one one at) found.2);
     }

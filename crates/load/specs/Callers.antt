@@ -14,7 +14,7 @@ use Rattle.run_options.specs.declared.turns.Turn.{Turn}
 use Rattle.load.specs.declared.callers.Called.{Called}
 use Rattle.load.specs.declared.callers.Work.{Work}
 
--- how many keys there may be
+-- so many keys as a load may have
 pub record AreKeys (keys : ℕ) : Type 0 where
   pub least : 1 ≤ keys
   pub most : keys ≤ 8
@@ -48,8 +48,8 @@ pub record LeavesCall (turn : Turn) (old new : Seat) : Type 0 where
   pub client : new.client ≡ old.client
   pub log : (new.log ≡ old.log) ⊎ GrowsBy turn old new
 
--- the turn's call was refused with that error: it is what the call's own error says of the seat; or
--- memory was wanted before the call was made, and the seat is as it was
+-- the turn's call was refused with that error: the store refused it so; or there was no memory to
+-- make it, and the seat is as it was
 abbrev pub RefusesTurn : Turn → CallError → Seat → Seat → Type 0
 RefusesTurn turn error old new = ((hall : ℕ)
     × FailsWith error old hall (key_at turn) (action_at turn) new)
@@ -64,7 +64,7 @@ pub record IsFreshSeat (caller : ℕ) (s : Seat) : Type 0 where
 abbrev pub AreNew : List Seat → Type 0
 AreNew seats = (k : ℕ) (s : Seat) → slice_get seats k ≡ Some s → s.log ≡ []
 
--- so many clients have just joined: 1, 2 and so on
+-- clients 1, 2 and so on, so many, have just joined
 pub record AreSeated (callers : ℕ) (seats : List Seat) : Type 0 where
   pub count : length seats ≡ callers
   pub each : (k : ℕ) (s : Seat) → slice_get seats k ≡ Some s → IsFreshSeat (k + 1) s
@@ -81,8 +81,7 @@ pub record HasMade (work : Work) (count : ℕ) (s : Seat) : Type 0 where
   pub count_is : length s.log ≡ count
   pub answered : AreAnswered s.log
 
--- of the caller's calls the first were answered, and the next, its last, was refused with that
--- error
+-- the caller's first calls were answered, and the next, its last, was refused with that error
 pub record EndsRefused (work : Work) (error : CallError) (s : Seat) : Type 0 where
   pub count : ℕ
   pub fewer : count < work.calls
@@ -100,6 +99,7 @@ pub record HasCalled (work : Work) (s : Seat) (refusal : Option CallError) : Typ
   pub answered : refusal ≡ None → AreAnswered s.log
   pub refused : (error : CallError) → refusal ≡ Some error → EndsRefused work error s
 
+-- a caller's thread did its work
 abbrev pub IsCalled : Work → Called → Type 0
 IsCalled work called = HasCalled work called.seat called.refusal
 

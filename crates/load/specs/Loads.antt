@@ -22,7 +22,7 @@ abbrev pub settings_of : LoadOptions → StoreConfig
 settings_of load =
     record { store = 1; world = world_of load; rounds = load.rounds; halls = load.halls }
 
--- its gate drops and doubles by the load's counts
+-- the counts of its gate are the load's
 abbrev pub gate_of : LoadOptions → ParcelCounts
 gate_of load = record { drop = load.drop; double = load.double }
 
@@ -30,18 +30,18 @@ gate_of load = record { drop = load.drop; double = load.double }
 abbrev pub store_of : LoadOptions → Store ParcelCounts
 store_of load = record { config = settings_of load; gate = gate_of load }
 
--- a caller whose call was refused
+-- a caller, if its call was refused
 abbrev pub refused_of : ℕ → Option CallError → List Refused
 refused_of caller None = []
 refused_of caller (Some error) = record { caller = caller; error = error } ∷ []
 
--- those of the callers whose calls were refused, in their order
+-- the callers whose calls were refused, in their order
 abbrev pub refusals_of : List Called → List Refused
 refusals_of [] = []
 refusals_of (called ∷ rest) = refused_of called.seat.client called.refusal ++ refusals_of rest
 
--- each caller made its calls, the refusals are told, and if the store closed, each hall's record
--- shows these calls and comes with orders that show it atomic
+-- what a load leaves: each caller made its calls, the refusals are told, and if the store closed,
+-- the halls' records have these calls and orders that show the records atomic
 pub record IsLoaded (load : LoadOptions) (loaded : LoadOutcome) : Type 0 where
   pub callers : List Called
   pub called : AreCalled load callers

@@ -7,7 +7,7 @@ use thiserror::Error;
 /// Why a load wasn't run to its end.
 #[derive(Clone, Copy, Debug, PartialEq, Eq, Error)]
 pub enum LoadError {
-    /// An allocation was refused.
+    /// An allocation failed.
     #[error("memory")]
     Memory,
     /// A thread couldn't be started.

@@ -26,7 +26,7 @@ pub fn pass_of(drop: u64, double: u64, number: u64) -> Pass
     }
 }
 
-/// How many parcels there are at the place: a request and a reply are one, an answer is none.
+/// How many parcels there are at the point: a request and a reply are one, an answer is none.
 fn parcels_at(place: &Place) -> u64
     ensures { result ≡ parcels_at place.now }
 {
@@ -36,7 +36,7 @@ fn parcels_at(place: &Place) -> u64
     }
 }
 
-/// What becomes of what is at the place, where so many parcels came before. After 2^64 - 1 comes 0.
+/// What becomes of what is at the point, if so many parcels came before. After 2^64 - 1 comes 0.
 pub fn pass_at(drop: u64, double: u64, before: u64, place: &Place) -> Pass
     ensures { result ≡ pass_at drop double before place.now }
 {
@@ -94,7 +94,7 @@ impl<L: Watch> CountingGate<L> {
         }
     }
 
-    /// Counts what is at the place, and says what becomes of it.
+    /// Counts what is at the point, and says what becomes of it.
     fn pass(&self, place: &Place) -> Pass
         ensures { IsPassed self.now place.now result }
     {

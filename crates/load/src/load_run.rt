@@ -1,7 +1,7 @@
 //! A load, from the start of its store to its end.
 ghost use Rattle.std.specs.Prelude.{◌≡◌, ◌++◌, map, IfErr, IfOk, OnOk};
 ghost use Rattle.load.specs.Loads.{IsLoaded, gate_of, refusals_of, refused_of, store_of, world_of};
-ghost use Rattle.run_options.specs.Loads.{IsInRange};
+ghost use Rattle.run_options.specs.Loads.{IsWithinLimits};
 
 use crate::callers::{Called, call_together, join_all};
 use crate::error::LoadError;
@@ -63,7 +63,7 @@ fn start<R, L>(
 where
     R: Threads + Wait + Copy + Send + 'static,
     L: Watch + Send + Sync + Drop + 'static,
-    requires { IsInRange load.now }
+    requires { IsWithinLimits load.now }
     ensures { IfOk result (λ store. store ≡ store_of load.now) }
 {
     let config = StoreConfig {
@@ -111,12 +111,13 @@ fn split_callers(
     Ok((seats, refusals))
 }
 
-/// Starts a store, has callers 1 and so on join it in order of name, lets each make its calls, one after
-/// another and each caller in a thread of its own, and closes the store when all have ended.
+/// Starts a store, has callers 1 and so on join it in order of name, lets each make its calls, one
+/// after another and each caller in a thread of its own, and closes the store when all have ended.
 ///
-/// A caller ends early at its first call that is refused. `Memory` comes only where an allocation was refused,
-/// `Thread` only where a thread couldn't be started; no store stands then, and the callers' threads have
-/// ended. The watch is told of each call that is about to be answered, on its caller's thread.
+/// A caller ends early at its first call that is refused. `Memory` comes only if an allocation
+/// failed, `Thread` only if a thread couldn't be started; no store stands then, and the callers'
+/// threads have ended. The watch is told of each call that is about to be answered, on its caller's
+/// thread.
 pub fn run_load<R, L>(rt: &R, alloc: Global, load: Load, watch: L) -> Result<LoadOutcome, LoadError>
 where
     R: Threads + Wait + Copy + Send + Sync + 'static,

@@ -1,13 +1,14 @@
 -- The passes and places of a seat that is being made, hall by hall.
 use Rattle.std.proofs.Common.{◌≡◌, ℕ, zero, suc, List, [], ◌∷◌, ◌++◌, refl, sym, subst, inl, inr}
+use Rattle.tag.proofs.Lists.{push_cases}
 use Rattle.hall_lock.specs.Turns.{ClientView}
 use Rattle.seats.specs.Seats.{AreFresh, AreZero, IsFresh}
 use Rattle.node_threads.specs.Joins.{AreOfClient}
-use Rattle.node_threads.proofs.Lists.{after_push}
 
 -- one pass more
-pub fresh_more : (client : ℕ) (passes : List ClientView) (pass : ClientView) → AreFresh client passes → IsFresh client pass → AreFresh client (passes ++ pass ∷ [])
-fresh_more client passes pass fresh is k one at = elim (after_push passes pass k one at) [
+pub fresh_more : (client : ℕ) (passes : List ClientView) (pass : ClientView) → AreFresh client passes → IsFresh client pass
+    → AreFresh client (passes ++ pass ∷ [])
+fresh_more client passes pass fresh is k one at = elim (push_cases passes pass k one at) [
   | inl old ↦ fresh k one old
   | inr new ↦ subst (IsFresh client) new.1 is
 ]

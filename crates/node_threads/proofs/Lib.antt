@@ -1,4 +1,3 @@
-mod Lists
 mod Joining
 mod Failing
 mod Showing

@@ -1,5 +1,5 @@
 -- What a closed store leaves.
-use Rattle.std.specs.Prelude.{ℕ, ◌≡◌, ◌≢◌, ◌<◌, ◌⊎◌, List, Some, length, slice_get}
+use Rattle.std.specs.Prelude.{ℕ, ◌≡◌, ◌≢◌, ◌⊎◌, List, Some, length, slice_get}
 use Rattle.world_steps.specs.Runs.{AreAccepted, after}
 use Rattle.world_steps.specs.Systems.{opening}
 use Rattle.witness_order.specs.RecordOrders.{Justify}
@@ -8,21 +8,22 @@ use Rattle.recorder.specs.Logs.{IsLog, of_hall}
 use Rattle.seats.specs.Seats.{Seat}
 use Rattle.node_threads.specs.declared.config.StoreConfig.{StoreConfig}
 
--- the record is what the steps make of the opening world, each of them accepted at its place, and
--- the orders show it atomic
+-- the record is what the steps make of the opening world, each of them was accepted, and the orders
+-- show the record atomic
 pub record IsClosed (closed : ClosedHall) : Type 0 where
   pub is : closed.history ≡ (after closed.config closed.journal.items).history
   pub accepted : AreAccepted (opening closed.config) closed.journal.items
   pub atomic : Justify closed.history.rows closed.orders.items
 
+-- each of the halls is closed so
 abbrev pub AreClosed : List ClosedHall → Type 0
 AreClosed halls =
     (hall : ℕ) (closed : ClosedHall) → slice_get halls hall ≡ Some closed → IsClosed closed
 
--- the seat's entries of each of the first halls are its client's calls in that hall's record
-abbrev pub HasLogs : List ClosedHall → ℕ → Seat → Type 0
-HasLogs halls count s = (hall : ℕ) (closed : ClosedHall) → hall < count → slice_get halls hall
-    ≡ Some closed → IsLog closed.history.rows s.client (of_hall hall s.log)
+-- the seat's entries of each hall are its client's calls in that hall's record
+abbrev pub HasLogs : List ClosedHall → Seat → Type 0
+HasLogs halls s = (hall : ℕ) (closed : ClosedHall) → slice_get halls hall ≡ Some closed
+    → IsLog closed.history.rows s.client (of_hall hall s.log)
 
 -- the seat is of the store that is so configured, and of as many halls
 pub record IsOfStore (config : StoreConfig) (s : Seat) : Type 0 where
@@ -33,30 +34,28 @@ pub record IsOfStore (config : StoreConfig) (s : Seat) : Type 0 where
 abbrev pub IsOfAnotherStore : StoreConfig → Seat → Type 0
 IsOfAnotherStore config s = (s.store ≢ config.store) ⊎ (length s.passes ≢ config.halls)
 
--- each of the first seats is of the store
-abbrev pub AreOfStore : StoreConfig → List Seat → ℕ → Type 0
-AreOfStore config seats upto =
-    (k : ℕ) (s : Seat) → k < upto → slice_get seats k ≡ Some s → IsOfStore config s
+-- each of the seats is of the store
+abbrev pub AreOfStore : StoreConfig → List Seat → Type 0
+AreOfStore config seats = (k : ℕ) (s : Seat) → slice_get seats k ≡ Some s → IsOfStore config s
 
--- the entries of the first of the seats are their clients' calls in the records of all halls
-abbrev pub HaveLogs : List ClosedHall → List Seat → ℕ → Type 0
-HaveLogs halls seats upto =
-    (k : ℕ) (s : Seat) → k < upto → slice_get seats k ≡ Some s → HasLogs halls (length halls) s
+-- the entries of each of the seats are its client's calls in the halls' records
+abbrev pub HaveLogs : List ClosedHall → List Seat → Type 0
+HaveLogs halls seats = (k : ℕ) (s : Seat) → slice_get seats k ≡ Some s → HasLogs halls s
 
--- the seat is one of the closed store's: its entries are its client's calls in the records
+-- the seat is one of the closed store's, and its entries are its client's calls in the records
 pub record IsSeatOf (config : StoreConfig) (halls : List ClosedHall) (s : Seat) : Type 0 where
   pub of : IsOfStore config s
-  pub logs : HasLogs halls (length halls) s
+  pub logs : HasLogs halls s
 
--- the store is closed: each of its halls has a record that its orders show atomic, and each of the
--- seats is one of its own
+-- the store is closed: it leaves its halls' records, each shown atomic, and each of the seats is
+-- one of its own
 pub record Closes (config : StoreConfig) (seats : List Seat) (halls : List ClosedHall) : Type 0
   where
     pub count : length halls ≡ config.halls
     pub closed : AreClosed halls
     pub own : (k : ℕ) (s : Seat) → slice_get seats k ≡ Some s → IsSeatOf config halls s
 
--- a seat of another store, or of another count of halls, is among them
+-- one of the seats is of another store, or of another count of halls
 abbrev pub HasForeign : StoreConfig → List Seat → Type 0
 HasForeign config seats =
     (k : ℕ) × (s : Seat) × (slice_get seats k ≡ Some s) × IsOfAnotherStore config s

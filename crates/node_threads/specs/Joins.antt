@@ -4,7 +4,7 @@ use Rattle.hall_lock.specs.Turns.{ClientView}
 use Rattle.node_threads.specs.declared.config.StoreConfig.{StoreConfig}
 use Rattle.seats.specs.Seats.{AreStopped, Seat, seen_in}
 
--- the seat is of the client of that name in the store that was so configured, in all its halls; it
+-- a new seat of the client in the store that is so configured, with a pass to each of its halls: it
 -- has made no call and seen nothing
 pub record IsNewSeat (config : StoreConfig) (name : ℕ) (s : Seat) : Type 0 where
   pub store : s.store ≡ config.store

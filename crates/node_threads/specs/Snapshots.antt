@@ -8,9 +8,9 @@ use Rattle.hall_lock.specs.Turns.{IsCopied}
 use Rattle.recorder.specs.Logs.{IsLog, of_hall}
 use Rattle.seats.specs.Seats.{Seat, seen_in}
 
--- a hall's record, the tags of whose parts are sound: it has as many rows as the seat has seen, and
--- of the seat's client the calls that the seat has in its log
-pub record Shows (history : Recorded) (s : Seat) (hall : ℕ) : Type 0 where
+-- the history is a copy of a hall's record, the tags of whose parts are sound: it has at least the
+-- rows that the seat has seen, and of its client the calls that the seat has in its log
+pub record IsSnapshotFor (history : Recorded) (s : Seat) (hall : ℕ) : Type 0 where
   pub copied : IsCopied [] history
   pub parts : (key : List ℕ) (part : List Call) → IsPart history.rows key part → TagSound part
   pub seen : seen_in s hall ≤ length history.rows

@@ -36,9 +36,13 @@ pub struct Closed {
 }
 
 /// Has the replicas' threads end, and waits until they have.
-pub(crate) fn end_replicas<R: Wait>(rt: &R, ways: Vec<Sender<Parcel>>, ends: &Receiver<ReplicaId>) {
-    let count = ways.len();
-    drop(ways);
+pub(crate) fn end_replicas<R: Wait>(
+    rt: &R,
+    channels: Vec<Sender<Parcel>>,
+    ends: &Receiver<ReplicaId>,
+) {
+    let count = channels.len();
+    drop(channels);
     for _ in 0..count {
         let _ = ends.recv(rt);
     }
@@ -58,7 +62,7 @@ pub(crate) fn is_of_store(config: &StoreConfig, seat: &Seat) -> bool
 
 /// Whether the seats are of the store that is so configured.
 pub(crate) fn are_of_store(config: &StoreConfig, seats: &[Seat]) -> bool
-    ensures { IsTrue result → AreOfStore config.now seats.now (length seats.now) }
+    ensures { IsTrue result → AreOfStore config.now seats.now }
 {
     for seat in seats {
         if !is_of_store(config, seat) {
@@ -68,7 +72,7 @@ pub(crate) fn are_of_store(config: &StoreConfig, seats: &[Seat]) -> bool
     true
 }
 
-/// Takes the halls for good: the record of each, and its orders.
+/// Receives the halls for good: the record of each, and its orders.
 pub(crate) fn closed_halls<R: Wait>(
     rt: &R,
     alloc: Global,
@@ -107,7 +111,7 @@ pub(crate) fn are_logged(
     seats: &[Seat],
 ) -> Result<bool, Memory>
     ensures { IfOk result (λ logged. IsTrue logged
-        → HaveLogs halls.now seats.now (length seats.now)) }
+        → HaveLogs halls.now seats.now) }
 {
     for seat in seats {
         if !is_logged(alloc, halls, seat)? {
@@ -120,7 +124,7 @@ pub(crate) fn are_logged(
 /// Whether the seat's entries of each hall are its client's calls in that hall's record.
 fn is_logged(alloc: Global, halls: &[ClosedHall], seat: &Seat) -> Result<bool, Memory>
     ensures { IfOk result (λ logged. IsTrue logged
-        → HasLogs halls.now (length halls.now) seat.now) }
+        → HasLogs halls.now seat.now) }
 {
     for hall in 0..halls.len() {
         let entries = entries_of_hall(alloc, seat.log(), hall)?;

@@ -11,7 +11,7 @@ use world_steps::Refusal;
 /// Why a store couldn't be started.
 #[derive(Clone, Copy, Debug, PartialEq, Eq, Error)]
 pub enum StartError {
-    /// An allocation was refused.
+    /// An allocation failed.
     #[error("memory")]
     Memory,
     /// A thread couldn't be started.
@@ -25,7 +25,7 @@ pub enum JoinError {
     /// The name joined before, in some hall.
     #[error("client taken")]
     ClientTaken,
-    /// An allocation was refused.
+    /// An allocation failed.
     #[error("memory")]
     Memory,
 }
@@ -36,7 +36,7 @@ pub enum CloseError {
     /// A seat is another store's, or has other calls in its log than a hall's record.
     #[error("seat mismatch")]
     SeatMismatch,
-    /// An allocation was refused.
+    /// An allocation failed.
     #[error("memory")]
     Memory,
 }

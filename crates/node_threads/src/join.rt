@@ -1,4 +1,4 @@
-//! How a client joins the halls of a store, and what is left of it where one refuses.
+//! How a client joins the halls of a store, and what is left of it if one refuses.
 ghost use Rattle.std.specs.Prelude.{◌≡◌, ◌<◌, ◌+◌, [], length, IfOk, OnErr, OnOk};
 ghost use Rattle.node_threads.specs.Joins.{AreOfClient, AreOfStoppedClient};
 ghost use Rattle.seats.specs.Seats.{AreFresh, AreZero};
@@ -21,7 +21,7 @@ pub(crate) fn none_seen(alloc: Global, halls: usize) -> Result<Vec<usize>, Memor
     Ok(seen)
 }
 
-/// Has the client join all these halls. Where one refuses, the client is stopped in those that it joined.
+/// Has the client join all these halls. If one refuses, the client is stopped in those that it joined.
 pub(crate) fn enter_halls<R: Wait>(
     rt: &R,
     roots: &[Mutex<FreePass>],

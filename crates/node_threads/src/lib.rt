@@ -1,4 +1,4 @@
-//! A running store: halls that threads take in turns, a thread for each replica, and seats for callers.
+//! A running store: halls that threads share under locks, a thread for each replica, and seats for clients.
 //!
 //! `Store::start` makes the halls and starts the replicas; `Store::join` gives a client its seat;
 //! `Store::call` makes a call on a seat, in rounds of messages that a `Gate` may lose or double. What a
@@ -10,9 +10,9 @@ mod closing;
 mod config;
 mod errors;
 mod join;
-mod replica_turns;
 mod snapshot;
 mod store;
+mod switch_replica;
 
 pub use closing::{Closed, ClosedHall};
 pub use config::StoreConfig;

@@ -1,6 +1,6 @@
 //! Copies of records, beside the log of a seat.
 ghost use Rattle.std.specs.Prelude.{IfOk};
-ghost use Rattle.node_threads.specs.Snapshots.{Shows};
+ghost use Rattle.node_threads.specs.Snapshots.{IsSnapshotFor};
 
 use hall_lock::FreePass;
 use recorder::History;
@@ -9,7 +9,7 @@ use std::alloc::Global;
 use std::sync::{Mutex, Wait};
 use world_steps::laws;
 
-/// A copy of the hall's record, where it has what the seat has seen of it, and its client's calls.
+/// A copy of the hall's record, if it has what the seat has seen of it, and its client's calls.
 pub(crate) fn snapshot_of<R: Wait>(
     rt: &R,
     alloc: Global,
@@ -17,7 +17,7 @@ pub(crate) fn snapshot_of<R: Wait>(
     seat: &Seat,
     hall: u8,
 ) -> Result<History, CallError>
-    ensures { IfOk result (λ history. Shows history seat.now hall) }
+    ensures { IfOk result (λ history. IsSnapshotFor history seat.now hall) }
 {
     laws::steps_keep_a_system_sound();
     let at = usize::from(hall);

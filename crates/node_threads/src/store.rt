@@ -4,18 +4,18 @@ ghost use Rattle.std.specs.Prelude.{IfErr, IfOk, IfSome, IsNone, OnErr, OnOk};
 ghost use Rattle.recorder.specs.Halls.{hall_of};
 ghost use Rattle.std.specs.Fn.{FnOnceReturnsAt};
 ghost use Rattle.hall_lock.specs.Turns.{IsTold};
-ghost use Rattle.seats.specs.Answers.{FailsWith, HasFailed, HasReason, IsAnswered, SeesFewer};
+ghost use Rattle.seats.specs.Answers.{FailsWith, LeavesUnanswered, HasReason, IsAnswered, SeesFewer};
 ghost use Rattle.node_threads.specs.Closings.{Closes, HasForeign, IsOfAnotherStore, IsOfStore};
 ghost use Rattle.node_threads.specs.Joins.{IsNewSeat};
-ghost use Rattle.node_threads.specs.Snapshots.{Shows};
+ghost use Rattle.node_threads.specs.Snapshots.{IsSnapshotFor};
 ghost use Rattle.node_threads.specs.Stores.{replica_count};
 
 use crate::closing::{Closed, are_logged, are_of_store, closed_halls, end_replicas, is_of_store};
 use crate::config::StoreConfig;
 use crate::errors::{CloseError, JoinError, StartError};
 use crate::join::{enter_halls, none_seen};
-use crate::replica_turns::{Turned, turn_replica};
 use crate::snapshot::snapshot_of;
+use crate::switch_replica::{Wanted, switch_replica};
 use crossbeam_channel::{Receiver, Sender, bounded, unbounded};
 use hall_lock::FreePass;
 use recorder::{Halls, History};
@@ -36,7 +36,7 @@ pub struct Store<G> {
     config: StoreConfig,
     gate: Arc<G, Global>,
     roots: Vec<Mutex<FreePass>>,
-    ways: Vec<Sender<Parcel>>,
+    channels: Vec<Sender<Parcel>>,
     ends: Receiver<ReplicaId>,
 }
 
@@ -70,18 +70,18 @@ impl<G: Gate + Send + Sync + Drop + 'static> Store<G> {
         let roots = open_halls(rt, alloc, config.halls, config.world)?;
         let replicas = usize::from(config.world.replicas());
         let (ended, ends) = bounded(alloc, replicas).map_err(|_| StartError::Memory)?;
-        let ways = start_replicas(rt, alloc, &config, &roots, &gate, &ended)?;
+        let channels = start_replicas(rt, alloc, &config, &roots, &gate, &ended)?;
         Ok(Store {
             config,
             gate,
             roots,
-            ways,
+            channels,
             ends,
         })
     }
 }
 
-/// Opens so many new halls, and puts the way to each behind a lock of its own.
+/// Opens so many new halls: a pass to each, under a lock of its own.
 fn open_halls<R: Wait>(
     rt: &R,
     alloc: Global,
@@ -97,7 +97,7 @@ fn open_halls<R: Wait>(
     Ok(roots)
 }
 
-/// Starts a thread for each replica. The ways to them, by number.
+/// Starts a thread for each replica. The channels to them, by number.
 fn start_replicas<R, G>(
     rt: &R,
     alloc: Global,
@@ -110,18 +110,18 @@ where
     R: Threads + Wait + Copy + Send + 'static,
     G: Gate + Send + Sync + Drop + 'static,
 {
-    let mut ways = Vec::new(alloc);
+    let mut channels = Vec::new(alloc);
     for number in 0..15 {
         if let Some(replica) = ReplicaId::new(number) {
             if number < config.world.replicas() {
-                ways.push(start_replica(rt, alloc, replica, roots, gate, ended)?)?;
+                channels.push(start_replica(rt, alloc, replica, roots, gate, ended)?)?;
             }
         }
     }
-    Ok(ways)
+    Ok(channels)
 }
 
-/// Starts the thread of a replica. The way to it.
+/// Starts the thread of a replica. The channel to it.
 fn start_replica<R, G>(
     rt: &R,
     alloc: Global,
@@ -134,7 +134,7 @@ where
     R: Threads + Wait + Copy + Send + 'static,
     G: Gate + Send + Sync + Drop + 'static,
 {
-    let (way, parcels) = unbounded(alloc).map_err(|_| StartError::Memory)?;
+    let (channel, parcels) = unbounded(alloc).map_err(|_| StartError::Memory)?;
     let passes = others(rt, alloc, roots)?;
     let ended = ended.clone().map_err(|_| StartError::Memory)?;
     let own = *rt;
@@ -147,10 +147,10 @@ where
     if started.is_err() {
         return Err(StartError::Thread);
     }
-    Ok(way)
+    Ok(channel)
 }
 
-/// Another way to each hall.
+/// Another pass to each hall.
 fn others<R: Wait>(
     rt: &R,
     alloc: Global,
@@ -177,8 +177,8 @@ impl<G: Gate> Store<G> {
 
     /// Makes a call of the seat's client.
     ///
-    /// It goes to the hall of its key. Where it is answered the seat's log has one entry more, after all
-    /// that the seat had seen, and the receipt tells of it. It may wait for other threads.
+    /// It goes to the hall of its key. If it is answered, the seat's log has one entry more, after all that
+    /// the seat had seen, and the receipt tells of it. It may wait for other threads.
     pub fn call<R: Wait>(
         &self,
         rt: &R,
@@ -192,7 +192,7 @@ impl<G: Gate> Store<G> {
         ensures failed { IfErr result (λ error.
             FailsWith error seat.old (hall_of self.now.config.halls key) key action seat.new) }
         ensures left { OnErr result
-            (HasFailed seat.old (hall_of self.now.config.halls key) key action seat.new) }
+            (LeavesUnanswered seat.old (hall_of self.now.config.halls key) key action seat.new) }
         ensures spent { seat.old.is_spent ≡ true
             → (result ≡ Err CallError.SeatSpent) × (seat.new ≡ seat.old) }
         ensures foreign { seat.old.is_spent ≡ false → IsOfAnotherStore self.now.config seat.old
@@ -212,13 +212,14 @@ impl<G: Gate> Store<G> {
             return Err(CallError::Foreign);
         }
         let hall = self.config.halls.of(&key);
-        let mut errand = Errand::new(alloc, &*self.gate, self.ways.as_slice(), hall)?;
-        call_on(seat, rt, &mut errand, key, action, self.config.rounds)
+        let channels = self.channels.as_slice();
+        let mut errand = Errand::new(alloc, &*self.gate, channels, hall, self.config.rounds)?;
+        call_on(seat, rt, &mut errand, key, action)
     }
 
     /// A copy of a hall's record, in which the seat's calls of that hall are its client's. `None` comes
-    /// exactly for a hall that the store lacks. `Foreign` comes where the seat is of another store, or of
-    /// another count of halls, or where the record has fewer rows than the seat has seen, or other calls of
+    /// exactly for a hall that the store lacks. `Foreign` comes if the seat is of another store, or of
+    /// another count of halls, or if the record has fewer rows than the seat has seen, or other calls of
     /// its client than its log has. A spent seat serves too.
     pub fn snapshot<R: Wait>(
         &self,
@@ -232,7 +233,7 @@ impl<G: Gate> Store<G> {
             → IfSome result (λ given. given ≡ Err CallError.Foreign) }
         ensures own { IfSome result (λ given. OnOk given (IsOfStore self.now.config seat.now)) }
         ensures shown { IfSome result (λ given.
-            IfOk given (λ history. Shows history seat.now hall)) }
+            IfOk given (λ history. IsSnapshotFor history seat.now hall)) }
     {
         match self.roots.get(usize::from(hall)) {
             Some(root) if is_of_store(&self.config, seat) => {
@@ -257,7 +258,7 @@ impl<G: Gate> Store<G> {
         }
     }
 
-    /// Has the replica go down in each hall, where it is up. `ReplicaDown` comes only where it is down in
+    /// Has the replica go down in each hall where it is up. `ReplicaDown` comes only if it is down in
     /// each, `NoSuchReplica` before any step. After `Memory` the halls below the one that refused are done,
     /// and the call may be made again.
     pub fn stop_replica<R: Wait>(&self, rt: &R, replica: ReplicaId) -> Result<(), Refusal>
@@ -265,18 +266,18 @@ impl<G: Gate> Store<G> {
         ensures why { replica < replica_count self.now.config
             → IfErr result (λ why. (why ≡ Refusal.ReplicaDown) ⊎ (why ≡ Refusal.Memory)) }
     {
-        turn_replica(rt, &self.config, &self.roots, replica, Turned::Down)
+        switch_replica(rt, &self.config, &self.roots, replica, Wanted::Down)
     }
 
-    /// Has the replica go up in each hall, where it is down, with what it stored. `ReplicaUp` comes only
-    /// where it is up in each, `NoSuchReplica` before any step. After `Memory` the halls below the one that
+    /// Has the replica go up in each hall where it is down, with what it stored. `ReplicaUp` comes only
+    /// if it is up in each, `NoSuchReplica` before any step. After `Memory` the halls below the one that
     /// refused are done, and the call may be made again.
     pub fn start_replica<R: Wait>(&self, rt: &R, replica: ReplicaId) -> Result<(), Refusal>
         ensures lacks { replica_count self.now.config ≤ replica → result ≡ Err Refusal.NoSuchReplica }
         ensures why { replica < replica_count self.now.config
             → IfErr result (λ why. (why ≡ Refusal.ReplicaUp) ⊎ (why ≡ Refusal.Memory)) }
     {
-        turn_replica(rt, &self.config, &self.roots, replica, Turned::Up)
+        switch_replica(rt, &self.config, &self.roots, replica, Wanted::Up)
     }
 }
 
@@ -284,10 +285,10 @@ impl<G: Gate + Drop> Store<G> {
     /// Ends the store, and gives what its halls leave: of each its record, the steps that made it, and for
     /// each key an order that shows the key's calls atomic.
     ///
-    /// It has the replicas' threads end and waits for them, takes each hall for good, and compares
-    /// the log of each seat with its client's calls in the records. `SeatMismatch` comes where a
-    /// seat is of another store, or of another count of halls, or has other calls; `Memory` only
-    /// where an allocation was refused. The store is ended in every case.
+    /// It has the replicas' threads end and waits for them, receives each hall for good, and compares
+    /// the log of each seat with its client's calls in the records. `SeatMismatch` comes if a seat is
+    /// of another store, or of another count of halls, or has other calls; `Memory` only if an
+    /// allocation failed. The store is ended in every case.
     pub fn close<R: Wait>(
         self,
         rt: &R,
@@ -302,11 +303,11 @@ impl<G: Gate + Drop> Store<G> {
         let Store {
             config,
             roots,
-            ways,
+            channels,
             ends,
             ..
         } = self;
-        end_replicas(rt, ways, &ends);
+        end_replicas(rt, channels, &ends);
         if !are_of_store(&config, &seats) {
             return Err(CloseError::SeatMismatch);
         }

@@ -1,5 +1,7 @@
 -- The log of a client's pass after a call.
 use Rattle.std.proofs.Common.{◌≡◌, ◌<◌, ℕ, List, [], ◌∷◌, ◌++◌, None, length, refl, sym, ap, ◌∙◌, subst}
+use Rattle.std.proofs.lemmas.Option.{slice_get_within}
+use Rattle.tag.proofs.Lists.{slice_get-push_last}
 use Rattle.tag.specs.declared.actions.Action.{Action}
 use Rattle.tag.specs.declared.actions.Returned.{Returned}
 use Rattle.tag.specs.declared.numbers.OpId.{OpId}
@@ -12,8 +14,7 @@ use Rattle.recorder.specs.declared.log_entry.Entry.{Entry}
 use Rattle.seats.specs.Calls.{BeginsCall, EndsCall, KeepsLog}
 use Rattle.recorder.specs.Logs.{AreAnswered, IsLog}
 use Rattle.seats.specs.Seats.{EndsWith}
-use Rattle.seats.proofs.Keeping.{grown_then}
-use Rattle.seats.proofs.Lists.{pushed, within}
+use Rattle.hall_lock.proofs.Rows.{grown_then}
 use Rattle.seats.proofs.Logs.{answers_last, begun_entry, ended_entry, log_grown, log_invoked, log_responded, rows_sound}
 
 -- what a pass has of a call that began
@@ -77,6 +78,6 @@ ends old mid new log entry op returned place begun pending answered call =
       recorded = call.recorded;
       number = number;
       log = subst (λ (y : List Row × ℕ × ℕ). IsLog y.0 y.1 (log ++ ended_entry entry y.2 returned ∷ [])) (λ i. (sym rows i, kept.client i, added.at i)) after;
-      ordered = subst (λ n. entry.invoked < n) added.at (within added.before entry.invoked _ (before.each (length log) entry (pushed log entry)).begun);
+      ordered = subst (λ n. entry.invoked < n) added.at (slice_get_within added.before entry.invoked _ (before.each (length log) entry (slice_get-push_last log entry)).begun);
       last = (added.before, rows);
     }

@@ -1,5 +1,5 @@
 -- Turns that leave a client's log as it was.
-use Rattle.std.proofs.Common.{◌≡◌, ℕ, List, [], ◌∷◌, ◌++◌, refl, sym, ap, ◌∙◌, subst, append_assoc, append-nil}
+use Rattle.std.proofs.Common.{◌≡◌, ℕ, List, [], ◌∷◌, ◌++◌, refl, sym, ap, ◌∙◌, subst}
 use Rattle.tag.specs.Tags.{Tag}
 use Rattle.tag.specs.declared.numbers.OpId.{OpId}
 use Rattle.recorder.specs.declared.row.Row.{Row}
@@ -7,15 +7,10 @@ use Rattle.recorder.specs.declared.row.Row.TheVariants.{Note}
 use Rattle.world_steps.specs.Lasting.{Grows}
 use Rattle.hall_lock.specs.Turns.{AddsRow, AreRecorded, AddsNoRow, ClientView, TakesReply}
 use Rattle.hall_lock.specs.Turns.TakesReply.{WithNote, WithoutNote}
+use Rattle.hall_lock.proofs.Rows.{grown_not, grown_then}
 use Rattle.seats.specs.Calls.{KeepsLog}
 use Rattle.recorder.specs.Logs.{IsLog}
 use Rattle.seats.proofs.Logs.{log_grown, log_noted, rows_sound}
-
-pub grown_then : (a b c : List Row) → Grows a b → Grows b c → Grows a c
-grown_then a b c x y = (x.0 ++ y.0, y.1 ∙ ap (λ l. l ++ y.0) x.1 ∙ append_assoc a x.0 y.0)
-
-pub grown_not : (a : List Row) → Grows a a
-grown_not a = ([], sym (append-nil a))
 
 pub keeps_same : (s : ClientView) → KeepsLog s s
 keeps_same s = record { client = refl; grown = grown_not s.rows; recorded = λ r. r; log = λ log is. is }
@@ -28,8 +23,8 @@ keeps_then a b c x y = record {
   log = λ log is. y.log log (x.log log is);
 }
 
-pub keeps_looked : (old new : ClientView) → AddsNoRow old new → AreRecorded new.rows → KeepsLog old new
-keeps_looked old new looked recorded = record {
+pub keeps_rowless : (old new : ClientView) → AddsNoRow old new → AreRecorded new.rows → KeepsLog old new
+keeps_rowless old new looked recorded = record {
   client = looked.client;
   grown = looked.others.grown;
   recorded = λ _. recorded;
@@ -49,5 +44,5 @@ keeps_noted old new op tag place added recorded =
     }
 
 pub keeps_reply : (old new : ClientView) → TakesReply old new → AreRecorded new.rows → KeepsLog old new
-keeps_reply old new (WithoutNote looked) recorded = keeps_looked old new looked recorded
+keeps_reply old new (WithoutNote looked) recorded = keeps_rowless old new looked recorded
 keeps_reply old new (WithNote op tag place added) recorded = keeps_noted old new op tag place added recorded

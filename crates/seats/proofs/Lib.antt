@@ -1,4 +1,3 @@
-mod Lists
 mod Logs
 mod Matching
 mod Keeping
@@ -6,5 +5,6 @@ mod Stalling
 mod Reasons
 mod Stale
 mod Answering
-mod SeatChanges
+pub mod SeatChanges
 mod SeatReasons
+mod CallLeaving

@@ -1,7 +1,8 @@
 -- A client's log, as rows come after those that it was made of.
 use Rattle.std.proofs.Common.{◌≡◌, ◌<◌, ◌≤◌, ◌⊎◌, ℕ, List, [], ◌∷◌, ◌++◌, Some, None, length, slice_get, take, refl, sym, ap, ◌∙◌, subst, inl, inr, arith}
-use Rattle.std.specs.Prelude.{Contains}
-use Rattle.std.proofs.lemmas.Option.{get_or_from_slice_get, slice_get_within}
+use Rattle.std.proofs.lemmas.Option.{same_Some, slice_get_within}
+use Rattle.tag.proofs.Options.{none_some}
+use Rattle.tag.proofs.Lists.{Contains-slice_get, in_front, place_of, push_cases, slice_get-push_last, slice_get-push_left, slice_get-take}
 use Rattle.tag.specs.Tags.{Tag}
 use Rattle.tag.specs.declared.actions.Action.{Action}
 use Rattle.tag.specs.declared.actions.Returned.{Returned}
@@ -13,9 +14,9 @@ use Rattle.recorder.specs.declared.row.Row.TheVariants.{Invoke, Note, Respond}
 use Rattle.world_steps.specs.Lasting.{Began, Grows}
 use Rattle.world_steps.specs.Sound.{At, RowsSound}
 use Rattle.hall_lock.specs.Turns.{AreRecorded, IsOfAnother, OthersAdd}
+use Rattle.hall_lock.proofs.Rows.{at_grown, old_or_new}
 use Rattle.recorder.specs.declared.log_entry.Entry.{Entry}
 use Rattle.recorder.specs.Logs.{AreAnswered, IsLog, IsLogged}
-use Rattle.seats.proofs.Lists.{after_append, after_push, front_keeps, in_front, kept_by_append, kept_by_push, none_some, place_of, pushed, same_some, within}
 
 -- ---- what records are
 
@@ -30,12 +31,6 @@ same_caller rows sound p q op c d k l a b x y =
 
 pub same_number : (rows : List Row) (p : ℕ) (o u : OpId) (c d : ℕ) (k l : List ℕ) (a b : Action) → At rows p (Invoke o c k a) → At rows p (Invoke u d l b) → o ≡ u
 same_number rows p o u c d k l a b x y = cc
-
-at_grown : (old new : List Row) → Grows old new → (p : ℕ) (row : Row) → At old p row → At new p row
-at_grown old new grown p row is = subst (λ l. slice_get l p ≡ Some row) (sym grown.1) (kept_by_append old grown.0 p row is)
-
-old_or_new : (old new : List Row) → Grows old new → (p : ℕ) (row : Row) → At new p row → At old p row ⊎ (length old ≤ p)
-old_or_new old new grown p row is = after_append old grown.0 p row (subst (λ l. slice_get l p ≡ Some row) grown.1 is)
 
 -- a response stands after the invocation of its call
 begun_before : (rows : List Row) → IsWellFormed rows → (p : ℕ) (op : OpId) (returned : Returned) → At rows p (Respond op returned)
@@ -91,16 +86,16 @@ invoke_not_respond op o client key action returned e = absurd (cc)
 pub log_noted : (client : ℕ) (rows : List Row) (op : OpId) (tag : Tag) (log : List Entry) → IsLog rows client log → IsLog (rows ++ Note op tag ∷ []) client log
 log_noted client rows op tag log is = record {
   each = λ k entry at. let logged = is.each k entry at in record {
-    begun = kept_by_push rows (Note op tag) entry.invoked _ logged.begun;
+    begun = slice_get-push_left rows (Note op tag) entry.invoked _ logged.begun;
     answered = λ place returned. (
-      λ e. kept_by_push rows (Note op tag) place _ ((logged.answered place returned).0 e),
-      λ there. elim (after_push rows (Note op tag) place (Respond entry.op returned) there) [
+      λ e. slice_get-push_left rows (Note op tag) place _ ((logged.answered place returned).0 e),
+      λ there. elim (push_cases rows (Note op tag) place (Respond entry.op returned) there) [
         | inl before ↦ (logged.answered place returned).1 before
         | inr last ↦ note_not_respond op entry.op tag returned last.1
       ],
     );
   };
-  all = λ place o key action there. elim (after_push rows (Note op tag) place (Invoke o client key action) there) [
+  all = λ place o key action there. elim (push_cases rows (Note op tag) place (Invoke o client key action) there) [
     | inl before ↦ is.all place o key action before
     | inr last ↦ note_not_invoke op o tag client key action last.1
   ];
@@ -119,10 +114,10 @@ module _ (client : ℕ) (rows : List Row) (op : OpId) (key : List ℕ) (action :
 
   logged_invoked : (entry : Entry) → IsLogged rows client entry → IsLogged all_rows client entry
   logged_invoked entry logged = record {
-    begun = kept_by_push rows (Invoke op client key action) entry.invoked _ logged.begun;
+    begun = slice_get-push_left rows (Invoke op client key action) entry.invoked _ logged.begun;
     answered = λ place returned. (
-      λ e. kept_by_push rows (Invoke op client key action) place _ ((logged.answered place returned).0 e),
-      λ there. elim (after_push rows (Invoke op client key action) place (Respond entry.op returned) there) [
+      λ e. slice_get-push_left rows (Invoke op client key action) place _ ((logged.answered place returned).0 e),
+      λ there. elim (push_cases rows (Invoke op client key action) place (Respond entry.op returned) there) [
         | inl before ↦ (logged.answered place returned).1 before
         | inr last ↦ invoke_not_respond op entry.op client key action returned last.1
       ],
@@ -131,11 +126,11 @@ module _ (client : ℕ) (rows : List Row) (op : OpId) (key : List ℕ) (action :
 
   -- no response stands before the invocation
   unanswered : AreRecorded all_rows → (place : ℕ) (returned : Returned) → At all_rows place (Respond op returned) → ⊥
-  unanswered recorded place returned there = elim (after_push rows (Invoke op client key action) place (Respond op returned) there) [
+  unanswered recorded place returned there = elim (push_cases rows (Invoke op client key action) place (Respond op returned) there) [
     | inl before ↦
         let begun = begun_before all_rows recorded.formed place op returned there in
-        let same : begun.0 ≡ length rows = (rows_sound all_rows recorded).once begun.0 (length rows) op begun.1 client begun.2 key begun.3 action begun.5 (pushed rows (Invoke op client key action)) in
-        let early : place < length rows = within rows place (Respond op returned) before in
+        let same : begun.0 ≡ length rows = (rows_sound all_rows recorded).once begun.0 (length rows) op begun.1 client begun.2 key begun.3 action begun.5 (slice_get-push_last rows (Invoke op client key action)) in
+        let early : place < length rows = slice_get_within rows place (Respond op returned) before in
         let lt : begun.0 < place = begun.4 in
         absurd (omega arith)
     | inr last ↦ invoke_not_respond op op client key action returned last.1
@@ -143,27 +138,27 @@ module _ (client : ℕ) (rows : List Row) (op : OpId) (key : List ℕ) (action :
 
   new_logged : (hall : ℕ) → AreRecorded all_rows → IsLogged all_rows client (begun_entry hall op key action (length rows))
   new_logged hall recorded = record {
-    begun = pushed rows (Invoke op client key action);
+    begun = slice_get-push_last rows (Invoke op client key action);
     answered = λ place returned. (λ e. none_some e, λ there. absurd (unanswered recorded place returned there));
   }
 
   pub log_invoked : (hall : ℕ) → AreRecorded all_rows → IsLog rows client log → IsLog all_rows client (log ++ begun_entry hall op key action (length rows) ∷ [])
   log_invoked hall recorded is = record {
-    each = λ k entry at. elim (after_push log (begun_entry hall op key action (length rows)) k entry at) [
+    each = λ k entry at. elim (push_cases log (begun_entry hall op key action (length rows)) k entry at) [
       | inl old ↦ logged_invoked entry (is.each k entry old)
       | inr new ↦ subst (IsLogged all_rows client) new.1 (new_logged hall recorded)
     ];
-    all = λ place o l a there. elim (after_push rows (Invoke op client key action) place (Invoke o client l a) there) [
-      | inl before ↦ let found = is.all place o l a before in (found.0, found.1, kept_by_push log _ found.0 found.1 found.2, found.3)
-      | inr last ↦ (length log, begun_entry hall op key action (length rows), pushed log _, sym last.0)
+    all = λ place o l a there. elim (push_cases rows (Invoke op client key action) place (Invoke o client l a) there) [
+      | inl before ↦ let found = is.all place o l a before in (found.0, found.1, slice_get-push_left log _ found.0 found.1 found.2, found.3)
+      | inr last ↦ (length log, begun_entry hall op key action (length rows), slice_get-push_last log _, sym last.0)
     ];
-    ordered = λ i j a b lt x y. elim (after_push log (begun_entry hall op key action (length rows)) j b y) [
-      | inl old ↦ elim (after_push log (begun_entry hall op key action (length rows)) i a x) [
+    ordered = λ i j a b lt x y. elim (push_cases log (begun_entry hall op key action (length rows)) j b y) [
+      | inl old ↦ elim (push_cases log (begun_entry hall op key action (length rows)) i a x) [
         | inl older ↦ is.ordered i j a b lt older old
-        | inr new ↦ let far : j < length log = within log j b old in let here : i ≡ length log = new.0 in absurd (omega arith)
+        | inr new ↦ let far : j < length log = slice_get_within log j b old in let here : i ≡ length log = new.0 in absurd (omega arith)
       ]
-      | inr new ↦ elim (after_push log (begun_entry hall op key action (length rows)) i a x) [
-        | inl older ↦ subst (λ (e : Entry). a.invoked < e.invoked) new.1 (within rows a.invoked _ (is.each i a older).begun)
+      | inr new ↦ elim (push_cases log (begun_entry hall op key action (length rows)) i a x) [
+        | inl older ↦ subst (λ (e : Entry). a.invoked < e.invoked) new.1 (slice_get_within rows a.invoked _ (is.each i a older).begun)
         | inr both ↦ let here : i ≡ length log = both.0 in let there : j ≡ length log = new.0 in absurd (omega arith)
       ]
     ];
@@ -175,9 +170,6 @@ module _ (client : ℕ) (rows : List Row) (op : OpId) (key : List ℕ) (action :
 abbrev pub ended_entry : Entry → ℕ → Returned → Entry
 ended_entry entry place returned = record entry { response = Some (record { place = place; returned = returned }) }
 
-contained : (xs : List Row) (p : ℕ) (row : Row) → slice_get xs p ≡ Some row → Contains xs row
-contained xs p row is = (p, slice_get_within xs p row is, get_or_from_slice_get xs p row row is)
-
 same_response : (o u : OpId) (r s : Returned) → Respond o r ≡ Respond u s → (o ≡ u) × (r ≡ s)
 same_response o u r s e = (cc, cc)
 
@@ -188,10 +180,10 @@ module _ (client : ℕ) (rows : List Row) (entry : Entry) (op : OpId) (returned 
   -- a call that has its answer isn't answered again
   once_answered : AreRecorded answered_rows → (place : ℕ) (other : Returned) → At rows place (Respond op other) → ⊥
   once_answered recorded place other there =
-      let may = recorded.formed (length rows) (Respond op returned) (pushed rows (Respond op returned)) in
-      let early : place < length rows = within rows place (Respond op other) there in
-      let front = front_keeps answered_rows (length rows) place (Respond op other) early (kept_by_push rows (Respond op returned) place (Respond op other) there) in
-      may.2.unanswered (other, contained (take (length rows) answered_rows) place (Respond op other) front)
+      let may = recorded.formed (length rows) (Respond op returned) (slice_get-push_last rows (Respond op returned)) in
+      let early : place < length rows = slice_get_within rows place (Respond op other) there in
+      let front = slice_get-take answered_rows (length rows) place early ∙ (slice_get-push_left rows (Respond op returned) place (Respond op other) there) in
+      may.2.unanswered (other, Contains-slice_get (take (length rows) answered_rows) place (Respond op other) front)
 
   number_of : (found : Entry) (place : ℕ) (key : List ℕ) (action : Action) → IsLogged rows client found → found.invoked ≡ place → At rows place (Invoke op client key action) → found.op ≡ op
   number_of found place key action logged is there =
@@ -203,7 +195,7 @@ module _ (client : ℕ) (rows : List Row) (entry : Entry) (op : OpId) (returned 
       let found = is.all began.place op began.key began.action began.is in
       let logged : IsLogged rows client found.1 = is.each found.0 found.1 found.2 in
       let number : found.1.op ≡ op = number_of found.1 began.place began.key began.action logged found.3 began.is in
-      elim (after_push log entry found.0 found.1 found.2) [
+      elim (push_cases log entry found.0 found.1 found.2) [
         | inl old ↦
             let response = answered found.0 found.1 old in
             let there : At rows response.0.place (Respond found.1.op response.0.returned) = (logged.answered response.0.place response.0.returned).0 response.1 in
@@ -217,31 +209,31 @@ module _ (client : ℕ) (rows : List Row) (entry : Entry) (op : OpId) (returned 
 
   before_answer : (k : ℕ) (e : Entry) → slice_get (log ++ ended_entry entry (length rows) returned ∷ []) k ≡ Some e → Before k e
   unfolding Before
-  before_answer k e at = elim (after_push log (ended_entry entry (length rows) returned) k e at) [
-    | inl old ↦ (e, kept_by_push log entry k e old, refl)
-    | inr new ↦ (entry, subst (λ n. slice_get (log ++ entry ∷ []) n ≡ Some entry) (sym new.0) (pushed log entry), ap (λ (x : Entry). x.invoked) new.1)
+  before_answer k e at = elim (push_cases log (ended_entry entry (length rows) returned) k e at) [
+    | inl old ↦ (e, slice_get-push_left log entry k e old, refl)
+    | inr new ↦ (entry, subst (λ n. slice_get (log ++ entry ∷ []) n ≡ Some entry) (sym new.0) (slice_get-push_last log entry), ap (λ (x : Entry). x.invoked) new.1)
   ]
 
   -- an earlier call isn't the answered one
   earlier_apart : RowsSound answered_rows → IsLog rows client (log ++ entry ∷ []) → entry.op ≡ op → (k : ℕ) (e : Entry) → slice_get log k ≡ Some e → op ≡ e.op → ⊥
   earlier_apart sound is number k e at same =
-      let early : k < length log = within log k e at in
-      let before : e.invoked < entry.invoked = is.ordered k (length log) e entry early (kept_by_push log entry k e at) (pushed log entry) in
-      let mine = (is.each (length log) entry (pushed log entry)).begun in
-      let its = (is.each k e (kept_by_push log entry k e at)).begun in
+      let early : k < length log = slice_get_within log k e at in
+      let before : e.invoked < entry.invoked = is.ordered k (length log) e entry early (slice_get-push_left log entry k e at) (slice_get-push_last log entry) in
+      let mine = (is.each (length log) entry (slice_get-push_last log entry)).begun in
+      let its = (is.each k e (slice_get-push_left log entry k e at)).begun in
       let once : e.invoked ≡ entry.invoked = sound.once e.invoked entry.invoked op client client e.key entry.key e.action entry.action
-      (kept_by_push rows (Respond op returned) e.invoked _ (subst (λ o. At rows e.invoked (Invoke o client e.key e.action)) (sym same) its))
-      (kept_by_push rows (Respond op returned) entry.invoked _ (subst (λ o. At rows entry.invoked (Invoke o client entry.key entry.action)) number mine)) in
+      (slice_get-push_left rows (Respond op returned) e.invoked _ (subst (λ o. At rows e.invoked (Invoke o client e.key e.action)) (sym same) its))
+      (slice_get-push_left rows (Respond op returned) entry.invoked _ (subst (λ o. At rows entry.invoked (Invoke o client entry.key entry.action)) number mine)) in
       absurd (omega arith)
 
   earlier_logged : RowsSound answered_rows → IsLog rows client (log ++ entry ∷ []) → entry.op ≡ op → (k : ℕ) (e : Entry) → slice_get log k ≡ Some e → IsLogged answered_rows client e
   earlier_logged sound is number k e at =
-      let logged = is.each k e (kept_by_push log entry k e at) in
+      let logged = is.each k e (slice_get-push_left log entry k e at) in
       record {
-        begun = kept_by_push rows (Respond op returned) e.invoked _ logged.begun;
+        begun = slice_get-push_left rows (Respond op returned) e.invoked _ logged.begun;
         answered = λ place other. (
-          λ there. kept_by_push rows (Respond op returned) place _ ((logged.answered place other).0 there),
-          λ there. elim (after_push rows (Respond op returned) place (Respond e.op other) there) [
+          λ there. slice_get-push_left rows (Respond op returned) place _ ((logged.answered place other).0 there),
+          λ there. elim (push_cases rows (Respond op returned) place (Respond e.op other) there) [
             | inl before ↦ (logged.answered place other).1 before
             | inr last ↦ absurd (earlier_apart sound is number k e at (same_response op e.op returned other last.1).0)
           ],
@@ -250,12 +242,12 @@ module _ (client : ℕ) (rows : List Row) (entry : Entry) (op : OpId) (returned 
 
   answered_logged : IsLogged rows client entry → entry.response ≡ None → entry.op ≡ op → IsLogged answered_rows client (ended_entry entry (length rows) returned)
   answered_logged logged pending number = record {
-    begun = kept_by_push rows (Respond op returned) entry.invoked _ logged.begun;
+    begun = slice_get-push_left rows (Respond op returned) entry.invoked _ logged.begun;
     answered = λ place other. (
       λ (e : Some (record { place = length rows; returned = returned }) ≡ Some (record { place = place; returned = other })).
-          let same : ◌≡◌ {A = Response} (record { place = length rows; returned = returned }) (record { place = place; returned = other }) = same_some _ _ e in
-          subst (λ (r : Response). At answered_rows r.place (Respond entry.op r.returned)) same (subst (λ o. At answered_rows (length rows) (Respond o returned)) (sym number) (pushed rows (Respond op returned))),
-      λ there. elim (after_push rows (Respond op returned) place (Respond entry.op other) there) [
+          let same : ◌≡◌ {A = Response} (record { place = length rows; returned = returned }) (record { place = place; returned = other }) = same_Some _ _ e in
+          subst (λ (r : Response). At answered_rows r.place (Respond entry.op r.returned)) same (subst (λ o. At answered_rows (length rows) (Respond o returned)) (sym number) (slice_get-push_last rows (Respond op returned))),
+      λ there. elim (push_cases rows (Respond op returned) place (Respond entry.op other) there) [
         | inl before ↦ none_some (sym pending ∙ (logged.answered place other).1 before)
         | inr last ↦ ap Some (λ i. record { place = sym last.0 i; returned = (same_response op entry.op returned other last.1).1 i })
       ],
@@ -265,16 +257,16 @@ module _ (client : ℕ) (rows : List Row) (entry : Entry) (op : OpId) (returned 
   pub log_responded : RowsSound answered_rows → IsLog rows client (log ++ entry ∷ []) → entry.response ≡ None → entry.op ≡ op → IsLog answered_rows client (log ++ ended_entry entry (length rows) returned ∷ [])
   unfolding Before
   log_responded sound is pending number = record {
-    each = λ k e at. elim (after_push log (ended_entry entry (length rows) returned) k e at) [
+    each = λ k e at. elim (push_cases log (ended_entry entry (length rows) returned) k e at) [
       | inl old ↦ earlier_logged sound is number k e old
-      | inr new ↦ subst (IsLogged answered_rows client) new.1 (answered_logged (is.each (length log) entry (pushed log entry)) pending number)
+      | inr new ↦ subst (IsLogged answered_rows client) new.1 (answered_logged (is.each (length log) entry (slice_get-push_last log entry)) pending number)
     ];
-    all = λ place o l a there. elim (after_push rows (Respond op returned) place (Invoke o client l a) there) [
+    all = λ place o l a there. elim (push_cases rows (Respond op returned) place (Invoke o client l a) there) [
       | inl before ↦
           let found = is.all place o l a before in
-          elim (after_push log entry found.0 found.1 found.2) [
-            | inl old ↦ (found.0, found.1, kept_by_push log _ found.0 found.1 old, found.3)
-            | inr new ↦ (length log, ended_entry entry (length rows) returned, pushed log _, ap (λ (x : Entry). x.invoked) new.1 ∙ found.3)
+          elim (push_cases log entry found.0 found.1 found.2) [
+            | inl old ↦ (found.0, found.1, slice_get-push_left log _ found.0 found.1 old, found.3)
+            | inr new ↦ (length log, ended_entry entry (length rows) returned, slice_get-push_last log _, ap (λ (x : Entry). x.invoked) new.1 ∙ found.3)
           ]
       | inr last ↦ invoke_not_respond o op client l a returned (sym last.1)
     ];

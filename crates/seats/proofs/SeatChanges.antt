@@ -3,6 +3,9 @@ use Rattle.std.proofs.Common.{◌≡◌, ◌≢◌, ◌<◌, ◌≤◌, ◌+◌,
 use Rattle.std.specs.Prelude.{◌==◌}
 use Rattle.std.proofs.lemmas.Bool.Decides.{nat_tests}
 use Rattle.std.proofs.lemmas.List.Elements.{filter-append}
+use Rattle.std.proofs.lemmas.Option.{same_Some}
+use Rattle.tag.proofs.Options.{none_some}
+use Rattle.tag.proofs.Lists.{push_cases, set_cases}
 use Rattle.tag.specs.declared.actions.Action.{Action}
 use Rattle.tag.specs.declared.actions.Returned.{Returned}
 use Rattle.tag.specs.declared.numbers.OpId.{OpId}
@@ -18,21 +21,13 @@ use Rattle.seats.specs.Answers.{FailsWith, IsAnswered}
 use Rattle.seats.specs.Calls.{BeginsCall, EndsCall, KeepsLog}
 use Rattle.seats.specs.Receipts.{Receipt}
 use Rattle.recorder.specs.Logs.{AreAnswered, IsLog, of_hall}
-use Rattle.seats.specs.Seats.{AreFresh, DidNotBegin, EndsWith, HasMet, HaveGrown, IsBelow, IsOwnPass, IsSeat, LeavesPending, Seat, greater, seen_in, value_of}
+use Rattle.seats.specs.Seats.{AreFresh, DidNotBegin, EndsWith, HasMet, HaveGrown, StandsBelow, IsOwnPass, IsSeat, LeavesPending, Seat, greater, seen_in, value_of}
 use Rattle.seats.proofs.Answering.{HasBegun, HasEnded, begins, ends, still_begun}
 use Rattle.seats.proofs.Reasons.{MayRefuse, MayStay}
-use Rattle.seats.proofs.Keeping.{grown_not}
-use Rattle.seats.proofs.Lists.{after_push, none_some, same_some}
+use Rattle.hall_lock.proofs.Rows.{grown_not}
 use Rattle.seats.proofs.Logs.{begun_entry, ended_entry}
 
 -- ---- a list in which one element was set
-
-pub set_cases : {X : Type 0} (xs : List X) (i : ℕ) (w : X) (j : ℕ) (v : X) → slice_get (slice_set xs i w) j ≡ Some v → ((j ≡ i) × (w ≡ v)) ⊎ ((j ≢ i) × (slice_get xs j ≡ Some v))
-set_cases [] i w j v e = none_some e
-set_cases (x ∷ xs) zero w zero v e = inl (refl, same_some w v e)
-set_cases (x ∷ xs) zero w (suc j) v e = inr ((λ same. absurd (omega arith)), e)
-set_cases (x ∷ xs) (suc i) w zero v e = inr ((λ same. absurd (omega arith)), e)
-set_cases (x ∷ xs) (suc i) w (suc j) v e = elim (set_cases xs i w j v e) [ inl h ↦ inl (ap suc h.0, h.1) | inr h ↦ inr ((λ (same : suc j ≡ suc i). h.0 (omega arith)), h.1) ]
 
 -- ---- the entries of a hall
 
@@ -79,17 +74,17 @@ own_after s hall entry after place spent is in_hall client recorded log k pass a
       record { client = old.client; recorded = old.recorded; log = subst (IsLog pass.rows s.client) (sym (hall_same hall k s.log entry in_hall other.0)) old.log }
 ]
 
-below_after : (s : Seat) (hall : ℕ) (entry : Entry) (old place : ℕ) → IsSeat s → entry.hall ≡ hall → slice_get s.seen hall ≡ Some old → old ≤ place → IsBelow place entry
-    → (k now i : ℕ) (e : Entry) → slice_get (slice_set s.seen hall place) k ≡ Some now → slice_get (of_hall k (s.log ++ entry ∷ [])) i ≡ Some e → IsBelow now e
+below_after : (s : Seat) (hall : ℕ) (entry : Entry) (old place : ℕ) → IsSeat s → entry.hall ≡ hall → slice_get s.seen hall ≡ Some old → old ≤ place → StandsBelow place entry
+    → (k now i : ℕ) (e : Entry) → slice_get (slice_set s.seen hall place) k ≡ Some now → slice_get (of_hall k (s.log ++ entry ∷ [])) i ≡ Some e → StandsBelow now e
 below_after s hall entry old place is in_hall there higher below k now i e at e_at = elim (set_cases s.seen hall place k now at) [
   | inl here ↦
       let at_hall : slice_get (of_hall hall s.log ++ entry ∷ []) i ≡ Some e = subst (λ l. slice_get l i ≡ Some e) (hall_more hall s.log entry in_hall) (subst (λ h. slice_get (of_hall h (s.log ++ entry ∷ [])) i ≡ Some e) here.0 e_at) in
-      elim (after_push (of_hall hall s.log) entry i e at_hall) [
+      elim (push_cases (of_hall hall s.log) entry i e at_hall) [
         | inl before ↦
             let was = is.below hall old i e there before in
             let now_is : place ≡ now = here.1 in
             record { invoked = (let a : e.invoked < old = was.invoked in omega arith); answered = λ response r. (let a : response.place < old = was.answered response r in omega arith) }
-        | inr new ↦ subst (λ (y : ℕ × Entry). IsBelow y.0 y.1) (λ j. (here.1 j, new.1 j)) below
+        | inr new ↦ subst (λ (y : ℕ × Entry). StandsBelow y.0 y.1) (λ j. (here.1 j, new.1 j)) below
       ]
   | inr other ↦ is.below k now i e other.1 (subst (λ l. slice_get l i ≡ Some e) (hall_same hall k s.log entry in_hall other.0) e_at)
 ]
@@ -129,12 +124,12 @@ answered_seat s hall old new entry op returned at_place place is unspent there s
     record {
       halls = length-set s.seen hall (at_place + 1) ∙ is.halls ∙ sym (length-set s.passes hall new);
       own = λ k pass at. own_after s hall done new (at_place + 1) false is in_hall (ended.client ∙ was.client) ended.recorded (subst (λ c. IsLog new.rows c (of_hall hall s.log ++ done ∷ [])) was.client ended.log) k pass at;
-      answered = λ _ k e at. elim (after_push s.log done k e at) [
+      answered = λ _ k e at. elim (push_cases s.log done k e at) [
         | inl old_one ↦ is.answered unspent k e old_one
         | inr new_one ↦ (record { place = at_place; returned = returned }, ap (λ (x : Entry). x.response) (sym new_one.1))
       ];
       below = λ k now i e at e_at. below_after s hall done place (at_place + 1) is in_hall seen (omega arith)
-          (record { invoked = omega arith; answered = λ response r. (let same : ◌≡◌ {A = Response} (record { place = at_place; returned = returned }) response = same_some _ _ r in let here : at_place ≡ response.place = ap (λ (x : Response). x.place) same in omega arith) }) k now i e at e_at;
+          (record { invoked = omega arith; answered = λ response r. (let same : ◌≡◌ {A = Response} (record { place = at_place; returned = returned }) response = same_Some _ _ r in let here : at_place ≡ response.place = ap (λ (x : Response). x.place) same in omega arith) }) k now i e at e_at;
     }
 
 -- ---- a call that didn't begin
@@ -144,7 +139,7 @@ grown_none passes hall before at = (before, at, grown_not before.rows)
 
 grown_one : (passes : List ClientView) (hall : ℕ) (old new : ClientView) → slice_get passes hall ≡ Some old → Grows old.rows new.rows → HaveGrown passes (slice_set passes hall new)
 grown_one [] hall old new there grown k before at = none_some at
-grown_one (x ∷ xs) zero old new there grown zero before at = (new, refl, subst (λ (s : ClientView). Grows s.rows new.rows) (same_some old before (sym there ∙ at)) grown)
+grown_one (x ∷ xs) zero old new there grown zero before at = (new, refl, subst (λ (s : ClientView). Grows s.rows new.rows) (same_Some old before (sym there ∙ at)) grown)
 grown_one (x ∷ xs) zero old new there grown (suc k) before at = (before, at, grown_not before.rows)
 grown_one (x ∷ xs) (suc hall) old new there grown zero before at = (before, at, grown_not before.rows)
 grown_one (x ∷ xs) (suc hall) old new there grown (suc k) before at = grown_one xs hall old new there grown k before at
@@ -215,11 +210,8 @@ module _ (s : Seat) (at hall : ℕ) (old new : ClientView) (key kept_key : List 
         after = new;
         there = there_by;
         is = λ i. record { store = s.store; client = s.client; is_spent = true; log = logged i; passes = slice_set s.passes (same i) new; seen = slice_set s.seen (same i) (place + 1) };
-        hall_is = refl;
-        key_is = key_is;
-        action_is = action_is;
+        of = record { hall_is = refl; key_is = key_is; action_is = action_is; later = seen_before };
         pending = refl;
-        later = seen_before;
         grown = has_begun.grown;
         stopped = stopped;
       },
@@ -245,11 +237,8 @@ module _ (s : Seat) (at hall : ℕ) (old new : ClientView) (key kept_key : List 
         after = new;
         there = there_by;
         is = λ i. record { store = s.store; client = s.client; is_spent = s.is_spent; log = logged i; passes = slice_set s.passes (same i) new; seen = slice_set s.seen (same i) (end_place + 1) };
-        hall_is = refl;
-        key_is = key_is;
-        action_is = action_is;
+        of = record { hall_is = refl; key_is = key_is; action_is = action_is; later = seen_before };
         answered = refl;
-        later = seen_before;
         ordered = has_ended.ordered;
         grown = has_ended.grown;
         last = subst (λ o. EndsWith new.rows (Respond o returned)) (sym has_ended.number) has_ended.last;

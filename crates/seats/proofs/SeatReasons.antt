@@ -1,5 +1,7 @@
 -- Why a seat's call isn't answered, from what its pass saw.
-use Rattle.std.proofs.Common.{◌≡◌, ◌<◌, ◌∙◌, ℕ, zero, suc, Bool, List, [], ◌∷◌, Some, length, slice_get, slice_set, unwrap_or, refl, sym, ap, subst}
+use Rattle.std.proofs.Common.{◌≡◌, ◌<◌, ◌∙◌, ℕ, Bool, List, [], ◌∷◌, Some, length, slice_get, slice_set, unwrap_or, refl, sym, ap, subst, inl, inr}
+use Rattle.std.proofs.lemmas.Option.{same_Some, slice_get_within}
+use Rattle.tag.proofs.Lists.{slice_get-set}
 use Rattle.tag.specs.declared.actions.Action.{Action}
 use Rattle.tag.specs.declared.numbers.OpId.{OpId}
 use Rattle.hall_lock.specs.Turns.{ClientView}
@@ -10,12 +12,9 @@ use Rattle.seats.specs.Answers.HasReason.{HeldBack, Stalled}
 use Rattle.seats.specs.Calls.{BeginsCall}
 use Rattle.seats.specs.Reasons.{IsHeldBack, IsStalled}
 use Rattle.seats.specs.Seats.{Seat}
-use Rattle.seats.proofs.Lists.{none_some, same_some}
 
 set_there : {X : Type 0} (xs : List X) (i : ℕ) (v w : X) → slice_get xs i ≡ Some v → slice_get (slice_set xs i w) i ≡ Some w
-set_there [] i v w e = none_some e
-set_there (x ∷ xs) zero v w e = refl
-set_there (x ∷ xs) (suc i) v w e = set_there xs i v w e
+set_there xs i v w e = elim (slice_get-set xs i i w (slice_get_within xs i v e)) [ inl here ↦ here.1 | inr other ↦ absurd (other.0 refl) ]
 
 -- the call didn't begin
 pub held_back : (s : Seat) (log : List Entry) (at hall : ℕ) (old new : ClientView) (key : List ℕ) (action : Action) (seen : ℕ) (error : CallError)
@@ -38,7 +37,7 @@ stalled s log places at hall old mid new key action op place error spent there s
 set_is : (passes : List ClientView) (at hall : ℕ) (old new pass : ClientView)
     → slice_get passes at ≡ Some old → at ≡ hall → slice_get (slice_set passes at new) hall ≡ Some pass → pass ≡ new
 set_is passes at hall old new pass there same is =
-    sym (same_some new pass (sym (set_there passes at old new there) ∙ ap (λ n. slice_get (slice_set passes at new) n) same ∙ is))
+    sym (same_Some new pass (sym (set_there passes at old new there) ∙ ap (λ n. slice_get (slice_set passes at new) n) same ∙ is))
 
 -- the pass that was set has fewer rows than were seen
 pub finds_fewer : (passes : List ClientView) (places : List ℕ) (at hall : ℕ) (old new : ClientView) (seen : ℕ)

@@ -14,7 +14,7 @@ use Rattle.seats.specs.declared.errors.CallError.{CallError}
 use Rattle.seats.specs.declared.errors.CallError.TheVariants as fault
 use Rattle.seats.specs.Calls.{BeginsCall, EndsCall}
 use Rattle.seats.specs.Reasons.{IsHeldBack, delay_error}
-use Rattle.seats.proofs.Keeping.{grown_then}
+use Rattle.hall_lock.proofs.Rows.{grown_then}
 
 -- rows that go on are no fewer
 longer : (a b : List Row) → Grows a b → length a ≤ length b

@@ -10,7 +10,7 @@ use Rattle.seats.specs.declared.errand.Stall.{Stall}
 use Rattle.seats.specs.Calls.{KeepsLog}
 use Rattle.seats.specs.Reasons.{IsRefusedTurn, IsUnmet, Stalls, stall_of}
 use Rattle.seats.specs.Reasons.Stalls.{Refused, Unmet}
-use Rattle.seats.specs.Ways.{IsDelivery}
+use Rattle.seats.specs.Parcels.{IsDelivery}
 use Rattle.seats.proofs.Keeping.{keeps_same, keeps_then}
 
 -- turns before those that stalled

@@ -8,22 +8,22 @@ use Rattle.recorder.specs.declared.row.Row.TheVariants.{Invoke, Respond}
 use Rattle.world_steps.specs.Sound.{At}
 use Rattle.recorder.specs.declared.log_entry.Entry.{Entry}
 
--- the row begins a call of the client
-abbrev pub Begins : Row → ℕ → Type 0
-Begins row client =
+-- the row is the invocation of a call of the client
+abbrev pub IsInvocationBy : Row → ℕ → Type 0
+IsInvocationBy row client =
     (op : OpId) × (key : List ℕ) × (action : Action) × (row ≡ Invoke op client key action)
 
--- the row begins the entry's call
-abbrev pub IsInvocation : Row → ℕ → Entry → Type 0
-IsInvocation row client entry = row ≡ Invoke entry.op client entry.key entry.action
+-- the row is the invocation of the entry's call
+abbrev pub IsInvocationOfEntry : Row → ℕ → Entry → Type 0
+IsInvocationOfEntry row client entry = row ≡ Invoke entry.op client entry.key entry.action
 
--- the entry has the response that the rows have of its call, and none where they have none
-abbrev pub HasResponse : List Row → Entry → Type 0
-HasResponse rows entry = (place : ℕ) (returned : Returned)
+-- the entry has the response that its call has in the rows, or neither has one
+abbrev pub ResponseMatches : List Row → Entry → Type 0
+ResponseMatches rows entry = (place : ℕ) (returned : Returned)
     → (entry.response ≡ Some (record { place = place; returned = returned }))
     ↔ At rows place (Respond entry.op returned)
 
--- so many entries are the client's calls that begin below that place, in order
+-- the first so many entries are the client's calls that begin below that place, in order
 pub record AreInvocations (rows : List Row) (client place : ℕ) (log : List Entry) (count : ℕ) :
     Type 0 where
   pub each : (k : ℕ) (entry : Entry) → k < count → slice_get log k ≡ Some entry
@@ -35,7 +35,7 @@ pub record AreInvocations (rows : List Row) (client place : ℕ) (log : List Ent
   pub ordered : (i j : ℕ) (a b : Entry) → i < j → j < count → slice_get log i ≡ Some a
       → slice_get log j ≡ Some b → a.invoked < b.invoked
 
--- so many entries have the responses of their calls
-abbrev pub HaveResponses : List Row → List Entry → ℕ → Type 0
-HaveResponses rows log count =
-    (k : ℕ) (entry : Entry) → k < count → slice_get log k ≡ Some entry → HasResponse rows entry
+-- the first so many entries have the responses that their calls have in the rows
+abbrev pub ResponsesMatch : List Row → List Entry → ℕ → Type 0
+ResponsesMatch rows log count =
+    (k : ℕ) (entry : Entry) → k < count → slice_get log k ≡ Some entry → ResponseMatches rows entry

@@ -2,7 +2,7 @@ pub mod Numbers
 pub mod Calls
 pub mod Reasons
 pub mod Outcomes
-pub mod Ways
+pub mod Parcels
 pub mod Receipts
 pub mod Seats
 pub mod Answers

@@ -1,23 +1,42 @@
 -- What became of a call, as its client's pass saw it.
 use Rattle.std.specs.Prelude.{ℕ, ◌≡◌, ◌≤◌, true, List}
 use Rattle.tag.specs.declared.actions.Action.{Action}
+use Rattle.hall_lock.specs.declared.client_pass.Begun.{Begun}
+use Rattle.hall_lock.specs.declared.client_pass.Ended.{Ended}
 use Rattle.hall_lock.specs.Turns.{ClientView}
 use Rattle.seats.specs.Calls.{BeginsCall, EndsCall, KeepsLog}
 use Rattle.seats.specs.Reasons.{IsHeldBack, IsStalled}
+use Rattle.seats.specs.declared.errors.CallError.{CallError}
 use Rattle.seats.specs.declared.errand.Outcome.{Outcome}
 use Rattle.seats.specs.declared.errand.Outcome.TheVariants as outcome
 
--- what became of a call, where the client's pass had seen so many rows at least: it didn't begin;
--- or it began and isn't answered; or it is answered
-abbrev pub Drives : ClientView → List ℕ → Action → ℕ → Outcome → ClientView → Type 0
-Drives old key action seen (outcome.Refused error) new =
-    IsHeldBack old key action seen error new × KeepsLog old new
-Drives old key action seen (outcome.Pending begun error) new = (seen ≤ begun.place)
-    × ((middle : ClientView) × BeginsCall old key action begun.op begun.place middle
-    × KeepsLog middle new × (new.is_stopped ≡ true) × IsStalled middle error new)
-Drives old key action seen (outcome.Done begun ended) new = (seen ≤ begun.place)
-    × ((middle : ClientView) × BeginsCall old key action begun.op begun.place middle
-    × EndsCall middle ended.op ended.returned ended.place new)
+-- a call of a pass's client that has seen so many rows
+module _ (old : ClientView) (key : List ℕ) (action : Action) (seen : ℕ) where
+  -- the call began, after all rows that were seen
+  pub record CallBegan (begun : Begun) (new : ClientView) : Type 0 where
+    pub later : seen ≤ begun.place
+    pub begins : BeginsCall old key action begun.op begun.place new
+
+  -- the call began, and its client is stopped before an answer; the error tells why
+  pub record CallIsPending (begun : Begun) (error : CallError) (new : ClientView) : Type 0 where
+    pub middle : ClientView
+    pub began : CallBegan begun middle
+    pub kept : KeepsLog middle new
+    pub stopped : new.is_stopped ≡ true
+    pub why : IsStalled middle error new
+
+  -- the call began, and was answered
+  pub record CallIsAnswered (begun : Begun) (ended : Ended) (new : ClientView) : Type 0 where
+    pub middle : ClientView
+    pub began : CallBegan begun middle
+    pub ends : EndsCall middle ended.op ended.returned ended.place new
+
+  -- the call didn't begin; or it is pending; or it was answered
+  abbrev pub CallComesTo : Outcome → ClientView → Type 0
+  CallComesTo (outcome.Refused error) new =
+      IsHeldBack old key action seen error new × KeepsLog old new
+  CallComesTo (outcome.Pending begun error) new = CallIsPending begun error new
+  CallComesTo (outcome.Done begun ended) new = CallIsAnswered begun ended new
 
 -- places are below the lengths of lists that a program holds, and the copy of an answer is the
 -- answer

@@ -29,7 +29,7 @@ abbrev pub delay_error : Delay → CallError
 delay_error delay.Foreign = fault.Foreign
 delay_error (delay.Refused why) = refusal_error why
 
--- in one turn the call didn't begin, and the error tells why
+-- one turn, in which the call didn't begin; the error tells why
 pub record IsHeldBack (old : ClientView) (key : List ℕ) (action : Action) (seen : ℕ)
     (error : CallError) (new : ClientView) : Type 0 where
   pub delay : Delay
@@ -52,12 +52,12 @@ stall_error stall.Unavailable = fault.Unavailable
 stall_error stall.Full = fault.Full
 stall_error stall.Memory = fault.Memory
 
--- one turn, in which a step or the delivery of a flight was refused
+-- one turn, in which a step or the delivery of a flight was refused for this reason
 abbrev pub IsRefusedTurn : ClientView → Refusal → ClientView → Type 0
 IsRefusedTurn old why new = ((step : Step) × TakesTurn old step (Err why) new)
     ⊎ ((flight : ℕ) × TakesFlight old flight (Err why) new)
 
--- among these turns of a call was one that was refused
+-- one of these turns was refused, and the others kept the client's log
 pub record MeetsRefusal (old : ClientView) (why : Refusal) (new : ClientView) : Type 0 where
   pub before : ClientView
   pub after : ClientView
@@ -65,13 +65,13 @@ pub record MeetsRefusal (old : ClientView) (why : Refusal) (new : ClientView) : 
   pub turn : IsRefusedTurn before why after
   pub later : KeepsLog after new
 
--- without a refused step a call stalls for want of memory, or as `Unavailable`
+-- a call may stall so without a refused turn: for want of memory, or as `Unavailable`
 abbrev pub IsUnmet : Stall → Type 0
 IsUnmet stall.Full = ⊥
 IsUnmet other = Unit {0}
 
--- a call stalls in these turns: one of them was refused; or there was no memory for a parcel, or no
--- reply in all its rounds
+-- why a call stalls in these turns: one of them was refused; or no memory for a parcel, or no
+-- quorum of replies in all its rounds
 pub data Stalls (old : ClientView) (stall : Stall) (new : ClientView) : Type 0 where
   Refused : (why : Refusal) → stall ≡ stall_of why → MeetsRefusal old why new → Stalls old stall new
   Unmet : IsUnmet stall → Stalls old stall new

@@ -14,9 +14,9 @@ use Rattle.recorder.specs.Logs.{AreAnswered, IsLog, of_hall}
 use Rattle.seats.specs.Receipts.{Receipt}
 use Rattle.recorder.specs.declared.log_entry.Entry.{Entry}
 
--- what contracts see of a seat: its store, its client, whether it may make no more calls, its
--- calls, and by hall the rows that it has seen and how many rows its calls and all that it met
--- stand below
+-- what contracts see of a seat: its store, its client, whether it makes no more calls, its calls,
+-- and by hall the rows that its pass has seen, and below which place its calls and all that it met
+-- stand
 pub record Seat : Type 0 where
   pub store : ℕ
   pub client : ℕ
@@ -26,7 +26,7 @@ pub record Seat : Type 0 where
   pub seen : List ℕ
 
 -- the entry's rows stand below that place
-pub record IsBelow (place : ℕ) (entry : Entry) : Type 0 where
+pub record StandsBelow (place : ℕ) (entry : Entry) : Type 0 where
   pub invoked : entry.invoked < place
   pub answered : (response : Response) → entry.response ≡ Some response → response.place < place
 
@@ -37,21 +37,22 @@ pub record IsOwnPass (s : Seat) (hall : ℕ) (pass : ClientView) : Type 0 where
   pub recorded : AreRecorded pass.rows
   pub log : IsLog pass.rows s.client (of_hall hall s.log)
 
--- what holds of every seat
+-- what holds of every seat: each pass is its client's own, all entries are answered unless it is
+-- spent, and their rows stand below the places that it has seen
 pub record IsSeat (s : Seat) : Type 0 where
   pub halls : length s.seen ≡ length s.passes
   pub own : (hall : ℕ) (pass : ClientView) → slice_get s.passes hall ≡ Some pass
       → IsOwnPass s hall pass
   pub answered : s.is_spent ≡ false → AreAnswered s.log
   pub below : (hall place k : ℕ) (entry : Entry) → slice_get s.seen hall ≡ Some place
-      → slice_get (of_hall hall s.log) k ≡ Some entry → IsBelow place entry
+      → slice_get (of_hall hall s.log) k ≡ Some entry → StandsBelow place entry
 
 -- the rows end with this one
 abbrev pub EndsWith : List Row → Row → Type 0
 EndsWith rows row = (front : List Row) × (rows ≡ front ++ row ∷ [])
 
--- how many rows of that hall the seat's calls and all that it met stand below; none of a hall that
--- it lacks
+-- below which place of that hall's record the seat's calls and all that it met stand; 0 for a hall
+-- that it lacks
 abbrev pub seen_in : Seat → ℕ → ℕ
 seen_in s hall = unwrap_or (slice_get s.seen hall) 0
 
@@ -60,8 +61,16 @@ abbrev pub value_of : Returned → Option (List ℕ)
 value_of (Value value) = value
 value_of Written = None
 
--- a call of the seat was answered: one entry more, with its key and its action, begun after all
--- that the seat had seen; the rows that it has seen go on, and end with the response
+-- the entry is of that call, which began after all that the seat had seen of that hall
+pub record IsEntryOf (old : Seat) (hall : ℕ) (key : List ℕ) (action : Action) (entry : Entry)
+    : Type 0 where
+  pub hall_is : entry.hall ≡ hall
+  pub key_is : entry.key ≡ key
+  pub action_is : entry.action ≡ action
+  pub later : seen_in old hall ≤ entry.invoked
+
+-- a call of the seat was answered: the log has one entry more, for it; and the rows that the pass
+-- has seen grew, and end with the response
 pub record Calls (old : Seat) (hall : ℕ) (key : List ℕ) (action : Action) (entry : Entry)
     (response : Response) (new : Seat) : Type 0 where
   pub before : ClientView
@@ -72,17 +81,14 @@ pub record Calls (old : Seat) (hall : ℕ) (key : List ℕ) (action : Action) (e
     passes = slice_set old.passes hall after;
     seen = slice_set old.seen hall (response.place + 1);
   }
-  pub hall_is : entry.hall ≡ hall
-  pub key_is : entry.key ≡ key
-  pub action_is : entry.action ≡ action
+  pub of : IsEntryOf old hall key action entry
   pub answered : entry.response ≡ Some response
-  pub later : seen_in old hall ≤ entry.invoked
   pub ordered : entry.invoked < response.place
   pub grown : Grows before.rows after.rows
   pub last : EndsWith after.rows (Respond entry.op response.returned)
 
--- a call of the seat began and isn't answered: one entry more, pending, begun after all that the
--- seat had seen; the client is stopped in that hall, and the seat is spent
+-- a call of the seat began and isn't answered: the log has one entry more, pending; the client is
+-- stopped in that hall, and the seat is spent
 pub record LeavesPending (old : Seat) (hall : ℕ) (key : List ℕ) (action : Action) (entry : Entry)
     (new : Seat) : Type 0 where
   pub before : ClientView
@@ -94,22 +100,17 @@ pub record LeavesPending (old : Seat) (hall : ℕ) (key : List ℕ) (action : Ac
     passes = slice_set old.passes hall after;
     seen = slice_set old.seen hall (entry.invoked + 1);
   }
-  pub hall_is : entry.hall ≡ hall
-  pub key_is : entry.key ≡ key
-  pub action_is : entry.action ≡ action
+  pub of : IsEntryOf old hall key action entry
   pub pending : entry.response ≡ None
-  pub later : seen_in old hall ≤ entry.invoked
   pub grown : Grows before.rows after.rows
   pub stopped : after.is_stopped ≡ true
 
--- the rows that were seen of each hall begin with those that had been seen of it
+-- each pass has seen the rows that it had seen before, or more
 abbrev pub HaveGrown : List ClientView → List ClientView → Type 0
 HaveGrown old new = (hall : ℕ) (before : ClientView) → slice_get old hall ≡ Some before
     → (after : ClientView) × (slice_get new hall ≡ Some after) × Grows before.rows after.rows
 
--- a call of the seat didn't begin: its store, its client, its log and the places that it has seen
--- are as before, it is no more spent than before, and it has seen the rows that it had seen, or
--- more
+-- a call of the seat didn't begin: all is as before, but its passes may have seen more rows
 pub record DidNotBegin (old new : Seat) : Type 0 where
   pub store : new.store ≡ old.store
   pub client : new.client ≡ old.client
@@ -123,13 +124,13 @@ abbrev pub greater : ℕ → ℕ → ℕ
 greater a b = if nat_le a b then b else a
 
 -- the seat met the receipt, which is of its store and of a hall that it has: it has seen the
--- response, and what it had seen
+-- response besides what it had seen
 pub record HasMet (old : Seat) (receipt : Receipt) (new : Seat) : Type 0 where
   pub store : receipt.store ≡ old.store
   pub there : receipt.hall < length old.seen
   pub is : new ≡ record old {
-    seen = slice_set old.seen receipt.hall (greater (seen_in old
-        receipt.hall) (receipt.place + 1));
+    seen = slice_set old.seen receipt.hall
+        (greater (seen_in old receipt.hall) (receipt.place + 1));
   }
 
 -- the receipt is of another store, or of a hall that the seat lacks
@@ -144,7 +145,7 @@ pub record IsFresh (name : ℕ) (pass : ClientView) : Type 0 where
   pub recorded : AreRecorded pass.rows
   pub unused : HasNoCall name pass.rows
 
--- each of the passes is so
+-- each of the passes is fresh, and of that client
 abbrev pub AreFresh : ℕ → List ClientView → Type 0
 AreFresh client passes =
     (k : ℕ) (pass : ClientView) → slice_get passes k ≡ Some pass → IsFresh client pass

@@ -4,14 +4,15 @@ ghost use Rattle.recorder.specs.Histories.{IsWellFormed};
 ghost use Rattle.tag.specs.declared.actions.Returned.{Returned};
 ghost use Rattle.recorder.specs.declared.row.Row.TheVariants as event;
 ghost use Rattle.world_steps.specs.Sound.{NotCompleted};
-ghost use Rattle.seats.specs.Comparisons.{AreInvocations, Begins, HasResponse, HaveResponses, IsInvocation};
+ghost use Rattle.seats.specs.Comparisons.{AreInvocations, IsInvocationBy, IsInvocationOfEntry};
+ghost use Rattle.seats.specs.Comparisons.{ResponseMatches, ResponsesMatch};
 ghost use Rattle.recorder.specs.Logs.{IsLog, of_hall};
 
 use recorder::{Entry, History, Row};
 use std::alloc::Global;
 use tag::{ClientId, Memory, OpId, Returned};
 
-/// The entries of one hall, in order. `Memory` comes only where an allocation was refused.
+/// The entries of one hall, in order. `Memory` comes only if an allocation failed.
 pub fn entries_of_hall<'a>(
     alloc: Global,
     log: &'a [Entry],
@@ -60,7 +61,7 @@ fn are_invocations(rows: &[Row], client: ClientId, entries: &[&Entry]) -> bool
 
 /// Whether the row begins a call of the client.
 fn begins(row: &Row, client: ClientId) -> bool
-    ensures { (result ≡ false) → Begins row.now client → ⊥ }
+    ensures { (result ≡ false) → IsInvocationBy row.now client → ⊥ }
 {
     match row {
         Row::Invoke { client: caller, .. } => *caller == client,
@@ -70,7 +71,7 @@ fn begins(row: &Row, client: ClientId) -> bool
 
 /// Whether the row begins the entry's call.
 fn is_invocation(row: &Row, client: ClientId, entry: &Entry) -> bool
-    ensures { IsTrue result → IsInvocation row.now client entry.now }
+    ensures { IsTrue result → IsInvocationOfEntry row.now client entry.now }
 {
     match row {
         Row::Invoke {
@@ -88,7 +89,7 @@ fn is_invocation(row: &Row, client: ClientId, entry: &Entry) -> bool
 /// Whether each entry has the response that the rows have of its call, or none with them.
 fn have_responses(rows: &[Row], entries: &[&Entry]) -> bool
     requires { IsWellFormed rows.now }
-    ensures { IsTrue result → HaveResponses rows.now (map (λ e. e.now) entries.now)
+    ensures { IsTrue result → ResponsesMatch rows.now (map (λ e. e.now) entries.now)
         (length entries.now) }
 {
     for entry in entries {
@@ -102,7 +103,7 @@ fn have_responses(rows: &[Row], entries: &[&Entry]) -> bool
 /// Whether the entry has the response that the rows have of its call, or none with them.
 fn has_response(rows: &[Row], entry: &Entry) -> bool
     requires { IsWellFormed rows.now }
-    ensures { IsTrue result → HasResponse rows.now entry.now }
+    ensures { IsTrue result → ResponseMatches rows.now entry.now }
 {
     let Some(response) = &entry.response else {
         return is_unanswered(rows, entry.op);

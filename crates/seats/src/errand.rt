@@ -1,13 +1,13 @@
-//! One call on its way: what its client sends, and what it hears.
+//! One call in progress: what its client sends, and what it hears.
 ghost use Rattle.std.specs.Prelude.{◌≡◌, ◌≤◌, ◌*◌, ℕ, min, true, Result, Ok, Err, Some, IfOk, IfErr, OnOk, OnErr};
-ghost use Rattle.hall_lock.specs.Turns.{IsQuiet, MayTake, TakesTurn};
+ghost use Rattle.hall_lock.specs.Turns.{IsQuiet, IsStepOfClient, TakesTurn};
 ghost use Rattle.world_steps.specs.declared.effect.Effect.TheVariants as effect;
 ghost use Rattle.world_steps.specs.declared.refusal.Refusal.{Refusal};
 ghost use Rattle.world_steps.specs.declared.step.Step.TheVariants as event;
 ghost use Rattle.seats.specs.Calls.{EndsCall, KeepsLog};
-ghost use Rattle.seats.specs.Outcomes.{Drives, IsPlaced};
+ghost use Rattle.seats.specs.Outcomes.{CallComesTo, IsPlaced};
 ghost use Rattle.seats.specs.Reasons.{IsUnmet, Stalls, delay_error, refusal_error, stall_error, stall_of};
-ghost use Rattle.seats.specs.Ways.{GoesOn, Hears, IsDelivery, Sends};
+ghost use Rattle.seats.specs.Parcels.{RequestMeetsGate, HearsReport, IsDelivery, SendsRequest};
 
 use crate::errors::CallError;
 use crate::gate::{Gate, Pass, Place};
@@ -22,15 +22,17 @@ use std::sync::Wait;
 use tag::{Action, Key, Memory, OpId, ReplicaId};
 use world_steps::{Effect, Refusal, Step};
 
-/// What a call needs on its way.
+/// What a call in progress needs.
 #[derive(Drop)]
 pub struct Errand<'a, G> {
     pub gate: &'a G,
-    /// The ways to the replicas, by their numbers.
+    /// The channels to the replicas, by their numbers.
     pub replicas: &'a [Sender<Parcel>],
     pub hall: u8,
+    /// How many rounds a phase makes at most.
+    pub rounds: u16,
     pub call: OpId,
-    /// Where the replicas report, and where it is heard. It has room for all reports that can be under way.
+    /// Where the replicas report, and where that is heard. It has room for all reports that can be under way.
     pub reports: Sender<Report>,
     pub inbox: Receiver<Report>,
     /// How many parcels were sent and not reported on.
@@ -66,7 +68,7 @@ pub(crate) enum Stall {
     Unavailable,
     /// As many messages were sent as may be.
     Full,
-    /// An allocation was refused.
+    /// An allocation failed.
     Memory,
 }
 
@@ -78,6 +80,7 @@ impl<'a, G: Gate> Errand<'a, G> {
         gate: &'a G,
         replicas: &'a [Sender<Parcel>],
         hall: u8,
+        rounds: u16,
     ) -> Result<Errand<'a, G>, Memory>
         ensures { IfOk result (λ errand. errand.hall ≡ hall) }
     {
@@ -86,6 +89,7 @@ impl<'a, G: Gate> Errand<'a, G> {
             gate,
             replicas,
             hall,
+            rounds,
             call: OpId(0),
             reports,
             inbox,
@@ -93,7 +97,7 @@ impl<'a, G: Gate> Errand<'a, G> {
         })
     }
 
-    /// Makes a call of the pass's client, which has seen so many rows at least.
+    /// Makes a call of the pass's client, which has seen so many rows.
     #[tactic(auto, using(crate::proofs::Keeping::keeps_same, crate::proofs::Keeping::keeps_then))]
     pub(crate) fn drive<R: Wait>(
         &mut self,
@@ -102,9 +106,8 @@ impl<'a, G: Gate> Errand<'a, G> {
         key: Key,
         action: Action,
         seen: usize,
-        rounds: u16,
     ) -> Outcome
-        ensures drives { Drives pass.old key action seen result pass.new }
+        ensures outcome { CallComesTo pass.old key action seen result pass.new }
         ensures placed { IsPlaced result }
     {
         let begun = match pass.invoke(rt, key, action, seen) {
@@ -112,7 +115,7 @@ impl<'a, G: Gate> Errand<'a, G> {
             Err(delay) => return Outcome::Refused(told_delay(delay)),
         };
         self.call = begun.op;
-        match self.finish(rt, pass, rounds) {
+        match self.finish(rt, pass) {
             Ok(ended) => Outcome::Done(begun, ended),
             Err(stall) => {
                 stop(rt, pass);
@@ -123,12 +126,7 @@ impl<'a, G: Gate> Errand<'a, G> {
 
     /// Carries a call that began to its end.
     #[tactic(auto, using(crate::proofs::Keeping::keeps_same, crate::proofs::Keeping::keeps_then))]
-    fn finish<R: Wait>(
-        &mut self,
-        rt: &R,
-        pass: &mut ClientPass,
-        rounds: u16,
-    ) -> Result<Ended, Stall>
+    fn finish<R: Wait>(&mut self, rt: &R, pass: &mut ClientPass) -> Result<Ended, Stall>
         ensures ended { IfOk result (λ ended.
             EndsCall pass.old ended.op ended.returned ended.place pass.new) }
         ensures placed { IfOk result (λ ended.
@@ -136,7 +134,7 @@ impl<'a, G: Gate> Errand<'a, G> {
         ensures failed { OnErr result (KeepsLog pass.old pass.new) }
         ensures stalled { IfErr result (λ stall. Stalls pass.old stall pass.new) }
     {
-        self.make_ready(rt, pass, rounds)?;
+        self.make_ready(rt, pass)?;
         let place = Place::Respond {
             hall: self.hall,
             call: self.call,
@@ -150,17 +148,12 @@ impl<'a, G: Gate> Errand<'a, G> {
 
     /// Has the client ask, and then put where it has to.
     #[tactic(auto, using(crate::proofs::Keeping::keeps_same, crate::proofs::Keeping::keeps_then))]
-    fn make_ready<R: Wait>(
-        &mut self,
-        rt: &R,
-        pass: &mut ClientPass,
-        rounds: u16,
-    ) -> Result<(), Stall>
+    fn make_ready<R: Wait>(&mut self, rt: &R, pass: &mut ClientPass) -> Result<(), Stall>
         ensures kept { KeepsLog pass.old pass.new }
         ensures stalled { IfErr result (λ stall. Stalls pass.old stall pass.new) }
     {
-        match self.leave(rt, pass, rounds)? {
-            Phase::Put => match self.leave(rt, pass, rounds) {
+        match self.leave(rt, pass)? {
+            Phase::Put => match self.leave(rt, pass) {
                 Ok(_) => Ok(()),
                 Err(error) => Err(error),
             },
@@ -170,12 +163,12 @@ impl<'a, G: Gate> Errand<'a, G> {
 
     /// Makes rounds until the phase is over, which has just begun. The phase that follows it.
     #[tactic(auto, using(crate::proofs::Keeping::keeps_same, crate::proofs::Keeping::keeps_then))]
-    fn leave<R: Wait>(&mut self, rt: &R, pass: &mut ClientPass, rounds: u16) -> Result<Phase, Stall>
+    fn leave<R: Wait>(&mut self, rt: &R, pass: &mut ClientPass) -> Result<Phase, Stall>
         ensures kept { KeepsLog pass.old pass.new }
         ensures stalled { IfErr result (λ stall. Stalls pass.old stall pass.new) }
     {
         let mut counted = ReplicaSet::empty();
-        for _ in 0..rounds {
+        for _ in 0..self.rounds {
             self.send_round(rt, pass, counted)?;
             if let Some(next) = self.hear_round(rt, pass)? {
                 return Ok(next);
@@ -215,10 +208,10 @@ impl<'a, G: Gate> Errand<'a, G> {
         replica: ReplicaId,
     ) -> Result<(), Stall>
         ensures kept { KeepsLog pass.old pass.new }
-        ensures sent { Sends pass.old replica pass.new }
+        ensures sent { SendsRequest pass.old replica pass.new }
         ensures stalled { IfErr result (λ stall. Stalls pass.old stall pass.new) }
     {
-        let Some(way) = self.replicas.get(usize::from(replica.get())) else {
+        let Some(channel) = self.replicas.get(usize::from(replica.get())) else {
             return Ok(());
         };
         let flight = match send_flight(rt, pass, replica) {
@@ -231,27 +224,27 @@ impl<'a, G: Gate> Errand<'a, G> {
             replica,
         };
         let parcels = parcels_of(rt, pass, self.gate.at(&place), flight);
-        self.post_all(rt, way, flight, parcels)
+        self.post_all(rt, channel, flight, parcels)
     }
 
-    /// Puts so many parcels of a flight on their way.
+    /// Posts so many parcels of a flight.
     fn post_all<R: Wait>(
         &mut self,
         rt: &R,
-        way: &Sender<Parcel>,
+        channel: &Sender<Parcel>,
         flight: u32,
         parcels: u64,
     ) -> Result<(), Stall>
         ensures { IfErr result IsUnmet }
     {
         for _ in 0..parcels {
-            self.post(rt, way, flight)?;
+            self.post(rt, channel, flight)?;
         }
         Ok(())
     }
 
-    /// Puts a parcel of a flight on its way.
-    fn post<R: Wait>(&mut self, rt: &R, way: &Sender<Parcel>, flight: u32) -> Result<(), Stall>
+    /// Posts a parcel of a flight.
+    fn post<R: Wait>(&mut self, rt: &R, channel: &Sender<Parcel>, flight: u32) -> Result<(), Stall>
         ensures { IfErr result IsUnmet }
     {
         let parcel = Parcel {
@@ -260,7 +253,7 @@ impl<'a, G: Gate> Errand<'a, G> {
             flight,
             reports: self.reports.clone()?,
         };
-        match way.send(rt, parcel) {
+        match channel.send(rt, parcel) {
             Ok(()) => {
                 self.awaited = u64::saturating_add(self.awaited, 1);
                 Ok(())
@@ -291,11 +284,11 @@ impl<'a, G: Gate> Errand<'a, G> {
     }
 }
 
-/// Loses a flight or has it come once more, as the gate says. How many parcels go their way.
+/// Loses a flight or has it come once more, as the gate says. How many parcels of it are sent.
 #[tactic(auto, using(crate::proofs::Keeping::keeps_same, crate::proofs::Keeping::keeps_then))]
 fn parcels_of<R: Wait>(rt: &R, pass: &mut ClientPass, answer: Pass, flight: u32) -> u64
     ensures kept { KeepsLog pass.old pass.new }
-    ensures passed { GoesOn answer pass.old flight result pass.new }
+    ensures passed { RequestMeetsGate answer pass.old flight result pass.new }
 {
     match answer {
         Pass::Go => 1,
@@ -314,7 +307,7 @@ fn parcels_of<R: Wait>(rt: &R, pass: &mut ClientPass, answer: Pass, flight: u32)
 #[tactic(auto, using(crate::proofs::Keeping::keeps_same, crate::proofs::Keeping::keeps_then))]
 fn hear<R: Wait>(rt: &R, pass: &mut ClientPass, report: Report) -> Result<Option<Phase>, Stall>
     ensures kept { KeepsLog pass.old pass.new }
-    ensures heard { OnOk result (Hears report pass.old pass.new) }
+    ensures heard { OnOk result (HearsReport report pass.old pass.new) }
     ensures stalled { IfErr result (λ stall. Stalls pass.old stall pass.new) }
 {
     match report {
@@ -361,7 +354,7 @@ fn counted_by<R: Wait>(rt: &R, pass: &mut ClientPass) -> ReplicaSet
 
 /// One turn with a step that adds no row.
 fn turn<R: Wait>(rt: &R, pass: &mut ClientPass, step: Step) -> Result<Effect, Refusal>
-    requires may { MayTake (Some pass.old.client) step }
+    requires may { IsStepOfClient pass.old.client step }
     requires quiet { IsQuiet step }
     ensures kept { KeepsLog pass.old pass.new }
     ensures turned { TakesTurn pass.old step result pass.new }

@@ -23,7 +23,7 @@ pub enum CallError {
     /// before; later it is as after `Unavailable`.
     #[error("full")]
     Full,
-    /// An allocation was refused. Before the call began all is as before; later it is as after `Unavailable`.
+    /// An allocation failed. Before the call began all is as before; later it is as after `Unavailable`.
     #[error("memory")]
     Memory,
 }

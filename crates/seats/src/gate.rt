@@ -1,11 +1,11 @@
-//! What may happen to a parcel on its way, and where a program may look on.
+//! What may happen to a parcel, and at which points a program is asked.
 use std::alloc::Global;
 use tag::{OpId, ReplicaId};
 
-/// A place that a call comes to.
+/// A point at which a call asks the gate.
 #[derive(Clone, Copy, Debug, PartialEq, Eq)]
 pub enum Place {
-    /// A request of the call was sent to the replica, and isn't on its way yet. On the caller's thread.
+    /// A request of the call was sent to the replica, and isn't posted yet. On the caller's thread.
     Request {
         hall: u8,
         call: OpId,
@@ -28,21 +28,21 @@ pub enum Place {
 /// What becomes of a parcel.
 #[derive(Clone, Copy, Debug, Drop, PartialEq, Eq)]
 pub enum Pass {
-    /// It goes its way.
+    /// It goes on.
     Go,
     /// It is lost.
     Drop,
-    /// It goes its way twice.
+    /// It goes on twice.
     Twice,
 }
 
-/// Is asked at each place that a call comes to. No lock is held meanwhile.
+/// Is asked at each point of a call. No lock is held meanwhile.
 pub trait Gate {
     /// What becomes of the parcel there.
     fn at(&self, place: &Place) -> Pass;
 }
 
-/// Lets each parcel go its way.
+/// Lets each parcel go on.
 #[derive(Clone, Copy, Debug, Drop)]
 pub struct OpenGate;
 

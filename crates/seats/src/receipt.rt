@@ -4,8 +4,8 @@ ghost use Rattle.std.specs.Prelude.{◌≡◌, ◌≤◌};
 use std::marker::Model;
 use tag::OpId;
 
-/// That a call was answered: by which store, in which hall, and where in that hall's record its response
-/// stands. A seat that met it begins its later calls after that place.
+/// That a call was answered: by which store, in which hall, and at which place of that hall's record. A seat
+/// that met it begins its later calls after that place.
 #[derive(Clone, Copy, Debug, PartialEq, Eq)]
 pub struct Receipt {
     store: u64,

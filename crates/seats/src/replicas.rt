@@ -1,5 +1,5 @@
 //! Replicas, each served by a thread of its own.
-ghost use Rattle.seats.specs.Ways.{ComesBack, Serves};
+ghost use Rattle.seats.specs.Parcels.{ReplyMeetsGate, ServesRequest};
 
 use crate::gate::{Gate, Pass, Place};
 use crate::patience::next_message;
@@ -9,7 +9,7 @@ use std::sync::Wait;
 use tag::{OpId, ReplicaId};
 use world_steps::Step;
 
-/// A request on its way to a replica.
+/// A request that was posted to a replica.
 #[derive(Drop)]
 pub struct Parcel {
     /// The hall of its call.
@@ -63,7 +63,7 @@ fn handle<R: Wait, G: Gate>(
     pass: &mut FreePass,
     parcel: &Parcel,
 ) -> Report
-    ensures { Serves pass.old replica parcel.now.flight result pass.new }
+    ensures { ServesRequest pass.old replica parcel.now.flight result pass.new }
 {
     let flight = match pass.deliver(rt, replica, parcel.flight) {
         Ok(flight) => flight,
@@ -79,7 +79,7 @@ fn handle<R: Wait, G: Gate>(
 
 /// Loses a reply or has it come once more, as the gate says. What is reported of it.
 fn report_of<R: Wait>(rt: &R, pass: &mut FreePass, answer: Pass, flight: u32) -> Report
-    ensures { ComesBack answer pass.old flight result pass.new }
+    ensures { ReplyMeetsGate answer pass.old flight result pass.new }
 {
     match answer {
         Pass::Go => Report::Reply(flight),

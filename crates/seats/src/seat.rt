@@ -1,7 +1,7 @@
 //! A client's seat in a store.
-ghost use Rattle.std.specs.Prelude.{◌≡◌, ◌<◌, ◌⊎◌, [], Err, false, length, IfOk, IfErr, OnErr, OnOk};
-ghost use Rattle.seats.specs.Answers.{FailsWith, HasReason, IsAnswered, SeesFewer};
-ghost use Rattle.seats.specs.Seats.{AreFresh, HasMet, IsForeign, IsSeat, greater, seen_in, value_of};
+ghost use Rattle.std.specs.Prelude.{◌≡◌, ◌<◌, false, length, IfErr, OnErr, OnOk};
+ghost use Rattle.seats.specs.Answers.{CallLeaves};
+ghost use Rattle.seats.specs.Seats.{HasMet, IsForeign, IsSeat, greater, seen_in, value_of};
 
 use crate::errand::{Errand, Outcome};
 use crate::errors::CallError;
@@ -9,7 +9,6 @@ use crate::gate::Gate;
 use crate::receipt::Receipt;
 use hall_lock::{Begun, ClientPass, Ended};
 use recorder::{Entry, Response};
-use std::alloc::Global;
 use std::marker::Model;
 use std::sync::Wait;
 use tag::{Action, ClientId, Key, Returned, Value};
@@ -17,12 +16,12 @@ use tag::{Action, ClientId, Key, Returned, Value};
 /// A client with its calls, and by hall what it has seen. Its calls are made one after another.
 #[derive(Drop)]
 pub struct Seat {
-    store: u64,
-    client: ClientId,
-    is_spent: bool,
-    log: Vec<Entry>,
-    passes: Vec<ClientPass>,
-    seen: Vec<usize>,
+    pub(crate) store: u64,
+    pub(crate) client: ClientId,
+    pub(crate) is_spent: bool,
+    pub(crate) log: Vec<Entry>,
+    pub(crate) passes: Vec<ClientPass>,
+    pub(crate) seen: Vec<usize>,
 }
 
 impl Model for Seat {
@@ -57,35 +56,6 @@ pub struct Answer {
 }
 
 impl Seat {
-    /// A seat of a client that has just joined: a pass and a place for each hall, hall 0 first.
-    pub(crate) fn new(
-        alloc: Global,
-        store: u64,
-        client: ClientId,
-        passes: Vec<ClientPass>,
-        seen: Vec<usize>,
-    ) -> Seat
-        requires halls { length seen.items ≡ length passes.items }
-        requires fresh { AreFresh client passes.items }
-        ensures { result ≡ record {
-          store = store;
-          client = client;
-          is_spent = false;
-          log = [];
-          passes = passes.items;
-          seen = seen.items;
-        } }
-    {
-        Seat {
-            store,
-            client,
-            is_spent: false,
-            log: Vec::new(alloc),
-            passes,
-            seen,
-        }
-    }
-
     /// How many halls it has joined, which is how many passes it has.
     pub fn halls(&self) -> usize
         ensures { result ≡ length self.now.passes }
@@ -116,8 +86,8 @@ impl Seat {
         self.log.as_slice()
     }
 
-    /// How many rows of that hall's record all its calls there, and all that it met, stand below. 0 for a
-    /// hall that it lacks.
+    /// Below which place of that hall's record all its calls there, and all that it met, stand. 0 for a hall
+    /// that it lacks.
     pub fn seen(&self, hall: u8) -> usize
         ensures { result ≡ seen_in self.now hall }
     {
@@ -152,26 +122,18 @@ impl Seat {
 }
 
 impl Seat {
-    /// Makes a call in the errand's hall, in so many rounds a phase at most. It may wait for other threads.
-    /// Where an allocation is refused before the call began, all is as before; later the call is pending.
+    /// Makes a call in the errand's hall. It may wait for other threads.
+    /// If an allocation fails before the call began, all is as before; later the call is pending.
     pub(crate) fn call<R: Wait, G: Gate>(
         &mut self,
         rt: &R,
         errand: &mut Errand<G>,
         key: Key,
         action: Action,
-        rounds: u16,
     ) -> Result<Answer, CallError>
         requires unspent { self.old.is_spent ≡ false }
         requires there { errand.old.hall < length self.old.passes }
-        ensures answered { IfOk result (λ answer.
-            IsAnswered self.old errand.old.hall key action answer self.new) }
-        ensures failed { IfErr result (λ error.
-            FailsWith error self.old errand.old.hall key action self.new) }
-        ensures reason { IfErr result (λ error.
-            HasReason error self.old errand.old.hall key action self.new) }
-        ensures stale { SeesFewer self.old errand.old.hall self.new
-            → (result ≡ Err CallError.Foreign) ⊎ (result ≡ Err CallError.Memory) }
+        ensures { CallLeaves self.old errand.old.hall key action result self.new }
     {
         let hall = errand.hall;
         let at = usize::from(hall);
@@ -179,7 +141,7 @@ impl Seat {
         let kept_action = action.copy()?;
         self.log.reserve(1)?;
         let seen = self.seen[at];
-        match errand.drive(rt, &mut self.passes[at], key, action, seen, rounds) {
+        match errand.drive(rt, &mut self.passes[at], key, action, seen) {
             Outcome::Refused(error) => Err(error),
             Outcome::Pending(begun, error) => {
                 self.log

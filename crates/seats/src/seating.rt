@@ -3,8 +3,8 @@
 //! A call goes to the hall of its key (`Halls::of`): the store sees to that, and these functions take any
 //! hall. So `node_threads` uses them and doesn't give them to its callers; a program over a store lists
 //! `node_threads`, and names nothing of this crate.
-ghost use Rattle.std.specs.Prelude.{◌≡◌, ◌<◌, ◌⊎◌, [], Err, false, length, IfOk, IfErr};
-ghost use Rattle.seats.specs.Answers.{FailsWith, HasReason, IsAnswered, SeesFewer};
+ghost use Rattle.std.specs.Prelude.{◌≡◌, ◌<◌, [], false, length};
+ghost use Rattle.seats.specs.Answers.{CallLeaves};
 ghost use Rattle.seats.specs.Seats.{AreFresh};
 
 use crate::errand::Errand;
@@ -35,31 +35,30 @@ pub fn new_seat(
       seen = seen.items;
     } }
 {
-    Seat::new(alloc, store, client, passes, seen)
+    Seat {
+        store,
+        client,
+        is_spent: false,
+        log: Vec::new(alloc),
+        passes,
+        seen,
+    }
 }
 
-/// Makes a call of the seat's client in the errand's hall, in so many rounds a phase at most. It may wait
-/// for other threads. Where an allocation is refused before the call began, all is as before; later the call is
-/// pending. A record with fewer rows than the seat has seen gives `Foreign`, unless there was no memory for
-/// the call before the record was looked at.
+/// Makes a call of the seat's client in the errand's hall. It may wait for other threads. If an
+/// allocation fails before the call began, all is as before; later the call is pending.
+/// A record with fewer rows than the seat has seen gives `Foreign`, unless there was no memory for the call
+/// before its first turn.
 pub fn call_on<R: Wait, G: Gate>(
     seat: &mut Seat,
     rt: &R,
     errand: &mut Errand<G>,
     key: Key,
     action: Action,
-    rounds: u16,
 ) -> Result<Answer, CallError>
     requires unspent { seat.old.is_spent ≡ false }
     requires there { errand.old.hall < length seat.old.passes }
-    ensures answered { IfOk result (λ answer.
-        IsAnswered seat.old errand.old.hall key action answer seat.new) }
-    ensures failed { IfErr result (λ error.
-        FailsWith error seat.old errand.old.hall key action seat.new) }
-    ensures reason { IfErr result (λ error.
-        HasReason error seat.old errand.old.hall key action seat.new) }
-    ensures stale { SeesFewer seat.old errand.old.hall seat.new
-        → (result ≡ Err CallError.Foreign) ⊎ (result ≡ Err CallError.Memory) }
+    ensures { CallLeaves seat.old errand.old.hall key action result seat.new }
 {
-    seat.call(rt, errand, key, action, rounds)
+    seat.call(rt, errand, key, action)
 }

@@ -68,21 +68,21 @@ fn write_and_read<R: Wait, G: Gate>(
     }
 }
 
-/// Writes and reads in turn, so many times.
+/// Writes a text and reads it, so many times.
 fn caller<R: Wait, G: Gate>(
     rt: &R,
     alloc: Global,
     store: &Store<G>,
     seat: &mut Seat,
     key: &Key,
-    turns: u32,
+    times: u32,
 ) -> Tally {
     let mut tally = Tally {
         answered: 0,
         right: 0,
     };
-    for turn in 0..turns {
-        let text = if turn % 2 == 0 { "even" } else { "odd" };
+    for time in 0..times {
+        let text = if time % 2 == 0 { "even" } else { "odd" };
         match write_and_read(rt, alloc, store, seat, key, text) {
             Some(is_right) => {
                 tally.answered = u32::saturating_add(tally.answered, 2);

@@ -1,4 +1,4 @@
-use Rattle.std.proofs.Common.{◌≡◌, ◌+◌, ap, ◌∙◌, arith, rules}
+use Rattle.std.proofs.Common.{◌≡◌, ◌+◌, ◌∙◌, arith, rules}
 use Rattle.load.proofs.Seating.{seated_more}
 use Rattle.load.proofs.callers.join_all.Goals as goal
 

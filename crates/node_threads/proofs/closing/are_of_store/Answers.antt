@@ -1,15 +1,16 @@
 use Rattle.std.proofs.Common.{refl, arith}
+use Rattle.std.proofs.lemmas.Option.{slice_get_within}
+use Rattle.tag.proofs.Lists.{each_next, item_at}
 use Rattle.node_threads.specs.Closings.{IsOfStore}
-use Rattle.node_threads.proofs.Leaving.{one_more}
-use Rattle.node_threads.proofs.Lists.{item_at}
 use Rattle.node_threads.proofs.closing.are_of_store.Goals as goal
 
 pub loop-seat-preserved : goal.loop-seat-preserved
 loop-seat-preserved c =
     let l = c.loop-seat in
-    one_more (λ k s. IsOfStore c.args.config.now s) c.args.seats.now l.seat-index c.seat-item.result l.invariant
+    each_next (λ k s. IsOfStore c.args.config.now s) c.args.seats.now l.seat-index c.seat-item.result l.invariant
     (item_at c.args.seats.now l.seat-index c.seat-item.result c.loop-seat-test.true c.seat-item.is)
     (c.if-not-is_of_store.ensures.own refl)
 
 pub returns : goal.returns
-returns c = λ _ k s lt at. c.loop-seat.invariant k s (let h = c.loop-seat-test.false in omega arith) at
+returns c = λ _ k s at. c.loop-seat.invariant k s (let h = c.loop-seat-test.false in let below = slice_get_within c.args.seats.now k s at
+    in omega arith) at

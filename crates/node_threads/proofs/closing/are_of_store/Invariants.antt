@@ -1,5 +1,7 @@
-use Rattle.node_threads.specs.Closings.{AreOfStore}
+use Rattle.std.proofs.Common.{◌≡◌, ◌<◌, ℕ, Some, slice_get}
+use Rattle.seats.specs.Seats.{Seat}
+use Rattle.node_threads.specs.Closings.{IsOfStore}
 use Rattle.node_threads.proofs.closing.are_of_store.Given as goal
 
 abbrev pub invariant-loop-seat : goal.invariant-loop-seat
-invariant-loop-seat l = AreOfStore l.config l.seats l.seat-index
+invariant-loop-seat l = (k : ℕ) (s : Seat) → k < l.seat-index → slice_get l.seats k ≡ Some s → IsOfStore l.config s

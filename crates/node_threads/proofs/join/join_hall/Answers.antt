@@ -1,16 +1,24 @@
 use Rattle.std.proofs.Common.{sym, subst, ap, length, ◌∙◌}
 use Rattle.std.proofs.lemmas.List.{length_push}
+use Rattle.tag.proofs.Lists.{same_push}
 use Rattle.seats.specs.Seats.{AreFresh}
-use Rattle.node_threads.proofs.Lists.{behind}
 use Rattle.node_threads.proofs.Joining.{fresh_more}
 use Rattle.node_threads.proofs.join.join_hall.Goals as goal
 
 pub returns : goal.returns
 returns g c =
-    let more = behind c.args.passes.now.items c.reserve.new.self.items c.push_reserved.new.self.items _ c.reserve.ensures.items c.push_reserved.ensures.items in
+    let more = same_push c.args.passes.now.items c.reserve.new.self.items c.push_reserved.new.self.items _ c.reserve.ensures.items
+    c.push_reserved.ensures.items in
     record {
       fresh = subst (AreFresh c.args.client) (sym more)
-          (fresh_more c.args.client c.args.passes.now.items _ c.requires (record { client = c.in_ok-pass.ensures.client; running = c.in_ok-pass.ensures.running; recorded = c.client.ensures.recorded; unused = c.in_ok-pass.ensures.rows.1 }));
+          (fresh_more c.args.client c.args.passes.now.items _ c.requires
+          (record {
+            client = c.in_ok-pass.ensures.client;
+            running = c.in_ok-pass.ensures.running;
+            recorded =
+                c.client.ensures.recorded;
+            unused = c.in_ok-pass.ensures.rows.1;
+          }));
       one = ap length more ∙ length_push c.args.passes.now.items _;
       none = tt;
     }

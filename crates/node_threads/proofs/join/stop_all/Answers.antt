@@ -1,7 +1,7 @@
 use Rattle.std.proofs.Common.{◌≡◌, ◌<◌, ◌∙◌, true, length, length-set, subst, inl, inr, arith}
 use Rattle.hall_lock.specs.Turns.{ClientView}
 use Rattle.std.proofs.lemmas.Option.{slice_get-get_or, slice_get_within}
-use Rattle.node_threads.proofs.Lists.{set_cases}
+use Rattle.tag.proofs.Lists.{set_cases}
 use Rattle.node_threads.proofs.join.stop_all.Goals as goal
 
 pub loop-pass-preserved : goal.loop-pass-preserved
@@ -9,7 +9,8 @@ loop-pass-preserved g c =
     record {
       own = λ k pass at. elim (set_cases c.loop-pass.passes c.loop-pass.pass-index c.stop.new.self k pass at) [
         | inl h ↦ subst (λ (s : ClientView). s.client ≡ c.args.client) h.1
-            (c.stop.ensures.looked.client ∙ c.loop-pass.invariant.own c.loop-pass.pass-index _ (slice_get-get_or c.loop-pass.passes c.loop-pass.pass-index c.pass-item.result (omega arith)))
+            (c.stop.ensures.no_row.client ∙ c.loop-pass.invariant.own c.loop-pass.pass-index _
+            (slice_get-get_or c.loop-pass.passes c.loop-pass.pass-index c.pass-item.result (omega arith)))
         | inr h ↦ c.loop-pass.invariant.own k pass h.1
       ];
       count = length-set c.loop-pass.passes c.loop-pass.pass-index c.stop.new.self ∙ c.loop-pass.invariant.count;

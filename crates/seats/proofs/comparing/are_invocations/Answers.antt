@@ -1,6 +1,6 @@
 use Rattle.std.proofs.Common.{Some, ap, map, refl, ◌∙◌}
-use Rattle.seats.proofs.Lists.{item_at, mapped_at}
-use Rattle.seats.proofs.Matching.{begun_next, passed_over}
+use Rattle.tag.proofs.Lists.{item_at}
+use Rattle.seats.proofs.Matching.{begun_next, mapped_at, passed_over}
 use Rattle.seats.proofs.comparing.are_invocations.Goals as goal
 use Rattle.seats.proofs.comparing.are_invocations.Goals.{then-begins+else-count-entries+else-entry-place+else-not-is_invocation, else-begins}
 

@@ -1,5 +1,5 @@
 use Rattle.std.proofs.Common.{Some, ap, ◌∙◌}
-use Rattle.seats.proofs.Lists.{item_at}
+use Rattle.tag.proofs.Lists.{item_at}
 use Rattle.seats.proofs.Matching.{has_that}
 use Rattle.seats.proofs.comparing.has_response.Goals as goal
 

@@ -1,6 +1,5 @@
 use Rattle.std.proofs.Common.{map, refl, arith}
-use Rattle.seats.proofs.Lists.{mapped_at}
-use Rattle.seats.proofs.Matching.{responds_next}
+use Rattle.seats.proofs.Matching.{mapped_at, responds_next}
 use Rattle.seats.proofs.comparing.have_responses.Goals as goal
 
 pub loop-entry-preserved : goal.loop-entry-preserved

@@ -1,6 +1,6 @@
 use Rattle.std.proofs.Common.{map}
-use Rattle.seats.specs.Comparisons.{HaveResponses}
+use Rattle.seats.specs.Comparisons.{ResponsesMatch}
 use Rattle.seats.proofs.comparing.have_responses.Given as goal
 
 abbrev pub invariant-loop-entry : goal.invariant-loop-entry
-invariant-loop-entry l = HaveResponses l.rows (map (λ e. e.now) l.entries) l.entry-index
+invariant-loop-entry l = ResponsesMatch l.rows (map (λ e. e.now) l.entries) l.entry-index

@@ -1,5 +1,5 @@
-use Rattle.seats.proofs.Keeping.{keeps_looked}
+use Rattle.seats.proofs.Keeping.{keeps_rowless}
 use Rattle.seats.proofs.errand.counted_by.Goals as goal
 
 pub returns : goal.returns
-returns g c = keeps_looked _ _ c.standing.ensures.looked c.standing.ensures.recorded
+returns g c = keeps_rowless _ _ c.standing.ensures.no_row c.standing.ensures.recorded

@@ -1,5 +1,5 @@
 use Rattle.std.proofs.Common.{refl}
-use Rattle.seats.specs.Ways.Serves.{Answered, Refused}
+use Rattle.seats.specs.Parcels.ServesRequest.{Answered, Refused}
 use Rattle.seats.proofs.replicas.handle.Goals as goal
 
 pub returns-in-Err : goal.returns-in-Err

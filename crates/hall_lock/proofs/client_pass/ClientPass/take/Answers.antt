@@ -1,21 +1,23 @@
-use Rattle.hall_lock.proofs.ClientTurns.{quiet_seen, seat_turned, turn_seen}
-use Rattle.hall_lock.proofs.Stopping.{turn_stays}
+use Rattle.hall_lock.proofs.ClientTurns.{door_turn, quiet_seen, seat_turned, turn_seen}
 use Rattle.hall_lock.proofs.client_pass.ClientPass.take.Goals as goal
 
 pub returns-clause-turned : goal.returns-clause-turned
 returns-clause-turned g c = rw (← c.self.view_is)
     (turn_seen c.self.inside.client c.self.inside.door c.take.new.self c.args.step c.take.result c.self.invariant.0 c.take.ensures)
 
-pub returns-clause-looked : goal.returns-clause-looked
-returns-clause-looked g c = rw (← c.self.view_is)
-    (quiet_seen c.self.inside.client c.self.inside.door c.take.new.self c.args.step c.take.result c.requires.quiet c.self.invariant.0 c.take.ensures)
+pub returns-clause-no_row : goal.returns-clause-no_row
+returns-clause-no_row g c = rw (← c.self.view_is)
+    (quiet_seen c.self.inside.client c.self.inside.door c.take.new.self c.args.step c.take.result c.requires.quiet c.self.invariant.0
+    c.take.ensures)
 
 pub returns-clause-recorded : goal.returns-clause-recorded
-returns-clause-recorded g c = (seat_turned c.self.inside.client c.self.inside.door c.take.new.self c.args.step c.take.result c.self.invariant.0 c.take.ensures).1
+returns-clause-recorded g c = (seat_turned c.self.inside.client c.self.inside.door c.take.new.self c.args.step c.take.result
+    c.self.invariant.0 c.take.ensures).1
 
 pub invariant_of-self : goal.invariant_of-self
-invariant_of-self g c = seat_turned c.self.inside.client c.self.inside.door c.take.new.self c.args.step c.take.result c.self.invariant.0 c.take.ensures
+invariant_of-self g c = seat_turned c.self.inside.client c.self.inside.door c.take.new.self c.args.step c.take.result c.self.invariant.0
+    c.take.ensures
 
 pub returns-clause-stays : goal.returns-clause-stays
 returns-clause-stays g c = rw (← c.self.view_is)
-    (turn_stays c.self.inside.client c.self.inside.door c.take.new.self c.args.step c.take.result c.self.invariant.0 c.take.ensures)
+    (door_turn c.self.inside.client c.self.inside.door c.take.new.self c.args.step c.take.result c.self.invariant.0 c.take.ensures).stays

@@ -1,4 +1,4 @@
-use Rattle.seats.proofs.Keeping.{keeps_looked, keeps_then}
+use Rattle.seats.proofs.Keeping.{keeps_rowless, keeps_then}
 use Rattle.seats.proofs.errand.Errand.finish.Goals as goal
 
 pub returns-in-Ok-clause-ended : goal.returns-in-Ok-clause-ended
@@ -12,4 +12,4 @@ returns-in-Ok-clause-ended g c = record {
 pub returns-in-Err-clause-failed : goal.returns-in-Err-clause-failed
 returns-in-Err-clause-failed g c =
     keeps_then c.args.pass.now c.make_ready.new.pass c.respond.new.self c.make_ready.ensures.kept
-    (keeps_looked c.make_ready.new.pass c.respond.new.self c.in-Err.ensures.refused c.respond.ensures.recorded)
+    (keeps_rowless c.make_ready.new.pass c.respond.new.self c.in-Err.ensures.refused c.respond.ensures.recorded)

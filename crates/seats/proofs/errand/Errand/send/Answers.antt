@@ -1,4 +1,4 @@
-use Rattle.seats.specs.Ways.Sends.{Refused, Sent}
+use Rattle.seats.specs.Parcels.SendsRequest.{Refused, Sent}
 use Rattle.seats.proofs.Stalling.{step_stalls}
 use Rattle.seats.proofs.errand.Errand.send.Goals as goal
 

@@ -1,5 +1,5 @@
 use Rattle.std.proofs.Common.{◌≡◌, ◌+◌}
-use Rattle.node_threads.proofs.replica_turns.turn_in_each.Given as goal
+use Rattle.node_threads.proofs.switch_replica.switch_in_each.Given as goal
 
 abbrev pub invariant-loop-root : goal.invariant-loop-root
 invariant-loop-root g l = l.tally.took + l.tally.idle ≡ l.root-index
