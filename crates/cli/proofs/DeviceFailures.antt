@@ -1,41 +1,37 @@
 -- After a device failed, what went out as history is nothing, or a beginning of its text.
-use Rattle.std.proofs.Common.{◌≡◌, ◌⊎◌, inl, inr, subst, ℕ, List, Option}
-use Rattle.std.specs.Io.KnownBytes.{Appends}
-use Rattle.counted_devices.specs.Sendings.{Begins}
+use Rattle.std.proofs.Common.{◌≡◌, ◌⊎◌, inl, inr, subst, List, ℕ}
+use Rattle.counted_devices.specs.DeviceStates.{DeviceStates}
 use Rattle.file_format.specs.Texts.{history_text}
-use Rattle.fault_script.specs.Simulations.{IfScript, Simulates}
+use Rattle.fault_script.specs.Simulations.{FailsAfterStart, IfScript, Simulates, TakesText}
 use Rattle.fault_script.specs.Faults.{ScriptError}
 use Rattle.fault_script.specs.declared.simulate_script.SimulateError.{SimulateError}
 use Rattle.fault_script.specs.declared.simulate_script.SimulateError.TheVariants as error
+use Rattle.cli.specs.Devices.{FailsOnce, ReceivesNothing, ReceivesPrefix}
+use Rattle.cli.specs.Reports.{FailsAmid}
 
-module _ (old new out out_after messages messages_after : Option (List ℕ)) (Same Said Grown : Type 0) (same : Same → out_after ≡ out) where
-  abbrev Sent : List ℕ → List ℕ → Type 0
-  Sent said text = (Begins messages messages_after said × Said × Same) ⊎ (Appends messages messages_after said × (Begins out out_after text × Grown))
+-- something weaker holds of the texts of a run
+pub weaker_run : (script : DeviceStates) (P Q : List ℕ → List ℕ → Type 0) → ((said text : List ℕ) → P said text → Q said text) → Simulates script P → Simulates script Q
+weaker_run script P Q more run = record { script = run.script; read = run.read; rows = run.rows; messages = run.messages; run = run.run; fact = more run.messages (history_text run.rows) run.fact }
 
-  abbrev Left : Type 0
-  Left = (out_after ≡ out) ⊎ (Simulates old new (λ said text. Begins out out_after text) × Grown)
+module _ (script out messages : DeviceStates) (Same : Type 0) (same : Same → ReceivesNothing out) where
+  -- the messages broke off, or after them the history
+  abbrev Broke : List ℕ → List ℕ → Type 0
+  Broke said text = (FailsAfterStart messages said × Same) ⊎ (TakesText messages said × FailsAfterStart out text)
 
-  by_fact : (run : Simulates old new Sent) → Sent run.messages (history_text run.rows) → Left
-  by_fact run (inl early) = inl (same early.2)
+  by_fact : (run : Simulates script Broke) → Broke run.messages (history_text run.rows) → ReceivesNothing out ⊎ (Simulates script (λ said text. ReceivesPrefix out text) × FailsOnce out)
+  by_fact run (inl early) = inl (same early.1)
   by_fact run (inr late) = inr (record { script = run.script; read = run.read; rows = run.rows; messages = run.messages; run = run.run; fact = late.1.0 }, late.1.1)
 
-  pub begun : Simulates old new Sent → Left
+  pub begun : Simulates script Broke → ReceivesNothing out ⊎ (Simulates script (λ said text. ReceivesPrefix out text) × FailsOnce out)
   begun run = by_fact run run.fact
 
   -- what went out of the messages
-  abbrev Broke : List ℕ → Type 0
-  Broke said = (Begins messages messages_after said × Said) ⊎ (Appends messages messages_after said × Grown)
+  amid : (said text : List ℕ) → Broke said text → FailsAmid messages out said
+  amid said text (inl early) = inl early.0
+  amid said text (inr late) = inr (late.0, late.1.1)
 
-  broken : (said text : List ℕ) → Sent said text → Broke said
-  broken said text (inl early) = inl (early.0, early.1)
-  broken said text (inr late) = inr (late.0, late.1.1)
-
-  pub broke_off : Simulates old new Sent → Simulates old new (λ said text. Broke said)
-  broke_off run = record { script = run.script; read = run.read; rows = run.rows; messages = run.messages; run = run.run; fact = broken run.messages (history_text run.rows) run.fact }
-
--- something weaker holds of the texts of a run
-pub weaker_run : (old new : Option (List ℕ)) (P Q : List ℕ → List ℕ → Type 0) → ((said text : List ℕ) → P said text → Q said text) → Simulates old new P → Simulates old new Q
-weaker_run old new P Q more run = record { script = run.script; read = run.read; rows = run.rows; messages = run.messages; run = run.run; fact = more run.messages (history_text run.rows) run.fact }
+  pub broke_off : Simulates script Broke → Simulates script (λ said text. FailsAmid messages out said)
+  broke_off run = weaker_run script Broke (λ said text. FailsAmid messages out said) amid run
 
 -- what holds of why the script couldn't be read
 pub script_fault : (P : ScriptError → Type 0) (e : SimulateError) (why : ScriptError) → e ≡ error.Script why → IfScript e P → P why

@@ -7,21 +7,21 @@ use Rattle.std.specs.Map.{lookup}
 use Rattle.std.specs.Cmp.Lexicographic.{bytes_decides}
 use Rattle.std.proofs.lemmas.Option.{slice_get-map, slice_get_within}
 use Rattle.tag.specs.declared.numbers.OpId.{OpId}
+use Rattle.tag.proofs.Options.{none_from_is_none}
 use Rattle.recorder.specs.Histories.{Recorded}
 use Rattle.recorder.specs.declared.part.Call.{Call}
 use Rattle.recorder.specs.declared.order.KeyOrder.{KeyOrder}
 use Rattle.recorder.specs.Orders.{IsOrder}
-use Rattle.recorder.specs.Lists.{Contains-slice_get, get_at, place_of}
+use Rattle.tag.proofs.Lists.{Contains-slice_get, get_at, place_of, slice_get-map_back}
 use Rattle.certificate_check.specs.Verdicts.{IsVerdict}
 use Rattle.certificate_check.specs.declared.verdict.Verdict.{Verdict}
 use Rattle.certificate_check.specs.declared.verdict.Verdict.TheVariants.{No}
 use Rattle.certificate_check.specs.declared.verdict.Fault.{Fault}
-use Rattle.certificate_check.specs.Faults.{refuted}
+use Rattle.certificate_check.proofs.Faults.{refuted}
 use Rattle.file_format.specs.OrderFormat.{AreJoined, key_in, order_in, order_on}
 use Rattle.parallel_keys.specs.Histories.{AreOn, KeyVerdicts}
 use Rattle.parallel_keys.specs.CheckedKeys.{AreDistinct, CheckedKey, KeyParts, given_order, is_other, checked_keys}
-use Rattle.parallel_keys.specs.Fronts.{place_before}
-use Rattle.parallel_keys.specs.Given.{given_at}
+use Rattle.parallel_keys.proofs.GivenOrders.{given_at}
 use Rattle.cli.specs.Checks.{IsYes, IsNo, IsStatusOf}
 use Rattle.cli.specs.VerdictStatuses.{SaysAll}
 use Rattle.cli.specs.declared.status.Status.{Status}
@@ -93,7 +93,7 @@ module _ (pieces orders : List KeyOrder) (joined : AreJoined pieces orders) wher
           let at = place_of pieces p h in
           let named_at : slice_get (map key_in pieces) at.0 ≡ Some p.key = slice_get-map key_in pieces at.0 ∙ ap (option_map key_in) at.1 in
           let listed = joined.keys.all at.0 p.key named_at in
-          let order = place_before key_in orders listed.0 p.key listed.1 in
+          let order = slice_get-map_back key_in orders listed.0 p.key listed.1 in
           free listed.0 order.0 order.1 (order.2 ∙ (bytes_decides p.key key).0 same)
 
   -- what is given for a key is its order in the pieces
@@ -113,11 +113,6 @@ empty_order = record {
   legal = λ i call response stands read answered. absurd (contains_nothing call stands.recorded);
   precedence = λ i j a b h stands later precedes. contains_nothing a stands.recorded;
 }
-
--- an option in which nothing is
-is_nothing : {X : Type 0} (o : Option X) → is_none o ≡ true → o ≡ None
-is_nothing None is = refl
-is_nothing (Some x) is = absurd (cc)
 
 module _ (halls : List Recorded) (parts : KeyParts) (have : HaveParts halls parts) where
   module _ (pieces orders : List KeyOrder) (verdicts : KeyVerdicts) (joined : AreJoined pieces orders) (on : AreOn (checked_keys parts orders) verdicts) where
@@ -173,7 +168,7 @@ module _ (halls : List Recorded) (parts : KeyParts) (have : HaveParts halls part
                 w.1.key,
                 record {
                   part = [];
-                  recorded = have.none w.1.key (is_nothing (lookup (bytes_eq w.1.key) parts) w.3);
+                  recorded = have.none w.1.key (none_from_is_none (lookup (bytes_eq w.1.key) parts) w.3);
                   unordered = no_at one.0 fault checked [] (order_on w.1.key pieces) (ap (λ (j : CheckedKey). j.part) (sym w.4)) order;
                 },
               )

@@ -12,7 +12,7 @@ use Rattle.recorder.specs.declared.part.Call.{Call}
 use Rattle.recorder.specs.Histories.{Recorded}
 use Rattle.recorder.specs.Halls.{AreOfTheirHalls, FallsTo, hall_of}
 use Rattle.recorder.specs.Records.{AreParts, IsPart}
-use Rattle.recorder.specs.Lists.{get_at}
+use Rattle.tag.proofs.Lists.{get_at}
 use Rattle.parallel_keys.specs.Histories.{AreHallParts}
 use Rattle.parallel_keys.specs.CheckedKeys.{KeyParts, all_parts}
 use Rattle.cli.specs.Checks.{IsHallPart}
@@ -24,13 +24,14 @@ among_all [] k own entry at h = absurd (cc)
 among_all (p ∷ parts) zero own entry at h = let is : own ≡ p = cc in Contains-append_left p (all_parts parts) entry (subst (λ (x : KeyParts). Contains x entry) is h)
 among_all (p ∷ parts) (suc k) own entry at h = Contains-append_right p (all_parts parts) entry (among_all parts k own entry at h)
 
-pub record IsAmong (parts : List KeyParts) (entry : List ℕ × List Call) : Type 0 where
+-- the entry stands among those of one of the halls
+pub record StandsInHall (parts : List KeyParts) (entry : List ℕ × List Call) : Type 0 where
   pub hall : ℕ
   pub own : KeyParts
   pub at : slice_get parts hall ≡ Some own
   pub has : Contains own entry
 
-of_all : (parts : List KeyParts) (entry : List ℕ × List Call) → Contains (all_parts parts) entry → IsAmong parts entry
+of_all : (parts : List KeyParts) (entry : List ℕ × List Call) → Contains (all_parts parts) entry → StandsInHall parts entry
 of_all [] entry h = absurd (contains_nothing entry h)
 of_all (p ∷ parts) entry h = elim (Contains-append_cases p (all_parts parts) entry h) [
   | inl w ↦ record { hall = 0; own = p; at = refl; has = w }

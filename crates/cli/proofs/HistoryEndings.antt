@@ -1,31 +1,48 @@
--- What is said of a history's rows, said of the reader that gave them.
-use Rattle.std.proofs.Common.{◌≡◌, inl, inr}
+-- How the justification of histories ends, and what that says of the file that they were read from.
+use Rattle.std.proofs.Common.{List, inl, inr}
 use Rattle.recorder.specs.Halls.{RecordedHalls}
-use Rattle.counted_devices.specs.Deliveries.{Delivers}
-use Rattle.history_file.specs.Deliveries.{ReadsAll}
-use Rattle.file_format.specs.HistoriesFormat.{histories_format, MakesHistories}
-use Rattle.cli.specs.Checks.{Stops}
-use Rattle.cli.specs.Justifications.{Justifies, JustifiesHalls}
-use Rattle.cli.specs.Passages.{Passage, WriterStates}
+use Rattle.recorder.specs.Histories.{Recorded}
+use Rattle.recorder.specs.declared.order.KeyOrder.{KeyOrder}
+use Rattle.counted_devices.specs.DeviceStates.{DeviceStates}
+use Rattle.file_format.specs.HistoriesFormat.{histories_format}
+use Rattle.parallel_keys.specs.CheckedKeys.{KeyParts, all_parts}
+use Rattle.parallel_keys.specs.Histories.{AreHallParts}
+use Rattle.cli.specs.Devices.{ReceivesNothing}
+use Rattle.cli.specs.Justifications.{AreJustified, EndsJustification, IsFirstUnjustified, JustifiesHalls, Refuses, SendsOrders}
+use Rattle.cli.specs.Readings.{EndsUnread, ReadsHistories}
+use Rattle.cli.specs.declared.noted_orders.Unjustified.{Unjustified}
 use Rattle.cli.specs.declared.status.Status.{Status}
 use Rattle.cli.specs.declared.status.Status.TheVariants.{Good, Refused, Usage, Format, Failed}
 
-module _ (reader writer : Passage) (errors : WriterStates) where
-  pub justified : (histories : RecordedHalls) → Delivers reader.old reader.new (ReadsAll histories_format MakesHistories reader.new histories) → (s : Status) → JustifiesHalls histories.halls writer errors s → Justifies reader writer errors s
-  justified histories read Good (inl (parts, split, (orders, each, sent))) = (orders, (parts, record { histories = histories; read = read; split = split }, each), sent)
-  justified histories read Refused (inl (parts, split, refuses)) = (parts, record { histories = histories; read = read; split = split }, refuses)
-  justified histories read Usage (inl (parts, split, none)) = none
-  justified histories read Format (inl (parts, split, none)) = absurd none
-  justified histories read Failed (inl (parts, split, inl same)) = inl same
-  justified histories read Failed (inl (parts, split, inr (orders, each, begun))) = inr (orders, (parts, record { histories = histories; read = read; split = split }, each), begun)
-  justified histories read Failed (inr (is, same)) = inl same
-  justified histories read Good (inr (is, same)) = absurd (cc)
-  justified histories read Refused (inr (is, same)) = absurd (cc)
-  justified histories read Usage (inr (is, same)) = absurd (cc)
-  justified histories read Format (inr (is, same)) = absurd (cc)
+module _ (halls : List Recorded) (parts : List KeyParts) (split : AreHallParts halls parts) (out errors : DeviceStates) where
+  -- the text of the orders was sent
+  pub sent : (orders : List KeyOrder) → AreJustified (all_parts parts) orders → (s : Status) → SendsOrders orders out s → JustifiesHalls halls out errors s
+  sent orders each Good sends = (parts, split, (orders, each, sends))
+  sent orders each Refused none = absurd none
+  sent orders each Usage none = none
+  sent orders each Format none = none
+  sent orders each Failed (inl same) = inl same
+  sent orders each Failed (inr begun) = inr (parts, split, (orders, each, begun))
 
-  -- where the file is not read nothing goes out
-  pub stopped : writer.new ≡ writer.old → (s : Status) → Stops histories_format reader.old reader.new s → Justifies reader writer errors s
+  -- a key was refused, or memory was wanted
+  pub refuses : (refusal : Unjustified) → IsFirstUnjustified (all_parts parts) refusal → ReceivesNothing out → (s : Status) → Refuses refusal errors s → JustifiesHalls halls out errors s
+  refuses refusal first same Good none = absurd none
+  refuses refusal first same Refused refused = (parts, split, (refusal, first, refused))
+  refuses refusal first same Usage none = none
+  refuses refusal first same Format none = none
+  refuses refusal first same Failed any = inl same
+
+module _ (file out errors : DeviceStates) where
+  -- the file was read, and its histories were justified
+  pub justified : (histories : RecordedHalls) → ReadsHistories file histories → (s : Status) → JustifiesHalls histories.halls out errors s → EndsJustification file out errors s
+  justified histories read Good ends = record { histories = histories; read = read; justified = ends }
+  justified histories read Refused ends = record { histories = histories; read = read; justified = ends }
+  justified histories read Usage ends = ends
+  justified histories read Format ends = absurd ends
+  justified histories read Failed ends = inr (record { histories = histories; read = read; justified = ends })
+
+  -- it wasn't read, and nothing went out
+  pub stopped : ReceivesNothing out → (s : Status) → EndsUnread histories_format file s → EndsJustification file out errors s
   stopped same Good none = absurd none
   stopped same Refused none = absurd none
   stopped same Usage none = none

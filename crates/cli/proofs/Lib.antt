@@ -11,7 +11,7 @@ mod LineSpelling
 pub mod Told
 mod Escapes
 pub mod ShownNames
-mod ToldEndings
+mod Reported
 pub mod Unmade
 pub mod Noted
 pub mod Prefixes

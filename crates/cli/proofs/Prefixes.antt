@@ -1,12 +1,12 @@
 -- The keys that have their orders so far.
-use Rattle.std.proofs.Common.{ℕ, zero, suc, ap₂, add-one, ◌≡◌, ◌<◌, ◌≤◌, ◌+◌, List, [], ◌∷◌, ◌++◌, length, map, take, drop, get_or, inl, inr, refl, sym, ap, subst, ◌∙◌, append_assoc, append-nil, arith, length-append}
+use Rattle.std.proofs.Common.{ℕ, ap₂, add-one, ◌≡◌, ◌<◌, ◌+◌, List, [], ◌∷◌, ◌++◌, length, map, take, drop, get_or, inl, inr, refl, sym, ap, subst, ◌∙◌, append_assoc, append-nil, arith, length-append}
 use Rattle.std.proofs.lemmas.List.{map-append, take-append-drop}
 use Rattle.std.proofs.lemmas.Option.{slice_get_within}
 use Rattle.std.proofs.Math.Seq.{drop-cons}
 use Rattle.recorder.specs.declared.order.KeyOrder.{KeyOrder}
-use Rattle.recorder.specs.Lists.{push_cases}
+use Rattle.tag.proofs.Lists.{push_cases}
 use Rattle.parallel_keys.specs.CheckedKeys.{KeyParts, all_parts}
-use Rattle.parallel_keys.specs.Fronts.{front_more}
+use Rattle.parallel_keys.proofs.Fronts.{front_more}
 use Rattle.cli.specs.declared.noted_orders.Unjustified.{Unjustified}
 use Rattle.cli.specs.Justifications.{KeyPart, AreJustified, IsFirstUnjustified, IsJustifiedOrder, IsUnjustified}
 
@@ -26,13 +26,6 @@ justified_none before parts left orders same justified = record {
 -- of what is left, the next is the entry at that place
 pub dropped_more : (parts : List KeyPart) (i : ℕ) (entry : KeyPart) → i < length parts → entry ≡ get_or parts i entry → drop i parts ≡ entry ∷ drop (i + 1) parts
 dropped_more parts i entry below is = drop-cons parts i entry below ∙ ap₂ (λ (e : KeyPart) (n : ℕ). e ∷ drop n parts) (sym is) (sym (add-one i))
-
--- after the last none is left
-pub none_left : {X : Type 0} (xs : List X) (i : ℕ) → length xs ≤ i → drop i xs ≡ []
-none_left [] zero h = refl
-none_left [] (suc i) h = refl
-none_left (x ∷ xs) zero h = absurd (omega (arith, h))
-none_left (x ∷ xs) (suc i) h = none_left xs i (omega (arith, h))
 
 -- no key has no order
 pub justified_nothing : AreJustified [] []

@@ -1,27 +1,26 @@
 -- What was read, and how it was checked.
 use Rattle.std.proofs.Common.{ℕ, ◌≡◌, List, inl, inr, refl}
-use Rattle.std.specs.Io.KnownBytes.{Appends}
 use Rattle.recorder.specs.declared.order.KeyOrder.{KeyOrder}
 use Rattle.recorder.specs.Halls.{RecordedHalls}
-use Rattle.counted_devices.specs.Deliveries.{Delivers}
-use Rattle.history_file.specs.Deliveries.{ReadsAll}
-use Rattle.file_format.specs.HistoriesFormat.{histories_format, MakesHistories}
+use Rattle.counted_devices.specs.Deliveries.{ReadsFrom}
+use Rattle.counted_devices.specs.DeviceStates.{DeviceStates}
 use Rattle.file_format.specs.OrderFormat.{order_format, MakesJoined, AreJoined}
-use Rattle.counted_devices.specs.Sendings.{Begins}
+use Rattle.file_format.specs.Readings.{Reads}
 use Rattle.cli.specs.declared.check_keys.Halt.{Halt}
 use Rattle.cli.specs.declared.check_keys.Halt.TheVariants as halt
 use Rattle.cli.specs.Halts.{Halts}
-use Rattle.cli.specs.Checks.{AreRead, Remainders, IsStatusOf, ChecksRead, Ends}
-use Rattle.cli.specs.Passages.{Passage}
+use Rattle.cli.specs.Checks.{ChecksFiles, EndsCheck, IsStatusOf, ReadsFiles}
+use Rattle.cli.specs.Devices.{Receives, ReceivesPrefix}
+use Rattle.cli.specs.Readings.{ReadsHistories}
 use Rattle.cli.specs.VerdictLines.{HasLines}
 use Rattle.cli.specs.declared.status.Status.{Status}
 use Rattle.cli.specs.declared.status.Status.TheVariants.{Good, Refused, Usage, Format, Failed}
 
 -- the files that were read: what the status says of them, and what holds of the lines
-module _ (old new : Remainders) (out : Passage) (histories : RecordedHalls) (orders : List KeyOrder)
-    (history_read : Delivers old.history new.history (ReadsAll histories_format MakesHistories new.history histories))
-    (read : Delivers old.orders new.orders (ReadsAll order_format MakesJoined new.orders orders)) where
-  are_read : AreRead old new histories read.fact.1.items
+module _ (history orders_file out : DeviceStates) (histories : RecordedHalls) (orders : List KeyOrder)
+    (history_read : ReadsHistories history histories)
+    (read : ReadsFrom (Reads order_format MakesJoined) orders_file orders) where
+  are_read : ReadsFiles history orders_file histories read.fact.1.items
   are_read =
       let r = read.fact.1 in
       record {
@@ -33,11 +32,11 @@ module _ (old new : Remainders) (out : Passage) (histories : RecordedHalls) (ord
         };
       }
 
-  checked : (s : Status) → IsStatusOf histories.halls read.fact.1.items s → HasLines histories.halls read.fact.1.items (Appends out.old out.new) → ChecksRead old new out s
+  checked : (s : Status) → IsStatusOf histories.halls read.fact.1.items s → HasLines histories.halls read.fact.1.items (Receives out) → ChecksFiles history orders_file out s
   checked s is lines = record { histories = histories; pieces = read.fact.1.items; read = are_read; is = is; lines = lines }
 
   pub ends : (s : Status) → ((pieces : List KeyOrder) → AreJoined pieces orders → IsStatusOf histories.halls pieces s)
-      → ((pieces : List KeyOrder) → AreJoined pieces orders → HasLines histories.halls pieces (Appends out.old out.new)) → Ends old new out s
+      → ((pieces : List KeyOrder) → AreJoined pieces orders → HasLines histories.halls pieces (Receives out)) → EndsCheck history orders_file out s
   ends Good is lines = checked Good (is read.fact.1.items read.fact.1.made) (lines read.fact.1.items read.fact.1.made)
   ends Refused is lines = checked Refused (is read.fact.1.items read.fact.1.made) (lines read.fact.1.items read.fact.1.made)
   ends Usage is lines = is read.fact.1.items read.fact.1.made
@@ -45,12 +44,12 @@ module _ (old new : Remainders) (out : Passage) (histories : RecordedHalls) (ord
   ends Failed is lines = absurd (is read.fact.1.items read.fact.1.made)
 
   -- the output failed
-  pub breaks : ((pieces : List KeyOrder) → AreJoined pieces orders → HasLines histories.halls pieces (Begins out.old out.new)) → Ends old new out Failed
+  pub breaks : ((pieces : List KeyOrder) → AreJoined pieces orders → HasLines histories.halls pieces (ReceivesPrefix out)) → EndsCheck history orders_file out Failed
   breaks lines = inr (record { histories = histories; pieces = read.fact.1.items; read = are_read; lines = lines read.fact.1.items read.fact.1.made })
 
   -- a check that ended so had put nothing out, or its output failed
   pub halted_ends : {W : Type 0} (workers : ℕ) (failures : W → ℕ) (w_old w_new : W) (why : Halt) → Halts workers failures why w_old w_new → (w_new ≡ w_old → out.new ≡ out.old)
-      → (why ≡ halt.Output → (pieces : List KeyOrder) → AreJoined pieces orders → HasLines histories.halls pieces (Begins out.old out.new)) → Ends old new out Failed
+      → (why ≡ halt.Output → (pieces : List KeyOrder) → AreJoined pieces orders → HasLines histories.halls pieces (ReceivesPrefix out)) → EndsCheck history orders_file out Failed
   halted_ends workers failures w_old w_new halt.Output failed same begun = breaks (begun refl)
   halted_ends workers failures w_old w_new halt.Memory rests same begun = inl (same rests)
   halted_ends workers failures w_old w_new halt.Thread rests same begun = inl (same rests.1)

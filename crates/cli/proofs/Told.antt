@@ -1,9 +1,8 @@
 -- Verdicts, said in lines.
-use Rattle.std.proofs.Common.{ℕ, suc, ◌≡◌, ◌<◌, ◌+◌, List, [], ◌∷◌, ◌++◌, Some, length, take, get_or, inl, inr, refl, sym, ap, subst, ◌∙◌, arith}
+use Rattle.std.proofs.Common.{ℕ, suc, ◌≡◌, ◌<◌, ◌+◌, List, [], ◌∷◌, ◌++◌, append-nil, Some, length, take, get_or, refl, sym, ap, subst, ◌∙◌, arith}
 use Rattle.std.specs.List.{slice_get, flat_map}
 use Rattle.std.proofs.lemmas.Grind.{flat_map-append}
-use Rattle.std.proofs.lemmas.Bool.{cases_lt}
-use Rattle.std.proofs.lemmas.Option.{same_Some, slice_get_read}
+use Rattle.tag.proofs.Lists.{each_next, item_at}
 use Rattle.recorder.specs.Histories.{Recorded}
 use Rattle.recorder.specs.declared.order.KeyOrder.{KeyOrder}
 use Rattle.certificate_check.specs.declared.verdict.Fault.{Fault}
@@ -12,9 +11,9 @@ use Rattle.certificate_check.specs.declared.verdict.Verdict.TheVariants.{Yes, No
 use Rattle.file_format.specs.OrderFormat.{AreJoined}
 use Rattle.parallel_keys.specs.CheckedKeys.{CheckedKey}
 use Rattle.parallel_keys.specs.Histories.{AreOn, AreVerdictsOnHistories, KeyVerdicts}
-use Rattle.parallel_keys.specs.Fronts.{front_more}
-use Rattle.cli.specs.VerdictStatuses.{SaysAll}
-use Rattle.cli.specs.VerdictLines.{AreLines, AreLinesOf, line_text, lines_text}
+use Rattle.parallel_keys.proofs.Fronts.{front_more}
+use Rattle.cli.specs.VerdictStatuses.{AreYes, SaysAll}
+use Rattle.cli.specs.VerdictLines.{AreVerdictLines, AreCheckLines, line_text, lines_text}
 use Rattle.cli.specs.declared.status.Status.TheVariants.{Refused}
 
 -- the verdicts after the first
@@ -25,7 +24,7 @@ behind one checked told verdicts on = record {
 }
 
 -- the lines of verdicts on what is checked
-pub told_lines : (checked : List CheckedKey) (verdicts : KeyVerdicts) → AreOn checked verdicts → AreLines checked (lines_text verdicts)
+pub told_lines : (checked : List CheckedKey) (verdicts : KeyVerdicts) → AreOn checked verdicts → AreVerdictLines checked (lines_text verdicts)
 told_lines [] [] on = refl
 told_lines [] (told ∷ verdicts) on = absurd (omega (arith, on.all))
 told_lines (one ∷ checked) [] on = absurd (omega (arith, on.all))
@@ -34,7 +33,7 @@ told_lines (one ∷ checked) (told ∷ verdicts) on =
     (told.1, lines_text verdicts, first.1, told_lines checked verdicts (behind one checked told verdicts on), rw (sym first.0) refl)
 
 -- they are what a check of the history prints
-pub lines_said : (halls : List Recorded) (pieces orders : List KeyOrder) (verdicts : KeyVerdicts) (text : List ℕ) → AreJoined pieces orders → AreVerdictsOnHistories halls orders verdicts → text ≡ lines_text verdicts → AreLinesOf halls pieces text
+pub lines_said : (halls : List Recorded) (pieces orders : List KeyOrder) (verdicts : KeyVerdicts) (text : List ℕ) → AreJoined pieces orders → AreVerdictsOnHistories halls orders verdicts → text ≡ lines_text verdicts → AreCheckLines halls pieces text
 lines_said halls pieces orders verdicts text joined are said = record {
   parts = are.parts;
   orders = orders;
@@ -43,33 +42,20 @@ lines_said halls pieces orders verdicts text joined are said = record {
   lines = rw said (told_lines _ verdicts are.checked);
 }
 
-append_nil : {X : Type 0} (l : List X) → l ++ [] ≡ l
-append_nil [] = refl
-append_nil {X} (x ∷ l) = ap (λ (m : List X). x ∷ m) (append_nil l)
-
 -- a line more
 pub lines_more : (verdicts : KeyVerdicts) (i : ℕ) (told : List ℕ × Verdict) (old new : List ℕ) → i < length verdicts → told ≡ get_or verdicts i told → old ≡ lines_text (take i verdicts) → new ≡ old ++ line_text told.0 told.1 → new ≡ lines_text (take (i + 1) verdicts)
 lines_more verdicts i told old new below is so_far grown =
     let line : List ℕ × Verdict → List ℕ = λ t. line_text t.0 t.1 in
     let before = take i verdicts in
     grown ∙ ap (λ (l : List ℕ). l ++ line told) so_far
-    ∙ sym (ap lines_text (front_more verdicts i told below is) ∙ flat_map-append line before (told ∷ []) ∙ ap (λ (l : List ℕ). flat_map line before ++ l) (append_nil (line told)))
+    ∙ sym (ap lines_text (front_more verdicts i told below is) ∙ flat_map-append line before (told ∷ []) ∙ ap (λ (l : List ℕ). flat_map line before ++ l) (append-nil (line told)))
 
--- the verdicts below that index are yes
-abbrev pub AreYes : KeyVerdicts → ℕ → Type 0
-AreYes verdicts index = (i : ℕ) (told : List ℕ × Verdict) → i < index → slice_get verdicts i ≡ Some told → told.1 ≡ Yes
-
+-- one more verdict is yes
 pub yes_more : (verdicts : KeyVerdicts) (index : ℕ) (told : List ℕ × Verdict) → index < length verdicts → told ≡ get_or verdicts index told → told.1 ≡ Yes → AreYes verdicts index → AreYes verdicts (index + 1)
-yes_more verdicts index told below is passes so_far i other within at = elim (cases_lt i index) [
-  | inl earlier ↦ so_far i other earlier at
-  | inr later ↦
-      let here : i ≡ index = omega (arith, within, later) in
-      let same : told ≡ other = same_Some told other (sym (slice_get_read verdicts (length verdicts) index told refl below is) ∙ ap (slice_get verdicts) (sym here) ∙ at) in
-      ap (λ (t : List ℕ × Verdict). t.1) (sym same) ∙ passes
-]
+yes_more verdicts index told below is passes so_far = each_next (λ _ (t : List ℕ × Verdict). t.1 ≡ Yes) verdicts index told so_far (item_at verdicts index told below is) passes
 
 -- a verdict that is no
 pub refused_here : (verdicts : KeyVerdicts) (index : ℕ) (told : List ℕ × Verdict) (fault : Fault) → index < length verdicts → told ≡ get_or verdicts index told → told.1 ≡ No fault → SaysAll verdicts Refused
 refused_here verdicts index told fault below is fails =
-    let at = slice_get_read verdicts (length verdicts) index told refl below is in
+    let at = item_at verdicts index told below is in
     (index, fault, record { key = told.0; told = subst (λ (v : Verdict). slice_get verdicts index ≡ Some (told.0, v)) fails at })

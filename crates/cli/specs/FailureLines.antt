@@ -19,7 +19,7 @@ file_words = record {
   memory = 14;
 }
 
--- how faults of scripts are
+-- how faults of scripts are called and numbered
 abbrev pub script_words : FaultWords script.LineFault
 script_words = record {
   number = script_numbers.line_fault_number;
@@ -29,12 +29,12 @@ script_words = record {
   memory = 8;
 }
 
--- the fault with which the reading of the file of that name ended, on a line of its own
+-- the line of the fault at which the reading of the file of that name ended
 unfoldable pub fault_line : {L : Type 0} → FaultWords L → List ℕ → ReadFault L → List ℕ
 fault_line words name fault =
     codes "abd: " ++ name ++ codes ": " ++ read_fault_text words fault ++ codes "\n"
 
--- why a command failed, on a line of its own
+-- the line that says why a command failed
 abbrev pub failure_line : Failure → List ℕ
 failure_line (failure.Closed name) = codes "abd: " ++ name.now ++ codes ": cannot open\n"
 failure_line (failure.File name fault) = fault_line file_words name.now fault

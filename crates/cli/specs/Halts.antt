@@ -13,14 +13,14 @@ abbrev pub halt_of : CheckError → Halt
 halt_of error.Memory = halt.Memory
 halt_of error.Thread = halt.Thread
 
--- the failure that a check which ended so is told as
+-- the failure of a check that ended so
 abbrev pub failure_of : Halt → Failure
 failure_of halt.Output = failure.Output
 failure_of halt.Memory = failure.Memory
 failure_of halt.Thread = failure.Thread
 
--- the output failed, so that the count of its failures grew; or memory was wanted, or a thread for
--- the second of so many workers, before anything went out
+-- the output failed once more; or it is as it was, and memory was wanted, or a second worker's
+-- thread
 abbrev pub Halts : {W : Type 0} → ℕ → (W → ℕ) → Halt → W → W → Type 0
 Halts workers failures halt.Output old new = IsOneMore (failures old) (failures new)
 Halts workers failures halt.Memory old new = new ≡ old

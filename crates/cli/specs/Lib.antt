@@ -1,12 +1,13 @@
 pub mod Checks
+pub mod Devices
 pub mod FailureLines
 pub mod Halts
 pub mod VerdictStatuses
 pub mod Justifications
-pub mod Passages
+pub mod Readings
+pub mod Reports
 pub mod ShownNames
 pub mod SimulationEndings
 pub mod Statuses
-pub mod ToldFailures
 pub mod VerdictLines
 pub mod Words

@@ -8,10 +8,10 @@ use Rattle.std.specs.Str.{encode_utf8_all}
 abbrev pub shown_char : ℕ → List ℕ
 shown_char c = if is_control c then escape_default c else c ∷ []
 
--- the name, with each of its characters shown so
+-- a name is shown character by character
 abbrev pub shown_name : List ℕ → List ℕ
 shown_name name = encode_utf8_all (flat_map shown_char (chars name))
 
--- it is no control character
+-- the character is no control character
 abbrev pub is_harmless : ℕ → Bool
 is_harmless c = not (is_control c)

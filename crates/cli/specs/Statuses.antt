@@ -7,8 +7,8 @@ use Rattle.cli.specs.declared.status.Status.TheVariants.{Good, Refused, Usage, F
 use Rattle.cli.specs.declared.status.Failure.{Failure}
 use Rattle.cli.specs.declared.status.Failure.TheVariants as failure
 
--- 0 all is well, 1 a key is refused, 2 usage, 3 a file's opening or format, 4 memory, a device or a
--- thread
+-- the exit status: 0 all is well, 1 a key is refused, 2 usage, 3 a file can't be opened or read as
+-- its format, 4 memory, a device or a thread
 abbrev pub code_of : Status → ℕ
 code_of Good = 0
 code_of Refused = 1
@@ -16,12 +16,13 @@ code_of Usage = 2
 code_of Format = 3
 code_of Failed = 4
 
--- a fault of a line is the file's own; a reader that fails and want of memory are not
+-- a fault of a line is one of the file's format; a reader that fails and want of memory are none
 abbrev pub status_of_kind : {L : Type 0} → FaultKind L → Status
 status_of_kind (kind.Line fault) = Format
 status_of_kind kind.Device = Failed
 status_of_kind kind.Memory = Failed
 
+-- a file that can't be opened or read as its format has status 3, any other failure 4
 abbrev pub status_of : Failure → Status
 status_of (failure.Closed name) = Format
 status_of (failure.File name fault) = status_of_kind fault.kind

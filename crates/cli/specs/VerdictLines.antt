@@ -23,11 +23,12 @@ fault_text (PendingRead i) = codes "4 pending read at " ++ decimal i
 fault_text (WrongAnswer i) = codes "5 wrong answer at " ++ decimal i
 fault_text (OrderBroken i j) = codes "6 order broken at " ++ decimal i ++ codes " and " ++ decimal j
 
+-- a verdict, with what is wrong if it is no
 abbrev pub verdict_text : Verdict → List ℕ
 verdict_text Yes = codes "yes"
 verdict_text (No fault) = codes "no " ++ fault_text fault
 
--- the key's line
+-- the line of a key with its verdict
 unfoldable pub line_text : List ℕ → Verdict → List ℕ
 line_text key verdict = key ++ codes ": " ++ verdict_text verdict ++ codes "\n"
 
@@ -36,23 +37,23 @@ abbrev pub lines_text : KeyVerdicts → List ℕ
 lines_text verdicts = flat_map (λ told. line_text told.0 told.1) verdicts
 
 -- the text is a line for each key that is checked, with the verdict on its order
-abbrev pub AreLines : List CheckedKey → List ℕ → Type 0
-AreLines [] text = text ≡ []
-AreLines (checked ∷ rest) text =
+abbrev pub AreVerdictLines : List CheckedKey → List ℕ → Type 0
+AreVerdictLines [] text = text ≡ []
+AreVerdictLines (checked ∷ rest) text =
     (verdict : Verdict) × (lines : List ℕ) × IsVerdict checked.part checked.order verdict
-    × AreLines rest lines × (text ≡ line_text checked.key verdict ++ lines)
+    × AreVerdictLines rest lines × (text ≡ line_text checked.key verdict ++ lines)
 
 -- what a check of these histories and pieces of orders prints: first the keys of the histories,
 -- hall by hall, in each in the order in which its rows first see them, then those that only the
 -- pieces have, in the order in which they first stand there
-pub record AreLinesOf (halls : List Recorded) (pieces : List KeyOrder) (text : List ℕ) : Type 0
+pub record AreCheckLines (halls : List Recorded) (pieces : List KeyOrder) (text : List ℕ) : Type 0
   where
     pub parts : List KeyParts
     pub orders : List KeyOrder
     pub recorded : AreHallParts halls parts
     pub joined : AreJoined pieces orders
-    pub lines : AreLines (checked_keys (all_parts parts) orders) text
+    pub lines : AreVerdictLines (checked_keys (all_parts parts) orders) text
 
 -- that holds of what a check of these histories and pieces prints
 abbrev pub HasLines : List Recorded → List KeyOrder → (List ℕ → Type 0) → Type 0
-HasLines halls pieces P = (text : List ℕ) × AreLinesOf halls pieces text × P text
+HasLines halls pieces P = (text : List ℕ) × AreCheckLines halls pieces text × P text

@@ -7,7 +7,7 @@ use Rattle.clap.specs.declared.builder.value_parser.ValueParser.TheVariants as p
 use Rattle.clap.specs.declared.error.kind.ErrorKind.{ErrorKind}
 use Rattle.clap.specs.declared.error.kind.ErrorKind.TheVariants.{DisplayHelp, DisplayVersion}
 use Rattle.clap.specs.declared.error.kind.ErrorKind.TheVariants.{OutOfMemory}
-use Rattle.parallel_keys.specs.Workers.{IsCount}
+use Rattle.parallel_keys.specs.Workers.{IsWorkerCount}
 use Rattle.run_options.specs.RunWords.{AsksRun}
 use Rattle.run_options.specs.Options.{run_app}
 use Rattle.cli.specs.declared.command_line.Command.{Command}
@@ -15,9 +15,9 @@ use Rattle.cli.specs.declared.command_line.Command.TheVariants.{Check, Justify, 
 use Rattle.cli.specs.declared.command_line.Usage.{Usage}
 use Rattle.cli.specs.declared.command_line.Usage.TheVariants as usage
 
--- a word that has to be there
-abbrev pub needed_word : Text → Rule
-needed_word name = record (new_rule name) { required = true }
+-- an argument that has to be there
+abbrev pub required_argument : Text → Rule
+required_argument name = record (new_rule name) { required = true }
 
 -- the option --workers N, a number from 1 to 16, 1 where it isn't given
 abbrev pub workers_option : Rule
@@ -28,18 +28,22 @@ workers_option = record (new_rule (codes "workers")) {
   parser = Some (parser.Signed (pos 1) (pos 16));
 }
 
+-- a command that reads one file: abd NAME FILE
+abbrev pub file_app : Text → Text → App
+file_app name file = with_rule (new_app name) (required_argument file)
+
 -- abd check HISTORY ORDERS [--workers N]
 abbrev pub check_app : App
-check_app = with_rule (with_rule (with_rule (new_app (codes "check")) (needed_word (codes
-    "HISTORY"))) (needed_word (codes "ORDERS"))) workers_option
+check_app = with_rule (with_rule (file_app (codes "check") (codes "HISTORY"))
+    (required_argument (codes "ORDERS"))) workers_option
 
 -- abd justify HISTORY
 abbrev pub justify_app : App
-justify_app = with_rule (new_app (codes "justify")) (needed_word (codes "HISTORY"))
+justify_app = file_app (codes "justify") (codes "HISTORY")
 
 -- abd simulate SCRIPT
 abbrev pub simulate_app : App
-simulate_app = with_rule (new_app (codes "simulate")) (needed_word (codes "SCRIPT"))
+simulate_app = file_app (codes "simulate") (codes "SCRIPT")
 
 -- abd by itself, which has a version and needs a command
 abbrev pub bare_app : App
@@ -63,9 +67,9 @@ pub record NamesFiles (rows : List Row) (history orders : Text) : Type 0 where
 pub record AsksWorkers (rows : List Row) (workers : ℕ) : Type 0 where
   pub text : Text
   pub given : one_of (codes "workers") rows ≡ Some text
-  pub numeral : IsNumeral 10 (without_leading_plus text)
+  pub is_numeral : IsNumeral 10 (without_leading_plus text)
   pub number : digits_value 10 (without_leading_plus text) ≡ workers
-  pub few : IsCount workers
+  pub few : IsWorkerCount workers
 
 -- the words after the command's name make it that command
 abbrev pub Makes : List Row → Command → Type 0
@@ -90,23 +94,23 @@ MakesAs name rows command = (name_of command ≡ name) × Makes rows command
 abbrev pub MakesOf : Option (Text × List Row) → Command → Type 0
 MakesOf met command = (rows : List Row) × (met ≡ Some (name_of command, rows)) × Makes rows command
 
--- clap takes the words: it finds no fault in them, and neither help nor the version is asked for
-abbrev pub AreTaken : List Text → Type 0
-AreTaken words = fault_of abd_app words ≡ []
+-- clap finds no fault in the words, and they ask neither for help nor for the version
+abbrev pub AreParsed : List Text → Type 0
+AreParsed words = fault_of abd_app words ≡ []
 
--- the words ask for the command: they are taken, and make it
+-- the words ask for the command: clap finds no fault in them, and they make it
 abbrev pub Asks : List Text → Command → Type 0
-Asks words command = AreTaken words × MakesOf (subcommand_of abd_app words) command
+Asks words command = AreParsed words × MakesOf (subcommand_of abd_app words) command
 
 -- the kind is of a fault of the words
 abbrev pub IsMistake : ErrorKind → Type 0
 IsMistake kind = (kind ≡ DisplayHelp → ⊥) × (kind ≡ DisplayVersion → ⊥) × (kind ≡ OutOfMemory → ⊥)
 
--- the words have a fault, or are taken and make no command
+-- the words have a fault, or clap finds none and they make no command
 abbrev pub AreFaulty : List Text → Type 0
 AreFaulty words =
     ((kind : ErrorKind) × IsAmong kind (fault_of abd_app words) × IsMistake kind)
-    ⊎ (AreTaken words × ((command : Command) → MakesOf (subcommand_of abd_app words) command → ⊥))
+    ⊎ (AreParsed words × ((command : Command) → MakesOf (subcommand_of abd_app words) command → ⊥))
 
 -- why there is no command: help was asked for, or the version, or the words have a fault, or memory
 -- ran out
@@ -116,12 +120,12 @@ AsksNothing words (usage.Version text) = IsAmong DisplayVersion (fault_of abd_ap
 AsksNothing words (usage.Fault text) = AreFaulty words
 AsksNothing words usage.Memory = Unit {0}
 
--- the answer says an error of clap's that has that kind
-abbrev pub Says : ErrorKind → Usage → Type 0
-Says kind (usage.Help text) = kind ≡ DisplayHelp
-Says kind (usage.Version text) = kind ≡ DisplayVersion
-Says kind (usage.Fault text) = IsMistake kind
-Says kind usage.Memory = Unit {0}
+-- the answer to an error of clap's that has that kind
+abbrev pub IsUsageOf : ErrorKind → Usage → Type 0
+IsUsageOf kind (usage.Help text) = kind ≡ DisplayHelp
+IsUsageOf kind (usage.Version text) = kind ≡ DisplayVersion
+IsUsageOf kind (usage.Fault text) = IsMistake kind
+IsUsageOf kind usage.Memory = Unit {0}
 
 -- the answer says that no command is made, where none is, or that memory ran out
 abbrev pub MakesNothing : Type 0 → Usage → Type 0

@@ -1,13 +1,16 @@
 //! `abd check`: the verdict on each key's order.
 ghost use Rattle.std.specs.Prelude.{◌≡◌, ◌⊎◌, IfOk, IfErr};
 ghost use Rattle.counted_devices.specs.Counts.{IsOneMore};
-ghost use Rattle.history_file.specs.Deliveries.{ReadsFrom};
-ghost use Rattle.file_format.specs.HistoriesFormat.{histories_format, MakesHistories};
+ghost use Rattle.counted_devices.specs.Deliveries.{ReadsFrom};
+ghost use Rattle.counted_devices.specs.DeviceStates.{states};
+ghost use Rattle.file_format.specs.HistoriesFormat.{histories_format};
 ghost use Rattle.file_format.specs.OrderFormat.{order_format, MakesJoined};
-ghost use Rattle.cli.specs.Checks.{Ends, Stops};
-ghost use Rattle.cli.specs.Passages.{file_states, states};
+ghost use Rattle.file_format.specs.Readings.{Reads};
+ghost use Rattle.cli.specs.Checks.{EndsCheck};
+ghost use Rattle.cli.specs.Devices.{file_states};
+ghost use Rattle.cli.specs.Readings.{EndsUnread, ReadsHistories};
+ghost use Rattle.cli.specs.Reports.{IsFaultOf, IsOfCheck, ReportsEnd};
 ghost use Rattle.cli.specs.Statuses.{status_of};
-ghost use Rattle.cli.specs.ToldFailures.{IsFaultOf, IsOfCheck, TellsEnd};
 
 use crate::check_keys::check_keys;
 use crate::status::{Failure, Status};
@@ -42,10 +45,10 @@ pub(crate) fn histories_in<'a, R: CountedRead>(
     alloc: Global,
     source: &mut Source<'a, R>,
 ) -> Result<Histories, Failure<'a>>
-    ensures read { IfOk result (ReadsFrom histories_format MakesHistories
-        R.remaining source.old.reader source.new.reader) }
-    ensures fault { IfErr result (λ failure. Stops histories_format (R.remaining source.old.reader)
-        (R.remaining source.new.reader) (status_of failure)) }
+    ensures read { IfOk result (ReadsHistories
+        (states R.remaining R.failures source.old.reader source.new.reader)) }
+    ensures fault { IfErr result (λ failure. EndsUnread histories_format
+        (states R.remaining R.failures source.old.reader source.new.reader) (status_of failure)) }
     ensures told { IfErr result (IsFaultOf histories_format
         (file_states R.remaining R.failures source.old source.new)) }
 {
@@ -64,10 +67,10 @@ fn orders_in<'a, R: CountedRead>(
     alloc: Global,
     source: &mut Source<'a, R>,
 ) -> Result<Vec<KeyOrder>, Failure<'a>>
-    ensures read { IfOk result (λ orders. ReadsFrom order_format MakesJoined
-        R.remaining source.old.reader source.new.reader orders.items) }
-    ensures fault { IfErr result (λ failure. Stops order_format (R.remaining source.old.reader)
-        (R.remaining source.new.reader) (status_of failure)) }
+    ensures read { IfOk result (λ orders. ReadsFrom (Reads order_format MakesJoined)
+        (states R.remaining R.failures source.old.reader source.new.reader) orders.items) }
+    ensures fault { IfErr result (λ failure. EndsUnread order_format
+        (states R.remaining R.failures source.old.reader source.new.reader) (status_of failure)) }
     ensures told { IfErr result (IsFaultOf order_format
         (file_states R.remaining R.failures source.old source.new)) }
 {
@@ -98,21 +101,15 @@ pub fn check_command<'a, H: CountedRead, O: CountedRead, W: CountedWrite, E: Cou
     out: &mut W,
     errors: &mut E,
 ) -> Status
-    ensures ends { Ends
-        (record {
-          history = H.remaining history.old.reader;
-          orders = O.remaining orders.old.reader;
-        })
-        (record {
-          history = H.remaining history.new.reader;
-          orders = O.remaining orders.new.reader;
-        })
-        (record { old = W.contents out.old; new = W.contents out.new })
+    ensures ends { EndsCheck
+        (states H.remaining H.failures history.old.reader history.new.reader)
+        (states O.remaining O.failures orders.old.reader orders.new.reader)
+        (states W.contents W.failures out.old out.new)
         result }
     ensures quiet { result ≡ Status.Format → out.new ≡ out.old }
     ensures failed { result ≡ Status.Failed
         → (out.new ≡ out.old) ⊎ IsOneMore (W.failures out.old) (W.failures out.new) }
-    ensures said { TellsEnd (errors.new ≡ errors.old) (errors.new ≡ errors.old)
+    ensures said { ReportsEnd (errors.new ≡ errors.old) (errors.new ≡ errors.old)
         (IsOfCheck
         (file_states H.remaining H.failures history.old history.new)
         (file_states O.remaining O.failures orders.old orders.new)

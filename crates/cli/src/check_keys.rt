@@ -1,11 +1,11 @@
 //! The check of the orders of the keys of histories, with a line for each.
 ghost use Rattle.std.specs.Prelude.{◌≡◌, List, IfOk, IfErr, OnOk};
-ghost use Rattle.std.specs.Io.KnownBytes.{Appends};
 ghost use Rattle.recorder.specs.declared.order.KeyOrder.{KeyOrder};
-ghost use Rattle.counted_devices.specs.Sendings.{Begins};
+ghost use Rattle.counted_devices.specs.DeviceStates.{states};
 ghost use Rattle.file_format.specs.OrderFormat.{AreJoined};
 ghost use Rattle.parallel_keys.specs.CheckedKeys.{AreDistinct};
 ghost use Rattle.cli.specs.Checks.{IsStatusOf};
+ghost use Rattle.cli.specs.Devices.{Receives, ReceivesPrefix};
 ghost use Rattle.cli.specs.Halts.{Halts};
 ghost use Rattle.cli.specs.VerdictStatuses.{SaysAll};
 ghost use Rattle.cli.specs.VerdictLines.{HasLines, lines_text};
@@ -111,10 +111,10 @@ pub(crate) fn check_keys<R: Threads + Wait, W: CountedWrite>(
         → IsStatusOf histories.now.halls pieces status) }
     ensures said { OnOk result ((pieces : List KeyOrder) → AreJoined pieces orders.now
         → HasLines histories.now.halls pieces
-        (Appends (W.contents out.old) (W.contents out.new))) }
+        (Receives (states W.contents W.failures out.old out.new))) }
     ensures begun { IfErr result (λ halt. (pieces : List KeyOrder) → AreJoined pieces orders.now
         → halt ≡ Halt.Output → HasLines histories.now.halls pieces
-        (Begins (W.contents out.old) (W.contents out.new))) }
+        (ReceivesPrefix (states W.contents W.failures out.old out.new))) }
     ensures output { IfErr result (λ halt. Halts workers W.failures halt out.old out.new) }
 {
     let _halls = histories.halls();

@@ -1,11 +1,11 @@
 //! `abd justify`: an order of each key's calls, made from the notes of its history.
-ghost use Rattle.std.specs.Prelude.{◌≡◌, ◌⊎◌, map, IfOk};
+ghost use Rattle.std.specs.Prelude.{◌≡◌, ◌⊎◌, IfOk};
 ghost use Rattle.counted_devices.specs.Counts.{IsOneMore};
+ghost use Rattle.counted_devices.specs.DeviceStates.{states};
 ghost use Rattle.file_format.specs.Texts.{orders_text};
-ghost use Rattle.parallel_keys.specs.CheckedKeys.{all_parts};
-ghost use Rattle.cli.specs.Justifications.{Justifies, JustifiesParts, JustifiesHalls, SendsOrders};
-ghost use Rattle.cli.specs.Passages.{file_states, states};
-ghost use Rattle.cli.specs.ToldFailures.{IsOfJustification, IsOfOutput, TellsEnd};
+ghost use Rattle.cli.specs.Devices.{file_states};
+ghost use Rattle.cli.specs.Justifications.{EndsJustification, JustifiesHalls, SendsOrders};
+ghost use Rattle.cli.specs.Reports.{IsOfJustification, IsOfOutput, ReportsEnd};
 
 use crate::check::{Source, histories_in};
 use crate::noted_orders::checked_orders;
@@ -13,7 +13,7 @@ use crate::status::{Failure, Status};
 use counted_devices::{CountedRead, CountedWrite, Counting, write_text};
 use file_format::write_orders;
 use parallel_keys::hall_parts;
-use recorder::{Histories, KeyOrder, Parts};
+use recorder::{Histories, KeyOrder};
 use std::alloc::Global;
 use std::thread::Threads;
 use tag::Memory;
@@ -37,12 +37,10 @@ fn send_orders<W: CountedWrite, E: CountedWrite>(
     out: &mut W,
     errors: &mut E,
 ) -> Status
-    ensures ends { SendsOrders orders.now
-        (record { old = W.contents out.old; new = W.contents out.new })
-        result }
+    ensures ends { SendsOrders orders.now (states W.contents W.failures out.old out.new) result }
     ensures failed { result ≡ Status.Failed
         → (out.new ≡ out.old) ⊎ IsOneMore (W.failures out.old) (W.failures out.new) }
-    ensures said { TellsEnd (errors.new ≡ errors.old) (Unit {0})
+    ensures said { ReportsEnd (errors.new ≡ errors.old) (Unit {0})
         (IsOfOutput (states W.contents W.failures out.old out.new))
         (states E.contents E.failures errors.old errors.new)
         result }
@@ -57,36 +55,6 @@ fn send_orders<W: CountedWrite, E: CountedWrite>(
 }
 
 /// Makes each key's order from the notes of its part, checks it, and writes the order file.
-fn justify_parts<W: CountedWrite, E: CountedWrite>(
-    alloc: Global,
-    parts: &[Parts],
-    out: &mut W,
-    errors: &mut E,
-) -> Status
-    ensures ends { JustifiesParts (all_parts (map (λ p. p.entries) parts.now))
-        (record { old = W.contents out.old; new = W.contents out.new })
-        (record {
-          old = E.contents errors.old;
-          new = E.contents errors.new;
-          failures = E.failures errors.old;
-          failures_now = E.failures errors.new;
-        })
-        result }
-    ensures refused { result ≡ Status.Refused → out.new ≡ out.old }
-    ensures failed { result ≡ Status.Failed
-        → (out.new ≡ out.old) ⊎ IsOneMore (W.failures out.old) (W.failures out.new) }
-    ensures said { TellsEnd (errors.new ≡ errors.old) (Unit {0})
-        (IsOfOutput (states W.contents W.failures out.old out.new))
-        (states E.contents E.failures errors.old errors.new)
-        result }
-{
-    match checked_orders(alloc, parts) {
-        Ok(orders) => send_orders(alloc, orders.as_slice(), out, errors),
-        Err(refusal) => refusal.report(alloc, errors),
-    }
-}
-
-/// Makes the order file of histories.
 fn justify_histories<W: CountedWrite, E: CountedWrite>(
     alloc: Global,
     histories: &Histories,
@@ -94,25 +62,24 @@ fn justify_histories<W: CountedWrite, E: CountedWrite>(
     errors: &mut E,
 ) -> Status
     ensures ends { JustifiesHalls histories.now.halls
-        (record { old = W.contents out.old; new = W.contents out.new })
-        (record {
-          old = E.contents errors.old;
-          new = E.contents errors.new;
-          failures = E.failures errors.old;
-          failures_now = E.failures errors.new;
-        })
+        (states W.contents W.failures out.old out.new)
+        (states E.contents E.failures errors.old errors.new)
         result }
     ensures refused { result ≡ Status.Refused → out.new ≡ out.old }
     ensures failed { result ≡ Status.Failed
         → (out.new ≡ out.old) ⊎ IsOneMore (W.failures out.old) (W.failures out.new) }
-    ensures said { TellsEnd (errors.new ≡ errors.old) (Unit {0})
+    ensures said { ReportsEnd (errors.new ≡ errors.old) (Unit {0})
         (IsOfOutput (states W.contents W.failures out.old out.new))
         (states E.contents E.failures errors.old errors.new)
         result }
 {
-    match hall_parts(alloc, histories.halls()) {
-        Ok(parts) => justify_parts(alloc, parts.as_slice(), out, errors),
-        Err(_) => Failure::Memory.report(errors),
+    let parts = match hall_parts(alloc, histories.halls()) {
+        Ok(parts) => parts,
+        Err(_) => return Failure::Memory.report(errors),
+    };
+    match checked_orders(alloc, parts.as_slice()) {
+        Ok(orders) => send_orders(alloc, orders.as_slice(), out, errors),
+        Err(refusal) => refusal.report(alloc, errors),
     }
 }
 
@@ -129,21 +96,16 @@ pub fn justify_command<'a, H: CountedRead, W: CountedWrite, E: CountedWrite>(
     out: &mut W,
     errors: &mut E,
 ) -> Status
-    ensures ends { Justifies
-        (record { old = H.remaining history.old.reader; new = H.remaining history.new.reader })
-        (record { old = W.contents out.old; new = W.contents out.new })
-        (record {
-          old = E.contents errors.old;
-          new = E.contents errors.new;
-          failures = E.failures errors.old;
-          failures_now = E.failures errors.new;
-        })
+    ensures ends { EndsJustification
+        (states H.remaining H.failures history.old.reader history.new.reader)
+        (states W.contents W.failures out.old out.new)
+        (states E.contents E.failures errors.old errors.new)
         result }
     ensures refused { result ≡ Status.Refused → out.new ≡ out.old }
     ensures faulty { result ≡ Status.Format → out.new ≡ out.old }
     ensures failed { result ≡ Status.Failed
         → (out.new ≡ out.old) ⊎ IsOneMore (W.failures out.old) (W.failures out.new) }
-    ensures said { TellsEnd (errors.new ≡ errors.old) (Unit {0})
+    ensures said { ReportsEnd (errors.new ≡ errors.old) (Unit {0})
         (IsOfJustification
         (file_states H.remaining H.failures history.old history.new)
         (states W.contents W.failures out.old out.new))

@@ -1,11 +1,12 @@
 //! The orders that the notes of a history give its keys, each checked.
 ghost use Rattle.std.specs.Prelude.{◌≡◌, ◌++◌, List, map, IfOk, IfErr, OnOk};
+ghost use Rattle.counted_devices.specs.DeviceStates.{states};
 ghost use Rattle.parallel_keys.specs.CheckedKeys.{all_parts};
 ghost use Rattle.cli.specs.FailureLines.{failure_line};
 ghost use Rattle.cli.specs.Justifications.{AreJustified, KeyPart, IsJustifiedOrder, IsUnjustified};
 ghost use Rattle.cli.specs.Justifications.{IsFirstUnjustified, Refuses, refusal_text};
 ghost use Rattle.cli.specs.Justifications.{status_of_refusal};
-ghost use Rattle.cli.specs.Passages.{Tells, states};
+ghost use Rattle.cli.specs.Devices.{ReceivesOrFails};
 
 use crate::status::{Failure, Status};
 use crate::verdict_lines::{append, append_fault, append_number};
@@ -66,7 +67,7 @@ impl Unjustified<'_> {
         ensures refuses { Refuses self.entry
             (states E.contents E.failures errors.old errors.new) result }
         ensures memory { result ≡ Status.Failed
-            → Tells (states E.contents E.failures errors.old errors.new)
+            → ReceivesOrFails (states E.contents E.failures errors.old errors.new)
             (failure_line Failure.Memory) }
     {
         let mut text = Vec::new(alloc);

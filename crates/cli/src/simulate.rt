@@ -1,8 +1,9 @@
 //! `abd simulate`: the history of a script's run.
 ghost use Rattle.std.specs.Prelude.{◌≡◌};
-ghost use Rattle.cli.specs.Passages.{file_states, states};
+ghost use Rattle.counted_devices.specs.DeviceStates.{states};
+ghost use Rattle.cli.specs.Devices.{file_states};
+ghost use Rattle.cli.specs.Reports.{ReportsSimulation};
 ghost use Rattle.cli.specs.SimulationEndings.{EndsSimulation};
-ghost use Rattle.cli.specs.ToldFailures.{TellsSimulation};
 
 use crate::check::Source;
 use crate::status::{Failure, Status};
@@ -23,17 +24,12 @@ pub fn simulate_command<'a, S: CountedRead, W: CountedWrite, E: CountedWrite>(
     errors: &mut E,
 ) -> Status
     ensures ends { EndsSimulation
-        (record { old = S.remaining script.old.reader; new = S.remaining script.new.reader })
-        (record {
-          old = W.contents out.old;
-          new = W.contents out.new;
-          failures = W.failures out.old;
-          failures_now = W.failures out.new;
-        })
-        (record { old = E.contents errors.old; new = E.contents errors.new })
+        (states S.remaining S.failures script.old.reader script.new.reader)
+        (states W.contents W.failures out.old out.new)
+        (states E.contents E.failures errors.old errors.new)
         result }
     ensures faulty { result ≡ Status.Format → out.new ≡ out.old }
-    ensures said { TellsSimulation
+    ensures said { ReportsSimulation
         (file_states S.remaining S.failures script.old script.new)
         (states W.contents W.failures out.old out.new)
         (states E.contents E.failures errors.old errors.new)

@@ -1,8 +1,9 @@
 //! How a command ends: its exit status, and what it says of a failure.
 ghost use Rattle.std.specs.Prelude.{◌≡◌, ◌++◌, codes};
+ghost use Rattle.counted_devices.specs.DeviceStates.{states};
 ghost use Rattle.counted_devices.specs.Sendings.{pieces_text};
 ghost use Rattle.cli.specs.FailureLines.{failure_line, fault_line};
-ghost use Rattle.cli.specs.Passages.{Tells, states};
+ghost use Rattle.cli.specs.Devices.{ReceivesOrFails};
 ghost use Rattle.cli.specs.Statuses.{code_of, status_of, status_of_kind};
 
 use counted_devices::{CountedWrite, FaultKind, FaultNumbers, ReadFault, write_pieces};
@@ -71,7 +72,7 @@ fn kind_status<L: Copy>(kind: FaultKind<L>) -> Status
 /// Says the text that is given in these pieces. What the writer refuses is lost, as there is nowhere
 /// else to say it.
 pub fn say<E: CountedWrite>(pieces: &[&str], errors: &mut E)
-    ensures { Tells (states E.contents E.failures errors.old errors.new) (pieces_text pieces.now) }
+    ensures { ReceivesOrFails (states E.contents E.failures errors.old errors.new) (pieces_text pieces.now) }
 {
     let _ = write_pieces(pieces, errors);
 }
@@ -85,7 +86,7 @@ fn say_at<'a, E: CountedWrite>(
     text: &'a str,
     errors: &mut E,
 )
-    ensures { Tells (states E.contents E.failures errors.old errors.new)
+    ensures { ReceivesOrFails (states E.contents E.failures errors.old errors.new)
         (codes "abd: " ++ name.now ++ codes ": line " ++ line.now ++ codes ": " ++ title.now
         ++ codes " " ++ number.now ++ codes " " ++ text.now ++ codes "\n") }
 {
@@ -97,7 +98,7 @@ fn say_at<'a, E: CountedWrite>(
 
 /// Says with what fault the reading of the file of that name ended, one line.
 fn say_fault<L: FaultNumbers, E: CountedWrite>(name: &str, fault: ReadFault<L>, errors: &mut E)
-    ensures { Tells (states E.contents E.failures errors.old errors.new)
+    ensures { ReceivesOrFails (states E.contents E.failures errors.old errors.new)
         (fault_line
         (record {
           number = L.number;
@@ -136,7 +137,7 @@ impl Failure<'_> {
     /// there is nowhere else to say it. It takes no memory.
     pub fn report<E: CountedWrite>(self, errors: &mut E) -> Status
         ensures status { result ≡ status_of self.entry }
-        ensures told { Tells (states E.contents E.failures errors.old errors.new)
+        ensures told { ReceivesOrFails (states E.contents E.failures errors.old errors.new)
             (failure_line self.entry) }
     {
         match self {

@@ -2,9 +2,9 @@
 ghost use Rattle.std.specs.Prelude.{◌≡◌, false, codes, IfOk, IfErr, MatchOption, MatchResult, map, string_bytes};
 ghost use Rattle.clap.specs.Words.{app_of, found_of, kind_of, rows_of, rule_of, subcommand_rows_of, with_subcommand};
 ghost use Rattle.clap.specs.declared.builder.command.Command.TheViews.{out-Command as fields_of};
-ghost use Rattle.cli.specs.Words.{abd_app, bare_app, check_app, justify_app, needed_word};
-ghost use Rattle.cli.specs.Words.{simulate_app, workers_option, Asks, AsksNothing, MakesAs};
-ghost use Rattle.cli.specs.Words.{MakesNothing, MakesOf, Says};
+ghost use Rattle.cli.specs.Words.{abd_app, bare_app, check_app, file_app, justify_app};
+ghost use Rattle.cli.specs.Words.{required_argument, simulate_app, workers_option, Asks, AsksNothing};
+ghost use Rattle.cli.specs.Words.{IsUsageOf, MakesAs, MakesNothing, MakesOf};
 ghost use Rattle.cli.specs.declared.command_line.Command.{Command};
 
 use crate::command_line::{Command, Usage};
@@ -15,9 +15,9 @@ use parallel_keys::Workers;
 use run_options::{RunFault, run_in, run_words};
 use std::alloc::{AllocError, Global};
 
-/// A word that has to be there, with what help says of it.
-fn needed_word<'a>(alloc: Global, name: &'a str, help: &'a str) -> Arg<'a>
-    ensures rule { rule_of result ≡ needed_word name.entry.now }
+/// An argument that has to be there, with what help says of it.
+fn required_argument<'a>(alloc: Global, name: &'a str, help: &'a str) -> Arg<'a>
+    ensures rule { rule_of result ≡ required_argument name.entry.now }
     ensures local { result.global ≡ false }
 {
     Arg::new(alloc, name).required(true).help(help)
@@ -44,9 +44,9 @@ fn check_words<'a>(alloc: Global) -> Result<clap::Command<'a>, AllocError>
     let check = clap::Command::new(alloc, "check")
         .about("Check, key by key, whether the orders show that the history is atomic")
         .after_help(help::CHECK);
-    let history = needed_word(alloc, "HISTORY", "The recorded calls: a history file");
+    let history = required_argument(alloc, "HISTORY", "The recorded calls: a history file");
     let check = check.arg(history)?;
-    let orders = needed_word(
+    let orders = required_argument(
         alloc,
         "ORDERS",
         "For each key an order of its calls: an order file",
@@ -54,20 +54,38 @@ fn check_words<'a>(alloc: Global) -> Result<clap::Command<'a>, AllocError>
     check.arg(orders)?.arg(workers_option(alloc))
 }
 
+/// A command that reads one file: `abd NAME FILE`.
+fn file_words<'a>(
+    alloc: Global,
+    name: &'a str,
+    about: &'a str,
+    after: &'a str,
+    file: &'a str,
+    told: &'a str,
+) -> Result<clap::Command<'a>, AllocError>
+    ensures app { IfOk result (λ words. app_of words ≡ file_app name.entry.now file.entry.now) }
+    ensures local { IfOk result (λ words. (fields_of words).has_globals ≡ false) }
+{
+    let argument = required_argument(alloc, file, told);
+    let command = clap::Command::new(alloc, name)
+        .about(about)
+        .after_help(after);
+    command.arg(argument)
+}
+
 /// `abd justify HISTORY`.
 fn justify_words<'a>(alloc: Global) -> Result<clap::Command<'a>, AllocError>
     ensures app { IfOk result (λ words. app_of words ≡ justify_app) }
     ensures local { IfOk result (λ words. (fields_of words).has_globals ≡ false) }
 {
-    let history = needed_word(
+    file_words(
         alloc,
+        "justify",
+        "Make from the notes an order of each key's calls, check it, and write the orders",
+        help::JUSTIFY,
         "HISTORY",
         "The recorded calls, with their notes: a history file",
-    );
-    let justify = clap::Command::new(alloc, "justify")
-        .about("Make from the notes an order of each key's calls, check it, and write the orders")
-        .after_help(help::JUSTIFY);
-    justify.arg(history)
+    )
 }
 
 /// `abd simulate SCRIPT`.
@@ -75,15 +93,14 @@ fn simulate_words<'a>(alloc: Global) -> Result<clap::Command<'a>, AllocError>
     ensures app { IfOk result (λ words. app_of words ≡ simulate_app) }
     ensures local { IfOk result (λ words. (fields_of words).has_globals ≡ false) }
 {
-    let script = needed_word(
+    file_words(
         alloc,
+        "simulate",
+        "Run a script of calls and faults, and write the history of its run",
+        help::SIMULATE,
         "SCRIPT",
         "What clients, replicas and the network do, step by step: a script",
-    );
-    let simulate = clap::Command::new(alloc, "simulate")
-        .about("Run a script of calls and faults, and write the history of its run")
-        .after_help(help::SIMULATE);
-    simulate.arg(script)
+    )
 }
 
 /// `abd` by itself.
@@ -123,7 +140,7 @@ fn abd_words<'a>(alloc: Global) -> Result<clap::Command<'a>, AllocError>
 
 /// What an error of clap's says.
 fn usage_of(alloc: Global, error: &Error) -> Usage
-    ensures { Says (kind_of error.now) result }
+    ensures { IsUsageOf (kind_of error.now) result }
 {
     let Ok(text) = error.to_string(alloc) else {
         return Usage::Memory;
@@ -190,7 +207,7 @@ fn asked_run<'a>(alloc: Global, matches: &ArgMatches<'a>) -> Result<Command<'a>,
 
 /// Says why the words after `run` ask for no load.
 fn fault_of(alloc: Global, fault: RunFault) -> Usage
-    ensures { Says ErrorKind.MissingSubcommand result }
+    ensures { IsUsageOf ErrorKind.MissingSubcommand result }
 {
     match format!(in alloc; "abd: {fault}; see abd run --help\n") {
         Ok(text) => Usage::Fault(text),
@@ -236,7 +253,7 @@ fn command_in<'a>(alloc: Global, matches: &ArgMatches<'a>) -> Result<Command<'a>
 
 /// Where clap takes the words and they make no command of ours.
 fn no_command(alloc: Global) -> Usage
-    ensures { Says ErrorKind.MissingSubcommand result }
+    ensures { IsUsageOf ErrorKind.MissingSubcommand result }
 {
     match String::from_str(alloc, "abd: no command; see abd --help\n") {
         Ok(text) => Usage::Fault(text),

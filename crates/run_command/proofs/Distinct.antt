@@ -1,27 +1,22 @@
 -- The orders that justify the records of a row of halls are of different keys, since each key has one hall, and one part there.
-use Rattle.std.proofs.Common.{◌≡◌, ◌<◌, ◌+◌, ◌⊎◌, ℕ, zero, suc, List, [], ◌∷◌, ◌++◌, Some, None, inl, inr, length, sym, subst, ap, refl, ◌∙◌, arith}
+use Rattle.std.proofs.Common.{◌≡◌, ◌<◌, ◌+◌, ℕ, zero, suc, List, [], ◌∷◌, Some, inl, inr, length, sym, subst, ap, refl, ◌∙◌, arith}
 use Rattle.std.specs.List.{slice_get}
 use Rattle.std.specs.Option.{option_map}
 use Rattle.std.proofs.lemmas.List.Elements.{All-get_or}
-use Rattle.std.proofs.lemmas.Option.{get_or_from_slice_get, slice_get-map, slice_get_within}
+use Rattle.std.proofs.lemmas.Option.{get_or_from_slice_get, same_Some, slice_get-map, slice_get_within}
 use Rattle.recorder.specs.Halls.{AreHalls, FallsTo, IsHallOf, hall_of}
 use Rattle.recorder.specs.Records.{IsFirstSeen}
 use Rattle.recorder.specs.declared.order.KeyOrder.{KeyOrder}
 use Rattle.recorder.specs.declared.part.Call.{Call}
 use Rattle.recorder.specs.declared.row.Row.{Row}
 use Rattle.recorder.specs.declared.row.Row.TheVariants.{Invoke}
-use Rattle.recorder.specs.Lists.{Contains-slice_get}
+use Rattle.tag.proofs.Lists.{Contains-slice_get, append_cases}
+use Rattle.tag.proofs.Options.{none_some}
 use Rattle.witness_order.specs.RecordOrders.{AreOrdersOf, Justify}
 use Rattle.node_threads.specs.declared.closing.ClosedHall.{ClosedHall}
 use Rattle.node_threads.specs.Closings.{AreClosed}
 use Rattle.parallel_keys.specs.CheckedKeys.{AreDistinct}
 use Rattle.run_command.specs.Records.{histories_in, orders_in, record_of}
-
-none_some : {A B : Type 0} {x : A} → None ≡ Some x → B
-none_some e = absurd (cc)
-
-some_is : {A : Type 0} (x y : A) → Some x ≡ Some y → x ≡ y
-some_is x y e = cc
 
 -- the part of the order at a place
 part_at : (parts : List (List ℕ × List Call)) (orders : List KeyOrder) (i : ℕ) (a : KeyOrder) → AreOrdersOf parts orders → slice_get orders i ≡ Some a
@@ -30,7 +25,7 @@ part_at [] [] i a zipped at = none_some at
 part_at [] (y ∷ ys) i a zipped at = absurd zipped
 part_at (x ∷ xs) [] i a zipped at = none_some at
 part_at (x ∷ xs) (y ∷ ys) zero a zipped at =
-    let same : y ≡ a = some_is y a at in
+    let same : y ≡ a = same_Some y a at in
     let key : x.0 ≡ a.key = sym zipped.0.0 ∙ ap (λ (o : KeyOrder). o.key) same in
     (x.1, ap (λ (k : List ℕ). Some (k, x.1)) key)
 part_at (x ∷ xs) (y ∷ ys) (suc i) a zipped at = part_at xs ys i a zipped.1 at
@@ -73,11 +68,6 @@ own_rest count first closed halls own = record {
   distinct = λ k one at. own.distinct (suc k) one at;
   keys = λ k one at. let place : first + suc k ≡ first + 1 + k = omega arith in subst (λ n. AreInHall count n one.orders.items) place (own.keys (suc k) one at);
 }
-
-append_cases : {X : Type 0} (xs ys : List X) (k : ℕ) (z : X) → slice_get (xs ++ ys) k ≡ Some z → (slice_get xs k ≡ Some z) ⊎ ((j : ℕ) × (k ≡ length xs + j) × (slice_get ys j ≡ Some z))
-append_cases [] ys k z at = inr (k, omega arith, at)
-append_cases (x ∷ xs) ys zero z at = inl at
-append_cases (x ∷ xs) ys (suc k) z at = elim (append_cases xs ys k z at) [ inl v ↦ inl v | inr v ↦ inr (v.0, omega (arith, v.1), v.2) ]
 
 -- an order of one of the halls is of a key of that hall
 from_hall : (count first : ℕ) (halls : List ClosedHall) → AreOwn count first halls → (i : ℕ) (a : KeyOrder) → slice_get (orders_in halls) i ≡ Some a → (k : ℕ) × (hall_of count a.key ≡ first + k)

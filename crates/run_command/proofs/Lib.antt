@@ -3,4 +3,3 @@ pub mod Ending
 pub mod Saying
 pub mod Spelling
 pub mod Verdicts
-pub mod Lists

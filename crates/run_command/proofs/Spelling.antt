@@ -3,7 +3,8 @@ use Rattle.std.proofs.Common.{ℕ, ◌≡◌, List, ◌++◌, Some, codes, decim
 use Rattle.std.specs.Borrow.{Bor}
 use Rattle.cli.specs.FailureLines.{failure_line}
 use Rattle.cli.specs.Justifications.{Refuses, refusal_text}
-use Rattle.cli.specs.Passages.{Tells, WriterStates}
+use Rattle.counted_devices.specs.DeviceStates.{DeviceStates}
+use Rattle.cli.specs.Devices.{ReceivesOrFails}
 use Rattle.cli.specs.VerdictLines.{fault_text}
 use Rattle.cli.specs.declared.noted_orders.Unjustified.TheVariants as unjustified
 use Rattle.cli.specs.declared.status.Failure.TheVariants as failure
@@ -32,12 +33,12 @@ pub close_said : (error : CloseError) (number name : List ℕ) → number ≡ de
 close_said error number name numbered named = rw (numbered, named) refl
 
 -- what is said of a key without an order, as what is said of a key that a run refuses
-pub key_told : (key : Bor (List ℕ)) (refused : RefusedKey) (errors : WriterStates) (s : Status) → key.now ≡ refused.key → Refuses (unjustified.NoOrder key refused.fault) errors s
-    → (s ≡ status.Failed → Tells errors (failure_line failure.Memory)) → TellsKey (Some refused) errors s
+pub key_told : (key : Bor (List ℕ)) (refused : RefusedKey) (errors : DeviceStates) (s : Status) → key.now ≡ refused.key → Refuses (unjustified.NoOrder key refused.fault) errors s
+    → (s ≡ status.Failed → ReceivesOrFails errors (failure_line failure.Memory)) → TellsKey (Some refused) errors s
 unfolding refusal_text
 key_told key refused errors status.Good same refuses memory = absurd refuses
 key_told key refused errors status.Refused same refuses memory =
-    let P : List ℕ → Type 0 = λ name. Tells errors (codes "abd: key " ++ name ++ codes ": no " ++ fault_text refused.fault ++ codes "\n") in
+    let P : List ℕ → Type 0 = λ name. ReceivesOrFails errors (codes "abd: key " ++ name ++ codes ": no " ++ fault_text refused.fault ++ codes "\n") in
     (refused, refl, subst P same refuses.1)
 key_told key refused errors status.Usage same refuses memory = absurd refuses
 key_told key refused errors status.Format same refuses memory = absurd refuses

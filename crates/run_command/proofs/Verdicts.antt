@@ -1,20 +1,17 @@
 -- Verdicts, one after another.
-use Rattle.std.proofs.Common.{◌≡◌, ◌<◌, ◌+◌, ℕ, List, Some, None, length, get_or, sym, ap, ap₂, ◌∙◌}
+use Rattle.std.proofs.Common.{◌≡◌, ◌<◌, ℕ, List, Some, None, length, get_or, sym, ap, ap₂, ◌∙◌}
 use Rattle.std.proofs.lemmas.Option.{slice_get_within}
 use Rattle.certificate_check.specs.declared.verdict.Verdict.{Verdict}
-use Rattle.certificate_check.specs.declared.verdict.Verdict.TheVariants.{Yes, No}
+use Rattle.certificate_check.specs.declared.verdict.Verdict.TheVariants.{No}
 use Rattle.parallel_keys.specs.Histories.{KeyVerdicts}
-use Rattle.run_command.specs.RecordVerdicts.{AreYes, IsFirst, IsFirstNo}
+use Rattle.cli.specs.VerdictStatuses.{AreYes}
+use Rattle.run_command.specs.RecordVerdicts.{IsFirstNo, IsFirstRefused}
 use Rattle.run_command.specs.declared.check_record.RefusedKey.{RefusedKey}
-use Rattle.run_command.proofs.Lists.{item_at, one_more}
-
--- one more yes
-pub yes_more : (verdicts : KeyVerdicts) (i : ℕ) (told : List ℕ × Verdict) → AreYes verdicts i → i < length verdicts → told ≡ get_or verdicts i told → told.1 ≡ Yes → AreYes verdicts (i + 1)
-yes_more verdicts i told so_far below is said = one_more (λ _ (t : List ℕ × Verdict). t.1 ≡ Yes) verdicts i told so_far (item_at verdicts i told below is) said
+use Rattle.tag.proofs.Lists.{item_at}
 
 -- the first no
 pub first_here : (verdicts : KeyVerdicts) (i : ℕ) (told : List ℕ × Verdict) (refused : RefusedKey) → AreYes verdicts i → i < length verdicts → told ≡ get_or verdicts i told → told.1 ≡ No refused.fault → refused.key ≡ told.0
-    → IsFirst verdicts refused
+    → IsFirstRefused verdicts refused
 first_here verdicts i told refused so_far below is said key = record {
   place = i;
   told = item_at verdicts i told below is ∙ ap Some (ap₂ (λ (k : List ℕ) (v : Verdict). (k, v)) (sym key) said);

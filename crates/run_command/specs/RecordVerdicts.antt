@@ -1,7 +1,8 @@
 -- The verdicts on the record and the orders that a closed store leaves.
-use Rattle.std.specs.Prelude.{ℕ, ◌≡◌, ◌<◌, Bool, true, false, List, Option, Some, None, slice_get}
+use Rattle.std.specs.Prelude.{ℕ, ◌≡◌, Bool, true, false, List, Option, Some, None, slice_get}
 use Rattle.certificate_check.specs.declared.verdict.Verdict.{Verdict}
 use Rattle.certificate_check.specs.declared.verdict.Verdict.TheVariants.{Yes, No}
+use Rattle.cli.specs.VerdictStatuses.{AreYes}
 use Rattle.node_threads.specs.declared.closing.ClosedHall.{ClosedHall}
 use Rattle.parallel_keys.specs.Histories.{AreVerdictsOnHistories, KeyVerdicts}
 use Rattle.recorder.specs.Histories.{Recorded}
@@ -14,13 +15,8 @@ abbrev pub is_yes : Verdict → Bool
 is_yes Yes = true
 is_yes (No fault) = false
 
--- the verdict on each of the first keys is yes
-abbrev pub AreYes : KeyVerdicts → ℕ → Type 0
-AreYes verdicts upto =
-    (i : ℕ) (told : List ℕ × Verdict) → i < upto → slice_get verdicts i ≡ Some told → told.1 ≡ Yes
-
 -- the key is the first on which the verdict is no, for that fault
-pub record IsFirst (verdicts : KeyVerdicts) (refused : RefusedKey) : Type 0 where
+pub record IsFirstRefused (verdicts : KeyVerdicts) (refused : RefusedKey) : Type 0 where
   pub place : ℕ
   pub told : slice_get verdicts place ≡ Some (refused.key, No refused.fault)
   pub before : AreYes verdicts place
@@ -29,7 +25,7 @@ pub record IsFirst (verdicts : KeyVerdicts) (refused : RefusedKey) : Type 0 wher
 abbrev pub IsFirstNo : KeyVerdicts → Option RefusedKey → Type 0
 IsFirstNo verdicts None =
     (i : ℕ) (told : List ℕ × Verdict) → slice_get verdicts i ≡ Some told → told.1 ≡ Yes
-IsFirstNo verdicts (Some refused) = IsFirst verdicts refused
+IsFirstNo verdicts (Some refused) = IsFirstRefused verdicts refused
 
 -- the first key of the histories, hall by hall, whose order has the verdict no; none where the
 -- verdict on each key is yes

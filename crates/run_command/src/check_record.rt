@@ -32,7 +32,7 @@ pub struct RefusedKey {
 }
 
 /// The first of the verdicts that is a no.
-#[tactic(auto, using(crate::proofs::Verdicts::yes_more, crate::proofs::Verdicts::first_here))]
+#[tactic(auto, using(cli::proofs::Told::yes_more, crate::proofs::Verdicts::first_here))]
 fn first_no(verdicts: &[(Key, Verdict)]) -> Result<Option<RefusedKey>, Memory>
     ensures { IfOk result (IsFirstNo verdicts.now) }
 {

@@ -1,10 +1,10 @@
 //! `abd run`.
 ghost use Rattle.std.specs.Prelude.{◌≡◌, ◌⊎◌};
-ghost use Rattle.cli.specs.Passages.{states};
 ghost use Rattle.counted_devices.specs.Counts.{IsOneMore};
+ghost use Rattle.counted_devices.specs.DeviceStates.{states};
 ghost use Rattle.node_threads.specs.Closings.{AreClosed};
 ghost use Rattle.run_command.specs.Messages.{SaysEnding};
-ghost use Rattle.run_command.specs.Runs.{Ends, EndsRun};
+ghost use Rattle.run_command.specs.Runs.{EndsClosedHalls, EndsRun};
 
 use crate::check_record::{KeyWatch, first_refused};
 use crate::join_halls::{ClosedRecord, closed_record};
@@ -33,7 +33,7 @@ fn finish<R: Threads + Wait, W: CountedWrite, E: CountedWrite>(
     errors: &mut E,
 ) -> Status
     requires { AreClosed halls.items }
-    ensures ends { Ends asked halls.items
+    ensures ends { EndsClosedHalls asked halls.items
         (states W.contents W.failures out.old out.new) result }
     ensures said { SaysEnding halls.items
         (states W.contents W.failures out.old out.new)

@@ -1,8 +1,9 @@
 //! What is said of a run on standard error. What it refuses is lost, as there is nowhere else to say it.
 ghost use Rattle.std.specs.Prelude.{◌≡◌, ◌++◌, codes};
-ghost use Rattle.cli.specs.Passages.{Tells, states};
+ghost use Rattle.counted_devices.specs.DeviceStates.{states};
+ghost use Rattle.cli.specs.Devices.{ReceivesOrFails};
 ghost use Rattle.cli.specs.declared.status.Status.{Status};
-ghost use Rattle.run_command.specs.Messages.{Says, TellsKey, check_line, close_line, load_line};
+ghost use Rattle.run_command.specs.Messages.{ReceivesLines, TellsKey, check_line, close_line, load_line};
 ghost use Rattle.run_command.specs.Messages.{no_text_line, refusal_line, refusal_lines};
 ghost use Rattle.run_command.specs.Runs.{status_of_close};
 
@@ -18,7 +19,7 @@ use std::alloc::Global;
 
 /// Says that the call of a caller was refused, and why, one line.
 fn say_refused<'a, E: CountedWrite>(caller: &'a str, number: &'a str, name: &'a str, errors: &mut E)
-    ensures { Tells (states E.contents E.failures errors.old errors.new)
+    ensures { ReceivesOrFails (states E.contents E.failures errors.old errors.new)
         (codes "abd: caller " ++ caller.now ++ codes ": call refused "
         ++ number.now ++ codes " " ++ name.now ++ codes "\n") }
 {
@@ -36,7 +37,7 @@ fn say_refused<'a, E: CountedWrite>(caller: &'a str, number: &'a str, name: &'a 
 
 /// Says that the caller's call was refused, and why.
 fn tell_refused<E: CountedWrite>(refused: Refused, errors: &mut E)
-    ensures { Tells (states E.contents E.failures errors.old errors.new) (refusal_line refused) }
+    ensures { ReceivesOrFails (states E.contents E.failures errors.old errors.new) (refusal_line refused) }
 {
     let (mut caller, mut number) = (Buffer::new(), Buffer::new());
     say_refused(
@@ -49,7 +50,7 @@ fn tell_refused<E: CountedWrite>(refused: Refused, errors: &mut E)
 
 /// Says of each caller whose call was refused why, in order of name.
 pub(crate) fn tell_refusals<E: CountedWrite>(refusals: &[Refused], errors: &mut E)
-    ensures { Says (states E.contents E.failures errors.old errors.new)
+    ensures { ReceivesLines (states E.contents E.failures errors.old errors.new)
         (refusal_lines refusals.now) }
 {
     for refused in refusals {
@@ -60,7 +61,7 @@ pub(crate) fn tell_refusals<E: CountedWrite>(refusals: &[Refused], errors: &mut 
 /// Says why the load wasn't run to its end. The status.
 pub(crate) fn tell_load<E: CountedWrite>(error: LoadError, errors: &mut E) -> Status
     ensures status { result ≡ Status.Failed }
-    ensures told { Tells (states E.contents E.failures errors.old errors.new) (load_line error) }
+    ensures told { ReceivesOrFails (states E.contents E.failures errors.old errors.new) (load_line error) }
 {
     match error {
         LoadError::Memory => Failure::Memory.report(errors),
@@ -75,7 +76,7 @@ pub(crate) fn tell_load<E: CountedWrite>(error: LoadError, errors: &mut E) -> St
 /// Says why the store wasn't closed. The status.
 pub(crate) fn tell_close<E: CountedWrite>(error: CloseError, errors: &mut E) -> Status
     ensures status { result ≡ status_of_close error }
-    ensures told { Tells (states E.contents E.failures errors.old errors.new) (close_line error) }
+    ensures told { ReceivesOrFails (states E.contents E.failures errors.old errors.new) (close_line error) }
 {
     let mut number = Buffer::new();
     say_close(number.format(error.number()), error.name(), errors);
@@ -87,7 +88,7 @@ pub(crate) fn tell_close<E: CountedWrite>(error: CloseError, errors: &mut E) -> 
 
 /// Says that the store wasn't closed, and why, one line.
 fn say_close<'a, E: CountedWrite>(number: &'a str, name: &'a str, errors: &mut E)
-    ensures { Tells (states E.contents E.failures errors.old errors.new)
+    ensures { ReceivesOrFails (states E.contents E.failures errors.old errors.new)
         (codes "abd: close refused " ++ number.now ++ codes " " ++ name.now ++ codes "\n") }
 {
     say(&["abd: close refused ", number, " ", name, "\n"], errors);
@@ -96,7 +97,7 @@ fn say_close<'a, E: CountedWrite>(number: &'a str, name: &'a str, errors: &mut E
 /// Says why the keys weren't checked. The status.
 pub(crate) fn tell_check<E: CountedWrite>(error: CheckError, errors: &mut E) -> Status
     ensures status { result ≡ Status.Failed }
-    ensures told { Tells (states E.contents E.failures errors.old errors.new) (check_line error) }
+    ensures told { ReceivesOrFails (states E.contents E.failures errors.old errors.new) (check_line error) }
 {
     match error {
         CheckError::Memory => Failure::Memory.report(errors),
@@ -107,7 +108,7 @@ pub(crate) fn tell_check<E: CountedWrite>(error: CheckError, errors: &mut E) -> 
 /// Says why there is no text to write. The status.
 pub(crate) fn tell_no_text<E: CountedWrite>(error: NoText, errors: &mut E) -> Status
     ensures status { result ≡ Status.Failed }
-    ensures told { Tells (states E.contents E.failures errors.old errors.new)
+    ensures told { ReceivesOrFails (states E.contents E.failures errors.old errors.new)
         (no_text_line error) }
 {
     match error {

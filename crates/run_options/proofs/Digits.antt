@@ -1,14 +1,12 @@
 -- The digits of votes.
-use Rattle.std.proofs.Common.{◌≡◌, ◌<◌, ◌≤◌, ◌+◌, ◌-◌, ℕ, suc, List, [], ◌∷◌, ◌++◌, Some, length, map, take, get_or, slice_get, refl, sym, ap, subst, ◌∙◌, arith}
+use Rattle.std.proofs.Common.{◌≡◌, ◌<◌, ◌≤◌, ◌+◌, ◌-◌, ℕ, suc, List, [], ◌∷◌, ◌++◌, length, map, take, get_or, slice_get, refl, sym, ap, subst, ◌∙◌, arith}
 use Rattle.std.proofs.Math.Seq.{take-suc}
 use Rattle.std.proofs.lemmas.List.{length-map, map-append}
 use Rattle.std.proofs.lemmas.List.Elements.{All-push}
-use Rattle.std.proofs.lemmas.Option.{slice_get-map, slice_get-get_or}
+use Rattle.std.proofs.lemmas.Option.{same_Some, slice_get-map, slice_get-get_or}
 use Rattle.std.specs.Option.{option_map}
 use Rattle.run_options.specs.RunWords.{AreDigits}
-
-some_is : {A : Type 0} (x y : A) → Some x ≡ Some y → x ≡ y
-some_is x y e = cc
+use Rattle.tag.proofs.Lists.{same_head, same_tail}
 
 -- one digit more
 pub digits_more : (text votes now : List ℕ) (i byte : ℕ) → i < length text → byte ≡ get_or text i byte → 49 ≤ byte → byte ≤ 57 → now ≡ votes ++ (byte - 48) ∷ [] → AreDigits (take i text) votes
@@ -27,26 +25,20 @@ pub no_digit : (text : List ℕ) (i : ℕ) → i < length text → (49 ≤ get_o
 no_digit text i below none votes digits =
     let len : length text ≡ length votes = ap length digits.spelled ∙ length-map votes (λ v. 48 + v) in
     let within : i < length votes = omega (arith, below, len) in
-    let same : get_or text i 0 ≡ 48 + get_or votes i 0 = some_is _ _ (sym (slice_get-get_or text i 0 below) ∙ ap (λ (l : List ℕ). slice_get l i) digits.spelled ∙ slice_get-map (λ v. 48 + v) votes i ∙ ap (option_map (λ v. 48 + v)) (slice_get-get_or votes i 0 within)) in
+    let same : get_or text i 0 ≡ 48 + get_or votes i 0 = same_Some _ _ (sym (slice_get-get_or text i 0 below) ∙ ap (λ (l : List ℕ). slice_get l i) digits.spelled ∙ slice_get-map (λ v. 48 + v) votes i ∙ ap (option_map (λ v. 48 + v)) (slice_get-get_or votes i 0 within)) in
     let each = digits.each i 0 within in
     let least : 1 ≤ get_or votes i 0 = each.0 in
     let most : get_or votes i 0 ≤ 9 = each.1 in
     none (omega (arith, same, least)) (omega (arith, same, most))
-
-heads : (a b : ℕ) (xs ys : List ℕ) → a ∷ xs ≡ b ∷ ys → a ≡ b
-heads a b xs ys e = cc
-
-tails : (a b : ℕ) (xs ys : List ℕ) → a ∷ xs ≡ b ∷ ys → xs ≡ ys
-tails a b xs ys e = cc
 
 same_list : (a b : List ℕ) → map (λ v. 48 + v) a ≡ map (λ v. 48 + v) b → a ≡ b
 same_list [] [] e = refl
 same_list [] (w ∷ b) e = absurd (cc)
 same_list (v ∷ a) [] e = absurd (cc)
 same_list (v ∷ a) (w ∷ b) e =
-    let same : 48 + v ≡ 48 + w = heads _ _ _ _ e in
+    let same : 48 + v ≡ 48 + w = same_head _ _ _ _ e in
     let first : v ≡ w = omega (arith, same) in
-    ap (λ n. n ∷ a) first ∙ ap (λ l. w ∷ l) (same_list a b (tails _ _ _ _ e))
+    ap (λ n. n ∷ a) first ∙ ap (λ l. w ∷ l) (same_list a b (same_tail _ _ _ _ e))
 
 -- a text is the digits of one list of votes
 pub same_votes : (text a b : List ℕ) → AreDigits text a → AreDigits text b → a ≡ b

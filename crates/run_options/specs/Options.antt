@@ -3,6 +3,7 @@ use Rattle.std.specs.Prelude.{ℕ, [], ◌∷◌, Some, pos, codes}
 use Rattle.clap.specs.Words.{App, Rule, Text, new_app, new_rule, with_rule}
 use Rattle.clap.specs.declared.builder.value_parser.ValueParser.{ValueParser}
 use Rattle.clap.specs.declared.builder.value_parser.ValueParser.TheVariants as parser
+use Rattle.run_options.specs.Loads.{most_apart, most_callers, most_calls, most_keys, most_rounds}
 
 -- an option --name VALUE that may be missing
 abbrev pub free_option : Text → ValueParser → Rule
@@ -24,16 +25,16 @@ within least most = parser.Signed (pos least) (pos most)
 abbrev pub with_sizes : App → App
 with_sizes app = with_rule (with_rule (with_rule (with_rule app
     (option (codes "replicas") (codes "3") (within 1 15)))
-    (option (codes "callers") (codes "4") (within 1 16)))
-    (option (codes "calls") (codes "50") (within 1 10000)))
-    (option (codes "keys") (codes "2") (within 1 8))
+    (option (codes "callers") (codes "4") (within 1 most_callers)))
+    (option (codes "calls") (codes "50") (within 1 most_calls)))
+    (option (codes "keys") (codes "2") (within 1 most_keys))
 
 -- what the gate does, and how long a call goes on
 abbrev pub with_faults : App → App
 with_faults app = with_rule (with_rule (with_rule app
-    (option (codes "rounds") (codes "1000") (within 1 10000)))
-    (option (codes "drop") (codes "0") (within 0 1000)))
-    (option (codes "double") (codes "0") (within 0 1000))
+    (option (codes "rounds") (codes "1000") (within 1 most_rounds)))
+    (option (codes "drop") (codes "0") (within 0 most_apart)))
+    (option (codes "double") (codes "0") (within 0 most_apart))
 
 -- the halls, and how clients read
 abbrev pub with_halls : App → App

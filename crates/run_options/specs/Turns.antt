@@ -10,7 +10,7 @@ abbrev pub key_number : Turn → ℕ
 key_number turn = if turn.caller == 1 then 0 else turn.number % turn.keys
 
 -- whether it is a write: caller 1 writes at its even turns; every other caller only reads key 0,
--- and writes and reads each other key in turn
+-- and alternately writes and reads each other key
 abbrev pub writes : Turn → Bool
 writes turn =
     if turn.caller == 1 then turn.number % 2 == 0
@@ -24,8 +24,10 @@ key_text number = codes "k" ++ (48 + number) ∷ []
 abbrev pub value_text : Turn → List ℕ
 value_text turn = codes "c" ++ decimal turn.caller ++ codes "t" ++ decimal turn.number
 
+-- the key of the turn's call
 abbrev pub key_at : Turn → List ℕ
 key_at turn = key_text (key_number turn)
 
+-- the action of the turn's call
 abbrev pub action_at : Turn → Action
 action_at turn = if writes turn then Write (value_text turn) else Read

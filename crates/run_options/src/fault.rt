@@ -8,7 +8,7 @@ pub enum RunFault {
     /// An option's number is outside its range.
     #[error("a number is outside its range")]
     Number,
-    /// There is no such way of reading.
+    /// The word after `--reads` is neither `full` nor `short`.
     #[error("--reads takes full or short")]
     Reads,
     /// One or two of the three options of quorums are given.

@@ -1,11 +1,22 @@
 //! How large a load is.
 ghost use Rattle.std.specs.Prelude.{◌≡◌, ◌↔◌, IsSome, IfSome};
-ghost use Rattle.run_options.specs.Loads.{IsInRange};
+ghost use Rattle.run_options.specs.Loads.{IsWithinLimits};
 
 use client_phases::ReadMode;
 use quorum::Quorums;
 use recorder::Halls;
 use std::marker::Model;
+
+/// The numbers of a load, as words ask for them.
+#[derive(Clone, Copy)]
+pub(crate) struct LoadCounts {
+    pub(crate) callers: u8,
+    pub(crate) calls: u16,
+    pub(crate) keys: u8,
+    pub(crate) rounds: u16,
+    pub(crate) drop: u16,
+    pub(crate) double: u16,
+}
 
 /// What is fixed of a load before it starts.
 #[derive(Clone, Copy, Debug, PartialEq, Eq)]
@@ -26,7 +37,7 @@ pub struct LoadOptions {
     pub keys: u8,
     /// Every so many-th parcel is lost, and none where it is 0; at most 1,000.
     pub drop: u16,
-    /// Of the others every so many-th goes its way twice, and none where it is 0; at most 1,000.
+    /// Of the others every so many-th is doubled, and none where it is 0; at most 1,000.
     pub double: u16,
 }
 
@@ -41,11 +52,11 @@ impl Model for Load {
 
     ghost Value = { LoadOptions };
 
-    ghost use Rattle.run_options.specs.Loads.{IsInRange};
+    ghost use Rattle.run_options.specs.Loads.{IsWithinLimits};
 
     ghost view = { λ l. l.options };
 
-    ghost invariant = { λ l. IsInRange l.options };
+    ghost invariant = { λ l. IsWithinLimits l.options };
 
     ghost inverse = { λ o. record { options = o } };
 }
@@ -53,7 +64,7 @@ impl Model for Load {
 impl Load {
     /// The load of these options. `None` comes exactly outside the ranges.
     pub fn new(options: LoadOptions) -> Option<Load>
-        ensures some { IsSome result ↔ IsInRange options }
+        ensures some { IsSome result ↔ IsWithinLimits options }
         ensures value { IfSome result (λ load. load ≡ options) }
     {
         let are_callers = options.callers >= 1 && options.callers <= 16;
@@ -71,7 +82,7 @@ impl Load {
     /// What is fixed of it.
     pub fn options(self) -> LoadOptions
         ensures options { result ≡ self }
-        ensures within { IsInRange result }
+        ensures within { IsWithinLimits result }
     {
         self.options
     }

@@ -43,15 +43,39 @@ fn option<'a>(
     free_option(alloc, name, value, parser, help).default_value(default)
 }
 
-/// The words with one option more.
-fn with_option<'a>(words: Command<'a>, option: Arg<'a>) -> Result<Command<'a>, AllocError>
-    requires words { (fields_of words).has_globals ≡ false }
-    requires option { option.global ≡ false }
+/// The words with one option more, which may be missing.
+fn with_free_option<'a>(
+    alloc: Global,
+    words: Command<'a>,
+    name: &'a str,
+    value: &'a str,
+    parser: ValueParser<'a>,
+    help: &'a str,
+) -> Result<Command<'a>, AllocError>
+    requires { (fields_of words).has_globals ≡ false }
     ensures app { IfOk result (λ more.
-        app_of more ≡ with_rule (app_of words.entry) (rule_of option.entry)) }
+        app_of more ≡ with_rule (app_of words.entry) (free_option name.entry.now parser.entry)) }
     ensures local { IfOk result (λ more. (fields_of more).has_globals ≡ false) }
 {
-    words.arg(option)
+    words.arg(free_option(alloc, name, value, parser, help))
+}
+
+/// The words with one option more, which has a default.
+fn with_option<'a>(
+    alloc: Global,
+    words: Command<'a>,
+    name: &'a str,
+    value: &'a str,
+    default: &'a str,
+    parser: ValueParser<'a>,
+    help: &'a str,
+) -> Result<Command<'a>, AllocError>
+    requires { (fields_of words).has_globals ≡ false }
+    ensures app { IfOk result (λ more. app_of more
+        ≡ with_rule (app_of words.entry) (option name.entry.now default.entry.now parser.entry)) }
+    ensures local { IfOk result (λ more. (fields_of more).has_globals ≡ false) }
+{
+    words.arg(option(alloc, name, value, default, parser, help))
 }
 
 /// How large the load is.
@@ -61,16 +85,13 @@ fn with_sizes<'a>(alloc: Global, words: Command<'a>) -> Result<Command<'a>, Allo
     ensures local { IfOk result (λ more. (fields_of more).has_globals ≡ false) }
 {
     let replicas = value_parser!(u8).range(1..16);
-    let replicas = option(alloc, "replicas", "N", "3", replicas, help::REPLICAS);
-    let words = with_option(words, replicas)?;
+    let words = with_option(alloc, words, "replicas", "N", "3", replicas, help::REPLICAS)?;
     let callers = value_parser!(u8).range(1..17);
-    let callers = option(alloc, "callers", "C", "4", callers, help::CALLERS);
-    let words = with_option(words, callers)?;
+    let words = with_option(alloc, words, "callers", "C", "4", callers, help::CALLERS)?;
     let calls = value_parser!(u16).range(1..10001);
-    let calls = option(alloc, "calls", "T", "50", calls, help::CALLS);
-    let words = with_option(words, calls)?;
+    let words = with_option(alloc, words, "calls", "T", "50", calls, help::CALLS)?;
     let keys = value_parser!(u8).range(1..9);
-    with_option(words, option(alloc, "keys", "K", "2", keys, help::KEYS))
+    with_option(alloc, words, "keys", "K", "2", keys, help::KEYS)
 }
 
 /// What the gate does, and how long a call goes on.
@@ -80,15 +101,11 @@ fn with_faults<'a>(alloc: Global, words: Command<'a>) -> Result<Command<'a>, All
     ensures local { IfOk result (λ more. (fields_of more).has_globals ≡ false) }
 {
     let rounds = value_parser!(u16).range(1..10001);
-    let rounds = option(alloc, "rounds", "R", "1000", rounds, help::ROUNDS);
-    let words = with_option(words, rounds)?;
+    let words = with_option(alloc, words, "rounds", "R", "1000", rounds, help::ROUNDS)?;
     let drop = value_parser!(u16).range(0..1001);
-    let words = with_option(words, option(alloc, "drop", "D", "0", drop, help::DROP))?;
+    let words = with_option(alloc, words, "drop", "D", "0", drop, help::DROP)?;
     let double = value_parser!(u16).range(0..1001);
-    with_option(
-        words,
-        option(alloc, "double", "E", "0", double, help::DOUBLE),
-    )
+    with_option(alloc, words, "double", "E", "0", double, help::DOUBLE)
 }
 
 /// The halls, and how clients read.
@@ -98,14 +115,11 @@ fn with_halls<'a>(alloc: Global, words: Command<'a>) -> Result<Command<'a>, Allo
     ensures local { IfOk result (λ more. (fields_of more).has_globals ≡ false) }
 {
     let halls = value_parser!(u8).range(1..65);
-    let words = with_option(words, option(alloc, "halls", "H", "1", halls, help::HALLS))?;
+    let words = with_option(alloc, words, "halls", "H", "1", halls, help::HALLS)?;
     let show = value_parser!(u8).range(0..64);
-    let words = with_option(words, free_option(alloc, "show", "N", show, help::SHOW))?;
+    let words = with_free_option(alloc, words, "show", "N", show, help::SHOW)?;
     let reads = ValueParser::String;
-    with_option(
-        words,
-        option(alloc, "reads", "HOW", "full", reads, help::READS),
-    )
+    with_option(alloc, words, "reads", "HOW", "full", reads, help::READS)
 }
 
 /// The quorums.
@@ -114,12 +128,12 @@ fn with_quorums<'a>(alloc: Global, words: Command<'a>) -> Result<Command<'a>, Al
     ensures app { IfOk result (λ more. app_of more ≡ with_quorums (app_of words.entry)) }
     ensures local { IfOk result (λ more. (fields_of more).has_globals ≡ false) }
 {
-    let votes = free_option(alloc, "votes", "DIGITS", ValueParser::String, help::VOTES);
-    let words = with_option(words, votes)?;
+    let votes = ValueParser::String;
+    let words = with_free_option(alloc, words, "votes", "DIGITS", votes, help::VOTES)?;
     let ask = value_parser!(u8).range(1..136);
-    let words = with_option(words, free_option(alloc, "ask", "A", ask, help::ASK))?;
+    let words = with_free_option(alloc, words, "ask", "A", ask, help::ASK)?;
     let put = value_parser!(u8).range(1..136);
-    with_option(words, free_option(alloc, "put", "P", put, help::PUT))
+    with_free_option(alloc, words, "put", "P", put, help::PUT)
 }
 
 /// `abd run` with its options.

@@ -1,11 +1,12 @@
 //! What words that clap took ask for.
 ghost use Rattle.std.specs.Prelude.{◌≡◌, None, MatchResult, codes, option_map};
 ghost use Rattle.clap.specs.Words.{first_of, found_of, rows_of};
-ghost use Rattle.run_options.specs.RunWords.{AsksNumber, AsksReads, AsksRun, AsksShown, IsMissed, IsNoNumber};
+ghost use Rattle.run_options.specs.RunWords.{AsksCounts, AsksNumber, AsksReads, AsksRun};
+ghost use Rattle.run_options.specs.RunWords.{AsksShown, IsMissed, IsNoNumber};
 
 use crate::asked::{RunAsked, Shown};
 use crate::fault::RunFault;
-use crate::load::{Load, LoadOptions};
+use crate::load::{Load, LoadCounts, LoadOptions};
 use crate::quorums::quorums_in;
 use clap::ArgMatches;
 use client_phases::ReadMode;
@@ -88,6 +89,27 @@ fn shown_in<'a>(matches: &ArgMatches<'a>, halls: u16) -> Result<Shown, RunFault>
     Ok(Shown::Hall(0))
 }
 
+/// The numbers of the load.
+fn counts_in<'a>(matches: &ArgMatches<'a>) -> Result<LoadCounts, RunFault>
+    ensures { MatchResult result (AsksCounts (rows_of (found_of matches.now)))
+        (IsMissed (AsksCounts (rows_of (found_of matches.now)))) }
+{
+    let callers = number_in(matches, "callers", 1, 16)?;
+    let calls = number_in(matches, "calls", 1, 10000)?;
+    let keys = number_in(matches, "keys", 1, 8)?;
+    let rounds = number_in(matches, "rounds", 1, 10000)?;
+    let drop = number_in(matches, "drop", 0, 1000)?;
+    let double = number_in(matches, "double", 0, 1000)?;
+    Ok(LoadCounts {
+        callers: callers as u8,
+        calls,
+        keys: keys as u8,
+        rounds,
+        drop,
+        double,
+    })
+}
+
 /// What is asked for by the words after `run`. Where it is nothing, why; `Memory` comes only where
 /// an allocation was refused.
 pub fn run_in<'a>(alloc: Global, matches: &ArgMatches<'a>) -> Result<RunAsked, RunFault>
@@ -95,12 +117,7 @@ pub fn run_in<'a>(alloc: Global, matches: &ArgMatches<'a>) -> Result<RunAsked, R
         (IsMissed (AsksRun (rows_of (found_of matches.now)))) }
 {
     let replicas = number_in(matches, "replicas", 1, 15)?;
-    let callers = number_in(matches, "callers", 1, 16)?;
-    let calls = number_in(matches, "calls", 1, 10000)?;
-    let keys = number_in(matches, "keys", 1, 8)?;
-    let rounds = number_in(matches, "rounds", 1, 10000)?;
-    let drop = number_in(matches, "drop", 0, 1000)?;
-    let double = number_in(matches, "double", 0, 1000)?;
+    let counts = counts_in(matches)?;
     let halls = number_in(matches, "halls", 1, 64)?;
     let reads = reads_in(matches)?;
     let shown = shown_in(matches, halls)?;
@@ -112,12 +129,12 @@ pub fn run_in<'a>(alloc: Global, matches: &ArgMatches<'a>) -> Result<RunAsked, R
         quorums,
         reads,
         halls,
-        rounds,
-        callers: callers as u8,
-        calls,
-        keys: keys as u8,
-        drop,
-        double,
+        rounds: counts.rounds,
+        callers: counts.callers,
+        calls: counts.calls,
+        keys: counts.keys,
+        drop: counts.drop,
+        double: counts.double,
     };
     let Some(load) = Load::new(options) else {
         unreachable!()

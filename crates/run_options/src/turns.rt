@@ -28,8 +28,7 @@ fn key_number(turn: Turn) -> u8
     (turn.number % u16::from(turn.keys)) as u8
 }
 
-/// Whether the caller writes: caller 1 at even turns, the others on keys above 0, each key in turn with
-/// reading it.
+/// Whether the caller writes: caller 1 at even turns, the others alternately with reading, on keys above 0.
 fn writes(turn: Turn) -> bool
     requires { 1 ≤ turn.keys }
     ensures { result ≡ writes turn }

@@ -5,7 +5,7 @@ use Rattle.file_format.specs.OrderFormat.{AreJoined}
 use Rattle.parallel_keys.specs.CheckedKeys.{AreDistinct}
 use Rattle.cli.proofs.EachKey.{distinct}
 use Rattle.cli.proofs.Reading.{ends, halted_ends}
-use Rattle.cli.proofs.ToldEndings.{halted_fails, halted_told, told_end}
+use Rattle.cli.proofs.Reported.{halted_fails, halted_told, told_end}
 use Rattle.cli.specs.Halts.{failure_of}
 use Rattle.cli.specs.Statuses.{status_of}
 use Rattle.cli.proofs.check.check_command.Goals as goal

@@ -1,4 +1,4 @@
-use Rattle.cli.proofs.Told.{AreYes}
+use Rattle.cli.specs.VerdictStatuses.{AreYes}
 use Rattle.cli.proofs.check_keys.status_of.Given as goal
 
 abbrev pub invariant-loop-told : goal.invariant-loop-told

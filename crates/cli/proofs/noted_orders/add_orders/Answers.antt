@@ -1,8 +1,9 @@
+use Rattle.std.proofs.lemmas.List.{drop_all}
 use Rattle.std.proofs.lemmas.Result.{err_from_is_err_and}
 use Rattle.std.proofs.Common.{refl}
 use Rattle.cli.specs.declared.noted_orders.Unjustified.TheVariants.{Memory}
 use Rattle.cli.proofs.Noted.{all_noted}
-use Rattle.cli.proofs.Prefixes.{dropped_more, first_unjustified, justified_all, justified_more, justified_none, none_left}
+use Rattle.cli.proofs.Prefixes.{dropped_more, first_unjustified, justified_all, justified_more, justified_none}
 use Rattle.cli.proofs.noted_orders.add_orders.Goals as goal
 
 pub loop-entry-init : goal.loop-entry-init
@@ -15,7 +16,7 @@ loop-entry-preserved c = λ before justified.
 
 pub returns-clause-orders : goal.returns-clause-orders
 returns-clause-orders c = λ before justified.
-    justified_all before c.args.parts.now _ c.loop-entry.orders.items (none_left c.args.parts.now c.loop-entry.entry-index c.loop-entry-test.false) (c.loop-entry.invariant before justified)
+    justified_all before c.args.parts.now _ c.loop-entry.orders.items (drop_all c.loop-entry.entry-index c.args.parts.now c.loop-entry-test.false) (c.loop-entry.invariant before justified)
 
 pub returns-in_err-checked_order-clause-refused : goal.returns-in_err-checked_order-clause-refused
 returns-in_err-checked_order-clause-refused c =

@@ -1,11 +1,12 @@
 use Rattle.std.proofs.Common.{List, ℕ, subst, ap, decimal, ◌∙◌}
-use Rattle.cli.specs.Passages.{Tells, states}
+use Rattle.counted_devices.specs.DeviceStates.{states}
+use Rattle.cli.specs.Devices.{ReceivesOrFails}
 use Rattle.cli.proofs.FailureSpelling.{fault_pieces}
 use Rattle.cli.proofs.status.say_fault.Goals as goal
 
 pub returns : goal.returns
 returns g c =
-    let P : List ℕ → Type 0 = λ text. Tells (states g.E.Write.contents g.E.Counted.failures c.args.errors.now c.say_at.new.errors) text in
+    let P : List ℕ → Type 0 = λ text. ReceivesOrFails (states g.E.Write.contents g.E.Counted.failures c.args.errors.now c.say_at.new.errors) text in
     subst P (fault_pieces (record {
       number = g.L.FaultNumbers.number;
       text = g.L.FaultNumbers.text;

@@ -3,32 +3,29 @@ use Rattle.std.proofs.Common.{ℕ, ◌≡◌, ◌<◌, ◌^◌, Option, Some, No
 use Rattle.std.specs.Str.Parse.{IsNumeral, digits_value, without_leading_plus}
 use Rattle.clap.specs.Words.{Row, Text, first_of, found_of, one_of, rows_of}
 use Rattle.clap.proofs.WalkLemmas.{first_value-rows, one_text-rows}
-use Rattle.parallel_keys.specs.Workers.{IsCount}
-use Rattle.cli.specs.Words.{AsksWorkers, MakesAs}
+use Rattle.tag.proofs.Options.{none_some}
+use Rattle.parallel_keys.specs.Workers.{IsWorkerCount}
+use Rattle.cli.specs.Words.{AsksWorkers, MakesAs, NamesFiles}
 use Rattle.cli.specs.declared.command_line.Command.{Command}
 use Rattle.cli.specs.declared.command_line.Command.TheVariants.{Check, Justify, Run, Simulate}
-use Rattle.cli.proofs.CommandNames.{check_is_not_justify, check_is_not_simulate, check_is_not_run}
+use Rattle.cli.proofs.CommandNames.{differ}
 use Rattle.cli.proofs.words.check_in.Goals as goal
 
--- without the one file or the other, the rows make no command of that name
+-- the rows make no `check`, and so no command of that name
+not_check : (rows : List Row) → ((history orders : Text) (workers : ℕ) → NamesFiles rows history orders → AsksWorkers rows workers → ⊥) → (command : Command) → MakesAs (codes "check") rows command → ⊥
+not_check rows none (Check history orders workers) makes = none history.now orders.now workers makes.1.0 makes.1.1
+not_check rows none (Justify history) makes = differ (codes "justify") (codes "check") refl makes.0
+not_check rows none (Simulate script) makes = differ (codes "simulate") (codes "check") refl makes.0
+not_check rows none (Run asked) makes = differ (codes "run") (codes "check") refl makes.0
+
 no_history : (rows : List Row) → first_of (codes "HISTORY") rows ≡ None → (command : Command) → MakesAs (codes "check") rows command → ⊥
-no_history rows none (Check history orders workers) makes = let h = makes.1.0.history_named in cc
-no_history rows none (Justify history) makes = check_is_not_justify (sym makes.0)
-no_history rows none (Simulate script) makes = check_is_not_simulate (sym makes.0)
-no_history rows none (Run asked) makes = check_is_not_run (sym makes.0)
+no_history rows none = not_check rows (λ history orders workers named asks. none_some (sym none ∙ named.history_named))
 
 no_orders : (rows : List Row) → first_of (codes "ORDERS") rows ≡ None → (command : Command) → MakesAs (codes "check") rows command → ⊥
-no_orders rows none (Check history orders workers) makes = let h = makes.1.0.orders_named in cc
-no_orders rows none (Justify history) makes = check_is_not_justify (sym makes.0)
-no_orders rows none (Simulate script) makes = check_is_not_simulate (sym makes.0)
-no_orders rows none (Run asked) makes = check_is_not_run (sym makes.0)
+no_orders rows none = not_check rows (λ history orders workers named asks. none_some (sym none ∙ named.orders_named))
 
--- and without a number of workers, or with another
 no_workers : (rows : List Row) → ((workers : ℕ) → AsksWorkers rows workers → ⊥) → (command : Command) → MakesAs (codes "check") rows command → ⊥
-no_workers rows none (Check history orders workers) makes = none workers makes.1.1
-no_workers rows none (Justify history) makes = check_is_not_justify (sym makes.0)
-no_workers rows none (Simulate script) makes = check_is_not_simulate (sym makes.0)
-no_workers rows none (Run asked) makes = check_is_not_run (sym makes.0)
+no_workers rows none = not_check rows (λ history orders workers named asks. none workers asks)
 
 -- the text is a number of 8 bits
 abbrev IsByte : Text → Type 0
@@ -37,20 +34,20 @@ IsByte text = IsNumeral 10 (without_leading_plus text) × (digits_value 10 (with
 no_number : (rows : List Row) → ((text : Text) → one_of (codes "workers") rows ≡ Some text → IsByte text → ⊥) → (workers : ℕ) → AsksWorkers rows workers → ⊥
 no_number rows none workers asks =
     let small : digits_value 10 (without_leading_plus asks.text) < 256 = omega (arith, asks.number, asks.few.most) in
-    none asks.text asks.given (asks.numeral, small)
+    none asks.text asks.given (asks.is_numeral, small)
 
-too_many : (rows : List Row) (count : ℕ) → ((text : Text) → one_of (codes "workers") rows ≡ Some text → count ≡ digits_value 10 (without_leading_plus text)) → (IsCount count → ⊥) → (workers : ℕ) → AsksWorkers rows workers → ⊥
-too_many rows count read none workers asks = none (subst IsCount (sym (read asks.text asks.given ∙ asks.number)) asks.few)
+too_many : (rows : List Row) (count : ℕ) → ((text : Text) → one_of (codes "workers") rows ≡ Some text → count ≡ digits_value 10 (without_leading_plus text)) → (IsWorkerCount count → ⊥) → (workers : ℕ) → AsksWorkers rows workers → ⊥
+too_many rows count read none workers asks = none (subst IsWorkerCount (sym (read asks.text asks.given ∙ asks.number)) asks.few)
 
 -- the number that was read is asked for
-asked : (rows : List Row) (count : ℕ) → ((text : Text) → one_of (codes "workers") rows ≡ Some text → IsByte text × (count ≡ digits_value 10 (without_leading_plus text))) → (one_of (codes "workers") rows ≡ None → ⊥) → IsCount count → AsksWorkers rows count
+asked : (rows : List Row) (count : ℕ) → ((text : Text) → one_of (codes "workers") rows ≡ Some text → IsByte text × (count ≡ digits_value 10 (without_leading_plus text))) → (one_of (codes "workers") rows ≡ None → ⊥) → IsWorkerCount count → AsksWorkers rows count
 asked rows count read some few = by (one_of (codes "workers") rows) refl
   where
     by : (o : Option Text) → one_of (codes "workers") rows ≡ o → AsksWorkers rows count
     by None is = absurd (some is)
     by (Some text) is =
         let number = read text is in
-        record { text = text; given = is; numeral = number.0.0; number = sym number.1; few = few }
+        record { text = text; given = is; is_numeral = number.0.0; number = sym number.1; few = few }
 
 pub returns-in_err-history : goal.returns-in_err-history
 returns-in_err-history c =

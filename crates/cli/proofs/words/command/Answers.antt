@@ -1,13 +1,15 @@
 -- What clap answers to the words is what the definition says of them.
-use Rattle.std.proofs.Common.{◌≡◌, ◌⊎◌, inl, inr, true, List, [], ap, refl, sym, subst, ◌∙◌, map, string_bytes}
-use Rattle.clap.specs.Words.{App, IsAmong, Text, app_of, fault_of, is_simple, is_simple_and_free, kind_of, subcommand_of, subcommand_rows_of}
+use Rattle.std.proofs.Common.{◌≡◌, ◌⊎◌, inl, inr, true, List, [], Option, Result, IfOk, IfErr, ap, refl, sym, subst, ◌∙◌, map, string_bytes}
+use Rattle.clap.specs.Words.{App, IsAmong, Row, Text, app_of, fault_of, is_simple, is_simple_and_free, kind_of, subcommand_of}
 use Rattle.clap.specs.declared.error.kind.ErrorKind.{ErrorKind}
 use Rattle.clap.specs.declared.error.kind.ErrorKind.TheVariants.{OutOfMemory}
 use Rattle.clap.proofs.OnLiterals.{clap_on_literals}
-use Rattle.cli.specs.Words.{abd_app, AsksNothing, Says}
+use Rattle.cli.specs.Words.{abd_app, AreParsed, Asks, AsksNothing, IsUsageOf, MakesNothing, MakesOf}
+use Rattle.std.specs.Result.{MatchResult}
+use Rattle.cli.specs.declared.command_line.Command.{Command}
 use Rattle.cli.specs.declared.command_line.Usage.{Usage}
 use Rattle.cli.specs.declared.command_line.Usage.TheVariants as usage
-use Rattle.cli.proofs.Unmade.{asked, not_asked}
+use Rattle.cli.proofs.Unmade.{IsUnmade, asked, not_asked}
 use Rattle.cli.proofs.words.command.Goals as goal
 
 -- `abd` is a command of which clap gives the kinds of its errors
@@ -16,7 +18,7 @@ unfolding clap_on_literals
 is_free = refl
 
 -- the words aren't taken, for the kind of the error
-refused : (words : List Text) (answer : Usage) (kind : ErrorKind) → Says kind answer → (kind ≡ OutOfMemory) ⊎ IsAmong kind (fault_of abd_app words) → AsksNothing words answer
+refused : (words : List Text) (answer : Usage) (kind : ErrorKind) → IsUsageOf kind answer → (kind ≡ OutOfMemory) ⊎ IsAmong kind (fault_of abd_app words) → AsksNothing words answer
 refused words (usage.Help text) kind says (inl memory) = absurd (cc)
 refused words (usage.Help text) kind says (inr among) = subst (λ (k : ErrorKind). IsAmong k (fault_of abd_app words)) says among
 refused words (usage.Version text) kind says (inl memory) = absurd (cc)
@@ -25,21 +27,24 @@ refused words (usage.Fault text) kind says (inl memory) = absurd (says.2 memory)
 refused words (usage.Fault text) kind says (inr among) = inl (kind, among, says)
 refused words usage.Memory kind says h = tt
 
+-- what clap took, said of `abd`: the command that was made is asked for, and if none was made, none is
+met : (app : App) (is : app ≡ abd_app) (words : List Text) (found : Option (Text × List Row)) (r : Result Command Usage)
+    → (is_simple_and_free app ≡ true → fault_of app words ≡ []) → (is_simple app ≡ true → found ≡ subcommand_of app words)
+    → MatchResult r (MakesOf found) (MakesNothing (IsUnmade found)) → IfOk r (Asks words) × IfErr r (AsksNothing words)
+met app is words found r none same makes =
+    let parsed : AreParsed words = sym (ap (λ (a : App). fault_of a words) is) ∙ none (ap is_simple_and_free is ∙ is_free) in
+    let rows : found ≡ subcommand_of abd_app words = same (ap is_simple is) ∙ ap (λ (a : App). subcommand_of a words) is in
+    (asked words found r parsed rows makes, not_asked words found r parsed rows makes)
+
 pub returns-in-Ok-try_get_matches_from-clause-asked : goal.returns-in-Ok-try_get_matches_from-clause-asked
 returns-in-Ok-try_get_matches_from-clause-asked c =
-    let words = map string_bytes c.args.words.now in
-    let abd_is : app_of c.in-Ok.abd ≡ abd_app = c.in-Ok.ensures in
-    let taken : fault_of (app_of c.in-Ok.abd) words ≡ [] = c.in-Ok-try_get_matches_from.ensures.kinds (ap is_simple_and_free abd_is ∙ is_free) in
-    let met : subcommand_rows_of c.in-Ok-try_get_matches_from.matches ≡ subcommand_of abd_app words = (c.in-Ok-try_get_matches_from.ensures.matches (ap is_simple abd_is)).1 ∙ ap (λ (a : App). subcommand_of a words) abd_is in
-    asked words (subcommand_rows_of c.in-Ok-try_get_matches_from.matches) c.command_in.result (sym (ap (λ (a : App). fault_of a words) abd_is) ∙ taken) met c.command_in.ensures
+    let clap = c.in-Ok-try_get_matches_from.ensures in
+    (met (app_of c.in-Ok.abd) c.in-Ok.ensures (map string_bytes c.args.words.now) _ c.command_in.result clap.kinds (λ simple. (clap.matches simple).1) c.command_in.ensures).0
 
 pub returns-in-Ok-try_get_matches_from-clause-not_asked : goal.returns-in-Ok-try_get_matches_from-clause-not_asked
 returns-in-Ok-try_get_matches_from-clause-not_asked c =
-    let words = map string_bytes c.args.words.now in
-    let abd_is : app_of c.in-Ok.abd ≡ abd_app = c.in-Ok.ensures in
-    let taken : fault_of (app_of c.in-Ok.abd) words ≡ [] = c.in-Ok-try_get_matches_from.ensures.kinds (ap is_simple_and_free abd_is ∙ is_free) in
-    let met : subcommand_rows_of c.in-Ok-try_get_matches_from.matches ≡ subcommand_of abd_app words = (c.in-Ok-try_get_matches_from.ensures.matches (ap is_simple abd_is)).1 ∙ ap (λ (a : App). subcommand_of a words) abd_is in
-    not_asked words (subcommand_rows_of c.in-Ok-try_get_matches_from.matches) c.command_in.result (sym (ap (λ (a : App). fault_of a words) abd_is) ∙ taken) met c.command_in.ensures
+    let clap = c.in-Ok-try_get_matches_from.ensures in
+    (met (app_of c.in-Ok.abd) c.in-Ok.ensures (map string_bytes c.args.words.now) _ c.command_in.result clap.kinds (λ simple. (clap.matches simple).1) c.command_in.ensures).1
 
 pub returns-in-Err-clause-not_asked : goal.returns-in-Err-clause-not_asked
 returns-in-Err-clause-not_asked c =

@@ -5,15 +5,15 @@ use Rattle.clap.proofs.WalkLemmas.{first_value-rows}
 use Rattle.cli.specs.Words.{MakesAs}
 use Rattle.cli.specs.declared.command_line.Command.{Command}
 use Rattle.cli.specs.declared.command_line.Command.TheVariants.{Check, Justify, Run, Simulate}
-use Rattle.cli.proofs.CommandNames.{check_is_not_justify, justify_is_not_simulate, justify_is_not_run}
+use Rattle.cli.proofs.CommandNames.{differ}
 use Rattle.cli.proofs.words.justify_in.Goals as goal
 
 -- without the file, the rows make no command of that name
 no_history : (rows : List Row) → first_of (codes "HISTORY") rows ≡ None → (command : Command) → MakesAs (codes "justify") rows command → ⊥
-no_history rows none (Check history orders workers) makes = check_is_not_justify makes.0
+no_history rows none (Check history orders workers) makes = differ (codes "check") (codes "justify") refl makes.0
 no_history rows none (Justify history) makes = let h = makes.1 in cc
-no_history rows none (Simulate script) makes = justify_is_not_simulate (sym makes.0)
-no_history rows none (Run asked) makes = justify_is_not_run (sym makes.0)
+no_history rows none (Simulate script) makes = differ (codes "simulate") (codes "justify") refl makes.0
+no_history rows none (Run asked) makes = differ (codes "run") (codes "justify") refl makes.0
 
 pub returns-in_err-history : goal.returns-in_err-history
 returns-in_err-history c =

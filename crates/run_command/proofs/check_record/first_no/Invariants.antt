@@ -1,4 +1,4 @@
-use Rattle.run_command.specs.RecordVerdicts.{AreYes}
+use Rattle.cli.specs.VerdictStatuses.{AreYes}
 use Rattle.run_command.proofs.check_record.first_no.Given as goal
 
 abbrev pub invariant-loop-told : goal.invariant-loop-told

@@ -1,13 +1,13 @@
 use Rattle.std.proofs.Common.{◌≡◌, ◌<◌, length, refl, arith}
 use Rattle.std.proofs.lemmas.Option.{slice_get_within}
 use Rattle.run_command.specs.Records.{AreEqual}
-use Rattle.run_command.proofs.Lists.{item_at, one_more}
+use Rattle.tag.proofs.Lists.{each_next, item_at}
 use Rattle.run_command.proofs.join_halls.are_configured.Goals as goal
 
 pub loop-closed-preserved : goal.loop-closed-preserved
 loop-closed-preserved c =
     let l = c.loop-closed in
-    one_more (λ _ one. AreEqual one.config c.args.config) c.args.halls.now l.closed-index c.closed-item.result l.invariant
+    each_next (λ _ one. AreEqual one.config c.args.config) c.args.halls.now l.closed-index c.closed-item.result l.invariant
     (item_at c.args.halls.now l.closed-index c.closed-item.result c.loop-closed-test.true c.closed-item.is)
     (c.if-not-is_configured.ensures refl)
 

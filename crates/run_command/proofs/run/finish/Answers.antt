@@ -1,5 +1,5 @@
 use Rattle.std.proofs.Common.{◌≡◌, Bool, true, false, subst, sym, ◌∙◌}
-use Rattle.cli.specs.Passages.{states}
+use Rattle.counted_devices.specs.DeviceStates.{states}
 use Rattle.cli.specs.declared.status.Status.{Status}
 use Rattle.cli.specs.declared.status.Status.TheVariants.{Failed}
 use Rattle.run_command.specs.Messages.{SaysEnding}

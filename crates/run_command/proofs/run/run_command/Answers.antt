@@ -1,8 +1,8 @@
 use Rattle.std.proofs.Common.{List, ◌∷◌, [], refl, sym, subst}
-use Rattle.cli.specs.Passages.{WriterStates, states}
+use Rattle.counted_devices.specs.DeviceStates.{DeviceStates, states}
 use Rattle.cli.specs.declared.status.Status.{Status}
 use Rattle.load.specs.declared.load_run.Refused.{Refused}
-use Rattle.run_command.specs.Messages.{Says, close_line, refusal_lines}
+use Rattle.run_command.specs.Messages.{ReceivesLines, close_line, refusal_lines}
 use Rattle.run_command.specs.Runs.{EndsRun}
 use Rattle.run_command.proofs.Ending.{ends_closed, ends_open}
 use Rattle.run_command.proofs.Saying.{says_both, says_one}
@@ -13,12 +13,12 @@ pub returns-in-Ok-closed-clause-ends : goal.returns-in-Ok-closed-clause-ends
 returns-in-Ok-closed-clause-ends g c =
     let contents = g.E.Write.contents in
     let failures = g.E.Counted.failures in
-    let out : WriterStates = states g.W.Write.contents g.W.Counted.failures c.args.out.now c.finish.new.out in
-    let errors : WriterStates = states contents failures c.args.errors.now c.finish.new.errors in
+    let out : DeviceStates = states g.W.Write.contents g.W.Counted.failures c.args.out.now c.finish.new.out in
+    let errors : DeviceStates = states contents failures c.args.errors.now c.finish.new.errors in
     let loaded = c.in-Ok.loaded in
     let ending = c.finish.ensures.said in
-    let middle : WriterStates = states contents failures c.args.errors.now c.tell_refusals.new.errors in
-    let refused : Says middle (refusal_lines loaded.refusals.items) = subst (λ (l : List Refused). Says middle (refusal_lines l)) c.as_slice.ensures.value c.tell_refusals.ensures in
+    let middle : DeviceStates = states contents failures c.args.errors.now c.tell_refusals.new.errors in
+    let refused : ReceivesLines middle (refusal_lines loaded.refusals.items) = subst (λ (l : List Refused). ReceivesLines middle (refusal_lines l)) c.as_slice.ensures.value c.tell_refusals.ensures in
     ends_closed c.args.asked out errors c.finish.result (record {
       loaded = loaded;
       run = c.in-Ok.ensures;
@@ -35,14 +35,14 @@ pub returns-clause-ends : goal.returns-clause-ends
 returns-clause-ends g c =
     let contents = g.E.Write.contents in
     let failures = g.E.Counted.failures in
-    let out : WriterStates = states g.W.Write.contents g.W.Counted.failures c.args.out.now c.args.out.now in
-    let errors : WriterStates = states contents failures c.args.errors.now c.tell_close.new.errors in
+    let out : DeviceStates = states g.W.Write.contents g.W.Counted.failures c.args.out.now c.args.out.now in
+    let errors : DeviceStates = states contents failures c.args.errors.now c.tell_close.new.errors in
     let loaded = c.in-Ok.loaded in
     let error = c.in-Err-closed.error in
     let line = close_line error in
-    let middle : WriterStates = states contents failures c.args.errors.now c.tell_refusals.new.errors in
-    let refused : Says middle (refusal_lines loaded.refusals.items) = subst (λ (l : List Refused). Says middle (refusal_lines l)) c.as_slice.ensures.value c.tell_refusals.ensures in
-    let then : WriterStates = states contents failures c.tell_refusals.new.errors c.tell_close.new.errors in
+    let middle : DeviceStates = states contents failures c.args.errors.now c.tell_refusals.new.errors in
+    let refused : ReceivesLines middle (refusal_lines loaded.refusals.items) = subst (λ (l : List Refused). ReceivesLines middle (refusal_lines l)) c.as_slice.ensures.value c.tell_refusals.ensures in
+    let then : DeviceStates = states contents failures c.tell_refusals.new.errors c.tell_close.new.errors in
     subst (λ (s : Status). EndsRun c.args.asked out errors s) (sym c.tell_close.ensures.status) (ends_open c.args.asked out errors error (record {
       loaded = loaded;
       run = c.in-Ok.ensures;

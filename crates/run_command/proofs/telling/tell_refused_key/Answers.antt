@@ -1,5 +1,5 @@
 use Rattle.std.proofs.Common.{refl}
-use Rattle.cli.specs.Passages.{states}
+use Rattle.counted_devices.specs.DeviceStates.{states}
 use Rattle.run_command.proofs.Spelling.{key_told}
 use Rattle.run_command.proofs.telling.tell_refused_key.Goals as goal
 
