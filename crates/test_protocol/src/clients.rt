@@ -90,12 +90,8 @@ fn say_state(out: &mut String, client: &Client) -> Result<(), AllocError> {
 }
 
 /// What a client answers to a step or a question.
-pub fn client_answers(
-    alloc: Global,
-    out: &mut String,
-    client: &mut Client,
-    line: &str,
-) -> Result<(), AllocError> {
+pub fn client_answers(out: &mut String, client: &mut Client, line: &str) -> Result<(), AllocError> {
+    let alloc = *out.allocator();
     let mut words = Words { rest: line };
     match words.word() {
         "invoke" => invoke(out, client, call_of(alloc, words)),

@@ -17,54 +17,40 @@ mod worlds;
 use std::alloc::{AllocError, Global};
 use std::process::ExitCode;
 use subject::Subject;
-use test_rows::say_files;
+use test_rows::run_rows;
 
 /// Says what comes of a line of steps, divided as they are.
-fn say_steps(
-    alloc: Global,
-    out: &mut String,
-    subject: &mut Subject,
-    line: &str,
-) -> Result<(), AllocError> {
+fn say_steps(out: &mut String, subject: &mut Subject, line: &str) -> Result<(), AllocError> {
     for (place, step) in line.split(" / ").enumerate() {
         if place > 0 {
             out.push_str(" / ")?;
         }
-        subject.answer(alloc, out, step)?;
+        subject.answer(out, step)?;
     }
     out.push_str("\n")
 }
 
 /// Says what comes of the lines of steps, a line for each.
-fn say_lines(
-    alloc: Global,
-    out: &mut String,
-    subject: &mut Subject,
-    input: &str,
-) -> Result<(), AllocError> {
+fn say_lines(out: &mut String, subject: &mut Subject, input: &str) -> Result<(), AllocError> {
     for line in input.lines() {
-        say_steps(alloc, out, subject, line)?;
+        say_steps(out, subject, line)?;
     }
     Ok(())
 }
 
 /// Says what comes of a row's steps, which begin with nothing.
-fn say_input(alloc: Global, out: &mut String, input: &str) -> Result<(), AllocError> {
+fn say_input(out: &mut String, input: &str) -> Result<(), AllocError> {
     let mut subject = Subject::None;
-    say_lines(alloc, out, &mut subject, input)
+    say_lines(out, &mut subject, input)
 }
 
 /// What comes of the steps.
 fn found(alloc: Global, input: &str) -> Result<String, AllocError> {
     let mut out = String::new(alloc);
-    say_input(alloc, &mut out, input)?;
+    say_input(&mut out, input)?;
     Ok(out)
 }
 
 fn main(rt: HostRuntime) -> ExitCode {
-    let answer = |input: &str| found(rt.alloc(), input);
-    match say_files(&rt, &answer) {
-        Ok(true) => ExitCode::SUCCESS,
-        _ => ExitCode::FAILURE,
-    }
+    run_rows(&rt, &|input: &str| found(rt.alloc(), input))
 }

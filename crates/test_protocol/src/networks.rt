@@ -67,12 +67,8 @@ fn say_pool(out: &mut String, pool: &Pool) -> Result<(), AllocError> {
 }
 
 /// What the network answers to a step or a question.
-pub fn pool_answers(
-    alloc: Global,
-    out: &mut String,
-    pool: &mut Pool,
-    line: &str,
-) -> Result<(), AllocError> {
+pub fn pool_answers(out: &mut String, pool: &mut Pool, line: &str) -> Result<(), AllocError> {
+    let alloc = *out.allocator();
     let mut words = Words { rest: line };
     let kind = words.word();
     if kind == "send" {
@@ -114,11 +110,11 @@ fn handle(out: &mut String, replica: &mut Replica, request: &Request) -> Result<
 
 /// What a replica answers to a request, or to `held? x`.
 pub fn replica_answers(
-    alloc: Global,
     out: &mut String,
     replica: &mut Replica,
     line: &str,
 ) -> Result<(), AllocError> {
+    let alloc = *out.allocator();
     let mut words = Words { rest: line };
     if words.word() == "held?" {
         return say_held(out, replica, words.key(alloc));

@@ -69,13 +69,8 @@ fn steps_of(alloc: Global, words: Words<'_>) -> Result<Subject, AllocError> {
 }
 
 /// Lists the step that a line writes.
-fn list(
-    alloc: Global,
-    out: &mut String,
-    steps: &mut Vec<Step>,
-    line: &str,
-) -> Result<(), AllocError> {
-    match step_of(alloc, Words { rest: line }) {
+fn list(out: &mut String, steps: &mut Vec<Step>, line: &str) -> Result<(), AllocError> {
+    match step_of(*out.allocator(), Words { rest: line }) {
         Some(step) => {
             steps.push(step)?;
             out.push_str("listed")
@@ -108,10 +103,10 @@ fn made(alloc: Global, kind: &str, mut words: Words<'_>) -> Result<Subject, Memo
 }
 
 /// What comes of a line that needs no subject.
-fn answer_alone(alloc: Global, out: &mut String, line: &str) -> Result<(), AllocError> {
+fn answer_alone(out: &mut String, line: &str) -> Result<(), AllocError> {
     let mut words = Words { rest: line };
     match words.word() {
-        "copy" => out.push_str(copied(alloc, words.rest)),
+        "copy" => out.push_str(copied(*out.allocator(), words.rest)),
         "members" => say_members(out, words),
         "compare" => out.push_str(compared(words)),
         "refusals" => say_refusals(out),
@@ -161,14 +156,14 @@ impl Subject {
     }
 
     /// What comes of a step or a question.
-    fn step(&mut self, alloc: Global, out: &mut String, line: &str) -> Result<(), AllocError> {
+    fn step(&mut self, out: &mut String, line: &str) -> Result<(), AllocError> {
         match self {
-            Subject::None => answer_alone(alloc, out, line),
-            Subject::World(world, steps) => world_answers(alloc, out, world, steps, line),
-            Subject::Steps(_, steps) => list(alloc, out, steps, line),
-            Subject::Client(client) => client_answers(alloc, out, client, line),
-            Subject::Network(pool) => pool_answers(alloc, out, pool, line),
-            Subject::Replica(replica) => replica_answers(alloc, out, replica, line),
+            Subject::None => answer_alone(out, line),
+            Subject::World(world, steps) => world_answers(out, (world, steps), line),
+            Subject::Steps(_, steps) => list(out, steps, line),
+            Subject::Client(client) => client_answers(out, client, line),
+            Subject::Network(pool) => pool_answers(out, pool, line),
+            Subject::Replica(replica) => replica_answers(out, replica, line),
             Subject::Quorums(quorums) => quorums_answer(out, quorums, line),
         }
     }
@@ -176,18 +171,13 @@ impl Subject {
     /// What comes of a step or a question, as a text of its own.
     fn said(&mut self, alloc: Global, line: &str) -> Result<String, AllocError> {
         let mut said = String::new(alloc);
-        self.step(alloc, &mut said, line)?;
+        self.step(&mut said, line)?;
         Ok(said)
     }
 
     /// Takes a step so many times. It says how often the answer was the last one.
-    fn repeat(
-        &mut self,
-        alloc: Global,
-        out: &mut String,
-        times: u32,
-        line: &str,
-    ) -> Result<(), AllocError> {
+    fn repeat(&mut self, out: &mut String, times: u32, line: &str) -> Result<(), AllocError> {
+        let alloc = *out.allocator();
         let mut last = String::new(alloc);
         let mut alike = 0u32;
         for _ in 0..times {
@@ -204,12 +194,8 @@ impl Subject {
     }
 
     /// What comes of a line.
-    pub fn answer(
-        &mut self,
-        alloc: Global,
-        out: &mut String,
-        line: &str,
-    ) -> Result<(), AllocError> {
+    pub fn answer(&mut self, out: &mut String, line: &str) -> Result<(), AllocError> {
+        let alloc = *out.allocator();
         let mut words = Words { rest: line };
         let kind = words.word();
         if is_made(kind) {
@@ -221,8 +207,8 @@ impl Subject {
         }
         let (times, rest) = line.split_once(" times ").unwrap_or(("", ""));
         match times.parse::<u32>() {
-            Ok(times) => self.repeat(alloc, out, times, rest),
-            Err(_) => self.step(alloc, out, line),
+            Ok(times) => self.repeat(out, times, rest),
+            Err(_) => self.step(out, line),
         }
     }
 }

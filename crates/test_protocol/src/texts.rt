@@ -5,7 +5,8 @@ use quorum::ReplicaSet;
 use recorder::Row;
 use replica::{Reply, Request};
 use std::alloc::AllocError;
-use tag::{Action, ReplicaId, Returned, Tag, Value};
+use tag::{ReplicaId, Returned, Tag, Value};
+use test_rows::{RowSaid, said_by, say_action, say_tag};
 use world_steps::Step;
 
 pub fn value_text(value: Option<&Value>) -> &str {
@@ -14,11 +15,6 @@ pub fn value_text(value: Option<&Value>) -> &str {
         Some(value) if value.as_str() == "" => "\"\"",
         Some(value) => value.as_str(),
     }
-}
-
-pub fn say_tag(out: &mut String, tag: Tag) -> Result<(), AllocError> {
-    let (number, writer) = (tag.number(), tag.writer());
-    write!(out, "({number}, {writer})")
 }
 
 pub fn say_taken(out: &mut String, taken: Taken) -> Result<(), AllocError> {
@@ -38,22 +34,16 @@ pub fn say_taken(out: &mut String, taken: Taken) -> Result<(), AllocError> {
 }
 
 pub fn say_request(out: &mut String, request: &Request) -> Result<(), AllocError> {
-    match request {
-        Request::Query { op, key } => {
-            let (op, key) = (op.0, key.as_str());
-            write!(out, "query {op} {key}")
-        }
-        Request::Put {
-            op,
-            key,
-            tag,
-            value,
-        } => {
-            let (op, key) = (op.0, key.as_str());
-            write!(out, "put {op} {key} ")?;
-            say_pair(out, *tag, value.as_ref())
-        }
+    let (kind, op, key) = match request {
+        Request::Query { op, key } => ("query", op.0, key.as_str()),
+        Request::Put { op, key, .. } => ("put", op.0, key.as_str()),
+    };
+    write!(out, "{kind} {op} {key}")?;
+    if let Request::Put { tag, value, .. } = request {
+        out.push_str(" ")?;
+        say_pair(out, *tag, value.as_ref())?;
     }
+    Ok(())
 }
 
 pub fn say_pair(out: &mut String, tag: Tag, value: Option<&Value>) -> Result<(), AllocError> {
@@ -63,22 +53,16 @@ pub fn say_pair(out: &mut String, tag: Tag, value: Option<&Value>) -> Result<(),
 }
 
 pub fn say_reply(out: &mut String, reply: &Reply) -> Result<(), AllocError> {
-    match reply {
-        Reply::Held {
-            op,
-            replica,
-            tag,
-            value,
-        } => {
-            let (op, replica) = (op.0, replica.get());
-            write!(out, "held {op} from {replica} ")?;
-            say_pair(out, *tag, value.as_ref())
-        }
-        Reply::Kept { op, replica } => {
-            let (op, replica) = (op.0, replica.get());
-            write!(out, "kept {op} from {replica}")
-        }
+    let (kind, op, replica) = match reply {
+        Reply::Held { op, replica, .. } => ("held", op.0, replica.get()),
+        Reply::Kept { op, replica } => ("kept", op.0, replica.get()),
+    };
+    write!(out, "{kind} {op} from {replica}")?;
+    if let Reply::Held { tag, value, .. } = reply {
+        out.push_str(" ")?;
+        say_pair(out, *tag, value.as_ref())?;
     }
+    Ok(())
 }
 
 pub fn say_message(out: &mut String, message: &Message) -> Result<(), AllocError> {
@@ -109,24 +93,18 @@ pub fn say_net_refusal(out: &mut String, refusal: NetRefusal) -> Result<(), Allo
 }
 
 pub fn say_row(out: &mut String, row: &Row) -> Result<(), AllocError> {
-    match row {
-        Row::Invoke {
-            op,
-            client,
-            key,
-            action,
-        } => {
-            let (op, client, key) = (op.0, client.get(), key.as_str());
+    let (op, said) = said_by(row);
+    match said {
+        RowSaid::Invoked(client, key, action) => {
+            let (client, key) = (client.get(), key.as_str());
             write!(out, "invoke {op} by {client} {key} ")?;
             say_action(out, action)
         }
-        Row::Note { op, tag } => {
-            let op = op.0;
+        RowSaid::Noted(tag) => {
             write!(out, "note {op} ")?;
-            say_tag(out, *tag)
+            say_tag(out, tag)
         }
-        Row::Respond { op, returned } => {
-            let op = op.0;
+        RowSaid::Answered(returned) => {
             write!(out, "respond {op} ")?;
             say_returned(out, returned)
         }
@@ -143,16 +121,6 @@ pub fn say_set(out: &mut String, set: ReplicaSet) -> Result<(), AllocError> {
         }
     }
     Ok(())
-}
-
-fn say_action(out: &mut String, action: &Action) -> Result<(), AllocError> {
-    match action {
-        Action::Read => out.push_str("read"),
-        Action::Write(value) => {
-            let value = value.as_str();
-            write!(out, "write {value}")
-        }
-    }
 }
 
 /// A step as rows write it, but that the key stands before the action.

@@ -34,7 +34,7 @@ fn client_step(kind: &str, mut words: Words<'_>) -> Option<Step> {
     }
 }
 
-/// The step of a flight.
+/// The step on a message.
 fn flight_step(kind: &str, flight: u32) -> Option<Step> {
     match kind {
         "deliver" => Some(Step::Deliver { flight }),
@@ -105,7 +105,7 @@ fn say_settled(out: &mut String, answer: Result<u32, SettleError>) -> Result<(),
     }
 }
 
-/// What is seen of a world: what was sent, the flights under way, the rows, and who joined.
+/// What is seen of a world: what was sent, the messages in flight, the rows, and who joined.
 fn say_seen(out: &mut String, world: &World) -> Result<(), AllocError> {
     let (sent, stored) = (world.pool().sent(), world.pool().stored());
     let rows = world.history().rows().len();
@@ -145,13 +145,12 @@ fn take(out: &mut String, world: &mut World, step: Option<Step>) -> Result<(), A
 
 /// Says the next random step, and takes it if that is asked.
 fn draw(
-    alloc: Global,
     out: &mut String,
     world: &mut World,
     steps: &mut RandomSteps,
     is_taken: bool,
 ) -> Result<(), AllocError> {
-    let Ok(step) = steps.next(alloc, world) else {
+    let Ok(step) = steps.next(*out.allocator(), world) else {
         return out.push_str("NO MEMORY");
     };
     say_step(out, &step)?;
@@ -164,12 +163,11 @@ fn draw(
 
 /// What a world answers to a step or a question.
 pub fn world_answers(
-    alloc: Global,
     out: &mut String,
-    world: &mut World,
-    steps: &mut RandomSteps,
+    (world, steps): (&mut World, &mut RandomSteps),
     line: &str,
 ) -> Result<(), AllocError> {
+    let alloc = *out.allocator();
     let mut words = Words { rest: line };
     match words.word() {
         "settle" => match words.client() {
@@ -183,8 +181,8 @@ pub fn world_answers(
             let copies = world.pool().copies(words.number().unwrap_or(0));
             write!(out, "{copies}")
         }
-        "draw" => draw(alloc, out, world, steps, false),
-        "take" => draw(alloc, out, world, steps, true),
+        "draw" => draw(out, world, steps, false),
+        "take" => draw(out, world, steps, true),
         _ => take(out, world, step_of(alloc, Words { rest: line })),
     }
 }

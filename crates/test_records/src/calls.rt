@@ -1,11 +1,12 @@
 //! Steps on a history, and questions about it.
 
-use crate::names::{action_of, returned_of, said_equal, say_tag, tag_of};
+use crate::names::{action_of, returned_of, said_equal, tag_of};
 use crate::words::{first_word, number};
 use recorder::{Call, History, KeyOrder, Order, Part, Response, Row, RowRefusal};
 use std::alloc::{AllocError, Global};
 use tag::{Action, ClientId, Key, Memory, NameError, OpId, Returned};
 use tag_check::check_tags;
+use test_rows::{RowSaid, said_by, say_action, say_tag};
 use witness_order::order_of;
 
 /// `invoke CLIENT KEY read`, or `write TEXT` in place of `read`.
@@ -49,16 +50,6 @@ fn say_row_taken(out: &mut String, taken: Result<(), RowRefusal>) -> Result<(), 
     }
 }
 
-fn say_action(out: &mut String, action: &Action) -> Result<(), AllocError> {
-    match action {
-        Action::Read => out.push_str("read"),
-        Action::Write(value) => {
-            let text = value.as_str();
-            write!(out, "write {text}")
-        }
-    }
-}
-
 fn say_returned(out: &mut String, returned: &Returned) -> Result<(), AllocError> {
     match returned {
         Returned::Written => out.push_str("written"),
@@ -71,24 +62,18 @@ fn say_returned(out: &mut String, returned: &Returned) -> Result<(), AllocError>
 }
 
 fn say_row(out: &mut String, row: &Row) -> Result<(), AllocError> {
-    match row {
-        Row::Invoke {
-            op,
-            client,
-            key,
-            action,
-        } => {
-            let (op, client, key) = (op.0, client.get(), key.as_str());
+    let (op, said) = said_by(row);
+    match said {
+        RowSaid::Invoked(client, key, action) => {
+            let (client, key) = (client.get(), key.as_str());
             write!(out, "call {op}: client {client}, {key}, ")?;
             say_action(out, action)
         }
-        Row::Note { op, tag } => {
-            let op = op.0;
+        RowSaid::Noted(tag) => {
             write!(out, "call {op}: note ")?;
-            say_tag(out, *tag)
+            say_tag(out, tag)
         }
-        Row::Respond { op, returned } => {
-            let op = op.0;
+        RowSaid::Answered(returned) => {
             write!(out, "call {op}: answer ")?;
             say_returned(out, returned)
         }

@@ -4,6 +4,7 @@ use crate::words::{first_word, meant, number, two_numbers};
 use std::alloc::{AllocError, Global};
 use std::cmp::Ordering;
 use tag::{Action, ClientId, Key, Memory, OpId, ReplicaId, Returned, Tag, Value};
+use test_rows::say_tag;
 
 /// Says how one thing stands to another in an order.
 fn said_order(order: Ordering) -> &'static str {
@@ -66,12 +67,6 @@ fn say_value(alloc: Global, out: &mut String, words: &str) -> Result<(), Memory>
 fn next(words: &str) -> Option<Tag> {
     let client = ClientId::new(number(words)?).ok()?;
     Some(Tag::least().next(client))
-}
-
-/// Says the tag.
-pub fn say_tag(out: &mut String, tag: Tag) -> Result<(), AllocError> {
-    let (number, writer) = (tag.number(), tag.writer());
-    write!(out, "({number}, {writer})")
 }
 
 /// Says the tag that comes next. Whether there is one.

@@ -2,21 +2,25 @@
 //!
 //! A file begins with a head of comment lines. Before each row stands an empty line and then
 //! `### ` and the row's name, so that a program goes over `text.split("\n### ").skip(1)` and what
-//! is expected ends with the end of its last line. `say_files` does that for a program that says
+//! is expected ends with the end of its last line. `run_rows` does that for a program that says
 //! what it makes of an input; devices over memory and pieces of answers are what several programs
 //! need for that.
 #![tactic(auto)]
 
 mod devices;
+mod outputs;
 mod program;
+mod recorded;
 mod row;
 mod said;
 mod spans;
 mod texts;
 
 pub use devices::{AMPLE, Bounded, Pieces};
-pub use program::say_files;
+pub use outputs::{Outputs, Said};
+pub use program::{run_rows, say_files};
+pub use recorded::{RowSaid, said_by, say_action, say_tag};
 pub use row::Row;
 pub use said::report;
 pub use spans::Spans;
-pub use texts::{push_bytes, text_said};
+pub use texts::{push_bytes, push_outputs, text_said};

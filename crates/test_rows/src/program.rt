@@ -1,6 +1,7 @@
 //! What a program of rows does.
 use crate::{Row, report};
 use std::alloc::{AllocError, Global};
+use std::process::ExitCode;
 use std::rt::{Env, Files};
 use std::{env, fs, io};
 
@@ -38,8 +39,7 @@ where
     Ok(good)
 }
 
-/// Goes over the files that the program's words name, and says what came of each row: what `found`
-/// makes of its input. Whether all rows are as expected.
+/// Says what came of the rows of each file that the program's words name. Whether all are as expected.
 pub fn say_files<R, F>(rt: &R, found: &F) -> io::Result<bool>
 where
     R: Env + Files + Print + Alloc<A = Global>,
@@ -56,4 +56,18 @@ where
         }
     }
     Ok(good)
+}
+
+/// Goes over the files that the program's words name, and says what came of each row: what `found`
+/// makes of its input. It ends well where each row is as expected.
+pub fn run_rows<R, F>(rt: &R, found: &F) -> ExitCode
+where
+    R: Env + Files + Print + Alloc<A = Global>,
+    F: Fn(&str) -> Result<String, AllocError>,
+    requires { F.IsAlwaysCallable found.now }
+{
+    match say_files(rt, found) {
+        Ok(true) => ExitCode::SUCCESS,
+        _ => ExitCode::FAILURE,
+    }
 }

@@ -18,6 +18,15 @@ pub fn push_bytes(text: &mut String, bytes: &[u8]) -> Result<(), AllocError>
     text.push_str("<end>\n")
 }
 
+/// Adds what went to a command's standard output and, after a line that says so, to standard error.
+pub fn push_outputs(text: &mut String, out: &[u8], errors: &[u8]) -> Result<(), AllocError> {
+    push_bytes(text, out)?;
+    if !errors.is_empty() {
+        text.push_str("standard error:\n")?;
+    }
+    push_bytes(text, errors)
+}
+
 /// Whether the text of that name says the word, as a line.
 pub fn text_said(alloc: Global, name: &str, text: &str, word: &str) -> Result<String, AllocError>
     ensures says { IfOk result (λ said. HasSubslice text.now word.now

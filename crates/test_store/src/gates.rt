@@ -20,7 +20,7 @@ impl Gate for LosesReplies {
     }
 }
 
-/// Has every parcel go its way twice.
+/// Doubles every parcel.
 #[derive(Clone, Copy, Drop)]
 pub struct Twins;
 
@@ -30,7 +30,7 @@ impl Gate for Twins {
     }
 }
 
-/// Numbers the parcels from 1; every fifth is lost, and of the others every seventh goes its way twice.
+/// Numbers the parcels from 1; every fifth is lost, and of the others every seventh is doubled.
 #[derive(Drop)]
 pub struct FifthAndSeventh {
     pub parcels: AtomicU64,

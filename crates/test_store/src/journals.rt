@@ -1,7 +1,7 @@
 //! What calls of one client leave: the journal of their key's hall, and the places that their gate was asked at.
 ghost use Rattle.std.specs.Prelude.{◌≡◌, IfSome};
 
-use crate::scene::{config_of, seat_of};
+use crate::scene::{Stage, config_of};
 use client_phases::ReadMode;
 use node_threads::{Closed, Gate, Pass, Place, Store, StoreConfig};
 use std::alloc::{AllocError, Global};
@@ -49,12 +49,12 @@ pub struct OnlyCalls {
     pub halls: u8,
     pub reads: ReadMode,
     pub is_write: bool,
-    /// The parcel that doesn't just go its way, counted from 1; none for 0.
+    /// The parcel that isn't just let through, counted from 1; none for 0.
     pub number: u64,
     pub answer: Pass,
 }
 
-/// A write in a store of one replica and one hall, all of whose parcels go their way.
+/// A write in a store of one replica and one hall, all of whose parcels are let through.
 pub const QUIET: OnlyCalls = OnlyCalls {
     calls: 1,
     replicas: 1,
@@ -117,87 +117,99 @@ fn action_of(alloc: Global, call: OnlyCalls) -> Option<Action> {
     }
 }
 
-/// Makes the calls, and closes the store.
-fn closed_after<R>(rt: &R, alloc: Global, call: OnlyCalls, places: &Places) -> Option<Closed>
+impl<R> Stage<'_, R>
 where
     R: Threads + Wait + Copy + Send + Sync + 'static,
 {
-    let gate = WritesDown {
-        rt: *rt,
-        places: Arc::try_clone(places).ok()?,
-        number: call.number,
-        answer: call.answer,
-        parcels: AtomicU64::new(0),
-    };
-    let store = Store::start(rt, alloc, fixed(call)?, gate).ok()?;
-    let mut seat = seat_of(rt, alloc, &store, 1)?;
-    for _ in 0..call.calls {
-        let key = Key::new(alloc, "k0").ok()?;
-        let action = action_of(alloc, call)?;
-        store.call(rt, alloc, &mut seat, key, action).ok()?;
-    }
-    let mut seats = Vec::new(alloc);
-    seats.push(seat).ok()?;
-    store.close(rt, alloc, seats).ok()
-}
-
-/// What the calls left.
-pub fn left_by<R>(rt: &R, alloc: Global, call: OnlyCalls) -> Option<Left>
-where
-    R: Threads + Wait + Copy + Send + Sync + 'static,
-{
-    let places = Arc::new(alloc, Mutex::new(Vec::new(alloc))).ok()?;
-    let closed = closed_after(rt, alloc, call, &places)?;
-    let hall = closed.halls.last()?;
-    let journal = journal_text(alloc, hall.journal.as_slice()).ok()?;
-    let asked = places.lock(rt);
-    let places = places_text(alloc, asked.as_slice()).ok()?;
-    let parcels = parcels_text(alloc, asked.as_slice()).ok()?;
-    let counts = counts_text(alloc, hall.journal.as_slice()).ok()?;
-    Some(Left {
-        journal,
-        places,
-        parcels,
-        counts,
-    })
-}
-
-/// The steps, as scripts write them.
-fn journal_text(alloc: Global, journal: &[Step]) -> Result<String, AllocError> {
-    let mut text = String::new(alloc);
-    for step in journal {
-        if !text.is_empty() {
-            write!(text, ", ")?;
+    /// Makes the calls, and closes the store.
+    fn closed_after(&self, call: OnlyCalls, places: &Places) -> Option<Closed> {
+        let alloc = self.alloc;
+        let gate = WritesDown {
+            rt: *self.rt,
+            places: Arc::try_clone(places).ok()?,
+            number: call.number,
+            answer: call.answer,
+            parcels: AtomicU64::new(0),
+        };
+        let store = Store::start(self.rt, alloc, fixed(call)?, gate).ok()?;
+        let scene = self.on(&store);
+        let mut seat = scene.seat(1)?;
+        for _ in 0..call.calls {
+            let key = Key::new(alloc, "k0").ok()?;
+            let action = action_of(alloc, call)?;
+            scene.call(&mut seat, key, action).ok()?;
         }
-        write_step(&mut text, step)?;
+        self.closed_with(store, seat)
+    }
+
+    /// What the calls left.
+    pub fn left_by(&self, call: OnlyCalls) -> Option<Left> {
+        let alloc = self.alloc;
+        let places = Arc::new(alloc, Mutex::new(Vec::new(alloc))).ok()?;
+        let closed = self.closed_after(call, &places)?;
+        let hall = closed.halls.last()?;
+        let journal = list_of(alloc, hall.journal.as_slice()).ok()?;
+        let asked = places.lock(self.rt);
+        let places = list_of(alloc, asked.as_slice()).ok()?;
+        let parcels = parcels_text(alloc, asked.as_slice()).ok()?;
+        let counts = counts_text(alloc, hall.journal.as_slice()).ok()?;
+        Some(Left {
+            journal,
+            places,
+            parcels,
+            counts,
+        })
+    }
+}
+
+/// What is written in a list, with commas between.
+trait Written {
+    fn write(&self, text: &mut String) -> Result<(), AllocError>;
+}
+
+/// The list of these.
+fn list_of<W: Written>(alloc: Global, items: &[W]) -> Result<String, AllocError> {
+    let mut text = String::new(alloc);
+    for item in items {
+        if !text.is_empty() {
+            text.push_str(", ")?;
+        }
+        item.write(&mut text)?;
     }
     Ok(text)
 }
 
-/// Writes a step as scripts do.
-fn write_step(text: &mut String, step: &Step) -> Result<(), AllocError> {
-    match step {
-        Step::Join { client } => write!(text, "join {}", client.get()),
-        Step::Invoke {
-            client,
-            key,
-            action: Action::Read,
-        } => write!(text, "invoke {} read {}", client.get(), key.as_str()),
-        Step::Invoke {
-            client,
-            key,
-            action: Action::Write(value),
-        } => {
-            let (key, value) = (key.as_str(), value.as_str());
-            write!(text, "invoke {} write {key} {value}", client.get())
+/// A step, as scripts write it.
+impl Written for Step {
+    fn write(&self, text: &mut String) -> Result<(), AllocError> {
+        match self {
+            Step::Join { client } => write!(text, "join {}", client.get()),
+            Step::Invoke {
+                client,
+                key,
+                action: Action::Read,
+            } => write!(text, "invoke {} read {}", client.get(), key.as_str()),
+            Step::Invoke {
+                client,
+                key,
+                action: Action::Write(value),
+            } => {
+                let (key, value) = (key.as_str(), value.as_str());
+                write!(text, "invoke {} write {key} {value}", client.get())
+            }
+            Step::Send { client, replica } => write!(
+                text,
+                "send {} {}",
+                client.get(),
+                replica.get()
+            ),
+            Step::Respond { client } => write!(text, "respond {}", client.get()),
+            other => write_other(text, other),
         }
-        Step::Send { client, replica } => write!(text, "send {} {}", client.get(), replica.get()),
-        Step::Respond { client } => write!(text, "respond {}", client.get()),
-        other => write_other(text, other),
     }
 }
 
-/// Writes a step of a flight, or a stop or a start.
+/// Writes a step on a message, or a stop or a start.
 fn write_other(text: &mut String, step: &Step) -> Result<(), AllocError> {
     match step {
         Step::Deliver { flight } => write!(text, "deliver {flight}"),
@@ -210,32 +222,22 @@ fn write_other(text: &mut String, step: &Step) -> Result<(), AllocError> {
     }
 }
 
-/// The places, by what each names.
-fn places_text(alloc: Global, places: &[Place]) -> Result<String, AllocError> {
-    let mut text = String::new(alloc);
-    for place in places {
-        if !text.is_empty() {
-            write!(text, ", ")?;
+/// What a place names: a hall, a call and a replica.
+impl Written for Place {
+    fn write(&self, text: &mut String) -> Result<(), AllocError> {
+        match self {
+            Place::Request {
+                hall,
+                call,
+                replica,
+            } => write!(text, "request {hall} {} {}", call.0, replica.get()),
+            Place::Reply {
+                hall,
+                call,
+                replica,
+            } => write!(text, "reply {hall} {} {}", call.0, replica.get()),
+            Place::Respond { hall, call } => write!(text, "respond {hall} {}", call.0),
         }
-        write_place(&mut text, place)?;
-    }
-    Ok(text)
-}
-
-/// Writes what a place names: a hall, a call and a replica.
-fn write_place(text: &mut String, place: &Place) -> Result<(), AllocError> {
-    match place {
-        Place::Request {
-            hall,
-            call,
-            replica,
-        } => write!(text, "request {hall} {} {}", call.0, replica.get()),
-        Place::Reply {
-            hall,
-            call,
-            replica,
-        } => write!(text, "reply {hall} {} {}", call.0, replica.get()),
-        Place::Respond { hall, call } => write!(text, "respond {hall} {}", call.0),
     }
 }
 

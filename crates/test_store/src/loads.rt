@@ -2,7 +2,7 @@
 ghost use Rattle.std.specs.Prelude.{◌≡◌, IfSome};
 
 use crate::gates::{FifthAndSeventh, Twins};
-use crate::scene::{are_atomic, both, config_of, seat_of, word};
+use crate::scene::{Scene, Stage, are_atomic, both, config_of, word};
 use client_phases::ReadMode;
 use node_threads::{Closed, Gate, Seat, Store, StoreConfig};
 use quorum::Quorums;
@@ -27,22 +27,16 @@ pub const PLAIN: Fixed = Fixed {
     has_votes: false,
 };
 
-pub const FOUR_HALLS: Fixed = Fixed {
-    halls: 4,
-    reads: ReadMode::Full,
-    has_votes: false,
-};
+pub const FOUR_HALLS: Fixed = Fixed { halls: 4, ..PLAIN };
 
 pub const SHORT: Fixed = Fixed {
-    halls: 1,
     reads: ReadMode::Short,
-    has_votes: false,
+    ..PLAIN
 };
 
 pub const VOTES: Fixed = Fixed {
-    halls: 1,
-    reads: ReadMode::Full,
     has_votes: true,
+    ..PLAIN
 };
 
 /// How many calls each caller makes.
@@ -76,97 +70,103 @@ fn text_of(alloc: Global, caller: u32, turn: u32) -> Option<String> {
     format!(in alloc; "c{caller}t{turn}").ok()
 }
 
-/// Makes the call of that turn. Whether it was answered, and a read by caller 1 gave what he wrote last.
-fn is_made<R: Wait, G: Gate>(
-    rt: &R,
-    alloc: Global,
-    store: &Store<G>,
-    seat: &mut Seat,
-    caller: u32,
-    turn: u32,
-) -> Option<bool> {
-    let name = if caller == 1 || turn % 2 == 0 {
-        "k0"
-    } else {
-        "k1"
-    };
-    let key = Key::new(alloc, name).ok()?;
-    let action = if is_write(caller, turn) {
-        Action::Write(Value::new(alloc, text_of(alloc, caller, turn)?.as_str()).ok()?)
-    } else {
-        Action::Read
-    };
-    let answer = store.call(rt, alloc, seat, key, action).ok()?;
-    if caller != 1 || turn % 2 == 0 {
-        return Some(true);
-    }
-    let wanted = text_of(alloc, caller, u32::saturating_sub(turn, 1))?;
-    match answer.value {
-        Some(value) => Some(value.as_str() == wanted.as_str()),
-        None => Some(false),
-    }
-}
-
-/// Makes a caller's calls. Whether all came out well.
-fn calls<R: Wait, G: Gate>(
-    rt: &R,
-    alloc: Global,
-    store: &Store<G>,
-    seat: &mut Seat,
-    caller: u32,
-) -> bool {
-    for turn in 0..TURNS {
-        if is_made(rt, alloc, store, seat, caller, turn) != Some(true) {
-            return false;
+impl<R: Wait, G: Gate> Scene<'_, R, G> {
+    /// Makes the call of that turn. Whether it was answered, and a read by caller 1 gave what it wrote last.
+    fn is_made(&self, seat: &mut Seat, caller: u32, turn: u32) -> Option<bool> {
+        let alloc = self.alloc;
+        let name = if caller == 1 || turn % 2 == 0 {
+            "k0"
+        } else {
+            "k1"
+        };
+        let key = Key::new(alloc, name).ok()?;
+        let action = if is_write(caller, turn) {
+            Action::Write(Value::new(alloc, text_of(alloc, caller, turn)?.as_str()).ok()?)
+        } else {
+            Action::Read
+        };
+        let answer = self.call(seat, key, action).ok()?;
+        if caller != 1 || turn % 2 == 0 {
+            return Some(true);
+        }
+        let wanted = text_of(alloc, caller, u32::saturating_sub(turn, 1))?;
+        match answer.value {
+            Some(value) => Some(value.as_str() == wanted.as_str()),
+            None => Some(false),
         }
     }
-    true
+
+    /// Makes a caller's calls. Whether all came out well.
+    fn calls(&self, seat: &mut Seat, caller: u32) -> bool {
+        for turn in 0..TURNS {
+            if self.is_made(seat, caller, turn) != Some(true) {
+                return false;
+            }
+        }
+        true
+    }
+
+    /// Whether each hall's record, as the seat is shown it, has as many calls of the seat's client as the seat has
+    /// there.
+    fn is_shown(&self, seat: &Seat, halls: u8) -> bool {
+        let mut shown = 0;
+        for hall in 0..halls {
+            let Some(Ok(history)) = self.store.snapshot(self.rt, self.alloc, seat, hall) else {
+                return false;
+            };
+            for row in history.rows() {
+                if let Row::Invoke { client, .. } = row
+                    && *client == seat.client()
+                {
+                    shown = usize::saturating_add(shown, 1);
+                }
+            }
+        }
+        shown == seat.log().len() && shown == 50
+    }
+
+    /// Whether each seat is shown its calls.
+    fn are_shown(&self, seats: &[Seat], halls: u8) -> bool {
+        for seat in seats {
+            if !self.is_shown(seat, halls) {
+                return false;
+            }
+        }
+        true
+    }
 }
 
-/// Two callers at once.
-fn pair<R, G>(
-    rt: &R,
-    alloc: Global,
-    store: &Store<G>,
-    one: &mut Seat,
-    other: &mut Seat,
-    first: u32,
-) -> bool
+impl<R, G> Scene<'_, R, G>
 where
     R: Threads + Wait + Copy + Send + Sync + 'static,
     G: Gate + Send + Sync + Drop + 'static,
 {
-    let second = u32::wrapping_add(first, 1);
-    let (good, well) = thread::join(
-        rt,
-        move || calls(rt, alloc, store, one, first),
-        move || calls(rt, alloc, store, other, second),
-    );
-    good && well
-}
-
-/// Whether each hall's record, as the seat is shown it, has as many calls of the seat's client as the seat has there.
-fn is_shown<R: Wait, G: Gate>(
-    rt: &R,
-    alloc: Global,
-    store: &Store<G>,
-    seat: &Seat,
-    halls: u8,
-) -> bool {
-    let mut shown = 0;
-    for hall in 0..halls {
-        let Some(Ok(history)) = store.snapshot(rt, alloc, seat, hall) else {
-            return false;
-        };
-        for row in history.rows() {
-            if let Row::Invoke { client, .. } = row
-                && *client == seat.client()
-            {
-                shown = usize::saturating_add(shown, 1);
-            }
-        }
+    /// Two callers at once.
+    fn pair(&self, one: &mut Seat, other: &mut Seat, first: u32) -> bool {
+        let second = u32::wrapping_add(first, 1);
+        let (good, well) = thread::join(
+            self.rt,
+            move || self.calls(one, first),
+            move || self.calls(other, second),
+        );
+        good && well
     }
-    shown == seat.log().len() && shown == 50
+
+    /// Four callers at once. Whether all came out well.
+    fn all_call(
+        &self,
+        first: &mut Seat,
+        second: &mut Seat,
+        third: &mut Seat,
+        fourth: &mut Seat,
+    ) -> bool {
+        let (good, well) = thread::join(
+            self.rt,
+            move || self.pair(first, second, 1),
+            move || self.pair(third, fourth, 3),
+        );
+        good && well
+    }
 }
 
 /// Whether the halls have the configuration that was given.
@@ -186,55 +186,6 @@ fn has_config(closed: &Closed, config: &StoreConfig) -> bool {
     closed.halls.len() == usize::from(config.halls.count())
 }
 
-/// Whether four callers' calls come out well, each is shown its calls, and the store closes.
-fn load<R, G>(rt: &R, alloc: Global, fixed: &Fixed, gate: G) -> Option<bool>
-where
-    R: Threads + Wait + Copy + Send + Sync + 'static,
-    G: Gate + Send + Sync + Drop + 'static,
-{
-    let config = store_config(fixed)?;
-    let store = Store::start(rt, alloc, config, gate).ok()?;
-    let mut first = seat_of(rt, alloc, &store, 1)?;
-    let mut second = seat_of(rt, alloc, &store, 2)?;
-    let mut third = seat_of(rt, alloc, &store, 3)?;
-    let mut fourth = seat_of(rt, alloc, &store, 4)?;
-    let good = all_call(
-        rt,
-        alloc,
-        &store,
-        &mut first,
-        &mut second,
-        &mut third,
-        &mut fourth,
-    );
-    let seats = four(alloc, first, second, third, fourth)?;
-    let shown = are_shown(rt, alloc, &store, seats.as_slice(), fixed.halls);
-    let closed = store.close(rt, alloc, seats).ok()?;
-    Some(good && shown && has_config(&closed, &config) && are_atomic(alloc, &closed))
-}
-
-/// Four callers at once. Whether all came out well.
-fn all_call<R, G>(
-    rt: &R,
-    alloc: Global,
-    store: &Store<G>,
-    first: &mut Seat,
-    second: &mut Seat,
-    third: &mut Seat,
-    fourth: &mut Seat,
-) -> bool
-where
-    R: Threads + Wait + Copy + Send + Sync + 'static,
-    G: Gate + Send + Sync + Drop + 'static,
-{
-    let (good, well) = thread::join(
-        rt,
-        move || pair(rt, alloc, store, first, second, 1),
-        move || pair(rt, alloc, store, third, fourth, 3),
-    );
-    good && well
-}
-
 /// The four seats.
 fn four(alloc: Global, first: Seat, second: Seat, third: Seat, fourth: Seat) -> Option<Vec<Seat>> {
     let mut seats = both(alloc, first, second)?;
@@ -243,37 +194,38 @@ fn four(alloc: Global, first: Seat, second: Seat, third: Seat, fourth: Seat) -> 
     Some(seats)
 }
 
-/// Whether each seat is shown its calls.
-fn are_shown<R: Wait, G: Gate>(
-    rt: &R,
-    alloc: Global,
-    store: &Store<G>,
-    seats: &[Seat],
-    halls: u8,
-) -> bool {
-    for seat in seats {
-        if !is_shown(rt, alloc, store, seat, halls) {
-            return false;
-        }
+impl<R> Stage<'_, R>
+where
+    R: Threads + Wait + Copy + Send + Sync + 'static,
+{
+    /// Whether four callers' calls come out well, each is shown its calls, and the store closes.
+    fn load<G>(&self, fixed: &Fixed, gate: G) -> Option<bool>
+    where
+        G: Gate + Send + Sync + Drop + 'static,
+    {
+        let (rt, alloc) = (self.rt, self.alloc);
+        let config = store_config(fixed)?;
+        let store = Store::start(rt, alloc, config, gate).ok()?;
+        let scene = self.on(&store);
+        let (mut first, mut second) = (scene.seat(1)?, scene.seat(2)?);
+        let (mut third, mut fourth) = (scene.seat(3)?, scene.seat(4)?);
+        let good = scene.all_call(&mut first, &mut second, &mut third, &mut fourth);
+        let seats = four(alloc, first, second, third, fourth)?;
+        let shown = scene.are_shown(seats.as_slice(), fixed.halls);
+        let closed = store.close(rt, alloc, seats).ok()?;
+        Some(good && shown && has_config(&closed, &config) && are_atomic(alloc, &closed))
     }
-    true
-}
 
-/// Every fifth parcel is lost, and of the others every seventh goes twice.
-pub fn four_callers<R>(rt: &R, alloc: Global, fixed: &Fixed) -> Option<&'static str>
-where
-    R: Threads + Wait + Copy + Send + Sync + 'static,
-{
-    let gate = FifthAndSeventh {
-        parcels: AtomicU64::new(0),
-    };
-    Some(word(load(rt, alloc, fixed, gate)?))
-}
+    /// Every fifth parcel is lost, and of the others every seventh is doubled.
+    pub fn load_of(&self, fixed: &Fixed) -> Option<&'static str> {
+        let gate = FifthAndSeventh {
+            parcels: AtomicU64::new(0),
+        };
+        Some(word(self.load(fixed, gate)?))
+    }
 
-/// Every parcel goes twice.
-pub fn four_callers_twice<R>(rt: &R, alloc: Global, fixed: &Fixed) -> Option<&'static str>
-where
-    R: Threads + Wait + Copy + Send + Sync + 'static,
-{
-    Some(word(load(rt, alloc, fixed, Twins)?))
+    /// Every parcel is doubled.
+    pub fn doubled_load(&self) -> Option<&'static str> {
+        Some(word(self.load(&PLAIN, Twins)?))
+    }
 }

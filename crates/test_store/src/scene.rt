@@ -37,60 +37,94 @@ pub const AMPLE: Limits = Limits {
     rounds: 1000,
 };
 
-/// A store of three replicas and one hall.
-pub fn store_of<R, G>(
-    rt: &R,
-    alloc: Global,
-    number: u64,
-    limits: Limits,
-    gate: G,
-) -> Option<Store<G>>
+/// What rows run on: threads, and memory.
+#[derive(Drop)]
+pub struct Stage<'a, R> {
+    pub rt: &'a R,
+    pub alloc: Global,
+}
+
+impl<R: Wait> Stage<'_, R> {
+    /// What calls on the store need.
+    pub fn on<'a, G>(&'a self, store: &'a Store<G>) -> Scene<'a, R, G> {
+        Scene {
+            rt: self.rt,
+            alloc: self.alloc,
+            store,
+        }
+    }
+
+    /// What the store leaves, closed with its only seat.
+    pub fn closed_with<G: Gate + Drop>(&self, store: Store<G>, seat: Seat) -> Option<Closed> {
+        let mut seats = Vec::new(self.alloc);
+        seats.push(seat).ok()?;
+        store.close(self.rt, self.alloc, seats).ok()
+    }
+
+    /// Whether the store closes with both seats, and leaves for each key an order of its calls.
+    pub fn closes_both<G: Gate + Drop>(&self, store: Store<G>, one: Seat, other: Seat) -> bool {
+        let Some(seats) = both(self.alloc, one, other) else {
+            return false;
+        };
+        match store.close(self.rt, self.alloc, seats) {
+            Ok(closed) => are_atomic(self.alloc, &closed),
+            Err(_) => false,
+        }
+    }
+}
+
+impl<R> Stage<'_, R>
 where
     R: Threads + Wait + Copy + Send + 'static,
-    G: Gate + Send + Sync + Drop + 'static,
-    requires { (1 ≤ limits.rounds) × (limits.rounds ≤ 10000) }
 {
-    let config = StoreConfig {
-        store: number,
-        world: Config::new(3, limits.calls, limits.flights)?,
-        rounds: limits.rounds,
-        halls: Halls::new(1)?,
-    };
-    Store::start(rt, alloc, config, gate).ok()
+    /// A store of three replicas and one hall.
+    pub fn store<G>(&self, number: u64, limits: Limits, gate: G) -> Option<Store<G>>
+    where
+        G: Gate + Send + Sync + Drop + 'static,
+        requires { (1 ≤ limits.rounds) × (limits.rounds ≤ 10000) }
+    {
+        let config = StoreConfig {
+            store: number,
+            world: Config::new(3, limits.calls, limits.flights)?,
+            rounds: limits.rounds,
+            halls: Halls::new(1)?,
+        };
+        Store::start(self.rt, self.alloc, config, gate).ok()
+    }
 }
 
-/// A seat of that client.
-pub fn seat_of<R: Wait, G: Gate>(
-    rt: &R,
-    alloc: Global,
-    store: &Store<G>,
-    client: u32,
-) -> Option<Seat> {
-    let name = ClientId::new(client).ok()?;
-    store.join(rt, alloc, name).ok()
+/// A store, and what calls on it need.
+#[derive(Drop)]
+pub struct Scene<'a, R, G> {
+    pub rt: &'a R,
+    pub alloc: Global,
+    pub store: &'a Store<G>,
 }
 
-/// Writes `a` to `x`.
-pub fn write<R: Wait, G: Gate>(
-    rt: &R,
-    alloc: Global,
-    store: &Store<G>,
-    seat: &mut Seat,
-) -> Result<Answer, CallError> {
-    let key = Key::new(alloc, "x").map_err(|_| CallError::Memory)?;
-    let value = Value::new(alloc, "a").map_err(|_| CallError::Memory)?;
-    store.call(rt, alloc, seat, key, Action::Write(value))
-}
+impl<R: Wait, G: Gate> Scene<'_, R, G> {
+    /// A seat of that client.
+    pub fn seat(&self, client: u32) -> Option<Seat> {
+        let name = ClientId::new(client).ok()?;
+        self.store.join(self.rt, self.alloc, name).ok()
+    }
 
-/// Reads `x`.
-pub fn read<R: Wait, G: Gate>(
-    rt: &R,
-    alloc: Global,
-    store: &Store<G>,
-    seat: &mut Seat,
-) -> Result<Answer, CallError> {
-    let key = Key::new(alloc, "x").map_err(|_| CallError::Memory)?;
-    store.call(rt, alloc, seat, key, Action::Read)
+    /// Writes `a` to `x`.
+    pub fn write(&self, seat: &mut Seat) -> Result<Answer, CallError> {
+        let key = Key::new(self.alloc, "x").map_err(|_| CallError::Memory)?;
+        let value = Value::new(self.alloc, "a").map_err(|_| CallError::Memory)?;
+        self.call(seat, key, Action::Write(value))
+    }
+
+    /// Reads `x`.
+    pub fn read(&self, seat: &mut Seat) -> Result<Answer, CallError> {
+        let key = Key::new(self.alloc, "x").map_err(|_| CallError::Memory)?;
+        self.call(seat, key, Action::Read)
+    }
+
+    /// Makes a call.
+    pub fn call(&self, seat: &mut Seat, key: Key, action: Action) -> Result<Answer, CallError> {
+        self.store.call(self.rt, self.alloc, seat, key, action)
+    }
 }
 
 /// Whether the call ended in that error.
@@ -118,33 +152,6 @@ pub fn both(alloc: Global, one: Seat, other: Seat) -> Option<Vec<Seat>> {
     seats.push(one).ok()?;
     seats.push(other).ok()?;
     Some(seats)
-}
-
-/// Whether the store closes with these seats, and leaves for each key an order of its calls.
-pub fn closes<R: Wait, G: Gate + Drop>(
-    rt: &R,
-    alloc: Global,
-    store: Store<G>,
-    seats: Vec<Seat>,
-) -> bool {
-    match store.close(rt, alloc, seats) {
-        Ok(closed) => are_atomic(alloc, &closed),
-        Err(_) => false,
-    }
-}
-
-/// Whether the store closes with both seats, and leaves for each key an order of its calls.
-pub fn closes_both<R: Wait, G: Gate + Drop>(
-    rt: &R,
-    alloc: Global,
-    store: Store<G>,
-    one: Seat,
-    other: Seat,
-) -> bool {
-    match both(alloc, one, other) {
-        Some(seats) => closes(rt, alloc, store, seats),
-        None => false,
-    }
 }
 
 /// Whether each key of each hall has an order that is one of its calls.

@@ -26,7 +26,7 @@ impl Signal {
         self.set.load(Ordering::SeqCst) == 1
     }
 
-    /// Waits until it has happened, at most 1,000,000 turns. Whether it has.
+    /// Waits until it has happened, looking at most 1,000,000 times. Whether it has.
     pub fn wait<R: Clock>(&self, rt: &R) -> bool {
         for _ in 0..1_000_000 {
             if self.is_given() {

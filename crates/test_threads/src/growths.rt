@@ -48,7 +48,7 @@ fn two_calls(alloc: Global) -> Result<Option<History>, Memory> {
     Ok(Some(history))
 }
 
-/// Both calls in turn, for `x`.
+/// Both calls, one after the other, for `x`.
 fn one_order(alloc: Global) -> Result<Vec<KeyOrder>, Memory> {
     let mut order = Order::empty(alloc);
     order.push(OpId(0))?;

@@ -1,5 +1,5 @@
 //! Tests of keys that are checked on several threads: that two workers run at once, which indexes each
-//! takes, worked histories with every number of workers, and what a refused allocation leaves and is told as.
+//! takes, worked histories with every number of workers, and what a refused allocation leaves and is reported as.
 //! There is nothing else here.
 #![tactic(auto)]
 

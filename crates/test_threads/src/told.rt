@@ -1,4 +1,4 @@
-//! As what a refused allocation is told.
+//! How a refused allocation is reported.
 use parallel_keys::{CheckError, CheckGate, KeyVerdict, Workers, check_all};
 use recorder::Part;
 use std::alloc::Global;
@@ -30,7 +30,7 @@ fn is_right(answered: &Result<Vec<KeyVerdict>, CheckError>, workers: u8, has_com
     }
 }
 
-/// Whether so many workers tell a refused allocation as want of memory, and only a thread that couldn't be
+/// Whether so many workers report a refused allocation as want of memory, and only a thread that couldn't be
 /// started as that.
 fn is_told<R: Threads + Wait>(rt: &R, alloc: Global, workers: u8) -> bool {
     let Some(count) = Workers::new(workers) else {

@@ -22,7 +22,7 @@ pub(crate) struct SlowFlight {
     copies: u32,
 }
 
-/// The rules and limits, the clients that joined, the replicas, all flights by number, and the record.
+/// The rules and limits, the clients that joined, the replicas, all messages by number, and the record.
 #[derive(Drop)]
 pub(crate) struct SlowWorld {
     alloc: Global,

@@ -11,7 +11,7 @@ use tag::{Action, ClientId, Key, OpId, ReplicaId, Tag};
 use world_steps::{Effect, Step};
 
 impl SlowWorld {
-    /// Takes a step that nothing refuses, and tells what it did.
+    /// Takes a step that nothing refuses, and says what it did.
     pub(super) fn moved(&mut self, step: &Step) -> Result<Effect, Fail> {
         match step {
             Step::Join { client } => self.join(*client),

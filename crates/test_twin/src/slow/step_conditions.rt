@@ -73,7 +73,7 @@ impl SlowWorld {
         ])
     }
 
-    /// A spent flight has no message.
+    /// A message without a copy is gone.
     fn deliver_refusal(&self, number: u32) -> Option<Refusal> {
         let Some(flight) = self.flights.get(number as usize) else {
             return Some(Refusal::NotInFlight);

@@ -1,0 +1,47 @@
+//! Rows of histories, by what they say of their calls.
+ghost use Rattle.test_rows.specs.Recorded.{SaysOf};
+
+use recorder::Row;
+use std::alloc::AllocError;
+use tag::{Action, ClientId, Key, Returned, Tag};
+
+/// What a row says of its call: who begins it, on which key, and what it does; or its tag; or its answer.
+#[derive(Clone, Copy)]
+pub enum RowSaid<'a> {
+    Invoked(ClientId, &'a Key, &'a Action),
+    Noted(Tag),
+    Answered(&'a Returned),
+}
+
+/// The number of the row's call, and what it says of it.
+pub fn said_by(row: &Row) -> (u32, RowSaid<'_>)
+    ensures { SaysOf row.now result.0 result.1 }
+{
+    match row {
+        Row::Note { op, tag } => (op.0, RowSaid::Noted(*tag)),
+        Row::Respond { op, returned } => (op.0, RowSaid::Answered(returned)),
+        Row::Invoke {
+            op,
+            client,
+            key,
+            action,
+        } => (op.0, RowSaid::Invoked(*client, key, action)),
+    }
+}
+
+/// A tag as `(NUMBER, WRITER)`.
+pub fn say_tag(out: &mut String, tag: Tag) -> Result<(), AllocError> {
+    let (number, writer) = (tag.number(), tag.writer());
+    write!(out, "({number}, {writer})")
+}
+
+/// `read`, or `write TEXT`.
+pub fn say_action(out: &mut String, action: &Action) -> Result<(), AllocError> {
+    match action {
+        Action::Read => out.push_str("read"),
+        Action::Write(value) => {
+            let text = value.as_str();
+            write!(out, "write {text}")
+        }
+    }
+}
