@@ -1,7 +1,7 @@
 """altered_lines.py ABD [SHARE]
 
 Lines that are written as `abd` writes them are read without JSON. Here each byte of a line of each kind, in a history of either version
-and in orders, is given each of 256 values, and `abd` is asked twice: of the line, and of the line behind a blank, which JSON allows and
+and in orders, is given each of 256 values, and `abd` is asked twice: of the line, and of the line after a blank, which JSON allows and
 `abd` never writes, so that the JSON reader answers. Both have to answer the same: `check`, and of a history's line `justify` too, since it
 looks at the tags of notes. SHARE, 1 by default, is how many of the alterations are tried, in a hundred.
 """

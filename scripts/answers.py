@@ -19,7 +19,7 @@ COMMON = "use Rattle.std.proofs.Common.{"
 
 
 def offers(log):
-    """Gives crate, file, the import of its goals, and pairs (goal, the words in front of its hole) of each offered file."""
+    """Gives crate, file, the import of its goals, and pairs (goal, the words before its hole) of each offered file."""
     crate, lines = "", open(log, encoding="utf-8").read().split("\n")
     for at, line in enumerate(lines):
         if line.startswith("== "):

@@ -1,26 +1,26 @@
 """refuse_growths.py LIBRARY TOP [all] [NAME ..]
 
-Runs built programs with the library before them that refuses one growth, the first, the second and so on until a run meets none. Of a row
-with more than 600 growths, and of test_twin, the first 300 are refused and 300 more, evenly spread up to the last.
+Runs built programs with the library before them that refuses one allocation, the first, the second and so on until a run meets none. Of a row
+with more than 600 allocations, and of test_twin, the first 300 are refused and 300 more, evenly spread up to the last.
 
-With the word `all` every growth from that one on is refused, for each growth of abd, store_example and test_store (the last at 300 places,
+With the word `all` every allocation from that one on is refused, for each of abd, store_example and test_store (the last at 300 places,
 evenly spread). Each run has to end within 10 seconds, test_store within 120, with a status that docs/FORMATS.md names. What is said of one
-refused growth below holds there too, but for test_store: any row may come out otherwise, and the lines may end.
+refused allocation below holds there too, but for test_store: any row may come out otherwise, and the lines may end.
 
 - abd: a check, a justify and a simulate of an example. With a refusal a run has the very answer of a run without one, or status 4,
-  nothing on standard output and one line on standard error, which names memory and a line of the file, or the number behind
-  its last where all lines were read. The first line that is named is line 1, and a later growth never names an earlier line.
+  nothing on standard output and one line on standard error, which names memory and a line of the file, or the number after
+  its last if all lines were read. The first line that is named is line 1, and a later allocation never names an earlier line.
 - abd run: with a refusal it writes a history that justify and check say yes of, and of its callers no more is said than that a call
   was refused, or that one was unavailable (a replica's thread may have met the refusal); or status 4, nothing on standard output, and
-  behind such lines one that names memory or a thread.
+  after such lines one that names memory or a thread.
 - the row programs: each row alone. What is said of it is what is expected, up to a line that names memory, or that a thread couldn't be
   started for want of it, or a step that the program couldn't make, or to the program's end.
 - store_example: a key that it names has the verdict yes, whatever was refused.
-- test_memory and test_threads: each test of a refused growth. It passes (it calls again after a refused growth, and compares whole
-  worlds, pools, replicas, clients and histories as they were before the call and after it, and verdicts), or it ends early, since a growth
+- test_memory and test_threads: each test of a refused allocation. It passes (it calls again after a refused one, and compares whole
+  worlds, pools, replicas, clients and histories as they were before the call and after it, and verdicts), or it ends early, since an allocation
   of its own was refused.
 - test_twin: its test ends early, and names memory.
-- test_store: 300 growths, evenly spread over a run of all rows, most of which wait for threads. Each run ends, and at most one row, the
+- test_store: 300 allocations, evenly spread over a run of all rows, most of which wait for threads. Each run ends, and at most one row, the
   one that met the refusal, comes out otherwise.
 """
 
@@ -30,11 +30,11 @@ import subprocess
 import sys
 import tempfile
 
-# A row that goes over all small parts takes millions of growths: where there are more than both together, so many first ones are refused,
+# A row that goes over all small parts takes millions of allocations: where there are more than both together, so many first ones are refused,
 # and so many others.
 FIRST = 300
 SPREAD = 300
-# What threads do differs from run to run: so many growths more than were counted may be met.
+# What threads do differs from run to run: so many allocations more than were counted may be met.
 MORE = 1000
 
 
@@ -47,7 +47,7 @@ def beginning(told):
     return pattern
 
 
-# What a row program says where it couldn't go on for want of memory, which a thread's start wants too; of the rows of seeds it says
+# What a row program says where it couldn't go on for want of memory, which the start of a thread needs too; of the rows of seeds it says
 # statuses alone, and where there is little room for what is said, a beginning of it.
 WANT = (
     r"(?im)memory|no thread|NO SUCH |NO RUN|NO CHECK|NO HISTORY|not understood|unavailable|(run|simulate|justify|check) 4\b"
@@ -55,7 +55,7 @@ WANT = (
     f"|{beginning('NAME: line LINE: script fault 8 memory')})$"
 )
 ROWS = ["test_commands", "test_protocol", "test_records", "test_runs"]
-# The tests that are gone over, by what their names have, and whether all growths of each are.
+# The tests that are gone over, by what their names have, and whether all allocations of each are refused.
 TESTS = {"test_memory": ("refused_growth", True), "test_threads": ("refused_growth", True), "test_twin": ("both_worlds", False)}
 
 
@@ -69,7 +69,7 @@ def spread(first, last, count):
 
 
 def chosen(count, all_of_them):
-    """Which growths of so many are refused."""
+    """Which allocations of so many are refused."""
     if all_of_them or count <= FIRST + SPREAD:
         return list(range(1, count + 1))
     return [*range(1, FIRST + 1), *spread(FIRST, count, SPREAD)]
@@ -78,14 +78,14 @@ def chosen(count, all_of_them):
 class Runs:
     """Runs of one program in one folder."""
 
-    # whether all growths from the refused one on are refused, too
+    # whether all allocations from the refused one on are refused, too
     lasting = False
 
     def __init__(self, library, program, folder, seconds=600):
         self.library, self.program, self.folder, self.seconds = library, program, folder, seconds
 
     def run(self, words, at):
-        """What was told of growths, the status, and what came out on the two outputs."""
+        """What was said of allocations, the status, and what came out on the two outputs."""
         with tempfile.TemporaryFile() as told:
             def report():
                 os.dup2(told.fileno(), 9)
@@ -100,14 +100,14 @@ class Runs:
         return said, ran.returncode, ran.stdout.decode(errors="replace"), ran.stderr.decode(errors="replace")
 
     def whole(self, words):
-        """How many growths a run without a refusal has, the status, and what came out."""
+        """How many allocations a run without a refusal has, the status, and what came out."""
         count, *wanted = self.run(words, 0)
         if wanted[0] != 0 or not any(count):
             raise Wrong(f"{' '.join(words)} fails without a refusal, or meets no growth: {wanted}")
         return int.from_bytes(count, "little"), wanted
 
     def go_over(self, words, judge, all_of_them):
-        """Refuses growths in turn. How many were, of how many the answer was the one without a refusal, and how many there are."""
+        """Refuses one allocation after another. How many were, of how many the answer was the one without a refusal, and how many there are."""
         count, wanted = self.whole(words)
         refused = same = 0
         for at in [*chosen(count, all_of_them), *range(count + 1, count + MORE)]:
@@ -162,7 +162,7 @@ LOADS = [
     ["run", "--callers", "1", "--calls", "2", "--keys", "1"],
     ["run", "--callers", "2", "--calls", "3", "--halls", "2", "--drop", "5", "--double", "7"],
 ]
-# While no growth succeeds any more: 1 and 16 callers, 1 and 8 halls, 3 and 15 replicas.
+# While no allocation succeeds any more: 1 and 16 callers, 1 and 8 halls, 3 and 15 replicas.
 LASTING_LOADS = [
     ["run", "--callers", callers, "--calls", "2", "--halls", halls, "--replicas", replicas]
     for callers in ("1", "16")
@@ -276,7 +276,7 @@ def hostile_rows(library, top):
 
 
 def tests(library, top, crate):
-    """The tests of a crate of which it is said what a refused growth leaves."""
+    """The tests of a crate of which it is said what a refused allocation leaves."""
     named, all_of_them = TESTS[crate]
     runs = Runs(library, f"{top}/crates/{crate}/out/{crate}_tests", top)
     listed = subprocess.run([runs.program, "--list"], capture_output=True, text=True).stdout
