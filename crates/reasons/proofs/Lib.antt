@@ -1,0 +1,5 @@
+pub mod Positions
+pub mod NotePlaces
+pub mod ListedCalls
+pub mod Faults
+pub mod Rules

@@ -1,0 +1,7 @@
+use Rattle.std.proofs.Common.{◌≡◌, drop}
+use Rattle.std.specs.List.{position_from}
+use Rattle.reasons.specs.Notes.{is_note_of, note_place}
+use Rattle.reasons.proofs.notes.note_place.Given as goal
+
+abbrev pub invariant-loop-place : goal.invariant-loop-place
+invariant-loop-place l = position_from (is_note_of l.call.op) l.place (drop l.place l.rows) ≡ note_place l.rows l.call

@@ -1,0 +1,4 @@
+pub mod Calls
+pub mod OrderReasons
+pub mod TagReasons
+pub mod Notes

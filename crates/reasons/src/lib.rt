@@ -1,0 +1,17 @@
+//! The calls that show why an order was refused, or why a part's tags aren't sound.
+//!
+//! A verdict names places and numbers; a reason has the calls themselves. It borrows them from the
+//! part and copies nothing. It takes one pass over the order at most, and a binary search for each
+//! call.
+#![tactic(auto)]
+
+mod find;
+pub mod laws;
+mod listed;
+mod notes;
+mod order_reasons;
+mod tag_reasons;
+
+pub use notes::note_place;
+pub use order_reasons::{OrderReason, PlacedCall, order_reason};
+pub use tag_reasons::{TagReason, tag_reason};

@@ -1,0 +1,135 @@
+//! The calls that a list names.
+ghost use Rattle.std.specs.Prelude.{◌≡◌, ◌<◌, ℕ, List, length, IfSome, IfNone};
+ghost use Rattle.recorder.specs.Parts.{IsSequence};
+
+use crate::find::{call_of, find};
+use crate::{OrderReason, PlacedCall};
+use certificate_check::Fault;
+use recorder::Call;
+use tag::{Action, OpId};
+
+/// A list of numbers beside the calls of a part.
+#[derive(Drop)]
+pub(crate) struct Listed<'a, 'b> {
+    calls: &'a [Call],
+    order: &'b [OpId],
+    ghost sequence: { IsSequence calls.now },
+}
+
+impl<'a, 'b> Listed<'a, 'b> {
+    ghost use Rattle.recorder.specs.Orders.{StandsAt, WritesAt};
+    ghost use Rattle.recorder.specs.Sound.{IsWrite};
+    ghost use Rattle.certificate_check.specs.Verdicts.{IsFault, IsLeast, IsUnknown};
+    ghost use Rattle.reasons.specs.OrderReasons.{IsOrderReason, IsLastWriteBefore, HasNumberOf};
+
+    /// The list beside these calls.
+    pub(crate) fn new(calls: &'a [Call], order: &'b [OpId]) -> Listed<'a, 'b>
+        requires { IsSequence calls.now }
+        ensures calls { result.calls.now ≡ calls.now }
+        ensures order { result.order.now ≡ order.now }
+    {
+        Listed { calls, order }
+    }
+
+    /// The calls that show the fault.
+    pub(crate) fn reason(&self, fault: Fault) -> OrderReason<'a>
+        requires { IsFault self.now.calls.now self.now.order.now fault }
+        ensures { IsOrderReason self.now.calls.now self.now.order.now fault result }
+    {
+        match fault {
+            Fault::UnknownCall(place) => OrderReason::UnknownCall {
+                place,
+                op: self.order[place],
+            },
+            Fault::CallTwice(place) => OrderReason::CallTwice {
+                earlier: self.first_place(place),
+                place,
+                call: self.call_at(place),
+            },
+            Fault::MissingCall(op) => OrderReason::MissingCall {
+                call: call_of(self.calls, op),
+            },
+            Fault::PendingRead(place) => OrderReason::PendingRead {
+                read: self.placed(place),
+            },
+            Fault::WrongAnswer(place) => OrderReason::WrongAnswer {
+                read: self.placed(place),
+                last: self.last_write_before(place),
+            },
+            Fault::OrderBroken(earlier, later) => OrderReason::OrderBroken {
+                earlier: self.placed(earlier),
+                later: self.placed(later),
+            },
+        }
+    }
+
+    /// The call at that place, at which one stands.
+    fn call_at(&self, place: usize) -> &'a Call
+        requires within { place < length self.now.order.now }
+        requires known { IsUnknown self.now.calls.now self.now.order.now place → ⊥ }
+        ensures { StandsAt self.now.calls.now self.now.order.now place result.now }
+    {
+        match find(self.calls, self.order[place]) {
+            Some(call) => call,
+            None => unreachable!(),
+        }
+    }
+
+    /// The same, with the place.
+    fn placed(&self, place: usize) -> PlacedCall<'a>
+        requires within { place < length self.now.order.now }
+        requires known { IsUnknown self.now.calls.now self.now.order.now place → ⊥ }
+        ensures place { result.place ≡ place }
+        ensures call { StandsAt self.now.calls.now self.now.order.now place result.call.now }
+    {
+        PlacedCall {
+            place,
+            call: self.call_at(place),
+        }
+    }
+
+    /// The first place at which the same number stands as at that place.
+    fn first_place(&self, place: usize) -> usize
+        requires { place < length self.now.order.now }
+        ensures { IsLeast (HasNumberOf self.now.order.now place) result }
+    {
+        let op = self.order[place];
+        for i in 0..place {
+            if self.order[i] == op {
+                return i;
+            }
+        }
+        place
+    }
+
+    /// The write at that place, if one stands there.
+    fn write_at(&self, place: usize) -> Option<&'a Call>
+        requires { place < length self.now.order.now }
+        ensures found { IfSome result
+            (λ call. StandsAt self.now.calls.now self.now.order.now place call.now
+            × IsWrite call.now) }
+        ensures none { IfNone result ((value : List ℕ)
+            → WritesAt self.now.calls.now self.now.order.now place value → ⊥) }
+    {
+        let Some(call) = find(self.calls, self.order[place]) else {
+            return None;
+        };
+        match call.action {
+            Action::Write(_) => Some(call),
+            Action::Read => None,
+        }
+    }
+
+    /// The last write before that place, if there is one.
+    fn last_write_before(&self, place: usize) -> Option<PlacedCall<'a>>
+        requires { place < length self.now.order.now }
+        ensures { IsLastWriteBefore self.now.calls.now self.now.order.now place result }
+    {
+        for i in (0..place).rev() {
+            if let Some(call) = self.write_at(i) {
+                return Some(PlacedCall { place: i, call });
+            }
+        }
+        None
+    }
+}
