@@ -6,3 +6,4 @@ pub mod Advancing
 pub mod Consuming
 pub mod Filling
 pub mod ByHall
+pub mod NumberedLines

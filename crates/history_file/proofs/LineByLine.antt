@@ -2,6 +2,7 @@
 use Rattle.std.proofs.Common.{ℕ, ◌≡◌, ◌<◌, ◌+◌, List, [], ◌∷◌, ◌++◌, length, Result, Ok, Err, refl, sym, ap, ◌∙◌, append_assoc, append-nil, length-append, arith, subst, inl, inr}
 use Rattle.std.specs.List.{AllZip}
 use Rattle.std.proofs.lemmas.List.{nil_from_length}
+use Rattle.std.proofs.lemmas.Slice.Zip.{AllZip-long}
 use Rattle.std.specs.Prelude.{MatchResult}
 use Rattle.file_format.specs.declared.judge_lines.Judgement.{Judgement}
 use Rattle.file_format.specs.declared.fault.LineFault.{LineFault}
@@ -9,7 +10,10 @@ use Rattle.file_format.specs.Faults.{FileFault, FaultKind}
 use Rattle.counted_devices.specs.declared.read_fault.FaultKind.TheVariants as kind
 use Rattle.history_file.specs.declared.progress.Progress.{Progress}
 use Rattle.file_format.specs.Lines.{LineShows, ShowsItem}
-use Rattle.file_format.specs.Formats.{Format}
+use Rattle.file_format.specs.Formats.{Format, Follows}
+use Rattle.file_format.specs.Faults.{LineStop}
+use Rattle.counted_devices.specs.ReadFaults.{kind_of}
+use Rattle.counted_devices.specs.declared.read_fault.Stop.TheVariants as stops
 use Rattle.file_format.specs.Files.{IsHeader, IsLineOf, AreSpelled, AreLinesOf, HasFault, IsFirstFault}
 use Rattle.history_file.specs.FileFaults.{IsFirstOfKind}
 use Rattle.history_file.specs.LinesRead.{HasRead, HasReadLines, ReadsJudged, ReadsShown}
@@ -19,6 +23,11 @@ module _ {Header Item Contents : Type 0} (format : Format Header Item) (Makes : 
   AreSpelled-push : (before : List (List ℕ)) (header : Header) (items : List Item) (line : List ℕ) (item : Item) → 0 < length before → AreSpelled format before header items → IsLineOf format header line item → AreSpelled format (before ++ line ∷ []) header (items ++ item ∷ [])
   AreSpelled-push [] header items line item some h l = absurd (omega arith)
   AreSpelled-push (first ∷ lines) header items line item some h l = (h.0, AllZip-push_both (IsLineOf format header) lines items line item h.1 l)
+
+  -- the header's line, and one for each item
+  pub length-lines : (lines : List (List ℕ)) (header : Header) (items : List Item) → 0 < length lines → AreSpelled format lines header items → length lines ≡ length items + 1
+  length-lines [] header items some h = absurd (omega arith)
+  length-lines (first ∷ lines) header items some h = omega (arith, AllZip-long (IsLineOf format header) lines items h.1)
 
   -- no line is read yet
   pub nothing_read : (header : Header) (progress : Progress Contents) → format.Admits header [] → progress.lines ≡ 0 → HasRead format Makes [] header progress
@@ -68,6 +77,12 @@ module _ {Header Item Contents : Type 0} (format : Format Header Item) (Makes : 
   pub stopped_item : (before : List (List ℕ)) (header : Header) (line : List ℕ) (old : Progress Contents) (item : Item) (fault : LineFault) (number : ℕ) (at : HasRead format Makes before header old) → 0 < length before → IsLineOf format header line item → number ≡ old.lines + 1
       → format.HasFault header at.items item fault → IsFirstFault format (before ++ line ∷ []) number fault
   stopped_item before header line old item fault number at some l counted h = first_at before header line old fault number at counted (faulty_behind before header at.items line item fault some l h)
+
+  -- an item's line that isn't added
+  pub stopped_follow : (before : List (List ℕ)) (header : Header) (line : List ℕ) (old : Progress Contents) (item : Item) (stop : LineStop) (number : ℕ) (new : Contents) (at : HasRead format Makes before header old) → 0 < length before → IsLineOf format header line item → number ≡ old.lines + 1
+      → Follows format Makes header at.items item (Err stop) new → IsFirstOfKind format (before ++ line ∷ []) number (kind_of stop)
+  stopped_follow before header line old item (stops.Fault fault) number new at some l counted h = stopped_item before header line old item fault number at some l counted h
+  stopped_follow before header line old item stops.Memory number new at some l counted h = tt
 
   -- a line that has a fault by itself
   pub stopped_line : (before : List (List ℕ)) (header : Header) (line : List ℕ) (old : Progress Contents) (fault : LineFault) (number : ℕ) (at : HasRead format Makes before header old) → 0 < length before → LineShows (format.meaning header) line (Err fault) → number ≡ old.lines + 1

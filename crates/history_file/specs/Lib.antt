@@ -6,3 +6,4 @@ pub mod Making
 pub mod Feeds
 pub mod Ahead
 pub mod Batches
+pub mod NumberedRows

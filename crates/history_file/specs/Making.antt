@@ -7,6 +7,8 @@ use Rattle.file_format.specs.declared.file_header.FileHeader.{FileHeader}
 use Rattle.file_format.specs.declared.hall_row.HallRow.{HallRow}
 use Rattle.file_format.specs.HistoriesFormat.{MakesHistories}
 use Rattle.history_file.specs.KeyedOrders.{KeyedOrders}
+use Rattle.history_file.specs.NumberedRows.{AreLinesByHall}
+use Rattle.history_file.specs.declared.numbered_format.NumberedHalls.{NumberedHalls}
 
 -- the orders that the pieces make, and how many calls they have
 pub record MakesOrders (header : Unit {0}) (pieces : List KeyOrder) (orders : KeyedOrders) : Type 0
@@ -18,3 +20,9 @@ pub record MakesOrders (header : Unit {0}) (pieces : List KeyOrder) (orders : Ke
 abbrev pub MakesHalls : FileHeader → List HallRow → Option RecordedHalls → Type 0
 MakesHalls header items None = ⊥
 MakesHalls header items (Some histories) = MakesHistories header items histories
+
+-- the same with the lines of the rows of each hall
+pub record MakesNumberedHalls (header : FileHeader) (items : List HallRow)
+    (numbered : NumberedHalls) : Type 0 where
+  pub made : MakesHalls header items numbered.halls
+  pub lines : AreLinesByHall header items numbered.lines.items

@@ -1,19 +1,15 @@
 //! The format of history files of either version.
+ghost use Rattle.std.specs.Prelude.{refl};
 ghost use Rattle.file_format.specs.HistoriesFormat.{histories_format, MakesHistories};
 ghost use Rattle.file_format.specs.Readings.{Reads};
 ghost use Rattle.history_file.specs.Making.{MakesHalls};
 
 use crate::format::Contents;
-use crate::judgements::Judgements;
-use crate::side_by_side::judge_chunks;
 use file_format::{
-    FaultKind, FileFault, FileHeader, HallHistories, HallRow, LineFault, Stop, ToolSets,
-    judge_file_header,
+    FaultKind, FileFault, FileHeader, HallHistories, HallRow, LineFault, Stop, judge_file_header,
 };
 use recorder::Histories;
 use std::alloc::Global;
-use std::thread::Threads;
-use tag::Memory;
 
 /// The histories of a file's halls: there are none before its header comes.
 impl Contents for Option<HallHistories> {
@@ -48,17 +44,7 @@ impl Contents for Option<HallHistories> {
         }
     }
 
-    fn judge_all<R: Threads + Sync>(
-        rt: &R,
-        alloc: Global,
-        header: FileHeader,
-        tools: &ToolSets,
-        chunks: &[&[u8]],
-    ) -> Result<Judgements<HallRow>, Memory> {
-        judge_chunks::<HallRow, R>(rt, alloc, header, tools, chunks)
-    }
-
-    fn follow(&mut self, item: HallRow) -> Result<(), Stop> {
+    fn follow(&mut self, _line: u64, item: HallRow) -> Result<(), Stop> {
         match self {
             Some(histories) => histories.follow(item),
             None => Err(Stop::Fault(LineFault::NoHeader)),
@@ -74,4 +60,6 @@ impl Contents for Option<HallHistories> {
             }),
         }
     }
+
+    ghost says = { λ header. refl };
 }

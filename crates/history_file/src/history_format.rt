@@ -1,17 +1,13 @@
 //! The format of history files.
-ghost use Rattle.std.specs.Prelude.{◌≡◌, []};
+ghost use Rattle.std.specs.Prelude.{◌≡◌, [], refl};
 ghost use Rattle.file_format.specs.HistoryFormat.{history_format, MakesHistory};
 ghost use Rattle.file_format.specs.Readings.{Reads};
 
 use crate::format::Contents;
-use crate::judgements::Judgements;
-use crate::side_by_side::judge_chunks;
-use file_format::{FileFault, LineRow, MOST_CALLS, Stop, ToolSets, follow, judge_header};
+use file_format::{FileFault, LineRow, MOST_CALLS, Stop, follow, judge_header};
 use recorder::History;
 use std::alloc::Global;
 use std::marker::Model;
-use std::thread::Threads;
-use tag::Memory;
 
 /// The history that the rows so far are. It may have as many calls as a file.
 #[derive(Drop)]
@@ -72,21 +68,13 @@ impl Contents for FileHistory {
 
     fn header(&self) {}
 
-    fn judge_all<R: Threads + Sync>(
-        rt: &R,
-        alloc: Global,
-        header: (),
-        tools: &ToolSets,
-        chunks: &[&[u8]],
-    ) -> Result<Judgements<LineRow>, Memory> {
-        judge_chunks::<LineRow, R>(rt, alloc, header, tools, chunks)
-    }
-
-    fn follow(&mut self, row: LineRow) -> Result<(), Stop> {
+    fn follow(&mut self, _line: u64, row: LineRow) -> Result<(), Stop> {
         follow(&mut self.history, row)
     }
 
     fn whole(self) -> Result<History, FileFault> {
         Ok(self.into_history())
     }
+
+    ghost says = { λ header. refl };
 }

@@ -5,6 +5,7 @@ ghost use Rattle.counted_devices.specs.Cuts.{HasNoEnd};
 
 use crate::format::Contents;
 use crate::judgements::Judgements;
+use crate::side_by_side::judge_chunks;
 use counted_devices::{cut_chunks, first_end};
 use file_format::ToolSets;
 use std::alloc::Global;
@@ -45,7 +46,7 @@ pub(crate) fn judge_block<C: Contents, R: Threads + Sync>(
     first.extend_from_slice(&block[..end])?;
     let mut found = cut_chunks(alloc, &block[end + 1..])?;
     found.chunks.insert(0, first.as_slice())?;
-    let judgements = C::judge_all(rt, alloc, header, tools, found.chunks.as_slice())?;
+    let judgements = judge_chunks::<C, R>(rt, alloc, header, tools, found.chunks.as_slice())?;
     Ok(JudgedLines {
         judgements,
         rest: Vec::from_slice(alloc, found.rest)?,

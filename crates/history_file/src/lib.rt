@@ -17,10 +17,13 @@ mod histories_format;
 mod history_format;
 mod judge_blocks;
 mod judgements;
+pub mod laws;
+mod numbered_format;
 mod order_format;
 mod progress;
 mod reading;
 mod side_by_side;
 
 pub use file_feed::{HistoriesFeed, HistoryFeed, OrderFeed};
-pub use reading::{read_histories, read_history, read_orders};
+pub use numbered_format::NumberedHistories;
+pub use reading::{read_histories, read_history, read_numbered_histories, read_orders};

@@ -1,19 +1,15 @@
 //! The format of order files.
-ghost use Rattle.std.specs.Prelude.{◌≡◌, ◌≤◌, []};
+ghost use Rattle.std.specs.Prelude.{◌≡◌, ◌≤◌, [], refl};
 ghost use Rattle.file_format.specs.OrderFormat.{order_format, MakesJoined};
 ghost use Rattle.file_format.specs.Readings.{Reads};
 
 use crate::format::Contents;
-use crate::judgements::Judgements;
-use crate::side_by_side::judge_chunks;
 use file_format::{
-    FileFault, JoinedOrders, LineFault, MOST_CALLS, OrderPiece, Stop, ToolSets, join, judge_header,
+    FileFault, JoinedOrders, LineFault, MOST_CALLS, OrderPiece, Stop, join, judge_header,
 };
 use recorder::KeyOrder;
 use std::alloc::Global;
 use std::marker::Model;
-use std::thread::Threads;
-use tag::Memory;
 
 /// The orders that the pieces so far make, and how many calls they have together.
 #[derive(Drop)]
@@ -78,17 +74,7 @@ impl Contents for Orders {
 
     fn header(&self) {}
 
-    fn judge_all<R: Threads + Sync>(
-        rt: &R,
-        alloc: Global,
-        header: (),
-        tools: &ToolSets,
-        chunks: &[&[u8]],
-    ) -> Result<Judgements<OrderPiece>, Memory> {
-        judge_chunks::<OrderPiece, R>(rt, alloc, header, tools, chunks)
-    }
-
-    fn follow(&mut self, piece: OrderPiece) -> Result<(), Stop> {
+    fn follow(&mut self, _line: u64, piece: OrderPiece) -> Result<(), Stop> {
         let count = piece.calls().len();
         if count > MOST_CALLS as usize - self.calls {
             return Err(Stop::Fault(LineFault::TooManyCalls));
@@ -101,4 +87,6 @@ impl Contents for Orders {
     fn whole(self) -> Result<Vec<KeyOrder>, FileFault> {
         Ok(self.into_list())
     }
+
+    ghost says = { λ header. refl };
 }

@@ -6,6 +6,7 @@ ghost use Rattle.history_file.specs.LinesRead.{ReadsChunks, ReadsJudged, ReadsLi
 
 use crate::format::Contents;
 use crate::judgements::Judgements;
+use crate::side_by_side::judge_chunks;
 use file_format::{FileFault, Judgement, Stop, ToolSets};
 use std::alloc::Global;
 use std::thread::Threads;
@@ -43,7 +44,7 @@ impl<C: Contents> Progress<C> {
         let line = self.lines + 1;
         match judgement {
             Judgement::Fault(fault) => Err(FileFault::at(line, Stop::Fault(fault))),
-            Judgement::Item(item) => match self.contents.follow(item) {
+            Judgement::Item(item) => match self.contents.follow(line, item) {
                 Ok(()) => {
                     self.lines = line;
                     Ok(())
@@ -106,7 +107,7 @@ impl<C: Contents> Progress<C> {
         ensures lines { OnOk result (self.new.lines ≤ self.old.lines + length
             (flat_map with_end (map (λ chunk. chunk.now) chunks.now))) }
     {
-        match C::judge_all(rt, alloc, self.contents.header(), tools, chunks) {
+        match judge_chunks::<C, _>(rt, alloc, self.contents.header(), tools, chunks) {
             Ok(judgements) => self.record(judgements),
             Err(_) => Err(FileFault::at(self.lines + 1, Stop::Memory)),
         }

@@ -13,6 +13,7 @@ ghost use Rattle.file_format.specs.Readings.{Reads};
 ghost use Rattle.file_format.specs.HistoryFormat.{history_format, MakesHistory};
 ghost use Rattle.file_format.specs.HistoriesFormat.{histories_format, MakesHistories};
 ghost use Rattle.file_format.specs.OrderFormat.{order_format, MakesJoined};
+ghost use Rattle.history_file.specs.NumberedRows.{MakesNumbered};
 
 use crate::ahead::{Ahead, LEAST};
 use crate::batches::{BLOCK, Behind, read_batch};
@@ -20,6 +21,7 @@ use crate::feed::Feed;
 use crate::file_feed::finish_file;
 use crate::format::Contents;
 use crate::history_format::FileHistory;
+use crate::numbered_format::{NumberedHalls, NumberedHistories};
 use crate::order_format::Orders;
 use counted_devices::CountedRead;
 use file_format::{FaultKind, FileFault, HallHistories, ToolSets};
@@ -181,6 +183,25 @@ pub fn read_histories<R: CountedRead>(
     ensures device { IfErr result (FailsFrom (states R.remaining R.failures reader.old reader.new)) }
 {
     read_file::<Option<HallHistories>, R>(rt, alloc, reader)
+}
+
+/// The histories by hall that the reader's bytes are, as `read_histories` gives them, with the line of
+/// each row.
+///
+/// A file with a fault is refused as by `read_history`.
+pub fn read_numbered_histories<R: CountedRead>(
+    rt: &(impl Threads + Sync),
+    alloc: Global,
+    reader: &mut R,
+) -> Result<NumberedHistories, FileFault>
+    ensures read { IfOk result (ReadsFrom (Reads histories_format MakesNumbered)
+        (states R.remaining R.failures reader.old reader.new)) }
+    ensures counted { OnOk result (R.failures reader.new ≡ R.failures reader.old) }
+    ensures fault { IfErr result (StopsFrom (file_faults histories_format)
+        (states R.remaining R.failures reader.old reader.new)) }
+    ensures device { IfErr result (FailsFrom (states R.remaining R.failures reader.old reader.new)) }
+{
+    read_file::<NumberedHalls, R>(rt, alloc, reader)
 }
 
 /// The orders that the reader's bytes are, all of them up to its end: the keys in the order of

@@ -6,7 +6,7 @@ use Rattle.history_file.specs.Making.{MakesOrders}
 use Rattle.history_file.proofs.order_format.OrdersContents.follow.Goals as goal
 
 pub returns : goal.returns
-returns c = λ header pieces made fits.
+returns c = λ header pieces made fits counted.
     let piece = c.args.piece in
     let before : MakesOrders header pieces (record { orders = c.self.inside.orders; calls = c.self.inside.calls }) = rw (← c.self.view_is) at made in
     let grown = sum_by-append (λ (p : KeyOrder). length p.order) pieces (piece ∷ []) in
