@@ -2,6 +2,7 @@
 ghost use Rattle.std.specs.Prelude.{◌≡◌};
 ghost use Rattle.witness_order.specs.Numbers.{witness_error_number};
 
+use std::alloc::{AllocError, AllocFailed};
 use tag::OpId;
 use thiserror::Error;
 
@@ -24,5 +25,27 @@ impl WitnessError {
             WitnessError::NoNote(_) => 1,
             WitnessError::Memory => 2,
         }
+    }
+}
+
+impl From<AllocError> for WitnessError {
+    ghost use Rattle.std.specs.Prelude.{◌≡◌};
+    ghost use Rattle.witness_order.specs.declared.error.WitnessError.TheVariants.{Memory};
+
+    ghost from_gives = { λ _ e. e ≡ Memory };
+
+    fn from(_: AllocError) -> WitnessError {
+        WitnessError::Memory
+    }
+}
+
+impl<T: Drop> From<AllocFailed<T>> for WitnessError {
+    ghost use Rattle.std.specs.Prelude.{◌≡◌};
+    ghost use Rattle.witness_order.specs.declared.error.WitnessError.TheVariants.{Memory};
+
+    ghost from_gives = { λ _ e. e ≡ Memory };
+
+    fn from(_: AllocFailed<T>) -> WitnessError {
+        WitnessError::Memory
     }
 }
