@@ -103,6 +103,8 @@ class File:
                 continue
             if text.startswith("module "):
                 margin = 2
+            if text.startswith("infix"):
+                continue
             head = re.match(r"(?:abbrev|unfoldable|(?:pub )?(record|data))(?: pub)? (\S+)|pub use .*\{(.*)\}", text)
             if text and indent <= margin:
                 inside = bool(head and head[1])

@@ -7,9 +7,10 @@ mod progress;
 use crate::names::FileName;
 use crate::progress::{Progress, SharedProgress};
 use cli::{
-    Command, Counting, Failure, Source, Status, Usage, check_command, command, justify_command,
-    simulate_command,
+    Command, Counting, ExplainAsked, Failure, Source, Status, Usage, check_command, command,
+    justify_command, simulate_command,
 };
+use explain_command::{Selection, explain_orders_command, explain_tags_command};
 use parallel_keys::Workers;
 use run_command::{KeyWatch, NoWatch, Watch, run_command};
 use run_options::RunAsked;
@@ -76,6 +77,80 @@ fn check(
         &mut out,
         &mut errors,
     )
+}
+
+/// Opens both files before either is read, and explains the orders.
+fn explain_orders(
+    rt: &HostRuntime,
+    threads: &(impl Threads + Sync),
+    history: &str,
+    orders: &str,
+    selection: Selection<'_>,
+) -> Status {
+    let (Ok(history), Ok(orders)) = (FileName::new(rt, history), FileName::new(rt, orders)) else {
+        return fail(rt, Failure::Memory);
+    };
+    let mut errors = Counting::new(rt.stderr());
+    let Ok(history_file) = fs::open(rt, history.given) else {
+        let name = history.told();
+        return Failure::Closed { name }.report(&mut errors);
+    };
+    let Ok(orders_file) = fs::open(rt, orders.given) else {
+        let name = orders.told();
+        return Failure::Closed { name }.report(&mut errors);
+    };
+    let mut history = Source::new(history.told(), Counting::new(history_file));
+    let mut orders = Source::new(orders.told(), Counting::new(orders_file));
+    let mut out = Counting::new(rt.stdout());
+    explain_orders_command(
+        threads,
+        rt.alloc(),
+        &mut history,
+        &mut orders,
+        selection,
+        &mut out,
+        &mut errors,
+    )
+}
+
+/// Opens the history, and explains the tags of its calls.
+fn explain_tags(
+    rt: &HostRuntime,
+    threads: &(impl Threads + Sync),
+    history: &str,
+    selection: Selection<'_>,
+) -> Status {
+    let Ok(history) = FileName::new(rt, history) else {
+        return fail(rt, Failure::Memory);
+    };
+    let mut errors = Counting::new(rt.stderr());
+    let Ok(history_file) = fs::open(rt, history.given) else {
+        let name = history.told();
+        return Failure::Closed { name }.report(&mut errors);
+    };
+    let mut history = Source::new(history.told(), Counting::new(history_file));
+    let mut out = Counting::new(rt.stdout());
+    let alloc = rt.alloc();
+    explain_tags_command(
+        threads,
+        alloc,
+        &mut history,
+        selection,
+        &mut out,
+        &mut errors,
+    )
+}
+
+/// Explains the orders, or without orders the tags.
+fn explain(rt: &HostRuntime, threads: &(impl Threads + Sync), asked: &ExplainAsked<'_>) -> Status {
+    let selection = Selection {
+        key: asked.key,
+        most: asked.most,
+    };
+    match asked.orders {
+        Some(orders) => explain_orders(rt, threads, asked.history, orders, selection),
+        None => explain_tags(rt, threads, asked.history, selection),
+    }
 }
 
 /// Opens the history, and justifies it.
@@ -188,6 +263,7 @@ where
             orders,
             workers,
         } => check(rt, threads, history, orders, *workers),
+        Command::Explain(asked) => explain(rt, threads, asked),
         Command::Justify { history } => justify(rt, threads, history),
         Command::Simulate { script } => simulate(rt, script),
         Command::Run(asked) => run(rt, threads, *asked),

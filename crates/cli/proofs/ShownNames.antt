@@ -1,5 +1,5 @@
 -- No name that a terminal is shown has a control character.
-use Rattle.std.proofs.Common.{ℕ, ◌≡◌, ◌<◌, ◌≤◌, leb, Bool, true, false, ◌⊎◌, inl, inr, not, ◌&&◌, ◌||◌, List, [], ◌∷◌, ◌++◌, flat_map, get_or, refl, sym, ◌∙◌, arith}
+use Rattle.std.proofs.Common.{ℕ, ◌≡◌, ◌≤◌, leb, Bool, true, false, inl, inr, ◌&&◌, ◌||◌, List, [], ◌∷◌, flat_map, get_or, refl, sym, ◌∙◌, arith}
 use Rattle.std.specs.Char.{is_control}
 use Rattle.std.specs.List.{list_all, range_with_len}
 use Rattle.std.proofs.lemmas.Bool.{cases_lt, cases_Bool, lt-leb, true≢false}

@@ -1,5 +1,6 @@
 -- What the words of a command line ask for, by clap's reading of a simple command.
-use Rattle.std.specs.Prelude.{ℕ, ◌≡◌, ◌⊎◌, List, [], ◌∷◌, Option, Some, pos, true, codes}
+use Rattle.std.specs.Prelude.{ℕ, ◌≡◌, ◌≤◌, ◌⊎◌, List, [], ◌∷◌, Option, Some, pos, true, codes}
+use Rattle.std.specs.Prelude.{option_map}
 use Rattle.std.specs.Str.Parse.{IsNumeral, digits_value, without_leading_plus}
 use Rattle.clap.specs.Words.{App, IsAmong, Row, Rule, Text, fault_of, first_of, new_app, new_rule}
 use Rattle.clap.specs.Words.{one_of, subcommand_of, with_rule, with_subcommand}
@@ -11,7 +12,9 @@ use Rattle.parallel_keys.specs.Workers.{IsWorkerCount}
 use Rattle.run_options.specs.RunWords.{AsksRun}
 use Rattle.run_options.specs.Options.{run_app}
 use Rattle.cli.specs.declared.command_line.Command.{Command}
-use Rattle.cli.specs.declared.command_line.Command.TheVariants.{Check, Justify, Run, Simulate}
+use Rattle.cli.specs.declared.command_line.ExplainAsked.{ExplainAsked}
+use Rattle.cli.specs.declared.command_line.Command.TheVariants.{Check, Explain, Justify, Run}
+use Rattle.cli.specs.declared.command_line.Command.TheVariants.{Simulate}
 use Rattle.cli.specs.declared.command_line.Usage.{Usage}
 use Rattle.cli.specs.declared.command_line.Usage.TheVariants as usage
 
@@ -37,6 +40,32 @@ abbrev pub check_app : App
 check_app = with_rule (with_rule (file_app (codes "check") (codes "HISTORY"))
     (required_argument (codes "ORDERS"))) workers_option
 
+-- the option --key KEY
+abbrev pub key_option : Rule
+key_option = record (new_rule (codes "key")) { long = Some (codes "key"); value_names = 1 }
+
+-- the most keys that may be explained
+abbrev pub most_explained : ℕ
+most_explained = 10000
+
+-- the option --most N, a number from 0 to that, 20 where it isn't given
+abbrev pub most_option : Rule
+most_option = record (new_rule (codes "most")) {
+  long = Some (codes "most");
+  value_names = 1;
+  defaults = codes "20" ∷ [];
+  parser = Some (parser.Signed (pos 0) (pos most_explained));
+}
+
+-- abd explain HISTORY [ORDERS]
+abbrev pub explained_files_app : App
+explained_files_app =
+    with_rule (file_app (codes "explain") (codes "HISTORY")) (new_rule (codes "ORDERS"))
+
+-- abd explain HISTORY [ORDERS] [--key KEY] [--most N]
+abbrev pub explain_app : App
+explain_app = with_rule (with_rule explained_files_app key_option) most_option
+
 -- abd justify HISTORY
 abbrev pub justify_app : App
 justify_app = file_app (codes "justify") (codes "HISTORY")
@@ -53,8 +82,8 @@ bare_app =
 
 -- abd with its commands
 abbrev pub abd_app : App
-abd_app = with_subcommand (with_subcommand
-    (with_subcommand (with_subcommand bare_app check_app.top) justify_app.top) simulate_app.top)
+abd_app = with_subcommand (with_subcommand (with_subcommand (with_subcommand
+    (with_subcommand bare_app check_app.top) explain_app.top) justify_app.top) simulate_app.top)
     run_app.top
 
 -- the files that the words after `check` name
@@ -71,10 +100,27 @@ pub record AsksWorkers (rows : List Row) (workers : ℕ) : Type 0 where
   pub number : digits_value 10 (without_leading_plus text) ≡ workers
   pub few : IsWorkerCount workers
 
+-- the words after `explain` ask for so many keys: their number is what stands after `--most`, or
+-- else the 20
+pub record AsksMost (rows : List Row) (most : ℕ) : Type 0 where
+  pub text : Text
+  pub given : one_of (codes "most") rows ≡ Some text
+  pub is_numeral : IsNumeral 10 (without_leading_plus text)
+  pub number : digits_value 10 (without_leading_plus text) ≡ most
+  pub few : most ≤ most_explained
+
+-- the words after `explain` name the files and the key, and ask for so many keys
+pub record AsksExplanation (rows : List Row) (asked : ExplainAsked) : Type 0 where
+  pub history : first_of (codes "HISTORY") rows ≡ Some asked.history.now
+  pub orders : first_of (codes "ORDERS") rows ≡ option_map (λ s. s.now) asked.orders
+  pub key : first_of (codes "key") rows ≡ option_map (λ s. s.now) asked.key
+  pub most : AsksMost rows asked.most
+
 -- the words after the command's name make it that command
 abbrev pub Makes : List Row → Command → Type 0
 Makes rows (Check history orders workers) =
     NamesFiles rows history.now orders.now × AsksWorkers rows workers
+Makes rows (Explain asked) = AsksExplanation rows asked
 Makes rows (Justify history) = first_of (codes "HISTORY") rows ≡ Some history.now
 Makes rows (Simulate script) = first_of (codes "SCRIPT") rows ≡ Some script.now
 Makes rows (Run asked) = AsksRun rows asked
@@ -82,6 +128,7 @@ Makes rows (Run asked) = AsksRun rows asked
 -- the command's name
 abbrev pub name_of : Command → Text
 name_of (Check history orders workers) = codes "check"
+name_of (Explain asked) = codes "explain"
 name_of (Justify history) = codes "justify"
 name_of (Simulate script) = codes "simulate"
 name_of (Run asked) = codes "run"

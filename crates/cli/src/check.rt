@@ -62,7 +62,7 @@ pub(crate) fn histories_in<'a, R: CountedRead>(
 }
 
 /// The orders that the file is.
-fn orders_in<'a, R: CountedRead>(
+pub fn orders_in<'a, R: CountedRead>(
     rt: &(impl Threads + Sync),
     alloc: Global,
     source: &mut Source<'a, R>,

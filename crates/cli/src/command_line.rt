@@ -2,6 +2,18 @@
 use parallel_keys::Workers;
 use run_options::RunAsked;
 
+/// What the words of `abd explain` ask for.
+#[derive(Clone, Copy, Debug, PartialEq, Eq)]
+pub struct ExplainAsked<'a> {
+    pub history: &'a str,
+    /// Without orders the tags of the calls are judged.
+    pub orders: Option<&'a str>,
+    /// The key that alone is explained, if one is named.
+    pub key: Option<&'a str>,
+    /// How many refused keys are explained, 10,000 at most.
+    pub most: u16,
+}
+
 /// What a command line asks for.
 #[derive(Clone, Copy, Debug, PartialEq, Eq)]
 pub enum Command<'a> {
@@ -11,6 +23,8 @@ pub enum Command<'a> {
         orders: &'a str,
         workers: Workers,
     },
+    /// To say why orders, or without them tags, are refused.
+    Explain(ExplainAsked<'a>),
     /// To make the orders of a history's keys from its notes.
     Justify {
         history: &'a str,

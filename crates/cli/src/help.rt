@@ -22,6 +22,22 @@ of the files may be /dev/stdin, for what is piped in.\nExit status: 0 all yes, 1
 can't be opened or read as its format, 4 memory, a device or a thread.\n\n\
 Example: abd check examples/two_calls.history examples/two_calls.orders";
 
+/// Of the option `--key`.
+pub const KEY: &str = "The only key to explain";
+
+/// Of the option `--most`.
+pub const MOST: &str = "How many refused keys are explained, 0 to 10,000";
+
+/// Of `abd explain`.
+pub const EXPLAIN: &str =
+    "Prints for each key the line of `abd check`, and under a `no` the reason: each call that matters, with its \
+client, what it did, the lines of HISTORY on which it began, was noted and was answered, its place in the order, and \
+what would have been right. Without ORDERS the tags of the calls are judged: `KEY: yes` where they are sound, and else \
+`KEY: no tags`, the first rule that they break, and a hint at what to look for in a store. HISTORY is of version 1 \
+or 2. One of the files may be /dev/stdin, for what is piped in.\nExit status: 0 all yes, 1 a key refused, 2 usage, 3 a \
+file can't be opened or read as its format, 4 memory or a device.\n\n\
+Example: abd explain examples/two_calls.history examples/two_calls_refused.orders";
+
 /// Of `abd justify`.
 pub const JUSTIFY: &str =
     "Writes an order file, for `abd check`, keys hall by hall, in each in the order in which the \

@@ -16,12 +16,13 @@ mod status;
 mod verdict_lines;
 mod words;
 
-pub use check::{Source, check_command};
-pub use command_line::{Command, Usage};
+pub use check::{Source, check_command, orders_in};
+pub use command_line::{Command, ExplainAsked, Usage};
 pub use counted_devices::Counting;
 pub use justify::justify_command;
 pub use noted_orders::{Unjustified, checked_orders};
 pub use shown_names::{shown_name, shown_names_are_harmless};
 pub use simulate::simulate_command;
 pub use status::{Failure, Status, say};
+pub use verdict_lines::{append, append_line, append_number};
 pub use words::command;

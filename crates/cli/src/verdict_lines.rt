@@ -7,7 +7,7 @@ use itoa::Buffer;
 use tag::{Key, Memory};
 
 /// Adds the text.
-pub(crate) fn append(text: &mut Vec<u8>, more: &str) -> Result<(), Memory>
+pub fn append(text: &mut Vec<u8>, more: &str) -> Result<(), Memory>
     ensures { OnOk result (text.new.items ≡ text.old.items ++ more.now) }
 {
     text.extend_from_slice(more.as_bytes())?;
@@ -15,7 +15,7 @@ pub(crate) fn append(text: &mut Vec<u8>, more: &str) -> Result<(), Memory>
 }
 
 /// Adds the text and then the number.
-pub(crate) fn append_number(text: &mut Vec<u8>, before: &str, number: u64) -> Result<(), Memory>
+pub fn append_number(text: &mut Vec<u8>, before: &str, number: u64) -> Result<(), Memory>
     ensures { OnOk result (text.new.items ≡ text.old.items ++ before.now ++ decimal number) }
 {
     let mut digits = Buffer::new();
@@ -54,7 +54,7 @@ fn append_verdict(text: &mut Vec<u8>, verdict: Verdict) -> Result<(), Memory>
 }
 
 /// Says the verdict on a key's order, on a line of its own.
-pub(crate) fn append_line(text: &mut Vec<u8>, key: &Key, verdict: Verdict) -> Result<(), Memory>
+pub fn append_line(text: &mut Vec<u8>, key: &Key, verdict: Verdict) -> Result<(), Memory>
     ensures { OnOk result (text.new.items ≡ text.old.items ++ line_text key.now verdict) }
 {
     append(text, key.as_str())?;

@@ -1,13 +1,15 @@
 //! The words of a command line.
-ghost use Rattle.std.specs.Prelude.{◌≡◌, false, codes, IfOk, IfErr, MatchOption, MatchResult, map, string_bytes};
-ghost use Rattle.clap.specs.Words.{app_of, found_of, kind_of, rows_of, rule_of, subcommand_rows_of, with_subcommand};
+ghost use Rattle.std.specs.Prelude.{ℕ, ◌≡◌, false, codes, IfOk, IfErr, MatchOption, MatchResult, map, string_bytes};
+ghost use Rattle.clap.specs.Words.{app_of, found_of, kind_of, new_rule, rows_of, rule_of};
+ghost use Rattle.clap.specs.Words.{subcommand_rows_of, with_subcommand};
 ghost use Rattle.clap.specs.declared.builder.command.Command.TheViews.{out-Command as fields_of};
-ghost use Rattle.cli.specs.Words.{abd_app, bare_app, check_app, file_app, justify_app};
-ghost use Rattle.cli.specs.Words.{required_argument, simulate_app, workers_option, Asks, AsksNothing};
-ghost use Rattle.cli.specs.Words.{IsUsageOf, MakesAs, MakesNothing, MakesOf};
+ghost use Rattle.cli.specs.Words.{abd_app, bare_app, check_app, explain_app, explained_files_app, file_app};
+ghost use Rattle.cli.specs.Words.{justify_app, key_option, most_option, required_argument};
+ghost use Rattle.cli.specs.Words.{simulate_app, workers_option, Asks, AsksMost};
+ghost use Rattle.cli.specs.Words.{AsksNothing, IsUsageOf, MakesAs, MakesNothing, MakesOf};
 ghost use Rattle.cli.specs.declared.command_line.Command.{Command};
 
-use crate::command_line::{Command, Usage};
+use crate::command_line::{Command, ExplainAsked, Usage};
 use crate::help;
 use clap::error::ErrorKind;
 use clap::{Arg, ArgMatches, Error, value_parser};
@@ -52,6 +54,59 @@ fn check_words<'a>(alloc: Global) -> Result<clap::Command<'a>, AllocError>
         "For each key an order of its calls: an order file",
     );
     check.arg(orders)?.arg(workers_option(alloc))
+}
+
+/// The option `--key KEY`.
+fn key_option<'a>(alloc: Global) -> Arg<'a>
+    ensures rule { rule_of result ≡ key_option }
+    ensures local { result.global ≡ false }
+{
+    Arg::new(alloc, "key")
+        .long("key")
+        .value_name("KEY")
+        .help(help::KEY)
+}
+
+/// The option `--most N`, whose number is 0 to 10,000, and 20 where it isn't given.
+fn most_option<'a>(alloc: Global) -> Arg<'a>
+    ensures rule { rule_of result ≡ most_option }
+    ensures local { result.global ≡ false }
+{
+    Arg::new(alloc, "most")
+        .long("most")
+        .value_name("N")
+        .default_value("20")
+        .value_parser(value_parser!(u16).range(0..10001))
+        .help(help::MOST)
+}
+
+/// The order file of `explain`, which may be missing.
+fn orders_argument<'a>(alloc: Global) -> Arg<'a>
+    ensures rule { rule_of result ≡ new_rule (codes "ORDERS") }
+    ensures local { result.global ≡ false }
+{
+    Arg::new(alloc, "ORDERS").help("For each key an order of its calls: an order file")
+}
+
+/// `abd explain HISTORY [ORDERS]`.
+fn explained_files<'a>(alloc: Global) -> Result<clap::Command<'a>, AllocError>
+    ensures app { IfOk result (λ words. app_of words ≡ explained_files_app) }
+    ensures local { IfOk result (λ words. (fields_of words).has_globals ≡ false) }
+{
+    let explain = clap::Command::new(alloc, "explain")
+        .about("Say, key by key, why orders are refused, or without orders the tags of the calls")
+        .after_help(help::EXPLAIN);
+    let history = required_argument(alloc, "HISTORY", "The recorded calls: a history file");
+    explain.arg(history)?.arg(orders_argument(alloc))
+}
+
+/// `abd explain HISTORY [ORDERS] [--key KEY] [--most N]`.
+fn explain_words<'a>(alloc: Global) -> Result<clap::Command<'a>, AllocError>
+    ensures app { IfOk result (λ words. app_of words ≡ explain_app) }
+    ensures local { IfOk result (λ words. (fields_of words).has_globals ≡ false) }
+{
+    let explain = explained_files(alloc)?;
+    explain.arg(key_option(alloc))?.arg(most_option(alloc))
 }
 
 /// A command that reads one file: `abd NAME FILE`.
@@ -133,6 +188,7 @@ fn abd_words<'a>(alloc: Global) -> Result<clap::Command<'a>, AllocError>
     ensures { IfOk result (λ words. app_of words ≡ abd_app) }
 {
     let words = with_command(bare_words(alloc), check_words(alloc)?)?;
+    let words = with_command(words, explain_words(alloc)?)?;
     let words = with_command(words, justify_words(alloc)?)?;
     let words = with_command(words, simulate_words(alloc)?)?;
     with_command(words, run_words(alloc)?)
@@ -168,6 +224,36 @@ fn check_in<'a>(matches: &ArgMatches<'a>) -> Option<Command<'a>>
         orders,
         workers,
     })
+}
+
+/// How many refused keys are to be explained.
+fn most_in<'a>(matches: &ArgMatches<'a>) -> Option<u16>
+    ensures { MatchOption result
+        ((most : ℕ) → AsksMost (rows_of (found_of matches.now)) most → ⊥)
+        (AsksMost (rows_of (found_of matches.now))) }
+{
+    let most = matches.get_one::<u16>("most")?;
+    if most > 10000 {
+        return None;
+    }
+    Some(most)
+}
+
+/// `explain`, of the words after its name.
+fn explain_in<'a>(matches: &ArgMatches<'a>) -> Option<Command<'a>>
+    ensures { MatchOption result
+        ((command : Command) → MakesAs (codes "explain") (rows_of (found_of matches.now)) command
+        → ⊥)
+        (MakesAs (codes "explain") (rows_of (found_of matches.now))) }
+{
+    let history = matches.get_str("HISTORY")?;
+    let most = most_in(matches)?;
+    Some(Command::Explain(ExplainAsked {
+        history,
+        orders: matches.get_str("ORDERS"),
+        key: matches.get_str("key"),
+        most,
+    }))
 }
 
 /// `justify`, of the words after its name.
@@ -224,6 +310,8 @@ fn made_in<'a>(name: &str, matches: &ArgMatches<'a>) -> Option<Command<'a>>
 {
     if name == "check" {
         check_in(matches)
+    } else if name == "explain" {
+        explain_in(matches)
     } else if name == "justify" {
         justify_in(matches)
     } else if name == "simulate" {

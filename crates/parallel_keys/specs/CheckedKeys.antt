@@ -21,6 +21,7 @@ given_order (one ∷ orders) key = if bytes_eq one.key key then one.order else g
 abbrev pub KeyParts : Type 0
 KeyParts = List (List ℕ × List Call)
 
+-- the keys alone
 abbrev pub keys_in : KeyParts → List (List ℕ)
 keys_in parts = map (λ entry. entry.0) parts
 

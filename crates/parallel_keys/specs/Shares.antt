@@ -13,9 +13,11 @@ pub record IsShare (share : Share) : Type 0 where
   pub within : share.worker < share.workers
   pub few : share.workers ≤ worker_limit
 
+-- the parts that the workers share out
 abbrev pub parts_of : Share → List (List Call)
 parts_of share = map (λ p. p.now) share.parts.now
 
+-- the orders that they share out
 abbrev pub orders_of : Share → List (List OpId)
 orders_of share = map (λ o. o.now) share.orders.now
 

@@ -11,7 +11,7 @@ use std::alloc::Global;
 use tag::{Key, Memory, OpId};
 
 /// A key, with its part and its order.
-#[derive(Clone, Copy)]
+#[derive(Clone, Copy, Debug)]
 pub struct KeyToCheck<'a> {
     pub key: &'a Key,
     pub part: &'a Part,
@@ -156,7 +156,7 @@ fn add_others<'a>(
 
 /// What is checked of these parts and orders: the keys that have parts, in order, then those that
 /// only the orders have, whose part is `nothing`.
-pub(crate) fn keys_to_check<'a>(
+pub fn keys_to_check<'a>(
     alloc: Global,
     parts: &'a [Parts],
     orders: &'a [KeyOrder],

@@ -7,6 +7,7 @@ use Rattle.cli.proofs.words.abd_words.Goals as goal
 pub returns : goal.returns
 returns c =
     let with_check = c.in_ok-words.ensures ∙ ap₂ with_subcommand c.bare_words.ensures (ap (λ (a : App). a.top) c.in_ok-check_words.ensures.app) in
-    let with_justify = c.in_ok-words-2.ensures ∙ ap₂ with_subcommand with_check (ap (λ (a : App). a.top) c.in_ok-justify_words.ensures.app) in
-    let with_simulate = c.in_ok-words-3.ensures ∙ ap₂ with_subcommand with_justify (ap (λ (a : App). a.top) c.in_ok-simulate_words.ensures.app) in
-    IfOk-weaker c.with_command-4.result _ _ (λ r h. h ∙ ap₂ with_subcommand with_simulate (ap (λ (a : App). a.top) c.in_ok-run_words.ensures.app)) c.with_command-4.ensures
+    let with_explain = c.in_ok-words-2.ensures ∙ ap₂ with_subcommand with_check (ap (λ (a : App). a.top) c.in_ok-explain_words.ensures.app) in
+    let with_justify = c.in_ok-words-3.ensures ∙ ap₂ with_subcommand with_explain (ap (λ (a : App). a.top) c.in_ok-justify_words.ensures.app) in
+    let with_simulate = c.in_ok-words-4.ensures ∙ ap₂ with_subcommand with_justify (ap (λ (a : App). a.top) c.in_ok-simulate_words.ensures.app) in
+    IfOk-weaker c.with_command-5.result _ _ (λ r h. h ∙ ap₂ with_subcommand with_simulate (ap (λ (a : App). a.top) c.in_ok-run_words.ensures.app)) c.with_command-5.ensures

@@ -7,13 +7,14 @@ use Rattle.tag.proofs.Options.{none_some}
 use Rattle.parallel_keys.specs.Workers.{IsWorkerCount}
 use Rattle.cli.specs.Words.{AsksWorkers, MakesAs, NamesFiles}
 use Rattle.cli.specs.declared.command_line.Command.{Command}
-use Rattle.cli.specs.declared.command_line.Command.TheVariants.{Check, Justify, Run, Simulate}
+use Rattle.cli.specs.declared.command_line.Command.TheVariants.{Check, Explain, Justify, Run, Simulate}
 use Rattle.cli.proofs.CommandNames.{differ}
 use Rattle.cli.proofs.words.check_in.Goals as goal
 
 -- the rows make no `check`, and so no command of that name
 not_check : (rows : List Row) → ((history orders : Text) (workers : ℕ) → NamesFiles rows history orders → AsksWorkers rows workers → ⊥) → (command : Command) → MakesAs (codes "check") rows command → ⊥
 not_check rows none (Check history orders workers) makes = none history.now orders.now workers makes.1.0 makes.1.1
+not_check rows none (Explain asked) makes = differ (codes "explain") (codes "check") refl makes.0
 not_check rows none (Justify history) makes = differ (codes "justify") (codes "check") refl makes.0
 not_check rows none (Simulate script) makes = differ (codes "simulate") (codes "check") refl makes.0
 not_check rows none (Run asked) makes = differ (codes "run") (codes "check") refl makes.0

@@ -4,13 +4,14 @@ use Rattle.clap.specs.Words.{first_of, found_of, rows_of, Row}
 use Rattle.clap.proofs.WalkLemmas.{first_value-rows}
 use Rattle.cli.specs.Words.{MakesAs}
 use Rattle.cli.specs.declared.command_line.Command.{Command}
-use Rattle.cli.specs.declared.command_line.Command.TheVariants.{Check, Justify, Run, Simulate}
+use Rattle.cli.specs.declared.command_line.Command.TheVariants.{Check, Explain, Justify, Run, Simulate}
 use Rattle.cli.proofs.CommandNames.{differ}
 use Rattle.cli.proofs.words.justify_in.Goals as goal
 
 -- without the file, the rows make no command of that name
 no_history : (rows : List Row) → first_of (codes "HISTORY") rows ≡ None → (command : Command) → MakesAs (codes "justify") rows command → ⊥
 no_history rows none (Check history orders workers) makes = differ (codes "check") (codes "justify") refl makes.0
+no_history rows none (Explain asked) makes = differ (codes "explain") (codes "justify") refl makes.0
 no_history rows none (Justify history) makes = let h = makes.1 in cc
 no_history rows none (Simulate script) makes = differ (codes "simulate") (codes "justify") refl makes.0
 no_history rows none (Run asked) makes = differ (codes "run") (codes "justify") refl makes.0

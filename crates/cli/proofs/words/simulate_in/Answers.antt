@@ -4,13 +4,14 @@ use Rattle.clap.specs.Words.{first_of, found_of, rows_of, Row}
 use Rattle.clap.proofs.WalkLemmas.{first_value-rows}
 use Rattle.cli.specs.Words.{MakesAs}
 use Rattle.cli.specs.declared.command_line.Command.{Command}
-use Rattle.cli.specs.declared.command_line.Command.TheVariants.{Check, Justify, Run, Simulate}
+use Rattle.cli.specs.declared.command_line.Command.TheVariants.{Check, Explain, Justify, Run, Simulate}
 use Rattle.cli.proofs.CommandNames.{differ}
 use Rattle.cli.proofs.words.simulate_in.Goals as goal
 
 -- without the file, the rows make no command of that name
 no_script : (rows : List Row) → first_of (codes "SCRIPT") rows ≡ None → (command : Command) → MakesAs (codes "simulate") rows command → ⊥
 no_script rows none (Check history orders workers) makes = differ (codes "check") (codes "simulate") refl makes.0
+no_script rows none (Explain asked) makes = differ (codes "explain") (codes "simulate") refl makes.0
 no_script rows none (Justify history) makes = differ (codes "justify") (codes "simulate") refl makes.0
 no_script rows none (Simulate script) makes = let h = makes.1 in cc
 no_script rows none (Run asked) makes = differ (codes "run") (codes "simulate") refl makes.0

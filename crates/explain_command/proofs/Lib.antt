@@ -1,0 +1,6 @@
+mod ExplanationLines
+mod Selecting
+mod Reporting
+mod Ending
+mod SoundKeys
+mod CheckStatus

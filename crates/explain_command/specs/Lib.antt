@@ -1,0 +1,4 @@
+pub mod Explanations
+pub mod KeyExplanations
+pub mod Reports
+pub mod Endings

@@ -1,0 +1,18 @@
+//! `abd explain`: key by key the verdict, and of a no the calls that show it.
+//!
+//! Each line is that of the verdict on a key's order, or without orders on the tags of its calls.
+//! Under the first refused keys stands why: with each call the lines of the history file on which it
+//! stands. Nothing is written before the whole text is made. It takes the time of one check of each
+//! key, on the caller's thread.
+#![tactic(auto)]
+
+mod explain;
+mod explain_keys;
+mod find_hall;
+mod judged;
+pub mod laws;
+mod report;
+mod selection;
+
+pub use explain::{explain_orders_command, explain_tags_command};
+pub use selection::Selection;

@@ -1,0 +1,200 @@
+//! What is said of keys.
+ghost use Rattle.std.specs.Prelude.{◌≡◌, ◌<◌, ◌+◌, ◌-◌, ◌++◌, [], ◌↔◌, IsTrue, OnOk, Some};
+ghost use Rattle.certificate_check.specs.Verdicts.{IsFault};
+ghost use Rattle.parallel_keys.specs.KeysToCheck.{what_of};
+ghost use Rattle.tag_check.specs.Verdicts.{IsTagVerdict};
+ghost use Rattle.explain_command.specs.Explanations.{left_out_line, missing_line};
+ghost use Rattle.explain_command.specs.KeyExplanations.{HasLinesOfEach, ExplainsOrder, ExplainsTags};
+ghost use Rattle.explain_command.specs.KeyExplanations.{tag_line};
+ghost use Rattle.explain_command.specs.Reports.{AddsOf, Explains};
+
+use crate::find_hall::hall_of;
+use crate::judged::Judged;
+use certificate_check::{Fault, Verdict, check_part};
+use cli::{append, append_line, append_number};
+use explanations::{append_order_reason, append_rule, append_tag_reason};
+use history_file::NumberedHistories;
+use parallel_keys::KeyToCheck;
+use reasons::{order_reason, tag_reason};
+use std::alloc::Global;
+use tag::{Key, Memory};
+use tag_check::{BrokenRule, check_tags};
+
+/// What is said of the keys so far.
+#[derive(Debug, Drop)]
+pub(crate) struct Report {
+    /// The text.
+    pub(crate) text: Vec<u8>,
+    /// How many keys are refused.
+    pub(crate) refused: usize,
+    /// How many of them have their reason said, at most.
+    pub(crate) most: u16,
+}
+
+impl Report {
+    /// Nothing said.
+    pub(crate) fn new(alloc: Global, most: u16) -> Report
+        ensures text { result.text.items ≡ [] }
+        ensures refused { result.refused ≡ 0 }
+        ensures most { result.most ≡ most }
+    {
+        Report {
+            text: Vec::new(alloc),
+            refused: 0,
+            most,
+        }
+    }
+
+    /// Counts a key that is refused. Whether its reason is said.
+    fn count_refused(&mut self) -> bool
+        requires { self.old.refused < usize.MAX }
+        ensures said { IsTrue result ↔ (self.old.refused < self.old.most) }
+        ensures text { self.new.text ≡ self.old.text }
+        ensures refused { self.new.refused ≡ self.old.refused + 1 }
+        ensures most { self.new.most ≡ self.old.most }
+    {
+        let is_said = self.refused < usize::from(self.most);
+        self.refused += 1;
+        is_said
+    }
+
+    /// Says that the key's order has that fault, and why.
+    fn refuse_order(
+        &mut self,
+        numbered: &NumberedHistories,
+        one: &KeyToCheck<'_>,
+        fault: Fault,
+    ) -> Result<(), Memory>
+        requires fault { IsFault one.now.part.now one.now.order.now fault }
+        requires lines { HasLinesOfEach numbered.now }
+        requires room { self.old.refused < usize.MAX }
+        ensures { OnOk result
+            (AddsOf (ExplainsOrder numbered.now (what_of one.now)) self.old self.new) }
+    {
+        append_line(&mut self.text, one.key, Verdict::No(fault))?;
+        let reason = order_reason(one.part, one.order, fault);
+        let hall = hall_of(numbered, one.key);
+        if !self.count_refused() {
+            return Ok(());
+        }
+        append_order_reason(&mut self.text, one.key, &hall, &reason)
+    }
+
+    /// Says the verdict on the key's order, and why it is refused.
+    fn say_order(
+        &mut self,
+        alloc: Global,
+        numbered: &NumberedHistories,
+        one: &KeyToCheck<'_>,
+    ) -> Result<(), Memory>
+        requires lines { HasLinesOfEach numbered.now }
+        requires room { self.old.refused < usize.MAX }
+        ensures { OnOk result
+            (AddsOf (ExplainsOrder numbered.now (what_of one.now)) self.old self.new) }
+    {
+        match check_part(alloc, one.part, one.order)? {
+            Verdict::Yes => append_line(&mut self.text, one.key, Verdict::Yes),
+            Verdict::No(fault) => self.refuse_order(numbered, one, fault),
+        }
+    }
+
+    /// Says on a line that the key's tags break the rule.
+    fn say_rule(&mut self, key: &Key, rule: BrokenRule) -> Result<(), Memory>
+        ensures text { OnOk result
+            (self.new.text.items ≡ self.old.text.items ++ tag_line key.now rule) }
+        ensures refused { self.new.refused ≡ self.old.refused }
+        ensures most { self.new.most ≡ self.old.most }
+    {
+        append(&mut self.text, key.as_str())?;
+        append(&mut self.text, ": no tags ")?;
+        append_rule(&mut self.text, rule)?;
+        append(&mut self.text, "\n")
+    }
+
+    /// Says that the key's tags break the rule, and why.
+    fn refuse_tags(
+        &mut self,
+        numbered: &NumberedHistories,
+        one: &KeyToCheck<'_>,
+        rule: BrokenRule,
+    ) -> Result<(), Memory>
+        requires rule { IsTagVerdict one.now.part.now (Some rule) }
+        requires lines { HasLinesOfEach numbered.now }
+        requires room { self.old.refused < usize.MAX }
+        ensures { OnOk result
+            (AddsOf (ExplainsTags numbered.now (one.now.key.now, one.now.part.now)) self.old self.new) }
+    {
+        self.say_rule(one.key, rule)?;
+        let reason = tag_reason(one.part, rule);
+        let hall = hall_of(numbered, one.key);
+        if !self.count_refused() {
+            return Ok(());
+        }
+        append_tag_reason(&mut self.text, one.key, &hall, &reason)
+    }
+
+    /// Says whether the key's tags are sound, and why they aren't.
+    fn say_tags(
+        &mut self,
+        alloc: Global,
+        numbered: &NumberedHistories,
+        one: &KeyToCheck<'_>,
+    ) -> Result<(), Memory>
+        requires lines { HasLinesOfEach numbered.now }
+        requires room { self.old.refused < usize.MAX }
+        ensures { OnOk result
+            (AddsOf (ExplainsTags numbered.now (one.now.key.now, one.now.part.now)) self.old self.new) }
+    {
+        match check_tags(alloc, one.part)? {
+            None => append_line(&mut self.text, one.key, Verdict::Yes),
+            Some(rule) => self.refuse_tags(numbered, one, rule),
+        }
+    }
+
+    /// Says the line of a key, and why it is refused.
+    pub(crate) fn say(
+        &mut self,
+        alloc: Global,
+        judged: Judged,
+        numbered: &NumberedHistories,
+        one: &KeyToCheck<'_>,
+    ) -> Result<(), Memory>
+        requires lines { HasLinesOfEach numbered.now }
+        requires room { self.old.refused < usize.MAX }
+        ensures { OnOk result
+            (AddsOf (Explains judged numbered.now (what_of one.now)) self.old self.new) }
+    {
+        match judged {
+            Judged::Orders => self.say_order(alloc, numbered, one),
+            Judged::Tags => self.say_tags(alloc, numbered, one),
+        }
+    }
+
+    /// Says that no key has the name, if so.
+    pub(crate) fn say_missing(&mut self, is_missing: bool) -> Result<(), Memory>
+        ensures text { OnOk result (self.new.text.items
+            ≡ self.old.text.items ++ missing_line is_missing) }
+        ensures refused { self.new.refused ≡ self.old.refused }
+        ensures most { self.new.most ≡ self.old.most }
+    {
+        if is_missing {
+            append(&mut self.text, "no such key\n")
+        } else {
+            Ok(())
+        }
+    }
+
+    /// Says how many refused keys have no reason here, if any has none.
+    pub(crate) fn say_left_out(&mut self) -> Result<(), Memory>
+        ensures text { OnOk result (self.new.text.items
+            ≡ self.old.text.items ++ left_out_line (self.old.refused - self.old.most)) }
+        ensures refused { self.new.refused ≡ self.old.refused }
+    {
+        let left = self.refused.saturating_sub(usize::from(self.most));
+        if left == 0 {
+            return Ok(());
+        }
+        append_number(&mut self.text, "refused keys not explained: ", left as u64)?;
+        append(&mut self.text, "; --most N says how many are\n")
+    }
+}
