@@ -246,6 +246,13 @@ seat_recorded client z hall is recorded =
     let stopped : z.is_stopped ≡ is_stopped (phase_at hall.world client) = ap (λ (y : View). y.is_stopped) is in
     (is ∙ (λ i. seat client (sym rows i) (sym stopped i)), subst AreRecorded (sym rows) recorded)
 
+-- a client's pass, once it has given the hall back
+pub seat_left : {client : ℕ} {v w z : View} {old : Hall} (new : Hall) → v ≡ seat client v.rows v.is_stopped → Receives v old w
+    → Returns w new z → KeepsStopped w new.world → AreRecorded new.world.history.rows
+    → (z ≡ seat client z.rows z.is_stopped) × AreRecorded z.rows
+seat_left {client} {v} {w} {z} {old} new is received returned keeps recorded =
+    seat_recorded client z new (client_turn new is received returned keeps).is recorded
+
 -- ---- the rows of each turn
 
 pub invoked_op : (s : System) (name : ℕ) (key : List ℕ) (action : Action) (op : OpId)
@@ -343,7 +350,7 @@ ended {client} {v} {z} {old} {new} turn op returned place adds same ready at =
     (responded_runs old new client ready.state returned ready.there ready.answer same)
 
 pub heard : {client : ℕ} {v z : View} {old new : Hall} → ClientTurn client v old new z → (flight : ℕ)
-    → AddsOwnRows (receiver (message_of old.world.pool.flights flight)) old.world new.world
+    → AddsOwnRows (Some client) old.world new.world
     → receiver (message_of old.world.pool.flights flight) ≡ Some client → refusal_of old.world (step.Deliver flight) ≡ None
     → new ≡ with_step old (step.Deliver flight) → TakesReply (seen client v) (seen client z)
 heard {client} {v} {z} {old} {new} turn flight adds names none same =
@@ -352,7 +359,7 @@ heard {client} {v} {z} {old} {new} turn flight adds names none same =
     let notes : IsNoted old.world.history.rows new.world.history.rows =
     subst (IsNoted old.world.history.rows) (sym moved_to) (delivered_rows old.world flight client
     (message_of old.world.pool.flights flight) names) in
-    took_reply client v old new z turn notes (subst (λ o. AddsOwnRows o old.world new.world) names adds)
+    took_reply client v old new z turn notes adds
     (delivered_runs old new flight client names none same)
 
 -- a turn of the door, as the client's pass says it

@@ -37,6 +37,12 @@ guest_recorded z hall is recorded =
 pub free_turn : (v w z : View) (old new : Hall) → v ≡ guest v.rows → Receives v old w → Returns w new z → z ≡ guest new.world.history.rows
 free_turn v w z old new is received returned = rested v w z old new received.is returned ∙ ap (λ y. view_at_rest y new.world) is
 
+-- a pass without a client, once it has given the hall back
+pub guest_left : {v w z : View} {old : Hall} (new : Hall) → v ≡ guest v.rows → Receives v old w → Returns w new z
+    → AreRecorded new.world.history.rows → (z ≡ guest z.rows) × AreRecorded z.rows
+guest_left {v} {w} {z} {old} new is received returned recorded =
+    guest_recorded z new (free_turn v w z old new is received returned) recorded
+
 pub served : (v w : View) (step : Step) (result : Result Effect Refusal) → Turns v step result w → ServesStep v.rows step result w.rows
 served v w step result turn = record {
   before = turn.before;

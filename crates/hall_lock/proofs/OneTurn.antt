@@ -1,7 +1,7 @@
 -- What one turn with the hall adds, and what it leaves.
 use Rattle.std.proofs.Common.{◌≡◌, ◌≤◌, ℕ, is_some, List, [], ◌∷◌, ◌++◌, Option, Some, None, Result, Ok, Err, length, slice_get, refl}
 use Rattle.std.proofs.Common.{sym, ap, ◌∙◌, subst}
-use Rattle.std.specs.Prelude.{if◌then◌else◌}
+use Rattle.std.specs.Prelude.{if◌then◌else◌, OnErr, OnOk}
 use Rattle.tag.proofs.Options.{none_some}
 use Rattle.recorder.specs.Histories.{IsWellFormed}
 use Rattle.recorder.specs.declared.row.Row.{Row}
@@ -190,6 +190,21 @@ guest_returns v w old new is received adds =
 pub same_returns : (v w : View) (old new : Hall) → Receives v old w → new ≡ old → MayReturn w new.world
 same_returns v w old new received same =
     returnable v w old new.world received.is (kept_adds v.client old.world new.world (ap (λ (h : Hall). h.world) same))
+
+pub unchanged_returns : {v w : View} {hall : Hall} → Receives v hall w → MayReturn w hall.world
+unchanged_returns {v} {w} {hall} received = same_returns v w hall hall received refl
+
+-- by the pass of a client, whether rows of its calls were added or the hall is as it was
+pub seat_gives : {T E : Type 0} {client : ℕ} {v w : View} {old : Hall} (new : Hall) (r : Result T E) → v ≡ seat client v.rows v.is_stopped
+    → Receives v old w → OnOk r (AddsOwnRows (Some client) old.world new.world) → OnErr r (new ≡ old) → MayReturn w new.world
+seat_gives {T} {E} {client} {v} {w} {old} new (Ok x) is received adds same = seat_returns client v w old new.world is received adds
+seat_gives {T} {E} {client} {v} {w} {old} new (Err e) is received adds same = same_returns v w old new received same
+
+-- the same by a pass without a client
+pub guest_gives : {T E : Type 0} {v w : View} {old : Hall} (new : Hall) (r : Result T E) → v ≡ guest v.rows
+    → Receives v old w → OnOk r (AddsOwnRows None old.world new.world) → OnErr r (new ≡ old) → MayReturn w new.world
+guest_gives {T} {E} {v} {w} {old} new (Ok x) is received adds same = guest_returns v w old new.world is received adds
+guest_gives {T} {E} {v} {w} {old} new (Err e) is received adds same = same_returns v w old new received same
 
 pub rested : (v w z : View) (old hall : Hall) → w ≡ view_with_hall v old.world → Returns w hall z → z ≡ view_at_rest v hall.world
 rested v w z old hall is returned = returned ∙ ap (λ y. view_at_rest y hall.world) is

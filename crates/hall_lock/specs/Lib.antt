@@ -1,1 +1,2 @@
 pub mod Turns
+pub use Rattle.hall_journal.specs.Halls

@@ -4,7 +4,7 @@ ghost use Rattle.std.specs.Prelude.{IfSome, OnErr, OnOk, IsTrue, length, ℕ};
 ghost use Rattle.std.specs.Option.{option_copied};
 ghost use Rattle.network.specs.Flights.{message_of};
 ghost use Rattle.recorder.specs.declared.row.Row.TheVariants as row;
-ghost use Rattle.world_steps.specs.Lasting.{HasStopped, client_in};
+ghost use Rattle.world_steps.specs.Lasting.{HasStopped};
 ghost use Rattle.world_steps.specs.Refusals.{refusal_of};
 ghost use Rattle.world_steps.specs.declared.effect.Effect.{Effect};
 ghost use Rattle.world_steps.specs.declared.effect.Effect.TheVariants as effect;
@@ -267,8 +267,7 @@ fn deliver_in(hall: &mut Hall, client: ClientId, flight: u32) -> Result<Taken, R
     ensures refused { OnErr result (hall.new ≡ hall.old) }
     ensures why { IfErr result (λ why.
         DeliversFlight (IsToClient client) hall.old flight (Err why) hall.new) }
-    ensures adds { OnOk result (AddsOwnRows (client_in hall.old.world (event.Deliver flight))
-        hall.old.world hall.new.world) }
+    ensures adds { OnOk result (AddsOwnRows (Some client) hall.old.world hall.new.world) }
 {
     if !is_for(hall.world().pool().look(flight), client) {
         return Err(Refusal::NotInFlight);

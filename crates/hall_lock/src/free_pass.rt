@@ -5,7 +5,7 @@ ghost use Rattle.std.specs.Option.{option_copied};
 ghost use Rattle.network.specs.Flights.{message_of};
 ghost use Rattle.network.specs.declared.messages.Message.{Message};
 ghost use Rattle.recorder.specs.declared.row.Row.{Row};
-ghost use Rattle.world_steps.specs.Lasting.{Grows, client_in};
+ghost use Rattle.world_steps.specs.Lasting.{Grows};
 ghost use Rattle.world_steps.specs.SoundSystems.{IsSound};
 ghost use Rattle.world_steps.specs.declared.effect.Effect.TheVariants as effect;
 ghost use Rattle.world_steps.specs.declared.step.Step.TheVariants as event;
@@ -150,8 +150,7 @@ fn serve_in(hall: &mut Hall, replica: ReplicaId, flight: u32) -> Result<u32, Ref
     ensures refused { OnErr result (hall.new ≡ hall.old) }
     ensures why { IfErr result (λ why.
         DeliversFlight (IsToReplica replica) hall.old flight (Err why) hall.new) }
-    ensures adds { OnOk result (AddsOwnRows (client_in hall.old.world (event.Deliver flight))
-        hall.old.world hall.new.world) }
+    ensures adds { OnOk result (AddsOwnRows None hall.old.world hall.new.world) }
 {
     if !is_to(hall.world().pool().look(flight), replica) {
         return Err(Refusal::NotInFlight);

@@ -1,5 +1,6 @@
 -- What a load comes to.
 use Rattle.std.specs.Prelude.{ℕ, ◌≡◌, List, [], ◌∷◌, ◌++◌, Option, Some, None, IfOk, map}
+use Rattle.tag.specs.Limits.{call_limit}
 use Rattle.node_threads.specs.Closings.{Closes}
 use Rattle.node_threads.specs.Stores.{Store}
 use Rattle.node_threads.specs.declared.config.StoreConfig.{StoreConfig}
@@ -12,10 +13,18 @@ use Rattle.load.specs.declared.callers.Called.{Called}
 use Rattle.load.specs.declared.load_run.LoadOutcome.{LoadOutcome}
 use Rattle.load.specs.declared.load_run.Refused.{Refused}
 
--- what is fixed of each hall's world
+-- how many messages may be sent in each hall of a load's store
+abbrev pub load_messages : ℕ
+load_messages = 4000000
+
+-- what is fixed of each hall's world: as many calls as a record may have
 abbrev pub world_of : LoadOptions → Config
-world_of load =
-    record { quorums = load.quorums; reads = load.reads; calls = 1000000; flights = 4000000 }
+world_of load = record {
+  quorums = load.quorums;
+  reads = load.reads;
+  calls = call_limit;
+  flights = load_messages;
+}
 
 -- how the store that is started is configured
 abbrev pub settings_of : LoadOptions → StoreConfig

@@ -11,6 +11,10 @@ pub record Store (G : Type 0) : Type 0 where
   pub config : StoreConfig
   pub gate : G
 
+-- the most rounds of messages in a phase of a call
+abbrev pub round_limit : ℕ
+round_limit = 10000
+
 -- how many replicas a store that is so configured has
 abbrev pub replica_count : StoreConfig → ℕ
 replica_count config = length config.world.quorums.votes

@@ -1,5 +1,5 @@
 //! How a client joins the halls of a store, and what is left of it if one refuses.
-ghost use Rattle.std.specs.Prelude.{◌≡◌, ◌<◌, ◌+◌, [], length, IfOk, OnErr, OnOk};
+ghost use Rattle.std.specs.Prelude.{◌≡◌, ◌+◌, [], length, IfOk, OnErr, OnOk};
 ghost use Rattle.node_threads.specs.Joins.{AreOfClient, AreOfStoppedClient};
 ghost use Rattle.seats.specs.Seats.{AreFresh, AreZero};
 
@@ -21,7 +21,8 @@ pub(crate) fn none_seen(alloc: Global, halls: usize) -> Result<Vec<usize>, Memor
     Ok(seen)
 }
 
-/// Has the client join all these halls. If one refuses, the client is stopped in those that it joined.
+/// Has the client join all these halls, one after another; their passes come in their order. If one refuses, the
+/// client is stopped in those that it joined.
 pub(crate) fn enter_halls<R: Wait>(
     rt: &R,
     roots: &[Mutex<FreePass>],
@@ -33,28 +34,11 @@ pub(crate) fn enter_halls<R: Wait>(
     ensures all { OnOk result (length passes.new.items ≡ length roots.now) }
     ensures stopped { OnErr result (AreOfStoppedClient client passes.new.items) }
 {
-    if let Err(error) = join_halls(rt, roots, client, passes) {
-        stop_all(rt, client, passes);
-        return Err(error);
-    }
-    Ok(())
-}
-
-/// Has the client join these halls, one after another, up to the first that refuses. The passes of those
-/// that it joined come in their order.
-fn join_halls<R: Wait>(
-    rt: &R,
-    roots: &[Mutex<FreePass>],
-    client: ClientId,
-    passes: &mut Vec<ClientPass>,
-) -> Result<(), JoinError>
-    requires { passes.old.items ≡ [] }
-    ensures fresh { AreFresh client passes.new.items }
-    ensures fewer { OnErr result (length passes.new.items < length roots.now) }
-    ensures all { OnOk result (length passes.new.items ≡ length roots.now) }
-{
     for root in roots {
-        join_hall(rt, root, passes, client)?;
+        if let Err(error) = join_hall(rt, root, passes, client) {
+            stop_all(rt, client, passes);
+            return Err(error);
+        }
     }
     Ok(())
 }

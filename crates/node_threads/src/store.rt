@@ -8,7 +8,7 @@ ghost use Rattle.seats.specs.Answers.{FailsWith, LeavesUnanswered, HasReason, Is
 ghost use Rattle.node_threads.specs.Closings.{Closes, HasForeign, IsOfAnotherStore, IsOfStore};
 ghost use Rattle.node_threads.specs.Joins.{IsNewSeat};
 ghost use Rattle.node_threads.specs.Snapshots.{IsSnapshotFor};
-ghost use Rattle.node_threads.specs.Stores.{replica_count};
+ghost use Rattle.node_threads.specs.Stores.{replica_count, round_limit};
 
 use crate::closing::{Closed, are_logged, are_of_store, closed_halls, end_replicas, is_of_store};
 use crate::config::StoreConfig;
@@ -63,13 +63,13 @@ impl<G: Gate + Send + Sync + Drop + 'static> Store<G> {
     ) -> Result<Store<G>, StartError>
     where
         R: Threads + Wait + Copy + Send + 'static,
-        requires { (1 ≤ config.rounds) × (config.rounds ≤ 10000) }
+        requires { (1 ≤ config.rounds) × (config.rounds ≤ round_limit) }
         ensures { IfOk result (λ store. store ≡ record { config = config; gate = gate }) }
     {
-        let gate = Arc::new(alloc, gate).map_err(|_| StartError::Memory)?;
+        let gate = Arc::new(alloc, gate)?;
         let roots = open_halls(rt, alloc, config.halls, config.world)?;
         let replicas = usize::from(config.world.replicas());
-        let (ended, ends) = bounded(alloc, replicas).map_err(|_| StartError::Memory)?;
+        let (ended, ends) = bounded(alloc, replicas)?;
         let channels = start_replicas(rt, alloc, &config, &roots, &gate, &ended)?;
         Ok(Store {
             config,
@@ -134,11 +134,11 @@ where
     R: Threads + Wait + Copy + Send + 'static,
     G: Gate + Send + Sync + Drop + 'static,
 {
-    let (channel, parcels) = unbounded(alloc).map_err(|_| StartError::Memory)?;
+    let (channel, parcels) = unbounded(alloc)?;
     let passes = others(rt, alloc, roots)?;
-    let ended = ended.clone().map_err(|_| StartError::Memory)?;
+    let ended = ended.clone()?;
     let own = *rt;
-    let theirs = Arc::try_clone(gate).map_err(|_| StartError::Memory)?;
+    let theirs = Arc::try_clone(gate)?;
     let started = thread::spawn(rt, move || {
         serve(&own, &*theirs, replica, passes, parcels);
         // Each replica's end has its room from the start, so this neither waits nor takes memory.

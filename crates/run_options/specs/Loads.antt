@@ -22,6 +22,10 @@ most_rounds = 10000
 abbrev pub most_apart : ℕ
 most_apart = 1000
 
+-- the most votes that the replicas of a load may have together: 15 replicas with 9 each
+abbrev pub most_votes : ℕ
+most_votes = 135
+
 -- a load has at least one caller, call, key and round, and none of its numbers is above its limit
 pub record IsWithinLimits (load : LoadOptions) : Type 0 where
   pub some_caller : 1 ≤ load.callers

@@ -1,12 +1,16 @@
 -- What the words after `abd run` ask for, by clap's reading of them: of each option what stands
 -- after it, or else its default.
-use Rattle.std.specs.Prelude.{ℕ, ◌≡◌, ◌<◌, ◌≤◌, ◌+◌, ◌⊎◌, List, Some, None, All, length, map, codes}
+use Rattle.std.specs.Prelude.{ℕ, ◌≡◌, ◌<◌, ◌≤◌, ◌+◌, ◌-◌, ◌⊎◌, List, Some, None, All, length}
+use Rattle.std.specs.Prelude.{map, codes}
 use Rattle.std.specs.Str.Parse.{IsNumeral, digits_value, without_leading_plus}
 use Rattle.clap.specs.Words.{Row, Text, first_of}
 use Rattle.client_phases.specs.declared.rules.ReadMode.{ReadMode}
 use Rattle.client_phases.specs.declared.rules.ReadMode.TheVariants.{Full, Short}
+use Rattle.tag.specs.Limits.{replica_limit}
+use Rattle.recorder.specs.Halls.{hall_limit}
 use Rattle.quorum.specs.Quorums.{IsLawful, Quorums, majority_of}
 use Rattle.run_options.specs.Loads.{most_apart, most_callers, most_calls, most_keys, most_rounds}
+use Rattle.run_options.specs.Loads.{most_votes}
 use Rattle.run_options.specs.declared.asked.RunAsked.{RunAsked}
 use Rattle.run_options.specs.declared.asked.Shown.{Shown}
 use Rattle.run_options.specs.declared.asked.Shown.TheVariants as shown
@@ -64,8 +68,8 @@ module _ (rows : List Row) where
     pub text : Text
     pub given : first_of (codes "votes") rows ≡ Some text
     pub digits : AreDigits text quorums.votes
-    pub ask : AsksNumber (codes "ask") 1 135 quorums.ask
-    pub put : AsksNumber (codes "put") 1 135 quorums.put
+    pub ask : AsksNumber (codes "ask") 1 most_votes quorums.ask
+    pub put : AsksNumber (codes "put") 1 most_votes quorums.put
     pub lawful : IsLawful quorums
 
   -- none of the three stands there, and the quorums are the majorities
@@ -89,7 +93,7 @@ module _ (rows : List Row) where
 
   -- --show has the number of a hall
   pub record AsksHall (halls hall : ℕ) : Type 0 where
-    pub number : AsksNumber (codes "show") 0 63 hall
+    pub number : AsksNumber (codes "show") 0 (hall_limit - 1) hall
     pub below : hall < halls
 
   -- neither --show nor --votes stands there, and there is one hall
@@ -121,9 +125,9 @@ module _ (rows : List Row) where
   -- what is asked for: how large the load is, its halls and replicas, how its clients read, and
   -- which histories are written
   pub record AsksRun (asked : RunAsked) : Type 0 where
-    pub replicas : AsksNumber (codes "replicas") 1 15 (length asked.load.quorums.votes)
+    pub replicas : AsksNumber (codes "replicas") 1 replica_limit (length asked.load.quorums.votes)
     pub counts : AsksCounts (counts_of asked.load)
-    pub halls : AsksNumber (codes "halls") 1 64 asked.load.halls
+    pub halls : AsksNumber (codes "halls") 1 hall_limit asked.load.halls
     pub reads : AsksReads asked.load.reads
     pub shown : AsksShown asked.load.halls asked.shown
     pub quorums : AsksQuorums asked.load.quorums

@@ -1,6 +1,7 @@
 //! The quorums that words ask for.
 ghost use Rattle.std.specs.Prelude.{◌≡◌, ◌≤◌, ◌↔◌, Some, IsTrue, MatchResult, codes};
 ghost use Rattle.clap.specs.Words.{first_of, found_of, rows_of};
+ghost use Rattle.tag.specs.Limits.{replica_limit};
 ghost use Rattle.run_options.specs.RunWords.{AreDigits, AsksQuorumsOf, AsksVotesOf, IsMissed};
 
 use crate::fault::RunFault;
@@ -65,7 +66,7 @@ pub(crate) fn quorums_in<'a>(
     replicas: u8,
 ) -> Result<Quorums, RunFault>
     requires least { 1 ≤ replicas }
-    requires most { replicas ≤ 15 }
+    requires most { replicas ≤ replica_limit }
     ensures { MatchResult result (AsksQuorumsOf (rows_of (found_of matches.now)) replicas)
         (IsMissed (AsksQuorumsOf (rows_of (found_of matches.now)) replicas)) }
 {

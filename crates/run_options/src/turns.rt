@@ -1,5 +1,7 @@
 //! Which call a caller makes at a turn.
-ghost use Rattle.std.specs.Prelude.{◌≡◌, ◌≤◌, IfOk, length, string_bytes};
+ghost use Rattle.std.specs.Prelude.{◌≡◌, ◌<◌, ◌≤◌, IfOk, length, string_bytes};
+ghost use Rattle.tag.specs.Limits.{value_limit};
+ghost use Rattle.run_options.specs.Loads.{most_keys};
 ghost use Rattle.run_options.specs.Turns.{action_at, key_at, key_number, key_text, value_text, writes};
 
 use itoa::Buffer;
@@ -45,7 +47,7 @@ fn writes(turn: Turn) -> bool
 
 /// The key of that number.
 fn key_of(alloc: Global, number: u8) -> Result<Key, Memory>
-    requires { number ≤ 7 }
+    requires { number < most_keys }
     ensures { IfOk result (λ key. key ≡ key_text number) }
 {
     let text = match number {
@@ -68,7 +70,7 @@ fn key_of(alloc: Global, number: u8) -> Result<Key, Memory>
 /// The text of the turn: a c with the caller, and a t with the turn's number.
 fn text_of(alloc: Global, turn: Turn) -> Result<String, AllocError>
     ensures text { IfOk result (λ text. string_bytes text ≡ value_text turn) }
-    ensures short { IfOk result (λ text. length (string_bytes text) ≤ 256) }
+    ensures short { IfOk result (λ text. length (string_bytes text) ≤ value_limit) }
 {
     let mut digits = Buffer::new();
     let mut text = String::from_str(alloc, "c")?;
@@ -106,7 +108,7 @@ fn action_of(alloc: Global, turn: Turn) -> Result<Action, Memory>
 /// was refused.
 pub fn call_at(alloc: Global, turn: Turn) -> Result<(Key, Action), Memory>
     requires least { 1 ≤ turn.keys }
-    requires most { turn.keys ≤ 8 }
+    requires most { turn.keys ≤ most_keys }
     ensures key { IfOk result (λ call. call.0 ≡ key_at turn) }
     ensures action { IfOk result (λ call. call.1 ≡ action_at turn) }
 {

@@ -5,5 +5,6 @@ pub mod Outcomes
 pub mod Parcels
 pub mod Receipts
 pub mod Seats
+pub mod SeatFields
 pub mod Answers
 pub mod Comparisons

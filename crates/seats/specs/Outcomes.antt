@@ -3,6 +3,7 @@ use Rattle.std.specs.Prelude.{ℕ, ◌≡◌, ◌≤◌, true, List}
 use Rattle.tag.specs.declared.actions.Action.{Action}
 use Rattle.hall_lock.specs.declared.client_pass.Begun.{Begun}
 use Rattle.hall_lock.specs.declared.client_pass.Ended.{Ended}
+use Rattle.hall_lock.specs.Halls.{most_elements}
 use Rattle.hall_lock.specs.Turns.{ClientView}
 use Rattle.seats.specs.Calls.{BeginsCall, EndsCall, KeepsLog}
 use Rattle.seats.specs.Reasons.{IsHeldBack, IsStalled}
@@ -42,6 +43,6 @@ module _ (old : ClientView) (key : List ℕ) (action : Action) (seen : ℕ) wher
 -- answer
 abbrev pub IsPlaced : Outcome → Type 0
 IsPlaced (outcome.Refused error) = Unit {0}
-IsPlaced (outcome.Pending begun error) = begun.place ≤ 9223372036854775807
-IsPlaced (outcome.Done begun ended) = (begun.place ≤ 9223372036854775807)
-    × (ended.place ≤ 9223372036854775807) × (ended.copy ≡ ended.returned)
+IsPlaced (outcome.Pending begun error) = begun.place ≤ most_elements
+IsPlaced (outcome.Done begun ended) = (begun.place ≤ most_elements)
+    × (ended.place ≤ most_elements) × (ended.copy ≡ ended.returned)

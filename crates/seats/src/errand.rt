@@ -1,12 +1,14 @@
 //! One call in progress: what its client sends, and what it hears.
-ghost use Rattle.std.specs.Prelude.{◌≡◌, ◌≤◌, ◌*◌, ℕ, min, true, Result, Ok, Err, Some, IfOk, IfErr, OnOk, OnErr};
+ghost use Rattle.std.specs.Prelude.{◌≡◌, ◌≤◌, ◌-◌, ◌*◌, ◌^◌, ℕ, min, true, Result, Ok, Err, Some};
+ghost use Rattle.std.specs.Prelude.{IfOk, IfErr, OnOk, OnErr};
+ghost use Rattle.hall_lock.specs.Halls.{most_elements};
 ghost use Rattle.hall_lock.specs.Turns.{IsQuiet, IsStepOfClient, TakesTurn};
 ghost use Rattle.world_steps.specs.declared.effect.Effect.TheVariants as effect;
 ghost use Rattle.world_steps.specs.declared.refusal.Refusal.{Refusal};
 ghost use Rattle.world_steps.specs.declared.step.Step.TheVariants as event;
 ghost use Rattle.seats.specs.Calls.{EndsCall, KeepsLog};
 ghost use Rattle.seats.specs.Outcomes.{CallComesTo, IsPlaced};
-ghost use Rattle.seats.specs.Reasons.{IsUnmet, Stalls, delay_error, refusal_error, stall_error, stall_of};
+ghost use Rattle.seats.specs.Reasons.{IsUnmet, Stalls, delay_error, stall_error, stall_of};
 ghost use Rattle.seats.specs.Parcels.{RequestMeetsGate, HearsReport, IsDelivery, SendsRequest};
 
 use crate::errors::CallError;
@@ -46,7 +48,7 @@ pub struct Errand<'a, G> {
 /// reports of the last round of the first phase may then still be under way. So they are at most those of
 /// two rounds. A call has no third phase: replies to the first are stale in the second.
 fn report_room(replicas: usize) -> usize
-    ensures { result ≡ min (4 * replicas) 18446744073709551615 }
+    ensures { result ≡ min (4 * replicas) (2 ^ 64 - 1) }
 {
     replicas.saturating_mul(4)
 }
@@ -98,7 +100,6 @@ impl<'a, G: Gate> Errand<'a, G> {
     }
 
     /// Makes a call of the pass's client, which has seen so many rows.
-    #[tactic(auto, using(crate::proofs::Keeping::keeps_same, crate::proofs::Keeping::keeps_then))]
     pub(crate) fn drive<R: Wait>(
         &mut self,
         rt: &R,
@@ -125,12 +126,11 @@ impl<'a, G: Gate> Errand<'a, G> {
     }
 
     /// Carries a call that began to its end.
-    #[tactic(auto, using(crate::proofs::Keeping::keeps_same, crate::proofs::Keeping::keeps_then))]
     fn finish<R: Wait>(&mut self, rt: &R, pass: &mut ClientPass) -> Result<Ended, Stall>
         ensures ended { IfOk result (λ ended.
             EndsCall pass.old ended.op ended.returned ended.place pass.new) }
         ensures placed { IfOk result (λ ended.
-            (ended.place ≤ 9223372036854775807) × (ended.copy ≡ ended.returned)) }
+            (ended.place ≤ most_elements) × (ended.copy ≡ ended.returned)) }
         ensures failed { OnErr result (KeepsLog pass.old pass.new) }
         ensures stalled { IfErr result (λ stall. Stalls pass.old stall pass.new) }
     {
@@ -147,7 +147,6 @@ impl<'a, G: Gate> Errand<'a, G> {
     }
 
     /// Has the client ask, and then put where it has to.
-    #[tactic(auto, using(crate::proofs::Keeping::keeps_same, crate::proofs::Keeping::keeps_then))]
     fn make_ready<R: Wait>(&mut self, rt: &R, pass: &mut ClientPass) -> Result<(), Stall>
         ensures kept { KeepsLog pass.old pass.new }
         ensures stalled { IfErr result (λ stall. Stalls pass.old stall pass.new) }
@@ -162,7 +161,6 @@ impl<'a, G: Gate> Errand<'a, G> {
     }
 
     /// Makes rounds until the phase is over, which has just begun. The phase that follows it.
-    #[tactic(auto, using(crate::proofs::Keeping::keeps_same, crate::proofs::Keeping::keeps_then))]
     fn leave<R: Wait>(&mut self, rt: &R, pass: &mut ClientPass) -> Result<Phase, Stall>
         ensures kept { KeepsLog pass.old pass.new }
         ensures stalled { IfErr result (λ stall. Stalls pass.old stall pass.new) }
@@ -179,7 +177,6 @@ impl<'a, G: Gate> Errand<'a, G> {
     }
 
     /// Sends the client's request to each replica that it didn't count.
-    #[tactic(auto, using(crate::proofs::Keeping::keeps_same, crate::proofs::Keeping::keeps_then))]
     fn send_round<R: Wait>(
         &mut self,
         rt: &R,
@@ -200,7 +197,6 @@ impl<'a, G: Gate> Errand<'a, G> {
     }
 
     /// Sends the client's request to a replica, where there is one of that number, as the gate says.
-    #[tactic(auto, using(crate::proofs::Keeping::keeps_same, crate::proofs::Keeping::keeps_then))]
     fn send<R: Wait>(
         &mut self,
         rt: &R,
@@ -265,7 +261,6 @@ impl<'a, G: Gate> Errand<'a, G> {
 
     /// Hears what the replicas report until the phase is over or each parcel was reported on. The phase that
     /// follows, where it is over.
-    #[tactic(auto, using(crate::proofs::Keeping::keeps_same, crate::proofs::Keeping::keeps_then))]
     fn hear_round<R: Wait>(&mut self, rt: &R, pass: &mut ClientPass) -> Result<Option<Phase>, Stall>
         ensures kept { KeepsLog pass.old pass.new }
         ensures stalled { IfErr result (λ stall. Stalls pass.old stall pass.new) }
@@ -285,7 +280,6 @@ impl<'a, G: Gate> Errand<'a, G> {
 }
 
 /// Loses a flight or has it come once more, as the gate says. How many parcels of it are sent.
-#[tactic(auto, using(crate::proofs::Keeping::keeps_same, crate::proofs::Keeping::keeps_then))]
 fn parcels_of<R: Wait>(rt: &R, pass: &mut ClientPass, answer: Pass, flight: u32) -> u64
     ensures kept { KeepsLog pass.old pass.new }
     ensures passed { RequestMeetsGate answer pass.old flight result pass.new }
@@ -304,7 +298,6 @@ fn parcels_of<R: Wait>(rt: &R, pass: &mut ClientPass, answer: Pass, flight: u32)
 }
 
 /// Delivers what was reported. The phase that follows, where the client's phase is over.
-#[tactic(auto, using(crate::proofs::Keeping::keeps_same, crate::proofs::Keeping::keeps_then))]
 fn hear<R: Wait>(rt: &R, pass: &mut ClientPass, report: Report) -> Result<Option<Phase>, Stall>
     ensures kept { KeepsLog pass.old pass.new }
     ensures heard { OnOk result (HearsReport report pass.old pass.new) }
@@ -391,19 +384,9 @@ fn told_delay(delay: Delay) -> CallError
     ensures { result ≡ delay_error delay }
 {
     match delay {
-        Delay::Foreign => CallError::Foreign,
-        Delay::Refused(refusal) => not_begun(refusal),
-    }
-}
-
-/// What a call answers where its invocation was refused.
-fn not_begun(refusal: Refusal) -> CallError
-    ensures { result ≡ refusal_error refusal }
-{
-    match refusal {
-        Refusal::OpsFull | Refusal::FlightsFull => CallError::Full,
-        Refusal::Memory => CallError::Memory,
-        _ => CallError::Foreign,
+        Delay::Refused(Refusal::OpsFull | Refusal::FlightsFull) => CallError::Full,
+        Delay::Refused(Refusal::Memory) => CallError::Memory,
+        Delay::Refused(_) | Delay::Foreign => CallError::Foreign,
     }
 }
 

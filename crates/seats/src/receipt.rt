@@ -1,5 +1,6 @@
 //! What tells another seat of a call.
 ghost use Rattle.std.specs.Prelude.{◌≡◌, ◌≤◌};
+ghost use Rattle.hall_lock.specs.Halls.{most_elements};
 
 use std::marker::Model;
 use tag::OpId;
@@ -18,6 +19,7 @@ impl Model for Receipt {
     ghost use Rattle.std.specs.Prelude.{◌≤◌, refl, ℕ};
     ghost use Rattle.std.specs.Coded.{code_by, coded×, coded_ℕ};
     ghost use Rattle.tag.specs.declared.numbers.OpId.{OpId};
+    ghost use Rattle.hall_lock.specs.Halls.{most_elements};
     ghost use Rattle.seats.specs.Receipts.{Receipt};
 
     ghost Value = { Receipt };
@@ -35,7 +37,7 @@ impl Model for Receipt {
 
     ghost view = { λ r. record { store = r.store; hall = r.hall; call = r.call; place = r.place } };
 
-    ghost invariant = { λ r. r.place ≤ 9223372036854775807 };
+    ghost invariant = { λ r. r.place ≤ most_elements };
 
     ghost inverse = { λ r. record {
       store = r.store;
@@ -47,7 +49,7 @@ impl Model for Receipt {
 
 impl Receipt {
     pub(crate) fn new(store: u64, hall: u8, call: OpId, place: usize) -> Receipt
-        requires few { place ≤ 9223372036854775807 }
+        requires few { place ≤ most_elements }
         ensures { result ≡ record { store = store; hall = hall; call = call; place = place } }
     {
         Receipt {
@@ -82,7 +84,7 @@ impl Receipt {
     /// The place of its response in that record.
     pub fn place(&self) -> usize
         ensures place { result ≡ self.now.place }
-        ensures few { result ≤ 9223372036854775807 }
+        ensures few { result ≤ most_elements }
     {
         self.place
     }

@@ -5,16 +5,18 @@
 //! `node_threads`, and names nothing of this crate.
 ghost use Rattle.std.specs.Prelude.{◌≡◌, ◌<◌, [], false, length};
 ghost use Rattle.seats.specs.Answers.{CallLeaves};
-ghost use Rattle.seats.specs.Seats.{AreFresh};
+ghost use Rattle.seats.specs.Seats.{AreFresh, value_of};
 
-use crate::errand::Errand;
+use crate::errand::{Errand, Outcome};
 use crate::errors::CallError;
 use crate::gate::Gate;
+use crate::receipt::Receipt;
 use crate::seat::{Answer, Seat};
-use hall_lock::ClientPass;
+use hall_lock::{Begun, ClientPass, Ended};
+use recorder::{Entry, Response};
 use std::alloc::Global;
 use std::sync::Wait;
-use tag::{Action, ClientId, Key};
+use tag::{Action, ClientId, Key, Returned, Value};
 
 /// A seat of a client that has just joined: a pass and a place for each hall, hall 0 first.
 pub fn new_seat(
@@ -60,5 +62,74 @@ pub fn call_on<R: Wait, G: Gate>(
     requires there { errand.old.hall < length seat.old.passes }
     ensures { CallLeaves seat.old errand.old.hall key action result seat.new }
 {
-    seat.call(rt, errand, key, action)
+    let hall = errand.hall;
+    let at = usize::from(hall);
+    let kept_key = key.copy()?;
+    let kept_action = action.copy()?;
+    seat.log.reserve(1)?;
+    let seen = seat.seen[at];
+    match errand.drive(rt, &mut seat.passes[at], key, action, seen) {
+        Outcome::Refused(error) => Err(error),
+        Outcome::Pending(begun, error) => {
+            seat.log
+                .push_reserved(entry(hall, begun, kept_key, kept_action, None));
+            seat.seen[at] = begun.place + 1;
+            seat.is_spent = true;
+            Err(error)
+        }
+        Outcome::Done(begun, ended) => {
+            let place = ended.place;
+            let (response, value) = response_of(ended);
+            seat.log
+                .push_reserved(entry(hall, begun, kept_key, kept_action, Some(response)));
+            seat.seen[at] = place + 1;
+            let receipt = Receipt::new(seat.store, hall, begun.op, place);
+            Ok(Answer { value, receipt })
+        }
+    }
+}
+
+/// The entry of a call that began in that hall.
+fn entry(hall: u8, begun: Begun, key: Key, action: Action, response: Option<Response>) -> Entry
+    ensures { result ≡ record {
+      hall = hall;
+      op = begun.op;
+      key = key;
+      action = action;
+      invoked = begun.place;
+      response = response;
+    } }
+{
+    Entry {
+        hall,
+        op: begun.op,
+        key,
+        action,
+        invoked: begun.place,
+        response,
+    }
+}
+
+/// What an answered call leaves: its log the response, its caller the value.
+fn response_of(ended: Ended) -> (Response, Option<Value>)
+    ensures response { result.0 ≡ record { place = ended.place; returned = ended.returned } }
+    ensures value { result.1 ≡ value_of ended.copy }
+{
+    let Ended {
+        place,
+        returned,
+        copy,
+        ..
+    } = ended;
+    (Response { place, returned }, value_of(copy))
+}
+
+/// What a read answered; a write none.
+fn value_of(returned: Returned) -> Option<Value>
+    ensures { result ≡ value_of returned }
+{
+    match returned {
+        Returned::Value(value) => value,
+        Returned::Written => None,
+    }
 }

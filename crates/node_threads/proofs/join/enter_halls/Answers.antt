@@ -6,4 +6,4 @@ use Rattle.node_threads.proofs.join.enter_halls.Goals as goal
 
 pub stop_all-requires : goal.stop_all-requires
 stop_all-requires g c = subst (λ (passes : List ClientView). AreOfClient c.args.client passes) (sym c.deref_mut.ensures.value)
-    (are_of_client c.args.client c.join_halls.new.passes.items c.join_halls.ensures.fresh)
+    (are_of_client c.args.client c.join_hall.new.passes.items c.join_hall.ensures.fresh)

@@ -1,32 +1,22 @@
-use Rattle.std.proofs.Common.{Ok, Err, subst}
+use Rattle.std.proofs.Common.{Ok, Err}
 use Rattle.world_steps.specs.declared.effect.Effect.TheVariants as effect
-use Rattle.hall_lock.specs.Turns.{AddsOwnRows}
 use Rattle.hall_lock.specs.Turns.DeliversFlight.{Theirs}
 use Rattle.hall_lock.specs.Turns.TakesReply.{WithoutNote}
-use Rattle.hall_lock.proofs.ClientTurns.{client_turn, heard, left, seat_recorded, takes_flight, to_client}
-use Rattle.hall_lock.proofs.OneTurn.{same_returns, seat_returns}
+use Rattle.hall_lock.proofs.ClientTurns.{client_turn, heard, left, seat_left, takes_flight, to_client}
+use Rattle.hall_lock.proofs.OneTurn.{seat_gives}
 use Rattle.hall_lock.proofs.Results.{either_on, err_if, err_map, ok_map}
 use Rattle.hall_lock.proofs.client_pass.ClientPass.deliver.Goals as goal
 
 pub give_back-requires : goal.give_back-requires
-give_back-requires g c = either_on c.deliver_in-taken.result c.deliver_in-taken.ensures.took c.deliver_in-taken.ensures.adds
-    (λ _ took adds. seat_returns c.self.inside.client c.self.inside.door c.receive-hall.new.self c.receive-hall.result
-    c.deliver_in-taken.new.hall.world
-    c.self.invariant.0 c.receive-hall.ensures.received
-    (subst (λ o. AddsOwnRows o c.receive-hall.result.world c.deliver_in-taken.new.hall.world) (to_client _ _ took.1) adds))
-    c.deliver_in-taken.ensures.refused
-    (λ same. same_returns c.self.inside.door c.receive-hall.new.self c.receive-hall.result c.deliver_in-taken.new.hall
-    c.receive-hall.ensures.received same)
+give_back-requires g c = seat_gives c.deliver_in-taken.new.hall c.deliver_in-taken.result c.self.invariant.0 c.receive-hall.ensures.received
+    c.deliver_in-taken.ensures.adds c.deliver_in-taken.ensures.refused
 
 pub invariant_of-self : goal.invariant_of-self
-invariant_of-self g c = seat_recorded c.self.inside.client c.give_back.new.self c.deliver_in-taken.new.hall
-    (client_turn c.deliver_in-taken.new.hall c.self.invariant.0 c.receive-hall.ensures.received
-    c.give_back.ensures.back c.give_back.ensures.stays).is c.give_back.ensures.recorded
+invariant_of-self g c = seat_left c.deliver_in-taken.new.hall c.self.invariant.0 c.receive-hall.ensures.received c.give_back.ensures.back
+    c.give_back.ensures.stays c.give_back.ensures.recorded
 
 pub returns-clause-recorded : goal.returns-clause-recorded
-returns-clause-recorded g c = (seat_recorded c.self.inside.client c.give_back.new.self c.deliver_in-taken.new.hall
-    (client_turn c.deliver_in-taken.new.hall c.self.invariant.0
-    c.receive-hall.ensures.received c.give_back.ensures.back c.give_back.ensures.stays).is c.give_back.ensures.recorded).1
+returns-clause-recorded g c = (invariant_of-self g c).1
 
 pub returns-clause-stays : goal.returns-clause-stays
 returns-clause-stays g c = rw (← c.self.view_is) (client_turn c.deliver_in-taken.new.hall c.self.invariant.0

@@ -1,29 +1,21 @@
 use Rattle.std.proofs.Common.{Ok}
 use Rattle.world_steps.specs.declared.effect.Effect.TheVariants as effect
 use Rattle.world_steps.specs.declared.step.Step.TheVariants as event
-use Rattle.hall_lock.proofs.ClientTurns.{begun, client_turn, delayed, left, seat_recorded, took_turn}
-use Rattle.hall_lock.proofs.OneTurn.{same_returns, seat_returns}
-use Rattle.hall_lock.proofs.Results.{either_on, err_if, err_map, ok_both, ok_map}
+use Rattle.hall_lock.proofs.ClientTurns.{begun, client_turn, delayed, left, seat_left, took_turn}
+use Rattle.hall_lock.proofs.OneTurn.{seat_gives}
+use Rattle.hall_lock.proofs.Results.{err_if, err_map, ok_both, ok_map}
 use Rattle.hall_lock.proofs.client_pass.ClientPass.invoke.Goals as goal
 
 pub give_back-requires : goal.give_back-requires
-give_back-requires g c = either_on c.begin_in-begun.result c.begin_in-begun.ensures.began c.begin_in-begun.ensures.adds
-    (λ _ took adds. seat_returns c.self.inside.client c.self.inside.door c.receive-hall.new.self c.receive-hall.result
-    c.begin_in-begun.new.hall.world
-    c.self.invariant.0 c.receive-hall.ensures.received adds)
-    c.begin_in-begun.ensures.delayed
-    (λ same. same_returns c.self.inside.door c.receive-hall.new.self c.receive-hall.result c.begin_in-begun.new.hall
-    c.receive-hall.ensures.received same)
+give_back-requires g c = seat_gives c.begin_in-begun.new.hall c.begin_in-begun.result c.self.invariant.0 c.receive-hall.ensures.received
+    c.begin_in-begun.ensures.adds c.begin_in-begun.ensures.delayed
 
 pub invariant_of-self : goal.invariant_of-self
-invariant_of-self g c = seat_recorded c.self.inside.client c.give_back.new.self c.begin_in-begun.new.hall
-    (client_turn c.begin_in-begun.new.hall c.self.invariant.0 c.receive-hall.ensures.received
-    c.give_back.ensures.back c.give_back.ensures.stays).is c.give_back.ensures.recorded
+invariant_of-self g c = seat_left c.begin_in-begun.new.hall c.self.invariant.0 c.receive-hall.ensures.received c.give_back.ensures.back
+    c.give_back.ensures.stays c.give_back.ensures.recorded
 
 pub returns-clause-recorded : goal.returns-clause-recorded
-returns-clause-recorded g c = (seat_recorded c.self.inside.client c.give_back.new.self c.begin_in-begun.new.hall
-    (client_turn c.begin_in-begun.new.hall c.self.invariant.0
-    c.receive-hall.ensures.received c.give_back.ensures.back c.give_back.ensures.stays).is c.give_back.ensures.recorded).1
+returns-clause-recorded g c = (invariant_of-self g c).1
 
 pub returns-clause-stays : goal.returns-clause-stays
 returns-clause-stays g c = rw (← c.self.view_is) (client_turn c.begin_in-begun.new.hall c.self.invariant.0 c.receive-hall.ensures.received

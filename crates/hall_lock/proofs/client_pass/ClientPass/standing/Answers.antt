@@ -1,23 +1,19 @@
 use Rattle.std.proofs.Common.{refl, sym, subst}
 use Rattle.world_steps.specs.Lasting.{HasStopped}
 use Rattle.hall_lock.specs.Turns.{StandsIn}
-use Rattle.hall_lock.proofs.ClientTurns.{client_turn, found_stopped, left, looks_at, seat_recorded}
-use Rattle.hall_lock.proofs.OneTurn.{same_returns}
+use Rattle.hall_lock.proofs.ClientTurns.{client_turn, found_stopped, left, looks_at, seat_left}
+use Rattle.hall_lock.proofs.OneTurn.{unchanged_returns}
 use Rattle.hall_lock.proofs.client_pass.ClientPass.standing.Goals as goal
 
 pub give_back-requires : goal.give_back-requires
-give_back-requires g c = same_returns c.self.inside.door c.receive-hall.new.self c.receive-hall.result c.receive-hall.result
-    c.receive-hall.ensures.received refl
+give_back-requires g c = unchanged_returns c.receive-hall.ensures.received
 
 pub invariant_of-self : goal.invariant_of-self
-invariant_of-self g c = seat_recorded c.self.inside.client c.give_back.new.self c.receive-hall.result
-    (client_turn c.receive-hall.result c.self.invariant.0 c.receive-hall.ensures.received
-    c.give_back.ensures.back c.give_back.ensures.stays).is c.give_back.ensures.recorded
+invariant_of-self g c = seat_left c.receive-hall.result c.self.invariant.0 c.receive-hall.ensures.received c.give_back.ensures.back
+    c.give_back.ensures.stays c.give_back.ensures.recorded
 
 pub returns-clause-recorded : goal.returns-clause-recorded
-returns-clause-recorded g c = (seat_recorded c.self.inside.client c.give_back.new.self c.receive-hall.result
-    (client_turn c.receive-hall.result c.self.invariant.0 c.receive-hall.ensures.received
-    c.give_back.ensures.back c.give_back.ensures.stays).is c.give_back.ensures.recorded).1
+returns-clause-recorded g c = (invariant_of-self g c).1
 
 pub returns-clause-stays : goal.returns-clause-stays
 returns-clause-stays g c = rw (← c.self.view_is) (client_turn c.receive-hall.result c.self.invariant.0 c.receive-hall.ensures.received

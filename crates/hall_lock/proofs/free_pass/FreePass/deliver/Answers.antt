@@ -1,26 +1,18 @@
-use Rattle.std.proofs.Common.{Ok, Err, subst}
+use Rattle.std.proofs.Common.{Ok, Err}
 use Rattle.world_steps.specs.declared.effect.Effect.TheVariants as effect
-use Rattle.hall_lock.specs.Turns.{AddsOwnRows}
 use Rattle.hall_lock.specs.Turns.DeliversFlight.{Theirs}
-use Rattle.hall_lock.proofs.FreeTurns.{free_turn, guest_recorded, served_flight, to_replica}
-use Rattle.hall_lock.proofs.OneTurn.{guest_returns, same_returns}
-use Rattle.hall_lock.proofs.Results.{either_on, err_if, ok_map}
+use Rattle.hall_lock.proofs.FreeTurns.{guest_left, served_flight}
+use Rattle.hall_lock.proofs.OneTurn.{guest_gives}
+use Rattle.hall_lock.proofs.Results.{err_if, ok_map}
 use Rattle.hall_lock.proofs.free_pass.FreePass.deliver.Goals as goal
 
 pub give_back-requires : goal.give_back-requires
-give_back-requires g c = either_on c.serve_in-served.result c.serve_in-served.ensures.served c.serve_in-served.ensures.adds
-    (λ _ took adds. guest_returns c.self.inside.door c.receive-hall.new.self c.receive-hall.result c.serve_in-served.new.hall.world
-    c.self.invariant.0
-    c.receive-hall.ensures.received (subst (λ o. AddsOwnRows o c.receive-hall.result.world c.serve_in-served.new.hall.world)
-    (to_replica _ _ took.1) adds))
-    c.serve_in-served.ensures.refused
-    (λ same. same_returns c.self.inside.door c.receive-hall.new.self c.receive-hall.result c.serve_in-served.new.hall
-    c.receive-hall.ensures.received same)
+give_back-requires g c = guest_gives c.serve_in-served.new.hall c.serve_in-served.result c.self.invariant.0 c.receive-hall.ensures.received
+    c.serve_in-served.ensures.adds c.serve_in-served.ensures.refused
 
 pub invariant_of-self : goal.invariant_of-self
-invariant_of-self g c = guest_recorded c.give_back.new.self c.serve_in-served.new.hall
-    (free_turn c.self.inside.door c.receive-hall.new.self c.give_back.new.self c.receive-hall.result c.serve_in-served.new.hall
-    c.self.invariant.0 c.receive-hall.ensures.received c.give_back.ensures.back) c.give_back.ensures.recorded
+invariant_of-self g c = guest_left c.serve_in-served.new.hall c.self.invariant.0 c.receive-hall.ensures.received c.give_back.ensures.back
+    c.give_back.ensures.recorded
 
 pub returns-clause-served : goal.returns-clause-served
 returns-clause-served g c = rw (← c.self.view_is)

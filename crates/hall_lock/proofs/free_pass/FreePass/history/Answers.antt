@@ -1,18 +1,16 @@
 use Rattle.std.proofs.Common.{refl, ap, ◌∙◌}
 use Rattle.world_steps.specs.declared.system.System.{System}
-use Rattle.hall_lock.proofs.FreeTurns.{copied, free_turn, grown_by, guest_recorded}
-use Rattle.hall_lock.proofs.OneTurn.{same_returns}
+use Rattle.hall_lock.proofs.FreeTurns.{copied, grown_by, guest_left}
+use Rattle.hall_lock.proofs.OneTurn.{unchanged_returns}
 use Rattle.hall_lock.proofs.Results.{ok_map}
 use Rattle.hall_lock.proofs.free_pass.FreePass.history.Goals as goal
 
 pub give_back-requires : goal.give_back-requires
-give_back-requires g c = same_returns c.self.inside.door c.receive-hall.new.self c.receive-hall.result c.receive-hall.result
-    c.receive-hall.ensures.received refl
+give_back-requires g c = unchanged_returns c.receive-hall.ensures.received
 
 pub invariant_of-self : goal.invariant_of-self
-invariant_of-self g c = guest_recorded c.give_back.new.self c.receive-hall.result
-    (free_turn c.self.inside.door c.receive-hall.new.self c.give_back.new.self c.receive-hall.result c.receive-hall.result
-    c.self.invariant.0 c.receive-hall.ensures.received c.give_back.ensures.back) c.give_back.ensures.recorded
+invariant_of-self g c = guest_left c.receive-hall.result c.self.invariant.0 c.receive-hall.ensures.received c.give_back.ensures.back
+    c.give_back.ensures.recorded
 
 pub returns-clause-copied : goal.returns-clause-copied
 returns-clause-copied g c = rw (← c.self.view_is)

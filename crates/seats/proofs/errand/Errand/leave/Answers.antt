@@ -12,3 +12,15 @@ pub returns-in_err-next-clause-stalled : goal.returns-in_err-next-clause-stalled
 returns-in_err-next-clause-stalled g c =
     let p = err_from_is_err_and c.from_residual-in_err-next.result c.from_residual-in_err-next.ensures.1 in
     rw (p.1, p.2) (stalls_then _ _ _ _ (keeps_then _ _ _ c.loop.invariant c.send_round.ensures.kept) c.in_err-next.ensures.stalled)
+
+pub returns-in_err-send_round-clause-kept : goal.returns-in_err-send_round-clause-kept
+returns-in_err-send_round-clause-kept g c = keeps_then _ _ _ c.loop.invariant c.send_round.ensures.kept
+
+pub returns-in_err-next-clause-kept : goal.returns-in_err-next-clause-kept
+returns-in_err-next-clause-kept g c = keeps_then _ _ _ (keeps_then _ _ _ c.loop.invariant c.send_round.ensures.kept) c.hear_round.ensures.kept
+
+pub returns-in-Some-clause-kept : goal.returns-in-Some-clause-kept
+returns-in-Some-clause-kept g c = keeps_then _ _ _ (keeps_then _ _ _ c.loop.invariant c.send_round.ensures.kept) c.hear_round.ensures.kept
+
+pub loop-preserved : goal.loop-preserved
+loop-preserved g c = keeps_then _ _ _ (keeps_then _ _ _ (keeps_then _ _ _ c.loop.invariant c.send_round.ensures.kept) c.hear_round.ensures.kept) c.counted_by-counted.ensures

@@ -1,4 +1,5 @@
 use Rattle.seats.specs.Parcels.SendsRequest.{Refused, Sent}
+use Rattle.seats.proofs.Keeping.{keeps_then}
 use Rattle.seats.proofs.Stalling.{step_stalls}
 use Rattle.seats.proofs.errand.Errand.send.Goals as goal
 
@@ -10,3 +11,6 @@ returns-in-Err-clause-stalled g c = step_stalls _ _ _ c.in-Err.refusal _ c.stall
 
 pub returns-clause-sent : goal.returns-clause-sent
 returns-clause-sent g c = Sent c.in-Ok.flight c.parcels_of-parcels.result c.send_flight.new.pass c.at.result c.in-Ok.ensures.sent c.parcels_of-parcels.ensures.passed
+
+pub returns-clause-kept : goal.returns-clause-kept
+returns-clause-kept g c = keeps_then _ _ _ c.send_flight.ensures.kept c.parcels_of-parcels.ensures.kept
