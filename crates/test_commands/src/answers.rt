@@ -1,42 +1,37 @@
 //! Answers that should be one.
-use std::alloc::{AllocError, Global};
+use test_rows::Answer;
 
-/// One answer of several ways, and those that differ from it.
+/// The answer of the first of several ways.
 #[derive(Drop)]
 pub struct Agreed {
     first: Option<String>,
-    others: String,
 }
 
 impl Agreed {
     /// No answer yet.
-    pub fn new(alloc: Global) -> Agreed {
-        Agreed {
-            first: None,
-            others: String::new(alloc),
+    pub fn new() -> Agreed {
+        Agreed { first: None }
+    }
+
+    /// Says the answer of one more way where it is the first, or differs from that.
+    pub fn say(&mut self, out: &mut Answer, answer: Answer) {
+        match answer.text() {
+            Ok(text) => self.say_text(out, text),
+            Err(_) => out.refuse(),
         }
     }
 
-    /// One more answer.
-    pub fn take(&mut self, answer: String) -> Result<(), AllocError> {
+    fn say_text(&mut self, out: &mut Answer, text: String) {
         match &self.first {
             None => {
-                self.first = Some(answer);
-                Ok(())
+                out.push(text.as_str());
+                self.first = Some(text);
             }
-            Some(first) if *first == answer => Ok(()),
+            Some(first) if *first == text => {}
             Some(_) => {
-                self.others.push_str("READERS DIFFER: ")?;
-                self.others.push_str(answer.as_str())
+                out.push("READERS DIFFER: ");
+                out.push(text.as_str());
             }
         }
-    }
-
-    /// Says the answer, and those that differ.
-    pub fn say(&self, out: &mut String) -> Result<(), AllocError> {
-        if let Some(first) = &self.first {
-            out.push_str(first.as_str())?;
-        }
-        out.push_str(self.others.as_str())
     }
 }

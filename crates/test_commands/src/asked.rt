@@ -1,13 +1,20 @@
-//! The first line of a row's input.
+//! What a row asks for.
 use std::io::ErrorKind;
 
-/// What a row asks for: the first line of its input, a kind and its options.
+/// A row's input: its first line, which is a kind and its options, and the lines below it.
 #[derive(Clone, Copy)]
 pub struct Asked<'a> {
-    pub line: &'a str,
+    line: &'a str,
+    pub lines: &'a str,
 }
 
 impl<'a> Asked<'a> {
+    /// What the input asks for.
+    pub fn new(input: &'a str) -> Asked<'a> {
+        let (line, lines) = input.split_once('\n').unwrap_or((input, ""));
+        Asked { line, lines }
+    }
+
     /// The first word.
     pub fn kind(self) -> &'a str {
         match self.line.split_once(' ') {

@@ -9,7 +9,7 @@ use std::alloc::{AllocError, Global};
 use std::io::ErrorKind;
 use std::sync::Wait;
 use std::thread::Threads;
-use test_rows::{AMPLE, Bounded, Pieces, Spans, push_bytes};
+use test_rows::{AMPLE, Answer, Outputs, Pieces, Said, extent, say_outputs, spans_of};
 
 /// What a command reads: a script or a history, and orders where it is to check.
 #[derive(Clone, Copy)]
@@ -38,162 +38,126 @@ const WELL: Way = Way {
     workers: 1,
 };
 
-/// What comes of a command.
-#[derive(Drop)]
-struct Said {
-    status: Status,
-    out: Vec<u8>,
-    errors: Vec<u8>,
+/// The first file, named so.
+fn first_file<'a>(name: &'a str, left: &'a [u8], way: Way) -> Source<'a, Counting<Pieces<'a>>> {
+    let (size, failure) = (way.size, way.failure);
+    Source::new(
+        name,
+        Counting::new(Pieces {
+            left,
+            size,
+            failure,
+        }),
+    )
+}
+
+/// The file of orders.
+fn orders_file<'a>(left: &'a [u8], way: Way) -> Source<'a, Counting<Pieces<'a>>> {
+    first_file(
+        "o",
+        left,
+        Way {
+            failure: None,
+            ..way
+        },
+    )
 }
 
 /// The simulation of a script named `s`.
-fn simulated(alloc: Global, input: Input<'_>, way: Way) -> Said {
-    let script = Pieces {
-        left: input.file,
-        size: way.size,
-        failure: way.failure,
-    };
-    let mut script = Source::new("s", Counting::new(script));
-    let mut out = Counting::new(Bounded::new(alloc, way.out));
-    let mut errors = Counting::new(Bounded::new(alloc, way.errors));
-    let status = simulate_command(alloc, &mut script, &mut out, &mut errors);
-    Said {
-        status,
-        out: out.into_inner().taken,
-        errors: errors.into_inner().taken,
-    }
+fn simulate(alloc: Global, input: Input<'_>, way: Way, outputs: &mut Outputs) -> Status {
+    let mut script = first_file("s", input.file, way);
+    simulate_command(alloc, &mut script, &mut outputs.out, &mut outputs.errors)
 }
 
 /// The justification of a history named `h`.
-fn justified(rt: &(impl Threads + Wait + Sync), alloc: Global, input: Input<'_>, way: Way) -> Said {
-    let history = Pieces {
-        left: input.file,
-        size: way.size,
-        failure: way.failure,
-    };
-    let mut history = Source::new("h", Counting::new(history));
-    let mut out = Counting::new(Bounded::new(alloc, way.out));
-    let mut errors = Counting::new(Bounded::new(alloc, way.errors));
-    let status = justify_command(rt, alloc, &mut history, &mut out, &mut errors);
-    Said {
-        status,
-        out: out.into_inner().taken,
-        errors: errors.into_inner().taken,
-    }
-}
-
-/// The check of a history named `h` and orders named `o`.
-fn checked(rt: &(impl Threads + Wait + Sync), alloc: Global, input: Input<'_>, way: Way) -> Said {
-    let Some(workers) = Workers::new(way.workers) else {
-        return Said {
-            status: Status::Usage,
-            out: Vec::new(alloc),
-            errors: Vec::new(alloc),
-        };
-    };
-    let history = Pieces {
-        left: input.file,
-        size: way.size,
-        failure: way.failure,
-    };
-    let orders = Pieces {
-        left: input.orders,
-        size: way.size,
-        failure: None,
-    };
-    let mut history = Source::new("h", Counting::new(history));
-    let mut orders = Source::new("o", Counting::new(orders));
-    let mut out = Counting::new(Bounded::new(alloc, way.out));
-    let mut errors = Counting::new(Bounded::new(alloc, way.errors));
-    let status = check_command(
+fn justify(
+    rt: &(impl Threads + Wait + Sync),
+    alloc: Global,
+    input: Input<'_>,
+    way: Way,
+    outputs: &mut Outputs,
+) -> Status {
+    let mut history = first_file("h", input.file, way);
+    justify_command(
         rt,
         alloc,
         &mut history,
-        &mut orders,
-        workers,
-        &mut out,
-        &mut errors,
-    );
-    Said {
-        status,
-        out: out.into_inner().taken,
-        errors: errors.into_inner().taken,
-    }
+        &mut outputs.out,
+        &mut outputs.errors,
+    )
 }
 
-/// The command of that name.
+/// The check of a history named `h` and orders named `o`.
+fn check(
+    rt: &(impl Threads + Wait + Sync),
+    alloc: Global,
+    input: Input<'_>,
+    way: Way,
+    outputs: &mut Outputs,
+) -> Status {
+    let Some(workers) = Workers::new(way.workers) else {
+        return Status::Usage;
+    };
+    let mut history = first_file("h", input.file, way);
+    let mut orders = orders_file(input.orders, way);
+    let (out, errors) = (&mut outputs.out, &mut outputs.errors);
+    check_command(rt, alloc, &mut history, &mut orders, workers, out, errors)
+}
+
+/// What comes of the command of that name.
 fn run(
     rt: &(impl Threads + Wait + Sync),
     alloc: Global,
     name: &str,
     input: Input<'_>,
     way: Way,
-) -> Said {
-    match name {
-        "simulate" => simulated(alloc, input, way),
-        "justify" => justified(rt, alloc, input, way),
-        _ => checked(rt, alloc, input, way),
-    }
+) -> Said<Status> {
+    let mut outputs = Outputs::new(alloc, way.out, way.errors);
+    let status = match name {
+        "simulate" => simulate(alloc, input, way, &mut outputs),
+        "justify" => justify(rt, alloc, input, way, &mut outputs),
+        _ => check(rt, alloc, input, way, &mut outputs),
+    };
+    outputs.said(status)
 }
 
-/// The status, and what went to both outputs.
-fn push_said(out: &mut String, name: &str, said: &Said) -> Result<(), AllocError> {
+/// The command's name and status, and what went to both outputs.
+fn say_said(out: &mut Answer, name: &str, said: &Said<Status>) {
     let status = said.status.code();
-    write!(out, "{name}: status {status}\n")?;
-    push_bytes(out, said.out.as_slice())?;
-    if !said.errors.is_empty() {
-        out.push_str("standard error:\n")?;
-    }
-    push_bytes(out, said.errors.as_slice())
+    write!(out, "{name}: status {status}\n");
+    say_outputs(out, said.out.as_slice(), said.errors.as_slice());
 }
 
-/// A check, with what it says.
-fn push_check(
+/// Says what comes of the command of that name. What it wrote, if its status is good.
+fn say_command(
     rt: &(impl Threads + Wait + Sync),
-    out: &mut String,
+    out: &mut Answer,
+    name: &str,
     input: Input<'_>,
     way: Way,
-) -> Result<(), AllocError> {
-    let said = checked(rt, *out.allocator(), input, way);
-    push_said(out, "check", &said)
+) -> Option<Vec<u8>> {
+    let said = run(rt, out.alloc(), name, input, way);
+    say_said(out, name, &said);
+    match said.status {
+        Status::Good => Some(said.out),
+        _ => None,
+    }
 }
 
 /// A justification and, where it is good, the check of its orders.
-fn push_justification(
-    rt: &(impl Threads + Wait + Sync),
-    out: &mut String,
-    input: Input<'_>,
-    way: Way,
-) -> Result<(), AllocError> {
-    let said = justified(rt, *out.allocator(), input, way);
-    push_said(out, "justify", &said)?;
-    if said.status != Status::Good {
-        return Ok(());
+fn say_justified(rt: &(impl Threads + Wait + Sync), out: &mut Answer, input: Input<'_>, way: Way) {
+    if let Some(orders) = say_command(rt, out, "justify", input, way) {
+        let orders = orders.as_slice();
+        say_command(rt, out, "check", Input { orders, ..input }, WELL);
     }
-    let again = Input {
-        file: input.file,
-        orders: said.out.as_slice(),
-    };
-    push_check(rt, out, again, WELL)
 }
 
 /// A simulation and, where it is good, the justification of its history.
-fn push_simulation(
-    rt: &(impl Threads + Wait + Sync),
-    out: &mut String,
-    input: Input<'_>,
-    way: Way,
-) -> Result<(), AllocError> {
-    let said = simulated(*out.allocator(), input, way);
-    push_said(out, "simulate", &said)?;
-    if said.status != Status::Good {
-        return Ok(());
+fn say_simulated(rt: &(impl Threads + Wait + Sync), out: &mut Answer, input: Input<'_>, way: Way) {
+    if let Some(file) = say_command(rt, out, "simulate", input, way) {
+        let file = file.as_slice();
+        say_justified(rt, out, Input { file, ..input }, WELL);
     }
-    let again = Input {
-        file: said.out.as_slice(),
-        orders: &[],
-    };
-    push_justification(rt, out, again, WELL)
 }
 
 /// What comes of the command of that name, and of those that go on with what it wrote.
@@ -203,222 +167,249 @@ fn chain(
     name: &str,
     input: Input<'_>,
     way: Way,
-) -> Result<String, AllocError> {
-    let mut text = String::new(alloc);
+) -> Answer {
+    let mut answer = Answer::new(alloc);
     match name {
-        "simulate" => push_simulation(rt, &mut text, input, way)?,
-        "justify" => push_justification(rt, &mut text, input, way)?,
-        _ => push_check(rt, &mut text, input, way)?,
+        "simulate" => say_simulated(rt, &mut answer, input, way),
+        "justify" => say_justified(rt, &mut answer, input, way),
+        _ => {
+            say_command(rt, &mut answer, "check", input, way);
+        }
     }
-    Ok(text)
+    answer
 }
 
-/// How much went out of what goes out where there is room for all.
-pub fn extent<'a>(found: &'a [u8], whole: &[u8], room: usize) -> &'a str {
-    if found == whole {
-        "all"
-    } else if found.is_empty() {
-        "nothing"
-    } else if found == &whole[..room.min(whole.len())] {
-        "what there is room for"
-    } else {
-        std::str::from_utf8(found).unwrap_or("not UTF-8").trim_end()
+/// How much went out of what goes out where there is room for all, or else what went out.
+pub fn extent_or_text<'a>(found: &'a [u8], whole: &[u8], room: usize) -> &'a str {
+    if found.is_empty() && !whole.is_empty() {
+        return "nothing";
+    }
+    match extent(found, whole, room) {
+        Some(extent) => extent,
+        None => std::str::from_utf8(found).unwrap_or("not UTF-8").trim_end(),
     }
 }
 
 /// The lines, with semicolons between them.
-fn push_lines(out: &mut String, lines: &str) -> Result<(), AllocError> {
+fn say_lines(out: &mut Answer, lines: &str) {
     for (place, line) in lines.lines().enumerate() {
         if place > 0 {
-            out.push_str("; ")?;
+            out.push("; ");
         }
-        out.push_str(line)?;
+        out.push(line);
     }
-    Ok(())
 }
 
 /// The status, and how much went to both outputs.
-fn room_answer(alloc: Global, said: &Said, whole: &Said, way: Way) -> Result<String, AllocError> {
+fn say_extents(answer: &mut Answer, said: &Said<Status>, whole: &Said<Status>, way: Way) {
     let status = said.status.code();
-    let out = extent(said.out.as_slice(), whole.out.as_slice(), way.out);
-    let errors = extent(said.errors.as_slice(), whole.errors.as_slice(), way.errors);
-    let mut text = format!(in alloc; "status {status}, standard output: {out}, standard error: ")?;
-    push_lines(&mut text, errors)?;
-    Ok(text)
+    let out = extent_or_text(said.out.as_slice(), whole.out.as_slice(), way.out);
+    write!(
+        answer,
+        "status {status}, standard output: {out}, standard error: "
+    );
+    let (errors, whole) = (said.errors.as_slice(), whole.errors.as_slice());
+    say_lines(answer, extent_or_text(errors, whole, way.errors));
 }
 
-/// The command with each room from none to that of all that it writes: on standard error where the
-/// row says `each-messages`, and else on the standard output.
-fn rooms(
-    rt: &(impl Threads + Wait + Sync),
-    alloc: Global,
-    asked: Asked<'_>,
-    input: Input<'_>,
-) -> Result<String, AllocError> {
-    let whole = run(rt, alloc, asked.kind(), input, WELL);
-    // With ample room only an allocation that is refused stands in the way.
-    if whole.status == Status::Failed {
-        return Err(AllocError);
+/// The way with that room: on standard error where the row says `each-messages`, and else on the
+/// standard output.
+fn way_of_room(asked: Asked<'_>, room: usize) -> Way {
+    if asked.has("each-messages") {
+        Way {
+            errors: room,
+            ..WELL
+        }
+    } else {
+        Way { out: room, ..WELL }
     }
-    let messages = asked.has("each-messages");
-    let most = if messages {
+}
+
+/// How much room the command of the row needs.
+fn most_of(asked: Asked<'_>, whole: &Said<Status>) -> usize {
+    if asked.has("each-messages") {
         whole.errors.len()
     } else {
         whole.out.len()
-    };
-    let mut spans = Spans::new(alloc);
-    for room in 0..most.saturating_add(1) {
-        let way = Way {
-            out: if messages { AMPLE } else { room },
-            errors: if messages { room } else { AMPLE },
-            ..WELL
-        };
-        let said = run(rt, alloc, asked.kind(), input, way);
-        spans.take(room, room_answer(alloc, &said, &whole, way)?)?;
     }
-    spans.finish()
 }
 
-/// The answers of the row's command on one input, with each size of pieces and number of workers.
-fn answers_to(
+/// What comes of the command with that room.
+fn room_answer(
     rt: &(impl Threads + Wait + Sync),
     alloc: Global,
     asked: Asked<'_>,
     input: Input<'_>,
-) -> Result<Agreed, AllocError> {
-    let mut answers = Agreed::new(alloc);
+    whole: &Said<Status>,
+    room: usize,
+) -> Result<String, AllocError> {
+    let way = way_of_room(asked, room);
+    let said = run(rt, alloc, asked.kind(), input, way);
+    let mut answer = Answer::new(alloc);
+    say_extents(&mut answer, &said, whole, way);
+    answer.text()
+}
+
+/// The command with each room from none to that of all that it writes.
+fn say_rooms(
+    rt: &(impl Threads + Wait + Sync),
+    out: &mut Answer,
+    asked: Asked<'_>,
+    input: Input<'_>,
+) {
+    let alloc = out.alloc();
+    let whole = run(rt, alloc, asked.kind(), input, WELL);
+    // With ample room only an allocation that is refused stands in the way.
+    if whole.status == Status::Failed {
+        out.refuse();
+    }
+    let end = most_of(asked, &whole).saturating_add(1);
+    let answer = |room: usize| room_answer(rt, alloc, asked, input, &whole, room);
+    out.push_made(spans_of(alloc, 1, 0, end, &answer));
+}
+
+/// How a row's command is run, in pieces of that size and with that number of workers.
+fn way_of(asked: Asked<'_>, size: &str, workers: &str) -> Way {
+    Way {
+        size: size.parse::<usize>().unwrap_or(1),
+        failure: asked.failure(),
+        workers: workers.parse::<u8>().unwrap_or(0),
+        ..WELL
+    }
+}
+
+/// What comes of the row's command with each size of pieces and number of workers.
+fn say_ways(
+    rt: &(impl Threads + Wait + Sync),
+    out: &mut Answer,
+    asked: Asked<'_>,
+    input: Input<'_>,
+) {
+    let alloc = out.alloc();
+    let mut agreed = Agreed::new();
     for size in asked.sizes().split(',') {
         for workers in asked.workers().split(',') {
-            let way = Way {
-                size: size.parse::<usize>().unwrap_or(1),
-                failure: asked.failure(),
-                workers: workers.parse::<u8>().unwrap_or(0),
-                ..WELL
-            };
-            answers.take(chain(rt, alloc, asked.kind(), input, way)?)?;
+            let way = way_of(asked, size, workers);
+            agreed.say(out, chain(rt, alloc, asked.kind(), input, way));
         }
     }
-    Ok(answers)
 }
 
 /// What comes of the row's command on one input.
 fn say_one(
     rt: &(impl Threads + Wait + Sync),
-    out: &mut String,
+    out: &mut Answer,
     asked: Asked<'_>,
-    file: &[u8],
-    orders: &[u8],
-) -> Result<(), AllocError> {
-    let alloc = *out.allocator();
-    let input = Input { file, orders };
+    input: Input<'_>,
+) {
     if asked.has("each-room") || asked.has("each-messages") {
-        return out.push_str(rooms(rt, alloc, asked, input)?.as_str());
+        say_rooms(rt, out, asked, input);
+    } else {
+        say_ways(rt, out, asked, input);
     }
-    answers_to(rt, alloc, asked, input)?.say(out)
 }
 
 /// What comes of the row's command on what the lines stand for.
-fn say_file(
-    rt: &(impl Threads + Wait + Sync),
-    out: &mut String,
-    asked: Asked<'_>,
-    lines: &str,
-) -> Result<(), AllocError> {
-    let file = bytes_of(*out.allocator(), lines)?;
-    say_one(rt, out, asked, file.as_slice(), &[])
+fn say_file(rt: &(impl Threads + Wait + Sync), out: &mut Answer, asked: Asked<'_>, lines: &str) {
+    let file = bytes_of(out, lines);
+    let file = file.as_slice();
+    say_one(rt, out, asked, Input { file, orders: &[] });
 }
 
 /// `simulate`: each line is a script. `justify`: the lines are a history.
 /// `check`: the lines up to `orders:` are a history, those from each such line on are orders.
-pub fn say_command_row(
-    rt: &(impl Threads + Wait + Sync),
-    out: &mut String,
-    asked: Asked<'_>,
-    lines: &str,
-) -> Result<(), AllocError> {
+pub fn say_command_row(rt: &(impl Threads + Wait + Sync), out: &mut Answer, asked: Asked<'_>) {
     match asked.kind() {
         "simulate" => {
-            for line in lines.lines() {
-                say_file(rt, out, asked, line)?;
+            for line in asked.lines.lines() {
+                say_file(rt, out, asked, line);
             }
-            Ok(())
         }
-        "justify" => say_file(rt, out, asked, lines),
-        _ => say_checks(rt, out, asked, lines),
+        "justify" => say_file(rt, out, asked, asked.lines),
+        _ => say_checks(rt, out, asked),
     }
 }
 
 /// The check of one history with what those lines stand for.
 fn say_orders_checked(
     rt: &(impl Threads + Wait + Sync),
-    out: &mut String,
+    out: &mut Answer,
     asked: Asked<'_>,
     file: &[u8],
     lines: &str,
-) -> Result<(), AllocError> {
-    let orders = bytes_of(*out.allocator(), lines)?;
-    say_one(rt, out, asked, file, orders.as_slice())
+) {
+    let orders = bytes_of(out, lines);
+    let orders = orders.as_slice();
+    say_one(rt, out, asked, Input { file, orders });
 }
 
 /// The checks of one history with several orders.
-fn say_checks(
-    rt: &(impl Threads + Wait + Sync),
-    out: &mut String,
-    asked: Asked<'_>,
-    lines: &str,
-) -> Result<(), AllocError> {
-    let (history, _) = lines.split_once("orders:\n").unwrap_or((lines, ""));
-    let file = bytes_of(*out.allocator(), history)?;
-    for orders in lines.split("orders:\n").skip(1) {
-        say_orders_checked(rt, out, asked, file.as_slice(), orders)?;
+fn say_checks(rt: &(impl Threads + Wait + Sync), out: &mut Answer, asked: Asked<'_>) {
+    let (history, _) = asked
+        .lines
+        .split_once("orders:\n")
+        .unwrap_or((asked.lines, ""));
+    let file = bytes_of(out, history);
+    for orders in asked.lines.split("orders:\n").skip(1) {
+        say_orders_checked(rt, out, asked, file.as_slice(), orders);
     }
-    Ok(())
 }
 
 /// Scripts whose lines differ in a word `SEED`: the numbers `first` to `last` of the row.
-pub fn seeds_row(
+pub fn say_seeds(rt: &(impl Threads + Wait + Sync), out: &mut Answer, asked: Asked<'_>) {
+    let alloc = out.alloc();
+    let (before, after) = asked.lines.split_once("SEED").unwrap_or((asked.lines, ""));
+    let (first, end) = (
+        asked.number("first", 1),
+        asked.number("last", 1).saturating_add(1),
+    );
+    let answer = |seed: usize| seed_answer(rt, alloc, before, seed, after);
+    out.push_made(spans_of(alloc, 1, first, end, &answer));
+}
+
+/// What comes of the script with that seed.
+fn seed_answer(
     rt: &(impl Threads + Wait + Sync),
     alloc: Global,
-    asked: Asked<'_>,
-    lines: &str,
+    before: &str,
+    seed: usize,
+    after: &str,
 ) -> Result<String, AllocError> {
-    let mut spans = Spans::new(alloc);
-    let (before, after) = lines.split_once("SEED").unwrap_or((lines, ""));
-    for seed in asked.number("first", 1)..asked.number("last", 1).saturating_add(1) {
-        let script = format!(in alloc; "{before}{seed}{after}")?;
-        spans.take(seed, seed_answer(rt, alloc, script.as_str())?)?;
-    }
-    spans.finish()
+    let script = format!(in alloc; "{before}{seed}{after}")?;
+    let mut answer = Answer::new(alloc);
+    say_statuses(rt, &mut answer, script.as_str());
+    answer.text()
 }
 
 /// The statuses of a simulation, of the justification of its history and of the check of both, and whether
 /// there is a key.
-fn seed_answer(
-    rt: &(impl Threads + Wait + Sync),
-    alloc: Global,
-    lines: &str,
-) -> Result<String, AllocError> {
-    let script = bytes_of(alloc, lines)?;
-    let (simulate, justify, check, keys) = seed_statuses(rt, alloc, script.as_slice());
-    format!(in alloc; "simulate {simulate}, justify {justify}, check {check}, {keys}")
-}
-
-fn seed_statuses(
-    rt: &(impl Threads + Wait + Sync),
-    alloc: Global,
-    script: &[u8],
-) -> (u8, u8, u8, &'static str) {
-    let file = script;
-    let run = simulated(alloc, Input { file, orders: &[] }, WELL);
-    let file = run.out.as_slice();
-    let justified = justified(rt, alloc, Input { file, orders: &[] }, WELL);
-    let orders = justified.out.as_slice();
-    let verdict = checked(rt, alloc, Input { file, orders }, WELL);
-    let keys = if verdict.out.is_empty() {
+fn say_statuses(rt: &(impl Threads + Wait + Sync), out: &mut Answer, lines: &str) {
+    let alloc = out.alloc();
+    let script = bytes_of(out, lines);
+    let input = Input {
+        file: script.as_slice(),
+        orders: &[],
+    };
+    let simulated = run(rt, alloc, "simulate", input, WELL);
+    let input = Input {
+        file: simulated.out.as_slice(),
+        orders: &[],
+    };
+    let justified = run(rt, alloc, "justify", input, WELL);
+    let input = Input {
+        orders: justified.out.as_slice(),
+        ..input
+    };
+    let checked = run(rt, alloc, "check", input, WELL);
+    let keys = if checked.out.is_empty() {
         "no key"
     } else {
         "some keys"
     };
-    let (simulate, justify) = (run.status.code(), justified.status.code());
-    (simulate, justify, verdict.status.code(), keys)
+    let (simulate, justify) = (simulated.status.code(), justified.status.code());
+    let check = checked.status.code();
+    write!(
+        out,
+        "simulate {simulate}, justify {justify}, check {check}, {keys}"
+    );
 }

@@ -1,6 +1,6 @@
 //! Rows of single files: what was read, and what is written of it.
 use crate::asked::Asked;
-use crate::commands::extent;
+use crate::commands::extent_or_text;
 use crate::devices::Narrow;
 use crate::formats::{
     Counted, Counting, FaultKind, FileFault, WriteFault, history_text, read_history, read_orders,
@@ -12,7 +12,7 @@ use fault_script::{Command, Script, justified_run, parse};
 use recorder::{History, KeyOrder};
 use std::alloc::{AllocError, Global};
 use std::thread::Threads;
-use test_rows::{AMPLE, Bounded, Pieces, Spans, push_bytes};
+use test_rows::{AMPLE, Answer, Bounded, Pieces, say_bytes, spans_of};
 use world_steps::Step;
 
 /// A longer text is said by the number of its lines.
@@ -23,64 +23,68 @@ fn whole(left: &[u8]) -> Counting<Pieces<'_>> {
     Counting::new(Pieces::whole(left))
 }
 
-fn say_written_or_fault(
-    out: &mut String,
-    written: Result<(), WriteFault>,
-) -> Result<(), AllocError> {
+/// A writer with that room.
+fn writer_of(alloc: Global, room: usize) -> Counting<Bounded> {
+    Counting::new(Bounded::new(alloc, room))
+}
+
+fn say_written_or_fault(out: &mut Answer, written: Result<(), WriteFault>) {
     match written {
-        Ok(()) => out.push_str("written"),
+        Ok(()) => out.push("written"),
         Err(fault) => {
             let number = fault.number();
-            write!(out, "fault {number} {fault}")
+            write!(out, "fault {number} {fault}");
         }
     }
 }
 
 /// What was written of what was read from those bytes.
-fn say_written(out: &mut String, bytes: &[u8], written: &[u8]) -> Result<(), AllocError> {
+fn say_written(out: &mut Answer, bytes: &[u8], written: &[u8]) {
     if bytes == written {
-        return out.push_str("written as it was read\n");
-    }
-    if written.len() > SHORT {
+        out.push("written as it was read\n");
+    } else if written.len() > SHORT {
         let ends = written.iter().filter(|byte| **byte == b'\n').count();
-        return write!(out, "written in {ends} lines\n");
-    }
-    out.push_str("written:\n")?;
-    push_bytes(out, written)
-}
-
-/// The bytes that are written of a history. With ample room only an allocation that is refused stands in the way.
-fn written_history(alloc: Global, history: &History) -> Result<Vec<u8>, AllocError> {
-    let mut writer = Counting::new(Bounded::new(alloc, AMPLE));
-    match write_history(alloc, history, &mut writer) {
-        Ok(()) => Ok(writer.into_inner().taken),
-        Err(_) => Err(AllocError),
+        write!(out, "written in {ends} lines\n");
+    } else {
+        out.push("written:\n");
+        say_bytes(out, written);
     }
 }
 
-/// Whether the bytes are the text that is made of the history.
-fn is_text_of(alloc: Global, history: &History, written: &[u8]) -> Result<bool, AllocError> {
-    match history_text(alloc, history) {
-        Ok(made) => Ok(made.as_slice() == written),
-        Err(_) => Err(AllocError),
+/// The bytes that were written. With ample room only an allocation that is refused stands in the way.
+fn all_written(
+    out: &mut Answer,
+    written: Result<(), WriteFault>,
+    writer: Counting<Bounded>,
+) -> Vec<u8> {
+    if written.is_err() {
+        out.refuse();
+    }
+    writer.into_inner().taken
+}
+
+/// The bytes that are written of a history.
+fn written_history(out: &mut Answer, history: &History) -> Vec<u8> {
+    let mut writer = writer_of(out.alloc(), AMPLE);
+    let written = write_history(out.alloc(), history, &mut writer);
+    all_written(out, written, writer)
+}
+
+/// Says where the bytes aren't the text that is made of the history.
+fn compare_text(out: &mut Answer, history: &History, written: &[u8]) {
+    match history_text(out.alloc(), history) {
+        Ok(made) if made.as_slice() == written => {}
+        Ok(_) => out.push("WRITERS DIFFER\n"),
+        Err(_) => out.refuse(),
     }
 }
 
-/// Whether a history with those rows is read from the bytes.
-fn has_rows(
-    rt: &(impl Threads + Sync),
-    alloc: Global,
-    written: &[u8],
-    rows: &str,
-) -> Result<bool, AllocError> {
-    match read_history(rt, alloc, &mut whole(written)) {
-        Ok(again) => {
-            let mut said = String::new(alloc);
-            say_rows(&mut said, again.rows())?;
-            Ok(said.as_str() == rows)
-        }
-        Err(fault) if is_memory(&fault) => Err(AllocError),
-        Err(_) => Ok(false),
+/// Says where a history with other rows is read from the bytes.
+fn compare_rows(rt: &(impl Threads + Sync), out: &mut Answer, history: &History, written: &[u8]) {
+    match read_history(rt, out.alloc(), &mut whole(written)) {
+        Ok(again) if again.rows() == history.rows() => {}
+        Err(fault) if is_memory(&fault) => out.refuse(),
+        _ => out.push("READ AGAIN IT DIFFERS\n"),
     }
 }
 
@@ -89,36 +93,14 @@ fn is_memory(fault: &FileFault) -> bool {
     matches!(fault.kind, FaultKind::Memory)
 }
 
-/// What is written of a history whose rows were said so.
-fn say_history_written(
-    rt: &(impl Threads + Sync),
-    out: &mut String,
-    history: &History,
-    bytes: &[u8],
-    rows: &str,
-) -> Result<(), AllocError> {
-    let alloc = *out.allocator();
-    let written = written_history(alloc, history)?;
-    say_written(out, bytes, written.as_slice())?;
-    if !is_text_of(alloc, history, written.as_slice())? {
-        out.push_str("WRITERS DIFFER\n")?;
-    }
-    if !has_rows(rt, alloc, written.as_slice(), rows)? {
-        out.push_str("READ AGAIN IT DIFFERS\n")?;
-    }
-    Ok(())
-}
-
-fn say_history_read(
-    rt: &(impl Threads + Sync),
-    out: &mut String,
-    history: &History,
-    bytes: &[u8],
-) -> Result<(), AllocError> {
-    let mut rows = String::new(*out.allocator());
-    say_rows(&mut rows, history.rows())?;
-    out.push_str(rows.as_str())?;
-    say_history_written(rt, out, history, bytes, rows.as_str())
+/// The rows of a history that was read from those bytes, and what is written of it.
+fn say_history_read(rt: &(impl Threads + Sync), out: &mut Answer, history: &History, bytes: &[u8]) {
+    say_rows(out, history.rows());
+    let written = written_history(out, history);
+    let written = written.as_slice();
+    say_written(out, bytes, written);
+    compare_text(out, history, written);
+    compare_rows(rt, out, history, written);
 }
 
 /// What comes of the history, written with that room.
@@ -128,39 +110,30 @@ fn room_answer(
     bytes: &[u8],
     room: usize,
 ) -> Result<String, AllocError> {
-    let mut answer = String::new(alloc);
-    let mut writer = Counting::new(Bounded::new(alloc, room));
-    say_written_or_fault(&mut answer, write_history(alloc, history, &mut writer))?;
+    let mut answer = Answer::new(alloc);
+    let mut writer = writer_of(alloc, room);
+    say_written_or_fault(&mut answer, write_history(alloc, history, &mut writer));
     let failures = writer.failures();
     let taken = writer.into_inner().taken;
-    let extent = extent(taken.as_slice(), bytes, room);
-    write!(answer, ", failures {failures}, {extent}")?;
-    Ok(answer)
+    let extent = extent_or_text(taken.as_slice(), bytes, room);
+    write!(answer, ", failures {failures}, {extent}");
+    answer.text()
 }
 
 /// The history written with each room from none to that of its text.
-fn history_rooms(alloc: Global, history: &History, bytes: &[u8]) -> Result<String, AllocError> {
-    let mut spans = Spans::new(alloc);
-    for room in 0..bytes.len().saturating_add(1) {
-        spans.take(room, room_answer(alloc, history, bytes, room)?)?;
-    }
-    spans.finish()
+fn say_rooms(out: &mut Answer, history: &History, bytes: &[u8]) {
+    let alloc = out.alloc();
+    let answer = |room: usize| room_answer(alloc, history, bytes, room);
+    out.push_made(spans_of(alloc, 1, 0, bytes.len().saturating_add(1), &answer));
 }
 
 /// The rows of a history, and what is written of it.
-pub fn say_history_row(
-    rt: &(impl Threads + Sync),
-    out: &mut String,
-    asked: Asked<'_>,
-    lines: &str,
-) -> Result<(), AllocError> {
-    let alloc = *out.allocator();
-    let bytes = bytes_of(alloc, lines)?;
-    match read_history(rt, alloc, &mut whole(bytes.as_slice())) {
-        Ok(history) if asked.has("each-room") => {
-            out.push_str(history_rooms(alloc, &history, bytes.as_slice())?.as_str())
-        }
-        Ok(history) => say_history_read(rt, out, &history, bytes.as_slice()),
+pub fn say_history_row(rt: &(impl Threads + Sync), out: &mut Answer, asked: Asked<'_>) {
+    let bytes = bytes_of(out, asked.lines);
+    let bytes = bytes.as_slice();
+    match read_history(rt, out.alloc(), &mut whole(bytes)) {
+        Ok(history) if asked.has("each-room") => say_rooms(out, &history, bytes),
+        Ok(history) => say_history_read(rt, out, &history, bytes),
         Err(fault) => write!(out, "{fault}\n"),
     }
 }
@@ -178,119 +151,107 @@ fn are_equal(first: &[KeyOrder], second: &[KeyOrder]) -> bool {
     true
 }
 
-/// The bytes that are written of orders. With ample room only an allocation that is refused stands in the way.
-fn written_orders(alloc: Global, orders: &[KeyOrder]) -> Result<Vec<u8>, AllocError> {
-    let mut writer = Counting::new(Bounded::new(alloc, AMPLE));
-    match write_orders(alloc, orders, &mut writer) {
-        Ok(()) => Ok(writer.into_inner().taken),
-        Err(_) => Err(AllocError),
+/// The bytes that are written of orders.
+fn written_orders(out: &mut Answer, orders: &[KeyOrder]) -> Vec<u8> {
+    let mut writer = writer_of(out.alloc(), AMPLE);
+    let written = write_orders(out.alloc(), orders, &mut writer);
+    all_written(out, written, writer)
+}
+
+/// Says where other orders are read from the bytes.
+fn compare_orders(
+    rt: &(impl Threads + Sync),
+    out: &mut Answer,
+    orders: &[KeyOrder],
+    written: &[u8],
+) {
+    match read_orders(rt, out.alloc(), &mut whole(written)) {
+        Ok(again) if are_equal(orders, again.as_slice()) => {}
+        Err(fault) if is_memory(&fault) => out.refuse(),
+        _ => out.push("READ AGAIN THEY DIFFER\n"),
     }
 }
 
+/// Orders that were read from those bytes, and what is written of them.
 fn say_orders_read(
     rt: &(impl Threads + Sync),
-    out: &mut String,
+    out: &mut Answer,
     orders: &[KeyOrder],
     bytes: &[u8],
-) -> Result<(), AllocError> {
-    say_key_orders(out, orders)?;
-    let alloc = *out.allocator();
-    let written = written_orders(alloc, orders)?;
-    say_written(out, bytes, written.as_slice())?;
-    match read_orders(rt, alloc, &mut whole(written.as_slice())) {
-        Ok(again) if are_equal(orders, again.as_slice()) => Ok(()),
-        Err(fault) if is_memory(&fault) => Err(AllocError),
-        _ => out.push_str("READ AGAIN THEY DIFFER\n"),
-    }
+) {
+    say_key_orders(out, orders);
+    let written = written_orders(out, orders);
+    say_written(out, bytes, written.as_slice());
+    compare_orders(rt, out, orders, written.as_slice());
 }
 
 /// The orders that are read, and what is written of them.
-pub fn say_orders_row(
-    rt: &(impl Threads + Sync),
-    out: &mut String,
-    lines: &str,
-) -> Result<(), AllocError> {
-    let alloc = *out.allocator();
-    let bytes = bytes_of(alloc, lines)?;
-    match read_orders(rt, alloc, &mut whole(bytes.as_slice())) {
+pub fn say_orders_row(rt: &(impl Threads + Sync), out: &mut Answer, lines: &str) {
+    let bytes = bytes_of(out, lines);
+    match read_orders(rt, out.alloc(), &mut whole(bytes.as_slice())) {
         Ok(orders) => say_orders_read(rt, out, orders.as_slice(), bytes.as_slice()),
         Err(fault) => write!(out, "{fault}\n"),
     }
 }
 
-/// The settings and commands of a script.
-pub fn say_script_row(out: &mut String, lines: &str) -> Result<(), AllocError> {
-    let alloc = *out.allocator();
-    let bytes = bytes_of(alloc, lines)?;
-    match parse(alloc, &mut whole(bytes.as_slice())) {
+/// A script of those lines: its settings and commands, or with `steps` the orders that come with the run of
+/// its steps; or its fault.
+pub fn say_script_row(out: &mut Answer, asked: Asked<'_>) {
+    let bytes = bytes_of(out, asked.lines);
+    match parse(out.alloc(), &mut whole(bytes.as_slice())) {
+        Ok(script) if asked.kind() == "steps" => say_steps(out, script),
         Ok(script) => say_commands(out, &script),
         Err(error) => write!(out, "{error}\n"),
     }
 }
 
 /// The steps among the commands.
-fn steps_of(alloc: Global, script: Script) -> Result<Vec<Step>, AllocError> {
-    let mut steps = Vec::new(alloc);
+fn steps_of(out: &mut Answer, script: Script) -> Vec<Step> {
+    let mut steps = Vec::new(out.alloc());
     for numbered in script.commands {
-        if let Command::Step(step) = numbered.command {
-            steps.push(step)?;
+        if let Command::Step(step) = numbered.command
+            && steps.push(step).is_err()
+        {
+            out.refuse();
         }
     }
-    Ok(steps)
+    steps
 }
 
 /// The orders that come with the run of a script's steps.
-fn say_steps(out: &mut String, script: Script) -> Result<(), AllocError> {
-    let alloc = *out.allocator();
+fn say_steps(out: &mut Answer, script: Script) {
     let config = script.config;
-    let steps = steps_of(alloc, script)?;
-    match justified_run(alloc, config, steps.as_slice()) {
+    let steps = steps_of(out, script);
+    match justified_run(out.alloc(), config, steps.as_slice()) {
         Ok((_, orders)) => say_key_orders(out, orders.as_slice()),
-        Err(_) => out.push_str("no memory\n"),
-    }
-}
-
-/// The orders that come with the run of a script's steps, or its fault.
-pub fn say_steps_row(out: &mut String, lines: &str) -> Result<(), AllocError> {
-    let alloc = *out.allocator();
-    let bytes = bytes_of(alloc, lines)?;
-    match parse(alloc, &mut whole(bytes.as_slice())) {
-        Ok(script) => say_steps(out, script),
-        Err(error) => write!(out, "{error}\n"),
+        Err(_) => out.push("no memory\n"),
     }
 }
 
 /// What a writer with those faults makes of the orders and of a text.
-fn say_narrow(out: &mut String, orders: &[KeyOrder], asked: Asked<'_>) -> Result<(), AllocError> {
+fn say_narrow(out: &mut Answer, orders: &[KeyOrder], asked: Asked<'_>) {
     let mut writer = Counting::new(Narrow::asked(asked));
-    let first = write_orders(*out.allocator(), orders, &mut writer);
-    let second = write_text(b"text", &mut writer);
-    out.push_str("orders: ")?;
-    say_written_or_fault(out, first)?;
-    out.push_str(", text: ")?;
-    say_written_or_fault(out, second)?;
+    let written = write_orders(out.alloc(), orders, &mut writer);
+    out.push("orders: ");
+    say_written_or_fault(out, written);
+    out.push(", text: ");
+    say_written_or_fault(out, write_text(b"text", &mut writer));
     let failures = writer.failures();
-    write!(out, ", failures {failures}\n")
+    write!(out, ", failures {failures}\n");
 }
 
 /// The order of calls 0, 1 and 2 of `x`, and a text, each line a writer that takes them.
-pub fn say_writers_row(
-    rt: &(impl Threads + Sync),
-    out: &mut String,
-    lines: &str,
-) -> Result<(), AllocError> {
-    let alloc = *out.allocator();
-    let bytes = bytes_of(alloc, "<orders>{\"key\":\"x\",\"order\":[0,1,2]}")?;
-    match read_orders(rt, alloc, &mut whole(bytes.as_slice())) {
+pub fn say_writers_row(rt: &(impl Threads + Sync), out: &mut Answer, lines: &str) {
+    let bytes = bytes_of(out, "<orders>{\"key\":\"x\",\"order\":[0,1,2]}");
+    match read_orders(rt, out.alloc(), &mut whole(bytes.as_slice())) {
         Ok(orders) => say_narrow_lines(out, orders.as_slice(), lines),
         Err(fault) => write!(out, "{fault}\n"),
     }
 }
 
 /// What each line's writer makes of the orders and of a text.
-fn say_narrow_lines(out: &mut String, orders: &[KeyOrder], lines: &str) -> Result<(), AllocError> {
+fn say_narrow_lines(out: &mut Answer, orders: &[KeyOrder], lines: &str) {
     for line in lines.lines() {
-        say_narrow(out, orders, Asked { line })?;
+        say_narrow(out, orders, Asked::new(line));
     }
-    Ok(())
 }

@@ -3,18 +3,13 @@ use crate::asked::Asked;
 use crate::devices::Narrow;
 use crate::formats::{Counted, Counting, FaultKind, FileFault, LineFault, WriteFault};
 use fault_script::{ErrorKind, ScriptError, SimulateError};
-use std::alloc::AllocError;
 use std::io::{Read, Write};
-use test_rows::Pieces;
+use test_rows::{Answer, Pieces};
 
 /// What a reader has counted after each of four reads with room for 8 bytes.
-pub fn say_counted_reads(
-    out: &mut String,
-    asked: Asked<'_>,
-    lines: &str,
-) -> Result<(), AllocError> {
+pub fn say_counted_reads(out: &mut Answer, asked: Asked<'_>) {
     let mut reader = Counting::new(Pieces {
-        left: lines.trim_end().as_bytes(),
+        left: asked.lines.trim_end().as_bytes(),
         size: asked.number("pieces", 1),
         failure: asked.failure(),
     });
@@ -22,13 +17,12 @@ pub fn say_counted_reads(
     for _ in 0..4 {
         let _ = reader.read(&mut room);
         let (given, failures) = (reader.given(), reader.failures());
-        write!(out, "given {given}, failures {failures}\n")?;
+        write!(out, "given {given}, failures {failures}\n");
     }
-    Ok(())
 }
 
 /// What a writer has counted after it was given the line's text, or was flushed.
-fn say_counted_write(out: &mut String, asked: Asked<'_>) -> Result<(), AllocError> {
+fn say_counted_write(out: &mut Answer, asked: Asked<'_>) {
     let fails = asked.has("fails");
     let mut writer = Counting::new(Narrow::asked(asked));
     if asked.has("flush") {
@@ -42,17 +36,17 @@ fn say_counted_write(out: &mut String, asked: Asked<'_>) -> Result<(), AllocErro
     } else {
         ", another writer"
     };
-    write!(out, "failures {failures}{kept}\n")
+    write!(out, "failures {failures}{kept}\n");
 }
 
 /// A line for each writer.
-pub fn say_counted_writes(out: &mut String, lines: &str) -> Result<(), AllocError> {
+pub fn say_counted_writes(out: &mut Answer, lines: &str) {
     for line in lines.lines() {
-        say_counted_write(out, Asked { line })?;
+        say_counted_write(out, Asked::new(line));
     }
-    Ok(())
 }
 
+/// What is wrong with line 7 of a history or of orders, and with line 7 of a script.
 const FILE_FAULTS: [FaultKind; 14] = [
     FaultKind::Line(LineFault::NotJson),
     FaultKind::Line(LineFault::NoHeader),
@@ -70,15 +64,6 @@ const FILE_FAULTS: [FaultKind; 14] = [
     FaultKind::Memory,
 ];
 
-/// All faults of histories and orders, at line 7.
-pub fn say_file_faults(out: &mut String) -> Result<(), AllocError> {
-    for kind in FILE_FAULTS {
-        let fault = FileFault { line: 7, kind };
-        write!(out, "{fault}\n")?;
-    }
-    Ok(())
-}
-
 const SCRIPT_FAULTS: [ErrorKind; 8] = [
     ErrorKind::Line(fault_script::LineFault::NotUtf8),
     ErrorKind::Line(fault_script::LineFault::NoReplicas),
@@ -90,19 +75,23 @@ const SCRIPT_FAULTS: [ErrorKind; 8] = [
     ErrorKind::Memory,
 ];
 
-/// All faults of scripts, at line 7.
-pub fn say_script_faults(out: &mut String) -> Result<(), AllocError> {
-    for kind in SCRIPT_FAULTS {
-        let error = ScriptError { line: 7, kind };
-        write!(out, "{error}\n")?;
+/// All faults of histories and orders, or of scripts.
+pub fn say_faults(out: &mut Answer, is_script: bool) {
+    if is_script {
+        for kind in SCRIPT_FAULTS {
+            write!(out, "{}\n", ScriptError { line: 7, kind });
+        }
+    } else {
+        for kind in FILE_FAULTS {
+            write!(out, "{}\n", FileFault { line: 7, kind });
+        }
     }
-    Ok(())
 }
 
 /// The faults of writing, by number, and the errors of simulations.
-pub fn say_other_faults(out: &mut String) -> Result<(), AllocError> {
+pub fn say_other_faults(out: &mut Answer) {
     for fault in [WriteFault::Device, WriteFault::Memory] {
-        write!(out, "fault {} {fault}\n", fault.number())?;
+        write!(out, "fault {} {fault}\n", fault.number());
     }
     let kind = ErrorKind::Line(fault_script::LineFault::Range);
     for error in [
@@ -110,7 +99,6 @@ pub fn say_other_faults(out: &mut String) -> Result<(), AllocError> {
         SimulateError::Memory,
         SimulateError::Device,
     ] {
-        write!(out, "{error}\n")?;
+        write!(out, "{error}\n");
     }
-    Ok(())
 }

@@ -10,6 +10,7 @@ mod commands;
 mod contents;
 mod counts;
 mod devices;
+mod feeding;
 mod formats;
 mod names;
 mod notation;
@@ -18,88 +19,59 @@ mod saying;
 mod wording;
 
 use asked::Asked;
-use commands::{say_command_row, seeds_row};
-use contents::{say_history_row, say_orders_row, say_script_row, say_steps_row, say_writers_row};
-use counts::{
-    say_counted_reads, say_counted_writes, say_file_faults, say_other_faults, say_script_faults,
-};
+use commands::{say_command_row, say_seeds};
+use contents::{say_history_row, say_orders_row, say_script_row, say_writers_row};
+use counts::{say_counted_reads, say_counted_writes, say_faults, say_other_faults};
+use feeding::say_fed;
 use names::say_names;
-use readings::{Format, cuts_row, say_files_read, say_history_fed, say_orders_fed};
-use std::alloc::{AllocError, Global};
+use readings::{Format, say_cuts, say_files_read};
 use std::process::ExitCode;
 use std::sync::Wait;
 use std::thread::Threads;
-use test_rows::say_files;
+use test_rows::{Answer, run_rows};
 use wording::{say_first_lines, say_words};
 
 /// What comes of rows that read files.
-fn say_file_row(
-    threads: &(impl Threads + Wait + Sync),
-    out: &mut String,
-    asked: Asked<'_>,
-    lines: &str,
-) -> Result<(), AllocError> {
+fn say_file_row(rt: &(impl Threads + Wait + Sync), out: &mut Answer, asked: Asked<'_>) {
     match asked.kind() {
-        "histories" => say_files_read(threads, out, asked, Format::History, lines),
-        "orders" => say_files_read(threads, out, asked, Format::Orders, lines),
-        "scripts" => say_files_read(threads, out, asked, Format::Script, lines),
-        "feed-history" => say_history_fed(threads, out, lines),
-        "feed-orders" => say_orders_fed(threads, out, lines),
-        "history" => say_history_row(threads, out, asked, lines),
-        "key-orders" => say_orders_row(threads, out, lines),
-        "writers" => say_writers_row(threads, out, lines),
-        _ => out.push_str("NO SUCH KIND OF ROW\n"),
+        "histories" => say_files_read(rt, out, asked, Format::History),
+        "orders" => say_files_read(rt, out, asked, Format::Orders),
+        "scripts" => say_files_read(rt, out, asked, Format::Script),
+        "feed-history" => say_fed(rt, out, Format::History, asked.lines),
+        "feed-orders" => say_fed(rt, out, Format::Orders, asked.lines),
+        "history" => say_history_row(rt, out, asked),
+        "key-orders" => say_orders_row(rt, out, asked.lines),
+        "writers" => say_writers_row(rt, out, asked.lines),
+        "cuts" => say_cuts(rt, out, asked),
+        _ => out.push("NO SUCH KIND OF ROW\n"),
     }
 }
 
 /// What comes of other rows.
-fn say_row(
-    threads: &(impl Threads + Wait + Sync),
-    out: &mut String,
-    asked: Asked<'_>,
-    lines: &str,
-) -> Result<(), AllocError> {
+fn say_row(rt: &(impl Threads + Wait + Sync), out: &mut Answer, asked: Asked<'_>) {
     match asked.kind() {
-        "simulate" | "justify" | "check" => say_command_row(threads, out, asked, lines),
-        "script" => say_script_row(out, lines),
-        "steps" => say_steps_row(out, lines),
-        "words" => say_words(out, lines),
-        "first-lines" => say_first_lines(out, lines),
-        "names" => say_names(out, lines),
-        "counted-reads" => say_counted_reads(out, asked, lines),
-        "counted-writes" => say_counted_writes(out, lines),
-        "file-faults" => say_file_faults(out),
-        "script-faults" => say_script_faults(out),
+        "simulate" | "justify" | "check" => say_command_row(rt, out, asked),
+        "seeds" => say_seeds(rt, out, asked),
+        "script" | "steps" => say_script_row(out, asked),
+        "words" => say_words(out, asked.lines),
+        "first-lines" => say_first_lines(out, asked.lines),
+        "names" => say_names(out, asked.lines),
+        "counted-reads" => say_counted_reads(out, asked),
+        "counted-writes" => say_counted_writes(out, asked.lines),
+        "file-faults" => say_faults(out, false),
+        "script-faults" => say_faults(out, true),
         "other-faults" => say_other_faults(out),
-        _ => say_file_row(threads, out, asked, lines),
-    }
-}
-
-/// What comes of a row.
-fn found(
-    threads: &(impl Threads + Wait + Sync),
-    alloc: Global,
-    asked: Asked<'_>,
-    lines: &str,
-) -> Result<String, AllocError> {
-    match asked.kind() {
-        "seeds" => seeds_row(threads, alloc, asked, lines),
-        "cuts" => cuts_row(threads, alloc, asked, lines),
-        _ => {
-            let mut out = String::new(alloc);
-            say_row(threads, &mut out, asked, lines)?;
-            Ok(out)
-        }
+        _ => say_file_row(rt, out, asked),
     }
 }
 
 fn main(rt: HostRuntime) -> ExitCode {
-    let answer = |input: &str| {
-        let (line, lines) = input.split_once('\n').unwrap_or((input, ""));
-        found(&rt, rt.alloc(), Asked { line }, lines)
-    };
-    match say_files(&rt, &answer) {
-        Ok(true) => ExitCode::SUCCESS,
-        _ => ExitCode::FAILURE,
-    }
+    run_rows(
+        &rt,
+        &|input: &str| {
+            let mut answer = Answer::new(rt.alloc());
+            say_row(&rt, &mut answer, Asked::new(input));
+            answer.text()
+        },
+    )
 }

@@ -1,26 +1,24 @@
 //! Rows of names of files, as a terminal is shown them.
 use crate::notation::bytes_of;
 use cli::shown_name;
-use std::alloc::{AllocError, Global};
+use test_rows::Answer;
 
 /// The name that those bytes are, as a terminal is shown it.
-fn shown_of(alloc: Global, bytes: &[u8]) -> Result<String, AllocError> {
+fn say_name(out: &mut Answer, bytes: &[u8]) {
     match std::str::from_utf8(bytes) {
-        Ok(name) => match shown_name(alloc, name) {
-            Ok(shown) => Ok(shown),
-            Err(_) => Err(AllocError),
+        Ok(name) => match shown_name(out.alloc(), name) {
+            Ok(shown) => out.push(shown.as_str()),
+            Err(_) => out.refuse(),
         },
-        Err(_) => String::from_str(alloc, "not UTF-8"),
+        Err(_) => out.push("not UTF-8"),
     }
 }
 
 /// Each name, as a terminal is shown it.
-pub fn say_names(out: &mut String, lines: &str) -> Result<(), AllocError> {
-    let alloc = *out.allocator();
+pub fn say_names(out: &mut Answer, lines: &str) {
     for line in lines.lines() {
-        let bytes = bytes_of(alloc, line)?;
-        out.push_str(shown_of(alloc, bytes.as_slice())?.as_str())?;
-        out.push_str("\n")?;
+        let bytes = bytes_of(out, line);
+        say_name(out, bytes.as_slice());
+        out.push("\n");
     }
-    Ok(())
 }

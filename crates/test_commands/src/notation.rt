@@ -5,32 +5,39 @@
 //! file with its end of line, `<reads 0..3>` for the lines of reads 0, 1 and 2 by client 1 that found
 //! nothing in `x`, `<numbers 0..3>` for `0,1,2`, and any other mark for the bytes whose hexadecimal
 //! digits it has. A line that begins with `<40 lines of>` stands there that many times.
-use std::alloc::{AllocError, Global};
+use std::alloc::AllocError;
+use test_rows::Answer;
 
 const HISTORY: &str = "{\"abd\":\"history\",\"version\":1}\n";
 
 const ORDERS: &str = "{\"abd\":\"orders\",\"version\":1}\n";
 
 /// The numbers on both sides of the two points.
-pub fn range_of(text: &str) -> Option<(u32, u32)> {
+fn range_of(text: &str) -> Option<(u32, u32)> {
     let (first, last) = text.split_once("..")?;
     Some((first.parse::<u32>().ok()?, last.parse::<u32>().ok()?))
 }
 
-/// Reads by client 1 that found nothing.
+/// A read by client 1 that found nothing.
+fn push_read(bytes: &mut Vec<u8>, call: u32) -> Result<(), AllocError> {
+    let text = format!(in *bytes.allocator();
+        "{{\"call\":{call},\"client\":1,\"do\":\"read\",\"key\":\"x\",\"row\":\"invoke\"}}\n\
+        {{\"call\":{call},\"row\":\"respond\",\"value\":null}}\n"
+    )?;
+    bytes.extend_from_slice(text.as_bytes())
+}
+
 fn push_reads(bytes: &mut Vec<u8>, range: &str) -> Result<(), AllocError> {
     let (first, last) = range_of(range).unwrap_or((0, 0));
     for call in first..last {
-        let invoked = format!(in *bytes.allocator();
-            "{{\"call\":{call},\"client\":1,\"do\":\"read\",\"key\":\"x\",\"row\":\"invoke\"}}\n"
-        )?;
-        bytes.extend_from_slice(invoked.as_bytes())?;
-        let answered = format!(in *bytes.allocator();
-            "{{\"call\":{call},\"row\":\"respond\",\"value\":null}}\n"
-        )?;
-        bytes.extend_from_slice(answered.as_bytes())?;
+        push_read(bytes, call)?;
     }
     Ok(())
+}
+
+fn push_number(bytes: &mut Vec<u8>, comma: &str, number: u32) -> Result<(), AllocError> {
+    let text = format!(in *bytes.allocator(); "{comma}{number}")?;
+    bytes.extend_from_slice(text.as_bytes())
 }
 
 /// Numbers with commas between them.
@@ -38,8 +45,7 @@ fn push_numbers(bytes: &mut Vec<u8>, range: &str) -> Result<(), AllocError> {
     let (first, last) = range_of(range).unwrap_or((0, 0));
     for number in first..last {
         let comma = if number == first { "" } else { "," };
-        let text = format!(in *bytes.allocator(); "{comma}{number}")?;
-        bytes.extend_from_slice(text.as_bytes())?;
+        push_number(bytes, comma, number)?;
     }
     Ok(())
 }
@@ -116,16 +122,22 @@ fn many_lines(line: &str) -> Option<(u32, &str)> {
     Some((count.parse::<u32>().ok()?, text))
 }
 
-/// The bytes that the lines stand for.
-pub fn bytes_of(alloc: Global, lines: &str) -> Result<Vec<u8>, AllocError> {
-    let mut bytes = Vec::new(alloc);
-    for lines in lines.lines() {
-        for line in lines.split(" / ") {
-            let (count, text) = many_lines(line).unwrap_or((1, line));
-            for _ in 0..count {
-                push_line(&mut bytes, text)?;
-            }
+/// What a line stands for, whose own lines are divided by ` / `.
+fn push_divided(bytes: &mut Vec<u8>, line: &str) -> Result<(), AllocError> {
+    for line in line.split(" / ") {
+        let (count, text) = many_lines(line).unwrap_or((1, line));
+        for _ in 0..count {
+            push_line(bytes, text)?;
         }
     }
-    Ok(bytes)
+    Ok(())
+}
+
+/// The bytes that the lines stand for; they are no more than a beginning where memory was refused.
+pub fn bytes_of(out: &mut Answer, lines: &str) -> Vec<u8> {
+    let mut bytes = Vec::new(out.alloc());
+    for line in lines.lines() {
+        out.heed(push_divided(&mut bytes, line));
+    }
+    bytes
 }

@@ -1,37 +1,53 @@
 //! What was read, as texts.
-use crate::formats::FileFault;
+use crate::formats::{FaultKind, FileFault};
 use client_phases::ReadMode;
-use fault_script::{Command, Script, ScriptError};
+use fault_script::{Command, ErrorKind, Script, ScriptError};
 use recorder::{History, KeyOrder, Row};
-use std::alloc::AllocError;
 use tag::{Action, OpId, Returned};
+use test_rows::{Answer, RowSaid, said_by};
 use world_steps::{Config, Step};
 
 /// The most calls of an order that are said one by one.
 const FEW: usize = 10;
 
+/// How a file was read: well, up to a device's fault, or up to another one.
+#[derive(Clone, Copy)]
+pub enum Outcome {
+    Good,
+    Device,
+    Other,
+}
+
+/// Says the fault of a file.
+fn say_fault(out: &mut Answer, fault: &FileFault) -> Outcome {
+    write!(out, "{fault}");
+    match fault.kind {
+        FaultKind::Device => Outcome::Device,
+        _ => Outcome::Other,
+    }
+}
+
 /// A line on what a history has, or its fault.
-pub fn say_history(out: &mut String, read: &Result<History, FileFault>) -> Result<(), AllocError> {
+pub fn say_history(out: &mut Answer, read: &Result<History, FileFault>) -> Outcome {
     match read {
         Ok(history) => {
             let (calls, rows) = (history.calls(), history.rows().len());
-            write!(out, "good, calls: {calls}, rows: {rows}")
+            write!(out, "good, calls: {calls}, rows: {rows}");
+            Outcome::Good
         }
-        Err(fault) => write!(out, "{fault}"),
+        Err(fault) => say_fault(out, fault),
     }
 }
 
 /// A line on what orders have, or their fault.
-pub fn say_orders(
-    out: &mut String,
-    read: &Result<Vec<KeyOrder>, FileFault>,
-) -> Result<(), AllocError> {
+pub fn say_orders(out: &mut Answer, read: &Result<Vec<KeyOrder>, FileFault>) -> Outcome {
     match read {
         Ok(orders) => {
             let (keys, calls) = (orders.len(), calls_of(orders.as_slice()));
-            write!(out, "good, keys: {keys}, calls: {calls}")
+            write!(out, "good, keys: {keys}, calls: {calls}");
+            Outcome::Good
         }
-        Err(fault) => write!(out, "{fault}"),
+        Err(fault) => say_fault(out, fault),
     }
 }
 
@@ -45,95 +61,98 @@ fn calls_of(orders: &[KeyOrder]) -> usize {
 }
 
 /// A line on what a script has, or its fault.
-pub fn say_script(out: &mut String, read: &Result<Script, ScriptError>) -> Result<(), AllocError> {
+pub fn say_script(out: &mut Answer, read: &Result<Script, ScriptError>) -> Outcome {
     match read {
         Ok(script) => {
             let commands = script.commands.len();
-            write!(out, "good, commands: {commands}")
+            write!(out, "good, commands: {commands}");
+            Outcome::Good
         }
-        Err(error) => write!(out, "{error}"),
+        Err(error) => {
+            write!(out, "{error}");
+            match error.kind {
+                ErrorKind::Device => Outcome::Device,
+                _ => Outcome::Other,
+            }
+        }
     }
 }
 
-fn say_action(out: &mut String, action: &Action) -> Result<(), AllocError> {
+fn say_action(out: &mut Answer, action: &Action) {
     match action {
-        Action::Read => out.push_str("read"),
+        Action::Read => out.push("read"),
         Action::Write(value) => {
             let text = value.as_str();
-            write!(out, "write {text:?}")
+            write!(out, "write {text:?}");
         }
     }
 }
 
-fn say_returned(out: &mut String, returned: &Returned) -> Result<(), AllocError> {
-    match returned {
-        Returned::Written => out.push_str("written"),
-        Returned::Value(None) => out.push_str("absent"),
-        Returned::Value(Some(value)) => {
+fn say_returned(out: &mut Answer, returned: &Returned) {
+    let Returned::Value(value) = returned else {
+        return out.push("written");
+    };
+    match value {
+        None => out.push("absent"),
+        Some(value) => {
             let text = value.as_str();
-            write!(out, "{text:?}")
+            write!(out, "{text:?}");
         }
     }
 }
 
-fn say_row(out: &mut String, row: &Row) -> Result<(), AllocError> {
-    match row {
-        Row::Invoke {
-            op,
-            client,
-            key,
-            action,
-        } => {
-            let (op, client, key) = (op.0, client.get(), key.as_str());
-            write!(out, "call {op} by client {client} on {key}: ")?;
-            say_action(out, action)
+fn say_row(out: &mut Answer, row: &Row) {
+    let (op, said) = said_by(row);
+    write!(out, "call {op} ");
+    match said {
+        RowSaid::Invoked(client, key, action) => {
+            let (client, key) = (client.get(), key.as_str());
+            write!(out, "by client {client} on {key}: ");
+            say_action(out, action);
         }
-        Row::Note { op, tag } => {
-            let (op, number, writer) = (op.0, tag.number(), tag.writer());
-            write!(out, "call {op} has tag {number} of {writer}")
+        RowSaid::Noted(tag) => {
+            let (number, writer) = (tag.number(), tag.writer());
+            write!(out, "has tag {number} of {writer}");
         }
-        Row::Respond { op, returned } => {
-            let op = op.0;
-            write!(out, "call {op} answers ")?;
-            say_returned(out, returned)
+        RowSaid::Answered(returned) => {
+            out.push("answers ");
+            say_returned(out, returned);
         }
     }
 }
 
 /// A line for each row.
-pub fn say_rows(out: &mut String, rows: &[Row]) -> Result<(), AllocError> {
+pub fn say_rows(out: &mut Answer, rows: &[Row]) {
     for row in rows {
-        say_row(out, row)?;
-        out.push_str("\n")?;
+        say_row(out, row);
+        out.push("\n");
     }
-    Ok(())
 }
 
 /// The calls of an order, or their number where they are many.
-fn say_calls(out: &mut String, calls: &[OpId]) -> Result<(), AllocError> {
+fn say_calls(out: &mut Answer, calls: &[OpId]) {
     if calls.len() > FEW {
         let count = calls.len();
-        return write!(out, " {count} calls");
+        write!(out, " {count} calls");
+    } else {
+        for call in calls {
+            let call = call.0;
+            write!(out, " {call}");
+        }
     }
-    for call in calls {
-        let call = call.0;
-        write!(out, " {call}")?;
-    }
-    Ok(())
 }
 
 /// A line for each key, with its calls.
-pub fn say_key_orders(out: &mut String, orders: &[KeyOrder]) -> Result<(), AllocError> {
+pub fn say_key_orders(out: &mut Answer, orders: &[KeyOrder]) {
     for order in orders {
-        out.push_str(order.key.as_str())?;
-        out.push_str(":")?;
-        say_calls(out, order.order.as_slice())?;
-        out.push_str("\n")?;
+        out.push(order.key.as_str());
+        out.push(":");
+        say_calls(out, order.order.as_slice());
+        out.push("\n");
     }
-    Ok(())
 }
 
-fn say_settings(out: &mut String, config: Config) -> Result<(), AllocError> {
+fn say_settings(out: &mut Answer, config: Config) {
     let reads = match config.reads() {
         ReadMode::Short => "short",
         ReadMode::Full => "full",
@@ -143,8 +162,8 @@ fn say_settings(out: &mut String, config: Config) -> Result<(), AllocError> {
     write!(
         out,
         "replicas {replicas}, calls {calls}, flights {flights}, "
-    )?;
-    write!(out, "reads {reads}, ask {ask}, put {put}\n")
+    );
+    write!(out, "reads {reads}, ask {ask}, put {put}\n");
 }
 
 /// What a command writes, if it invokes a write.
@@ -161,14 +180,13 @@ fn written_by(command: &Command) -> Option<&str> {
 }
 
 /// A script's settings, and for each command its line and, of a write, the value.
-pub fn say_commands(out: &mut String, script: &Script) -> Result<(), AllocError> {
-    say_settings(out, script.config)?;
+pub fn say_commands(out: &mut Answer, script: &Script) {
+    say_settings(out, script.config);
     for numbered in &script.commands {
         let line = numbered.line;
         match written_by(&numbered.command) {
-            Some(text) => write!(out, "line {line}: writes {text:?}\n")?,
-            None => write!(out, "line {line}\n")?,
+            Some(text) => write!(out, "line {line}: writes {text:?}\n"),
+            None => write!(out, "line {line}\n"),
         }
     }
-    Ok(())
 }

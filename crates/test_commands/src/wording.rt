@@ -1,21 +1,12 @@
 //! Rows of command lines.
-use cli::{Command, Usage, command};
+use cli::{Command, ExplainAsked, Usage, command};
 use client_phases::ReadMode;
 use run_options::{RunAsked, Shown};
 use std::alloc::{AllocError, Global};
-use test_rows::text_said;
-
-/// The words of a line, divided by bars.
-fn words_of(alloc: Global, line: &str) -> Result<Vec<String>, AllocError> {
-    let mut list = Vec::new(alloc);
-    for word in line.split('|') {
-        list.push(String::from_str(alloc, word)?)?;
-    }
-    Ok(list)
-}
+use test_rows::{Answer, text_said, words_of};
 
 /// The load that is asked for, and what is shown of it.
-fn say_run(out: &mut String, asked: &RunAsked) -> Result<(), AllocError> {
+fn say_run(out: &mut Answer, asked: &RunAsked) {
     let load = asked.load.options();
     let (replicas, ask, put) = (
         load.quorums.replicas(),
@@ -32,19 +23,30 @@ fn say_run(out: &mut String, asked: &RunAsked) -> Result<(), AllocError> {
     write!(
         out,
         "{replicas} replicas, ask {ask}, put {put}, {halls} halls, {reads} reads, "
-    )?;
+    );
     write!(
         out,
         "{callers} callers, {calls} calls, {keys} keys, {rounds} rounds, "
-    )?;
-    write!(out, "drop {drop}, double {double}, ")?;
+    );
+    write!(out, "drop {drop}, double {double}, ");
     match asked.shown {
         Shown::Hall(hall) => write!(out, "hall {hall}\n"),
-        Shown::All => out.push_str("all halls\n"),
+        Shown::All => out.push("all halls\n"),
     }
 }
 
-fn say_asked(out: &mut String, asked: &Command<'_>) -> Result<(), AllocError> {
+/// The files that are to be explained, the key alone, and how many refused keys.
+fn say_explained(out: &mut Answer, asked: &ExplainAsked<'_>) {
+    let (history, most) = (asked.history, asked.most);
+    let orders = asked.orders.unwrap_or("");
+    let key = asked.key.unwrap_or("");
+    write!(
+        out,
+        "explain of [{history}] and [{orders}], key [{key}], most {most}\n"
+    )
+}
+
+fn say_asked(out: &mut Answer, asked: &Command<'_>) {
     match asked {
         Command::Check {
             history,
@@ -57,6 +59,7 @@ fn say_asked(out: &mut String, asked: &Command<'_>) -> Result<(), AllocError> {
                 "check of [{history}] and [{orders}], workers: {count}\n"
             )
         }
+        Command::Explain(asked) => say_explained(out, asked),
         Command::Justify { history } => write!(out, "justify of [{history}]\n"),
         Command::Simulate { script } => write!(out, "simulate of [{script}]\n"),
         Command::Run(asked) => say_run(out, asked),
@@ -73,24 +76,23 @@ fn usage_said(alloc: Global, usage: &Usage, word: &str) -> Result<String, AllocE
     }
 }
 
-/// What a line of words asks for.
-fn say_line(out: &mut String, line: &str) -> Result<(), AllocError> {
-    let alloc = *out.allocator();
+/// What a line of words asks for; after ` says ` stands a word that the help, the version or the fault has
+/// to have.
+fn say_line(out: &mut Answer, line: &str) {
     let (words, word) = line.split_once(" says ").unwrap_or((line, ""));
-    let words = words_of(alloc, words)?;
+    let words = words_of(out, words, '|');
+    let alloc = out.alloc();
     match command(alloc, words.as_slice()) {
         Ok(asked) => say_asked(out, &asked),
-        Err(usage) => out.push_str(usage_said(alloc, &usage, word)?.as_str()),
+        Err(usage) => out.push_made(usage_said(alloc, &usage, word)),
     }
 }
 
-/// What each line asks for; after ` says ` stands a word that the help, the version or the fault has
-/// to have.
-pub fn say_words(out: &mut String, lines: &str) -> Result<(), AllocError> {
+/// What each line asks for.
+pub fn say_words(out: &mut Answer, lines: &str) {
     for line in lines.lines() {
-        say_line(out, line)?;
+        say_line(out, line);
     }
-    Ok(())
 }
 
 /// The first line of what the words have said in place of a command.
@@ -102,15 +104,18 @@ fn first_line_of(usage: &Usage) -> &str {
     text.lines().next().unwrap_or("")
 }
 
-/// What each line asks for, and the first line of what is said in place of a command.
-pub fn say_first_lines(out: &mut String, lines: &str) -> Result<(), AllocError> {
-    let alloc = *out.allocator();
-    for line in lines.lines() {
-        let words = words_of(alloc, line)?;
-        match command(alloc, words.as_slice()) {
-            Ok(asked) => say_asked(out, &asked)?,
-            Err(usage) => write!(out, "{}\n", first_line_of(&usage))?,
-        }
+/// What a line asks for, and the first line of what is said in place of a command.
+fn say_first_line(out: &mut Answer, line: &str) {
+    let words = words_of(out, line, '|');
+    match command(out.alloc(), words.as_slice()) {
+        Ok(asked) => say_asked(out, &asked),
+        Err(usage) => write!(out, "{}\n", first_line_of(&usage)),
     }
-    Ok(())
+}
+
+/// What each line asks for, and the first line of what is said in place of a command.
+pub fn say_first_lines(out: &mut Answer, lines: &str) {
+    for line in lines.lines() {
+        say_first_line(out, line);
+    }
 }

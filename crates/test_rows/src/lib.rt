@@ -7,6 +7,7 @@
 //! need for that.
 #![tactic(auto)]
 
+mod answer;
 mod devices;
 mod outputs;
 mod program;
@@ -16,11 +17,12 @@ mod said;
 mod spans;
 mod texts;
 
+pub use answer::Answer;
 pub use devices::{AMPLE, Bounded, Pieces};
-pub use outputs::{Outputs, Said};
-pub use program::{run_rows, say_files};
+pub use outputs::{Outputs, Said, extent};
+pub use program::run_rows;
 pub use recorded::{RowSaid, said_by, say_action, say_tag};
 pub use row::Row;
 pub use said::report;
-pub use spans::Spans;
-pub use texts::{push_bytes, push_outputs, text_said};
+pub use spans::spans_of;
+pub use texts::{say_bytes, say_outputs, text_said, words_of};

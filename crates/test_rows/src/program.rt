@@ -40,7 +40,7 @@ where
 }
 
 /// Says what came of the rows of each file that the program's words name. Whether all are as expected.
-pub fn say_files<R, F>(rt: &R, found: &F) -> io::Result<bool>
+fn say_files<R, F>(rt: &R, found: &F) -> io::Result<bool>
 where
     R: Env + Files + Print + Alloc<A = Global>,
     F: Fn(&str) -> Result<String, AllocError>,

@@ -64,3 +64,23 @@ impl Spans {
         Ok(text)
     }
 }
+
+/// What is answered to each number from the first on up to the end, a line for each span with one
+/// answer. What is said of a number is its multiple of `step`.
+pub fn spans_of<F>(
+    alloc: Global,
+    step: usize,
+    first: usize,
+    end: usize,
+    answer: &F,
+) -> Result<String, AllocError>
+where
+    F: Fn(usize) -> Result<String, AllocError>,
+    requires { F.IsAlwaysCallable answer.now }
+{
+    let mut spans = Spans::new(alloc);
+    for number in first..end {
+        spans.take(number.saturating_mul(step), answer(number)?)?;
+    }
+    spans.finish()
+}

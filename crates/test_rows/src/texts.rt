@@ -1,30 +1,30 @@
 //! What answers say of texts.
-ghost use Rattle.std.specs.Prelude.{◌≡◌, ◌++◌, IfOk, IsUtf8, OnOk, string_bytes};
+ghost use Rattle.std.specs.Prelude.{◌≡◌, IfOk, IsUtf8, string_bytes};
 ghost use Rattle.std.specs.Str.Iter.{HasSubslice};
+ghost use Rattle.test_rows.specs.Answers.{Says};
 ghost use Rattle.test_rows.specs.Texts.{lacks_text, says_text, with_mark};
 
+use crate::Answer;
 use std::alloc::{AllocError, Global};
 
-/// Adds the bytes as a text that ends with a line's end: `<end>` stands where they have none. Bytes
+/// Says the bytes as a text that ends with a line's end: `<end>` stands where they have none. Bytes
 /// that are no UTF-8 aren't shown.
-pub fn push_bytes(text: &mut String, bytes: &[u8]) -> Result<(), AllocError>
-    ensures { OnOk result (IsUtf8 bytes.now
-        → string_bytes text.new ≡ string_bytes text.old ++ with_mark bytes.now) }
+pub fn say_bytes(out: &mut Answer, bytes: &[u8])
+    ensures { IsUtf8 bytes.now → Says out.old (with_mark bytes.now) out.new }
 {
-    text.push_str(std::str::from_utf8(bytes).unwrap_or("not UTF-8"))?;
-    if bytes.is_empty() || bytes.ends_with(b"\n") {
-        return Ok(());
+    out.push(std::str::from_utf8(bytes).unwrap_or("not UTF-8"));
+    if !bytes.is_empty() && !bytes.ends_with(b"\n") {
+        out.push("<end>\n");
     }
-    text.push_str("<end>\n")
 }
 
-/// Adds what went to a command's standard output and, after a line that says so, to standard error.
-pub fn push_outputs(text: &mut String, out: &[u8], errors: &[u8]) -> Result<(), AllocError> {
-    push_bytes(text, out)?;
+/// Says what went to a command's standard output and, after a line that says so, to standard error.
+pub fn say_outputs(answer: &mut Answer, out: &[u8], errors: &[u8]) {
+    say_bytes(answer, out);
     if !errors.is_empty() {
-        text.push_str("standard error:\n")?;
+        answer.push("standard error:\n");
     }
-    push_bytes(text, errors)
+    say_bytes(answer, errors);
 }
 
 /// Whether the text of that name says the word, as a line.
@@ -39,4 +39,18 @@ pub fn text_said(alloc: Global, name: &str, text: &str, word: &str) -> Result<St
     } else {
         format!(in alloc; "{name} that doesn't say {word}\n")
     }
+}
+
+fn push_word(words: &mut Vec<String>, word: &str) -> Result<(), AllocError> {
+    let word = String::from_str(*words.allocator(), word)?;
+    Ok(words.push(word)?)
+}
+
+/// The words of a line, divided by that character; not all of them where memory was refused.
+pub fn words_of(out: &mut Answer, line: &str, divider: char) -> Vec<String> {
+    let mut words = Vec::new(out.alloc());
+    for word in line.split(divider) {
+        out.heed(push_word(&mut words, word));
+    }
+    words
 }

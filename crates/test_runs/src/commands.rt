@@ -3,51 +3,40 @@ use cli::{Command, Counting, Source, Status, check_command, command, justify_com
 use parallel_keys::Workers;
 use run_command::{NoWatch, run_command};
 use run_options::RunAsked;
-use std::alloc::{AllocError, Global};
+use std::alloc::Global;
 use std::sync::Wait;
 use std::thread::Threads;
-use test_rows::{AMPLE, Bounded, Pieces};
-
-/// What comes of a command.
-#[derive(Drop)]
-pub struct Said {
-    pub status: Status,
-    pub out: Vec<u8>,
-    pub errors: Vec<u8>,
-}
-
-/// The words of a command line, the program's own name first, divided by spaces.
-fn words_of(alloc: Global, line: &str) -> Result<Vec<String>, AllocError> {
-    let mut list = Vec::new(alloc);
-    list.push(String::from_str(alloc, "abd")?)?;
-    for word in line.split(' ') {
-        list.push(String::from_str(alloc, word)?)?;
-    }
-    Ok(list)
-}
+use test_rows::{AMPLE, Answer, Outputs, Pieces, Said, words_of};
 
 /// The run that the words of a line ask for.
-pub fn asked_of(alloc: Global, line: &str) -> Result<Option<RunAsked>, AllocError> {
-    let words = words_of(alloc, line)?;
-    match command(alloc, words.as_slice()) {
-        Ok(Command::Run(asked)) => Ok(Some(asked)),
-        _ => Ok(None),
+pub fn asked_of(out: &mut Answer, line: &str) -> Option<RunAsked> {
+    match format!(in out.alloc(); "abd {line}") {
+        Ok(line) => asked_in(out, line.as_str()),
+        Err(_) => {
+            out.refuse();
+            None
+        }
+    }
+}
+
+/// The run that the words of a line ask for, the program's own name first.
+fn asked_in(out: &mut Answer, line: &str) -> Option<RunAsked> {
+    let words = words_of(out, line, ' ');
+    match command(out.alloc(), words.as_slice()) {
+        Ok(Command::Run(asked)) => Some(asked),
+        _ => None,
     }
 }
 
 /// The run, with so much room for what it writes.
-pub fn ran<R>(rt: &R, alloc: Global, asked: RunAsked, room: usize) -> Said
+pub fn ran<R>(rt: &R, alloc: Global, asked: RunAsked, room: usize) -> Said<Status>
 where
     R: Threads + Wait + Copy + Send + Sync + 'static,
 {
-    let mut out = Counting::new(Bounded::new(alloc, room));
-    let mut errors = Counting::new(Bounded::new(alloc, AMPLE));
-    let status = run_command(rt, alloc, asked, NoWatch, &NoWatch, &mut out, &mut errors);
-    Said {
-        status,
-        out: out.into_inner().taken,
-        errors: errors.into_inner().taken,
-    }
+    let mut outputs = Outputs::new(alloc, room, AMPLE);
+    let (out, errors) = (&mut outputs.out, &mut outputs.errors);
+    let status = run_command(rt, alloc, asked, NoWatch, &NoWatch, out, errors);
+    outputs.said(status)
 }
 
 /// A file of that text.
@@ -56,16 +45,17 @@ fn file_of(left: &[u8]) -> Source<'static, Counting<Pieces<'_>>> {
 }
 
 /// The justification of a history.
-pub fn justified(rt: &(impl Threads + Wait + Sync), alloc: Global, history: &[u8]) -> Said {
-    let mut out = Counting::new(Bounded::new(alloc, AMPLE));
-    let mut errors = Counting::new(Bounded::new(alloc, AMPLE));
+pub fn justified(rt: &(impl Threads + Wait + Sync), alloc: Global, history: &[u8]) -> Said<Status> {
+    let mut outputs = Outputs::new(alloc, AMPLE, AMPLE);
     let mut history = file_of(history);
-    let status = justify_command(rt, alloc, &mut history, &mut out, &mut errors);
-    Said {
-        status,
-        out: out.into_inner().taken,
-        errors: errors.into_inner().taken,
-    }
+    let status = justify_command(
+        rt,
+        alloc,
+        &mut history,
+        &mut outputs.out,
+        &mut outputs.errors,
+    );
+    outputs.said(status)
 }
 
 /// The check of a history and orders.
@@ -74,23 +64,11 @@ pub fn checked(
     alloc: Global,
     history: &[u8],
     orders: &[u8],
-) -> Option<Said> {
+) -> Option<Said<Status>> {
     let workers = Workers::new(1)?;
-    let mut out = Counting::new(Bounded::new(alloc, AMPLE));
-    let mut errors = Counting::new(Bounded::new(alloc, AMPLE));
+    let mut outputs = Outputs::new(alloc, AMPLE, AMPLE);
     let (mut history, mut orders) = (file_of(history), file_of(orders));
-    let status = check_command(
-        rt,
-        alloc,
-        &mut history,
-        &mut orders,
-        workers,
-        &mut out,
-        &mut errors,
-    );
-    Some(Said {
-        status,
-        out: out.into_inner().taken,
-        errors: errors.into_inner().taken,
-    })
+    let (out, errors) = (&mut outputs.out, &mut outputs.errors);
+    let status = check_command(rt, alloc, &mut history, &mut orders, workers, out, errors);
+    Some(outputs.said(status))
 }

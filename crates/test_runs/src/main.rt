@@ -6,45 +6,35 @@
 mod commands;
 mod runs;
 
-use runs::{rooms_row, say_loads, say_runs};
-use std::alloc::{AllocError, Global};
+use runs::{say_line, say_rooms};
 use std::process::ExitCode;
 use std::sync::Wait;
 use std::thread::Threads;
-use test_rows::say_files;
+use test_rows::{Answer, run_rows};
 
 /// What comes of a row.
-fn say_row<R>(rt: &R, out: &mut String, kind: &str, lines: &str) -> Result<(), AllocError>
+fn say_row<R>(rt: &R, out: &mut Answer, input: &str)
 where
     R: Threads + Wait + Copy + Send + Sync + 'static,
 {
-    match kind {
-        "run" => say_runs(rt, out, lines),
-        "load" => say_loads(rt, out, lines),
-        _ => out.push_str("NO SUCH KIND OF ROW\n"),
+    match input.split_once('\n') {
+        Some(("rooms", lines)) => say_rooms(rt, out, lines.trim_end()),
+        Some((kind @ ("run" | "load"), lines)) => {
+            for line in lines.lines() {
+                say_line(rt, out, kind, line);
+            }
+        }
+        _ => out.push("NO SUCH KIND OF ROW\n"),
     }
-}
-
-/// What comes of a row, as a text of its own.
-fn found<R>(rt: &R, alloc: Global, kind: &str, lines: &str) -> Result<String, AllocError>
-where
-    R: Threads + Wait + Copy + Send + Sync + 'static,
-{
-    if kind == "rooms" {
-        return rooms_row(rt, alloc, lines);
-    }
-    let mut out = String::new(alloc);
-    say_row(rt, &mut out, kind, lines)?;
-    Ok(out)
 }
 
 fn main(rt: HostRuntime) -> ExitCode {
-    let answer = |input: &str| {
-        let (kind, lines) = input.split_once('\n').unwrap_or((input, ""));
-        found(&rt, rt.alloc(), kind, lines)
-    };
-    match say_files(&rt, &answer) {
-        Ok(true) => ExitCode::SUCCESS,
-        _ => ExitCode::FAILURE,
-    }
+    run_rows(
+        &rt,
+        &|input: &str| {
+            let mut answer = Answer::new(rt.alloc());
+            say_row(&rt, &mut answer, input);
+            answer.text()
+        },
+    )
 }

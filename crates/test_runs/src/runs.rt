@@ -1,6 +1,6 @@
 //! Rows of runs: what goes out, and what comes of it in `justify` and `check`.
-use crate::commands::{Said, asked_of, checked, justified, ran};
-use cli::Counting;
+use crate::commands::{asked_of, checked, justified, ran};
+use cli::{Counting, Status};
 use history_file::read_histories;
 use recorder::{Histories, Row};
 use run_options::RunAsked;
@@ -8,51 +8,24 @@ use std::alloc::{AllocError, Global};
 use std::sync::Wait;
 use std::thread::Threads;
 use tag::{Action, OpId, Returned};
-use test_rows::{AMPLE, Pieces, Spans, push_bytes};
+use test_rows::{
+    AMPLE, Answer, Pieces, RowSaid, Said, extent, said_by, say_bytes, say_outputs, spans_of,
+};
 
 /// The status, and what went to both outputs.
-fn push_said(out: &mut String, said: &Said) -> Result<(), AllocError> {
+fn say_said(out: &mut Answer, said: &Said<Status>) {
     let status = said.status.code();
-    write!(out, "status {status}\n")?;
-    push_bytes(out, said.out.as_slice())?;
-    if !said.errors.is_empty() {
-        out.push_str("standard error:\n")?;
-    }
-    push_bytes(out, said.errors.as_slice())
-}
-
-/// A line's run: all that it says.
-fn say_run<R>(rt: &R, out: &mut String, line: &str) -> Result<(), AllocError>
-where
-    R: Threads + Wait + Copy + Send + Sync + 'static,
-{
-    let alloc = *out.allocator();
-    match asked_of(alloc, line)? {
-        Some(asked) => push_said(out, &ran(rt, alloc, asked, AMPLE)),
-        None => out.push_str("NO RUN\n"),
-    }
-}
-
-/// Each line's run.
-pub fn say_runs<R>(rt: &R, out: &mut String, lines: &str) -> Result<(), AllocError>
-where
-    R: Threads + Wait + Copy + Send + Sync + 'static,
-{
-    for line in lines.lines() {
-        say_run(rt, out, line)?;
-    }
-    Ok(())
+    write!(out, "status {status}\n");
+    say_outputs(out, said.out.as_slice(), said.errors.as_slice());
 }
 
 /// What the call writes, or else the empty text.
 fn written_by(rows: &[Row], call: OpId) -> &str {
     for row in rows {
-        match row {
-            Row::Invoke {
-                op,
-                action: Action::Write(value),
-                ..
-            } if *op == call => return value.as_str(),
+        match said_by(row) {
+            (op, RowSaid::Invoked(_, _, Action::Write(value))) if op == call.0 => {
+                return value.as_str();
+            }
             _ => {}
         }
     }
@@ -61,14 +34,16 @@ fn written_by(rows: &[Row], call: OpId) -> &str {
 
 /// The call of client 1 on `k0` that the row begins, and whether it writes.
 fn begun_by_one(row: &Row) -> Option<(OpId, bool)> {
-    match row {
-        Row::Invoke {
-            op,
-            client,
-            key,
-            action,
-        } if client.get() == 1 && key.as_str() == "k0" => {
-            Some((*op, matches!(action, Action::Write(_))))
+    let (op, said) = said_by(row);
+    match said {
+        RowSaid::Invoked(client, key, action) => {
+            let writes = matches!(action, Action::Write(_));
+            let is_wanted = client.get() == 1 && key.as_str() == "k0";
+            if is_wanted {
+                Some((OpId(op), writes))
+            } else {
+                None
+            }
         }
         _ => None,
     }
@@ -129,89 +104,70 @@ fn counted(histories: &Histories) -> (usize, &'static str) {
 }
 
 /// Says that of the histories that the bytes are.
-fn say_histories(
-    rt: &(impl Threads + Sync),
-    out: &mut String,
-    bytes: &[u8],
-) -> Result<(), AllocError> {
+fn say_histories(rt: &(impl Threads + Sync), out: &mut Answer, bytes: &[u8]) {
     let mut reader = Counting::new(Pieces::whole(bytes));
-    match read_histories(rt, *out.allocator(), &mut reader) {
+    match read_histories(rt, out.alloc(), &mut reader) {
         Ok(histories) => {
             let halls = histories.halls().len();
             let (calls, own) = counted(&histories);
-            write!(out, "{halls} halls, {calls} calls, {own}\n")
+            write!(out, "{halls} halls, {calls} calls, {own}\n");
         }
-        Err(_) => out.push_str("NO HISTORY\n"),
+        Err(_) => out.push("NO HISTORY\n"),
     }
 }
 
 /// What came of a run, of the justification of its history, and of their check.
 fn say_checked(
     rt: &(impl Threads + Sync),
-    out: &mut String,
-    run: &Said,
-    orders: &Said,
-    verdict: &Said,
-) -> Result<(), AllocError> {
+    out: &mut Answer,
+    run: &Said<Status>,
+    orders: &Said<Status>,
+    verdict: &Said<Status>,
+) {
     let (run_status, justify) = (run.status.code(), orders.status.code());
     let check = verdict.status.code();
-    write!(out, "run {run_status}, justify {justify}, check {check}, ")?;
-    say_histories(rt, out, run.out.as_slice())?;
-    push_bytes(out, verdict.out.as_slice())?;
-    push_bytes(out, run.errors.as_slice())
+    write!(out, "run {run_status}, justify {justify}, check {check}, ");
+    say_histories(rt, out, run.out.as_slice());
+    say_bytes(out, verdict.out.as_slice());
+    say_bytes(out, run.errors.as_slice());
 }
 
 /// What comes of the justification and the check of what a run wrote.
-fn say_loaded(
-    rt: &(impl Threads + Wait + Sync),
-    out: &mut String,
-    run: &Said,
-) -> Result<(), AllocError> {
-    let alloc = *out.allocator();
+fn say_loaded(rt: &(impl Threads + Wait + Sync), out: &mut Answer, run: &Said<Status>) {
+    let alloc = out.alloc();
     let history = run.out.as_slice();
     let orders = justified(rt, alloc, history);
     match checked(rt, alloc, history, orders.out.as_slice()) {
         Some(verdict) => say_checked(rt, out, run, &orders, &verdict),
-        None => out.push_str("NO CHECK\n"),
+        None => out.push("NO CHECK\n"),
     }
 }
 
-/// What comes of a line's run, and of its history.
-fn say_load<R>(rt: &R, out: &mut String, line: &str) -> Result<(), AllocError>
+/// A line's run: all that it says, or for `load` what comes of its history.
+pub fn say_line<R>(rt: &R, out: &mut Answer, kind: &str, line: &str)
 where
     R: Threads + Wait + Copy + Send + Sync + 'static,
 {
-    let alloc = *out.allocator();
-    match asked_of(alloc, line)? {
-        Some(asked) => say_loaded(rt, out, &ran(rt, alloc, asked, AMPLE)),
-        None => out.push_str("NO RUN\n"),
+    match asked_of(out, line) {
+        Some(asked) => say_run(rt, out, kind, asked),
+        None => out.push("NO RUN\n"),
     }
 }
 
-/// Each line's run: what comes of its history.
-pub fn say_loads<R>(rt: &R, out: &mut String, lines: &str) -> Result<(), AllocError>
+fn say_run<R>(rt: &R, out: &mut Answer, kind: &str, asked: RunAsked)
 where
     R: Threads + Wait + Copy + Send + Sync + 'static,
 {
-    for line in lines.lines() {
-        say_load(rt, out, line)?;
-    }
-    Ok(())
-}
-
-/// How much went out of what goes out where there is room for all.
-fn extent(found: &[u8], whole: &[u8], room: usize) -> &'static str {
-    if found == whole {
-        "all"
-    } else if found == &whole[..room.min(whole.len())] {
-        "what there is room for"
+    let run = ran(rt, out.alloc(), asked, AMPLE);
+    if kind == "load" {
+        say_loaded(rt, out, &run);
     } else {
-        "ANOTHER TEXT"
+        say_said(out, &run);
     }
 }
 
 /// What comes of the run with so much room, beside all that it writes.
-fn room_said<R>(
+fn room_answer<R>(
     rt: &R,
     alloc: Global,
     asked: &RunAsked,
@@ -222,7 +178,7 @@ where
     R: Threads + Wait + Copy + Send + Sync + 'static,
 {
     let said = ran(rt, alloc, *asked, room);
-    let extent = extent(said.out.as_slice(), whole, room);
+    let extent = extent(said.out.as_slice(), whole, room).unwrap_or("ANOTHER TEXT");
     let errors = std::str::from_utf8(said.errors.as_slice()).unwrap_or("not UTF-8");
     let errors = if errors.is_empty() {
         "nothing said"
@@ -233,19 +189,24 @@ where
     format!(in alloc; "status {status}, {extent}, {errors}")
 }
 
-/// The first line's run with each room from none to that of all that it writes.
-pub fn rooms_row<R>(rt: &R, alloc: Global, lines: &str) -> Result<String, AllocError>
+/// The run with each room from none to that of all that it writes.
+pub fn say_rooms<R>(rt: &R, out: &mut Answer, line: &str)
 where
     R: Threads + Wait + Copy + Send + Sync + 'static,
 {
-    let Some(asked) = asked_of(alloc, lines.trim_end())? else {
-        return String::from_str(alloc, "NO RUN\n");
-    };
-    let whole = ran(rt, alloc, asked, AMPLE);
-    let mut spans = Spans::new(alloc);
-    for room in 0..whole.out.len().saturating_add(1) {
-        let answer = room_said(rt, alloc, &asked, whole.out.as_slice(), room)?;
-        spans.take(room, answer)?;
+    match asked_of(out, line) {
+        Some(asked) => say_each_room(rt, out, &asked),
+        None => out.push("NO RUN\n"),
     }
-    spans.finish()
+}
+
+fn say_each_room<R>(rt: &R, out: &mut Answer, asked: &RunAsked)
+where
+    R: Threads + Wait + Copy + Send + Sync + 'static,
+{
+    let alloc = out.alloc();
+    let whole = ran(rt, alloc, *asked, AMPLE);
+    let whole = whole.out.as_slice();
+    let answer = |room: usize| room_answer(rt, alloc, asked, whole, room);
+    out.push_made(spans_of(alloc, 1, 0, whole.len().saturating_add(1), &answer));
 }
