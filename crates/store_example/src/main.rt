@@ -4,7 +4,7 @@
 #![tactic(auto)]
 
 use certificate_check::check_part;
-use node_threads::{Closed, ClosedHall, Gate, Pass, Place, Seat, Store, StoreConfig};
+use node_threads::{Answer, Closed, ClosedHall, Gate, Pass, Place, Seat, Store, StoreConfig};
 use recorder::{Halls, KeyOrder, Parts};
 use std::alloc::{AllocError, Global};
 use std::process::ExitCode;
@@ -45,55 +45,59 @@ struct Tally {
     right: u32,
 }
 
-/// Writes a text to the key and reads it back. Whether both were answered, and the read gave the text.
-fn write_and_read<R: Wait, G: Gate>(
-    rt: &R,
+/// A caller: the store that it calls, and the key of its calls.
+#[derive(Drop)]
+struct Caller<'a, R, G> {
+    rt: &'a R,
     alloc: Global,
-    store: &Store<G>,
-    seat: &mut Seat,
-    key: &Key,
-    text: &str,
-) -> Option<bool> {
-    let value = Value::new(alloc, text).ok()?;
-    let written = store.call(rt, alloc, seat, key.copy().ok()?, Action::Write(value));
-    if written.is_err() {
-        return None;
-    }
-    let read = store
-        .call(rt, alloc, seat, key.copy().ok()?, Action::Read)
-        .ok()?;
-    match read.value {
-        Some(found) => Some(found.as_str() == text),
-        None => Some(false),
-    }
+    store: &'a Store<G>,
+    key: Key,
 }
 
-/// Writes a text and reads it, so many times.
-fn caller<R: Wait, G: Gate>(
-    rt: &R,
-    alloc: Global,
-    store: &Store<G>,
-    seat: &mut Seat,
-    key: &Key,
-    times: u32,
-) -> Tally {
-    let mut tally = Tally {
-        answered: 0,
-        right: 0,
-    };
-    for time in 0..times {
-        let text = if time % 2 == 0 { "even" } else { "odd" };
-        match write_and_read(rt, alloc, store, seat, key, text) {
-            Some(is_right) => {
-                tally.answered = u32::saturating_add(tally.answered, 2);
-                if is_right {
-                    tally.right = u32::saturating_add(tally.right, 1);
-                }
-            }
-            None => return tally,
+impl<R: Wait, G: Gate> Caller<'_, R, G> {
+    /// Makes a call on the key.
+    fn call(&self, seat: &mut Seat, action: Action) -> Option<Answer> {
+        let key = self.key.copy().ok()?;
+        self.store.call(self.rt, self.alloc, seat, key, action).ok()
+    }
+
+    /// Writes a text to the key. Whether that was answered.
+    fn write(&self, seat: &mut Seat, text: &str) -> bool {
+        match Value::new(self.alloc, text) {
+            Ok(value) => self.call(seat, Action::Write(value)).is_some(),
+            Err(_) => false,
         }
     }
-    tally
+
+    /// Writes a text to the key and reads it back. Whether the read gave the text; none if a call wasn't answered.
+    fn write_and_read(&self, seat: &mut Seat, text: &str) -> Option<bool> {
+        if !self.write(seat, text) {
+            return None;
+        }
+        match self.call(seat, Action::Read)?.value {
+            Some(found) => Some(found.as_str() == text),
+            None => Some(false),
+        }
+    }
+
+    /// Writes a text and reads it, so many times.
+    fn calls(&self, seat: &mut Seat, times: u32) -> Tally {
+        let mut tally = Tally {
+            answered: 0,
+            right: 0,
+        };
+        for time in 0..times {
+            let text = if time % 2 == 0 { "even" } else { "odd" };
+            let Some(is_right) = self.write_and_read(seat, text) else {
+                return tally;
+            };
+            tally.answered = u32::saturating_add(tally.answered, 2);
+            if is_right {
+                tally.right = u32::saturating_add(tally.right, 1);
+            }
+        }
+        tally
+    }
 }
 
 /// A store of three replicas and two halls.
@@ -125,13 +129,23 @@ where
     R: Threads + Wait + Copy + Send + Sync + 'static,
     G: Gate + Send + Sync + Drop + 'static,
 {
-    let apples = Key::new(alloc, "apples").ok()?;
-    let limes = Key::new(alloc, "limes").ok()?;
-    let (keys_one, keys_two) = (&apples, &limes);
+    let apples = Caller {
+        rt,
+        alloc,
+        store,
+        key: Key::new(alloc, "apples").ok()?,
+    };
+    let limes = Caller {
+        rt,
+        alloc,
+        store,
+        key: Key::new(alloc, "limes").ok()?,
+    };
+    let (one, two) = (&apples, &limes);
     Some(thread::join(
         rt,
-        move || caller(rt, alloc, store, first, keys_one, 25),
-        move || caller(rt, alloc, store, second, keys_two, 25),
+        move || one.calls(first, 25),
+        move || two.calls(second, 25),
     ))
 }
 

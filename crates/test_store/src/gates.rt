@@ -1,122 +1,94 @@
 //! Gates that aren't kind, and gates that wait.
-use crate::signals::{Signal, Signals};
-use node_threads::{Gate, Pass, Place};
+use crate::board::Board;
+use node_threads::{Gate, OpenGate, Pass, Place};
 use std::alloc::Global;
-use std::sync::Arc;
 use std::sync::atomic::{AtomicU64, Ordering};
+use std::sync::{Arc, Wait};
 use std::time::Clock;
 use tag::OpId;
 
-/// Loses every reply.
-#[derive(Clone, Copy, Drop)]
-pub struct LosesReplies;
-
-impl Gate for LosesReplies {
-    fn at(&self, place: &Place) -> Pass {
-        match place {
-            Place::Reply { .. } => Pass::Drop,
-            Place::Request { .. } | Place::Respond { .. } => Pass::Go,
-        }
-    }
+/// What a gate does. Places, and parcels, which are requests and replies, are numbered from 1.
+#[derive(Clone, Copy)]
+pub enum Manner {
+    /// Lets each parcel go on.
+    Open,
+    /// Loses every reply.
+    LosesReplies,
+    /// Doubles every parcel, and says the same of answers.
+    Doubles,
+    /// Loses every fifth parcel, and of the others doubles every seventh.
+    FifthAndSeventh,
+    /// Writes down the places. Does so with the parcel of that number, and lets the others go.
+    WritesDown(u64, Pass),
+    /// Holds whoever comes to the place of the row's number, until it is told to let go.
+    HoldsPlace,
+    /// Holds call 0, once it is ready, until it is told to let go.
+    HoldsAnswer,
+    /// Holds each of replicas 0 and 1 at its reply until the other has come there.
+    HoldsReplicas,
 }
 
-/// Doubles every parcel.
-#[derive(Clone, Copy, Drop)]
-pub struct Twins;
-
-impl Gate for Twins {
-    fn at(&self, place: &Place) -> Pass {
-        Pass::Twice
-    }
-}
-
-/// Numbers the parcels from 1; every fifth is lost, and of the others every seventh is doubled.
+/// A gate of that manner.
 #[derive(Drop)]
-pub struct FifthAndSeventh {
-    pub parcels: AtomicU64,
-}
-
-impl Gate for FifthAndSeventh {
-    fn at(&self, place: &Place) -> Pass {
-        if matches!(place, Place::Respond { .. }) {
-            return Pass::Go;
-        }
-        let number = u64::wrapping_add(self.parcels.fetch_add(1, Ordering::SeqCst), 1);
-        if number % 5 == 0 {
-            Pass::Drop
-        } else if number % 7 == 0 {
-            Pass::Twice
-        } else {
-            Pass::Go
-        }
-    }
-}
-
-/// Holds whoever comes to the place of that number, counted from 1, until it is told to let go.
-#[derive(Drop)]
-pub struct HoldsPlace<R> {
+pub struct RowGate<R> {
     pub rt: R,
+    pub manner: Manner,
+    /// The number of the row's place.
     pub number: u64,
-    pub came: AtomicU64,
-    pub signals: Arc<Signals, Global>,
+    pub board: Arc<Board, Global>,
 }
 
-impl<R: Clock> Gate for HoldsPlace<R> {
-    fn at(&self, place: &Place) -> Pass {
-        let came = u64::wrapping_add(self.came.fetch_add(1, Ordering::SeqCst), 1);
-        if came == self.number {
-            self.signals.hold(&self.rt);
-        }
-        Pass::Go
+/// The next number.
+fn next(count: &AtomicU64) -> u64 {
+    u64::wrapping_add(count.fetch_add(1, Ordering::SeqCst), 1)
+}
+
+/// What becomes of the parcel of that number.
+fn pass_of(manner: Manner, place: &Place, number: u64) -> Pass {
+    match manner {
+        Manner::LosesReplies if matches!(place, Place::Reply { .. }) => Pass::Drop,
+        Manner::FifthAndSeventh if number % 5 == 0 => Pass::Drop,
+        Manner::FifthAndSeventh if number % 7 == 0 => Pass::Twice,
+        Manner::WritesDown(picked, pass) if number == picked => pass,
+        Manner::Doubles => Pass::Twice,
+        _ => OpenGate.at(place),
     }
 }
 
-/// Holds call 0, once it is ready, until it is told to let go.
-#[derive(Drop)]
-pub struct HoldsAnswer<R> {
-    pub rt: R,
-    pub signals: Arc<Signals, Global>,
-}
-
-impl<R: Clock> Gate for HoldsAnswer<R> {
-    fn at(&self, place: &Place) -> Pass {
-        if let Place::Respond { call, .. } = place
-            && *call == OpId(0)
-        {
-            self.signals.hold(&self.rt);
-        }
-        Pass::Go
-    }
-}
-
-/// What two replicas tell each other: that each came, and that one waited for the other in vain.
-#[derive(Drop)]
-pub struct Meeting {
-    pub zero: Signal,
-    pub one: Signal,
-    pub missed: Signal,
-}
-
-/// Holds each of replicas 0 and 1 at its reply until the other has come there.
-#[derive(Drop)]
-pub struct MeetsAtReplies<R> {
-    pub rt: R,
-    pub meeting: Arc<Meeting, Global>,
-}
-
-impl<R: Clock> Gate for MeetsAtReplies<R> {
-    fn at(&self, place: &Place) -> Pass {
-        if let Place::Reply { replica, .. } = place {
-            let (own, other) = if replica.get() == 0 {
-                (&self.meeting.zero, &self.meeting.one)
-            } else {
-                (&self.meeting.one, &self.meeting.zero)
-            };
-            own.give();
-            if !other.wait(&self.rt) {
-                self.meeting.missed.give();
+impl<R: Wait + Clock> RowGate<R> {
+    /// Writes the place down, or has whoever came there wait.
+    fn hold(&self, place: &Place) {
+        let board = &*self.board;
+        let is_here = next(&board.came) == self.number;
+        match (self.manner, place) {
+            // A place that can't be written down for want of memory is missing in the row's text.
+            (Manner::WritesDown(..), _) => {
+                let _ = board.places.lock(&self.rt).push(*place);
             }
+            (Manner::HoldsPlace, _) if is_here => {
+                board.meet(&self.rt, &board.first, &board.second);
+            }
+            (Manner::HoldsAnswer, Place::Respond { call, .. }) if *call == OpId(0) => {
+                board.meet(&self.rt, &board.first, &board.second);
+            }
+            (Manner::HoldsReplicas, Place::Reply { replica, .. }) if replica.get() == 0 => {
+                board.meet(&self.rt, &board.first, &board.second);
+            }
+            (Manner::HoldsReplicas, Place::Reply { .. }) => {
+                board.meet(&self.rt, &board.second, &board.first);
+            }
+            _ => {}
         }
-        Pass::Go
+    }
+}
+
+impl<R: Wait + Clock> Gate for RowGate<R> {
+    fn at(&self, place: &Place) -> Pass {
+        self.hold(place);
+        match (self.manner, place) {
+            (Manner::Doubles, Place::Respond { .. }) => Pass::Twice,
+            (_, Place::Respond { .. }) => Pass::Go,
+            _ => pass_of(self.manner, place, next(&self.board.parcels)),
+        }
     }
 }
