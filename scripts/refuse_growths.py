@@ -3,9 +3,10 @@
 Runs built programs with the library before them that refuses one allocation, the first, the second and so on until a run meets none. Of a row
 with more than 600 allocations, and of test_twin, the first 300 are refused and 300 more, evenly spread up to the last.
 
-With the word `all` every allocation from that one on is refused, for each of abd, store_example and test_store (the last at 300 places,
-evenly spread). Each run has to end within 10 seconds, test_store within 120, with a status that docs/FORMATS.md names. What is said of one
-refused allocation below holds there too, but for test_store: any row may come out otherwise, and the lines may end.
+With the word `all` every allocation from that one on is refused, for each of abd, store_example and test_store, whose runs wait most of
+their time, so that many are under way at once. Each run has to end within 10 seconds, test_store within 120, with a status that
+docs/FORMATS.md names. What is said of one refused allocation below holds there too, but for test_store: any row may come out otherwise,
+and the lines may end.
 
 - abd: a check, a justify and a simulate of an example. With a refusal a run has the very answer of a run without one, or status 4,
   nothing on standard output and one line on standard error, which names memory and a line of the file, or the number after
@@ -24,6 +25,7 @@ refused allocation below holds there too, but for test_store: any row may come o
   one that met the refusal, comes out otherwise.
 """
 
+import concurrent.futures
 import os
 import re
 import subprocess
@@ -34,6 +36,8 @@ import tempfile
 # and so many others.
 FIRST = 300
 SPREAD = 300
+# How many runs of test_store are under way at once.
+AT_ONCE = 48
 # What threads do differs from run to run: so many allocations more than were counted may be met.
 MORE = 1000
 
@@ -259,20 +263,27 @@ def rows(library, top, name):
     print(f"{name}: {total} growths of its rows, each row alone; as expected all the same at {equal} of them, else memory is named; {left} rows have more", flush=True)
 
 
+def hostile_run(runs, at, wanted):
+    """One run of the rows of hostile gates. How many rows came out otherwise."""
+    _, status, out, errors = runs.run([], at)
+    lines = out.splitlines()
+    others = sum(line != expected for line, expected in zip(lines, wanted))
+    few = not runs.is_lasting and (len(lines) != len(wanted) or others > 1)
+    if status or errors or few:
+        raise Wrong(f"test_store, growth {at}: status {status}, {out!r}, {errors!r}")
+    return others
+
+
 def hostile_rows(library, top):
-    """The rows of hostile gates, seats and stores."""
+    """The rows of hostile gates, seats and stores, most of which wait for threads: so many runs at once."""
     runs = Runs(library, os.path.abspath(f"{top}/crates/test_store/out/test_store"), top, 120)
+    runs.is_lasting = Runs.lasting
     count, (_, out, _) = runs.whole([])
-    wanted, same = out.splitlines(), 0
-    for at in spread(0, count, SPREAD):
-        _, status, out, errors = runs.run([], at)
-        lines = out.splitlines()
-        others = sum(line != expected for line, expected in zip(lines, wanted))
-        few = not Runs.lasting and (len(lines) != len(wanted) or others > 1)
-        if status or errors or few:
-            raise Wrong(f"test_store, growth {at}: status {status}, {out!r}, {errors!r}")
-        same += others == 0
-    print(f"test_store: {SPREAD} of {count} growths; each run ended, and every row came out as expected at {same} of them", flush=True)
+    places = list(range(1, count + 1)) if Runs.lasting else spread(0, count, SPREAD)
+    with concurrent.futures.ProcessPoolExecutor(AT_ONCE) as pool:
+        others = pool.map(hostile_run, *zip(*[(runs, at, out.splitlines()) for at in places]), chunksize=8)
+        same = sum(found == 0 for found in others)
+    print(f"test_store: {len(places)} of {count} growths; each run ended, and every row came out as expected at {same} of them", flush=True)
 
 
 def tests(library, top, crate):
