@@ -8,9 +8,10 @@ their time, so that many are under way at once. Each run has to end within 10 se
 docs/FORMATS.md names. What is said of one refused allocation below holds there too, but for test_store: any row may come out otherwise,
 and the lines may end.
 
-- abd: a check, a justify and a simulate of an example. With a refusal a run has the very answer of a run without one, or status 4,
-  nothing on standard output and one line on standard error, which names memory and a line of the file, or the number after
-  its last if all lines were read. The first line that is named is line 1, and a later allocation never names an earlier line.
+- abd: a check, an explain with orders and one without, a justify and a simulate of an example. With a refusal a run has the very answer of a
+  run without one, or status 4, nothing on standard output and one line on standard error, which names memory and a line of the file, or
+  the number after its last if all lines were read. The first line that is named is line 1, and a later allocation never names an earlier
+  line.
 - abd run: with a refusal it writes a history that justify and check say yes of, and of its callers no more is said than that a call
   was refused, or that one was unavailable (a replica's thread may have met the refusal); or status 4, nothing on standard output, and
   after such lines one that names memory or a thread.
@@ -106,7 +107,7 @@ class Runs:
     def whole(self, words):
         """How many allocations a run without a refusal has, the status, and what came out."""
         count, *wanted = self.run(words, 0)
-        if wanted[0] != 0 or not any(count):
+        if wanted[0] not in (0, 1) or not any(count):
             raise Wrong(f"{' '.join(words)} fails without a refusal, or meets no growth: {wanted}")
         return int.from_bytes(count, "little"), wanted
 
@@ -133,11 +134,20 @@ def lines_of(path):
         return max(len(file.read().splitlines()), 1)
 
 
+COMMANDS = [
+    ["check", "two_calls.history", "two_calls.orders"],
+    ["explain", "two_calls.history", "two_calls_refused.orders"],
+    ["explain", "new_then_old.history"],
+    ["justify", "new_then_old.history"],
+    ["simulate", "new_then_old.script"],
+]
+
+
 def commands(library, top):
-    """The three commands."""
+    """The commands that read files."""
     folder = f"{top}/examples"
     runs = Runs(library, f"{top}/crates/abd/out/abd", folder, 10)
-    for words in (["check", "two_calls.history", "two_calls.orders"], ["justify", "new_then_old.history"], ["simulate", "new_then_old.script"]):
+    for words in COMMANDS:
         # each file that was named, and its lines, as the refused growth came later and later
         named = {}
 
