@@ -1,5 +1,6 @@
 //! Faults of reading.
 ghost use Rattle.std.specs.Prelude.{ℕ, ◌≡◌, List};
+ghost use Rattle.counted_devices.specs.declared.read_fault.Stop.{Stop};
 ghost use Rattle.counted_devices.specs.FaultTexts.{kind_text};
 ghost use Rattle.counted_devices.specs.Numbers.{fault_number};
 ghost use Rattle.counted_devices.specs.ReadFaults.{kind_of};
@@ -110,10 +111,7 @@ impl<L> ReadFault<L> {
 }
 
 impl<L> From<Memory> for Stop<L> {
-    ghost use Rattle.std.specs.Prelude.{◌≡◌};
-    ghost use Rattle.counted_devices.specs.declared.read_fault.Stop.TheVariants.{Memory};
-
-    ghost from_gives = { λ _ e. e ≡ Memory };
+    ghost from_gives = { λ _ e. e ≡ Stop.Memory };
 
     fn from(_: Memory) -> Stop<L> {
         Stop::Memory

@@ -1,5 +1,6 @@
 //! Faults of writing.
 ghost use Rattle.std.specs.Prelude.{◌≡◌};
+ghost use Rattle.counted_devices.specs.declared.write_fault.WriteFault.{WriteFault};
 ghost use Rattle.counted_devices.specs.Numbers.{write_fault_number};
 
 use tag::Memory;
@@ -10,10 +11,10 @@ use thiserror::Error;
 pub enum WriteFault {
     /// The writer failed.
     #[error("device")]
-    Device,
+    Device = 13,
     /// An allocation was refused.
     #[error("memory")]
-    Memory,
+    Memory = 14,
 }
 
 impl WriteFault {
@@ -21,18 +22,12 @@ impl WriteFault {
     pub fn number(self) -> u8
         ensures { result ≡ write_fault_number self }
     {
-        match self {
-            WriteFault::Device => 13,
-            WriteFault::Memory => 14,
-        }
+        self as u8
     }
 }
 
 impl From<Memory> for WriteFault {
-    ghost use Rattle.std.specs.Prelude.{◌≡◌};
-    ghost use Rattle.counted_devices.specs.declared.write_fault.WriteFault.TheVariants.{Memory};
-
-    ghost from_gives = { λ _ e. e ≡ Memory };
+    ghost from_gives = { λ _ e. e ≡ WriteFault.Memory };
 
     fn from(_: Memory) -> WriteFault {
         WriteFault::Memory

@@ -3,6 +3,7 @@ ghost use Rattle.std.specs.Prelude.{◌≡◌, codes};
 ghost use Rattle.fault_script.specs.Numbers.{line_fault_number, line_fault_text};
 
 use counted_devices::{FaultKind, FaultNumbers, ReadFault};
+use std::fmt;
 use thiserror::Error;
 
 /// What is wrong with a line. Of several the first that is tested is named: `TooLong`, `NotUtf8`,
@@ -10,24 +11,40 @@ use thiserror::Error;
 #[derive(Clone, Copy, Debug, PartialEq, Eq, Error)]
 pub enum LineFault {
     /// The line isn't UTF-8.
-    #[error("not UTF-8")]
-    NotUtf8,
+    NotUtf8 = 1,
     /// The first command isn't `replicas`, or there is no command.
-    #[error("no replicas")]
-    NoReplicas,
+    NoReplicas = 2,
     /// The line is no form of a command, a line of the configuration stands where it may not, or a
     /// word that should be a number has other than digits.
-    #[error("unknown command")]
-    UnknownCommand,
+    UnknownCommand = 3,
     /// A number, key or value is outside its range.
-    #[error("range")]
-    Range,
+    Range = 4,
     /// More than 65,536 bytes, the line's end not counted.
-    #[error("line too long")]
-    TooLong,
+    TooLong = 5,
     /// The 1,000,001st command.
-    #[error("too many commands")]
-    TooManyCommands,
+    TooManyCommands = 6,
+}
+
+impl LineFault {
+    /// The fault's number, 1 to 6.
+    pub fn number(self) -> u8
+        ensures { result ≡ line_fault_number self }
+    {
+        FaultNumbers::number(self)
+    }
+
+    /// The fault's text, as programs print it.
+    pub fn text(self) -> &'static str
+        ensures { result.now ≡ line_fault_text self }
+    {
+        FaultNumbers::text(self)
+    }
+}
+
+impl fmt::Display for LineFault {
+    fn fmt<W: fmt::Write>(&self, f: &mut fmt::Formatter<W>) -> fmt::Result {
+        write!(f, "{}", self.text())
+    }
 }
 
 /// What is wrong with a script, or with its reading.
@@ -39,36 +56,6 @@ pub type ScriptError = ReadFault<LineFault>;
 
 /// Why the reading of a line stopped: the line has a fault, or an allocation was refused.
 pub type Stop = counted_devices::Stop<LineFault>;
-
-impl LineFault {
-    /// The fault's number, 1 to 6.
-    pub fn number(self) -> u8
-        ensures { result ≡ line_fault_number self }
-    {
-        match self {
-            LineFault::NotUtf8 => 1,
-            LineFault::NoReplicas => 2,
-            LineFault::UnknownCommand => 3,
-            LineFault::Range => 4,
-            LineFault::TooLong => 5,
-            LineFault::TooManyCommands => 6,
-        }
-    }
-
-    /// The fault's text, as programs print it.
-    pub fn text(self) -> &'static str
-        ensures { result.now ≡ line_fault_text self }
-    {
-        match self {
-            LineFault::NotUtf8 => "not UTF-8",
-            LineFault::NoReplicas => "no replicas",
-            LineFault::UnknownCommand => "unknown command",
-            LineFault::Range => "range",
-            LineFault::TooLong => "line too long",
-            LineFault::TooManyCommands => "too many commands",
-        }
-    }
-}
 
 impl FaultNumbers for LineFault {
     ghost number = { line_fault_number };
@@ -86,7 +73,7 @@ impl FaultNumbers for LineFault {
     const MEMORY: u8 = 8;
 
     fn number(self) -> u8 {
-        LineFault::number(self)
+        self as u8
     }
 
     fn title() -> &'static str {
@@ -94,6 +81,13 @@ impl FaultNumbers for LineFault {
     }
 
     fn text(self) -> &'static str {
-        LineFault::text(self)
+        match self {
+            LineFault::NotUtf8 => "not UTF-8",
+            LineFault::NoReplicas => "no replicas",
+            LineFault::UnknownCommand => "unknown command",
+            LineFault::Range => "range",
+            LineFault::TooLong => "line too long",
+            LineFault::TooManyCommands => "too many commands",
+        }
     }
 }

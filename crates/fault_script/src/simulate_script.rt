@@ -7,6 +7,7 @@ ghost use Rattle.fault_script.specs.Feeds.{script_faults};
 ghost use Rattle.fault_script.specs.Numbers.{simulate_error_name, simulate_error_number};
 ghost use Rattle.fault_script.specs.Simulations.{AreTextsOf, FailsAfterStart, IfScript, SendsBoth};
 ghost use Rattle.fault_script.specs.Simulations.{Simulates, TakesText};
+ghost use Rattle.fault_script.specs.declared.simulate_script.SimulateError.{SimulateError};
 
 use crate::command::Script;
 use crate::script_run::ScriptRun;
@@ -31,6 +32,14 @@ pub enum SimulateError {
     Device,
 }
 
+impl From<Memory> for SimulateError {
+    ghost from_gives = { λ _ e. e ≡ SimulateError.Memory };
+
+    fn from(_: Memory) -> SimulateError {
+        SimulateError::Memory
+    }
+}
+
 impl SimulateError {
     /// Its number as the reasons stand here, 1 to 3.
     pub fn number(self) -> u8
@@ -52,17 +61,6 @@ impl SimulateError {
             SimulateError::Memory => "Memory",
             SimulateError::Device => "Device",
         }
-    }
-}
-
-impl From<Memory> for SimulateError {
-    ghost use Rattle.std.specs.Prelude.{◌≡◌};
-    ghost use Rattle.fault_script.specs.declared.simulate_script.SimulateError.TheVariants.{Memory};
-
-    ghost from_gives = { λ _ e. e ≡ Memory };
-
-    fn from(_: Memory) -> SimulateError {
-        SimulateError::Memory
     }
 }
 

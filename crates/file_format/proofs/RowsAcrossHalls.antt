@@ -1,9 +1,9 @@
 -- Rows of several halls, one after another: what one row more makes of each hall, and the fault that it has.
 use Rattle.std.proofs.Common.{ℕ, zero, suc, ◌≡◌, ◌≢◌, ◌<◌, ◌≤◌, ◌+◌, ◌⊎◌, inl, inr, List, [], ◌∷◌}
 use Rattle.std.proofs.Common.{◌++◌, Bool, true, false, cond, Some, length, set, map, nat_eq, refl}
-use Rattle.std.proofs.Common.{sym, ap, ◌∙◌, subst, arith, append-nil, eq-eqb, eqb-true}
+use Rattle.std.proofs.Common.{sym, ap, ◌∙◌, subst, arith, append-nil, eq-eqb}
 use Rattle.std.specs.List.{slice_get, filter}
-use Rattle.std.proofs.lemmas.Bool.{cases_eq, cases_lt}
+use Rattle.std.proofs.lemmas.Bool.{cases_eq, cases_lt, ne_eqb}
 use Rattle.std.proofs.lemmas.List.{map-append, length-set}
 use Rattle.std.proofs.lemmas.List.Elements.{filter-append}
 use Rattle.std.proofs.lemmas.List.Sums.{sum_by-cons}
@@ -35,13 +35,6 @@ left_out : (b : Bool) (item : HallRow) → b ≡ false → map row_in_hall (cond
 left_out true item e = absurd (cc)
 left_out false item e = refl
 
-unequal : (m n : ℕ) → m ≢ n → nat_eq m n ≡ false
-unequal m n apart = at (nat_eq m n) refl
-  where
-    at : (b : Bool) → nat_eq m n ≡ b → b ≡ false
-    at true e = absurd (apart (eqb-true m n e))
-    at false e = refl
-
 pub rows-append : (hall : ℕ) (xs ys : List HallRow) → rows_of hall (xs ++ ys) ≡ rows_of hall xs ++ rows_of hall ys
 rows-append hall xs ys =
     let test : HallRow → Bool = λ item. nat_eq item.hall hall in
@@ -51,7 +44,7 @@ pub one_here : (hall : ℕ) (item : HallRow) → item.hall ≡ hall → rows_of 
 one_here hall item here = chosen (nat_eq item.hall hall) item (eq-eqb item.hall hall here)
 
 pub one_apart : (hall : ℕ) (item : HallRow) → item.hall ≢ hall → rows_of hall (item ∷ []) ≡ []
-one_apart hall item apart = left_out (nat_eq item.hall hall) item (unequal item.hall hall apart)
+one_apart hall item apart = left_out (nat_eq item.hall hall) item (ne_eqb item.hall hall apart)
 
 pub rows_here : (items : List HallRow) (item : HallRow) → rows_of item.hall (items ++ item ∷ []) ≡ rows_of item.hall items ++ item.row ∷ []
 rows_here items item = rows-append item.hall items (item ∷ [])

@@ -1,14 +1,14 @@
 //! What a line after the header says.
 ghost use Rattle.std.specs.Prelude.{Result, Ok, IfOk, IfSome};
-ghost use Rattle.serde_json.specs.Data.{Data};
-ghost use Rattle.file_format.specs.declared.fault.LineFault.{LineFault};
-ghost use Rattle.file_format.specs.Documents.{data_in};
 ghost use Rattle.counted_devices.specs.Answers.{Gives};
+ghost use Rattle.serde_json.specs.Data.{Data};
+ghost use Rattle.file_format.specs.Documents.{data_in};
 ghost use Rattle.file_format.specs.Rows.{row_in};
 ghost use Rattle.file_format.specs.HallRows.{hall_row_in};
 ghost use Rattle.file_format.specs.OrderLines.{piece_in};
 ghost use Rattle.file_format.specs.Formats.{IsFine};
 ghost use Rattle.file_format.specs.Lines.{LineShows};
+ghost use Rattle.file_format.specs.declared.fault.LineFault.{LineFault};
 
 use crate::compact_lines::{written_hall_row, written_piece, written_row};
 use crate::document::Document;

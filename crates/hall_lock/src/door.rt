@@ -1,13 +1,15 @@
 //! How a thread comes to a hall: the ends of the hall's channel, and a pass of the rule.
-ghost use Rattle.std.specs.Prelude.{◌≡◌, None, IfOk, IfSome, IsNone};
-ghost use Rattle.hall_lock.specs.Turns.{AddsOwnRows, AreRecorded, HasEntered, IsAtRest, IsStepOfPass, KeepsStopped};
-ghost use Rattle.hall_lock.specs.Turns.{MayReturn, Receives, Returns, Turns, guest, maker, seat_in};
+ghost use Rattle.std.specs.Prelude.{◌≡◌, ℕ, None, IfOk, IfSome, IsNone};
+ghost use Rattle.crossbeam_channel.specs.Fifo.{Learns, Pushes};
+ghost use Rattle.hall_lock.specs.Turns.{AddsOwnRows, AreRecorded, HasEntered, HasOneHall, IsAtRest};
+ghost use Rattle.hall_lock.specs.Turns.{IsStepOfPass, KeepsStopped, MayReturn, Receives, Returns, Turns, guest, maker, seat_in};
 ghost use Rattle.recorder.specs.Histories.{IsWellFormed};
 ghost use Rattle.hall_journal.specs.Halls.{IsReplay, TakesOrRefuses};
 ghost use Rattle.world_steps.specs.Lasting.{client_in};
 ghost use Rattle.world_steps.specs.SoundSystems.{IsSound};
 
 use crate::rule::{Enter, Guest, OneHall, Receive, Return, View};
+use crossbeam_channel::protocol::{Lesson, Outcome};
 use crossbeam_channel::{Pass, RuledReceiver, RuledSender, bounded_with};
 use hall_journal::Hall;
 use std::alloc::Global;
@@ -153,14 +155,7 @@ impl Door {
         ensures recorded { AreRecorded hall.world.history.rows }
     {
         attest(&hall);
-        let mut back = hall;
-        for _ in rt.forever() {
-            match self.sender.send_as::<Enter, _>(rt, &mut self.pass, back) {
-                Ok(()) => return,
-                Err(error) => back = error.into_inner(),
-            }
-        }
-        unreachable!()
+        self.send::<Enter, _>(rt, hall);
     }
 
     /// Gives the hall back.
@@ -171,9 +166,18 @@ impl Door {
         ensures recorded { AreRecorded hall.world.history.rows }
     {
         attest(&hall);
+        self.send::<Return, _>(rt, hall);
+    }
+
+    /// Puts the hall into its channel by a move that the rule allows.
+    fn send<M: Outcome<Hall, View> + Lesson<Hall, View>, R: Wait>(&mut self, rt: &R, hall: Hall)
+        requires may { (size : ℕ) (pass : ℕ) → Pushes HasOneHall size pass self.old hall (M.then self.old hall) }
+        requires learns { (pass : ℕ) → Learns HasOneHall pass self.old (M.fact self.old) }
+        ensures { M.then self.old hall self.new }
+    {
         let mut back = hall;
         for _ in rt.forever() {
-            match self.sender.send_as::<Return, _>(rt, &mut self.pass, back) {
+            match self.sender.send_as::<M, _>(rt, &mut self.pass, back) {
                 Ok(()) => return,
                 Err(error) => back = error.into_inner(),
             }

@@ -2,8 +2,8 @@
 ghost use Rattle.std.specs.Prelude.{◌≡◌, ◌↔◌, false, Ok, Err, None, Some, IfOk, IfErr, OnOk, OnErr, IsTrue, [], ℕ};
 ghost use Rattle.std.specs.Fn.{FnOnceReturnsAt};
 ghost use Rattle.std.specs.Option.{option_copied};
-ghost use Rattle.network.specs.Flights.{message_of};
 ghost use Rattle.network.specs.declared.messages.Message.{Message};
+ghost use Rattle.network.specs.Flights.{message_of};
 ghost use Rattle.recorder.specs.declared.row.Row.{Row};
 ghost use Rattle.world_steps.specs.Lasting.{Grows};
 ghost use Rattle.world_steps.specs.SoundSystems.{IsSound};

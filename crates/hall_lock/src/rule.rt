@@ -41,18 +41,17 @@ impl Split<View> for Guest {
 /// A receive: the pass holds the hall from now on.
 pub struct Receive;
 
+/// A send: the hall is given back.
+pub struct Return;
+
+/// A send by a pass whose client has just joined.
+pub struct Enter;
+
 impl Outcome<Hall, View> for Receive {
     ghost use Rattle.hall_lock.specs.Turns.{Receives};
 
     ghost then = { Receives };
 }
-
-impl Lesson<Hall, View> for Receive {
-    ghost fact = { λ v items. Unit {0} };
-}
-
-/// A send: the hall is given back.
-pub struct Return;
 
 impl Outcome<Hall, View> for Return {
     ghost use Rattle.hall_lock.specs.Turns.{Returns};
@@ -60,17 +59,18 @@ impl Outcome<Hall, View> for Return {
     ghost then = { Returns };
 }
 
-impl Lesson<Hall, View> for Return {
-    ghost fact = { λ v items. Unit {0} };
-}
-
-/// A send by a pass whose client has just joined.
-pub struct Enter;
-
 impl Outcome<Hall, View> for Enter {
     ghost use Rattle.hall_lock.specs.Turns.{BecomesSeat};
 
     ghost then = { BecomesSeat };
+}
+
+impl Lesson<Hall, View> for Receive {
+    ghost fact = { λ v items. Unit {0} };
+}
+
+impl Lesson<Hall, View> for Return {
+    ghost fact = { λ v items. Unit {0} };
 }
 
 impl Lesson<Hall, View> for Enter {

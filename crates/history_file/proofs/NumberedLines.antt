@@ -3,6 +3,7 @@ use Rattle.std.proofs.Common.{ℕ, zero, suc, ◌≡◌, ◌≢◌, ◌<◌, ◌
 use Rattle.std.specs.Prelude.{Vec, Option, IsSomeAnd, MatchOption}
 use Rattle.std.specs.declared.alloc.Global.{Global}
 use Rattle.std.specs.List.{All, slice_get, filter, enumerate_from, range_with_len}
+use Rattle.std.proofs.lemmas.Bool.{ne_eqb}
 use Rattle.std.proofs.lemmas.List.{map-append, length-set}
 use Rattle.std.proofs.lemmas.List.Elements.{filter-append}
 use Rattle.std.proofs.lemmas.Option.{slice_get_within, get_or_from_slice_get}
@@ -56,13 +57,6 @@ left_out : (b : Bool) (line : ℕ) (item : HallRow) → b ≡ false → map line
 left_out true line item e = absurd (cc)
 left_out false line item e = refl
 
-unequal : (m n : ℕ) → m ≢ n → nat_eq m n ≡ false
-unequal m n apart = at (nat_eq m n) refl
-  where
-    at : (b : Bool) → nat_eq m n ≡ b → b ≡ false
-    at true e = absurd (apart (eqb-true m n e))
-    at false e = refl
-
 -- the row's line is the last of its hall's lines
 line_here : (items : List HallRow) (item : HallRow) → lines_of item.hall (items ++ item ∷ []) ≡ lines_of item.hall items ++ (2 + length items) ∷ []
 line_here items item =
@@ -73,7 +67,7 @@ line_here items item =
 line_apart : (hall : ℕ) (items : List HallRow) (item : HallRow) → item.hall ≢ hall → lines_of hall (items ++ item ∷ []) ≡ lines_of hall items
 line_apart hall items item apart =
     lines_from-append hall 2 items (item ∷ [])
-    ∙ ap (λ (more : List ℕ). lines_of hall items ++ more) (left_out (nat_eq item.hall hall) (2 + length items) item (unequal item.hall hall apart)) ∙ append-nil (lines_of hall items)
+    ∙ ap (λ (more : List ℕ). lines_of hall items ++ more) (left_out (nat_eq item.hall hall) (2 + length items) item (ne_eqb item.hall hall apart)) ∙ append-nil (lines_of hall items)
 
 inside_some : {X : Type 0} {x y : X} → Some x ≡ Some y → x ≡ y
 inside_some e = cc

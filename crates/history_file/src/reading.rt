@@ -3,9 +3,9 @@ ghost use Rattle.std.specs.Prelude.{ℕ, ◌≡◌, ◌<◌, ◌≤◌, List, Op
 ghost use Rattle.std.specs.Prelude.{IfErr, OnOk, MatchResult};
 ghost use Rattle.std.specs.Io.KnownBytes.{IsAtEnd};
 ghost use Rattle.counted_devices.specs.DeviceStates.{states, states_since};
-ghost use Rattle.counted_devices.specs.ReadFaults.{FailsFrom};
 ghost use Rattle.counted_devices.specs.Deliveries.{Holds, HoldsAll, ReadsFrom};
 ghost use Rattle.counted_devices.specs.FirstFaults.{ReadsOn, StopsFrom};
+ghost use Rattle.counted_devices.specs.ReadFaults.{FailsFrom};
 ghost use Rattle.history_file.specs.FileFaults.{file_faults};
 ghost use Rattle.history_file.specs.Feeds.{StandsForLines};
 ghost use Rattle.history_file.specs.Ahead.{StandsAhead};

@@ -1,6 +1,6 @@
 //! Callers, each with a seat and a thread of its own.
 ghost use Rattle.std.specs.Prelude.{◌≡◌, ◌⊎◌, Err, map, IfErr, IfOk, OnErr, OnOk};
-ghost use Rattle.load.specs.Callers.{AreKeys, AreNew, AreOfSeats, AreSeated, HasCalled, IsCalled};
+ghost use Rattle.load.specs.Callers.{AreKeys, AreNew, AreOfSeats, AreSeated, IsCalled};
 ghost use Rattle.load.specs.Callers.{IsFreshSeat, LeavesCall, MakesCall, RefusesTurn, work_of};
 
 use crate::error::LoadError;
@@ -56,32 +56,7 @@ fn call_once<R: Wait, G: Gate>(
     Ok(())
 }
 
-/// Makes the calls of a caller's turns, one after another, up to the first that is refused. Why it is.
-fn call_all<R: Wait, G: Gate>(
-    rt: &R,
-    alloc: Global,
-    store: &Store<G>,
-    seat: &mut Seat,
-    work: Work,
-) -> Option<CallError>
-    requires keys { AreKeys work.keys }
-    requires fresh { IsFreshSeat work.caller seat.old }
-    ensures { HasCalled work seat.new result }
-{
-    for number in 0..work.calls {
-        let turn = Turn {
-            keys: work.keys,
-            caller: work.caller,
-            number,
-        };
-        if let Err(error) = call_once(rt, alloc, store, seat, turn) {
-            return Some(error);
-        }
-    }
-    None
-}
-
-/// Has a caller make its calls.
+/// Has a caller make the calls of its turns, one after another, up to the first that is refused.
 fn make_calls<R: Wait, G: Gate>(
     rt: &R,
     alloc: Global,
@@ -93,8 +68,23 @@ fn make_calls<R: Wait, G: Gate>(
     requires fresh { IsFreshSeat work.caller seat }
     ensures { IsCalled work result }
 {
-    let refusal = call_all(rt, alloc, store, &mut seat, work);
-    Called { seat, refusal }
+    for number in 0..work.calls {
+        let turn = Turn {
+            keys: work.keys,
+            caller: work.caller,
+            number,
+        };
+        if let Err(error) = call_once(rt, alloc, store, &mut seat, turn) {
+            return Called {
+                seat,
+                refusal: Some(error),
+            };
+        }
+    }
+    Called {
+        seat,
+        refusal: None,
+    }
 }
 
 /// Starts a caller on a thread of its own.

@@ -1,4 +1,8 @@
 //! Why a load wasn't run to its end.
+ghost use Rattle.std.specs.Prelude.{◌≡◌};
+ghost use Rattle.load.specs.LoadErrors.{error_of_join, error_of_start};
+ghost use Rattle.load.specs.declared.error.LoadError.{LoadError};
+
 use node_threads::{JoinError, StartError};
 use std::alloc::{AllocError, AllocFailed};
 use tag::Memory;
@@ -19,9 +23,6 @@ pub enum LoadError {
 }
 
 impl From<StartError> for LoadError {
-    ghost use Rattle.std.specs.Prelude.{◌≡◌};
-    ghost use Rattle.load.specs.LoadErrors.{error_of_start};
-
     ghost from_gives = { λ error e. e ≡ error_of_start error };
 
     fn from(error: StartError) -> LoadError {
@@ -33,9 +34,6 @@ impl From<StartError> for LoadError {
 }
 
 impl From<JoinError> for LoadError {
-    ghost use Rattle.std.specs.Prelude.{◌≡◌};
-    ghost use Rattle.load.specs.LoadErrors.{error_of_join};
-
     ghost from_gives = { λ error e. e ≡ error_of_join error };
 
     fn from(error: JoinError) -> LoadError {
@@ -47,10 +45,7 @@ impl From<JoinError> for LoadError {
 }
 
 impl From<Memory> for LoadError {
-    ghost use Rattle.std.specs.Prelude.{◌≡◌};
-    ghost use Rattle.load.specs.declared.error.LoadError.TheVariants.{Memory};
-
-    ghost from_gives = { λ _ e. e ≡ Memory };
+    ghost from_gives = { λ _ e. e ≡ LoadError.Memory };
 
     fn from(_: Memory) -> LoadError {
         LoadError::Memory
@@ -58,10 +53,7 @@ impl From<Memory> for LoadError {
 }
 
 impl From<AllocError> for LoadError {
-    ghost use Rattle.std.specs.Prelude.{◌≡◌};
-    ghost use Rattle.load.specs.declared.error.LoadError.TheVariants.{Memory};
-
-    ghost from_gives = { λ _ e. e ≡ Memory };
+    ghost from_gives = { λ _ e. e ≡ LoadError.Memory };
 
     fn from(_: AllocError) -> LoadError {
         LoadError::Memory
@@ -69,10 +61,7 @@ impl From<AllocError> for LoadError {
 }
 
 impl<T: Drop> From<AllocFailed<T>> for LoadError {
-    ghost use Rattle.std.specs.Prelude.{◌≡◌};
-    ghost use Rattle.load.specs.declared.error.LoadError.TheVariants.{Memory};
-
-    ghost from_gives = { λ _ e. e ≡ Memory };
+    ghost from_gives = { λ _ e. e ≡ LoadError.Memory };
 
     fn from(_: AllocFailed<T>) -> LoadError {
         LoadError::Memory

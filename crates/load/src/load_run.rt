@@ -1,5 +1,5 @@
 //! A load, from the start of its store to its end.
-ghost use Rattle.std.specs.Prelude.{◌≡◌, ◌++◌, map, IfErr, IfOk, OnOk};
+ghost use Rattle.std.specs.Prelude.{◌≡◌, ◌++◌, map, IfOk, OnOk};
 ghost use Rattle.load.specs.Loads.{IsLoaded, gate_of, refusals_of, refused_of, store_of, world_of};
 ghost use Rattle.run_options.specs.Loads.{IsWithinLimits};
 
@@ -11,7 +11,7 @@ use run_options::{Load, LoadOptions};
 use std::alloc::Global;
 use std::sync::Wait;
 use std::thread::Threads;
-use tag::ClientId;
+use tag::{ClientId, Memory};
 use world_steps::Config;
 
 /// A caller that made fewer calls than it had to.
@@ -80,10 +80,9 @@ fn add_refusal(
     refusals: &mut Vec<Refused>,
     caller: ClientId,
     refusal: Option<CallError>,
-) -> Result<(), LoadError>
-    ensures added { OnOk result (refusals.new.items
+) -> Result<(), Memory>
+    ensures { OnOk result (refusals.new.items
         ≡ refusals.old.items ++ refused_of caller refusal) }
-    ensures memory { IfErr result (λ error. error ≡ LoadError.Memory) }
 {
     let Some(error) = refusal else {
         return Ok(());
@@ -93,13 +92,9 @@ fn add_refusal(
 }
 
 /// The callers' seats, and those whose calls were refused.
-fn split_callers(
-    alloc: Global,
-    callers: Vec<Called>,
-) -> Result<(Vec<Seat>, Vec<Refused>), LoadError>
+fn split_callers(alloc: Global, callers: Vec<Called>) -> Result<(Vec<Seat>, Vec<Refused>), Memory>
     ensures seats { IfOk result (λ both. both.0.items ≡ map (λ c. c.seat) callers.items) }
     ensures refused { IfOk result (λ both. both.1.items ≡ refusals_of callers.items) }
-    ensures memory { IfErr result (λ error. error ≡ LoadError.Memory) }
 {
     let mut seats = Vec::new(alloc);
     let mut refusals = Vec::new(alloc);

@@ -1,5 +1,6 @@
 //! Why the network refuses.
 ghost use Rattle.std.specs.Prelude.{◌≡◌};
+ghost use Rattle.network.specs.declared.refusals.NetRefusal.{NetRefusal};
 ghost use Rattle.network.specs.Numbers.{net_refusal_number};
 
 use tag::Memory;
@@ -29,10 +30,7 @@ impl NetRefusal {
 }
 
 impl From<Memory> for NetRefusal {
-    ghost use Rattle.std.specs.Prelude.{◌≡◌};
-    ghost use Rattle.network.specs.declared.refusals.NetRefusal.TheVariants.{Memory};
-
-    ghost from_gives = { λ _ refusal. refusal ≡ Memory };
+    ghost from_gives = { λ _ refusal. refusal ≡ NetRefusal.Memory };
 
     fn from(_: Memory) -> NetRefusal {
         NetRefusal::Memory

@@ -13,32 +13,10 @@ use world_steps::Refusal;
 pub enum StartError {
     /// An allocation failed.
     #[error("memory")]
-    Memory,
+    Memory = 1,
     /// A thread couldn't be started.
     #[error("thread")]
-    Thread,
-}
-
-/// Why a client has no seat.
-#[derive(Clone, Copy, Debug, PartialEq, Eq, Error)]
-pub enum JoinError {
-    /// The name joined before, in some hall.
-    #[error("client taken")]
-    ClientTaken,
-    /// An allocation failed.
-    #[error("memory")]
-    Memory,
-}
-
-/// Why a closed store leaves nothing.
-#[derive(Clone, Copy, Debug, PartialEq, Eq, Error)]
-pub enum CloseError {
-    /// A seat is another store's, or has other calls in its log than a hall's record.
-    #[error("seat mismatch")]
-    SeatMismatch,
-    /// An allocation failed.
-    #[error("memory")]
-    Memory,
+    Thread = 2,
 }
 
 impl StartError {
@@ -46,11 +24,19 @@ impl StartError {
     pub fn number(self) -> u8
         ensures { result ≡ start_error_number self }
     {
-        match self {
-            StartError::Memory => 1,
-            StartError::Thread => 2,
-        }
+        self as u8
     }
+}
+
+/// Why a client has no seat.
+#[derive(Clone, Copy, Debug, PartialEq, Eq, Error)]
+pub enum JoinError {
+    /// The name joined before, in some hall.
+    #[error("client taken")]
+    ClientTaken = 1,
+    /// An allocation failed.
+    #[error("memory")]
+    Memory = 2,
 }
 
 impl JoinError {
@@ -58,11 +44,19 @@ impl JoinError {
     pub fn number(self) -> u8
         ensures { result ≡ join_error_number self }
     {
-        match self {
-            JoinError::ClientTaken => 1,
-            JoinError::Memory => 2,
-        }
+        self as u8
     }
+}
+
+/// Why a closed store leaves nothing.
+#[derive(Clone, Copy, Debug, PartialEq, Eq, Error)]
+pub enum CloseError {
+    /// A seat is another store's, or has other calls in its log than a hall's record.
+    #[error("seat mismatch")]
+    SeatMismatch = 1,
+    /// An allocation failed.
+    #[error("memory")]
+    Memory = 2,
 }
 
 impl CloseError {
@@ -70,10 +64,7 @@ impl CloseError {
     pub fn number(self) -> u8
         ensures { result ≡ close_error_number self }
     {
-        match self {
-            CloseError::SeatMismatch => 1,
-            CloseError::Memory => 2,
-        }
+        self as u8
     }
 
     /// Its name, as it stands here.

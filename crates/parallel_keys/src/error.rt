@@ -1,5 +1,6 @@
 //! Why orders weren't checked.
 ghost use Rattle.std.specs.Prelude.{◌≡◌};
+ghost use Rattle.parallel_keys.specs.declared.error.CheckError.{CheckError};
 ghost use Rattle.parallel_keys.specs.Numbers.{check_error_name, check_error_number};
 
 use std::alloc::{AllocError, AllocFailed};
@@ -12,10 +13,10 @@ use thiserror::Error;
 pub enum CheckError {
     /// An allocation was refused.
     #[error("no memory")]
-    Memory,
+    Memory = 1,
     /// A thread couldn't be started.
     #[error("no thread could be started")]
-    Thread,
+    Thread = 2,
 }
 
 impl CheckError {
@@ -23,10 +24,7 @@ impl CheckError {
     pub fn number(self) -> u8
         ensures { result ≡ check_error_number self }
     {
-        match self {
-            CheckError::Memory => 1,
-            CheckError::Thread => 2,
-        }
+        self as u8
     }
 
     /// Its name, as it stands here.
@@ -41,10 +39,7 @@ impl CheckError {
 }
 
 impl From<Memory> for CheckError {
-    ghost use Rattle.std.specs.Prelude.{◌≡◌};
-    ghost use Rattle.parallel_keys.specs.declared.error.CheckError.TheVariants.{Memory};
-
-    ghost from_gives = { λ _ e. e ≡ Memory };
+    ghost from_gives = { λ _ e. e ≡ CheckError.Memory };
 
     fn from(_: Memory) -> CheckError {
         CheckError::Memory
@@ -52,10 +47,7 @@ impl From<Memory> for CheckError {
 }
 
 impl From<AllocError> for CheckError {
-    ghost use Rattle.std.specs.Prelude.{◌≡◌};
-    ghost use Rattle.parallel_keys.specs.declared.error.CheckError.TheVariants.{Memory};
-
-    ghost from_gives = { λ _ e. e ≡ Memory };
+    ghost from_gives = { λ _ e. e ≡ CheckError.Memory };
 
     fn from(_: AllocError) -> CheckError {
         CheckError::Memory
@@ -63,10 +55,7 @@ impl From<AllocError> for CheckError {
 }
 
 impl<T: Drop> From<AllocFailed<T>> for CheckError {
-    ghost use Rattle.std.specs.Prelude.{◌≡◌};
-    ghost use Rattle.parallel_keys.specs.declared.error.CheckError.TheVariants.{Memory};
-
-    ghost from_gives = { λ _ e. e ≡ Memory };
+    ghost from_gives = { λ _ e. e ≡ CheckError.Memory };
 
     fn from(_: AllocFailed<T>) -> CheckError {
         CheckError::Memory
@@ -74,10 +63,7 @@ impl<T: Drop> From<AllocFailed<T>> for CheckError {
 }
 
 impl<F: Drop> From<SpawnError<F>> for CheckError {
-    ghost use Rattle.std.specs.Prelude.{◌≡◌};
-    ghost use Rattle.parallel_keys.specs.declared.error.CheckError.TheVariants.{Thread};
-
-    ghost from_gives = { λ _ e. e ≡ Thread };
+    ghost from_gives = { λ _ e. e ≡ CheckError.Thread };
 
     fn from(_: SpawnError<F>) -> CheckError {
         CheckError::Thread

@@ -34,9 +34,9 @@ pub struct Part {
 }
 
 impl Model for Part {
-    ghost use Rattle.std.specs.Prelude.{List};
     ghost use Rattle.recorder.specs.declared.part.Call.{Call};
     ghost use Rattle.recorder.specs.Parts.{IsSequence};
+    ghost use Rattle.std.specs.Prelude.{List};
 
     ghost Value = { List Call };
 

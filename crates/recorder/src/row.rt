@@ -1,5 +1,6 @@
 //! Rows of a history, and why one may be refused.
 ghost use Rattle.std.specs.Prelude.{◌≡◌, IfOk};
+ghost use Rattle.recorder.specs.declared.row.RowRefusal.{RowRefusal};
 ghost use Rattle.recorder.specs.Numbers.{row_refusal_number};
 
 use std::alloc::{AllocError, AllocFailed};
@@ -58,17 +59,17 @@ impl Row {
 #[derive(Clone, Copy, Debug, PartialEq, Eq, Error)]
 pub enum RowRefusal {
     #[error("the history has all the calls that it may have")]
-    OpsFull,
+    OpsFull = 1,
     #[error("the client has a call without a response")]
-    ClientBusy,
+    ClientBusy = 2,
     #[error("the call isn't pending: it never began, or it has its response")]
-    NotPending,
+    NotPending = 3,
     #[error("the answer isn't of the call's kind: a write is answered `written`, a read a value or none")]
-    WrongKind,
+    WrongKind = 4,
     #[error("the call has a note already")]
-    NoteTwice,
+    NoteTwice = 5,
     #[error("no memory")]
-    Memory,
+    Memory = 6,
 }
 
 impl RowRefusal {
@@ -76,22 +77,20 @@ impl RowRefusal {
     pub fn number(self) -> u8
         ensures { result ≡ row_refusal_number self }
     {
-        match self {
-            RowRefusal::OpsFull => 1,
-            RowRefusal::ClientBusy => 2,
-            RowRefusal::NotPending => 3,
-            RowRefusal::WrongKind => 4,
-            RowRefusal::NoteTwice => 5,
-            RowRefusal::Memory => 6,
-        }
+        self as u8
+    }
+}
+
+impl From<Memory> for RowRefusal {
+    ghost from_gives = { λ _ e. e ≡ RowRefusal.Memory };
+
+    fn from(_: Memory) -> RowRefusal {
+        RowRefusal::Memory
     }
 }
 
 impl From<AllocError> for RowRefusal {
-    ghost use Rattle.std.specs.Prelude.{◌≡◌};
-    ghost use Rattle.recorder.specs.declared.row.RowRefusal.TheVariants.{Memory};
-
-    ghost from_gives = { λ _ e. e ≡ Memory };
+    ghost from_gives = { λ _ e. e ≡ RowRefusal.Memory };
 
     fn from(_: AllocError) -> RowRefusal {
         RowRefusal::Memory
@@ -99,23 +98,9 @@ impl From<AllocError> for RowRefusal {
 }
 
 impl<T: Drop> From<AllocFailed<T>> for RowRefusal {
-    ghost use Rattle.std.specs.Prelude.{◌≡◌};
-    ghost use Rattle.recorder.specs.declared.row.RowRefusal.TheVariants.{Memory};
-
-    ghost from_gives = { λ _ e. e ≡ Memory };
+    ghost from_gives = { λ _ e. e ≡ RowRefusal.Memory };
 
     fn from(_: AllocFailed<T>) -> RowRefusal {
-        RowRefusal::Memory
-    }
-}
-
-impl From<Memory> for RowRefusal {
-    ghost use Rattle.std.specs.Prelude.{◌≡◌};
-    ghost use Rattle.recorder.specs.declared.row.RowRefusal.TheVariants.{Memory};
-
-    ghost from_gives = { λ _ e. e ≡ Memory };
-
-    fn from(_: Memory) -> RowRefusal {
         RowRefusal::Memory
     }
 }

@@ -51,7 +51,7 @@ fn finish<R: Threads + Wait, W: CountedWrite, E: CountedWrite>(
         Err(error) => return tell_check(error, errors),
     };
     let status = tell_refused_key(alloc, &first, errors);
-    if matches!(status, Status::Failed) {
+    if status == Status::Failed {
         return status;
     }
     let text = match shown_text(alloc, &histories, asked.shown) {

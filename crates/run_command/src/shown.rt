@@ -1,5 +1,6 @@
 //! The text that a run writes: the history of one hall, or the histories of all.
 ghost use Rattle.std.specs.Prelude.{◌≡◌, IfOk};
+ghost use Rattle.run_command.specs.declared.shown.NoText.{NoText};
 ghost use Rattle.run_options.specs.declared.asked.Shown.{Shown};
 ghost use Rattle.run_command.specs.Shown.{IsShownText};
 
@@ -21,10 +22,7 @@ pub(crate) enum NoText {
 }
 
 impl From<Memory> for NoText {
-    ghost use Rattle.std.specs.Prelude.{◌≡◌};
-    ghost use Rattle.run_command.specs.declared.shown.NoText.TheVariants.{Memory};
-
-    ghost from_gives = { λ _ e. e ≡ Memory };
+    ghost from_gives = { λ _ e. e ≡ NoText.Memory };
 
     fn from(_: Memory) -> NoText {
         NoText::Memory

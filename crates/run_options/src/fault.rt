@@ -1,4 +1,7 @@
 //! Why words that clap takes ask for no load.
+ghost use Rattle.std.specs.Prelude.{◌≡◌};
+ghost use Rattle.run_options.specs.declared.fault.RunFault.{RunFault};
+
 use std::alloc::AllocFailed;
 use thiserror::Error;
 
@@ -29,10 +32,7 @@ pub enum RunFault {
 }
 
 impl<T: Drop> From<AllocFailed<T>> for RunFault {
-    ghost use Rattle.std.specs.Prelude.{◌≡◌};
-    ghost use Rattle.run_options.specs.declared.fault.RunFault.TheVariants.{Memory};
-
-    ghost from_gives = { λ _ e. e ≡ Memory };
+    ghost from_gives = { λ _ e. e ≡ RunFault.Memory };
 
     fn from(_: AllocFailed<T>) -> RunFault {
         RunFault::Memory

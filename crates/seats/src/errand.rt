@@ -1,6 +1,7 @@
 //! One call in progress: what its client sends, and what it hears.
 ghost use Rattle.std.specs.Prelude.{◌≡◌, ◌≤◌, ◌-◌, ◌*◌, ◌^◌, ℕ, min, true, Result, Ok, Err, Some};
 ghost use Rattle.std.specs.Prelude.{IfOk, IfErr, OnOk, OnErr};
+ghost use Rattle.seats.specs.declared.errand.Stall.{Stall};
 ghost use Rattle.hall_lock.specs.Halls.{most_elements};
 ghost use Rattle.hall_lock.specs.Turns.{IsQuiet, IsStepOfClient, TakesTurn};
 ghost use Rattle.world_steps.specs.declared.effect.Effect.TheVariants as effect;
@@ -390,6 +391,14 @@ fn told_delay(delay: Delay) -> CallError
     }
 }
 
+impl From<AllocError> for Stall {
+    ghost from_gives = { λ _ e. e ≡ Stall.Memory };
+
+    fn from(_: AllocError) -> Stall {
+        Stall::Memory
+    }
+}
+
 /// Why a call isn't answered where a later step of it was refused.
 fn stall_of(refusal: Refusal) -> Stall
     ensures { result ≡ stall_of refusal }
@@ -409,16 +418,5 @@ fn told_pending(stall: Stall) -> CallError
         Stall::Unavailable => CallError::Unavailable,
         Stall::Full => CallError::Full,
         Stall::Memory => CallError::Memory,
-    }
-}
-
-impl From<AllocError> for Stall {
-    ghost use Rattle.std.specs.Prelude.{◌≡◌};
-    ghost use Rattle.seats.specs.declared.errand.Stall.TheVariants.{Memory};
-
-    ghost from_gives = { λ _ e. e ≡ Memory };
-
-    fn from(_: AllocError) -> Stall {
-        Stall::Memory
     }
 }

@@ -1,5 +1,6 @@
 //! Why a call has no answer.
 ghost use Rattle.std.specs.Prelude.{◌≡◌};
+ghost use Rattle.seats.specs.declared.errors.CallError.{CallError};
 ghost use Rattle.seats.specs.Numbers.{call_error_name, call_error_number};
 
 use std::alloc::AllocError;
@@ -12,20 +13,20 @@ pub enum CallError {
     /// The rounds of a phase ran out. The client is stopped in that hall, the call is pending and in the
     /// log, and the seat is spent.
     #[error("unavailable")]
-    Unavailable,
+    Unavailable = 1,
     /// The seat is spent. All is as before.
     #[error("seat spent")]
-    SeatSpent,
+    SeatSpent = 2,
     /// The seat is another store's, or has seen more than this store has. All is as before.
     #[error("foreign")]
-    Foreign,
+    Foreign = 3,
     /// As many calls were invoked, or as many messages sent, as may be. Before the call began all is as
     /// before; later it is as after `Unavailable`.
     #[error("full")]
-    Full,
+    Full = 4,
     /// An allocation failed. Before the call began all is as before; later it is as after `Unavailable`.
     #[error("memory")]
-    Memory,
+    Memory = 5,
 }
 
 impl CallError {
@@ -33,13 +34,7 @@ impl CallError {
     pub fn number(self) -> u8
         ensures { result ≡ call_error_number self }
     {
-        match self {
-            CallError::Unavailable => 1,
-            CallError::SeatSpent => 2,
-            CallError::Foreign => 3,
-            CallError::Full => 4,
-            CallError::Memory => 5,
-        }
+        self as u8
     }
 
     /// Its name, as it stands here.
@@ -57,10 +52,7 @@ impl CallError {
 }
 
 impl From<AllocError> for CallError {
-    ghost use Rattle.std.specs.Prelude.{◌≡◌};
-    ghost use Rattle.seats.specs.declared.errors.CallError.TheVariants.{Memory};
-
-    ghost from_gives = { λ _ e. e ≡ Memory };
+    ghost from_gives = { λ _ e. e ≡ CallError.Memory };
 
     fn from(_: AllocError) -> CallError {
         CallError::Memory
@@ -68,10 +60,7 @@ impl From<AllocError> for CallError {
 }
 
 impl From<Memory> for CallError {
-    ghost use Rattle.std.specs.Prelude.{◌≡◌};
-    ghost use Rattle.seats.specs.declared.errors.CallError.TheVariants.{Memory};
-
-    ghost from_gives = { λ _ e. e ≡ Memory };
+    ghost from_gives = { λ _ e. e ≡ CallError.Memory };
 
     fn from(_: Memory) -> CallError {
         CallError::Memory

@@ -40,18 +40,18 @@ pub struct Answer {
 }
 
 impl Seat {
-    /// How many halls it has joined, which is how many passes it has.
-    pub fn halls(&self) -> usize
-        ensures { result ≡ length self.now.passes }
-    {
-        self.passes.len()
-    }
-
     /// The store that it is of.
     pub fn store(&self) -> u64
         ensures { result ≡ self.now.store }
     {
         self.store
+    }
+
+    /// How many halls it has joined, which is how many passes it has.
+    pub fn halls(&self) -> usize
+        ensures { result ≡ length self.now.passes }
+    {
+        self.passes.len()
     }
 
     /// The client.

@@ -1,5 +1,6 @@
 //! Why a part has no tag order.
 ghost use Rattle.std.specs.Prelude.{◌≡◌};
+ghost use Rattle.witness_order.specs.declared.error.WitnessError.{WitnessError};
 ghost use Rattle.witness_order.specs.Numbers.{witness_error_number};
 
 use std::alloc::{AllocError, AllocFailed};
@@ -28,24 +29,18 @@ impl WitnessError {
     }
 }
 
-impl From<AllocError> for WitnessError {
-    ghost use Rattle.std.specs.Prelude.{◌≡◌};
-    ghost use Rattle.witness_order.specs.declared.error.WitnessError.TheVariants.{Memory};
+impl<T: Drop> From<AllocFailed<T>> for WitnessError {
+    ghost from_gives = { λ _ e. e ≡ WitnessError.Memory };
 
-    ghost from_gives = { λ _ e. e ≡ Memory };
-
-    fn from(_: AllocError) -> WitnessError {
+    fn from(_: AllocFailed<T>) -> WitnessError {
         WitnessError::Memory
     }
 }
 
-impl<T: Drop> From<AllocFailed<T>> for WitnessError {
-    ghost use Rattle.std.specs.Prelude.{◌≡◌};
-    ghost use Rattle.witness_order.specs.declared.error.WitnessError.TheVariants.{Memory};
+impl From<AllocError> for WitnessError {
+    ghost from_gives = { λ _ e. e ≡ WitnessError.Memory };
 
-    ghost from_gives = { λ _ e. e ≡ Memory };
-
-    fn from(_: AllocFailed<T>) -> WitnessError {
+    fn from(_: AllocError) -> WitnessError {
         WitnessError::Memory
     }
 }

@@ -1,5 +1,6 @@
 //! Why a step is refused.
 ghost use Rattle.std.specs.Prelude.{◌≡◌};
+ghost use Rattle.world_steps.specs.declared.refusal.Refusal.{Refusal};
 ghost use Rattle.world_steps.specs.Numbers.{refusal_name, refusal_number};
 
 use tag::Memory;
@@ -71,10 +72,7 @@ impl Refusal {
 }
 
 impl From<Memory> for Refusal {
-    ghost use Rattle.std.specs.Prelude.{◌≡◌};
-    ghost use Rattle.world_steps.specs.declared.refusal.Refusal.TheVariants.{Memory};
-
-    ghost from_gives = { λ _ refusal. refusal ≡ Memory };
+    ghost from_gives = { λ _ refusal. refusal ≡ Refusal.Memory };
 
     fn from(_: Memory) -> Refusal {
         Refusal::Memory

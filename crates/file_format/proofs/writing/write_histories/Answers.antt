@@ -10,10 +10,6 @@ use Rattle.file_format.proofs.WrittenHalls.{histories_text_of}
 use Rattle.file_format.proofs.WritingOn.{breaks_at_once, breaks_with, ended}
 use Rattle.file_format.proofs.writing.write_histories.Goals as goal
 
-pub returns-in_err-append_file_header-clause-broken : goal.returns-in_err-append_file_header-clause-broken
-returns-in_err-append_file_header-clause-broken g c =
-    breaks_at_once g.W.Write.contents g.W.Counted.failures c.from_residual.result c.args.writer.now _ c.from_residual.ensures.1
-
 pub returns-in_err-write_hall-clause-broken : goal.returns-in_err-write_hall-clause-broken
 returns-in_err-write_hall-clause-broken g c =
     let at = c.loop-hall in
@@ -49,10 +45,10 @@ loop-hall-preserved g c =
 
 pub returns : goal.returns
 returns g c =
-    let at = c.loop-hall in
-    let sent = c.write_text in
     let histories = c.args.histories.now in
     let halls = c.halls-halls.result.now in
+    let at = c.loop-hall in
+    let sent = c.write_text in
     let all : (k : ℕ) (history : Recorded) → slice_get halls k ≡ Some history → IsWritten history =
     before_all IsWritten halls at.hall c.loop-hall-test.false at.invariant.range in
     let formed : HaveFormed histories.halls =
@@ -69,3 +65,7 @@ returns g c =
       read =
           on_ok sent.result (histories_text_of histories c.of-header.ensures.halls c.of-header.ensures.lawful formed ranges);
     }
+
+pub returns-in_err-append_file_header-clause-broken : goal.returns-in_err-append_file_header-clause-broken
+returns-in_err-append_file_header-clause-broken g c =
+    breaks_at_once g.W.Write.contents g.W.Counted.failures c.from_residual.result c.args.writer.now _ c.from_residual.ensures.1

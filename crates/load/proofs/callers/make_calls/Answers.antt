@@ -1,6 +1,6 @@
 use Rattle.std.proofs.Common.{◌<◌, arith}
 use Rattle.load.proofs.Calling.{called_some, made_more}
-use Rattle.load.proofs.callers.call_all.Goals as goal
+use Rattle.load.proofs.callers.make_calls.Goals as goal
 
 pub returns-in-Err : goal.returns-in-Err
 returns-in-Err g c =

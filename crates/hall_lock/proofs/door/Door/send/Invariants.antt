@@ -1,7 +1,7 @@
 use Rattle.std.proofs.Common.{◌≡◌}
 use Rattle.crossbeam_channel.specs.Claims.{view, IsSeatAt}
 use Rattle.crossbeam_channel.specs.Ends.{sends_on, receives_on}
-use Rattle.hall_lock.proofs.door.Door.give_named.Given as goal
+use Rattle.hall_lock.proofs.door.Door.send.Given as goal
 
 abbrev pub invariant-loop : goal.invariant-loop
 invariant-loop g l = IsSeatAt (sends_on l.self-inside.sender) l.self-inside.pass
