@@ -1,10 +1,11 @@
 -- Why a list is no order of a key's calls, and why their tags aren't sound, in sentences. Each is a
 -- line of its own, after two blanks. They name calls, lines of the history file, and places in the
 -- order.
-use Rattle.std.specs.Prelude.{ℕ, List, [], ◌++◌, Option, Some, None}
-use Rattle.std.specs.Prelude.{codes, decimal, slice_index, unwrap_or}
+use Rattle.std.specs.Prelude.{ℕ, ◌/◌, ◌%◌, List, [], ◌∷◌, ◌++◌, Option, Some, None, cond, nat_lt}
+use Rattle.std.specs.Prelude.{chars, codes, decimal, flat_map, slice_index, unwrap_or}
 use Rattle.std.specs.Borrow.{Bor}
-use Rattle.json.specs.Print.{quoted}
+use Rattle.std.specs.Char.{digit_char, encode_utf8, is_control}
+use Rattle.json.specs.Print.{escape_letter}
 use Rattle.tag.specs.declared.actions.Action.{Action}
 use Rattle.tag.specs.declared.actions.Action.TheVariants.{Read, Write}
 use Rattle.tag.specs.declared.actions.Returned.{Returned}
@@ -52,10 +53,20 @@ unfoldable pub tag_text : Tag → List ℕ
 tag_text tag =
     codes "(" ++ decimal tag.number ++ codes ", " ++ decimal tag.writer ++ codes ")"
 
+-- a character in a JSON text: each control character, `"` and `\` as its escape, others as they are
+unfoldable pub char_text : ℕ → List ℕ
+char_text c = cond (nat_lt 0 (escape_letter c)) (codes "\\" ++ escape_letter c ∷ [])
+    (cond (is_control c) (codes "\\u00" ++ digit_char (c / 16) ∷ digit_char (c % 16) ∷ [])
+    (encode_utf8 c))
+
+-- a text as a JSON text
+abbrev pub quoted_text : List ℕ → List ℕ
+quoted_text text = codes "\"" ++ flat_map char_text (chars text) ++ codes "\""
+
 -- a value as a JSON text; `null` stands for no value
 unfoldable pub value_text : Option (List ℕ) → List ℕ
 value_text None = codes "null"
-value_text (Some value) = quoted value
+value_text (Some value) = quoted_text value
 
 -- what a response answers: a read's a value or none; a write's nothing
 unfoldable pub returned_text : Returned → List ℕ
@@ -103,10 +114,6 @@ module _ (key : List ℕ) (hall : HallRows) where
   unfoldable pub call_line : List ℕ → Call → List ℕ
   call_line words call = words ++ call_text call ++ codes "\n"
 
-  -- two calls, each on a line
-  unfoldable pub two_calls_text : Call → Call → List ℕ
-  two_calls_text first second = call_line (codes "  ") first ++ call_line (codes "  ") second
-
   -- after those words a place in the order, and the call that stands there
   unfoldable pub placed_line : List ℕ → ℕ → Call → List ℕ
   placed_line words place call = words ++ decimal place ++ call_line (codes ": ") call
@@ -120,15 +127,6 @@ unknown_text key place op =
     ++ codes ", which is no call on " ++ key
     ++ codes "\n  so the order should list only calls on " ++ key ++ codes "\n"
 
--- the later call in the order was answered before the earlier one began
-unfoldable pub answered_before_line : HallRows → Call → Call → List ℕ
-answered_before_line hall earlier later =
-    codes "  call " ++ decimal later.op.0
-    ++ codes " was answered at line " ++ decimal (response_line hall later.response)
-    ++ codes ", before call " ++ decimal earlier.op.0
-    ++ codes " began at line " ++ decimal (line_at hall earlier.invoked)
-    ++ codes ", so it should stand before call " ++ decimal earlier.op.0 ++ codes "\n"
-
 module _ (key : List ℕ) (hall : HallRows) where
   -- the call stands at two places
   unfoldable pub twice_text : ℕ → ℕ → Call → List ℕ
@@ -137,34 +135,34 @@ module _ (key : List ℕ) (hall : HallRows) where
       ++ codes " again\n  so the order should list it once\n"
 
   -- the completed call isn't listed
-  unfoldable pub missing_text : Call → List ℕ
+  abbrev pub missing_text : Call → List ℕ
   missing_text call = call_line key hall (codes "  missing: ") call
       ++ codes "  it was answered, so the order should list it\n"
 
   -- a pending read is listed
-  unfoldable pub pending_text : PlacedCall → List ℕ
+  abbrev pub pending_text : PlacedCall → List ℕ
   pending_text read = placed_line key hall (codes "  place ") read.place read.call.now
       ++ codes "  a read that was not answered shows nothing, so the order should leave it out\n"
 
-  -- the last write before a read
-  unfoldable pub last_write_line : Option PlacedCall → List ℕ
-  last_write_line None = codes "  no write stands before it in the order\n"
-  last_write_line (Some last) =
-      placed_line key hall (codes "  the last write before it in the order is at place ")
-      last.place last.call.now
-
   -- the read answers another value than the last write before it wrote
   unfoldable pub wrong_answer_text : PlacedCall → Option PlacedCall → List ℕ
-  wrong_answer_text read last =
+  wrong_answer_text read None = placed_line key hall (codes "  place ") read.place read.call.now
+      ++ codes "  no write stands before it in the order\n" ++ due_line None
+  wrong_answer_text read (Some last) =
       placed_line key hall (codes "  place ") read.place read.call.now
-      ++ last_write_line last ++ due_line (last_value last)
+      ++ placed_line key hall (codes "  the last write before it in the order is at place ")
+      last.place last.call.now ++ due_line (last_value (Some last))
 
-  -- two calls stand against their precedence
+  -- two calls stand against their precedence: the later was answered before the earlier began
   unfoldable pub order_broken_text : PlacedCall → PlacedCall → List ℕ
   order_broken_text earlier later =
       placed_line key hall (codes "  place ") earlier.place earlier.call.now
       ++ placed_line key hall (codes "  place ") later.place later.call.now
-      ++ answered_before_line hall earlier.call.now later.call.now
+      ++ codes "  call " ++ decimal later.call.now.op.0
+      ++ codes " was answered at line " ++ decimal (response_line hall later.call.now.response)
+      ++ codes ", before call " ++ decimal earlier.call.now.op.0
+      ++ codes " began at line " ++ decimal (line_at hall earlier.call.now.invoked)
+      ++ codes ", so it should stand before call " ++ decimal earlier.call.now.op.0 ++ codes "\n"
 
   -- why a list is no order of the key's calls
   abbrev pub order_reason_text : OrderReason → List ℕ
@@ -182,36 +180,33 @@ unfoldable pub above_text : Action → Tag → List ℕ
 above_text Read tag = tag_text tag ++ codes " or above"
 above_text (Write value) tag = codes "above " ++ tag_text tag
 
--- the later call began after the earlier one was answered
-unfoldable pub began_after_line : HallRows → Call → Call → List ℕ
-began_after_line hall earlier later =
-    codes "  call " ++ decimal later.op.0
-    ++ codes " began at line " ++ decimal (line_at hall later.invoked)
-    ++ codes ", after call " ++ decimal earlier.op.0
-    ++ codes " was answered at line " ++ decimal (response_line hall earlier.response)
-    ++ codes ", so it should be noted "
-    ++ above_text later.action (unwrap_or earlier.note least) ++ codes "\n"
-
 module _ (key : List ℕ) (hall : HallRows) where
   -- the completed call has no note
-  unfoldable pub no_note_text : Call → List ℕ
+  abbrev pub no_note_text : Call → List ℕ
   no_note_text call = call_line key hall (codes "  ") call
       ++ codes "  it was answered, so it should have a note\n"
 
   -- the write has the least tag
-  unfoldable pub least_tag_text : Call → List ℕ
+  abbrev pub least_tag_text : Call → List ℕ
   least_tag_text write = call_line key hall (codes "  ") write
       ++ codes "  (0, 0) is the tag before the first write, so a write should be noted above it\n"
 
   -- two writes have one tag
-  unfoldable pub same_tag_text : Call → Call → List ℕ
+  abbrev pub same_tag_text : Call → Call → List ℕ
   same_tag_text earlier later =
-      two_calls_text key hall earlier later ++ codes "  two writes should not have one tag\n"
+      call_line key hall (codes "  ") earlier ++ call_line key hall (codes "  ") later
+      ++ codes "  two writes should not have one tag\n"
 
-  -- the later call's tag is too low
+  -- the later call's tag is too low: it began after the earlier one was answered
   unfoldable pub not_above_text : Call → Call → List ℕ
   not_above_text earlier later =
-      two_calls_text key hall earlier later ++ began_after_line hall earlier later
+      call_line key hall (codes "  ") earlier ++ call_line key hall (codes "  ") later
+      ++ codes "  call " ++ decimal later.op.0
+      ++ codes " began at line " ++ decimal (line_at hall later.invoked)
+      ++ codes ", after call " ++ decimal earlier.op.0
+      ++ codes " was answered at line " ++ decimal (response_line hall earlier.response)
+      ++ codes ", so it should be noted "
+      ++ above_text later.action (unwrap_or earlier.note least) ++ codes "\n"
 
   -- no write has the read's tag
   unfoldable pub no_write_text : Call → List ℕ
@@ -220,16 +215,13 @@ module _ (key : List ℕ) (hall : HallRows) where
       ++ tag_text (unwrap_or read.note least)
       ++ codes ", so the tag or the answer is from elsewhere\n"
 
-  -- the write whose tag a read has
-  unfoldable pub write_of_tag_text : Option (Bor Call) → List ℕ
-  write_of_tag_text None = codes "  (0, 0) is the tag before the first write\n"
-  write_of_tag_text (Some write) = call_line key hall (codes "  ") write.now
-      ++ codes "  the read has the tag of that write\n"
-
-  -- the read answers another value than its tag stands for
+  -- the read answers another value than its tag stands for: the write's, or, without one, none
   unfoldable pub other_value_text : Call → Option (Bor Call) → List ℕ
-  other_value_text read write = call_line key hall (codes "  ") read
-      ++ write_of_tag_text write ++ due_line (tag_value write)
+  other_value_text read None = call_line key hall (codes "  ") read
+      ++ codes "  (0, 0) is the tag before the first write\n" ++ due_line None
+  other_value_text read (Some write) = call_line key hall (codes "  ") read
+      ++ call_line key hall (codes "  ") write.now
+      ++ codes "  the read has the tag of that write\n" ++ due_line (tag_value (Some write))
 
   -- the calls that break a rule of tags, and how
   abbrev pub broken_text : TagReason → List ℕ
@@ -246,9 +238,11 @@ hint_text (tag_reason.NoNote call) =
     codes "an answer before the call was noted, or a log that lost a line"
 hint_text (tag_reason.LeastTag write) = codes "a write that takes its tag without asking"
 hint_text (tag_reason.SameTag earlier later) =
-    codes "a write that takes its tag without asking, or quorums that do not meet"
+    codes "a write that takes its tag without asking, quorums that do not meet, "
+    ++ codes "stale replies that are counted, or a replica that forgets"
 hint_text (tag_reason.NotAbove earlier later) =
-    codes "a read without its write-back, quorums that do not meet, or a tag taken without asking"
+    codes "a read without its write-back, quorums that do not meet, a tag taken without asking, "
+    ++ codes "stale replies that are counted, or a replica that forgets"
 hint_text (tag_reason.NoWrite read) =
     codes "a value or a tag that no recorded write stored, or a log that lost a line"
 hint_text (tag_reason.OtherValue read write) =

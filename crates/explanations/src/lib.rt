@@ -8,6 +8,8 @@
 mod calls;
 mod hall_rows;
 mod order_sentences;
+mod pieces;
+mod quoted;
 mod rules;
 mod tag_sentences;
 mod words;

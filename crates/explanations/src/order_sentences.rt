@@ -1,187 +1,107 @@
 //! Why a list is no order, in sentences.
-ghost use Rattle.std.specs.Prelude.{◌≡◌, ◌++◌, option_copied, OnOk};
-ghost use Rattle.reasons.specs.OrderReasons.{last_value};
-ghost use Rattle.explanations.specs.Sentences.{answered_before_line, last_write_line, missing_text};
-ghost use Rattle.explanations.specs.Sentences.{order_broken_text, order_reason_text, pending_text};
-ghost use Rattle.explanations.specs.Sentences.{placed_line, twice_text, unknown_text};
-ghost use Rattle.explanations.specs.Sentences.{wrong_answer_text};
+ghost use Rattle.std.specs.Prelude.{◌≡◌, ◌++◌, OnOk};
+ghost use Rattle.explanations.specs.Sentences.{order_broken_text, order_reason_text, twice_text};
+ghost use Rattle.explanations.specs.Sentences.{unknown_text, wrong_answer_text};
 
-use crate::calls::append_call_line;
 use crate::hall_rows::HallRows;
-use crate::words::{append, append_due, append_number, append_op, written_by};
+use crate::pieces::{Piece, Subject};
+use crate::words::written_by;
 use reasons::{OrderReason, PlacedCall};
-use recorder::Call;
-use tag::{Key, Memory, OpId, Value};
+use tag::{Key, Memory, OpId};
 
-/// Adds the words, the place, and the call that stands there.
-#[tactic(auto, unfolding(crate::specs::Sentences::placed_line))]
-fn append_placed(
-    text: &mut Vec<u8>,
-    key: &Key,
-    hall: &HallRows<'_>,
-    words: &str,
-    place: usize,
-    call: &Call,
-) -> Result<(), Memory>
-    ensures { OnOk result (text.new.items
-        ≡ text.old.items ++ placed_line key.now hall.now words.now place call.now) }
-{
-    append_number(text, words, place as u64)?;
-    append_call_line(text, key, hall, ": ", call)
-}
+impl Subject<'_, '_> {
+    /// Says that the call at that place is none on the key.
+    #[tactic(auto, unfolding(crate::specs::Sentences::unknown_text))]
+    fn say_unknown(&self, text: &mut Vec<u8>, place: usize, op: OpId) -> Result<(), Memory>
+        ensures { OnOk result (text.new.items
+            ≡ text.old.items ++ unknown_text self.now.key.now place op) }
+    {
+        let pieces = [
+            Piece::Number("  place ", place as u64),
+            Piece::Op(": call ", op),
+            Piece::Key(", which is no call on "),
+            Piece::Key("\n  so the order should list only calls on "),
+            Piece::Words("\n"),
+        ];
+        self.say(text, &pieces)
+    }
 
-/// Says that the call at that place is none on the key.
-fn append_unknown(text: &mut Vec<u8>, key: &Key, place: usize, op: OpId) -> Result<(), Memory>
-    ensures { OnOk result (text.new.items ≡ text.old.items ++ unknown_text key.now place op) }
-{
-    append_number(text, "  place ", place as u64)?;
-    append_op(text, ": call ", op)?;
-    append(text, ", which is no call on ")?;
-    append(text, key.as_str())?;
-    append(text, "\n  so the order should list only calls on ")?;
-    append(text, key.as_str())?;
-    append(text, "\n")
-}
+    /// Says that the call stands at two places.
+    #[tactic(auto, unfolding(crate::specs::Sentences::twice_text))]
+    fn say_twice(
+        &self,
+        text: &mut Vec<u8>,
+        first: PlacedCall<'_>,
+        place: usize,
+    ) -> Result<(), Memory>
+        ensures { OnOk result (text.new.items ≡ text.old.items
+            ++ twice_text self.now.key.now self.now.hall first.entry.place place first.entry.call.now) }
+    {
+        let pieces = [
+            Piece::Placed("  place ", first),
+            Piece::Number("  place ", place as u64),
+            Piece::Op(": call ", first.call.op),
+            Piece::Words(" again\n  so the order should list it once\n"),
+        ];
+        self.say(text, &pieces)
+    }
 
-/// Says that the call stands at two places.
-fn append_twice(
-    text: &mut Vec<u8>,
-    key: &Key,
-    hall: &HallRows<'_>,
-    earlier: usize,
-    place: usize,
-    call: &Call,
-) -> Result<(), Memory>
-    ensures { OnOk result
-        (text.new.items ≡ text.old.items ++ twice_text key.now hall.now earlier place call.now) }
-{
-    append_placed(text, key, hall, "  place ", earlier, call)?;
-    append_number(text, "  place ", place as u64)?;
-    append_op(text, ": call ", call.op)?;
-    append(text, " again\n  so the order should list it once\n")
-}
-
-/// Says that the completed call isn't listed.
-#[tactic(auto, unfolding(crate::specs::Sentences::missing_text))]
-fn append_missing(
-    text: &mut Vec<u8>,
-    key: &Key,
-    hall: &HallRows<'_>,
-    call: &Call,
-) -> Result<(), Memory>
-    ensures { OnOk result
-        (text.new.items ≡ text.old.items ++ missing_text key.now hall.now call.now) }
-{
-    append_call_line(text, key, hall, "  missing: ", call)?;
-    append(text, "  it was answered, so the order should list it\n")
-}
-
-/// Says that a pending read is listed.
-#[tactic(auto, unfolding(crate::specs::Sentences::pending_text))]
-fn append_pending(
-    text: &mut Vec<u8>,
-    key: &Key,
-    hall: &HallRows<'_>,
-    read: &PlacedCall<'_>,
-) -> Result<(), Memory>
-    ensures { OnOk result
-        (text.new.items ≡ text.old.items ++ pending_text key.now hall.now read.now) }
-{
-    append_placed(text, key, hall, "  place ", read.place, read.call)?;
-    append(
-        text,
-        "  a read that was not answered shows nothing, so the order should leave it out\n",
-    )
-}
-
-/// Says the last write before a read.
-#[tactic(auto, unfolding(crate::specs::Sentences::last_write_line))]
-fn append_last_write(
-    text: &mut Vec<u8>,
-    key: &Key,
-    hall: &HallRows<'_>,
-    last: Option<PlacedCall<'_>>,
-) -> Result<(), Memory>
-    ensures { OnOk result
-        (text.new.items ≡ text.old.items ++ last_write_line key.now hall.now last.entry) }
-{
-    match last {
-        None => append(text, "  no write stands before it in the order\n"),
-        Some(last) => {
-            let words = "  the last write before it in the order is at place ";
-            append_placed(text, key, hall, words, last.place, last.call)
+    /// Says that the read answers another value than the last write before it wrote.
+    #[tactic(auto, unfolding(crate::specs::Sentences::wrong_answer_text))]
+    fn say_wrong_answer<'c>(
+        &self,
+        text: &mut Vec<u8>,
+        read: PlacedCall<'c>,
+        last: Option<PlacedCall<'c>>,
+    ) -> Result<(), Memory>
+        ensures { OnOk result (text.new.items ≡ text.old.items
+            ++ wrong_answer_text self.now.key.now self.now.hall read.entry last.entry) }
+    {
+        let placed = Piece::Placed("  place ", read);
+        match last {
+            None => {
+                let none = Piece::Words("  no write stands before it in the order\n");
+                self.say(text, &[placed, none, Piece::Due(None)])
+            }
+            Some(last) => {
+                let due = Piece::Due(written_by(&last.call.action));
+                let words = "  the last write before it in the order is at place ";
+                self.say(text, &[placed, Piece::Placed(words, last), due])
+            }
         }
     }
-}
 
-/// The value that the last write wrote, if there is one.
-fn last_value<'a>(last: Option<PlacedCall<'a>>) -> Option<&'a Value>
-    ensures { option_copied result ≡ last_value last.entry }
-{
-    match last {
-        None => None,
-        Some(last) => written_by(&last.call.action),
+    /// Says that two calls stand against their precedence: the later one was answered before the
+    /// earlier one began.
+    #[tactic(auto, unfolding(crate::specs::Sentences::order_broken_text))]
+    fn say_broken<'c>(
+        &self,
+        text: &mut Vec<u8>,
+        earlier: PlacedCall<'c>,
+        later: PlacedCall<'c>,
+    ) -> Result<(), Memory>
+        ensures { OnOk result (text.new.items ≡ text.old.items
+            ++ order_broken_text self.now.key.now self.now.hall earlier.entry later.entry) }
+    {
+        let answered = self.hall.response_line(&later.call.response);
+        let began = self.hall.line_at(earlier.call.invoked);
+        let pieces = [
+            Piece::Placed("  place ", earlier),
+            Piece::Placed("  place ", later),
+            Piece::Op("  call ", later.call.op),
+            Piece::Number(" was answered at line ", answered),
+            Piece::Op(", before call ", earlier.call.op),
+            Piece::Number(" began at line ", began),
+            Piece::Op(", so it should stand before call ", earlier.call.op),
+            Piece::Words("\n"),
+        ];
+        self.say(text, &pieces)
     }
-}
-
-/// Says that the read answers another value than the last write before it wrote.
-fn append_wrong_answer(
-    text: &mut Vec<u8>,
-    key: &Key,
-    hall: &HallRows<'_>,
-    read: &PlacedCall<'_>,
-    last: Option<PlacedCall<'_>>,
-) -> Result<(), Memory>
-    ensures { OnOk result (text.new.items
-        ≡ text.old.items ++ wrong_answer_text key.now hall.now read.now last.entry) }
-{
-    append_placed(text, key, hall, "  place ", read.place, read.call)?;
-    append_last_write(text, key, hall, last)?;
-    append_due(text, last_value(last))
-}
-
-/// Says that the later call was answered before the earlier one began.
-fn append_answered_before(
-    text: &mut Vec<u8>,
-    hall: &HallRows<'_>,
-    earlier: &Call,
-    later: &Call,
-) -> Result<(), Memory>
-    ensures { OnOk result (text.new.items
-        ≡ text.old.items ++ answered_before_line hall.now earlier.now later.now) }
-{
-    append_op(text, "  call ", later.op)?;
-    append_number(
-        text,
-        " was answered at line ",
-        hall.response_line(&later.response),
-    )?;
-    append_op(text, ", before call ", earlier.op)?;
-    append_number(text, " began at line ", hall.line_at(earlier.invoked))?;
-    append_op(text, ", so it should stand before call ", earlier.op)?;
-    append(text, "\n")
-}
-
-/// Says that two calls stand against their precedence.
-#[tactic(auto, unfolding(crate::specs::Sentences::order_broken_text))]
-fn append_broken(
-    text: &mut Vec<u8>,
-    key: &Key,
-    hall: &HallRows<'_>,
-    earlier: &PlacedCall<'_>,
-    later: &PlacedCall<'_>,
-) -> Result<(), Memory>
-    ensures { OnOk result (text.new.items
-        ≡ text.old.items ++ order_broken_text key.now hall.now earlier.now later.now) }
-{
-    append_placed(text, key, hall, "  place ", earlier.place, earlier.call)?;
-    append_placed(text, key, hall, "  place ", later.place, later.call)?;
-    append_answered_before(text, hall, earlier.call, later.call)
 }
 
 /// Says why a list is no order of the calls on the key, which have their rows in the hall.
 ///
-/// Without memory what was said before may be lost too.
+/// Without memory the text may end within a sentence.
 pub fn append_order_reason(
     text: &mut Vec<u8>,
     key: &Key,
@@ -191,20 +111,30 @@ pub fn append_order_reason(
     ensures { OnOk result
         (text.new.items ≡ text.old.items ++ order_reason_text key.now hall.now reason.now) }
 {
+    let subject = Subject { key, hall: *hall };
     match reason {
-        OrderReason::UnknownCall { place, op } => append_unknown(text, key, *place, *op),
+        OrderReason::UnknownCall { place, op } => subject.say_unknown(text, *place, *op),
         OrderReason::CallTwice {
             earlier,
             place,
             call,
-        } => append_twice(text, key, hall, *earlier, *place, call),
-        OrderReason::MissingCall { call } => append_missing(text, key, hall, call),
-        OrderReason::PendingRead { read } => append_pending(text, key, hall, read),
-        OrderReason::WrongAnswer { read, last } => {
-            append_wrong_answer(text, key, hall, read, *last)
+        } => {
+            let first = PlacedCall {
+                place: *earlier,
+                call,
+            };
+            subject.say_twice(text, first, *place)
         }
-        OrderReason::OrderBroken { earlier, later } => {
-            append_broken(text, key, hall, earlier, later)
+        OrderReason::MissingCall { call } => {
+            let due = "  it was answered, so the order should list it\n";
+            subject.say(text, &[Piece::Line("  missing: ", call), Piece::Words(due)])
         }
+        OrderReason::PendingRead { read } => {
+            let due =
+                "  a read that was not answered shows nothing, so the order should leave it out\n";
+            subject.say(text, &[Piece::Placed("  place ", *read), Piece::Words(due)])
+        }
+        OrderReason::WrongAnswer { read, last } => subject.say_wrong_answer(text, *read, *last),
+        OrderReason::OrderBroken { earlier, later } => subject.say_broken(text, *earlier, *later),
     }
 }

@@ -1,12 +1,10 @@
 //! What sentences are made of: words, numbers, tags and values.
 ghost use Rattle.std.specs.Prelude.{◌≡◌, ◌++◌, decimal, option_copied, OnOk};
-ghost use Rattle.json.specs.Print.{quoted};
 ghost use Rattle.reasons.specs.Calls.{written_by};
-ghost use Rattle.explanations.specs.Sentences.{due_line, tag_text, value_text};
+ghost use Rattle.explanations.specs.Sentences.{above_text, due_line, tag_text, value_text};
 
+use crate::quoted::append_quoted;
 use itoa::Buffer;
-use json::Writer;
-use std::mem;
 use tag::{Action, Memory, OpId, Tag, Value};
 
 /// Adds the words.
@@ -43,17 +41,6 @@ pub(crate) fn append_tag(text: &mut Vec<u8>, tag: Tag) -> Result<(), Memory>
     append(text, ")")
 }
 
-/// Adds the value as a JSON string, with its escapes. Without memory all bytes are lost.
-fn append_quoted(text: &mut Vec<u8>, value: &str) -> Result<(), Memory>
-    ensures { OnOk result (text.new.items ≡ text.old.items ++ quoted value.now) }
-{
-    let alloc = *text.allocator();
-    let mut writer = Writer::new(mem::replace(text, Vec::new(alloc)));
-    writer.string(value)?;
-    *text = writer.into_inner();
-    Ok(())
-}
-
 /// Adds the value as a JSON text, or `null` where there is none.
 #[tactic(auto, unfolding(crate::specs::Sentences::value_text))]
 pub(crate) fn append_value(text: &mut Vec<u8>, value: Option<&Value>) -> Result<(), Memory>
@@ -85,4 +72,21 @@ pub(crate) fn append_due(text: &mut Vec<u8>, value: Option<&Value>) -> Result<()
     append(text, "  so the read should have answered ")?;
     append_value(text, value)?;
     append(text, "\n")
+}
+
+/// Adds the tags that a call of that action may have after a call that is noted with the tag.
+#[tactic(auto, unfolding(crate::specs::Sentences::above_text))]
+pub(crate) fn append_above(text: &mut Vec<u8>, action: &Action, tag: Tag) -> Result<(), Memory>
+    ensures { OnOk result (text.new.items ≡ text.old.items ++ above_text action.now tag) }
+{
+    match action {
+        Action::Read => {
+            append_tag(text, tag)?;
+            append(text, " or above")
+        }
+        Action::Write(_) => {
+            append(text, "above ")?;
+            append_tag(text, tag)
+        }
+    }
 }

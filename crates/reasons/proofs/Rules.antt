@@ -26,10 +26,12 @@ module _ (part : List Call) (sequence : IsSequence part) where
   pub least_found : (P : Call → Type 0) (op : OpId) (call : Call) → IsLeastCall part P op → IsCallOf part op call → P call
   least_found P op call is found = subst P (one_call is.call call op is.recorded is.number found) is.has
 
-  pub pair_found : (R : Call → Call → Type 0) (a b : OpId) (earlier later : Call) → IsLeastPair part R a b → IsCallOf part a earlier → IsCallOf part b later → R earlier later
-  pair_found R a b earlier later is first second =
+  -- two calls that were found break the rule of the two that are spoken of
+  pub pair_breaks : (R : Call → Call → Type 0) (a b : OpId) (earlier later : Call) → IsLeastPair part R a b → IsCallOf part a earlier
+      → IsCallOf part b later → Contains part earlier × Contains part later × R earlier later
+  pair_breaks R a b earlier later is first second =
       let one : is.call ≡ later = one_call is.call later b is.recorded is.number second in
-      subst (R earlier) one (least_found (λ (x : Call). R x is.call) a earlier is.partner first)
+      (first.0, second.0, subst (R earlier) one (least_found (λ (x : Call). R x is.call) a earlier is.partner first))
 
   -- a read that answers another value than the least tag stands for
   pub absent_found : (read : OpId) (call : Call) → IsOtherValue part read None → IsCallOf part read call → (call.note ≡ Some least) × AnswersNot call None
@@ -61,16 +63,11 @@ module _ (part : List Call) (sound : TagSound part) where
   not_above a b broken in_a in_b s t first second (inl below) =
       elim (sound.rising a b s t broken.precedes (record { recorded = in_a; noted = first }) (record { recorded = in_b; noted = second })) [
         | inl h ↦ omega arith
-        | inr e ↦
-            let number : s.number ≡ t.number = ap (λ (u : Tag). u.number) e in
-            let writer : s.writer ≡ t.writer = ap (λ (u : Tag). u.writer) e in
-            omega arith
+        | inr e ↦ omega (arith, ap (λ (u : Tag). u.number) e, ap (λ (u : Tag). u.writer) e)
       ]
   not_above a b broken in_a in_b s t first second (inr w) =
       let h : IsBelow s t = sound.rising_to_writes a b s t w.0 broken.precedes (record { recorded = in_a; noted = first }) (record { recorded = in_b; noted = second }) in
-      let number : s.number ≡ t.number = ap (λ (u : Tag). u.number) w.1 in
-      let writer : s.writer ≡ t.writer = ap (λ (u : Tag). u.writer) w.1 in
-      omega arith
+      omega (arith, ap (λ (u : Tag). u.number) w.1, ap (λ (u : Tag). u.writer) w.1)
 
   other_value : (read : Call) (write : Option (Bor Call)) → Contains part read → IsWriteOfTag part read write → AnswersNot read (tag_value write) → ⊥
   other_value read None there noted answers =

@@ -1,22 +1,20 @@
 use Rattle.tag_check.specs.Rules.{ShareTag, IsNotAbove, AnswersNoWrite}
-use Rattle.reasons.proofs.Rules.{least_found, pair_found, absent_found, write_found}
+use Rattle.reasons.proofs.Rules.{least_found, pair_breaks, absent_found, write_found}
 use Rattle.reasons.proofs.tag_reasons.reason_of.Goals as goal
 
 pub returns-in-SameTag : goal.returns-in-SameTag
 returns-in-SameTag c =
-    let broken = rw c.in-SameTag.is at c.requires.broken in
     let first = c.call_of-in-SameTag in
     let second = c.call_of-in-SameTag-2 in
-    let found = pair_found c.args.calls.now c.requires.sequence ShareTag c.in-SameTag.earlier c.in-SameTag.later first.result.now second.result.now broken first.ensures second.ensures in
-    (cc (first.ensures.1, second.ensures.1, c.in-SameTag.is), (first.ensures.0, second.ensures.0, found))
+    let breaks = pair_breaks c.args.calls.now c.requires.sequence ShareTag c.in-SameTag.earlier c.in-SameTag.later first.result.now second.result.now (rw c.in-SameTag.is at c.requires.broken) first.ensures second.ensures in
+    (cc (first.ensures.1, second.ensures.1, c.in-SameTag.is), breaks)
 
 pub returns-in-NotAbove : goal.returns-in-NotAbove
 returns-in-NotAbove c =
-    let broken = rw c.in-NotAbove.is at c.requires.broken in
     let first = c.call_of-in-NotAbove in
     let second = c.call_of-in-NotAbove-2 in
-    let found = pair_found c.args.calls.now c.requires.sequence IsNotAbove c.in-NotAbove.earlier c.in-NotAbove.later first.result.now second.result.now broken first.ensures second.ensures in
-    (cc (first.ensures.1, second.ensures.1, c.in-NotAbove.is), (first.ensures.0, second.ensures.0, found))
+    let breaks = pair_breaks c.args.calls.now c.requires.sequence IsNotAbove c.in-NotAbove.earlier c.in-NotAbove.later first.result.now second.result.now (rw c.in-NotAbove.is at c.requires.broken) first.ensures second.ensures in
+    (cc (first.ensures.1, second.ensures.1, c.in-NotAbove.is), breaks)
 
 pub returns-in-NoWrite : goal.returns-in-NoWrite
 returns-in-NoWrite c =
