@@ -1,9 +1,9 @@
 -- What a read's tag stands for, and what it answers.
-use Rattle.std.proofs.Common.{ℕ, ◌≡◌, ◌≢◌, ◌↔◌, Bool, true, not, List, Option, Some, None, length, refl, ap, sym, ◌∙◌, subst}
+use Rattle.std.proofs.Common.{ℕ, ◌≡◌, ◌≢◌, ◌<◌, ◌≤◌, ◌+◌, true, false, List, Option, Some, None, length, refl, ap, sym, ◌∙◌, subst, arith}
 use Rattle.std.specs.List.{slice_get, Contains}
 use Rattle.std.specs.BTreeMap.{BTreeMap, get}
-use Rattle.std.specs.Option.{is_some}
-use Rattle.std.proofs.lemmas.Bool.{false≢true, not_from_true, not_from_false}
+use Rattle.std.specs.Option.{is_some, MatchOption}
+use Rattle.std.proofs.lemmas.Bool.{false≢true}
 use Rattle.std.proofs.lemmas.Option.{none-some, same_Some, slice_get_within}
 use Rattle.tag.specs.declared.actions.Action.TheVariants.{Write}
 use Rattle.tag.specs.declared.actions.Returned.TheVariants.{Value}
@@ -11,8 +11,10 @@ use Rattle.tag.specs.declared.numbers.OpId.{OpId}
 use Rattle.tag.specs.Tags.{Tag, least, tag_cmp}
 use Rattle.recorder.specs.declared.part.Call.{Call}
 use Rattle.recorder.specs.declared.part.Response.{Response}
+use Rattle.recorder.specs.Parts.{IsSequence}
+use Rattle.tag_check.proofs.Calls.{first_here, all_more}
 use Rattle.tag.proofs.Lists.{place_of, Contains-slice_get}
-use Rattle.tag_check.specs.Rules.{IsWriteOf, IsWriteWith, IsValueOf, IsAnsweredRead, AnswersNoWrite, AnswersRight, AnswersAnother}
+use Rattle.tag_check.specs.Rules.{IsWriteOf, IsWriteWith, IsValueOf, AnswersNoWrite, AnswersRight, AllAnswerRight, AnswersOther, AnswersAnother, IsOtherValue}
 use Rattle.tag_check.specs.Writes.{AreWrites}
 
 -- a tag without an index has no write
@@ -75,16 +77,53 @@ right_not_another calls call right found =
     let other = found.1 in
     other.other (right other.tag found.0 other.value other.response other.reads other.noted other.responds other.stands)
 
--- whether a read of another tag than the least answers without a write is whether its tag has no index
-pub lacks_write_exactly : (calls : List Call) (writes : BTreeMap Tag ℕ) → AreWrites calls (length calls) writes → (call : Call) (tag : Tag) → IsAnsweredRead call tag → tag ≢ least → (found : Option ℕ) → get tag_cmp writes tag ≡ found → (b : Bool) → b ≡ is_some found → (not b ≡ true) ↔ AnswersNoWrite calls call
-lacks_write_exactly calls writes are call tag answered other None none b e = (
-  λ _. record { tag = tag; answered = answered; other = other; unwritten = no_write calls writes are tag none },
-  λ _. not_from_false b e,
-)
-lacks_write_exactly calls writes are call tag answered other (Some k) has b e = (
-  λ yes. absurd (false≢true (sym (not_from_true b e) ∙ yes)),
-  λ h.
-      let same : tag ≡ h.tag = same_Some tag h.tag (sym answered.2 ∙ h.answered.2) in
-      let real = (are.real tag k has).1 in
-      absurd (h.unwritten real.0 (Contains-slice_get calls k real.0 real.1) (subst (IsWriteOf real.0) same real.2)),
-)
+-- what a tag stands for is written, or it is the least
+has_write : (calls : List Call) (tag other : Tag) → tag ≡ other → (write : Option OpId) (value : Option (List ℕ)) → IsValueOf calls tag write value
+    → other ≢ least → ((call : Call) → Contains calls call → IsWriteOf call other → ⊥) → ⊥
+has_write calls tag other same None value stands above unwritten = above (sym same ∙ stands.0)
+has_write calls tag other same (Some op) value stands above unwritten =
+    unwritten stands.2.write stands.2.recorded ((stands.1, stands.2.writes), stands.2.noted ∙ ap Some same)
+
+-- a read whose tag stands for something has a write, if it isn't the least
+pub stands_not_without : (calls : List Call) (call : Call) (tag : Tag) (write : Option OpId) (value : Option (List ℕ)) → call.note ≡ Some tag
+    → IsValueOf calls tag write value → AnswersNoWrite calls call → ⊥
+stands_not_without calls call tag write value noted stands h =
+    has_write calls tag h.tag (same_Some tag h.tag (sym noted ∙ h.answered.2)) write value stands h.other h.unwritten
+
+-- of the calls below index i the first that answers another value, with its write
+abbrev pub IsFirstOther : List Call → ℕ → Option (OpId × Option OpId) → Type 0
+IsFirstOther calls i other =
+    MatchOption other ((m : ℕ) (call : Call) → m < i → slice_get calls m ≡ Some call → AnswersRight calls call)
+    (λ found. IsOtherValue calls found.0 found.1)
+
+-- a call that answers right changes nothing
+pub first_right : (calls : List Call) (i : ℕ) (call : Call) (other : Option (OpId × Option OpId)) → slice_get calls i ≡ Some call → AnswersRight calls call
+    → IsFirstOther calls i other → IsFirstOther calls (i + 1) other
+first_right calls i call None at right before = all_more calls (AnswersRight calls) i call at right before
+first_right calls i call (Some found) at right before = before
+
+-- where one was found, the later ones change nothing
+pub first_stays : (calls : List Call) (i : ℕ) (other : Option (OpId × Option OpId)) → is_some other ≡ true → IsFirstOther calls i other
+    → IsFirstOther calls (i + 1) other
+first_stays calls i None some before = absurd (false≢true some)
+first_stays calls i (Some found) some before = before
+
+-- a call that answers another value, where none before it does
+pub first_found : (calls : List Call) → IsSequence calls → (i : ℕ) (call : Call) (write : Option OpId) (other : Option (OpId × Option OpId))
+    → slice_get calls i ≡ Some call → AnswersOther calls call write → is_some other ≡ false → IsFirstOther calls i other → IsOtherValue calls call.op write
+first_found calls sequence i call write None at found none before = record {
+  call = call;
+  recorded = Contains-slice_get calls i call at;
+  number = refl;
+  first = first_here calls sequence (AnswersAnother calls) i call at (write, found) (λ m earlier less there h. right_not_another calls earlier (before m earlier less there) h);
+  other = found;
+}
+first_found calls sequence i call write (Some first) at found none before = absurd (false≢true (sym none))
+
+-- the first of all calls
+pub first_all : (calls : List Call) (i : ℕ) (other : Option (OpId × Option OpId)) → length calls ≤ i → IsFirstOther calls i other
+    → MatchOption other (AllAnswerRight calls) (λ found. IsOtherValue calls found.0 found.1)
+first_all calls i None past before = λ call there.
+    let k = place_of calls call there in
+    before k.0 call (omega (arith, slice_get_within calls k.0 call k.1)) k.1
+first_all calls i (Some found) past before = before

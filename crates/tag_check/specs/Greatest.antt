@@ -1,5 +1,5 @@
 -- The greatest tag of the calls that were answered before a place.
-use Rattle.std.specs.Prelude.{ℕ, ◌≡◌, ◌<◌, ◌+◌, ◌⊎◌, length, slice_get, Contains}
+use Rattle.std.specs.Prelude.{ℕ, ◌≡◌, ◌<◌, ◌+◌, ◌≤◌, ◌↔◌, ◌⊎◌, length, slice_get, Contains}
 use Rattle.std.specs.Prelude.{List, Option, Some, None}
 use Rattle.tag.specs.Tags.{Tag, IsBelow}
 use Rattle.recorder.specs.declared.part.Call.{Call}
@@ -23,6 +23,11 @@ pub record IsAnsweredBefore (part : List Call) (place : ℕ) (tag : Tag) : Type 
   pub noted : call.note ≡ Some tag
   pub responds : call.response ≡ Some response
   pub before : response.place < place
+
+-- the first n calls, and no others, began at that place of the history or before it
+abbrev pub IsBegunBy : List Call → ℕ → ℕ → Type 0
+IsBegunBy calls place n = (j : ℕ) (call : Call) → slice_get calls j ≡ Some call
+    → (j < n) ↔ (call.invoked ≤ place)
 
 -- one of the first i tags
 abbrev pub HasTagBelow : List (Option Tag) → ℕ → Tag → Type 0

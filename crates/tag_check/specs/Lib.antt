@@ -4,3 +4,4 @@ pub mod Verdicts
 pub mod Numbers
 pub mod Greatest
 pub mod Writes
+pub mod Answers

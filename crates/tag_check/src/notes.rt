@@ -1,24 +1,35 @@
 //! The notes of a part's calls, which are judged rule by rule.
-ghost use Rattle.std.specs.Prelude.{◌≡◌, ◌<◌, ◌≤◌, ◌↔◌, ℕ, IfOk, IsTrue, MatchResult, MatchOption};
-ghost use Rattle.std.specs.Prelude.{Some, slice_get, length};
-ghost use Rattle.recorder.specs.declared.part.Call.{Call};
+ghost use Rattle.std.specs.Prelude.{◌≡◌, ◌≤◌, IfOk, IfSome, MatchResult, MatchOption, length};
+ghost use Rattle.std.specs.BTreeMap.{get};
 ghost use Rattle.recorder.specs.Parts.{IsSequence};
-ghost use Rattle.tag_check.specs.Least.{IsFirstCall, IsLeastPair, LacksCall, HasNoPair};
+ghost use Rattle.tag.specs.Tags.{tag_cmp};
+ghost use Rattle.tag_check.specs.Least.{IsFirstCall, IsLeastCall, IsLeastPair, LacksCall, HasNoPair};
 ghost use Rattle.tag_check.specs.Rules.{LacksNote, IsLeastWrite, ShareTag, IsNotAbove};
-ghost use Rattle.tag_check.specs.Rules.{AnswersNoWrite, AnswersRight, AllAnswerRight, AnswersOther};
+ghost use Rattle.tag_check.specs.Rules.{AnswersNoWrite, AllAnswerRight};
 ghost use Rattle.tag_check.specs.Rules.{IsOtherValue, IsWriteOf, IsWriteWith};
-ghost use Rattle.tag_check.specs.Writes.{AreWrites};
-ghost use Rattle.tag_check.specs.Greatest.{AreAnsweredTags};
+ghost use Rattle.tag_check.specs.Answers.{IsAnswer};
+ghost use Rattle.tag_check.specs.Writes.{AreWrites, HasWriteAt};
+ghost use Rattle.tag_check.specs.Greatest.{AreAnsweredTags, IsBegunBy};
 
 use crate::BrokenRule;
 use crate::tags::{
-    answers, falls, greater, is_least, is_least_write, is_not_above, lacks_note, read_tag,
-    write_tag,
+    answers, falls, greater, is_least, is_least_write, is_not_above, is_write_of, lacks_note,
+    read_tag, write_tag,
 };
 use recorder::Call;
 use std::alloc::Global;
 use std::collections::BTreeMap;
 use tag::{Action, Memory, OpId, Tag, Value};
+
+/// What a call answers, beside what its tag stands for.
+enum Answer {
+    /// What it stands for; or the call is no read, has no response or no note.
+    Right,
+    /// A read's tag isn't the least, and no write has it.
+    NoWrite,
+    /// Another value: the tag is that write's, or the least.
+    Other(Option<OpId>),
+}
 
 /// The calls of a part, whose notes are judged.
 #[derive(Drop)]
@@ -58,10 +69,11 @@ impl<'a> Notes<'a> {
         if let Some((earlier, later)) = self.first_not_above(alloc)? {
             return Ok(Some(BrokenRule::NotAbove(earlier, later)));
         }
-        if let Some(read) = self.first_without_write(&writes) {
-            return Ok(Some(BrokenRule::NoWrite(read)));
-        }
-        if let Some((read, write)) = self.first_other_value(&writes) {
+        let other = match self.first_other_value(&writes) {
+            Ok(other) => other,
+            Err(read) => return Ok(Some(BrokenRule::NoWrite(read))),
+        };
+        if let Some((read, write)) = other {
             return Ok(Some(BrokenRule::OtherValue(read, write)));
         }
         Ok(None)
@@ -101,22 +113,37 @@ impl<'a> Notes<'a> {
         let mut writes = BTreeMap::new(alloc);
         for (i, call) in self.calls.iter().enumerate() {
             if let Some(tag) = write_tag(call) {
-                if let Some(k) = writes.get(&tag) {
-                    return Ok(Err((self.calls[*k].op, call.op)));
+                if let Some(k) = writes.insert(tag, i)? {
+                    return Ok(Err((self.calls[k].op, call.op)));
                 }
-                writes.insert(tag, i)?;
             }
         }
         Ok(Ok(writes))
     }
 
-    /// How many calls began at that place of the history or before it.
-    fn begun_by(&self, place: usize) -> usize
+    /// How many calls began at that place of the history or before it, looked for from `near` on.
+    fn begun_by(&self, place: usize, near: usize) -> usize
         ensures most { result ≤ length self.now.calls.now }
-        ensures begun { (j : ℕ) (call : Call) → slice_get self.now.calls.now j ≡ Some call
-            → (j < result) ↔ (call.invoked ≤ place) }
+        ensures begun { IsBegunBy self.now.calls.now place result }
     {
-        self.calls.partition_point(|call| call.invoked <= place)
+        match self.begun_near(place, near) {
+            Some(begun) => begun,
+            None => self.calls.partition_point(|call| call.invoked <= place),
+        }
+    }
+
+    /// The same, if it is `near` or one of the 15 numbers after it.
+    fn begun_near(&self, place: usize, near: usize) -> Option<usize>
+        ensures most { IfSome result (λ begun. begun ≤ length self.now.calls.now) }
+        ensures begun { IfSome result (λ begun. IsBegunBy self.now.calls.now place begun) }
+    {
+        let end = self.calls.len().min(near.saturating_add(16));
+        for next in near.max(1)..end {
+            if self.calls[next - 1].invoked <= place && place < self.calls[next].invoked {
+                return Some(next);
+            }
+        }
+        None
     }
 
     /// Beside each call the greatest tag of the calls that were answered before it began, and not
@@ -128,7 +155,7 @@ impl<'a> Notes<'a> {
         let mut tags = vec![in alloc; None; self.calls.len()]?;
         for (i, call) in self.calls.iter().enumerate() {
             if let Some(response) = &call.response {
-                let next = self.begun_by(response.place);
+                let next = self.begun_by(response.place, i + 1);
                 if next < tags.len() {
                     tags[next] = greater(tags[next], call.note);
                 }
@@ -181,83 +208,94 @@ impl<'a> Notes<'a> {
         None
     }
 
-    /// The first read that answers under a tag which no write has.
-    fn first_without_write(&self, writes: &Writes) -> Option<OpId>
-        requires { AreWrites self.now.calls.now (length self.now.calls.now) writes.now }
-        ensures { IsFirstCall self.now.calls.now (AnswersNoWrite self.now.calls.now) result }
-    {
-        for (i, call) in self.calls.iter().enumerate() {
-            if self.lacks_write(writes, call) {
-                return Some(call.op);
-            }
-        }
-        None
-    }
-
-    /// Whether the call is a read that answers under a tag which no write has.
-    fn lacks_write(&self, writes: &Writes, call: &Call) -> bool
-        requires { AreWrites self.now.calls.now (length self.now.calls.now) writes.now }
-        ensures { IsTrue result ↔ AnswersNoWrite self.now.calls.now call.now }
-    {
-        match read_tag(call) {
-            Some(tag) => !is_least(tag) && !writes.contains_key(&tag),
-            None => false,
-        }
-    }
-
     /// The first read that answers another value than its tag stands for, and the write of that
-    /// tag, if the tag isn't the least.
-    fn first_other_value(&self, writes: &Writes) -> Option<(OpId, Option<OpId>)>
+    /// tag, if the tag isn't the least; or `Err` with the first read that answers under a tag which
+    /// no write has, if any.
+    fn first_other_value(&self, writes: &Writes) -> Result<Option<(OpId, Option<OpId>)>, OpId>
         requires { AreWrites self.now.calls.now (length self.now.calls.now) writes.now }
-        ensures { MatchOption result
-            (AllAnswerRight self.now.calls.now)
-            (λ other. IsOtherValue self.now.calls.now other.0 other.1) }
+        ensures { MatchResult result
+            (λ other. LacksCall self.now.calls.now (AnswersNoWrite self.now.calls.now)
+            × MatchOption other (AllAnswerRight self.now.calls.now)
+            (λ other. IsOtherValue self.now.calls.now other.0 other.1))
+            (λ read. IsLeastCall self.now.calls.now (AnswersNoWrite self.now.calls.now) read) }
     {
+        let mut other = None;
         for (i, call) in self.calls.iter().enumerate() {
-            if let Some(write) = self.other_value(writes, call) {
-                return Some((call.op, write));
+            match self.answer(writes, call, i) {
+                Answer::Right => {}
+                Answer::NoWrite => return Err(call.op),
+                Answer::Other(write) => {
+                    if other.is_none() {
+                        other = Some((call.op, write));
+                    }
+                }
             }
         }
-        None
+        Ok(other)
     }
 
-    /// The write of the read's tag, if any, where the read answers another value than its tag
-    /// stands for.
-    fn other_value(&self, writes: &Writes, call: &Call) -> Option<Option<OpId>>
+    /// What the call answers, beside what its tag stands for; its write is looked for before call
+    /// `near` first.
+    fn answer(&self, writes: &Writes, call: &Call, near: usize) -> Answer
         requires { AreWrites self.now.calls.now (length self.now.calls.now) writes.now }
-        ensures { MatchOption result (AnswersRight self.now.calls.now call.now)
-            (λ write. AnswersOther self.now.calls.now call.now write) }
+        ensures { IsAnswer self.now.calls.now call.now result }
     {
         let Some(response) = &call.response else {
-            return None;
+            return Answer::Right;
         };
         let Some(tag) = read_tag(call) else {
-            return None;
+            return Answer::Right;
         };
         if is_least(tag) {
             return if answers(&response.returned, None) {
-                None
+                Answer::Right
             } else {
-                Some(None)
+                Answer::Other(None)
             };
         }
-        let Some((write, value)) = self.write_of(writes, tag) else {
-            return None;
+        let Some((write, value)) = self.write_of(writes, tag, near) else {
+            return Answer::NoWrite;
         };
         if answers(&response.returned, Some(value)) {
-            None
+            Answer::Right
         } else {
-            Some(Some(write))
+            Answer::Other(Some(write))
         }
     }
 
+    /// The index of the write that is noted with the tag, which is looked for before call `near`
+    /// first.
+    fn index_of(&self, writes: &Writes, tag: Tag, near: usize) -> Option<usize>
+        requires { AreWrites self.now.calls.now (length self.now.calls.now) writes.now }
+        ensures { result ≡ get tag_cmp writes.now tag }
+    {
+        match self.write_near(tag, near) {
+            Some(k) => Some(k),
+            None => writes.get(&tag).copied(),
+        }
+    }
+
+    /// The index of a write that is noted with the tag, if the 16 calls before call `near` have one.
+    fn write_near(&self, tag: Tag, near: usize) -> Option<usize>
+        ensures { IfSome result (λ k. HasWriteAt self.now.calls.now tag k) }
+    {
+        let end = near.min(self.calls.len());
+        for k in (end.saturating_sub(16)..end).rev() {
+            if is_write_of(&self.calls[k], tag) {
+                return Some(k);
+            }
+        }
+        None
+    }
+
     /// The write that is noted with the tag, and its value.
-    fn write_of(&self, writes: &Writes, tag: Tag) -> Option<(OpId, &'a Value)>
+    fn write_of(&self, writes: &Writes, tag: Tag, near: usize) -> Option<(OpId, &'a Value)>
         requires { AreWrites self.now.calls.now (length self.now.calls.now) writes.now }
         ensures { MatchOption result (LacksCall self.now.calls.now (λ write. IsWriteOf write tag))
             (λ found. IsWriteWith self.now.calls.now tag found.0 found.1.now) }
     {
-        let call = &self.calls[*writes.get(&tag)?];
+        let k = self.index_of(writes, tag, near)?;
+        let call = &self.calls[k];
         match &call.action {
             Action::Write(value) => Some((call.op, value)),
             Action::Read => None,

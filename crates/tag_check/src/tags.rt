@@ -27,6 +27,23 @@ pub(crate) fn write_tag(call: &Call) -> Option<Tag>
     }
 }
 
+/// Whether the tags are one.
+fn is_same(a: Tag, b: Tag) -> bool
+    ensures { IsTrue result ↔ (a ≡ b) }
+{
+    a == b
+}
+
+/// Whether the call is a write that is noted with the tag.
+pub(crate) fn is_write_of(call: &Call, tag: Tag) -> bool
+    ensures { IsTrue result ↔ IsWriteOf call.now tag }
+{
+    match write_tag(call) {
+        Some(noted) => is_same(noted, tag),
+        None => false,
+    }
+}
+
 /// The tag of a read that has its response, if it is noted.
 pub(crate) fn read_tag(call: &Call) -> Option<Tag>
     ensures { (tag : Tag) → (result ≡ Some tag) ↔ IsAnsweredRead call.now tag }

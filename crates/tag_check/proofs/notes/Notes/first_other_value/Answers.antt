@@ -1,31 +1,48 @@
-use Rattle.std.proofs.Common.{refl, arith}
-use Rattle.std.proofs.lemmas.Option.{slice_get_within}
-use Rattle.tag.proofs.Lists.{item_at, place_of, Contains-slice_get}
-use Rattle.tag_check.specs.Rules.{AnswersRight, AnswersAnother}
-use Rattle.tag_check.proofs.Calls.{first_here, all_more}
-use Rattle.tag_check.proofs.Values.{right_not_another}
+use Rattle.std.proofs.Common.{not, ap, ◌∙◌}
+use Rattle.tag_check.specs.Rules.{AnswersNoWrite}
+use Rattle.tag_check.proofs.Calls.{first_here, none_more, none_all}
+use Rattle.tag_check.proofs.Values.{first_right, first_stays, first_found, first_all}
+use Rattle.tag.proofs.Lists.{item_at}
 use Rattle.tag_check.proofs.notes.Notes.first_other_value.Goals as goal
+use Rattle.tag_check.proofs.notes.Notes.first_other_value.Goals.{in-Right, in-Other+then-is_none, in-Other+else-is_none}
 
-pub returns-in-Some : goal.returns-in-Some
-returns-in-Some c =
+pub returns-in-NoWrite : goal.returns-in-NoWrite
+returns-in-NoWrite c =
     let s = c.args.self.now in
-    let call = c.call-item.result in
-    let at = item_at s.calls.now c.loop-i.i call c.loop-i-test.true c.call-item.is in
-    record {
-      call = call;
-      recorded = Contains-slice_get s.calls.now c.loop-i.i call at;
-      number = refl;
-      first = first_here s.calls.now s.sequence (AnswersAnother s.calls.now) c.loop-i.i call at (c.in-Some.write, c.in-Some.ensures) (λ m other less there h. right_not_another s.calls.now other (c.loop-i.invariant m other less there) h);
-      other = c.in-Some.ensures;
-    }
+    let at = item_at s.calls.now c.loop-i.i c.call-item.result c.loop-i-test.true c.call-item.is in
+    let answer = rw c.in-NoWrite.is at c.answer.ensures in
+    first_here s.calls.now s.sequence (AnswersNoWrite s.calls.now) c.loop-i.i c.call-item.result at answer c.loop-i.invariant.written
 
 pub loop-i-preserved : goal.loop-i-preserved
 loop-i-preserved c =
-    let calls = c.args.self.now.calls.now in
-    let at = item_at calls c.loop-i.i c.call-item.result c.loop-i-test.true c.call-item.is in
-    all_more calls (AnswersRight calls) c.loop-i.i c.call-item.result at c.in_default.ensures c.loop-i.invariant
+    let s = c.args.self.now in
+    let call = c.call-item.result in
+    let at = item_at s.calls.now c.loop-i.i call c.loop-i-test.true c.call-item.is in
+    let was = c.loop-i.invariant in
+    elim c.match-answer.branch [
+      | in-Right w ↦
+          let answer = rw w.in-Right.is at c.answer.ensures in
+          record {
+            written = none_more s.calls.now (AnswersNoWrite s.calls.now) c.loop-i.i call at answer.1 was.written;
+            first = rw w.other-is (first_right s.calls.now c.loop-i.i call c.loop-i.other at answer.0 was.first);
+          }
+      | in-Other+then-is_none w ↦
+          let answer = rw w.in-Other.is at c.answer.ensures in
+          record {
+            written = none_more s.calls.now (AnswersNoWrite s.calls.now) c.loop-i.i call at answer.1 was.written;
+            first = rw w.other-is (first_found s.calls.now s.sequence c.loop-i.i call w.in-Other.write c.loop-i.other at answer.0 (w.is_none.ensures ∙ ap not w.if-is_none.true) was.first);
+          }
+      | in-Other+else-is_none w ↦
+          let answer = rw w.in-Other.is at c.answer.ensures in
+          record {
+            written = none_more s.calls.now (AnswersNoWrite s.calls.now) c.loop-i.i call at answer.1 was.written;
+            first = rw w.other-is (first_stays s.calls.now c.loop-i.i c.loop-i.other (w.is_none.ensures ∙ ap not w.if-is_none.false) was.first);
+          }
+    ]
 
 pub returns : goal.returns
-returns c = λ call there.
-    let k = place_of c.args.self.now.calls.now call there in
-    c.loop-i.invariant k.0 call (omega (arith, slice_get_within c.args.self.now.calls.now k.0 call k.1, c.loop-i-test.false)) k.1
+returns c =
+    let s = c.args.self.now in (
+      none_all s.calls.now (AnswersNoWrite s.calls.now) c.loop-i.i c.loop-i-test.false c.loop-i.invariant.written,
+      first_all s.calls.now c.loop-i.i c.loop-i.other c.loop-i-test.false c.loop-i.invariant.first,
+    )

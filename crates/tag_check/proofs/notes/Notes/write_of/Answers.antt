@@ -4,22 +4,22 @@ use Rattle.tag.proofs.Lists.{item_at}
 use Rattle.tag_check.proofs.Values.{no_write, write_at, write_found}
 use Rattle.tag_check.proofs.notes.Notes.write_of.Goals as goal
 
-pub returns-in_err-call : goal.returns-in_err-call
-returns-in_err-call c = rw c.from_residual.ensures (no_write c.args.self.now.calls.now c.args.writes.now c.requires c.args.tag (sym c.in_err-call.ensures.value))
+pub returns-in_err-k : goal.returns-in_err-k
+returns-in_err-k c = rw c.from_residual.ensures (no_write c.args.self.now.calls.now c.args.writes.now c.requires c.args.tag (sym c.in_err-k.ensures))
 
 pub returns-in-Write : goal.returns-in-Write
 returns-in-Write c =
     let calls = c.args.self.now.calls.now in
-    let k = c.in_ok-call.field-0.now in
-    let call = get_or calls k c.index-self-branch.result in
-    let has = sym c.in_ok-call.ensures.value in
-    let at = slice_get-get_or calls k c.index-self-branch.result (c.requires.real c.args.tag k has).0 in
-    write_found calls c.args.writes.now c.requires c.args.tag k has call c.in-Write.value at (cc (c.in-Write.is, c.index-self-branch.is))
+    let k = c.in_ok-k.k in
+    let call = get_or calls k c.index-self-k.result in
+    let has = sym c.in_ok-k.ensures in
+    let at = slice_get-get_or calls k c.index-self-k.result (c.requires.real c.args.tag k has).0 in
+    write_found calls c.args.writes.now c.requires c.args.tag k has call c.in-Write.value at (cc (c.in-Write.is, c.index-self-k.is))
 
 pub returns-in-Read : goal.returns-in-Read
 returns-in-Read c =
     let calls = c.args.self.now.calls.now in
-    let has = sym c.in_ok-call.ensures.value in
-    let at = item_at calls c.in_ok-call.field-0.now c.index-self-branch.result (c.requires.real c.args.tag c.in_ok-call.field-0.now has).0 c.index-self-branch.is in
-    let wrote = write_at calls c.args.writes.now c.requires c.args.tag c.in_ok-call.field-0.now has c.index-self-branch.result at in
+    let has = sym c.in_ok-k.ensures in
+    let at = item_at calls c.in_ok-k.k c.index-self-k.result (c.requires.real c.args.tag c.in_ok-k.k has).0 c.index-self-k.is in
+    let wrote = write_at calls c.args.writes.now c.requires c.args.tag c.in_ok-k.k has c.index-self-k.result at in
     λ write there is. absurd (cc (wrote.0.1, c.in-Read.is))
