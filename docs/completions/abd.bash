@@ -17,8 +17,9 @@ _abd() {
       ;;
   esac
   case $command in
-    check) options="--workers --help" ;;
+    check) options="--workers --json --help" ;;
     explain) options="--key --most --help" ;;
+    justify) options="--unchecked --help" ;;
     run)
       options="--replicas --callers --calls --keys --rounds --drop --double --halls --show --reads --votes --ask --put --help"
       ;;

@@ -11,6 +11,8 @@ complete -c abd -n "not __fish_seen_subcommand_from $commands" -f -a run -d "run
 complete -c abd -n "not __fish_seen_subcommand_from $commands" -f -a help -d "say what a command takes"
 complete -c abd -n "__fish_seen_subcommand_from $commands" -l help -s h -d "say what it takes"
 complete -c abd -n "__fish_seen_subcommand_from check" -x -l workers -d "threads that check, 1 to 16"
+complete -c abd -n "__fish_seen_subcommand_from check" -l json -d "an object of JSON a key"
+complete -c abd -n "__fish_seen_subcommand_from justify" -l unchecked -d "leave the check out"
 complete -c abd -n "__fish_seen_subcommand_from explain" -x -l key -d "the only key"
 complete -c abd -n "__fish_seen_subcommand_from explain" -x -l most -d "refused keys with a reason"
 complete -c abd -n "__fish_seen_subcommand_from run" -x -l replicas -d "replicas, 1 to 15"

@@ -8,6 +8,7 @@ mod HaltLemmas
 pub mod HistoryEndings
 pub mod CheckedKeys
 mod LineSpelling
+mod Tagging
 pub mod Told
 mod Escapes
 pub mod ShownNames

@@ -13,11 +13,12 @@ use Rattle.cli.specs.Checks.{ChecksFiles, EndsCheck, IsStatusOf, ReadsFiles}
 use Rattle.cli.specs.Devices.{Receives, ReceivesPrefix}
 use Rattle.cli.specs.Readings.{ReadsHistories}
 use Rattle.cli.specs.VerdictLines.{HasLines}
+use Rattle.cli.specs.declared.json_lines.Lines.{Lines}
 use Rattle.cli.specs.declared.status.Status.{Status}
 use Rattle.cli.specs.declared.status.Status.TheVariants.{Good, Refused, Usage, Format, Failed}
 
 -- the files that were read: what the status says of them, and what holds of the lines
-module _ (history orders_file out : DeviceStates) (histories : RecordedHalls) (orders : List KeyOrder)
+module _ (form : Lines) (history orders_file out : DeviceStates) (histories : RecordedHalls) (orders : List KeyOrder)
     (history_read : ReadsHistories history histories)
     (read : ReadsFrom (Reads order_format MakesJoined) orders_file orders) where
   are_read : ReadsFiles history orders_file histories read.fact.1.items
@@ -32,11 +33,11 @@ module _ (history orders_file out : DeviceStates) (histories : RecordedHalls) (o
         };
       }
 
-  checked : (s : Status) → IsStatusOf histories.halls read.fact.1.items s → HasLines histories.halls read.fact.1.items (Receives out) → ChecksFiles history orders_file out s
+  checked : (s : Status) → IsStatusOf histories.halls read.fact.1.items s → HasLines form histories.halls read.fact.1.items (Receives out) → ChecksFiles form history orders_file out s
   checked s is lines = record { histories = histories; pieces = read.fact.1.items; read = are_read; is = is; lines = lines }
 
   pub ends : (s : Status) → ((pieces : List KeyOrder) → AreJoined pieces orders → IsStatusOf histories.halls pieces s)
-      → ((pieces : List KeyOrder) → AreJoined pieces orders → HasLines histories.halls pieces (Receives out)) → EndsCheck history orders_file out s
+      → ((pieces : List KeyOrder) → AreJoined pieces orders → HasLines form histories.halls pieces (Receives out)) → EndsCheck form history orders_file out s
   ends Good is lines = checked Good (is read.fact.1.items read.fact.1.made) (lines read.fact.1.items read.fact.1.made)
   ends Refused is lines = checked Refused (is read.fact.1.items read.fact.1.made) (lines read.fact.1.items read.fact.1.made)
   ends Usage is lines = is read.fact.1.items read.fact.1.made
@@ -44,12 +45,12 @@ module _ (history orders_file out : DeviceStates) (histories : RecordedHalls) (o
   ends Failed is lines = absurd (is read.fact.1.items read.fact.1.made)
 
   -- the output failed
-  pub breaks : ((pieces : List KeyOrder) → AreJoined pieces orders → HasLines histories.halls pieces (ReceivesPrefix out)) → EndsCheck history orders_file out Failed
+  pub breaks : ((pieces : List KeyOrder) → AreJoined pieces orders → HasLines form histories.halls pieces (ReceivesPrefix out)) → EndsCheck form history orders_file out Failed
   breaks lines = inr (record { histories = histories; pieces = read.fact.1.items; read = are_read; lines = lines read.fact.1.items read.fact.1.made })
 
   -- a check that ended so had put nothing out, or its output failed
   pub halted_ends : {W : Type 0} (workers : ℕ) (failures : W → ℕ) (w_old w_new : W) (why : Halt) → Halts workers failures why w_old w_new → (w_new ≡ w_old → out.new ≡ out.old)
-      → (why ≡ halt.Output → (pieces : List KeyOrder) → AreJoined pieces orders → HasLines histories.halls pieces (ReceivesPrefix out)) → EndsCheck history orders_file out Failed
+      → (why ≡ halt.Output → (pieces : List KeyOrder) → AreJoined pieces orders → HasLines form histories.halls pieces (ReceivesPrefix out)) → EndsCheck form history orders_file out Failed
   halted_ends workers failures w_old w_new halt.Output failed same begun = breaks (begun refl)
   halted_ends workers failures w_old w_new halt.Memory rests same begun = inl (same rests)
   halted_ends workers failures w_old w_new halt.Thread rests same begun = inl (same rests.1)

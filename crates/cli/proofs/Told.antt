@@ -13,7 +13,8 @@ use Rattle.parallel_keys.specs.CheckedKeys.{CheckedKey}
 use Rattle.parallel_keys.specs.Histories.{AreOn, AreVerdictsOnHistories, KeyVerdicts}
 use Rattle.parallel_keys.proofs.Fronts.{front_more}
 use Rattle.cli.specs.VerdictStatuses.{AreYes, SaysAll}
-use Rattle.cli.specs.VerdictLines.{AreVerdictLines, AreCheckLines, line_text, lines_text}
+use Rattle.cli.specs.VerdictLines.{AreVerdictLines, AreCheckLines, line_in, lines_text}
+use Rattle.cli.specs.declared.json_lines.Lines.{Lines}
 use Rattle.cli.specs.declared.status.Status.TheVariants.{Refused}
 
 -- the verdicts after the first
@@ -24,31 +25,35 @@ behind one checked told verdicts on = record {
 }
 
 -- the lines of verdicts on what is checked
-pub told_lines : (checked : List CheckedKey) (verdicts : KeyVerdicts) → AreOn checked verdicts → AreVerdictLines checked (lines_text verdicts)
-told_lines [] [] on = refl
-told_lines [] (told ∷ verdicts) on = absurd (omega (arith, on.all))
-told_lines (one ∷ checked) [] on = absurd (omega (arith, on.all))
-told_lines (one ∷ checked) (told ∷ verdicts) on =
+pub told_lines : (form : Lines) (checked : List CheckedKey) (verdicts : KeyVerdicts) → AreOn checked verdicts
+    → AreVerdictLines form checked (lines_text form verdicts)
+told_lines form [] [] on = refl
+told_lines form [] (told ∷ verdicts) on = absurd (omega (arith, on.all))
+told_lines form (one ∷ checked) [] on = absurd (omega (arith, on.all))
+told_lines form (one ∷ checked) (told ∷ verdicts) on =
     let first = on.each 0 one told refl refl in
-    (told.1, lines_text verdicts, first.1, told_lines checked verdicts (behind one checked told verdicts on), rw (sym first.0) refl)
+    (told.1, lines_text form verdicts, first.1, told_lines form checked verdicts (behind one checked told verdicts on), rw (sym first.0) refl)
 
 -- they are what a check of the history prints
-pub lines_said : (halls : List Recorded) (pieces orders : List KeyOrder) (verdicts : KeyVerdicts) (text : List ℕ) → AreJoined pieces orders → AreVerdictsOnHistories halls orders verdicts → text ≡ lines_text verdicts → AreCheckLines halls pieces text
-lines_said halls pieces orders verdicts text joined are said = record {
+pub lines_said : (form : Lines) (halls : List Recorded) (pieces orders : List KeyOrder) (verdicts : KeyVerdicts) (text : List ℕ)
+    → AreJoined pieces orders → AreVerdictsOnHistories halls orders verdicts → text ≡ lines_text form verdicts → AreCheckLines form halls pieces text
+lines_said form halls pieces orders verdicts text joined are said = record {
   parts = are.parts;
   orders = orders;
   recorded = are.recorded;
   joined = joined;
-  lines = rw said (told_lines _ verdicts are.checked);
+  lines = rw said (told_lines form _ verdicts are.checked);
 }
 
 -- a line more
-pub lines_more : (verdicts : KeyVerdicts) (i : ℕ) (told : List ℕ × Verdict) (old new : List ℕ) → i < length verdicts → told ≡ get_or verdicts i told → old ≡ lines_text (take i verdicts) → new ≡ old ++ line_text told.0 told.1 → new ≡ lines_text (take (i + 1) verdicts)
-lines_more verdicts i told old new below is so_far grown =
-    let line : List ℕ × Verdict → List ℕ = λ t. line_text t.0 t.1 in
+pub lines_more : (form : Lines) (verdicts : KeyVerdicts) (i : ℕ) (told : List ℕ × Verdict) (old new : List ℕ)
+    → i < length verdicts → told ≡ get_or verdicts i told → old ≡ lines_text form (take i verdicts)
+    → new ≡ old ++ line_in form told.0 told.1 → new ≡ lines_text form (take (i + 1) verdicts)
+lines_more form verdicts i told old new below is so_far grown =
+    let line : List ℕ × Verdict → List ℕ = λ t. line_in form t.0 t.1 in
     let before = take i verdicts in
     grown ∙ ap (λ (l : List ℕ). l ++ line told) so_far
-    ∙ sym (ap lines_text (front_more verdicts i told below is) ∙ flat_map-append line before (told ∷ []) ∙ ap (λ (l : List ℕ). flat_map line before ++ l) (append-nil (line told)))
+    ∙ sym (ap (lines_text form) (front_more verdicts i told below is) ∙ flat_map-append line before (told ∷ []) ∙ ap (λ (l : List ℕ). flat_map line before ++ l) (append-nil (line told)))
 
 -- one more verdict is yes
 pub yes_more : (verdicts : KeyVerdicts) (index : ℕ) (told : List ℕ × Verdict) → index < length verdicts → told ≡ get_or verdicts index told → told.1 ≡ Yes → AreYes verdicts index → AreYes verdicts (index + 1)

@@ -12,6 +12,7 @@ use Rattle.counted_devices.specs.DeviceStates.{DeviceStates}
 use Rattle.cli.specs.Devices.{Receives, ReceivesNothing, ReceivesPrefix}
 use Rattle.cli.specs.Readings.{HasFaultyLine, IsHistoryRead, ReadsHistories, ReadsPieces}
 use Rattle.cli.specs.VerdictLines.{HasLines}
+use Rattle.cli.specs.declared.json_lines.Lines.{Lines}
 use Rattle.cli.specs.declared.status.Status.{Status}
 use Rattle.cli.specs.declared.status.Status.TheVariants as status
 
@@ -46,21 +47,21 @@ pub record ReadsFiles (history orders : DeviceStates) (histories : RecordedHalls
   pub history_read : ReadsHistories history histories
   pub orders_read : ReadsPieces orders pieces
 
-module _ (history orders out : DeviceStates) where
-  -- both files were read, the status is that of their check, and its lines went out
+module _ (form : Lines) (history orders out : DeviceStates) where
+  -- both files were read, the status is that of their check, and its lines went out in that form
   pub record ChecksFiles (s : Status) : Type 0 where
     pub histories : RecordedHalls
     pub pieces : List KeyOrder
     pub read : ReadsFiles history orders histories pieces
     pub is : IsStatusOf histories.halls pieces s
-    pub lines : HasLines histories.halls pieces (Receives out)
+    pub lines : HasLines form histories.halls pieces (Receives out)
 
   -- both files were read, and a beginning of the lines of their check went out
   pub record PrintsPrefix : Type 0 where
     pub histories : RecordedHalls
     pub pieces : List KeyOrder
     pub read : ReadsFiles history orders histories pieces
-    pub lines : HasLines histories.halls pieces (ReceivesPrefix out)
+    pub lines : HasLines form histories.halls pieces (ReceivesPrefix out)
 
   -- what the status of a check says. Good or refused: the files were checked. Format: the history
   -- has a faulty line, or was read and the orders have one. Failed: nothing went out, or a

@@ -62,10 +62,14 @@ status_of_refusal (unjustified.NoNote key op) = status.Refused
 status_of_refusal (unjustified.NoOrder key fault) = status.Refused
 status_of_refusal unjustified.Memory = status.Failed
 
+-- the line that says that the call on the key has no note
+unfoldable pub no_note_text : List ℕ → OpId → List ℕ
+no_note_text key op =
+    codes "abd: key " ++ key ++ codes ": no note for call " ++ decimal op.0 ++ codes "\n"
+
 -- the line that says why a key has no order
 unfoldable pub refusal_text : Unjustified → List ℕ
-refusal_text (unjustified.NoNote key op) =
-    codes "abd: key " ++ key.now ++ codes ": no note for call " ++ decimal op.0 ++ codes "\n"
+refusal_text (unjustified.NoNote key op) = no_note_text key.now op
 refusal_text (unjustified.NoOrder key fault) =
     codes "abd: key " ++ key.now ++ codes ": no " ++ fault_text fault ++ codes "\n"
 refusal_text unjustified.Memory = codes "abd: no memory\n"
@@ -107,18 +111,24 @@ module _ (halls : List Recorded) (out errors : DeviceStates) where
       ⊎ OfHallParts halls (λ parts. HaveOrders parts (ReceivesPrefix out))
   JustifiesHalls s = ⊥
 
-module _ (file out errors : DeviceStates) where
-  -- the histories that the file is are justified so
-  pub record JustifiesFile (s : Status) : Type 0 where
+module _ (Ends : List Recorded → Status → Type 0) (file out : DeviceStates) where
+  -- the file was read, and that is how it ended with its histories
+  pub record EndsHistories (s : Status) : Type 0 where
     pub histories : RecordedHalls
     pub read : ReadsHistories file histories
-    pub justified : JustifiesHalls histories.halls out errors s
+    pub ends : Ends histories.halls s
 
-  -- what the status of a justification says. Good or refused: the file's histories are justified
-  -- so. Format: it has a faulty line. Failed: they are justified so, or nothing went out
-  abbrev pub EndsJustification : Status → Type 0
-  EndsJustification status.Good = JustifiesFile status.Good
-  EndsJustification status.Refused = JustifiesFile status.Refused
-  EndsJustification status.Usage = ⊥
-  EndsJustification status.Format = HasFaultyLine histories_format file
-  EndsJustification status.Failed = ReceivesNothing out ⊎ JustifiesFile status.Failed
+  -- what a status says of a file that has to be read as histories. Good or refused: that is how it
+  -- ended with them. Format: it has a faulty line. Failed: that is how it ended with them, or
+  -- nothing went out
+  abbrev pub EndsFile : Status → Type 0
+  EndsFile status.Good = EndsHistories status.Good
+  EndsFile status.Refused = EndsHistories status.Refused
+  EndsFile status.Usage = ⊥
+  EndsFile status.Format = HasFaultyLine histories_format file
+  EndsFile status.Failed = ReceivesNothing out ⊎ EndsHistories status.Failed
+
+-- what the status of a justification says: how it ended with the file's histories
+abbrev pub EndsJustification : DeviceStates → DeviceStates → DeviceStates → Status → Type 0
+EndsJustification file out errors s =
+    EndsFile (λ halls. JustifiesHalls halls out errors) file out s

@@ -2,6 +2,7 @@ pub mod Checks
 pub mod Devices
 pub mod FailureLines
 pub mod Halts
+pub mod JsonLines
 pub mod VerdictStatuses
 pub mod Justifications
 pub mod Readings
@@ -9,5 +10,6 @@ pub mod Reports
 pub mod ShownNames
 pub mod SimulationEndings
 pub mod Statuses
+pub mod TagOrders
 pub mod VerdictLines
 pub mod Words

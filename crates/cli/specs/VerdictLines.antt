@@ -13,6 +13,9 @@ use Rattle.certificate_check.specs.declared.verdict.Fault.TheVariants.{WrongAnsw
 use Rattle.file_format.specs.OrderFormat.{AreJoined}
 use Rattle.parallel_keys.specs.Histories.{AreHallParts, KeyVerdicts}
 use Rattle.parallel_keys.specs.CheckedKeys.{CheckedKey, KeyParts, all_parts, checked_keys}
+use Rattle.cli.specs.JsonLines.{json_line}
+use Rattle.cli.specs.declared.json_lines.Lines.{Lines}
+use Rattle.cli.specs.declared.json_lines.Lines.TheVariants as form
 
 -- what is wrong with an order
 abbrev pub fault_text : Fault → List ℕ
@@ -32,28 +35,34 @@ verdict_text (No fault) = codes "no " ++ fault_text fault
 unfoldable pub line_text : List ℕ → Verdict → List ℕ
 line_text key verdict = key ++ codes ": " ++ verdict_text verdict ++ codes "\n"
 
--- a line for each key, with its verdict
-abbrev pub lines_text : KeyVerdicts → List ℕ
-lines_text verdicts = flat_map (λ told. line_text told.0 told.1) verdicts
+-- the same in each form, for people or for programs
+abbrev pub line_in : Lines → List ℕ → Verdict → List ℕ
+line_in form.Plain key verdict = line_text key verdict
+line_in form.Json key verdict = json_line key verdict
 
--- the text is a line for each key that is checked, with the verdict on its order
-abbrev pub AreVerdictLines : List CheckedKey → List ℕ → Type 0
-AreVerdictLines [] text = text ≡ []
-AreVerdictLines (checked ∷ rest) text =
-    (verdict : Verdict) × (lines : List ℕ) × IsVerdict checked.part checked.order verdict
-    × AreVerdictLines rest lines × (text ≡ line_text checked.key verdict ++ lines)
+module _ (form : Lines) where
+  -- a line for each key, with its verdict
+  abbrev pub lines_text : KeyVerdicts → List ℕ
+  lines_text verdicts = flat_map (λ told. line_in form told.0 told.1) verdicts
 
--- what a check of these histories and pieces of orders prints: first the keys of the histories,
--- hall by hall, in each in the order in which its rows first see them, then those that only the
--- pieces have, in the order in which they first stand there
-pub record AreCheckLines (halls : List Recorded) (pieces : List KeyOrder) (text : List ℕ) : Type 0
-  where
-    pub parts : List KeyParts
-    pub orders : List KeyOrder
-    pub recorded : AreHallParts halls parts
-    pub joined : AreJoined pieces orders
-    pub lines : AreVerdictLines (checked_keys (all_parts parts) orders) text
+  -- the text is a line for each key that is checked, with the verdict on its order
+  abbrev pub AreVerdictLines : List CheckedKey → List ℕ → Type 0
+  AreVerdictLines [] text = text ≡ []
+  AreVerdictLines (checked ∷ rest) text =
+      (verdict : Verdict) × (lines : List ℕ) × IsVerdict checked.part checked.order verdict
+      × AreVerdictLines rest lines × (text ≡ line_in form checked.key verdict ++ lines)
 
--- that holds of what a check of these histories and pieces prints
-abbrev pub HasLines : List Recorded → List KeyOrder → (List ℕ → Type 0) → Type 0
-HasLines halls pieces P = (text : List ℕ) × AreCheckLines halls pieces text × P text
+  module _ (halls : List Recorded) (pieces : List KeyOrder) where
+    -- what a check of these histories and pieces of orders prints: first the keys of the histories,
+    -- hall by hall, in each in the order in which its rows first see them, then those that only the
+    -- pieces have, in the order in which they first stand there
+    pub record AreCheckLines (text : List ℕ) : Type 0 where
+      pub parts : List KeyParts
+      pub orders : List KeyOrder
+      pub recorded : AreHallParts halls parts
+      pub joined : AreJoined pieces orders
+      pub lines : AreVerdictLines (checked_keys (all_parts parts) orders) text
+
+    -- that holds of what a check of these histories and pieces prints
+    abbrev pub HasLines : (List ℕ → Type 0) → Type 0
+    HasLines P = (text : List ℕ) × AreCheckLines text × P text

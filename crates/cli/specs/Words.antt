@@ -1,10 +1,11 @@
 -- What the words of a command line ask for, by clap's reading of a simple command.
-use Rattle.std.specs.Prelude.{ℕ, ◌≡◌, ◌≤◌, ◌⊎◌, List, [], ◌∷◌, Option, Some, pos, true, codes}
-use Rattle.std.specs.Prelude.{option_map}
+use Rattle.std.specs.Prelude.{ℕ, ◌≡◌, ◌≤◌, ◌⊎◌, ◌↔◌, Bool, IsTrue, List, [], ◌∷◌, Option, Some, pos}
+use Rattle.std.specs.Prelude.{true, codes, option_map}
 use Rattle.std.specs.Str.Parse.{IsNumeral, digits_value, without_leading_plus}
 use Rattle.clap.specs.Words.{App, IsAmong, Row, Rule, Text, fault_of, first_of, new_app, new_rule}
 use Rattle.clap.specs.Words.{one_of, subcommand_of, with_rule, with_subcommand}
 use Rattle.clap.specs.declared.builder.value_parser.ValueParser.TheVariants as parser
+use Rattle.clap.specs.declared.builder.action.ArgAction.TheVariants.{SetTrue}
 use Rattle.clap.specs.declared.error.kind.ErrorKind.{ErrorKind}
 use Rattle.clap.specs.declared.error.kind.ErrorKind.TheVariants.{DisplayHelp, DisplayVersion}
 use Rattle.clap.specs.declared.error.kind.ErrorKind.TheVariants.{OutOfMemory}
@@ -15,6 +16,8 @@ use Rattle.cli.specs.declared.command_line.Command.{Command}
 use Rattle.cli.specs.declared.command_line.ExplainAsked.{ExplainAsked}
 use Rattle.cli.specs.declared.command_line.Command.TheVariants.{Check, Explain, Justify, Run}
 use Rattle.cli.specs.declared.command_line.Command.TheVariants.{Simulate}
+use Rattle.cli.specs.declared.json_lines.Lines.{Lines}
+use Rattle.cli.specs.declared.json_lines.Lines.TheVariants as form
 use Rattle.cli.specs.declared.command_line.Usage.{Usage}
 use Rattle.cli.specs.declared.command_line.Usage.TheVariants as usage
 
@@ -31,14 +34,22 @@ workers_option = record (new_rule (codes "workers")) {
   parser = Some (parser.Signed (pos 1) (pos 16));
 }
 
+-- an option that takes no value
+abbrev pub flag : Text → Rule
+flag name = record (new_rule name) { long = Some name; action = Some SetTrue }
+
 -- a command that reads one file: abd NAME FILE
 abbrev pub file_app : Text → Text → App
 file_app name file = with_rule (new_app name) (required_argument file)
 
--- abd check HISTORY ORDERS [--workers N]
+-- abd check HISTORY ORDERS
+abbrev pub checked_files_app : App
+checked_files_app =
+    with_rule (file_app (codes "check") (codes "HISTORY")) (required_argument (codes "ORDERS"))
+
+-- abd check HISTORY ORDERS [--workers N] [--json]
 abbrev pub check_app : App
-check_app = with_rule (with_rule (file_app (codes "check") (codes "HISTORY"))
-    (required_argument (codes "ORDERS"))) workers_option
+check_app = with_rule (with_rule checked_files_app workers_option) (flag (codes "json"))
 
 -- the option --key KEY
 abbrev pub key_option : Rule
@@ -66,9 +77,9 @@ explained_files_app =
 abbrev pub explain_app : App
 explain_app = with_rule (with_rule explained_files_app key_option) most_option
 
--- abd justify HISTORY
+-- abd justify HISTORY [--unchecked]
 abbrev pub justify_app : App
-justify_app = file_app (codes "justify") (codes "HISTORY")
+justify_app = with_rule (file_app (codes "justify") (codes "HISTORY")) (flag (codes "unchecked"))
 
 -- abd simulate SCRIPT
 abbrev pub simulate_app : App
@@ -100,6 +111,20 @@ pub record AsksWorkers (rows : List Row) (workers : ℕ) : Type 0 where
   pub number : digits_value 10 (without_leading_plus text) ≡ workers
   pub few : IsWorkerCount workers
 
+-- the words give the flag of that name
+abbrev pub GivesFlag : Text → List Row → Type 0
+GivesFlag name rows = one_of name rows ≡ Some (codes "true")
+
+-- the words after `check` ask for lines in that form: for objects of JSON if they give `--json`
+abbrev pub AsksForm : List Row → Lines → Type 0
+AsksForm rows form.Plain = GivesFlag (codes "json") rows → ⊥
+AsksForm rows form.Json = GivesFlag (codes "json") rows
+
+-- the words after `justify` name the history, and say by `--unchecked` whether orders go unchecked
+pub record AsksOrders (rows : List Row) (history : Text) (unchecked : Bool) : Type 0 where
+  pub history_named : first_of (codes "HISTORY") rows ≡ Some history
+  pub way : IsTrue unchecked ↔ GivesFlag (codes "unchecked") rows
+
 -- the words after `explain` ask for so many keys: their number is what stands after `--most`, or
 -- else the 20
 pub record AsksMost (rows : List Row) (most : ℕ) : Type 0 where
@@ -118,18 +143,18 @@ pub record AsksExplanation (rows : List Row) (asked : ExplainAsked) : Type 0 whe
 
 -- the words after the command's name make it that command
 abbrev pub Makes : List Row → Command → Type 0
-Makes rows (Check history orders workers) =
-    NamesFiles rows history.now orders.now × AsksWorkers rows workers
+Makes rows (Check history orders workers form) =
+    NamesFiles rows history.now orders.now × AsksWorkers rows workers × AsksForm rows form
 Makes rows (Explain asked) = AsksExplanation rows asked
-Makes rows (Justify history) = first_of (codes "HISTORY") rows ≡ Some history.now
+Makes rows (Justify history unchecked) = AsksOrders rows history.now unchecked
 Makes rows (Simulate script) = first_of (codes "SCRIPT") rows ≡ Some script.now
 Makes rows (Run asked) = AsksRun rows asked
 
 -- the command's name
 abbrev pub name_of : Command → Text
-name_of (Check history orders workers) = codes "check"
+name_of (Check history orders workers form) = codes "check"
 name_of (Explain asked) = codes "explain"
-name_of (Justify history) = codes "justify"
+name_of (Justify history unchecked) = codes "justify"
 name_of (Simulate script) = codes "simulate"
 name_of (Run asked) = codes "run"
 

@@ -13,6 +13,7 @@ ghost use Rattle.cli.specs.Reports.{IsFaultOf, IsOfCheck, ReportsEnd};
 ghost use Rattle.cli.specs.Statuses.{status_of};
 
 use crate::check_keys::check_keys;
+use crate::json_lines::Lines;
 use crate::status::{Failure, Status};
 use counted_devices::{CountedRead, CountedWrite};
 use history_file::{read_histories, read_orders};
@@ -83,7 +84,7 @@ pub fn orders_in<'a, R: CountedRead>(
     }
 }
 
-/// Reads the history, of version 1 or 2, and then the orders, and prints a line for each key: the
+/// Reads the history, of version 1 or 2, and then the orders, and prints a line for each key in that form: the
 /// keys of the history hall by hall, in each in the order in which it first sees them, then those
 /// that only the orders have.
 ///
@@ -98,10 +99,11 @@ pub fn check_command<'a, H: CountedRead, O: CountedRead, W: CountedWrite, E: Cou
     history: &mut Source<'a, H>,
     orders: &mut Source<'a, O>,
     workers: Workers,
+    form: Lines,
     out: &mut W,
     errors: &mut E,
 ) -> Status
-    ensures ends { EndsCheck
+    ensures ends { EndsCheck form
         (states H.remaining H.failures history.old.reader history.new.reader)
         (states O.remaining O.failures orders.old.reader orders.new.reader)
         (states W.contents W.failures out.old out.new)
@@ -126,7 +128,7 @@ pub fn check_command<'a, H: CountedRead, O: CountedRead, W: CountedWrite, E: Cou
         Ok(orders) => orders,
         Err(failure) => return failure.report(errors),
     };
-    match check_keys(rt, alloc, &histories, orders.as_slice(), workers, out) {
+    match check_keys(rt, alloc, &histories, orders.as_slice(), workers, form, out) {
         Ok(status) => status,
         Err(halt) => Failure::from(halt).report(errors),
     }

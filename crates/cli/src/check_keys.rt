@@ -10,8 +10,8 @@ ghost use Rattle.cli.specs.Halts.{Halts};
 ghost use Rattle.cli.specs.VerdictStatuses.{SaysAll};
 ghost use Rattle.cli.specs.VerdictLines.{HasLines, lines_text};
 
+use crate::json_lines::{Lines, append_line_in};
 use crate::status::{Failure, Status};
-use crate::verdict_lines::append_line;
 use certificate_check::Verdict;
 use counted_devices::{CountedWrite, write_text};
 use parallel_keys::{CheckError, NoGate, Workers, check_histories};
@@ -72,13 +72,13 @@ impl From<Halt> for Failure<'_> {
     }
 }
 
-/// A line for each key, with its verdict.
-fn lines_of(alloc: Global, verdicts: &[(Key, Verdict)]) -> Result<Vec<u8>, Memory>
-    ensures { IfOk result (λ text. text.items ≡ lines_text verdicts.now) }
+/// A line for each key in that form, with its verdict.
+fn lines_of(alloc: Global, form: Lines, verdicts: &[(Key, Verdict)]) -> Result<Vec<u8>, Memory>
+    ensures { IfOk result (λ text. text.items ≡ lines_text form verdicts.now) }
 {
     let mut text = Vec::new(alloc);
     for told in verdicts {
-        append_line(&mut text, &told.0, told.1)?;
+        append_line_in(&mut text, form, &told.0, told.1)?;
     }
     Ok(text)
 }
@@ -96,31 +96,32 @@ fn status_of(verdicts: &[(Key, Verdict)]) -> Status
     Status::Good
 }
 
-/// Checks the orders of an order file, and says a line for each key of the histories and the orders
-/// once all are checked: `Good` where every line says yes, `Refused` where one says no.
+/// Checks the orders of an order file, and says a line in that form for each key of the histories and
+/// the orders once all are checked: `Good` where every line says yes, `Refused` where one says no.
 pub(crate) fn check_keys<R: Threads + Wait, W: CountedWrite>(
     rt: &R,
     alloc: Global,
     histories: &Histories,
     orders: &[KeyOrder],
     workers: Workers,
+    form: Lines,
     out: &mut W,
 ) -> Result<Status, Halt>
     requires { AreDistinct orders.now }
     ensures checked { IfOk result (λ status. (pieces : List KeyOrder) → AreJoined pieces orders.now
         → IsStatusOf histories.now.halls pieces status) }
     ensures said { OnOk result ((pieces : List KeyOrder) → AreJoined pieces orders.now
-        → HasLines histories.now.halls pieces
+        → HasLines form histories.now.halls pieces
         (Receives (states W.contents W.failures out.old out.new))) }
     ensures begun { IfErr result (λ halt. (pieces : List KeyOrder) → AreJoined pieces orders.now
-        → halt ≡ Halt.Output → HasLines histories.now.halls pieces
+        → halt ≡ Halt.Output → HasLines form histories.now.halls pieces
         (ReceivesPrefix (states W.contents W.failures out.old out.new))) }
     ensures output { IfErr result (λ halt. Halts workers W.failures halt out.old out.new) }
 {
     let _halls = histories.halls();
     let checked = check_histories(rt, alloc, histories, orders, workers, &NoGate)?;
     let verdicts = checked.as_slice();
-    let text = lines_of(alloc, verdicts)?;
+    let text = lines_of(alloc, form, verdicts)?;
     match write_text(text.as_slice(), out) {
         Ok(()) => Ok(status_of(verdicts)),
         Err(_) => Err(Halt::Output),

@@ -1,4 +1,5 @@
 //! What a command line asks for.
+use crate::json_lines::Lines;
 use parallel_keys::Workers;
 use run_options::RunAsked;
 
@@ -17,17 +18,19 @@ pub struct ExplainAsked<'a> {
 /// What a command line asks for.
 #[derive(Clone, Copy, Debug, PartialEq, Eq)]
 pub enum Command<'a> {
-    /// To check the orders of a history's keys, by so many workers.
+    /// To check the orders of a history's keys, by so many workers, and print lines in that form.
     Check {
         history: &'a str,
         orders: &'a str,
         workers: Workers,
+        form: Lines,
     },
     /// To say why orders, or without them tags, are refused.
     Explain(ExplainAsked<'a>),
-    /// To make the orders of a history's keys from its notes.
+    /// To make the orders of a history's keys from its notes, checked or as the tags make them.
     Justify {
         history: &'a str,
+        unchecked: bool,
     },
     /// To run a script and write the history of its run.
     Simulate {

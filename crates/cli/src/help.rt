@@ -1,7 +1,7 @@
 //! What help says of the commands, after what clap says of their words.
 
 /// The version that `abd --version` says.
-pub const VERSION: &str = "0.1.0";
+pub const VERSION: &str = "0.2.0";
 
 /// Of `abd`.
 pub const ABD: &str =
@@ -13,6 +13,9 @@ abd check made.history made.orders";
 
 /// Of the option `--workers`.
 pub const WORKERS: &str = "How many threads check the orders, 1 to 16; the lines are the same";
+
+/// Of the option `--json`.
+pub const JSON: &str = "Print each line as an object of JSON, for programs";
 
 /// Of `abd check`.
 pub const CHECK: &str =
@@ -34,16 +37,21 @@ pub const EXPLAIN: &str =
 client, what it did, the lines of HISTORY on which it began, was noted and was answered, its place in the order, and \
 what would have been right. Without ORDERS the tags of the calls are judged: `KEY: yes` where they are sound, and else \
 `KEY: no tags`, the first rule that they break, and a hint at what to look for in a store. HISTORY is of version 1 \
-or 2. One of the files may be /dev/stdin, for what is piped in.\nExit status: 0 all yes, 1 a key refused, 2 usage, 3 a \
-file can't be opened or read as its format, 4 memory or a device.\n\n\
+or 2. One of the files may be /dev/stdin, for what is piped in.\nExit status: 0 all yes, 1 a key refused or no such \
+key, 2 usage, 3 a file can't be opened or read as its format, 4 memory or a device.\n\n\
 Example: abd explain examples/two_calls.history examples/two_calls_refused.orders";
+
+/// Of the option `--unchecked`.
+pub const UNCHECKED: &str = "Write the orders that the tags make, without checking them";
 
 /// Of `abd justify`.
 pub const JUSTIFY: &str =
     "Writes an order file, for `abd check`, keys hall by hall, in each in the order in which the \
 history first sees them. HISTORY is of version 1 or 2. Where a key has no such order it writes nothing, and says the \
-first such key on standard error. HISTORY may be /dev/stdin, for what is piped in.\nExit status: 0 written, 1 a key \
-has no order, 2 usage, 3 the file can't be opened or read as its format, 4 memory or a device.\n\n\
+first such key on standard error. With --unchecked it leaves out only the keys with a completed call that has no \
+note, and says each on standard error; `abd check` and `abd explain` then show what is wrong with the other orders. \
+HISTORY may be /dev/stdin, for what is piped in.\nExit status: 0 written, 1 a key has no order, 2 usage, 3 the file \
+can't be opened or read as its format, 4 memory or a device.\n\n\
 Example: abd justify examples/new_then_old.history";
 
 /// Of `abd simulate`.

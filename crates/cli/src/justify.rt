@@ -31,7 +31,7 @@ fn order_file(alloc: Global, orders: &[KeyOrder]) -> Result<Vec<u8>, Memory>
 }
 
 /// Writes the order file of the orders, once the whole of it is made.
-fn send_orders<W: CountedWrite, E: CountedWrite>(
+pub(crate) fn send_orders<W: CountedWrite, E: CountedWrite>(
     alloc: Global,
     orders: &[KeyOrder],
     out: &mut W,

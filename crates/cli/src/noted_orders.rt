@@ -30,7 +30,7 @@ pub enum Unjustified<'k> {
 
 impl Unjustified<'_> {
     /// Adds why to the text, a line.
-    fn append_to(self, text: &mut Vec<u8>) -> Result<(), Memory>
+    pub(crate) fn append_to(self, text: &mut Vec<u8>) -> Result<(), Memory>
         ensures { OnOk result (text.new.items ≡ text.old.items ++ refusal_text self.entry) }
     {
         match self {

@@ -1,18 +1,20 @@
 //! The words of a command line.
-ghost use Rattle.std.specs.Prelude.{ℕ, ◌≡◌, false, codes, IfOk, IfErr, MatchOption, MatchResult, map, string_bytes};
+ghost use Rattle.std.specs.Prelude.{ℕ, ◌≡◌, ◌↔◌, IsTrue, false, codes, IfOk, IfErr, MatchOption, MatchResult};
+ghost use Rattle.std.specs.Prelude.{map, string_bytes};
 ghost use Rattle.clap.specs.Words.{app_of, found_of, kind_of, new_rule, rows_of, rule_of};
 ghost use Rattle.clap.specs.Words.{subcommand_rows_of, with_subcommand};
 ghost use Rattle.clap.specs.declared.builder.command.Command.TheViews.{out-Command as fields_of};
-ghost use Rattle.cli.specs.Words.{abd_app, bare_app, check_app, explain_app, explained_files_app, file_app};
-ghost use Rattle.cli.specs.Words.{justify_app, key_option, most_option, required_argument};
-ghost use Rattle.cli.specs.Words.{simulate_app, workers_option, Asks, AsksMost};
+ghost use Rattle.cli.specs.Words.{abd_app, bare_app, check_app, checked_files_app, explain_app, explained_files_app};
+ghost use Rattle.cli.specs.Words.{file_app, flag, justify_app, key_option, most_option, required_argument};
+ghost use Rattle.cli.specs.Words.{simulate_app, workers_option, Asks, AsksForm, AsksMost, GivesFlag};
 ghost use Rattle.cli.specs.Words.{AsksNothing, IsUsageOf, MakesAs, MakesNothing, MakesOf};
 ghost use Rattle.cli.specs.declared.command_line.Command.{Command};
 
 use crate::command_line::{Command, ExplainAsked, Usage};
 use crate::help;
+use crate::json_lines::Lines;
 use clap::error::ErrorKind;
-use clap::{Arg, ArgMatches, Error, value_parser};
+use clap::{Arg, ArgAction, ArgMatches, Error, value_parser};
 use parallel_keys::Workers;
 use run_options::{RunFault, run_in, run_words};
 use std::alloc::{AllocError, Global};
@@ -38,9 +40,20 @@ fn workers_option<'a>(alloc: Global) -> Arg<'a>
         .help(help::WORKERS)
 }
 
-/// `abd check HISTORY ORDERS [--workers N]`.
-fn check_words<'a>(alloc: Global) -> Result<clap::Command<'a>, AllocError>
-    ensures app { IfOk result (λ words. app_of words ≡ check_app) }
+/// An option that takes no value.
+fn flag<'a>(alloc: Global, name: &'a str, help: &'a str) -> Arg<'a>
+    ensures rule { rule_of result ≡ flag name.entry.now }
+    ensures local { result.global ≡ false }
+{
+    Arg::new(alloc, name)
+        .long(name)
+        .action(ArgAction::SetTrue)
+        .help(help)
+}
+
+/// `abd check HISTORY ORDERS`.
+fn checked_files<'a>(alloc: Global) -> Result<clap::Command<'a>, AllocError>
+    ensures app { IfOk result (λ words. app_of words ≡ checked_files_app) }
     ensures local { IfOk result (λ words. (fields_of words).has_globals ≡ false) }
 {
     let check = clap::Command::new(alloc, "check")
@@ -53,7 +66,16 @@ fn check_words<'a>(alloc: Global) -> Result<clap::Command<'a>, AllocError>
         "ORDERS",
         "For each key an order of its calls: an order file",
     );
-    check.arg(orders)?.arg(workers_option(alloc))
+    check.arg(orders)
+}
+
+/// `abd check HISTORY ORDERS [--workers N] [--json]`.
+fn check_words<'a>(alloc: Global) -> Result<clap::Command<'a>, AllocError>
+    ensures app { IfOk result (λ words. app_of words ≡ check_app) }
+    ensures local { IfOk result (λ words. (fields_of words).has_globals ≡ false) }
+{
+    let check = checked_files(alloc)?.arg(workers_option(alloc))?;
+    check.arg(flag(alloc, "json", help::JSON))
 }
 
 /// The option `--key KEY`.
@@ -128,19 +150,20 @@ fn file_words<'a>(
     command.arg(argument)
 }
 
-/// `abd justify HISTORY`.
+/// `abd justify HISTORY [--unchecked]`.
 fn justify_words<'a>(alloc: Global) -> Result<clap::Command<'a>, AllocError>
     ensures app { IfOk result (λ words. app_of words ≡ justify_app) }
     ensures local { IfOk result (λ words. (fields_of words).has_globals ≡ false) }
 {
-    file_words(
+    let justify = file_words(
         alloc,
         "justify",
         "Make from the notes an order of each key's calls, check it, and write the orders",
         help::JUSTIFY,
         "HISTORY",
         "The recorded calls, with their notes: a history file",
-    )
+    )?;
+    justify.arg(flag(alloc, "unchecked", help::UNCHECKED))
 }
 
 /// `abd simulate SCRIPT`.
@@ -209,6 +232,24 @@ fn usage_of(alloc: Global, error: &Error) -> Usage
     }
 }
 
+/// Whether the flag is given.
+fn has_flag(matches: &ArgMatches<'_>, name: &str) -> bool
+    ensures { IsTrue result ↔ GivesFlag name.now (rows_of (found_of matches.now)) }
+{
+    matches.get_one::<bool>(name).unwrap_or(false)
+}
+
+/// The form of the lines that are asked for.
+fn form_in(matches: &ArgMatches<'_>) -> Lines
+    ensures { AsksForm (rows_of (found_of matches.now)) result }
+{
+    if has_flag(matches, "json") {
+        Lines::Json
+    } else {
+        Lines::Plain
+    }
+}
+
 /// `check`, of the words after its name.
 fn check_in<'a>(matches: &ArgMatches<'a>) -> Option<Command<'a>>
     ensures { MatchOption result
@@ -219,10 +260,12 @@ fn check_in<'a>(matches: &ArgMatches<'a>) -> Option<Command<'a>>
     let orders = matches.get_str("ORDERS")?;
     let count = matches.get_one::<u8>("workers")?;
     let workers = Workers::new(count)?;
+    let form = form_in(matches);
     Some(Command::Check {
         history,
         orders,
         workers,
+        form,
     })
 }
 
@@ -264,7 +307,8 @@ fn justify_in<'a>(matches: &ArgMatches<'a>) -> Option<Command<'a>>
         (MakesAs (codes "justify") (rows_of (found_of matches.now))) }
 {
     let history = matches.get_str("HISTORY")?;
-    Some(Command::Justify { history })
+    let unchecked = has_flag(matches, "unchecked");
+    Some(Command::Justify { history, unchecked })
 }
 
 /// `simulate`, of the words after its name.

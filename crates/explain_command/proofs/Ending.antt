@@ -1,5 +1,5 @@
 -- How an explanation ends.
-use Rattle.std.proofs.Common.{ℕ, ◌≡◌, List, Option, inl, inr, refl, sym, subst, ap, ◌∙◌, arith}
+use Rattle.std.proofs.Common.{ℕ, ◌≡◌, List, Option, inl, inr, refl, sym, subst, ◌∙◌, arith}
 use Rattle.recorder.specs.declared.order.KeyOrder.{KeyOrder}
 use Rattle.counted_devices.specs.DeviceStates.{DeviceStates}
 use Rattle.counted_devices.specs.Deliveries.{Delivers, ReadsAll}
@@ -15,9 +15,9 @@ use Rattle.cli.specs.Readings.{EndsUnread, HasFaultyLine, IsHistoryRead}
 use Rattle.cli.specs.declared.status.Status.{Status}
 use Rattle.cli.specs.declared.status.Status.TheVariants.{Good, Refused, Usage, Format as Faulty_file, Failed}
 use Rattle.explain_command.specs.Endings.{EndsExplanation, ReadsNumbered}
-use Rattle.explain_command.specs.Explanations.{Explanation, explanations_text, no_count}
+use Rattle.explain_command.specs.Explanations.{AreRefused, Explanation, explanations_text, misses_key, no_count}
 use Rattle.explain_command.specs.KeyExplanations.{HasLinesOfEach}
-use Rattle.explain_command.specs.Reports.{SendsReport}
+use Rattle.explain_command.specs.Reports.{HasStatus, SendsReport}
 use Rattle.explain_command.specs.declared.report.Report.{Report}
 use Rattle.explain_command.specs.declared.selection.Selection.{Selection}
 
@@ -51,14 +51,21 @@ pieces_read old new orders read =
 
 module _ (selection : Selection) (Are : List Explanation → Type 0) (Faulty : Type 0) (out : DeviceStates) where
   -- the report was sent
-  pub sent : (report : Report) (es : List Explanation) → Are es → report.text.items ≡ explanations_text selection es → report.refused ≡ no_count es
+  pub sent : (report : Report) (es : List Explanation) → Are es → report.text.items ≡ explanations_text selection es
+      → report.refused ≡ no_count es → report.missing ≡ misses_key selection es
       → (s : Status) → SendsReport report out s → EndsExplanation selection Are Faulty out s
-  sent report es are text refused Good sends = record { explanations = es; are = are; count = sym refused ∙ sends.0; goes = subst (Receives out) text sends.1 }
-  sent report es are text refused Refused sends = record { explanations = es; are = are; count = omega (arith, refused, sends.0); goes = subst (Receives out) text sends.1 }
-  sent report es are text refused Usage sends = sends
-  sent report es are text refused Faulty_file sends = absurd sends
-  sent report es are text refused Failed (inl nothing) = inl nothing
-  sent report es are text refused Failed (inr begun) = inr (record { explanations = es; are = are; count = tt; goes = subst (ReceivesPrefix out) text begun })
+  sent report es are text refused missing Good sends =
+      record { explanations = es; are = are; say = (sym refused ∙ sends.0.0, sym missing ∙ sends.0.1); goes = subst (Receives out) text sends.1 }
+  sent report es are text refused missing Refused sends =
+      record { explanations = es; are = are; say = refused_so sends.0; goes = subst (Receives out) text sends.1 }
+    where
+      refused_so : HasStatus report Refused → AreRefused selection es
+      refused_so (inl some) = inl (omega (arith, refused, some))
+      refused_so (inr none) = inr (sym missing ∙ none)
+  sent report es are text refused missing Usage sends = absurd sends
+  sent report es are text refused missing Faulty_file sends = absurd sends
+  sent report es are text refused missing Failed (inl nothing) = inl nothing
+  sent report es are text refused missing Failed (inr begun) = inr (record { explanations = es; are = are; say = tt; goes = subst (ReceivesPrefix out) text begun })
 
   -- a file wasn't read to its end
   pub unread : {Header Item : Type 0} (format : Format Header Item) (reader : DeviceStates) → (HasFaultyLine format reader → Faulty) → ReceivesNothing out

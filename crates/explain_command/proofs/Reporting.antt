@@ -1,5 +1,5 @@
 -- Reports, one key more.
-use Rattle.std.proofs.Common.{ℕ, zero, suc, ◌≡◌, ◌<◌, ◌≤◌, ◌+◌, ◌-◌, Bool, true, false, IsTrue, ◌↔◌, Some, inl, inr, List, [], ◌∷◌, ◌++◌, append_assoc, append-nil, codes, decimal, length, refl, sym, ap, ap₂, subst, ◌∙◌, arith}
+use Rattle.std.proofs.Common.{ℕ, zero, suc, ◌≡◌, ◌<◌, ◌≤◌, ◌+◌, ◌-◌, Bool, true, false, IsTrue, ◌↔◌, Some, inl, inr, List, [], ◌∷◌, ◌++◌, append_assoc, append-nil, codes, decimal, length, refl, sym, ap, ap₂, ◌∙◌, arith}
 use Rattle.history_file.specs.declared.numbered_format.NumberedHistories.{NumberedHistories}
 use Rattle.parallel_keys.specs.CheckedKeys.{CheckedKey}
 use Rattle.std.proofs.lemmas.Bool.{cases_lt}
@@ -17,7 +17,7 @@ use Rattle.explanations.specs.Sentences.{order_reason_text, rule_text, tag_reaso
 use Rattle.cli.specs.VerdictLines.{line_text}
 use Rattle.cli.specs.Justifications.{KeyPart}
 use Rattle.explain_command.specs.KeyExplanations.{ExplainsOrder, ExplainsTags, IsHallOfKey, RefusesOrder, RefusesTags, tag_line}
-use Rattle.explain_command.specs.Explanations.{Explanation, Yes, No, explanations_text, is_missing, left_out_line, lines_text, missing_line, named_key, no_count}
+use Rattle.explain_command.specs.Explanations.{Yes, No, explanations_text, is_missing, left_out_line, lines_text, missing_line, named_key, no_count}
 use Rattle.explain_command.specs.Reports.{Adds, AddsOf, Explains, IsReportOf, IsWholeReport}
 use Rattle.explain_command.specs.declared.judged.Judged.{Judged}
 use Rattle.explain_command.specs.declared.report.Report.{Report}
@@ -85,9 +85,10 @@ module _ (judged : Judged) (numbered : NumberedHistories) where
   -- with its last lines a report is whole
   pub whole : (keys : List CheckedKey) (selection : Selection) (first second last : Report) (count : ℕ) → IsReportOf judged numbered keys selection.most first → count ≡ length keys
       → second.text.items ≡ first.text.items ++ missing_line (is_missing (named_key selection) count) → second.refused ≡ first.refused → second.most ≡ first.most
-      → last.text.items ≡ second.text.items ++ left_out_line (second.refused - second.most) → last.refused ≡ second.refused → IsWholeReport judged numbered keys selection last
+      → second.missing ≡ is_missing (named_key selection) count → last.text.items ≡ second.text.items ++ left_out_line (second.refused - second.most)
+      → last.refused ≡ second.refused → last.missing ≡ second.missing → IsWholeReport judged numbered keys selection last
   unfolding explanations_text
-  whole keys selection first second last count are counted missing same_refused same_most left kept =
+  whole keys selection first second last count are counted missing same_refused same_most is_named left kept same_missing =
       let es = are.explanations in
       let name = named_key selection in
       let all : count ≡ length es = counted ∙ sym (length-explained (Explains judged numbered) keys es are.explained) in
@@ -98,6 +99,7 @@ module _ (judged : Judged) (numbered : NumberedHistories) where
         explained = are.explained;
         text = left ∙ ap₂ (λ (l : List ℕ) (n : ℕ). l ++ left_out_line n) (missing ∙ ap₂ (λ (l : List ℕ) (n : ℕ). l ++ missing_line (is_missing name n)) are.text all) (ap₂ (λ (n m : ℕ). n - m) refused most);
         refused = kept ∙ refused;
+        missing = same_missing ∙ is_named ∙ ap (is_missing name) all;
       }
 
 -- what it means that a reason is said, or isn't

@@ -1,5 +1,5 @@
 -- Keys that are selected.
-use Rattle.std.proofs.Common.{◌≡◌, Bool, true, false, cond, List, [], ◌∷◌, ◌++◌, append-nil, filter, map, refl, sym, ap, subst, ◌∙◌, ℕ, Option}
+use Rattle.std.proofs.Common.{◌≡◌, Bool, true, false, cond, List, [], ◌∷◌, append-nil, filter, map, refl, sym, ap, subst, ◌∙◌, ℕ, Option}
 use Rattle.parallel_keys.specs.CheckedKeys.{CheckedKey, KeyParts, checked_keys, recorded_key}
 use Rattle.parallel_keys.specs.KeysToCheck.{what_of}
 use Rattle.parallel_keys.specs.declared.collect_keys.KeyToCheck.{KeyToCheck}

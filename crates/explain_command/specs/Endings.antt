@@ -1,5 +1,5 @@
 -- What `abd explain` comes to.
-use Rattle.std.specs.Prelude.{ℕ, ◌≡◌, ◌≤◌, ◌⊎◌, List}
+use Rattle.std.specs.Prelude.{ℕ, ◌⊎◌, List}
 use Rattle.recorder.specs.Halls.{AreHalls}
 use Rattle.recorder.specs.declared.order.KeyOrder.{KeyOrder}
 use Rattle.counted_devices.specs.DeviceStates.{DeviceStates}
@@ -15,7 +15,8 @@ use Rattle.cli.specs.Devices.{Receives, ReceivesNothing, ReceivesPrefix}
 use Rattle.cli.specs.Readings.{HasFaultyLine, IsHistoryRead, ReadsPieces}
 use Rattle.cli.specs.declared.status.Status.{Status}
 use Rattle.cli.specs.declared.status.Status.TheVariants as status
-use Rattle.explain_command.specs.Explanations.{Explanation, explanations_text, named_key, no_count}
+use Rattle.explain_command.specs.Explanations.{AreRefused, AreGood, Explanation}
+use Rattle.explain_command.specs.Explanations.{explanations_text, named_key}
 use Rattle.explain_command.specs.KeyExplanations.{AreExplained, ExplainsOrder, ExplainsTags}
 use Rattle.explain_command.specs.KeyExplanations.{selected_keys, selected_parts}
 use Rattle.explain_command.specs.declared.selection.Selection.{Selection}
@@ -53,22 +54,23 @@ module _ (selection : Selection) (history : DeviceStates) where
 
 module _ (selection : Selection) (Are : List Explanation → Type 0) (Faulty : Type 0)
     (out : DeviceStates) where
-  -- such explanations, of which so many say no, and that holds of their text
-  pub record IsExplained (Count : ℕ → Type 0) (Goes : List ℕ → Type 0) : Type 0 where
+  -- such explanations: the one holds of them, and the other of their text
+  pub record IsExplained (Say : List Explanation → Type 0) (Goes : List ℕ → Type 0) : Type 0 where
     pub explanations : List Explanation
     pub are : Are explanations
-    pub count : Count (no_count explanations)
+    pub say : Say explanations
     pub goes : Goes (explanations_text selection explanations)
 
-  -- what the status says. Good: all say yes, and their text went out. Refused: some say no, and it
-  -- went out. Format: a file is faulty. Failed: nothing went out, or a beginning of the text
+  -- what the status says. Good: all say yes, a key has the name that was given, if one was, and
+  -- their text went out. Refused: some say no, or no key has that name, and it went out. Format: a
+  -- file is faulty. Failed: nothing went out, or a beginning of the text
   abbrev pub EndsExplanation : Status → Type 0
-  EndsExplanation status.Good = IsExplained (λ n. n ≡ 0) (Receives out)
-  EndsExplanation status.Refused = IsExplained (λ n. 1 ≤ n) (Receives out)
+  EndsExplanation status.Good = IsExplained (AreGood selection) (Receives out)
+  EndsExplanation status.Refused = IsExplained (AreRefused selection) (Receives out)
   EndsExplanation status.Usage = ⊥
   EndsExplanation status.Format = Faulty
   EndsExplanation status.Failed =
-      ReceivesNothing out ⊎ IsExplained (λ n. Unit {0}) (ReceivesPrefix out)
+      ReceivesNothing out ⊎ IsExplained (λ explanations. Unit {0}) (ReceivesPrefix out)
 
 -- what the status of an explanation of orders says; format: the history has a faulty line, or was
 -- read and the orders have one

@@ -1,5 +1,6 @@
 -- What is said of keys, and the text that says it.
-use Rattle.std.specs.Prelude.{ℕ, zero, suc, ◌+◌, ◌-◌, ◌==◌, Bool, false, List, [], ◌∷◌, ◌++◌}
+use Rattle.std.specs.Prelude.{ℕ, zero, suc, ◌≡◌, ◌≤◌, ◌⊎◌, ◌+◌, ◌-◌, ◌==◌, Bool, true, false}
+use Rattle.std.specs.Prelude.{List, [], ◌∷◌, ◌++◌}
 use Rattle.std.specs.Prelude.{Option, None, Some, codes, decimal, length, option_map}
 use Rattle.std.specs.Prelude.{if◌then◌else◌}
 use Rattle.explain_command.specs.declared.selection.Selection.{Selection}
@@ -37,7 +38,21 @@ abbrev pub is_missing : Option (List ℕ) → ℕ → Bool
 is_missing None count = false
 is_missing (Some name) count = count == 0
 
--- the line that says so
+-- a key was named, and none of those that are explained has that name
+abbrev pub misses_key : Selection → List Explanation → Bool
+misses_key selection explanations = is_missing (named_key selection) (length explanations)
+
+-- none of them says no, and if a key was named, it is explained
+abbrev pub AreGood : Selection → List Explanation → Type 0
+AreGood selection explanations =
+    (no_count explanations ≡ 0) × (misses_key selection explanations ≡ false)
+
+-- one of them says no, or no key has the name that was given
+abbrev pub AreRefused : Selection → List Explanation → Type 0
+AreRefused selection explanations =
+    (1 ≤ no_count explanations) ⊎ (misses_key selection explanations ≡ true)
+
+-- the line that says that no key has the name
 abbrev pub missing_line : Bool → List ℕ
 missing_line missing = if missing then codes "no such key\n" else []
 
@@ -45,5 +60,5 @@ missing_line missing = if missing then codes "no such key\n" else []
 unfoldable pub explanations_text : Selection → List Explanation → List ℕ
 explanations_text selection explanations =
     lines_text explanations selection.most
-    ++ missing_line (is_missing (named_key selection) (length explanations))
+    ++ missing_line (misses_key selection explanations)
     ++ left_out_line (no_count explanations - selection.most)

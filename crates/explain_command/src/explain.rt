@@ -42,7 +42,7 @@ fn numbered_in<'a, R: CountedRead>(
     }
 }
 
-/// Writes the report: `Good` where each key is a yes, `Refused` where one isn't.
+/// Writes the report, and answers its status.
 fn send<W: CountedWrite, E: CountedWrite>(report: &Report, out: &mut W, errors: &mut E) -> Status
     ensures ends { SendsReport report.now (states W.contents W.failures out.old out.new) result }
     ensures failed { result ≡ Status.Failed
@@ -53,8 +53,7 @@ fn send<W: CountedWrite, E: CountedWrite>(report: &Report, out: &mut W, errors: 
         result }
 {
     match write_text(report.text.as_slice(), out) {
-        Ok(()) if report.refused == 0 => Status::Good,
-        Ok(()) => Status::Refused,
+        Ok(()) => report.status(),
         Err(_) => Failure::Output.report(errors),
     }
 }
@@ -66,8 +65,8 @@ fn send<W: CountedWrite, E: CountedWrite>(report: &Report, out: &mut W, errors: 
 /// there, if any has none.
 ///
 /// What goes to `out` is that text, once the whole of it is made, or after a failure of `out` a
-/// beginning of it; nothing where either file has a fault. `Good` where every line says yes, `Refused`
-/// where one says no; files and failures are those of `check_command`.
+/// beginning of it; nothing where either file has a fault. `Good` where every line says yes and a key has
+/// the name, if one was given; else `Refused`. Files and failures are those of `check_command`.
 pub fn explain_orders_command<'a, H: CountedRead, O: CountedRead, W: CountedWrite, E: CountedWrite>(
     rt: &(impl Threads + Sync),
     alloc: Global,
@@ -121,8 +120,8 @@ pub fn explain_orders_command<'a, H: CountedRead, O: CountedRead, W: CountedWrit
 /// lines of the history on which it stands. The last lines are those of `explain_orders_command`.
 ///
 /// What goes to `out` is that text, once the whole of it is made, or after a failure of `out` a
-/// beginning of it; nothing where the file has a fault. `Good` where every line says yes, `Refused`
-/// where one says no. A failure is said on `errors`.
+/// beginning of it; nothing where the file has a fault. `Good` where every line says yes and a key has
+/// the name, if one was given; else `Refused`. A failure is said on `errors`.
 pub fn explain_tags_command<'a, H: CountedRead, W: CountedWrite, E: CountedWrite>(
     rt: &(impl Threads + Sync),
     alloc: Global,

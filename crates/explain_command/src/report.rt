@@ -6,12 +6,12 @@ ghost use Rattle.tag_check.specs.Verdicts.{IsTagVerdict};
 ghost use Rattle.explain_command.specs.Explanations.{left_out_line, missing_line};
 ghost use Rattle.explain_command.specs.KeyExplanations.{HasLinesOfEach, ExplainsOrder, ExplainsTags};
 ghost use Rattle.explain_command.specs.KeyExplanations.{tag_line};
-ghost use Rattle.explain_command.specs.Reports.{AddsOf, Explains};
+ghost use Rattle.explain_command.specs.Reports.{AddsOf, Explains, HasStatus};
 
 use crate::find_hall::hall_of;
 use crate::judged::Judged;
 use certificate_check::{Fault, Verdict, check_part};
-use cli::{append, append_line, append_number};
+use cli::{Status, append, append_line, append_number};
 use explanations::{append_order_reason, append_rule, append_tag_reason};
 use history_file::NumberedHistories;
 use parallel_keys::KeyToCheck;
@@ -29,6 +29,8 @@ pub(crate) struct Report {
     pub(crate) refused: usize,
     /// How many of them have their reason said, at most.
     pub(crate) most: u16,
+    /// Whether it says that no key has the name that was given.
+    pub(crate) missing: bool,
 }
 
 impl Report {
@@ -42,6 +44,7 @@ impl Report {
             text: Vec::new(alloc),
             refused: 0,
             most,
+            missing: false,
         }
     }
 
@@ -171,13 +174,15 @@ impl Report {
     }
 
     /// Says that no key has the name, if so.
-    pub(crate) fn say_missing(&mut self, is_missing: bool) -> Result<(), Memory>
+    pub(crate) fn say_missing(&mut self, missing: bool) -> Result<(), Memory>
         ensures text { OnOk result (self.new.text.items
-            ≡ self.old.text.items ++ missing_line is_missing) }
+            ≡ self.old.text.items ++ missing_line missing) }
         ensures refused { self.new.refused ≡ self.old.refused }
         ensures most { self.new.most ≡ self.old.most }
+        ensures missing { self.new.missing ≡ missing }
     {
-        if is_missing {
+        self.missing = missing;
+        if missing {
             append(&mut self.text, "no such key\n")
         } else {
             Ok(())
@@ -189,6 +194,7 @@ impl Report {
         ensures text { OnOk result (self.new.text.items
             ≡ self.old.text.items ++ left_out_line (self.old.refused - self.old.most)) }
         ensures refused { self.new.refused ≡ self.old.refused }
+        ensures missing { self.new.missing ≡ self.old.missing }
     {
         let left = self.refused.saturating_sub(usize::from(self.most));
         if left == 0 {
@@ -196,5 +202,16 @@ impl Report {
         }
         append_number(&mut self.text, "refused keys not explained: ", left as u64)?;
         append(&mut self.text, "; --most N says how many are\n")
+    }
+
+    /// `Good` where each key is a yes and a key has the name, if one was given; else `Refused`.
+    pub(crate) fn status(&self) -> Status
+        ensures { HasStatus self.now result }
+    {
+        if self.refused == 0 && !self.missing {
+            Status::Good
+        } else {
+            Status::Refused
+        }
     }
 }

@@ -18,7 +18,7 @@ check_keys-requires g c =
 pub returns-in-Ok-check_keys-clause-ends : goal.returns-in-Ok-check_keys-clause-ends
 returns-in-Ok-check_keys-clause-ends g c =
     let along = λ (pieces : List KeyOrder) (joined : AreJoined pieces c.in-Ok-orders_in.orders.items). subst (λ (l : List KeyOrder). AreJoined pieces l) (sym c.as_slice.ensures.value) joined in
-    ends _ _ _ c.in-Ok.histories c.in-Ok-orders_in.orders.items c.in-Ok.ensures.read c.in-Ok-orders_in.ensures.read c.in-Ok-check_keys.status
+    ends c.args.form _ _ _ c.in-Ok.histories c.in-Ok-orders_in.orders.items c.in-Ok.ensures.read c.in-Ok-orders_in.ensures.read c.in-Ok-check_keys.status
     (λ pieces joined. c.in-Ok-check_keys.ensures.checked pieces (along pieces joined)) (λ pieces joined. c.in-Ok-check_keys.ensures.said pieces (along pieces joined))
 
 pub returns-clause-ends : goal.returns-clause-ends
@@ -27,7 +27,7 @@ returns-clause-ends g c =
     let failures = g.W.Counted.failures in
     let contents = g.W.Write.contents in
     let s = c.report-in-Err-check_keys.ensures.status ∙ ap status_of c.from.ensures ∙ halted_fails c.in-Err-check_keys.halt in
-    rw s (halted_ends _ _ _ c.in-Ok.histories c.in-Ok-orders_in.orders.items c.in-Ok.ensures.read c.in-Ok-orders_in.ensures.read c.args.workers failures c.args.out.now c.check_keys.new.out c.in-Err-check_keys.halt c.in-Err-check_keys.ensures.output (λ same. ap contents same)
+    rw s (halted_ends c.args.form _ _ _ c.in-Ok.histories c.in-Ok-orders_in.orders.items c.in-Ok.ensures.read c.in-Ok-orders_in.ensures.read c.args.workers failures c.args.out.now c.check_keys.new.out c.in-Err-check_keys.halt c.in-Err-check_keys.ensures.output (λ same. ap contents same)
     (λ is pieces joined. c.in-Err-check_keys.ensures.begun pieces (along pieces joined) is))
 
 pub returns-clause-said : goal.returns-clause-said

@@ -27,11 +27,11 @@ returns-in-Ok-clause-checked g c = λ pieces joined.
 pub returns-in-Ok-clause-said : goal.returns-in-Ok-clause-said
 returns-in-Ok-clause-said g c = λ pieces joined.
     let text = c.in_ok-text.text.items in
-    let lines = lines_said c.args.histories.now.halls pieces c.args.orders.now c.in_ok-checked.checked.items text joined c.in_ok-checked.ensures (rw c.as_slice-verdicts.ensures.value at c.in_ok-text.ensures) in
+    let lines = lines_said c.args.form c.args.histories.now.halls pieces c.args.orders.now c.in_ok-checked.checked.items text joined c.in_ok-checked.ensures (rw c.as_slice-verdicts.ensures.value at c.in_ok-text.ensures) in
     (text, lines, rw c.as_slice.ensures.value at c.in-Ok.ensures.written)
 
 pub returns-clause-begun : goal.returns-clause-begun
 returns-clause-begun g c = λ pieces joined is.
     let text = c.in_ok-text.text.items in
-    let lines = lines_said c.args.histories.now.halls pieces c.args.orders.now c.in_ok-checked.checked.items text joined c.in_ok-checked.ensures (rw c.as_slice-verdicts.ensures.value at c.in_ok-text.ensures) in
+    let lines = lines_said c.args.form c.args.histories.now.halls pieces c.args.orders.now c.in_ok-checked.checked.items text joined c.in_ok-checked.ensures (rw c.as_slice-verdicts.ensures.value at c.in_ok-text.ensures) in
     (text, lines, rw c.as_slice.ensures.value at c.in-Err.ensures.begun)

@@ -3,4 +3,4 @@ use Rattle.cli.specs.VerdictLines.{lines_text}
 use Rattle.cli.proofs.check_keys.lines_of.Given as goal
 
 abbrev pub invariant-loop-told : goal.invariant-loop-told
-invariant-loop-told l = l.text.items ≡ lines_text (take l.told-index l.verdicts)
+invariant-loop-told l = l.text.items ≡ lines_text l.form (take l.told-index l.verdicts)

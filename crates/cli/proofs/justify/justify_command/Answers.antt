@@ -1,5 +1,11 @@
-use Rattle.cli.proofs.HistoryEndings.{justified}
+use Rattle.counted_devices.specs.DeviceStates.{states}
+use Rattle.cli.specs.Justifications.{JustifiesHalls}
+use Rattle.cli.proofs.HistoryEndings.{ended}
 use Rattle.cli.proofs.justify.justify_command.Goals as goal
 
 pub returns-in-Ok-clause-ends : goal.returns-in-Ok-clause-ends
-returns-in-Ok-clause-ends g c = justified _ _ _ c.in-Ok.histories c.in-Ok.ensures.read c.justify_histories.result c.justify_histories.ensures.ends
+returns-in-Ok-clause-ends g c =
+    let out = states g.W.Write.contents g.W.Counted.failures c.args.out.now c.justify_histories.new.out in
+    let errors = states g.E.Write.contents g.E.Counted.failures c.args.errors.now c.justify_histories.new.errors in
+    ended (λ halls. JustifiesHalls halls out errors) _ out c.in-Ok.histories c.in-Ok.ensures.read (λ none. none) (λ none. none)
+    c.justify_histories.result c.justify_histories.ensures.ends

@@ -13,9 +13,9 @@ use Rattle.cli.proofs.words.check_in.Goals as goal
 
 -- the rows make no `check`, and so no command of that name
 not_check : (rows : List Row) → ((history orders : Text) (workers : ℕ) → NamesFiles rows history orders → AsksWorkers rows workers → ⊥) → (command : Command) → MakesAs (codes "check") rows command → ⊥
-not_check rows none (Check history orders workers) makes = none history.now orders.now workers makes.1.0 makes.1.1
+not_check rows none (Check history orders workers form) makes = none history.now orders.now workers makes.1.0 makes.1.1
 not_check rows none (Explain asked) makes = differ (codes "explain") (codes "check") refl makes.0
-not_check rows none (Justify history) makes = differ (codes "justify") (codes "check") refl makes.0
+not_check rows none (Justify history unchecked) makes = differ (codes "justify") (codes "check") refl makes.0
 not_check rows none (Simulate script) makes = differ (codes "simulate") (codes "check") refl makes.0
 not_check rows none (Run asked) makes = differ (codes "run") (codes "check") refl makes.0
 
@@ -83,5 +83,6 @@ returns c =
             (λ text given. (c.in_ok-count.ensures.value text (one_text-rows found (codes "workers") ∙ given)).0)
             (λ none. let no = c.in_ok-count.ensures.none (one_text-rows found (codes "workers") ∙ none) in absurd (cc))
             (c.in_ok-workers.ensures.some.0 refl)),
+        c.form_in-form.ensures,
       ),
     )

@@ -12,9 +12,9 @@ use Rattle.cli.proofs.words.explain_in.Goals as goal
 
 -- the rows make no `explain`, and so no command of that name
 not_explain : (rows : List Row) → ((asked : ExplainAsked) → AsksExplanation rows asked → ⊥) → (command : Command) → MakesAs (codes "explain") rows command → ⊥
-not_explain rows none (Check history orders workers) makes = differ (codes "check") (codes "explain") refl makes.0
+not_explain rows none (Check history orders workers form) makes = differ (codes "check") (codes "explain") refl makes.0
 not_explain rows none (Explain asked) makes = none asked makes.1
-not_explain rows none (Justify history) makes = differ (codes "justify") (codes "explain") refl makes.0
+not_explain rows none (Justify history unchecked) makes = differ (codes "justify") (codes "explain") refl makes.0
 not_explain rows none (Simulate script) makes = differ (codes "simulate") (codes "explain") refl makes.0
 not_explain rows none (Run asked) makes = differ (codes "run") (codes "explain") refl makes.0
 

@@ -10,9 +10,9 @@ use Rattle.cli.proofs.words.simulate_in.Goals as goal
 
 -- without the file, the rows make no command of that name
 no_script : (rows : List Row) → first_of (codes "SCRIPT") rows ≡ None → (command : Command) → MakesAs (codes "simulate") rows command → ⊥
-no_script rows none (Check history orders workers) makes = differ (codes "check") (codes "simulate") refl makes.0
+no_script rows none (Check history orders workers form) makes = differ (codes "check") (codes "simulate") refl makes.0
 no_script rows none (Explain asked) makes = differ (codes "explain") (codes "simulate") refl makes.0
-no_script rows none (Justify history) makes = differ (codes "justify") (codes "simulate") refl makes.0
+no_script rows none (Justify history unchecked) makes = differ (codes "justify") (codes "simulate") refl makes.0
 no_script rows none (Simulate script) makes = let h = makes.1 in cc
 no_script rows none (Run asked) makes = differ (codes "run") (codes "simulate") refl makes.0
 

@@ -1,5 +1,5 @@
 -- Both files were read: the text of the explanations went out, or a beginning of it.
-use Rattle.std.proofs.Common.{List, inl, inr, refl, subst, sym}
+use Rattle.std.proofs.Common.{List, refl, subst, sym}
 use Rattle.recorder.specs.declared.order.KeyOrder.{KeyOrder}
 use Rattle.parallel_keys.specs.CheckedKeys.{AreDistinct}
 use Rattle.cli.proofs.EachKey.{distinct}
@@ -33,7 +33,7 @@ returns-in-Ok-explain_halls-clause-ends g c =
       are_joined = read.fact.1.made;
       explained = whole.explained;
     })
-    whole.text whole.refused c.send.result c.send.ensures.ends
+    whole.text whole.refused whole.missing c.send.result c.send.ensures.ends
 
 -- memory was wanted, and the output is as it was
 pub returns-clause-said : goal.returns-clause-said

@@ -1,5 +1,4 @@
 -- The history was read: the text of the explanations went out, or a beginning of it.
-use Rattle.std.proofs.Common.{inl, refl}
 use Rattle.tag.proofs.Options.{none_some}
 use Rattle.parallel_keys.specs.CheckedKeys.{all_parts}
 use Rattle.explain_command.specs.Explanations.{named_key}
@@ -26,4 +25,4 @@ returns-in-Ok-explain_halls-clause-ends g c =
       recorded = said.1;
       explained = selected_tags c.in-Ok.numbered (named_key c.args.selection) (all_parts said.0) whole.explanations whole.explained;
     })
-    whole.text whole.refused c.send.result c.send.ensures.ends
+    whole.text whole.refused whole.missing c.send.result c.send.ensures.ends

@@ -17,4 +17,5 @@ returns c =
     let all = subst (λ (ks : List CheckedKey). IsReportOf c.args.judged c.args.numbered.now ks c.args.selection.most c.in_ok-report.report) which report in
     whole c.args.judged c.args.numbered.now _ c.args.selection c.in_ok-report.report c.say_missing.new.self c.say_left_out.new.self c.len.result all
     (c.len.ensures ∙ sym c.as_slice.ensures.len ∙ ap length c.as_slice.ensures.value ∙ sym (length-map few what_of) ∙ ap length which)
-    (rw c.misses.ensures at c.in_ok-say_missing.ensures.text) c.in_ok-say_missing.ensures.refused c.in_ok-say_missing.ensures.most c.in_ok-say_left_out.ensures.text c.in_ok-say_left_out.ensures.refused
+    (rw c.misses.ensures at c.in_ok-say_missing.ensures.text) c.in_ok-say_missing.ensures.refused c.in_ok-say_missing.ensures.most
+    (c.in_ok-say_missing.ensures.missing ∙ c.misses.ensures) c.in_ok-say_left_out.ensures.text c.in_ok-say_left_out.ensures.refused c.in_ok-say_left_out.ensures.missing

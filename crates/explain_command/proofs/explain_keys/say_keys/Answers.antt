@@ -1,4 +1,4 @@
-use Rattle.std.proofs.Common.{◌≤◌, ◌+◌, length, map, take, arith, length-take}
+use Rattle.std.proofs.Common.{◌+◌, map, take, arith, length-take}
 use Rattle.std.proofs.lemmas.List.{length-map}
 use Rattle.parallel_keys.proofs.Fronts.{mapped_more}
 use Rattle.parallel_keys.specs.KeysToCheck.{what_of}

@@ -1,5 +1,5 @@
 -- The hall's number is below their count, and each hall has its list of lines.
-use Rattle.std.proofs.Common.{◌≡◌, ◌<◌, ℕ, List, length, Some, slice_get, sym, ap, subst, ◌∙◌, arith}
+use Rattle.std.proofs.Common.{◌≡◌, ◌<◌, ℕ, List, length, Some, slice_get, ap, subst, ◌∙◌, arith}
 use Rattle.recorder.specs.Halls.{hall_of}
 use Rattle.recorder.specs.Histories.{Recorded}
 use Rattle.tag.proofs.Lists.{item_at}

@@ -13,6 +13,6 @@ returns-then-not-count_refused c =
 pub returns : goal.returns
 returns c =
     on_ok_weaker c.append_order_reason.result
-    (order_said c.args.numbered.now (what_of c.args.one.now) c.args.fault c.requires.fault c.order_reason-reason.result c.order_reason-reason.ensures c.hall_of-hall.result c.hall_of-hall.ensures c.args.self.now (record { text = c.append_order_reason.new.text; refused = c.count_refused.new.self.refused; most = c.count_refused.new.self.most }) c.count_refused.new.self.text.items
+    (order_said c.args.numbered.now (what_of c.args.one.now) c.args.fault c.requires.fault c.order_reason-reason.result c.order_reason-reason.ensures c.hall_of-hall.result c.hall_of-hall.ensures c.args.self.now (record { text = c.append_order_reason.new.text; refused = c.count_refused.new.self.refused; most = c.count_refused.new.self.most; missing = c.count_refused.new.self.missing }) c.count_refused.new.self.text.items
     (ap (λ v. v.items) c.count_refused.ensures.text ∙ c.in_ok-append_line.ensures) (means_said c.count_refused.result c.args.self.now.refused c.args.self.now.most c.count_refused.ensures.said c.if-not-count_refused.false) c.count_refused.ensures.refused c.count_refused.ensures.most)
     c.append_order_reason.ensures
