@@ -1,19 +1,22 @@
 //! The program `abd`: it opens files, hands them to the commands, and ends with their status.
 #![tactic(auto)]
 
+mod faults;
 mod names;
 mod progress;
 
+use crate::faults::explain_faults;
 use crate::names::FileName;
 use crate::progress::{Progress, SharedProgress};
 use cli::{
-    Command, Counting, ExplainAsked, Failure, Source, Status, Usage, check_command, command,
-    justify_command, simulate_command,
+    Command, Counting, ExplainAsked, Failure, Lines, Source, Status, Usage, check_command, command,
+    justify_command, justify_unchecked_command, simulate_command,
 };
 use explain_command::{Selection, explain_orders_command, explain_tags_command};
 use parallel_keys::Workers;
 use run_command::{KeyWatch, NoWatch, Watch, run_command};
 use run_options::RunAsked;
+use std::fs::File;
 use std::io::{ErrorKind, IsTerminal};
 use std::process::ExitCode;
 use std::sync::Wait;
@@ -45,6 +48,33 @@ fn refuse(rt: &HostRuntime, usage: Usage) -> Status {
     }
 }
 
+/// Opens the file. If it can't be opened, says so; the status then.
+fn open<'a>(
+    rt: &HostRuntime,
+    name: &'a FileName<'_>,
+) -> Result<Source<'a, Counting<File>>, Status> {
+    match fs::open(rt, name.given) {
+        Ok(file) => Ok(Source::new(name.told(), Counting::new(file))),
+        Err(_) => Err(fail(rt, Failure::Closed { name: name.told() })),
+    }
+}
+
+/// Opens both files; the second only if the first could be opened.
+fn open_both<'a>(
+    rt: &HostRuntime,
+    history: &'a FileName<'_>,
+    orders: &'a FileName<'_>,
+) -> Result<(Source<'a, Counting<File>>, Source<'a, Counting<File>>), Status> {
+    let history = match open(rt, history) {
+        Ok(history) => history,
+        Err(status) => return Err(status),
+    };
+    match open(rt, orders) {
+        Ok(orders) => Ok((history, orders)),
+        Err(status) => Err(status),
+    }
+}
+
 /// Opens both files before either is read, and checks.
 fn check(
     rt: &HostRuntime,
@@ -52,28 +82,24 @@ fn check(
     history: &str,
     orders: &str,
     workers: Workers,
+    form: Lines,
 ) -> Status {
     let (Ok(history), Ok(orders)) = (FileName::new(rt, history), FileName::new(rt, orders)) else {
         return fail(rt, Failure::Memory);
     };
-    let mut errors = Counting::new(rt.stderr());
-    let Ok(history_file) = fs::open(rt, history.given) else {
-        let name = history.told();
-        return Failure::Closed { name }.report(&mut errors);
+    let (mut history, mut orders) = match open_both(rt, &history, &orders) {
+        Ok(files) => files,
+        Err(status) => return status,
     };
-    let Ok(orders_file) = fs::open(rt, orders.given) else {
-        let name = orders.told();
-        return Failure::Closed { name }.report(&mut errors);
-    };
-    let mut history = Source::new(history.told(), Counting::new(history_file));
-    let mut orders = Source::new(orders.told(), Counting::new(orders_file));
     let mut out = Counting::new(rt.stdout());
+    let mut errors = Counting::new(rt.stderr());
     check_command(
         threads,
         rt.alloc(),
         &mut history,
         &mut orders,
         workers,
+        form,
         &mut out,
         &mut errors,
     )
@@ -90,18 +116,12 @@ fn explain_orders(
     let (Ok(history), Ok(orders)) = (FileName::new(rt, history), FileName::new(rt, orders)) else {
         return fail(rt, Failure::Memory);
     };
-    let mut errors = Counting::new(rt.stderr());
-    let Ok(history_file) = fs::open(rt, history.given) else {
-        let name = history.told();
-        return Failure::Closed { name }.report(&mut errors);
+    let (mut history, mut orders) = match open_both(rt, &history, &orders) {
+        Ok(files) => files,
+        Err(status) => return status,
     };
-    let Ok(orders_file) = fs::open(rt, orders.given) else {
-        let name = orders.told();
-        return Failure::Closed { name }.report(&mut errors);
-    };
-    let mut history = Source::new(history.told(), Counting::new(history_file));
-    let mut orders = Source::new(orders.told(), Counting::new(orders_file));
     let mut out = Counting::new(rt.stdout());
+    let mut errors = Counting::new(rt.stderr());
     explain_orders_command(
         threads,
         rt.alloc(),
@@ -123,13 +143,12 @@ fn explain_tags(
     let Ok(history) = FileName::new(rt, history) else {
         return fail(rt, Failure::Memory);
     };
-    let mut errors = Counting::new(rt.stderr());
-    let Ok(history_file) = fs::open(rt, history.given) else {
-        let name = history.told();
-        return Failure::Closed { name }.report(&mut errors);
+    let mut history = match open(rt, &history) {
+        Ok(history) => history,
+        Err(status) => return status,
     };
-    let mut history = Source::new(history.told(), Counting::new(history_file));
     let mut out = Counting::new(rt.stdout());
+    let mut errors = Counting::new(rt.stderr());
     let alloc = rt.alloc();
     explain_tags_command(
         threads,
@@ -141,31 +160,44 @@ fn explain_tags(
     )
 }
 
-/// Explains the orders, or without orders the tags.
+/// Explains the orders, or without orders the tags; of a faulty file, what is wrong with it.
 fn explain(rt: &HostRuntime, threads: &(impl Threads + Sync), asked: &ExplainAsked<'_>) -> Status {
     let selection = Selection {
         key: asked.key,
         most: asked.most,
     };
-    match asked.orders {
+    let status = match asked.orders {
         Some(orders) => explain_orders(rt, threads, asked.history, orders, selection),
         None => explain_tags(rt, threads, asked.history, selection),
+    };
+    if status == Status::Format {
+        explain_faults(rt, threads, asked.history, asked.orders);
     }
+    status
 }
 
-/// Opens the history, and justifies it.
-fn justify(rt: &HostRuntime, threads: &(impl Threads + Sync), history: &str) -> Status {
+/// Opens the history, and justifies it, or writes the orders that its tags make.
+fn justify(
+    rt: &HostRuntime,
+    threads: &(impl Threads + Sync),
+    history: &str,
+    unchecked: bool,
+) -> Status {
     let Ok(history) = FileName::new(rt, history) else {
         return fail(rt, Failure::Memory);
     };
-    let mut errors = Counting::new(rt.stderr());
-    let Ok(history_file) = fs::open(rt, history.given) else {
-        let name = history.told();
-        return Failure::Closed { name }.report(&mut errors);
+    let mut history = match open(rt, &history) {
+        Ok(history) => history,
+        Err(status) => return status,
     };
-    let mut history = Source::new(history.told(), Counting::new(history_file));
     let mut out = Counting::new(rt.stdout());
-    justify_command(threads, rt.alloc(), &mut history, &mut out, &mut errors)
+    let mut errors = Counting::new(rt.stderr());
+    let alloc = rt.alloc();
+    if unchecked {
+        justify_unchecked_command(threads, alloc, &mut history, &mut out, &mut errors)
+    } else {
+        justify_command(threads, alloc, &mut history, &mut out, &mut errors)
+    }
 }
 
 /// Opens the script, and simulates it.
@@ -173,13 +205,12 @@ fn simulate(rt: &HostRuntime, script: &str) -> Status {
     let Ok(script) = FileName::new(rt, script) else {
         return fail(rt, Failure::Memory);
     };
-    let mut errors = Counting::new(rt.stderr());
-    let Ok(script_file) = fs::open(rt, script.given) else {
-        let name = script.told();
-        return Failure::Closed { name }.report(&mut errors);
+    let mut script = match open(rt, &script) {
+        Ok(script) => script,
+        Err(status) => return status,
     };
-    let mut script = Source::new(script.told(), Counting::new(script_file));
     let mut out = Counting::new(rt.stdout());
+    let mut errors = Counting::new(rt.stderr());
     simulate_command(rt.alloc(), &mut script, &mut out, &mut errors)
 }
 
@@ -262,9 +293,10 @@ where
             history,
             orders,
             workers,
-        } => check(rt, threads, history, orders, *workers),
+            form,
+        } => check(rt, threads, history, orders, *workers, *form),
         Command::Explain(asked) => explain(rt, threads, asked),
-        Command::Justify { history } => justify(rt, threads, history),
+        Command::Justify { history, unchecked } => justify(rt, threads, history, *unchecked),
         Command::Simulate { script } => simulate(rt, script),
         Command::Run(asked) => run(rt, threads, *asked),
     }

@@ -1,0 +1,5 @@
+mod FaultCases
+mod Pieces
+mod PlainBytes
+mod Quoted
+mod Votes
