@@ -1,0 +1,4 @@
+pub mod Escapes
+pub mod Names
+pub mod Markup
+pub mod PageTags
