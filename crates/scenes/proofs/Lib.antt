@@ -1,0 +1,5 @@
+pub mod RunningPoints
+pub mod PlacedPoints
+pub mod Rising
+pub mod Windows
+pub mod Overlaps

@@ -1,0 +1,3 @@
+pub mod Points
+pub mod Scenes
+pub mod Overlaps
