@@ -11,5 +11,7 @@ pub mod laws;
 mod refusing;
 mod settling;
 
+pub use candidates::next_replica;
 pub use errors::SettleError;
+pub use refusing::refuse;
 pub use settling::settle;

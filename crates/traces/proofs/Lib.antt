@@ -1,0 +1,10 @@
+pub mod Pieces
+pub mod Lines
+pub mod Members
+pub mod Controls
+pub mod Rounds
+pub mod SettleSteps
+pub mod Strides
+pub mod Commands
+pub mod Runs
+pub mod FirstLines

@@ -1,0 +1,5 @@
+pub mod Words
+pub mod StepLines
+pub mod Tellings
+pub mod Traces
+pub mod Running
