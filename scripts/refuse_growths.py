@@ -4,7 +4,7 @@ Runs built programs with the library before them that refuses one allocation, th
 with more than 600 allocations, and of test_twin, the first 300 are refused and 300 more, evenly spread up to the last.
 
 With the word `all` every allocation from that one on is refused, for each of abd, store_example and test_store, whose runs wait most of
-their time, so that many are under way at once. Each run has to end within 10 seconds, test_store within 120, with a status that
+their time, so that many are under way at once. Each run has to end within 10 seconds, with a status that
 docs/FORMATS.md names. What is said of one refused allocation below holds there too, but for test_store: any row may come out otherwise,
 and the lines may end.
 
@@ -286,7 +286,7 @@ def hostile_run(runs, at, wanted):
 
 def hostile_rows(library, top):
     """The rows of hostile gates, seats and stores, most of which wait for threads: so many runs at once."""
-    runs = Runs(library, os.path.abspath(f"{top}/crates/test_store/out/test_store"), top, 120)
+    runs = Runs(library, os.path.abspath(f"{top}/crates/test_store/out/test_store"), top, 10)
     runs.is_lasting = Runs.lasting
     count, (_, out, _) = runs.whole([])
     places = list(range(1, count + 1)) if Runs.lasting else spread(0, count, SPREAD)

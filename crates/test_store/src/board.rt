@@ -28,18 +28,13 @@ impl Signal {
     pub fn is_given(&self) -> bool {
         self.set.load(Ordering::SeqCst) == 1
     }
-
-    /// Waits until it has happened, looking at most 1,000,000 times. Whether it has.
-    pub fn wait<R: Clock>(&self, rt: &R) -> bool {
-        for _ in 0..1_000_000 {
-            if self.is_given() {
-                return true;
-            }
-            thread::sleep(rt, Duration::from_micros(1));
-        }
-        false
-    }
 }
+
+/// How often somebody looks whether something has happened, at most: some 4 seconds.
+const PATIENCE: u32 = 260;
+
+/// How many microseconds somebody sleeps between two looks, at most.
+const LONGEST: u64 = 16_384;
 
 /// What a row, its threads and its gate tell each other.
 #[derive(Drop)]
@@ -48,7 +43,7 @@ pub struct Board {
     pub first: Signal,
     /// The second has.
     pub second: Signal,
-    /// Somebody waited at the gate in vain.
+    /// Somebody waited in vain. Nobody waits any longer then.
     pub missed: Signal,
     /// Something came out in a thread as it doesn't have to.
     pub wrong: Signal,
@@ -74,11 +69,28 @@ impl Board {
         }
     }
 
+    /// Waits until the signal is given, looking again after one microsecond, then two, four and so on up to 16,384:
+    /// for 4 seconds, and no longer than until somebody has waited in vain. Whether it was given; if not, somebody
+    /// has waited in vain.
+    pub fn wait<R: Clock>(&self, rt: &R, signal: &Signal) -> bool {
+        let mut pause = 1u64;
+        for _ in 0..PATIENCE {
+            if signal.is_given() {
+                return true;
+            }
+            if self.missed.is_given() {
+                return false;
+            }
+            thread::sleep(rt, Duration::from_micros(pause));
+            pause = u64::wrapping_mul(pause, 2).min(LONGEST);
+        }
+        self.missed.give();
+        false
+    }
+
     /// One of two has come so far at the gate, and waits there for the other.
     pub fn meet<R: Clock>(&self, rt: &R, own: &Signal, other: &Signal) {
         own.give();
-        if !other.wait(rt) {
-            self.missed.give();
-        }
+        self.wait(rt, other);
     }
 }

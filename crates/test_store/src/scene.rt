@@ -190,11 +190,22 @@ impl<R: Wait + Clock, G: Gate> Scene<'_, R, G> {
         true
     }
 
+    /// Whether replica 1 goes down in each of so many halls, once, and up again in each, once.
+    fn goes_down_and_up(&self, store: &Store<G>, halls: u8) -> bool {
+        for (starts, again) in [(false, Refusal::ReplicaDown), (true, Refusal::ReplicaUp)] {
+            let goes = self.switches(store, 1, starts, None) && self.stands(store, halls, starts);
+            if !goes || !self.switches(store, 1, starts, Some(again)) {
+                return false;
+            }
+        }
+        true
+    }
+
     /// Looks on in hall 1 until the second has come so far. Whether it has, and there is no hall 2.
     fn looks_on(&self, store: &Store<G>) -> bool {
         let seen = store.look(self.rt, 1, |_| {
             self.board.first.give();
-            self.board.second.wait(self.rt)
+            self.board.wait(self.rt, &self.board.second)
         });
         seen == Some(true) && self.standing(store, 2).is_none()
     }
@@ -204,7 +215,7 @@ impl<R: Wait + Clock, G: Gate> Scene<'_, R, G> {
         match *step {
             Step::Stops(number, why) => self.switches(store, number, false, why),
             Step::Starts(number, why) => self.switches(store, number, true, why),
-            Step::Stands(halls, is_up) => self.stands(store, halls, is_up),
+            Step::GoesDownAndUp(halls) => self.goes_down_and_up(store, halls),
             Step::IsUntouched => match self.standing(store, 0) {
                 Some(standing) => standing.is_untouched,
                 None => false,
@@ -218,7 +229,7 @@ impl<R: Wait + Clock, G: Gate> Scene<'_, R, G> {
                 self.board.second.give();
                 true
             }
-            Step::AwaitsFirst => self.board.first.wait(self.rt),
+            Step::AwaitsFirst => self.board.wait(self.rt, &self.board.first),
             Step::HaveMet => self.board.first.is_given() && self.board.second.is_given(),
             Step::Here | Step::There | Step::By(..) => false,
         }

@@ -66,8 +66,8 @@ pub enum Step {
     Stops(u8, Option<Refusal>),
     /// The replica goes up in all halls, or isn't started for that reason.
     Starts(u8, Option<Refusal>),
-    /// Replica 1 is up or down in each of so many halls, and replicas 0 and 2 are up.
-    Stands(u8, bool),
+    /// Replica 1 goes down in each of so many halls, once, and up again in each, once; replicas 0 and 2 are up.
+    GoesDownAndUp(u8),
     /// Hall 0 has no row, and no message was sent there.
     IsUntouched,
     /// Somebody looks on in hall 1 from when the first has come so far until the second has; and there is no hall 2.

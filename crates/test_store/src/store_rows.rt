@@ -70,21 +70,7 @@ const STOPS_TWO: [Step; 9] = [
 ];
 
 /// A replica goes down in each of two halls and of four, once, and up again in each, once.
-const STOPS_IN_HALLS: [Step; 13] = [
-    Step::Stops(1, None),
-    Step::Stands(2, false),
-    Step::Stops(1, Some(Refusal::ReplicaDown)),
-    Step::Starts(1, None),
-    Step::Stands(2, true),
-    Step::Starts(1, Some(Refusal::ReplicaUp)),
-    Step::There,
-    Step::Stops(1, None),
-    Step::Stands(4, false),
-    Step::Stops(1, Some(Refusal::ReplicaDown)),
-    Step::Starts(1, None),
-    Step::Stands(4, true),
-    Step::Starts(1, Some(Refusal::ReplicaUp)),
-];
+const STOPS_IN_HALLS: [Step; 3] = [Step::GoesDownAndUp(2), Step::There, Step::GoesDownAndUp(4)];
 
 /// A seat of a store of one hall makes no call in a store of that number with two halls, is shown no record of it, and
 /// doesn't close it.
@@ -124,13 +110,32 @@ const JOINS_ONCE: [Client; 2] = [
 /// The one that joined has made no call.
 const HAS_NO_CALL: [Step; 1] = [Step::By(0, Deed::HasLogged(0))];
 
+/// A row of one client in a store for a few calls.
+const OF_ONE: Row = Row {
+    shape: SMALL,
+    ..QUIET
+};
+
+/// A row of two clients in it.
+const OF_TWO: Row = Row {
+    clients: &[ONE, TWO],
+    ..OF_ONE
+};
+
+/// A row of two such stores, of which the first isn't closed with a seat of the second.
+const OF_TWO_STORES: Row = Row {
+    other: Some(SMALL),
+    end: End::Mismatches,
+    ..OF_ONE
+};
+
 /// The rows.
 pub static STORE_ROWS: [Row; 10] = [
     Row {
         name: "a limit of one call",
         shape: Shape { calls: 1, ..SMALL },
         opening: &FILLS_RECORD,
-        ..QUIET
+        ..OF_ONE
     },
     Row {
         name: "a limit of four flights",
@@ -140,38 +145,33 @@ pub static STORE_ROWS: [Row; 10] = [
         },
         opening: &RUNS_OUT,
         end: End::LeavesCall,
-        ..QUIET
+        ..OF_ONE
     },
     Row {
         name: "two stores",
-        shape: SMALL,
         other: Some(Shape { store: 2, ..SMALL }),
         clients: &[ONE, OTHER_ONE],
         opening: &IS_FOREIGN,
-        end: End::Mismatches,
-        ..QUIET
+        ..OF_TWO_STORES
     },
     Row {
         name: "every reply lost",
         shape: Shape { rounds: 2, ..SMALL },
         manner: Manner::LosesReplies,
         opening: &IS_UNAVAILABLE,
-        ..QUIET
+        ..OF_ONE
     },
     Row {
         name: "every parcel twice",
-        shape: SMALL,
         manner: Manner::Doubles,
-        clients: &[ONE, TWO],
         opening: &IS_DOUBLED,
-        ..QUIET
+        ..OF_TWO
     },
     Row {
         name: "two of three replicas stopped",
         shape: Shape { rounds: 2, ..SMALL },
-        clients: &[ONE, TWO],
         opening: &STOPS_TWO,
-        ..QUIET
+        ..OF_TWO
     },
     Row {
         name: "a replica stopped in all halls",
@@ -184,26 +184,20 @@ pub static STORE_ROWS: [Row; 10] = [
     Row {
         name: "a seat of a store with other halls",
         shape: Shape { halls: 2, ..PLAIN },
-        other: Some(SMALL),
         clients: &[OTHER_ONE],
         opening: &IS_OF_OTHER_HALLS,
-        end: End::Mismatches,
-        ..QUIET
+        ..OF_TWO_STORES
     },
     Row {
         name: "a seat that has seen more than there is",
-        shape: SMALL,
-        other: Some(SMALL),
         clients: &[OTHER_ONE, ONE],
         opening: &HAS_SEEN_TOO_MUCH,
-        end: End::Mismatches,
-        ..QUIET
+        ..OF_TWO_STORES
     },
     Row {
         name: "a name that joined",
-        shape: SMALL,
         clients: &JOINS_ONCE,
         opening: &HAS_NO_CALL,
-        ..QUIET
+        ..OF_ONE
     },
 ];

@@ -5,6 +5,9 @@ use std::sync::atomic::{AtomicU64, Ordering};
 use std::thread;
 use std::time::{Clock, Duration};
 
+/// How often a worker looks whether another has come, at most: some 5 seconds.
+const PATIENCE: u32 = 60_000;
+
 /// A gate at which each worker waits until another has come there.
 #[derive(Drop)]
 struct Meeting<'a, R> {
@@ -16,7 +19,7 @@ struct Meeting<'a, R> {
 impl<'a, R: Clock> CheckGate for Meeting<'a, R> {
     fn at(&self, _index: usize) {
         self.came.fetch_add(1, Ordering::SeqCst);
-        for _ in 0..1_000_000 {
+        for _ in 0..PATIENCE {
             if self.came.load(Ordering::SeqCst) >= 2 {
                 self.met.fetch_add(1, Ordering::SeqCst);
                 return;
