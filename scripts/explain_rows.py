@@ -1,56 +1,47 @@
 """explain_rows.py ABD
 
-Goes over the worked rows of scripts/explain.rows: runs `abd explain` on each history, and its orders if it has some, and compares what it
-prints with the row's text, and its status with 0 where every line of a key says yes, and else 1.
+Goes over the worked rows of crates/test_commands/data/explain.rows: runs `abd explain` on the history of each, and its orders if it has some, and
+compares its status and what it prints with what the row expects. What the program says below the line of a fault is left out: those rows are
+`test_faults`.
 """
 
 import os
-import re
 import subprocess
 import sys
 import tempfile
 
-SECTIONS = ("history", "orders", "text")
+ROWS = os.path.join(os.path.dirname(os.path.abspath(__file__)), "..", "crates", "test_commands", "data", "explain.rows")
 
 
-def sections_of(block):
-    """The row's title, and the text of each section that it has."""
-    title, *lines = block.rstrip("\n").split("\n")
-    found, name = {}, None
-    for line in lines:
-        if line in SECTIONS:
-            name = line
-            found[name] = ""
-        elif name:
-            found[name] += line + "\n"
-    return title, found
-
-
-def explain(abd, row):
-    """What `abd explain` prints of the row's files, and its status."""
+def explain(abd, asked, lines):
+    """What comes of the row: its kind, the status, and what goes to both outputs."""
+    kind, *options = asked.split(" ")
+    history, *orders = lines.split("orders:\n")
+    words = [word for option in options for word in ("--" + option).split("=")]
     with tempfile.TemporaryDirectory() as place:
-        words = []
-        for name in ("history", "orders"):
-            if name in row:
-                words.append(f"{place}/{name}")
-                with open(words[-1], "w", encoding="utf-8") as file:
-                    file.write(row[name])
-        ran = subprocess.run([abd, "explain", *words], capture_output=True, text=True)
-    return ran.stdout, ran.returncode
+        names = ["h", "o"][: 1 + len(orders)]
+        for name, text in zip(names, [history, *orders]):
+            with open(f"{place}/{name}", "w", encoding="utf-8") as file:
+                file.write(text)
+        ran = subprocess.run([abd, "explain", *words, *names], cwd=place, capture_output=True, text=True)
+    said = "".join(line for line in ran.stderr.splitlines(keepends=True) if not line.startswith("  "))
+    errors = f"standard error:\n{said}" if said else ""
+    return f"{kind}: status {ran.returncode}\n{ran.stdout}{errors}"
 
 
 def main():
     abd = os.path.abspath(sys.argv[1])
-    with open(os.path.join(os.path.dirname(os.path.abspath(__file__)), "explain.rows"), encoding="utf-8") as file:
-        blocks = file.read().split("\n### ")[1:]
+    with open(ROWS, encoding="utf-8") as file:
+        rows = file.read().split("\n### ")[1:]
     bad = 0
-    for title, row in map(sections_of, blocks):
-        wanted = row["text"], 1 if re.search(r"^\S+: no ", row["text"], re.M) else 0
-        found = explain(abd, row)
+    for row in rows:
+        title, asked, rest = row.split("\n", 2)
+        lines, wanted = rest.split("---\n", 1)
+        found = explain(abd, asked, lines)
         if found != wanted:
             bad += 1
-            print(f"{title}: status {found[1]}, not {wanted[1]}:\n{found[0]}--- and not\n{wanted[0]}")
-    print(f"{len(blocks)} rows, {bad} otherwise")
+            print(f"{title}:\n{found}--- and not\n{wanted}")
+    print(f"{len(rows)} rows, {bad} otherwise")
     sys.exit(bad != 0)
 
 

@@ -1,4 +1,5 @@
 //! What a row asks for.
+use explain_command::Selection;
 use std::io::ErrorKind;
 
 /// A row's input: its first line, which is a kind and its options, and the lines below it.
@@ -66,6 +67,16 @@ impl<'a> Asked<'a> {
     pub fn workers(self) -> &'a str {
         let workers = self.value("workers");
         if workers.is_empty() { "1" } else { workers }
+    }
+
+    /// Which keys are explained: all, or that of the option `key`; and a reason for each of the first ten refused
+    /// ones, or as many as the option `most` says.
+    pub fn selection(self) -> Selection<'a> {
+        let name = self.value("key");
+        Selection {
+            key: if name.is_empty() { None } else { Some(name) },
+            most: u16::try_from(self.number("most", 10)).unwrap_or(10),
+        }
     }
 
     /// The sizes of pieces in which each file of the row is read: 1, 7 and 1,048,576 bytes unless

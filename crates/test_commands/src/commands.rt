@@ -1,125 +1,13 @@
 //! Rows of the commands.
 use crate::answers::Agreed;
 use crate::asked::Asked;
-use crate::formats::Counting;
 use crate::notation::bytes_of;
-use cli::{Source, Status, check_command, justify_command, simulate_command};
-use parallel_keys::Workers;
+use crate::running::{ALL_KEYS, Input, WELL, Way, run};
+use cli::{Lines, Status};
 use std::alloc::{AllocError, Global};
-use std::io::ErrorKind;
 use std::sync::Wait;
 use std::thread::Threads;
-use test_rows::{AMPLE, Answer, Outputs, Pieces, Said, extent, say_outputs, spans_of};
-
-/// What a command reads: a script or a history, and orders where it is to check.
-#[derive(Clone, Copy)]
-struct Input<'a> {
-    file: &'a [u8],
-    orders: &'a [u8],
-}
-
-/// How the devices are: the size of pieces, how the first file's reader fails at its end, if it
-/// does, and the room of the standard output and of standard error. And how many workers there are.
-#[derive(Clone, Copy)]
-struct Way {
-    size: usize,
-    failure: Option<ErrorKind>,
-    out: usize,
-    errors: usize,
-    workers: u8,
-}
-
-/// Devices that do all that is asked of them.
-const WELL: Way = Way {
-    size: AMPLE,
-    failure: None,
-    out: AMPLE,
-    errors: AMPLE,
-    workers: 1,
-};
-
-/// The first file, named so.
-fn first_file<'a>(name: &'a str, left: &'a [u8], way: Way) -> Source<'a, Counting<Pieces<'a>>> {
-    let (size, failure) = (way.size, way.failure);
-    Source::new(
-        name,
-        Counting::new(Pieces {
-            left,
-            size,
-            failure,
-        }),
-    )
-}
-
-/// The file of orders.
-fn orders_file<'a>(left: &'a [u8], way: Way) -> Source<'a, Counting<Pieces<'a>>> {
-    first_file(
-        "o",
-        left,
-        Way {
-            failure: None,
-            ..way
-        },
-    )
-}
-
-/// The simulation of a script named `s`.
-fn simulate(alloc: Global, input: Input<'_>, way: Way, outputs: &mut Outputs) -> Status {
-    let mut script = first_file("s", input.file, way);
-    simulate_command(alloc, &mut script, &mut outputs.out, &mut outputs.errors)
-}
-
-/// The justification of a history named `h`.
-fn justify(
-    rt: &(impl Threads + Wait + Sync),
-    alloc: Global,
-    input: Input<'_>,
-    way: Way,
-    outputs: &mut Outputs,
-) -> Status {
-    let mut history = first_file("h", input.file, way);
-    justify_command(
-        rt,
-        alloc,
-        &mut history,
-        &mut outputs.out,
-        &mut outputs.errors,
-    )
-}
-
-/// The check of a history named `h` and orders named `o`.
-fn check(
-    rt: &(impl Threads + Wait + Sync),
-    alloc: Global,
-    input: Input<'_>,
-    way: Way,
-    outputs: &mut Outputs,
-) -> Status {
-    let Some(workers) = Workers::new(way.workers) else {
-        return Status::Usage;
-    };
-    let mut history = first_file("h", input.file, way);
-    let mut orders = orders_file(input.orders, way);
-    let (out, errors) = (&mut outputs.out, &mut outputs.errors);
-    check_command(rt, alloc, &mut history, &mut orders, workers, out, errors)
-}
-
-/// What comes of the command of that name.
-fn run(
-    rt: &(impl Threads + Wait + Sync),
-    alloc: Global,
-    name: &str,
-    input: Input<'_>,
-    way: Way,
-) -> Said<Status> {
-    let mut outputs = Outputs::new(alloc, way.out, way.errors);
-    let status = match name {
-        "simulate" => simulate(alloc, input, way, &mut outputs),
-        "justify" => justify(rt, alloc, input, way, &mut outputs),
-        _ => check(rt, alloc, input, way, &mut outputs),
-    };
-    outputs.said(status)
-}
+use test_rows::{Answer, Said, extent, say_outputs, spans_of};
 
 /// The command's name and status, and what went to both outputs.
 fn say_said(out: &mut Answer, name: &str, said: &Said<Status>) {
@@ -173,7 +61,7 @@ fn chain(
         "simulate" => say_simulated(rt, &mut answer, input, way),
         "justify" => say_justified(rt, &mut answer, input, way),
         _ => {
-            say_command(rt, &mut answer, "check", input, way);
+            say_command(rt, &mut answer, name, input, way);
         }
     }
     answer
@@ -212,16 +100,32 @@ fn say_extents(answer: &mut Answer, said: &Said<Status>, whole: &Said<Status>, w
     say_lines(answer, extent_or_text(errors, whole, way.errors));
 }
 
+/// The way of a row with devices that do all that is asked of them: with `json` and `unchecked` the
+/// commands have those options.
+fn well(asked: Asked<'_>) -> Way {
+    let form = if asked.has("json") {
+        Lines::Json
+    } else {
+        Lines::Plain
+    };
+    Way {
+        form,
+        unchecked: asked.has("unchecked"),
+        ..WELL
+    }
+}
+
 /// The way with that room: on standard error where the row says `each-messages`, and else on the
 /// standard output.
 fn way_of_room(asked: Asked<'_>, room: usize) -> Way {
+    let way = well(asked);
     if asked.has("each-messages") {
         Way {
             errors: room,
-            ..WELL
+            ..way
         }
     } else {
-        Way { out: room, ..WELL }
+        Way { out: room, ..way }
     }
 }
 
@@ -250,22 +154,21 @@ fn room_answer(
     answer.text()
 }
 
-/// The command with each room from none to that of all that it writes.
-fn say_rooms(
+/// What comes of the command with each room from none to that of all that it writes.
+fn rooms_answer(
     rt: &(impl Threads + Wait + Sync),
-    out: &mut Answer,
+    alloc: Global,
     asked: Asked<'_>,
     input: Input<'_>,
-) {
-    let alloc = out.alloc();
-    let whole = run(rt, alloc, asked.kind(), input, WELL);
+) -> Result<String, AllocError> {
+    let whole = run(rt, alloc, asked.kind(), input, well(asked));
     // With ample room only an allocation that is refused stands in the way.
     if whole.status == Status::Failed {
-        out.refuse();
+        return Err(AllocError);
     }
     let end = most_of(asked, &whole).saturating_add(1);
     let answer = |room: usize| room_answer(rt, alloc, asked, input, &whole, room);
-    out.push_made(spans_of(alloc, 1, 0, end, &answer));
+    spans_of(alloc, 1, 0, end, &answer)
 }
 
 /// How a row's command is run, in pieces of that size and with that number of workers.
@@ -274,7 +177,7 @@ fn way_of(asked: Asked<'_>, size: &str, workers: &str) -> Way {
         size: size.parse::<usize>().unwrap_or(1),
         failure: asked.failure(),
         workers: workers.parse::<u8>().unwrap_or(0),
-        ..WELL
+        ..well(asked)
     }
 }
 
@@ -303,7 +206,7 @@ fn say_one(
     input: Input<'_>,
 ) {
     if asked.has("each-room") || asked.has("each-messages") {
-        say_rooms(rt, out, asked, input);
+        out.push_made(rooms_answer(rt, out.alloc(), asked, input));
     } else {
         say_ways(rt, out, asked, input);
     }
@@ -312,12 +215,16 @@ fn say_one(
 /// What comes of the row's command on what the lines stand for.
 fn say_file(rt: &(impl Threads + Wait + Sync), out: &mut Answer, asked: Asked<'_>, lines: &str) {
     let file = bytes_of(out, lines);
-    let file = file.as_slice();
-    say_one(rt, out, asked, Input { file, orders: &[] });
+    let input = Input {
+        file: file.as_slice(),
+        orders: &[],
+        selection: asked.selection(),
+    };
+    say_one(rt, out, asked, input);
 }
 
-/// `simulate`: each line is a script. `justify`: the lines are a history.
-/// `check`: the lines up to `orders:` are a history, those from each such line on are orders.
+/// `simulate`: each line is a script. `justify` and `explain-tags`: the lines are a history.
+/// `check` and `explain`: the lines up to `orders:` are a history, those from each such line on are orders.
 pub fn say_command_row(rt: &(impl Threads + Wait + Sync), out: &mut Answer, asked: Asked<'_>) {
     match asked.kind() {
         "simulate" => {
@@ -325,12 +232,12 @@ pub fn say_command_row(rt: &(impl Threads + Wait + Sync), out: &mut Answer, aske
                 say_file(rt, out, asked, line);
             }
         }
-        "justify" => say_file(rt, out, asked, asked.lines),
+        "justify" | "explain-tags" => say_file(rt, out, asked, asked.lines),
         _ => say_checks(rt, out, asked),
     }
 }
 
-/// The check of one history with what those lines stand for.
+/// The check or explanation of one history with what those lines stand for.
 fn say_orders_checked(
     rt: &(impl Threads + Wait + Sync),
     out: &mut Answer,
@@ -339,11 +246,15 @@ fn say_orders_checked(
     lines: &str,
 ) {
     let orders = bytes_of(out, lines);
-    let orders = orders.as_slice();
-    say_one(rt, out, asked, Input { file, orders });
+    let input = Input {
+        file,
+        orders: orders.as_slice(),
+        selection: asked.selection(),
+    };
+    say_one(rt, out, asked, input);
 }
 
-/// The checks of one history with several orders.
+/// The checks or explanations of one history with several orders.
 fn say_checks(rt: &(impl Threads + Wait + Sync), out: &mut Answer, asked: Asked<'_>) {
     let (history, _) = asked
         .lines
@@ -389,11 +300,12 @@ fn say_statuses(rt: &(impl Threads + Wait + Sync), out: &mut Answer, lines: &str
     let input = Input {
         file: script.as_slice(),
         orders: &[],
+        selection: ALL_KEYS,
     };
     let simulated = run(rt, alloc, "simulate", input, WELL);
     let input = Input {
         file: simulated.out.as_slice(),
-        orders: &[],
+        ..input
     };
     let justified = run(rt, alloc, "justify", input, WELL);
     let input = Input {

@@ -15,6 +15,7 @@ mod formats;
 mod names;
 mod notation;
 mod readings;
+mod running;
 mod saying;
 mod wording;
 
@@ -50,7 +51,9 @@ fn say_file_row(rt: &(impl Threads + Wait + Sync), out: &mut Answer, asked: Aske
 /// What comes of other rows.
 fn say_row(rt: &(impl Threads + Wait + Sync), out: &mut Answer, asked: Asked<'_>) {
     match asked.kind() {
-        "simulate" | "justify" | "check" => say_command_row(rt, out, asked),
+        "simulate" | "justify" | "check" | "explain" | "explain-tags" => {
+            say_command_row(rt, out, asked)
+        }
         "seeds" => say_seeds(rt, out, asked),
         "script" | "steps" => say_script_row(out, asked),
         "words" => say_words(out, asked.lines),

@@ -1,5 +1,5 @@
 //! Rows of command lines.
-use cli::{Command, ExplainAsked, Usage, command};
+use cli::{Command, ExplainAsked, Lines, Usage, command};
 use client_phases::ReadMode;
 use run_options::{RunAsked, Shown};
 use std::alloc::{AllocError, Global};
@@ -52,15 +52,23 @@ fn say_asked(out: &mut Answer, asked: &Command<'_>) {
             history,
             orders,
             workers,
+            form,
         } => {
             let count = workers.count();
+            let form = match form {
+                Lines::Plain => "",
+                Lines::Json => ", JSON",
+            };
             write!(
                 out,
-                "check of [{history}] and [{orders}], workers: {count}\n"
+                "check of [{history}] and [{orders}], workers: {count}{form}\n"
             )
         }
         Command::Explain(asked) => say_explained(out, asked),
-        Command::Justify { history } => write!(out, "justify of [{history}]\n"),
+        Command::Justify { history, unchecked } => {
+            let way = if *unchecked { ", unchecked" } else { "" };
+            write!(out, "justify of [{history}]{way}\n")
+        }
         Command::Simulate { script } => write!(out, "simulate of [{script}]\n"),
         Command::Run(asked) => say_run(out, asked),
     }

@@ -1,5 +1,5 @@
 //! The commands, over texts in memory.
-use cli::{Command, Counting, Source, Status, check_command, command, justify_command};
+use cli::{Command, Counting, Lines, Source, Status, check_command, command, justify_command};
 use parallel_keys::Workers;
 use run_command::{NoWatch, run_command};
 use run_options::RunAsked;
@@ -69,6 +69,15 @@ pub fn checked(
     let mut outputs = Outputs::new(alloc, AMPLE, AMPLE);
     let (mut history, mut orders) = (file_of(history), file_of(orders));
     let (out, errors) = (&mut outputs.out, &mut outputs.errors);
-    let status = check_command(rt, alloc, &mut history, &mut orders, workers, out, errors);
+    let status = check_command(
+        rt,
+        alloc,
+        &mut history,
+        &mut orders,
+        workers,
+        Lines::Plain,
+        out,
+        errors,
+    );
     Some(outputs.said(status))
 }

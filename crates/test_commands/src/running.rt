@@ -1,0 +1,112 @@
+//! Runs of single commands.
+use crate::formats::Counting;
+use cli::{
+    Lines, Source, Status, check_command, justify_command, justify_unchecked_command,
+    simulate_command,
+};
+use explain_command::{Selection, explain_orders_command, explain_tags_command};
+use parallel_keys::Workers;
+use std::alloc::Global;
+use std::io::ErrorKind;
+use std::sync::Wait;
+use std::thread::Threads;
+use test_rows::{AMPLE, Outputs, Pieces, Said};
+
+/// What a command reads: a script or a history, and orders where it needs some; and which keys it explains.
+#[derive(Clone, Copy)]
+pub struct Input<'a> {
+    pub file: &'a [u8],
+    pub orders: &'a [u8],
+    pub selection: Selection<'a>,
+}
+
+/// All keys, and a reason for each of the first ten that are refused.
+pub const ALL_KEYS: Selection<'static> = Selection {
+    key: None,
+    most: 10,
+};
+
+/// How the devices are: the size of pieces, how the first file's reader fails at its end, if it
+/// does, and the room of the standard output and of standard error. How many workers there are, in which
+/// form a check prints its lines, and whether a justification leaves the check out.
+#[derive(Clone, Copy)]
+pub struct Way {
+    pub size: usize,
+    pub failure: Option<ErrorKind>,
+    pub out: usize,
+    pub errors: usize,
+    pub workers: u8,
+    pub form: Lines,
+    pub unchecked: bool,
+}
+
+/// Devices that do all that is asked of them.
+pub const WELL: Way = Way {
+    size: AMPLE,
+    failure: None,
+    out: AMPLE,
+    errors: AMPLE,
+    workers: 1,
+    form: Lines::Plain,
+    unchecked: false,
+};
+
+/// The file of that name.
+fn file<'a>(
+    name: &'a str,
+    left: &'a [u8],
+    size: usize,
+    failure: Option<ErrorKind>,
+) -> Source<'a, Counting<Pieces<'a>>> {
+    Source::new(
+        name,
+        Counting::new(Pieces {
+            left,
+            size,
+            failure,
+        }),
+    )
+}
+
+/// What comes of the command of that name. A script is named `s`, a history `h`, and orders `o`.
+pub fn run(
+    rt: &(impl Threads + Wait + Sync),
+    alloc: Global,
+    name: &str,
+    input: Input<'_>,
+    way: Way,
+) -> Said<Status> {
+    let mut outputs = Outputs::new(alloc, way.out, way.errors);
+    let Some(workers) = Workers::new(way.workers) else {
+        return outputs.said(Status::Usage);
+    };
+    let first = if name == "simulate" { "s" } else { "h" };
+    let mut first = file(first, input.file, way.size, way.failure);
+    let mut orders = file("o", input.orders, way.size, None);
+    let (keys, out, errors) = (input.selection, &mut outputs.out, &mut outputs.errors);
+    let status = match name {
+        "simulate" => simulate_command(alloc, &mut first, out, errors),
+        "justify" if way.unchecked => {
+            justify_unchecked_command(rt, alloc, &mut first, out, errors)
+        }
+        "justify" => justify_command(rt, alloc, &mut first, out, errors),
+        "explain" => {
+            explain_orders_command(rt, alloc, &mut first, &mut orders, keys, out, errors)
+        }
+        "explain-tags" => explain_tags_command(rt, alloc, &mut first, keys, out, errors),
+        _ => {
+            let form = way.form;
+            check_command(
+                rt,
+                alloc,
+                &mut first,
+                &mut orders,
+                workers,
+                form,
+                out,
+                errors,
+            )
+        }
+    };
+    outputs.said(status)
+}
