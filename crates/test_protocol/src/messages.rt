@@ -3,6 +3,15 @@ use crate::words::Words;
 use network::Message;
 use replica::{Pair, Reply, Request};
 use std::alloc::Global;
+use tag::Memory;
+
+/// `(1, 1) a`.
+fn pair_of(alloc: Global, mut words: Words<'_>) -> Option<Pair> {
+    Some(Pair {
+        tag: words.tag()?,
+        value: words.value(alloc)?,
+    })
+}
 
 /// `query 7 x`, or `put 4 x (1, 1) a`.
 pub fn request_of(alloc: Global, mut words: Words<'_>) -> Option<Request> {
@@ -11,12 +20,15 @@ pub fn request_of(alloc: Global, mut words: Words<'_>) -> Option<Request> {
     let key = words.key(alloc)?;
     match kind {
         "query" => Some(Request::Query { op, key }),
-        "put" => Some(Request::Put {
-            op,
-            key,
-            tag: words.tag()?,
-            value: words.value(alloc)?,
-        }),
+        "put" => {
+            let Pair { tag, value } = pair_of(alloc, words)?;
+            Some(Request::Put {
+                op,
+                key,
+                tag,
+                value,
+            })
+        }
         _ => None,
     }
 }
@@ -55,64 +67,34 @@ pub fn message_of(alloc: Global, mut words: Words<'_>) -> Option<Message> {
     }
 }
 
-fn pair_of(alloc: Global, mut words: Words<'_>) -> Option<Pair> {
-    Some(Pair {
-        tag: words.tag()?,
-        value: words.value(alloc)?,
-    })
-}
-
-fn said_equal(equal: bool) -> &'static str {
-    if equal { "equal" } else { "different" }
-}
-
-/// How the copy of the request that is written compares with it.
-fn copied_request(alloc: Global, words: Words<'_>) -> Option<&'static str> {
-    let request = request_of(alloc, words)?;
-    match request.copy() {
-        Ok(copy) => Some(said_equal(copy == request)),
-        Err(_) => Some("NO MEMORY"),
-    }
-}
-
-/// How the copy of the reply that is written compares with it.
-fn copied_reply(alloc: Global, words: Words<'_>) -> Option<&'static str> {
-    let reply = reply_of(alloc, words)?;
-    match reply.copy() {
-        Ok(copy) => Some(said_equal(copy == reply)),
-        Err(_) => Some("NO MEMORY"),
-    }
-}
-
-/// How the copy of the message that is written compares with it.
-fn copied_message(alloc: Global, words: Words<'_>) -> Option<&'static str> {
-    let message = message_of(alloc, words)?;
-    match message.copy() {
-        Ok(copy) => Some(said_equal(copy == message)),
-        Err(_) => Some("NO MEMORY"),
+/// How a copy compares with what it is of.
+fn compared<T: PartialEq + Drop>(copy: Result<T, Memory>, original: &T) -> &'static str {
+    match copy {
+        Ok(copy) if copy == *original => "equal",
+        Ok(_) => "different",
+        Err(_) => "NO MEMORY",
     }
 }
 
 /// How the copy of the pair that is written compares with it.
-fn copied_pair(alloc: Global, words: Words<'_>) -> Option<&'static str> {
-    let pair = pair_of(alloc, words)?;
-    match pair.copy() {
-        Ok(copy) => Some(said_equal(copy == pair)),
-        Err(_) => Some("NO MEMORY"),
+fn copied_pair(alloc: Global, words: Words<'_>) -> &'static str {
+    match pair_of(alloc, words) {
+        Some(pair) => compared(pair.copy(), &pair),
+        None => "NO SUCH COPY",
     }
 }
 
 /// How the copy of what is written compares with it.
 pub fn copied(alloc: Global, line: &str) -> &'static str {
     let words = Words { rest: line };
-    if let Some(said) = copied_request(alloc, words) {
-        return said;
+    if let Some(request) = request_of(alloc, words) {
+        return compared(request.copy(), &request);
     }
-    if let Some(said) = copied_reply(alloc, words) {
-        return said;
+    if let Some(reply) = reply_of(alloc, words) {
+        return compared(reply.copy(), &reply);
     }
-    if let Some(said) = copied_message(alloc, words) {
-        return said;
+    match message_of(alloc, words) {
+        Some(message) => compared(message.copy(), &message),
+        None => copied_pair(alloc, words),
     }
-    copied_pair(alloc, words).unwrap_or("NO SUCH COPY")
 }

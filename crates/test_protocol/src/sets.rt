@@ -67,16 +67,14 @@ pub fn say_refusals(out: &mut String) -> Result<(), AllocError> {
 
 /// The numbers of the reasons why a call isn't completed.
 pub fn say_reasons(out: &mut String) -> Result<(), AllocError> {
-    let mut divider = "";
-    for why in [
-        SettleError::NoMajority,
-        SettleError::NotPending,
-        SettleError::Room,
-        SettleError::Memory(5),
+    for (divider, why) in [
+        ("", SettleError::NoMajority),
+        (" / ", SettleError::NotPending),
+        (" / ", SettleError::Room),
+        (" / ", SettleError::Memory(5)),
     ] {
         let number = why.number();
         write!(out, "{divider}{number} {why:?}")?;
-        divider = " / ";
     }
     Ok(())
 }

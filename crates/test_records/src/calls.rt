@@ -4,7 +4,7 @@ use crate::names::{action_of, returned_of, said_equal, tag_of};
 use crate::words::{first_word, number};
 use recorder::{Call, History, KeyOrder, Order, Part, Response, Row, RowRefusal};
 use std::alloc::{AllocError, Global};
-use tag::{Action, ClientId, Key, Memory, NameError, OpId, Returned};
+use tag::{Action, ClientId, Key, Memory, NameError, OpId, Returned, Tag};
 use tag_check::check_tags;
 use test_rows::{RowSaid, said_by, say_action, say_tag};
 use witness_order::order_of;
@@ -61,21 +61,31 @@ fn say_returned(out: &mut String, returned: &Returned) -> Result<(), AllocError>
     }
 }
 
+/// Says the tag of a call's note, if it has one.
+fn say_note(out: &mut String, note: Option<Tag>) -> Result<(), AllocError> {
+    out.push_str("note ")?;
+    match note {
+        Some(tag) => say_tag(out, tag),
+        None => out.push_str("none"),
+    }
+}
+
+/// Says a call's answer.
+fn say_answered(out: &mut String, returned: &Returned) -> Result<(), AllocError> {
+    out.push_str("answer ")?;
+    say_returned(out, returned)
+}
+
 fn say_row(out: &mut String, row: &Row) -> Result<(), AllocError> {
     let (op, said) = said_by(row);
+    write!(out, "call {op}: ")?;
     match said {
+        RowSaid::Noted(tag) => say_note(out, Some(tag)),
+        RowSaid::Answered(returned) => say_answered(out, returned),
         RowSaid::Invoked(client, key, action) => {
             let (client, key) = (client.get(), key.as_str());
-            write!(out, "call {op}: client {client}, {key}, ")?;
+            write!(out, "client {client}, {key}, ")?;
             say_action(out, action)
-        }
-        RowSaid::Noted(tag) => {
-            write!(out, "call {op}: note ")?;
-            say_tag(out, tag)
-        }
-        RowSaid::Answered(returned) => {
-            write!(out, "call {op}: answer ")?;
-            say_returned(out, returned)
         }
     }
 }
@@ -93,8 +103,7 @@ fn say_response(out: &mut String, response: Option<&Response>) -> Result<(), All
     match response {
         None => out.push_str("pending\n"),
         Some(response) => {
-            out.push_str("answer ")?;
-            say_returned(out, &response.returned)?;
+            say_answered(out, &response.returned)?;
             let place = response.place;
             write!(out, " in row {place}\n")
         }
@@ -106,11 +115,8 @@ fn say_call(out: &mut String, call: &Call) -> Result<(), AllocError> {
     let (op, client, invoked) = (call.op.0, call.client.get(), call.invoked);
     write!(out, "{op}: client {client}, ")?;
     say_action(out, &call.action)?;
-    write!(out, ", in row {invoked}, note ")?;
-    match call.note {
-        Some(tag) => say_tag(out, tag)?,
-        None => out.push_str("none")?,
-    }
+    write!(out, ", in row {invoked}, ")?;
+    say_note(out, call.note)?;
     out.push_str(", ")?;
     say_response(out, call.response.as_ref())
 }

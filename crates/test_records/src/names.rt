@@ -3,6 +3,7 @@
 use crate::words::{first_word, meant, number, two_numbers};
 use std::alloc::{AllocError, Global};
 use std::cmp::Ordering;
+use std::fmt::Debug;
 use tag::{Action, ClientId, Key, Memory, OpId, ReplicaId, Returned, Tag, Value};
 use test_rows::say_tag;
 
@@ -23,6 +24,11 @@ pub fn said_equal(equal: bool) -> &'static str {
     if equal { "equal\n" } else { "another\n" }
 }
 
+/// Says why a text wasn't taken.
+fn say_refused<E: Debug>(out: &mut String, error: &E) -> Result<(), AllocError> {
+    write!(out, "refused {error:?}\n")
+}
+
 /// Says a text that was taken, and whether its copy is equal.
 fn say_text(out: &mut String, text: &str, equal: bool) -> Result<(), AllocError> {
     let equal = said_equal(equal);
@@ -32,35 +38,27 @@ fn say_text(out: &mut String, text: &str, equal: bool) -> Result<(), AllocError>
 /// The key that is made of the text, and whether its copy is equal.
 fn say_key_of(alloc: Global, out: &mut String, text: &str) -> Result<(), Memory> {
     match Key::new(alloc, text) {
-        Ok(key) => {
-            let equal = key.copy()? == key;
-            Ok(say_text(out, key.as_str(), equal)?)
-        }
-        Err(error) => Ok(write!(out, "refused {error:?}\n")?),
+        Ok(key) => Ok(say_text(out, key.as_str(), key.copy()? == key)?),
+        Err(error) => Ok(say_refused(out, &error)?),
     }
 }
 
 /// The value that is made of the text, and whether its copy is equal.
 fn say_value_of(alloc: Global, out: &mut String, text: &str) -> Result<(), Memory> {
     match Value::new(alloc, text) {
-        Ok(value) => {
-            let equal = value.copy()? == value;
-            Ok(say_text(out, value.as_str(), equal)?)
-        }
-        Err(error) => Ok(write!(out, "refused {error:?}\n")?),
+        Ok(value) => Ok(say_text(out, value.as_str(), value.copy()? == value)?),
+        Err(error) => Ok(say_refused(out, &error)?),
     }
 }
 
-/// The key of the text that is meant.
-fn say_key(alloc: Global, out: &mut String, words: &str) -> Result<(), Memory> {
+/// The key or the value of the text that is meant.
+fn say_made(alloc: Global, out: &mut String, word: &str, words: &str) -> Result<bool, Memory> {
     let text = meant(alloc, words)?;
-    say_key_of(alloc, out, text.as_str())
-}
-
-/// The value of the text that is meant.
-fn say_value(alloc: Global, out: &mut String, words: &str) -> Result<(), Memory> {
-    let text = meant(alloc, words)?;
-    say_value_of(alloc, out, text.as_str())
+    match word {
+        "key" => say_key_of(alloc, out, text.as_str())?,
+        _ => say_value_of(alloc, out, text.as_str())?,
+    }
+    Ok(true)
 }
 
 /// The tag that a client takes after the least: `next CLIENT`.
@@ -164,14 +162,7 @@ fn say_found(out: &mut String, found: Option<&str>) -> Result<bool, AllocError> 
 /// Says what comes of a step on names. Whether it is one.
 pub fn say(alloc: Global, out: &mut String, word: &str, rest: &str) -> Result<bool, Memory> {
     match word {
-        "key" => {
-            say_key(alloc, out, rest)?;
-            Ok(true)
-        }
-        "value" => {
-            say_value(alloc, out, rest)?;
-            Ok(true)
-        }
+        "key" | "value" => say_made(alloc, out, word, rest),
         "next" => Ok(say_next(out, rest)?),
         _ => Ok(say_found(out, answer(alloc, word, rest))?),
     }

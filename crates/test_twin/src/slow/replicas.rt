@@ -79,25 +79,19 @@ impl SlowReplica {
     /// What it answers to a request, which it carries out.
     pub(crate) fn answer(&mut self, request: &Request) -> Result<Reply, Fail> {
         let replica = self.number;
-        match request {
-            Request::Query { op, key } => {
-                let value = self.value_of(key)?;
-                Ok(Reply::Held {
-                    op: *op,
-                    replica,
-                    tag: self.tag_of(key),
-                    value,
-                })
-            }
-            Request::Put {
-                op,
-                key,
-                tag,
-                value,
-            } => {
-                self.adopt(key, *tag, value)?;
-                Ok(Reply::Kept { op: *op, replica })
-            }
+        let (op, key) = match request {
+            Request::Query { op, key } | Request::Put { op, key, .. } => (*op, key),
+        };
+        if let Request::Put { tag, value, .. } = request {
+            self.adopt(key, *tag, value)?;
+            return Ok(Reply::Kept { op, replica });
         }
+        let value = self.value_of(key)?;
+        Ok(Reply::Held {
+            op,
+            replica,
+            tag: self.tag_of(key),
+            value,
+        })
     }
 }

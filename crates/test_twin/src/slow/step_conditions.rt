@@ -33,13 +33,7 @@ impl SlowWorld {
                 (Refusal::CopiesFull, self.copies(*flight) == 1000),
             ]),
             Step::Respond { client } => self.respond_refusal(*client),
-            Step::StopClient { client } => first_of(&[
-                (Refusal::NoSuchClient, self.phase(*client).is_none()),
-                (
-                    Refusal::ClientStopped,
-                    self.phase(*client) == Some(Phase::Stopped),
-                ),
-            ]),
+            Step::StopClient { client } => self.client_refusal(*client),
             Step::StopReplica { replica } => first_of(&[
                 (Refusal::NoSuchReplica, !self.has_replica(*replica)),
                 (Refusal::ReplicaDown, self.is_down(*replica)),
@@ -51,26 +45,31 @@ impl SlowWorld {
         }
     }
 
-    fn invoke_refusal(&self, client: ClientId) -> Option<Refusal> {
+    /// A step of a client that didn't join or is stopped is refused.
+    fn client_refusal(&self, client: ClientId) -> Option<Refusal> {
         let phase = self.phase(client);
         first_of(&[
             (Refusal::NoSuchClient, phase.is_none()),
             (Refusal::ClientStopped, phase == Some(Phase::Stopped)),
-            (Refusal::ClientBusy, phase != Some(Phase::Idle)),
-            (Refusal::OpsFull, self.call_count() >= self.calls),
         ])
+    }
+
+    fn invoke_refusal(&self, client: ClientId) -> Option<Refusal> {
+        self.client_refusal(client).or(first_of(&[
+            (Refusal::ClientBusy, self.phase(client) != Some(Phase::Idle)),
+            (Refusal::OpsFull, self.call_count() >= self.calls),
+        ]))
     }
 
     fn send_refusal(&self, client: ClientId, replica: ReplicaId) -> Option<Refusal> {
         let phase = self.phase(client);
         let has_request = phase == Some(Phase::Ask) || phase == Some(Phase::Put);
-        first_of(&[
-            (Refusal::NoSuchReplica, !self.has_replica(replica)),
-            (Refusal::NoSuchClient, phase.is_none()),
-            (Refusal::ClientStopped, phase == Some(Phase::Stopped)),
-            (Refusal::NothingToSend, !has_request),
-            (Refusal::FlightsFull, self.sent() >= self.limit),
-        ])
+        first_of(&[(Refusal::NoSuchReplica, !self.has_replica(replica))])
+            .or(self.client_refusal(client))
+            .or(first_of(&[
+                (Refusal::NothingToSend, !has_request),
+                (Refusal::FlightsFull, self.sent() >= self.limit),
+            ]))
     }
 
     /// A message without a copy is gone.
@@ -94,11 +93,8 @@ impl SlowWorld {
     }
 
     fn respond_refusal(&self, client: ClientId) -> Option<Refusal> {
-        let phase = self.phase(client);
-        first_of(&[
-            (Refusal::NoSuchClient, phase.is_none()),
-            (Refusal::ClientStopped, phase == Some(Phase::Stopped)),
-            (Refusal::NotReady, phase != Some(Phase::Ready)),
-        ])
+        let is_ready = self.phase(client) == Some(Phase::Ready);
+        self.client_refusal(client)
+            .or(first_of(&[(Refusal::NotReady, !is_ready)]))
     }
 }

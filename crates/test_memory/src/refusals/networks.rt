@@ -1,5 +1,5 @@
 //! The network and a replica.
-use crate::assert_kept;
+use super::assert_kept;
 use network::{Message, NetRefusal, Pool};
 use replica::{Replica, Reply, Request};
 use std::alloc::Global;
@@ -92,14 +92,9 @@ fn are_taken(alloc: Global, pool: &mut Pool) -> Result<bool, Memory> {
     Ok(good && pool.sent() == 40 && pool.stored() == 40)
 }
 
-fn network_is_kept(alloc: Global) -> Result<bool, Memory> {
-    let mut pool = Pool::new(alloc, 40);
-    are_taken(alloc, &mut pool)
-}
-
 #[test]
 fn a_refused_growth_keeps_the_network(rt: HostRuntime) -> Result<(), Memory> {
-    assert_kept(&rt, network_is_kept(rt.alloc()))
+    assert_kept(&rt, are_taken(rt.alloc(), &mut Pool::new(rt.alloc(), 40)))
 }
 
 /// The answer, at the second time where an allocation was refused at the first; none where that changed

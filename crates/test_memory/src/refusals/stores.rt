@@ -1,5 +1,5 @@
 //! A store whose halls a client joins, one after another.
-use crate::assert_kept;
+use super::assert_kept;
 use client_phases::Phase;
 use node_threads::{JoinError, OpenGate, Store, StoreConfig};
 use recorder::Halls;
@@ -12,18 +12,18 @@ use world_steps::Config;
 /// How many halls the store has.
 const HALLS: u8 = 3;
 
-/// A store of one replica. Its thread isn't started for want of memory alone.
-fn new_store<R>(rt: &R, alloc: Global) -> Result<Store<OpenGate>, Memory>
+/// A store of one replica and so many halls. Its thread isn't started for want of memory alone.
+pub fn new_store<R>(rt: &R, alloc: Global, halls: u8) -> Result<Store<OpenGate>, Memory>
 where
     R: Threads + Wait + Copy + Send + 'static,
 {
-    let (Some(world), Some(halls)) = (Config::new(1, 1000, 1000), Halls::new(HALLS)) else {
+    let (Some(world), Some(halls)) = (Config::new(1, 1000, 1000), Halls::new(halls)) else {
         return Err(Memory);
     };
     let config = StoreConfig {
         store: 1,
         world,
-        rounds: 1,
+        rounds: 10,
         halls,
     };
     Store::start(rt, alloc, config, OpenGate).map_err(|_| Memory)
@@ -100,7 +100,7 @@ fn is_kept<R>(rt: &R, alloc: Global) -> Result<bool, Memory>
 where
     R: Threads + Wait + Copy + Send + 'static,
 {
-    let store = new_store(rt, alloc)?;
+    let store = new_store(rt, alloc, HALLS)?;
     let Ok(client) = ClientId::new(7) else {
         return Ok(false);
     };

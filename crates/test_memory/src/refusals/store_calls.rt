@@ -1,33 +1,16 @@
 //! A store whose calls, copies, stops and end meet a refused allocation: each says so by its error
 //! for memory and by no other.
-use crate::assert_kept;
-use node_threads::{CallError, CloseError, OpenGate, Seat, Store, StoreConfig};
-use recorder::Halls;
+use super::assert_kept;
+use super::stores::new_store;
+use node_threads::{CallError, CloseError, OpenGate, Seat, Store};
 use std::alloc::Global;
 use std::sync::Wait;
 use std::thread::Threads;
 use tag::{Action, ClientId, Key, Memory, ReplicaId};
-use world_steps::{Config, Refusal};
+use world_steps::Refusal;
 
 /// How many halls the store has.
 const HALLS: u8 = 4;
-
-/// A store of one replica. Its thread isn't started for want of memory alone.
-fn new_store<R>(rt: &R, alloc: Global) -> Result<Store<OpenGate>, Memory>
-where
-    R: Threads + Wait + Copy + Send + 'static,
-{
-    let (Some(world), Some(halls)) = (Config::new(1, 1000, 1000), Halls::new(HALLS)) else {
-        return Err(Memory);
-    };
-    let config = StoreConfig {
-        store: 1,
-        world,
-        rounds: 10,
-        halls,
-    };
-    Store::start(rt, alloc, config, OpenGate).map_err(|_| Memory)
-}
 
 /// Reads `x`.
 fn read(
@@ -121,7 +104,7 @@ fn is_kept<R>(rt: &R, alloc: Global) -> Result<bool, Memory>
 where
     R: Threads + Wait + Copy + Send + 'static,
 {
-    let store = new_store(rt, alloc)?;
+    let store = new_store(rt, alloc, HALLS)?;
     let (Ok(client), Some(replica)) = (ClientId::new(7), ReplicaId::new(0)) else {
         return Ok(false);
     };

@@ -1,11 +1,10 @@
 //! Steps of a hall whose journal is full: one of each kind, which finds that the journal has to grow.
-use crate::assert_kept;
-use crate::worlds::{seen, step};
-use client_phases::Taken;
+use super::assert_kept;
+use super::worlds::{effect, seen, step};
 use hall_journal::Hall;
 use std::alloc::Global;
 use std::fmt::Write as _;
-use tag::{Memory, OpId, ReplicaId, Tag};
+use tag::{Memory, ReplicaId};
 use world_steps::{Config, Effect, Refusal, Step};
 
 /// Client 1 writes, by replicas 0 and 1 of three.
@@ -97,120 +96,56 @@ fn is_filled(alloc: Global, hall: &mut Hall, begun: usize, count: usize) -> Resu
     Ok(begin(alloc, hall, begun)? && fill(alloc, hall, count)?)
 }
 
-/// Whether the step of client 1 has its effect.
-fn has_effect(
-    alloc: Global,
-    hall: &mut Hall,
-    letter: (char, u32),
-    effect: Effect,
-) -> Result<bool, Memory> {
-    let step = step(alloc, letter.0, 1, letter.1)?;
-    insist(alloc, hall, &step, effect)
-}
+/// Rows: how many steps of the write the hall has taken, how many steps in all, so that its journal is full; the
+/// letter of the next step, which is client 1's, its number, and that of its effect.
+const ROWS: [(usize, usize, char, u32, u32); 15] = [
+    (0, 31, 'j', 0, 0),
+    (1, 31, 'w', 0, 0),
+    (1, 31, 'r', 0, 0),
+    (2, 31, 's', 0, 0),
+    (8, 31, 's', 0, 4),
+    (4, 31, 'd', 0, 2),
+    (7, 31, 'n', 3, 1),
+    (10, 31, 'd', 4, 6),
+    (13, 31, 'y', 7, 0),
+    (3, 31, 'l', 0, 0),
+    (3, 31, 'c', 0, 0),
+    (14, 31, 'a', 0, 0),
+    // A client's stop has its place in the journal: here no allocation is met that isn't the test's own.
+    (1, 31, 'k', 0, 0),
+    (0, 32, '-', 2, 0),
+    (2, 31, '+', 2, 0),
+];
 
-/// Whether that holds of a hall once it is filled.
+/// Whether the row's step has its effect on the hall, once that is filled.
 fn is_kept_by(
     alloc: Global,
     hall: &mut Hall,
-    (begun, count): (usize, usize),
-    letter: (char, u32),
-    effect: Effect,
+    (begun, count, kind, at, number): (usize, usize, char, u32, u32),
 ) -> Result<bool, Memory> {
     if !is_filled(alloc, hall, begun, count)? {
         return Ok(false);
     }
-    has_effect(alloc, hall, letter, effect)
+    let step = step(alloc, kind, 1, at)?;
+    match effect(kind, number) {
+        Some(effect) => insist(alloc, hall, &step, effect),
+        None => Ok(false),
+    }
 }
 
-/// Whether the step of client 1 has its effect on a hall that took so many steps of the write, and whose
-/// journal is full.
-fn is_kept(
-    alloc: Global,
-    begun: usize,
-    count: usize,
-    letter: (char, u32),
-    effect: Effect,
-) -> Result<bool, Memory> {
+/// Whether it has on a hall of three replicas.
+fn is_kept(alloc: Global, row: (usize, usize, char, u32, u32)) -> Result<bool, Memory> {
     let Some(config) = Config::new(3, 1000, 1000) else {
         return Ok(false);
     };
     let mut hall = Hall::new(alloc, config)?;
-    is_kept_by(alloc, &mut hall, (begun, count), letter, effect)
+    is_kept_by(alloc, &mut hall, row)
 }
 
 #[test]
-fn a_refused_growth_keeps_a_hall_at_a_join(rt: HostRuntime) -> Result<(), Memory> {
-    assert_kept(&rt, is_kept(rt.alloc(), 0, 31, ('j', 0), Effect::Joined))
-}
-
-#[test]
-fn a_refused_growth_keeps_a_hall_at_an_invocation(rt: HostRuntime) -> Result<(), Memory> {
-    assert_kept(
-        &rt,
-        is_kept(rt.alloc(), 1, 31, ('w', 0), Effect::Invoked(OpId(0))),
-    )
-}
-
-#[test]
-fn a_refused_growth_keeps_a_hall_at_a_send(rt: HostRuntime) -> Result<(), Memory> {
-    assert_kept(&rt, is_kept(rt.alloc(), 2, 31, ('s', 0), Effect::Sent(0)))
-}
-
-#[test]
-fn a_refused_growth_keeps_a_hall_at_a_querys_delivery(rt: HostRuntime) -> Result<(), Memory> {
-    assert_kept(
-        &rt,
-        is_kept(rt.alloc(), 4, 31, ('d', 0), Effect::Answered(2)),
-    )
-}
-
-#[test]
-fn a_refused_growth_keeps_a_hall_at_a_noted_delivery(rt: HostRuntime) -> Result<(), Memory> {
-    let Some(tag) = Tag::new(1, 1) else {
-        return Err(Memory);
-    };
-    let effect = Effect::Taken(Taken::Noted(tag));
-    assert_kept(&rt, is_kept(rt.alloc(), 7, 31, ('d', 3), effect))
-}
-
-#[test]
-fn a_refused_growth_keeps_a_hall_at_a_puts_delivery(rt: HostRuntime) -> Result<(), Memory> {
-    assert_kept(
-        &rt,
-        is_kept(rt.alloc(), 10, 31, ('d', 4), Effect::Answered(6)),
-    )
-}
-
-#[test]
-fn a_refused_growth_keeps_a_hall_at_a_loss(rt: HostRuntime) -> Result<(), Memory> {
-    assert_kept(&rt, is_kept(rt.alloc(), 3, 31, ('l', 0), Effect::Lost))
-}
-
-#[test]
-fn a_refused_growth_keeps_a_hall_at_a_repetition(rt: HostRuntime) -> Result<(), Memory> {
-    assert_kept(&rt, is_kept(rt.alloc(), 3, 31, ('c', 0), Effect::Repeated))
-}
-
-#[test]
-fn a_refused_growth_keeps_a_hall_at_a_response(rt: HostRuntime) -> Result<(), Memory> {
-    assert_kept(
-        &rt,
-        is_kept(rt.alloc(), 14, 31, ('a', 0), Effect::Responded(OpId(0))),
-    )
-}
-
-/// A client's stop has its place in the journal: here no allocation is met that isn't the test's own.
-#[test]
-fn a_refused_growth_keeps_a_hall_at_a_clients_stop(rt: HostRuntime) -> Result<(), Memory> {
-    assert_kept(&rt, is_kept(rt.alloc(), 1, 31, ('k', 0), Effect::Stopped))
-}
-
-#[test]
-fn a_refused_growth_keeps_a_hall_at_a_replicas_stop(rt: HostRuntime) -> Result<(), Memory> {
-    assert_kept(&rt, is_kept(rt.alloc(), 0, 32, ('-', 2), Effect::Stopped))
-}
-
-#[test]
-fn a_refused_growth_keeps_a_hall_at_a_replicas_start(rt: HostRuntime) -> Result<(), Memory> {
-    assert_kept(&rt, is_kept(rt.alloc(), 2, 31, ('+', 2), Effect::Started))
+fn a_refused_growth_keeps_a_hall_at_each_kind_of_step(rt: HostRuntime) -> Result<(), Memory> {
+    for row in ROWS {
+        assert_kept(&rt, is_kept(rt.alloc(), row))?;
+    }
+    Ok(())
 }

@@ -1,5 +1,5 @@
 //! A history, its parts, their orders and the verdicts on them.
-use crate::assert_kept;
+use super::assert_kept;
 use certificate_check::{Verdict, check_part};
 use recorder::{History, Part, Parts, RowRefusal};
 use std::alloc::Global;

@@ -1,5 +1,5 @@
 //! Steps of a world, and the call that `settle` completes.
-use crate::assert_kept;
+use super::assert_kept;
 use client_phases::Taken;
 use std::alloc::Global;
 use std::fmt::Write as _;
@@ -9,7 +9,8 @@ use world_steps::{Config, Effect, Refusal, Step, World};
 
 /// A step, by a letter and two numbers: client `who` joins (`j`), begins a write of `a` on `x` (`w`) or a
 /// read of it (`r`), sends to replica `at` (`s`), responds (`a`), stops (`k`); the flight `at` is delivered
-/// (`d`), lost (`l`) or repeated (`c`); the replica `at` stops (`-`) or starts (`+`).
+/// to a replica (`d`), to a client that notes a tag by it (`n`) or is ready by it (`y`), lost (`l`) or repeated
+/// (`c`); the replica `at` stops (`-`) or starts (`+`).
 pub fn step(alloc: Global, kind: char, who: u32, at: u32) -> Result<Step, Memory> {
     let (Ok(client), Some(replica)) = (ClientId::new(who), ReplicaId::new(at.min(14) as u8)) else {
         return Err(Memory);
@@ -21,11 +22,29 @@ pub fn step(alloc: Global, kind: char, who: u32, at: u32) -> Result<Step, Memory
         's' => Ok(Step::Send { client, replica }),
         'a' => Ok(Step::Respond { client }),
         'k' => Ok(Step::StopClient { client }),
-        'd' => Ok(Step::Deliver { flight: at }),
+        'd' | 'n' | 'y' => Ok(Step::Deliver { flight: at }),
         'l' => Ok(Step::Lose { flight: at }),
         'c' => Ok(Step::Repeat { flight: at }),
         '-' => Ok(Step::StopReplica { replica }),
         _ => Ok(Step::StartReplica { replica }),
+    }
+}
+
+/// The effect of a step of that letter: that it begins or ends the call of that number, sends the flight of that
+/// number, or that the client notes the tag of that number and writer.
+pub fn effect(kind: char, number: u32) -> Option<Effect> {
+    match kind {
+        'j' => Some(Effect::Joined),
+        'w' | 'r' => Some(Effect::Invoked(OpId(number))),
+        's' => Some(Effect::Sent(number)),
+        'd' => Some(Effect::Answered(number)),
+        'n' => Some(Effect::Taken(Taken::Noted(Tag::new(number, number)?))),
+        'y' => Some(Effect::Taken(Taken::Ready)),
+        'l' => Some(Effect::Lost),
+        'c' => Some(Effect::Repeated),
+        'a' => Some(Effect::Responded(OpId(number))),
+        '+' => Some(Effect::Started),
+        _ => Some(Effect::Stopped),
     }
 }
 
@@ -119,26 +138,64 @@ pub fn insist(
     }
 }
 
-/// Whether the step of that letter and those numbers has its effect.
+/// Steps, each with the number of its effect. Client 1 writes: its put begins the replica's entry, and a second
+/// copy of it changes nothing. Client 2 writes: its put comes over a known key. Client 3 reads what client 2
+/// wrote, client 1 stops, and the replica stops and starts.
+const STEPS: [(char, u32, u32, u32); 30] = [
+    ('w', 1, 0, 0),
+    ('s', 1, 0, 0),
+    ('d', 1, 0, 1),
+    ('n', 1, 1, 1),
+    ('s', 1, 0, 2),
+    ('c', 1, 2, 0),
+    ('d', 1, 2, 3),
+    ('d', 1, 2, 4),
+    ('l', 1, 4, 0),
+    ('y', 1, 3, 0),
+    ('a', 1, 0, 0),
+    ('w', 2, 0, 1),
+    ('s', 2, 0, 5),
+    ('d', 2, 5, 6),
+    ('n', 2, 6, 2),
+    ('s', 2, 0, 7),
+    ('d', 2, 7, 8),
+    ('y', 2, 8, 0),
+    ('a', 2, 0, 1),
+    ('r', 3, 0, 2),
+    ('s', 3, 0, 9),
+    ('d', 3, 9, 10),
+    ('n', 3, 10, 2),
+    ('s', 3, 0, 11),
+    ('d', 3, 11, 12),
+    ('y', 3, 12, 0),
+    ('a', 3, 0, 2),
+    ('k', 1, 0, 0),
+    ('-', 1, 0, 0),
+    ('+', 1, 0, 0),
+];
+
+/// Whether the step of that letter and those numbers has its effect, which has the last of them.
 fn has_effect(
     alloc: Global,
     world: &mut World,
-    (kind, who, at): (char, u32, u32),
-    effect: Effect,
+    (kind, who, at, number): (char, u32, u32, u32),
 ) -> Result<bool, Memory> {
     let step = step(alloc, kind, who, at)?;
-    insist(alloc, world, &step, Some(effect))
+    match effect(kind, number) {
+        Some(effect) => insist(alloc, world, &step, Some(effect)),
+        None => Ok(false),
+    }
 }
 
 /// Whether each step has its effect.
 fn are_taken(
     alloc: Global,
     world: &mut World,
-    steps: &[(char, u32, u32, Effect)],
+    steps: &[(char, u32, u32, u32)],
 ) -> Result<bool, Memory> {
     let mut good = true;
-    for (kind, who, at, effect) in steps {
-        if !has_effect(alloc, world, (*kind, *who, *at), *effect)? {
+    for step in steps {
+        if !has_effect(alloc, world, *step)? {
             good = false;
         }
     }
@@ -149,86 +206,29 @@ fn are_taken(
 fn all_join(alloc: Global, world: &mut World) -> Result<bool, Memory> {
     let mut good = true;
     for who in 1..14 {
-        if !has_effect(alloc, world, ('j', who, 0), Effect::Joined)? {
+        if !has_effect(alloc, world, ('j', who, 0, 0))? {
             good = false;
         }
     }
     Ok(good)
 }
 
-/// Whether client 1 writes: its put begins the replica's entry, and a second copy of it changes nothing.
-fn first_write(alloc: Global, world: &mut World, tag: Tag) -> Result<bool, Memory> {
-    let steps = [
-        ('w', 1, 0, Effect::Invoked(OpId(0))),
-        ('s', 1, 0, Effect::Sent(0)),
-        ('d', 1, 0, Effect::Answered(1)),
-        ('d', 1, 1, Effect::Taken(Taken::Noted(tag))),
-        ('s', 1, 0, Effect::Sent(2)),
-        ('c', 1, 2, Effect::Repeated),
-        ('d', 1, 2, Effect::Answered(3)),
-        ('d', 1, 2, Effect::Answered(4)),
-        ('l', 1, 4, Effect::Lost),
-        ('d', 1, 3, Effect::Taken(Taken::Ready)),
-        ('a', 1, 0, Effect::Responded(OpId(0))),
-    ];
-    are_taken(alloc, world, &steps)
-}
-
-/// Whether client 2 writes: its put comes over a known key.
-fn second_write(alloc: Global, world: &mut World, tag: Tag) -> Result<bool, Memory> {
-    let steps = [
-        ('w', 2, 0, Effect::Invoked(OpId(1))),
-        ('s', 2, 0, Effect::Sent(5)),
-        ('d', 2, 5, Effect::Answered(6)),
-        ('d', 2, 6, Effect::Taken(Taken::Noted(tag))),
-        ('s', 2, 0, Effect::Sent(7)),
-        ('d', 2, 7, Effect::Answered(8)),
-        ('d', 2, 8, Effect::Taken(Taken::Ready)),
-        ('a', 2, 0, Effect::Responded(OpId(1))),
-    ];
-    are_taken(alloc, world, &steps)
-}
-
-/// Whether client 3 reads what client 2 wrote, and the replica stops and starts.
-fn last_read(alloc: Global, world: &mut World, tag: Tag) -> Result<bool, Memory> {
-    let steps = [
-        ('r', 3, 0, Effect::Invoked(OpId(2))),
-        ('s', 3, 0, Effect::Sent(9)),
-        ('d', 3, 9, Effect::Answered(10)),
-        ('d', 3, 10, Effect::Taken(Taken::Noted(tag))),
-        ('s', 3, 0, Effect::Sent(11)),
-        ('d', 3, 11, Effect::Answered(12)),
-        ('d', 3, 12, Effect::Taken(Taken::Ready)),
-        ('a', 3, 0, Effect::Responded(OpId(2))),
-        ('k', 1, 0, Effect::Stopped),
-        ('-', 1, 0, Effect::Stopped),
-        ('+', 1, 0, Effect::Started),
-    ];
-    are_taken(alloc, world, &steps)
-}
-
 fn steps_are_kept(alloc: Global, world: &mut World) -> Result<bool, Memory> {
-    let (Some(first), Some(second)) = (Tag::new(1, 1), Tag::new(2, 2)) else {
-        return Ok(false);
-    };
-    let join = all_join(alloc, world)?;
-    let written = first_write(alloc, world, first)?;
-    let again = second_write(alloc, world, second)?;
-    let read = last_read(alloc, world, second)?;
-    Ok(join && written && again && read)
+    Ok(all_join(alloc, world)? && are_taken(alloc, world, &STEPS)?)
 }
 
-fn world_is_kept(alloc: Global) -> Result<bool, Memory> {
-    let Some(config) = Config::new(1, 1000, 1000) else {
-        return Ok(false);
-    };
-    let mut world = World::new(alloc, config)?;
-    steps_are_kept(alloc, &mut world)
+/// A world of so many replicas, and as many calls at most.
+pub fn new_world(alloc: Global, replicas: u8, calls: u32) -> Result<World, Memory> {
+    match Config::new(replicas, calls, 1000) {
+        Some(config) => World::new(alloc, config),
+        None => Err(Memory),
+    }
 }
 
 #[test]
 fn a_refused_growth_keeps_a_world(rt: HostRuntime) -> Result<(), Memory> {
-    assert_kept(&rt, world_is_kept(rt.alloc()))
+    let mut world = new_world(rt.alloc(), 1, 1000)?;
+    assert_kept(&rt, steps_are_kept(rt.alloc(), &mut world))
 }
 
 /// The messages sent and the rows after so many steps of `settle`: of each three the first and the second
@@ -261,25 +261,17 @@ fn is_settled(world: &mut World, client: ClientId) -> bool {
     is_good && world.history().rows().len() == 3
 }
 
-/// Whether client 1 joins and begins its write.
-fn is_pending(alloc: Global, world: &mut World) -> Result<bool, Memory> {
-    let joined = has_effect(alloc, world, ('j', 1, 0), Effect::Joined)?;
-    let begun = has_effect(alloc, world, ('w', 1, 0), Effect::Invoked(OpId(0)))?;
-    Ok(joined && begun)
-}
-
-fn settling_is_kept(alloc: Global) -> Result<bool, Memory> {
-    let (Some(config), Ok(client)) = (Config::new(3, 10, 1000), ClientId::new(1)) else {
-        return Ok(false);
-    };
-    let mut world = World::new(alloc, config)?;
-    match is_pending(alloc, &mut world) {
-        Ok(pending) => Ok(pending && is_settled(&mut world, client)),
-        Err(Memory) => Err(Memory),
+/// Whether client 1 joins, begins its write, and the call is completed.
+fn settling_is_kept(alloc: Global, world: &mut World) -> Result<bool, Memory> {
+    let is_pending = are_taken(alloc, world, &[('j', 1, 0, 0), ('w', 1, 0, 0)])?;
+    match ClientId::new(1) {
+        Ok(client) => Ok(is_pending && is_settled(world, client)),
+        Err(_) => Ok(false),
     }
 }
 
 #[test]
 fn a_refused_growth_ends_settling_behind_the_steps_so_far(rt: HostRuntime) -> Result<(), Memory> {
-    assert_kept(&rt, settling_is_kept(rt.alloc()))
+    let mut world = new_world(rt.alloc(), 3, 10)?;
+    assert_kept(&rt, settling_is_kept(rt.alloc(), &mut world))
 }

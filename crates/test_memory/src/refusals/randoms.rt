@@ -1,10 +1,10 @@
 //! Random steps.
-use crate::assert_kept;
-use crate::worlds::insist;
+use super::assert_kept;
+use super::worlds::{insist, new_world};
 use random_steps::RandomSteps;
 use std::alloc::Global;
 use tag::{ClientId, Memory};
-use world_steps::{Config, Step, World};
+use world_steps::{Step, World};
 
 /// Has two clients join.
 fn join_both(world: &mut World) -> Result<(), Memory> {
@@ -58,16 +58,10 @@ fn are_drawn(alloc: Global, world: &mut World) -> Result<bool, Memory> {
     Ok(good)
 }
 
-/// Whether the steps of three replicas are drawn so.
-fn steps_are_kept(alloc: Global) -> Result<bool, Memory> {
-    let Some(config) = Config::new(3, 1000, 1000) else {
-        return Ok(false);
-    };
-    let mut world = World::new(alloc, config)?;
-    are_drawn(alloc, &mut world)
-}
-
 #[test]
 fn a_refused_growth_keeps_random_steps(rt: HostRuntime) -> Result<(), Memory> {
-    assert_kept(&rt, steps_are_kept(rt.alloc()))
+    assert_kept(
+        &rt,
+        are_drawn(rt.alloc(), &mut new_world(rt.alloc(), 3, 1000)?),
+    )
 }

@@ -1,5 +1,5 @@
 //! A client.
-use crate::assert_kept;
+use super::assert_kept;
 use client_phases::{Client, Phase, ReadMode, Taken};
 use quorum::Quorums;
 use replica::{Reply, Request};
@@ -19,29 +19,27 @@ fn text(alloc: Global, client: &Client) -> Result<String, Memory> {
     Ok(format!(in alloc; "{client:?}")?)
 }
 
-/// Whether the client sends the request, at the second time where an allocation was refused at the first,
-/// which left the client as it was.
-fn sends(alloc: Global, client: &Client, wanted: &Request) -> Result<bool, Memory> {
+/// Whether the client gives what is wanted where it is asked so, at the second time where an allocation was
+/// refused at the first, which left the client as it was.
+fn gives<T, F>(alloc: Global, client: &Client, ask: &F, wanted: &T) -> Result<bool, Memory>
+where
+    T: PartialEq + Drop,
+    F: Fn(&Client) -> Result<Option<T>, Memory>,
+    requires { F.IsAlwaysCallable ask.now }
+{
     let before = text(alloc, client)?;
-    if client.request().is_err() && text(alloc, client)? != before {
+    if ask(client).is_err() && text(alloc, client)? != before {
         return Ok(false);
     }
-    match client.request()? {
-        Some(request) => Ok(request == *wanted),
+    match ask(client)? {
+        Some(given) => Ok(given == *wanted),
         None => Ok(false),
     }
 }
 
-/// Whether it has the answer, in the same way.
-fn answers(alloc: Global, client: &Client, wanted: &Returned) -> Result<bool, Memory> {
-    let before = text(alloc, client)?;
-    if client.answer().is_err() && text(alloc, client)? != before {
-        return Ok(false);
-    }
-    match client.answer()? {
-        Some(returned) => Ok(returned == *wanted),
-        None => Ok(false),
-    }
+/// Whether it sends the request.
+fn sends(alloc: Global, client: &Client, wanted: &Request) -> Result<bool, Memory> {
+    gives(alloc, client, &|client: &Client| client.request(), wanted)
 }
 
 /// Has an idle client ask for a read of "x" as call 4. Whether it was idle.
@@ -119,7 +117,7 @@ fn puts(alloc: Global, client: &mut Client, replica: ReplicaId, tag: Tag) -> Res
 /// Whether it has the value for an answer.
 fn answers_value(alloc: Global, client: &Client) -> Result<bool, Memory> {
     let wanted = Returned::Value(Some(value(alloc)?));
-    answers(alloc, client, &wanted)
+    gives(alloc, client, &|client: &Client| client.answer(), &wanted)
 }
 
 /// Whether the client goes from its query to its answer.
