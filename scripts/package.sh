@@ -3,9 +3,9 @@
 #
 #   scripts/package.sh [FOLDER]
 #
-# The program is proved and built first (`rt run` in crates/abd), so nothing unproved is packed. Made twice from one commit the files are the
-# same, byte for byte: names are sorted, owners are 0, times are the commit's, and gzip writes no name and no time.
-set -eu
+# The gate is run first, and the program is proved and built by `rt run` in crates/abd, so nothing unproved is packed. Made twice from one
+# commit the files are the same, byte for byte: names are sorted, owners are 0, times are the commit's, and gzip writes no name and no time.
+set -euo pipefail
 cd "$(dirname "$0")/.."
 top=$PWD
 to=$(mkdir -p "${1:-out}" && cd "${1:-out}" && pwd)
@@ -13,6 +13,7 @@ if [ -n "$(git status --porcelain)" ]; then
   echo "package: commit first: the checksums name a commit" >&2
   exit 1
 fi
+gate=$(.ci/run | tail -1)
 (cd crates/abd && rt run -- check ../../examples/two_calls.history ../../examples/two_calls.orders)
 program=$top/crates/abd/out/abd
 version=$("$program" --version | cut -d' ' -f2)
@@ -79,6 +80,7 @@ dpkg-deb --root-owner-group -Zxz --build "$deb" "$to/abd_${version}_amd64.deb" >
 {
   echo "commit $(git log -1 --format=%H)"
   echo "kit $(rt version)"
+  echo "gate $gate"
   echo "needs the C library $libc or later, and nothing else"
   cd "$to"
   sha256sum "abd_${version}_amd64.deb" "$name.tar.gz"

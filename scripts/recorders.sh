@@ -1,8 +1,10 @@
 #!/usr/bin/env bash
 # Four threads record calls with each recorder of docs/using, and `abd` justifies and checks what they wrote:
-#   scripts/recorders.sh ABD     Python; Java, Go and Rust where their compilers are (javac, go, rustc)
+#   scripts/recorders.sh ABD            Python; Java, Go and Rust where their compilers are (javac, go, rustc)
+#   scripts/recorders.sh ABD python     Python alone
 set -eu
 abd=$(realpath "$1")
+only=${2:-}
 cd "$(dirname "$0")/../docs/using"
 room=$(mktemp -d)
 trap 'rm -rf "$room"' EXIT
@@ -15,6 +17,9 @@ judge() {
 
 PYTHONDONTWRITEBYTECODE=1 python3 recorder_test.py > "$room/python.history"
 judge python
+if [ "$only" = python ]; then
+  exit 0
+fi
 if command -v javac > /dev/null; then
   javac -d "$room" Recorder.java RecorderTest.java
   java -cp "$room" RecorderTest > "$room/java.history"
