@@ -2,7 +2,8 @@
 ghost use Rattle.std.specs.Prelude.{◌≡◌, ℕ, None, IfOk, IfSome, IsNone};
 ghost use Rattle.crossbeam_channel.specs.Fifo.{Learns, Pushes};
 ghost use Rattle.hall_lock.specs.Turns.{AddsOwnRows, AreRecorded, HasEntered, HasOneHall, IsAtRest};
-ghost use Rattle.hall_lock.specs.Turns.{IsStepOfPass, KeepsStopped, MayReturn, Receives, Returns, Turns, guest, maker, seat_in};
+ghost use Rattle.hall_lock.specs.Turns.{IsStepOfPass, KeepsStopped, MayReturn, Receives, Returns, Turns};
+ghost use Rattle.hall_lock.specs.Turns.{guest, maker, seat_in};
 ghost use Rattle.recorder.specs.Histories.{IsWellFormed};
 ghost use Rattle.hall_journal.specs.Halls.{IsReplay, TakesOrRefuses};
 ghost use Rattle.world_steps.specs.Lasting.{client_in};
