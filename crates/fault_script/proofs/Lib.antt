@@ -15,7 +15,7 @@ mod LineFaults
 mod ReadOnce
 mod MessageSpelling
 mod RunSteps
-mod Walking
+pub mod Walking
 mod RunsOfSteps
 mod RunTexts
 mod RunsOnce

@@ -1,6 +1,7 @@
 -- Random steps, one after another.
 use Rattle.std.proofs.Common.{ℕ, suc, ◌≡◌, ◌+◌, Bool, true, false, is_some, is_none, not, cond, Ok}
-use Rattle.std.proofs.Common.{Err, inl, inr, sym, ap, ◌∙◌, subst, arith}
+use Rattle.std.proofs.Common.{◌≤◌, Err, inl, inr, sym, ap, ◌∙◌, subst, add-zero, arith}
+use Rattle.std.specs.Int.{from_bool}
 use Rattle.rand_pcg.specs.Lcg.{Lcg}
 use Rattle.random_steps.specs.Choices.{draw, step_of}
 use Rattle.world_steps.specs.Refusals.{refusal_of}
@@ -35,14 +36,17 @@ pub record IsWalkAt (walk : Walk) (system : System) (generator : Lcg) (taken : �
   pub generator_is : generator ≡ walk.generator
   pub taken_is : taken ≡ walk.taken
 
--- whether one more was taken
+-- one more if it was taken
 abbrev pub counted : Bool → ℕ → ℕ
-counted true taken = taken + 1
-counted false taken = taken
+counted was taken = taken + from_bool was
 
 counts : (refused : Bool) (walk taken : ℕ) → taken ≡ walk → counted (not refused) taken ≡ cond refused walk (walk + 1)
-counts true walk taken e = e
+counts true walk taken e = add-zero taken ∙ e
 counts false walk taken e = ap (λ n. n + 1) e
+
+pub counted_few : (was : Bool) (taken turn : ℕ) → taken ≤ turn → counted was taken ≤ turn + 1
+counted_few true taken turn few = omega (arith, few)
+counted_few false taken turn few = omega (arith, few)
 
 -- one random step more
 pub goes_on : (walk : Walk) (s new : System) (g rest : Lcg) (n m : ℕ) (was : Bool) → IsWalkAt walk s g n

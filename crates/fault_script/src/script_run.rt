@@ -43,9 +43,7 @@ fn walk(alloc: Global, world: &mut World, seed: u64, count: u32) -> Result<u32, 
     let mut steps = RandomSteps::new(seed);
     let mut taken = 0;
     for _turn in 0..count {
-        if stride(alloc, world, &mut steps)? {
-            taken += 1;
-        }
+        taken += u32::from(stride(alloc, world, &mut steps)?);
     }
     Ok(taken)
 }

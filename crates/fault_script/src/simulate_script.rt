@@ -4,7 +4,7 @@ ghost use Rattle.counted_devices.specs.DeviceStates.{states};
 ghost use Rattle.counted_devices.specs.FirstFaults.{StopsFrom};
 ghost use Rattle.counted_devices.specs.ReadFaults.{FailsFrom};
 ghost use Rattle.fault_script.specs.Feeds.{script_faults};
-ghost use Rattle.fault_script.specs.Numbers.{simulate_error_name, simulate_error_number};
+ghost use Rattle.fault_script.specs.Numbers.{simulate_error_number};
 ghost use Rattle.fault_script.specs.Simulations.{AreTextsOf, FailsAfterStart, IfScript, SendsBoth};
 ghost use Rattle.fault_script.specs.Simulations.{Simulates, TakesText};
 ghost use Rattle.fault_script.specs.declared.simulate_script.SimulateError.{SimulateError};
@@ -49,17 +49,6 @@ impl SimulateError {
             SimulateError::Script(_) => 1,
             SimulateError::Memory => 2,
             SimulateError::Device => 3,
-        }
-    }
-
-    /// Its name, as it stands here.
-    pub fn name(self) -> &'static str
-        ensures { result.now ≡ simulate_error_name self }
-    {
-        match self {
-            SimulateError::Script(_) => "Script",
-            SimulateError::Memory => "Memory",
-            SimulateError::Device => "Device",
         }
     }
 }

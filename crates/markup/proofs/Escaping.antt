@@ -42,11 +42,15 @@ plain_char b e =
     let alone : not (is_alone b (escaped_char b)) ≡ false = sym (ap (λ (p : Bool). p && not (is_alone b (escaped_char b))) e) ∙ none in
     from_alone b (escaped_char b) (not-false _ alone)
 
+-- bytes that are all below 127 are ASCII
+pub all_ascii : (p : ℕ → Bool) → ((b : ℕ) → p b ≡ true → b < 127) → (bs : List ℕ) → list_all p bs ≡ true → IsAscii bs
+all_ascii p below [] e = IsAscii-nil
+all_ascii p below (b ∷ bs) e =
+    let parts = and_parts (p b) (list_all p bs) e in
+    IsAscii-cons b bs (omega (arith, below b parts.0)) (all_ascii p below bs parts.1)
+
 pub plain_ascii : (bs : List ℕ) → list_all is_plain bs ≡ true → IsAscii bs
-plain_ascii [] e = IsAscii-nil
-plain_ascii (b ∷ bs) e =
-    let parts = and_parts (is_plain b) (list_all is_plain bs) e in
-    IsAscii-cons b bs (omega (arith, below_127 b parts.0)) (plain_ascii bs parts.1)
+plain_ascii bs e = all_ascii is_plain below_127 bs e
 
 plain_chars : (bs : List ℕ) → list_all is_plain bs ≡ true → flat_map escaped_char bs ≡ bs
 plain_chars [] e = refl

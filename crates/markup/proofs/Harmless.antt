@@ -53,14 +53,17 @@ encoded_calm c calm = elim (cases_lt c 128) [
 hex_calm : (d : ℕ) → d < 16 → is_calm (digit_char d) ≡ true
 hex_calm d small = agree_below_at (λ n. is_calm (digit_char n)) (λ _. true) 16 d refl small
 
-numbered_calm : (c : ℕ) → list_all is_calm (number_escape c) ≡ true
-numbered_calm c =
-    and_from _ _ (hex_calm (c / 4096 % 16) (omega arith))
-    (and_from _ _ (hex_calm (c / 256 % 16) (omega arith))
-    (and_from _ _ (hex_calm (c / 16 % 16) (omega arith)) (and_from _ _ (hex_calm (c % 16) (omega arith)) refl)))
+-- what holds of `\u` and of each hexadecimal digit holds of a character's number
+pub numbered_all : (p : ℕ → Bool) → p 92 ≡ true → p 117 ≡ true → ((d : ℕ) → d < 16 → p (digit_char d) ≡ true) → (c : ℕ)
+    → list_all p (number_escape c) ≡ true
+numbered_all p mark u hex c =
+    and_from _ _ mark (and_from _ _ u
+    (and_from _ _ (hex (c / 4096 % 16) (omega arith))
+    (and_from _ _ (hex (c / 256 % 16) (omega arith))
+    (and_from _ _ (hex (c / 16 % 16) (omega arith)) (and_from _ _ (hex (c % 16) (omega arith)) refl)))))
 
 shown_calm : (c : ℕ) (hidden : Bool) → is_markup c ≡ false → list_all is_calm (if hidden then number_escape c else encode c) ≡ true
-shown_calm c true calm = numbered_calm c
+shown_calm c true calm = numbered_all is_calm refl refl hex_calm c
 shown_calm c false calm = encoded_calm c calm
 
 -- one of six
@@ -93,6 +96,7 @@ by_kind : (P : List ℕ → Type 0) → P (codes "&amp;") → P (codes "&lt;") �
 by_kind P amp lt gt quot apostrophe calm c =
     by_escape P amp lt gt quot apostrophe c (λ none. calm (shown_char c) (shown_calm c (is_hidden c) none))
 
+-- what each byte of the one kind is, all are
 pub weaker : (p q : ℕ → Bool) → ((b : ℕ) → p b ≡ true → q b ≡ true) → (bs : List ℕ) → list_all p bs ≡ true → list_all q bs ≡ true
 weaker p q each [] e = refl
 weaker p q each (b ∷ bs) e = let parts = and_parts (p b) (list_all p bs) e in and_from _ _ (each b parts.0) (weaker p q each bs parts.1)

@@ -1,18 +1,18 @@
 -- An escaped text is UTF-8, and no character of it is hidden.
-use Rattle.std.proofs.Common.{ℕ, ◌≡◌, ◌/◌, ◌%◌, ◌<◌, Bool, true, false, ◌&&◌, nat_le, List, [], ◌∷◌, ◌++◌}
+use Rattle.std.proofs.Common.{ℕ, ◌≡◌, ◌<◌, Bool, true, false, ◌&&◌, nat_le, List, [], ◌∷◌, ◌++◌}
 use Rattle.std.proofs.Common.{flat_map, chars, codes, refl, sym, ap, ◌∙◌, arith, append-nil}
 use lib.Utf8.{encode, scalar, scalars}
 use Rattle.std.specs.Prelude.{if◌then◌else◌}
 use Rattle.std.specs.Char.{digit_char}
 use Rattle.std.specs.List.{list_all}
-use Rattle.std.specs.Str.{IsAscii, IsUtf8}
+use Rattle.std.specs.Str.{IsUtf8}
 use Rattle.std.proofs.lemmas.Bool.{agree_below_at, and_parts, and_from, leb-true}
 use Rattle.std.proofs.lemmas.List.Folds.{list_all-append}
 use Rattle.std.proofs.lemmas.Str.{chars-IsAscii, chars-append, chars-nil, chars_past_char, scalars-chars}
 use Rattle.std.proofs.lemmas.Str.{IsUtf8-append, IsUtf8-encode, IsUtf8-from_ascii, IsUtf8-nil}
-use Rattle.std.proofs.lemmas.Str.Ascii.{IsAscii-cons, IsAscii-nil}
 use Rattle.markup.specs.Escapes.{escaped, escaped_char, number_escape, is_between, is_hidden, is_shown}
-use Rattle.markup.proofs.Harmless.{by_escape}
+use Rattle.markup.proofs.Escaping.{all_ascii}
+use Rattle.markup.proofs.Harmless.{by_escape, numbered_all, weaker}
 
 -- a byte that is a whole character, and no control character
 abbrev is_typed : ℕ → Bool
@@ -27,18 +27,6 @@ typed_shown b e =
     agree_below_at (λ n. is_typed n && is_shown n) is_typed 127 b refl (below_127 b e) in
     sym (ap (λ (t : Bool). t && is_shown b) e) ∙ same ∙ e
 
-typed_ascii : (bs : List ℕ) → list_all is_typed bs ≡ true → IsAscii bs
-typed_ascii [] e = IsAscii-nil
-typed_ascii (b ∷ bs) e =
-    let parts = and_parts (is_typed b) (list_all is_typed bs) e in
-    IsAscii-cons b bs (omega (arith, below_127 b parts.0)) (typed_ascii bs parts.1)
-
-typed_all_shown : (bs : List ℕ) → list_all is_typed bs ≡ true → list_all is_shown bs ≡ true
-typed_all_shown [] e = refl
-typed_all_shown (b ∷ bs) e =
-    let parts = and_parts (is_typed b) (list_all is_typed bs) e in
-    and_from _ _ (typed_shown b parts.0) (typed_all_shown bs parts.1)
-
 -- the bytes are characters, none of them hidden
 pub record IsShown (bs : List ℕ) : Type 0 where
   pub utf8 : IsUtf8 bs
@@ -46,20 +34,14 @@ pub record IsShown (bs : List ℕ) : Type 0 where
 
 typed : (bs : List ℕ) → list_all is_typed bs ≡ true → IsShown bs
 typed bs e =
-    let ascii = typed_ascii bs e in
+    let ascii = all_ascii is_typed below_127 bs e in
     record {
       utf8 = IsUtf8-from_ascii bs ascii;
-      shown = ap (λ (cs : List ℕ). list_all is_shown cs) (chars-IsAscii bs ascii) ∙ typed_all_shown bs e;
+      shown = ap (λ (cs : List ℕ). list_all is_shown cs) (chars-IsAscii bs ascii) ∙ weaker is_typed is_shown typed_shown bs e;
     }
 
 hex_typed : (d : ℕ) → d < 16 → is_typed (digit_char d) ≡ true
 hex_typed d small = agree_below_at (λ n. is_typed (digit_char n)) (λ _. true) 16 d refl small
-
-numbered_typed : (c : ℕ) → list_all is_typed (number_escape c) ≡ true
-numbered_typed c =
-    and_from _ _ (hex_typed (c / 4096 % 16) (omega arith))
-    (and_from _ _ (hex_typed (c / 256 % 16) (omega arith))
-    (and_from _ _ (hex_typed (c / 16 % 16) (omega arith)) (and_from _ _ (hex_typed (c % 16) (omega arith)) refl)))
 
 encoded_shown : (c : ℕ) → scalar c ≡ true → is_hidden c ≡ false → IsShown (encode c)
 encoded_shown c good plain =
@@ -72,7 +54,7 @@ encoded_shown c good plain =
     }
 
 either_shown : (c : ℕ) (hidden : Bool) → scalar c ≡ true → is_hidden c ≡ hidden → IsShown (if hidden then number_escape c else encode c)
-either_shown c true good e = typed (number_escape c) (numbered_typed c)
+either_shown c true good e = typed (number_escape c) (numbered_all is_typed refl refl hex_typed c)
 either_shown c false good e = encoded_shown c good e
 
 char_shown : (c : ℕ) → scalar c ≡ true → IsShown (escaped_char c)

@@ -7,7 +7,7 @@ ghost use Rattle.markup.specs.Names.{attribute_name};
 
 use crate::escapes::append_text;
 use crate::names::AttributeName;
-use crate::words::{append, append_number};
+use sentences::{append, append_number};
 use tag::Memory;
 
 /// An attribute of an element.
@@ -43,16 +43,15 @@ impl Attribute<'_> {
 fn append_decimal(page: &mut Vec<u8>, number: u64) -> Result<(), Memory>
     ensures { OnOk result (page.new.items ≡ page.old.items ++ escaped (decimal number)) }
 {
-    append_number(page, number)
+    append_number(page, "", number)
 }
 
 /// Adds the number of tenths.
 fn append_tenths(page: &mut Vec<u8>, tenths: u64) -> Result<(), Memory>
     ensures { OnOk result (page.new.items ≡ page.old.items ++ tenths_text tenths) }
 {
-    append_number(page, tenths / 10)?;
-    append(page, ".")?;
-    append_number(page, tenths % 10)
+    append_number(page, "", tenths / 10)?;
+    append_number(page, ".", tenths % 10)
 }
 
 /// Adds the number of tenths, which no escape changes.
@@ -79,7 +78,7 @@ fn append_numbered(page: &mut Vec<u8>, words: &str, number: u64) -> Result<(), M
         ≡ page.old.items ++ escaped (words.now ++ decimal number)) }
 {
     append_text(page, words)?;
-    append_number(page, number)
+    append_number(page, "", number)
 }
 
 /// Adds the attribute's value, escaped.

@@ -1,11 +1,10 @@
 //! Texts, escaped so that they stay texts.
-ghost use Rattle.std.specs.Prelude.{◌≡◌, ◌<◌, ◌++◌, OnOk};
-ghost use Rattle.std.specs.Char.{digit_char};
+ghost use Rattle.std.specs.Prelude.{◌≡◌, ◌++◌, OnOk};
 ghost use Rattle.std.specs.List.{list_all};
 ghost use Rattle.markup.specs.Escapes.{escaped, escaped_char, is_hidden, is_plain};
 ghost use Rattle.markup.specs.Escapes.{moves_text, number_escape, shown_char};
 
-use crate::words::append;
+use sentences::{append, hex_digit};
 use tag::Memory;
 
 /// Whether the byte is a whole character that stands for itself.
@@ -37,24 +36,12 @@ fn is_hidden(c: char) -> bool
     c.is_control() || moves_text(c) || matches!(c, '\u{fffe}'..='\u{ffff}')
 }
 
-/// The hexadecimal digit of that value.
-fn hex(digit: u8) -> u8
-    requires { digit < 16 }
-    ensures { result ≡ digit_char digit }
-{
-    if digit < 10 {
-        b'0' + digit
-    } else {
-        b'a' - 10 + digit
-    }
-}
-
 /// Adds the character by its number.
 fn append_numbered(page: &mut Vec<u8>, c: char) -> Result<(), Memory>
     ensures { OnOk result (page.new.items ≡ page.old.items ++ number_escape c) }
 {
     let code = u32::from(c);
-    let digit = |place: u32| hex((code / place % 16) as u8);
+    let digit = |place: u32| hex_digit((code / place % 16) as u8);
     page.extend_from_slice(&[b'\\', b'u', digit(4096), digit(256), digit(16), digit(1)])?;
     Ok(())
 }

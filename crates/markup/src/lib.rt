@@ -28,7 +28,6 @@ mod escapes;
 pub mod laws;
 mod names;
 mod page_tags;
-mod words;
 
 pub use attributes::Attribute;
 pub use escapes::append_text;

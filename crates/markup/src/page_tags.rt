@@ -4,7 +4,7 @@ ghost use Rattle.markup.specs.Markup.{attribute_of, closing_tag, lone_tag, openi
 
 use crate::attributes::{Attribute, append_attributes};
 use crate::names::Element;
-use crate::words::append;
+use sentences::append;
 use tag::Memory;
 
 /// Adds the element's name and the attributes.

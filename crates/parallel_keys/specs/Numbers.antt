@@ -1,5 +1,5 @@
--- The numbers and the names of the reasons why orders weren't checked, as programs print them.
-use Rattle.std.specs.Prelude.{ℕ, List, codes}
+-- The numbers of the reasons why orders weren't checked, as programs print them.
+use Rattle.std.specs.Prelude.{ℕ}
 use Rattle.parallel_keys.specs.declared.error.CheckError.{CheckError}
 use Rattle.parallel_keys.specs.declared.error.CheckError.TheVariants.{Memory, Thread}
 
@@ -7,8 +7,3 @@ use Rattle.parallel_keys.specs.declared.error.CheckError.TheVariants.{Memory, Th
 abbrev pub check_error_number : CheckError → ℕ
 check_error_number Memory = 1
 check_error_number Thread = 2
-
--- the name of a reason
-abbrev pub check_error_name : CheckError → List ℕ
-check_error_name Memory = codes "Memory"
-check_error_name Thread = codes "Thread"

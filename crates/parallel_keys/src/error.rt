@@ -1,9 +1,9 @@
 //! Why orders weren't checked.
 ghost use Rattle.std.specs.Prelude.{◌≡◌};
 ghost use Rattle.parallel_keys.specs.declared.error.CheckError.{CheckError};
-ghost use Rattle.parallel_keys.specs.Numbers.{check_error_name, check_error_number};
+ghost use Rattle.parallel_keys.specs.Numbers.{check_error_number};
 
-use std::alloc::{AllocError, AllocFailed};
+use std::alloc::AllocFailed;
 use std::thread::SpawnError;
 use tag::Memory;
 use thiserror::Error;
@@ -26,30 +26,12 @@ impl CheckError {
     {
         self as u8
     }
-
-    /// Its name, as it stands here.
-    pub fn name(self) -> &'static str
-        ensures { result.now ≡ check_error_name self }
-    {
-        match self {
-            CheckError::Memory => "Memory",
-            CheckError::Thread => "Thread",
-        }
-    }
 }
 
 impl From<Memory> for CheckError {
     ghost from_gives = { λ _ e. e ≡ CheckError.Memory };
 
     fn from(_: Memory) -> CheckError {
-        CheckError::Memory
-    }
-}
-
-impl From<AllocError> for CheckError {
-    ghost from_gives = { λ _ e. e ≡ CheckError.Memory };
-
-    fn from(_: AllocError) -> CheckError {
         CheckError::Memory
     }
 }

@@ -1,7 +1,5 @@
-pub mod Pieces
 pub mod Lines
 pub mod Members
-pub mod Controls
 pub mod Rounds
 pub mod SettleSteps
 pub mod Strides

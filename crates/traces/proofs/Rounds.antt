@@ -1,11 +1,19 @@
 -- The three steps of a round, taken and told one after another.
 use Rattle.std.proofs.Common.{ℕ, ◌≡◌, ◌+◌, None, ap, ◌∙◌}
+use Rattle.network.specs.Pools.{Pool}
 use Rattle.world_settle.specs.Settling.{round}
-use Rattle.world_steps.specs.Runs.{after_from, next}
+use Rattle.world_settle.proofs.Forward.{sent_next}
+use Rattle.world_steps.specs.Runs.{AreAccepted, after_from, next}
 use Rattle.world_steps.specs.declared.step.Step.TheVariants as step
 use Rattle.world_steps.specs.declared.system.System.{System}
 use Rattle.traces.specs.Tellings.{Told, with_line, with_lines}
 use Rattle.traces.specs.Traces.{step_line, step_lines}
+
+-- the reply is the message after the request
+pub reply_is : (s t : System) (pool : Pool) (name replica reply : ℕ) → AreAccepted s (round s name replica) → reply ≡ pool.sent
+    → pool ≡ t.pool → t ≡ next s (step.Send name replica) → reply ≡ s.pool.sent + 1
+reply_is s t pool name replica reply accepted is same after =
+    is ∙ ap (λ (p : Pool). p.sent) same ∙ ap (λ (x : System). x.pool.sent) after ∙ sent_next s name replica accepted.0
 
 -- the systems between the steps
 second_is : (s t u : System) (name replica request : ℕ) → request ≡ s.pool.sent → t ≡ next s (step.Send name replica)

@@ -6,6 +6,7 @@ use Rattle.std.specs.FinMap as map
 use Rattle.std.specs.FinSet as finite
 use Rattle.std.specs.Ordering.{is_lt}
 use Rattle.tag.specs.Tags.{Tag, tag_cmp}
+use Rattle.sentences.specs.Words.{numbered, tag_text, value_text}
 use Rattle.tag.specs.declared.actions.Action.{Action}
 use Rattle.tag.specs.declared.actions.Action.TheVariants.{Read, Write}
 use Rattle.tag.specs.declared.actions.Returned.{Returned}
@@ -38,11 +39,7 @@ use Rattle.world_steps.specs.declared.step.Step.{Step}
 use Rattle.world_steps.specs.declared.step.Step.TheVariants as step
 use Rattle.world_steps.specs.declared.system.System.{System}
 use Rattle.traces.specs.declared.counts.Count.{Count}
-use Rattle.traces.specs.Words.{pair_text, refusal_text, tag_text, value_text}
-
--- words and then a number
-abbrev pub numbered : List ℕ → ℕ → List ℕ
-numbered words number = words ++ decimal number
+use Rattle.traces.specs.Words.{pair_text, refusal_text}
 
 -- ---- a step's words
 

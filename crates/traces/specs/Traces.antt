@@ -1,6 +1,7 @@
 -- The trace of a script: what is told of each step of its run, in the order of the steps.
 use Rattle.std.specs.Prelude.{ℕ, zero, suc, ◌≡◌, ◌-◌, ◌==◌, List, [], ◌∷◌, ◌++◌, codes}
 use Rattle.std.specs.Prelude.{flat_map, length, min, take, Option, None, Some, if◌then◌else◌}
+use Rattle.sentences.specs.Words.{numbered}
 use Rattle.random_steps.specs.Choices.{draw, generator_of, step_of}
 use Rattle.world_settle.specs.Refusing.{IsUnsettled, MaySettle}
 use Rattle.world_settle.specs.Settling.{AreSettleSteps}
@@ -14,7 +15,7 @@ use Rattle.fault_script.specs.declared.command.Command.{Command}
 use Rattle.fault_script.specs.declared.command.Command.TheVariants as command
 use Rattle.fault_script.specs.declared.command.NumberedCommand.{NumberedCommand}
 use Rattle.fault_script.specs.declared.command.Script.{Script}
-use Rattle.traces.specs.StepLines.{numbered, step_text}
+use Rattle.traces.specs.StepLines.{step_text}
 use Rattle.traces.specs.Tellings.{last_count}
 use Rattle.traces.specs.Words.{unsettled_text}
 

@@ -1,9 +1,7 @@
--- Tags, values and reasons, as a trace says them.
-use Rattle.std.specs.Prelude.{ℕ, ◌/◌, ◌%◌, ◌==◌, ◌||◌, List, [], ◌∷◌, ◌++◌, Option, Some, None}
-use Rattle.std.specs.Prelude.{codes, decimal, chars, flat_map, if◌then◌else◌}
-use Rattle.std.specs.Char.{is_control, digit_char}
-use Rattle.std.specs.Str.{encode_utf8_all}
+-- Pairs and reasons, as a trace says them.
+use Rattle.std.specs.Prelude.{ℕ, List, ◌++◌, Option, codes, decimal}
 use Rattle.tag.specs.Tags.{Tag}
+use Rattle.sentences.specs.Words.{tag_text, value_text}
 use Rattle.world_settle.specs.Numbers.{settle_error_name, settle_error_number}
 use Rattle.world_settle.specs.declared.errors.SettleError.{SettleError}
 use Rattle.world_settle.specs.declared.errors.SettleError.TheVariants as settle
@@ -16,32 +14,6 @@ use Rattle.world_steps.specs.declared.refusal.Refusal.TheVariants.{NotInFlight, 
 use Rattle.world_steps.specs.declared.refusal.Refusal.TheVariants.{ReplicaDown, ReplicaUp}
 use Rattle.world_steps.specs.declared.refusal.Refusal.TheVariants.{CopiesFull, OpsFull, FlightsFull}
 use Rattle.world_steps.specs.declared.refusal.Refusal.TheVariants.{Memory}
-
--- the escape of a control character in a JSON text: its number in four hexadecimal digits
-abbrev pub control_escape : ℕ → List ℕ
-control_escape c = 92 ∷ 117 ∷ 48 ∷ 48 ∷ digit_char (c / 16) ∷ digit_char (c % 16) ∷ []
-
--- a character in a JSON text: a control character by its escape, a quotation mark and a backslash
--- after a backslash, any other as it is
-abbrev pub json_char : ℕ → List ℕ
-json_char c =
-    if is_control c then control_escape c
-    else if c == 34 || c == 92 then 92 ∷ c ∷ []
-    else c ∷ []
-
--- the characters of a value in a JSON text, without its quotation marks
-abbrev pub json_chars : List ℕ → List ℕ
-json_chars value = flat_map json_char (chars value)
-
--- a value as a JSON text in which no control character stands; `null` stands for no value
-unfoldable pub value_text : Option (List ℕ) → List ℕ
-value_text None = codes "null"
-value_text (Some value) = codes "\"" ++ encode_utf8_all (json_chars value) ++ codes "\""
-
--- a tag: its number and its writer
-unfoldable pub tag_text : Tag → List ℕ
-tag_text tag =
-    codes "(" ++ decimal tag.number ++ codes ", " ++ decimal tag.writer ++ codes ")"
 
 -- a pair: its tag and its value
 unfoldable pub pair_text : Tag → Option (List ℕ) → List ℕ

@@ -1,15 +1,17 @@
 //! Who takes a step, and what it does: what is told of a step before its effect.
 ghost use Rattle.std.specs.Prelude.{◌≡◌, ◌++◌, codes, option_and_then, option_copied, IfOk, OnOk};
+ghost use Rattle.sentences.specs.Words.{numbered, tag_text};
 ghost use Rattle.client_phases.specs.Clients.{answer_of, request_of};
 ghost use Rattle.traces.specs.StepLines.{act_text, answer_text, arrival_text, begun_text};
-ghost use Rattle.traces.specs.StepLines.{client_at, handled_text, key_of, message_text, numbered};
-ghost use Rattle.traces.specs.StepLines.{pair_at, reply_text, request_text, sent_text};
-ghost use Rattle.traces.specs.Words.{pair_text, tag_text};
+ghost use Rattle.traces.specs.StepLines.{client_at, handled_text, key_of, message_text, pair_at};
+ghost use Rattle.traces.specs.StepLines.{reply_text, request_text, sent_text};
+ghost use Rattle.traces.specs.Words.{pair_text};
 
 use crate::step_words::{append_client, append_flight, append_replica};
-use crate::words::{append, append_pair, append_tag, append_value};
+use crate::words::{append_key, append_pair};
 use network::Message;
 use replica::{Reply, Request};
+use sentences::{append, append_tag, append_value};
 use tag::{Action, ClientId, Key, Memory, ReplicaId, Returned, Tag, Value};
 use world_steps::{Step, World};
 
@@ -20,10 +22,7 @@ fn append_begun(text: &mut Vec<u8>, key: &Key, action: &Action) -> Result<(), Me
         (text.new.items ≡ text.old.items ++ begun_text key.now action.now) }
 {
     match action {
-        Action::Read => {
-            append(text, " begins to read ")?;
-            append(text, key.as_str())
-        }
+        Action::Read => append_key(text, " begins to read ", key),
         Action::Write(value) => {
             append(text, " begins to write ")?;
             append_value(text, Some(value))?;
@@ -53,8 +52,7 @@ fn append_request(text: &mut Vec<u8>, replica: ReplicaId, request: &Request) -> 
         } => {
             append(text, " puts ")?;
             append_pair(text, *tag, value.as_ref())?;
-            append(text, " for ")?;
-            append(text, key.as_str())?;
+            append_key(text, " for ", key)?;
             append_replica(text, " at replica ", replica)
         }
     }
@@ -145,8 +143,7 @@ fn append_taken_pair(
 {
     append(text, " takes ")?;
     append_pair(text, tag, value)?;
-    append(text, " for ")?;
-    append(text, key.as_str())
+    append_key(text, " for ", key)
 }
 
 /// Adds that a replica keeps its own pair of the key, which has that tag.
@@ -177,8 +174,7 @@ fn append_handled(
         Request::Query { key, .. } => {
             append(text, " holds ")?;
             append_pair(text, own, value)?;
-            append(text, " for ")?;
-            append(text, key.as_str())
+            append_key(text, " for ", key)
         }
         Request::Put {
             key,

@@ -1,13 +1,15 @@
 //! What comes of a step.
 ghost use Rattle.std.specs.Prelude.{◌≡◌, ◌++◌, codes, OnOk};
-ghost use Rattle.traces.specs.StepLines.{counted_text, effect_text, members_text, numbered};
-ghost use Rattle.traces.specs.StepLines.{taken_text, votes_text};
+ghost use Rattle.sentences.specs.Words.{numbered};
+ghost use Rattle.traces.specs.StepLines.{counted_text, effect_text, members_text, taken_text};
+ghost use Rattle.traces.specs.StepLines.{votes_text};
 
 use crate::counts::Count;
 use crate::step_words::append_flight;
-use crate::words::{append, append_number, append_tag};
+use crate::words::append_tag_between;
 use client_phases::Taken;
 use quorum::ReplicaSet;
+use sentences::{append, append_number};
 use tag::{Memory, OpId, ReplicaId};
 use world_steps::Effect;
 
@@ -67,15 +69,12 @@ fn append_taken(text: &mut Vec<u8>, count: &Option<Count>, taken: Taken) -> Resu
         }
         Taken::Noted(tag) => {
             append_counted(text, count)?;
-            append(text, ": an ask quorum; it notes ")?;
-            append_tag(text, tag)?;
-            append(text, " and puts")
+            append_tag_between(text, ": an ask quorum; it notes ", tag, " and puts")
         }
         Taken::Agreed(tag) => {
             append_counted(text, count)?;
-            append(text, ": an ask quorum that agrees on ")?;
-            append_tag(text, tag)?;
-            append(text, "; its call is ready without a write-back")
+            let ready = "; its call is ready without a write-back";
+            append_tag_between(text, ": an ask quorum that agrees on ", tag, ready)
         }
         Taken::Ready => {
             append_counted(text, count)?;

@@ -11,7 +11,6 @@ mod counts;
 mod effects;
 mod finishing;
 pub mod laws;
-mod quoting;
 mod script_trace;
 mod step_words;
 mod steps;

@@ -1,10 +1,12 @@
 //! A step's words, and why it is refused.
 ghost use Rattle.std.specs.Prelude.{◌≡◌, ◌++◌, OnOk};
-ghost use Rattle.traces.specs.StepLines.{asked_words, numbered, step_words};
+ghost use Rattle.sentences.specs.Words.{numbered};
+ghost use Rattle.traces.specs.StepLines.{asked_words, step_words};
 ghost use Rattle.traces.specs.Words.{refusal_sentence, refusal_text, unsettled_sentence};
 ghost use Rattle.traces.specs.Words.{unsettled_text};
 
-use crate::words::{append, append_number, append_reason, append_value};
+use crate::words::{append_key, append_reason};
+use sentences::{append, append_number, append_value};
 use tag::{Action, ClientId, Key, Memory, ReplicaId};
 use world_settle::SettleError;
 use world_steps::{Refusal, Step};
@@ -16,13 +18,9 @@ fn append_asked(text: &mut Vec<u8>, key: &Key, action: &Action) -> Result<(), Me
         (text.new.items ≡ text.old.items ++ asked_words key.now action.now) }
 {
     match action {
-        Action::Read => {
-            append(text, " read ")?;
-            append(text, key.as_str())
-        }
+        Action::Read => append_key(text, " read ", key),
         Action::Write(value) => {
-            append(text, " write ")?;
-            append(text, key.as_str())?;
+            append_key(text, " write ", key)?;
             append(text, " ")?;
             append_value(text, Some(value))
         }

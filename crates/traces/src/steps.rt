@@ -10,7 +10,7 @@ use crate::acts::append_act;
 use crate::counts::count_of;
 use crate::effects::append_effect;
 use crate::step_words::append_refused;
-use crate::words::{append, append_number};
+use sentences::{append, append_number};
 use tag::Memory;
 use world_steps::{Refusal, Step, World};
 

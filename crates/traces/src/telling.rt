@@ -8,7 +8,7 @@ ghost use Rattle.traces.specs.Traces.{random_line, step_line, unfinished_line, w
 
 use crate::step_words::{append_client, append_unsettled};
 use crate::steps::{append_head, take_untold, tell_step};
-use crate::words::{append, append_number};
+use sentences::{append, append_number};
 use std::alloc::Global;
 use tag::{ClientId, Memory};
 use world_settle::SettleError;

@@ -48,9 +48,7 @@ fn walk(
     let mut steps = RandomSteps::new(seed);
     let mut taken = 0;
     for _turn in 0..count {
-        if stride(alloc, telling, world, &mut steps)? {
-            taken += 1;
-        }
+        taken += u32::from(stride(alloc, telling, world, &mut steps)?);
     }
     Ok(taken)
 }

@@ -1,54 +1,32 @@
-//! What lines are made of: words, numbers, tags, values and pairs.
-ghost use Rattle.std.specs.Prelude.{◌≡◌, ◌++◌, decimal, option_copied, OnOk};
-ghost use Rattle.traces.specs.StepLines.{numbered};
-ghost use Rattle.traces.specs.Words.{pair_text, reason_text, tag_text, value_text};
+//! What lines are made of: keys, pairs, tags among words, and reasons.
+ghost use Rattle.std.specs.Prelude.{◌≡◌, ◌++◌, option_copied, OnOk};
+ghost use Rattle.sentences.specs.Words.{tag_text};
+ghost use Rattle.traces.specs.Words.{pair_text, reason_text};
 
-use crate::quoting::json_text;
-use itoa::Buffer;
-use tag::{Memory, Tag, Value};
+use sentences::{append, append_number, append_tag, append_value};
+use tag::{Key, Memory, Tag, Value};
 
-/// Adds the words.
-pub(crate) fn append(text: &mut Vec<u8>, words: &str) -> Result<(), Memory>
-    ensures { OnOk result (text.new.items ≡ text.old.items ++ words.now) }
+/// Adds the words and then the key.
+pub(crate) fn append_key(text: &mut Vec<u8>, words: &str, key: &Key) -> Result<(), Memory>
+    ensures { OnOk result (text.new.items ≡ text.old.items ++ (words.now ++ key.now)) }
 {
-    text.extend_from_slice(words.as_bytes())?;
-    Ok(())
-}
-
-/// Adds the words and then the number.
-pub(crate) fn append_number(text: &mut Vec<u8>, words: &str, number: u64) -> Result<(), Memory>
-    ensures { OnOk result (text.new.items ≡ text.old.items ++ numbered words.now number) }
-{
-    let mut digits = Buffer::new();
     append(text, words)?;
-    append(text, digits.format(number))
+    append(text, key.as_str())
 }
 
-/// Adds the tag.
-#[tactic(auto, unfolding(crate::specs::Words::tag_text))]
-pub(crate) fn append_tag(text: &mut Vec<u8>, tag: Tag) -> Result<(), Memory>
-    ensures { OnOk result (text.new.items ≡ text.old.items ++ tag_text tag) }
-{
-    append_number(text, "(", u64::from(tag.number()))?;
-    append_number(text, ", ", u64::from(tag.writer()))?;
-    append(text, ")")
-}
-
-/// Adds the value as a JSON text, or `null` where there is none.
-#[tactic(auto, unfolding(crate::specs::Words::value_text))]
-pub(crate) fn append_value(text: &mut Vec<u8>, value: Option<&Value>) -> Result<(), Memory>
+/// Adds the tag between words.
+pub(crate) fn append_tag_between(
+    text: &mut Vec<u8>,
+    words: &str,
+    tag: Tag,
+    further: &str,
+) -> Result<(), Memory>
     ensures { OnOk result
-        (text.new.items ≡ text.old.items ++ value_text (option_copied value.entry)) }
+        (text.new.items ≡ text.old.items ++ (words.now ++ tag_text tag ++ further.now)) }
 {
-    match value {
-        None => append(text, "null"),
-        Some(value) => {
-            let shown = json_text(*text.allocator(), value.as_str())?;
-            append(text, "\"")?;
-            append(text, shown.as_str())?;
-            append(text, "\"")
-        }
-    }
+    append(text, words)?;
+    append_tag(text, tag)?;
+    append(text, further)
 }
 
 /// Adds the tag and the value of a pair.

@@ -1,7 +1,7 @@
 use Rattle.std.proofs.Common.{◌++◌, codes, decimal, append_assoc, ◌∙◌}
 use Rattle.std.proofs.lemmas.Result.{on_ok_weaker}
 use Rattle.traces.specs.StepLines.{act_text}
-use Rattle.traces.proofs.Pieces.{more}
+use Rattle.sentences.proofs.Appending.{more}
 use Rattle.traces.proofs.acts.append_act.Goals as goal
 
 pub returns-in-StopReplica : goal.returns-in-StopReplica

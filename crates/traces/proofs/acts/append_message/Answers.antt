@@ -1,6 +1,6 @@
 use Rattle.std.proofs.lemmas.Result.{on_ok_weaker}
 use Rattle.traces.specs.StepLines.{message_text}
-use Rattle.traces.proofs.Pieces.{more}
+use Rattle.sentences.proofs.Appending.{more}
 use Rattle.traces.proofs.acts.append_message.Goals as goal
 
 pub returns-in_ok-append_client-in-ToClient : goal.returns-in_ok-append_client-in-ToClient

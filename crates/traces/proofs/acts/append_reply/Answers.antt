@@ -1,7 +1,7 @@
 use Rattle.std.proofs.Common.{codes}
 use Rattle.std.proofs.lemmas.Result.{on_ok_weaker}
 use Rattle.traces.specs.StepLines.{reply_text}
-use Rattle.traces.proofs.Pieces.{more}
+use Rattle.sentences.proofs.Appending.{more}
 use Rattle.traces.proofs.acts.append_reply.Goals as goal
 
 pub returns-in_ok-append_replica-in-Kept : goal.returns-in_ok-append_replica-in-Kept

@@ -1,7 +1,7 @@
 use Rattle.std.proofs.Common.{codes}
 use Rattle.std.proofs.lemmas.Result.{on_ok_weaker}
 use Rattle.traces.specs.StepLines.{request_text}
-use Rattle.traces.proofs.Pieces.{more, more_same}
+use Rattle.sentences.proofs.Appending.{more, more_same}
 use Rattle.traces.proofs.acts.append_request.Goals as goal
 
 pub returns-in_ok-append-in-Query : goal.returns-in_ok-append-in-Query

@@ -1,7 +1,7 @@
 use Rattle.std.proofs.Common.{ℕ, List, ap, ◌∙◌}
 use Rattle.std.proofs.lemmas.Result.{on_ok_weaker}
 use Rattle.traces.specs.StepLines.{handled_text, message_text, pair_at}
-use Rattle.traces.proofs.Pieces.{more_same}
+use Rattle.sentences.proofs.Appending.{more_same}
 use Rattle.traces.proofs.acts.append_request_arrival.Goals as goal
 
 pub returns : goal.returns

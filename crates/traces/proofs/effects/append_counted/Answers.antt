@@ -1,7 +1,7 @@
 use Rattle.std.proofs.Common.{codes, decimal, ap, ◌∙◌}
 use Rattle.std.proofs.lemmas.Result.{on_ok_weaker}
 use Rattle.traces.specs.StepLines.{counted_text}
-use Rattle.traces.proofs.Pieces.{more, more_same}
+use Rattle.sentences.proofs.Appending.{more, more_same}
 use Rattle.traces.proofs.effects.append_counted.Goals as goal
 
 pub returns-in_ok-append_members-in-Some : goal.returns-in_ok-append_members-in-Some

@@ -2,7 +2,7 @@ use Rattle.std.proofs.Common.{ℕ, ◌≡◌, ◌++◌, true, false, List, codes
 use Rattle.traces.specs.StepLines.{members_text}
 use Rattle.std.specs.FinSet as finite
 use Rattle.traces.proofs.Members.{members_on}
-use Rattle.traces.proofs.Pieces.{more, number}
+use Rattle.sentences.proofs.Appending.{more, number}
 use Rattle.traces.proofs.effects.append_members.Goals.{then-contains+in_ok-append_number+in_ok-append, else-contains}
 use Rattle.traces.proofs.effects.append_members.Goals as goal
 

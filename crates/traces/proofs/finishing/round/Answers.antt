@@ -1,18 +1,15 @@
-use Rattle.std.proofs.Common.{◌≡◌, ◌+◌, ap, ◌∙◌}
+use Rattle.std.proofs.Common.{ap, ◌∙◌}
 use Rattle.network.specs.Pools.{Pool}
-use Rattle.world_settle.proofs.Forward.{sent_next}
-use Rattle.world_steps.specs.declared.system.System.{System}
 use Rattle.traces.specs.Tellings.{told_by}
-use Rattle.traces.proofs.Rounds.{after_three, told_three}
+use Rattle.traces.proofs.Rounds.{after_three, reply_is, told_three}
 use Rattle.traces.proofs.finishing.round.Goals as goal
 
 pub returns-clause-told : goal.returns-clause-told
 returns-clause-told c =
     let s = c.args.world.now in
-    let request : c.sent-request.result ≡ s.pool.sent = c.sent-request.ensures.sent ∙ ap (λ (p : Pool). p.sent) c.pool.ensures in
-    let reply : c.sent-reply.result ≡ s.pool.sent + 1 =
-    c.sent-reply.ensures.sent ∙ ap (λ (p : Pool). p.sent) c.pool-2.ensures ∙ ap (λ (t : System). t.pool.sent) c.in_ok-step.ensures.system
-    ∙ sent_next s c.args.client c.args.replica c.requires.0 in
+    let request = c.sent-request.ensures.sent ∙ ap (λ (p : Pool). p.sent) c.pool.ensures in
+    let reply = reply_is s c.step.new.world _ c.args.client c.args.replica c.sent-reply.result c.requires c.sent-reply.ensures.sent
+    c.pool-2.ensures c.in_ok-step.ensures.system in
     told_three s c.step.new.world c.step-2.new.world c.args.client c.args.replica c.sent-request.result c.sent-reply.result
     (told_by c.args.telling.now) (told_by c.step.new.self) (told_by c.step-2.new.self) (told_by c.step-3.new.self) request reply
     c.in_ok-step.ensures.system c.in_ok-step-2.ensures.system c.in_ok-step.ensures.told c.in_ok-step-2.ensures.told c.in_ok-step-3.ensures.told
@@ -20,9 +17,7 @@ returns-clause-told c =
 pub returns-clause-system : goal.returns-clause-system
 returns-clause-system c =
     let s = c.args.world.now in
-    let request : c.sent-request.result ≡ s.pool.sent = c.sent-request.ensures.sent ∙ ap (λ (p : Pool). p.sent) c.pool.ensures in
-    let reply : c.sent-reply.result ≡ s.pool.sent + 1 =
-    c.sent-reply.ensures.sent ∙ ap (λ (p : Pool). p.sent) c.pool-2.ensures ∙ ap (λ (t : System). t.pool.sent) c.in_ok-step.ensures.system
-    ∙ sent_next s c.args.client c.args.replica c.requires.0 in
+    let request = c.sent-request.ensures.sent ∙ ap (λ (p : Pool). p.sent) c.pool.ensures in
     after_three s c.step.new.world c.step-2.new.world c.step-3.new.world c.args.client c.args.replica c.sent-request.result c.sent-reply.result
-    request reply c.in_ok-step.ensures.system c.in_ok-step-2.ensures.system c.in_ok-step-3.ensures.system
+    request (reply_is s c.step.new.world _ c.args.client c.args.replica c.sent-reply.result c.requires c.sent-reply.ensures.sent
+    c.pool-2.ensures c.in_ok-step.ensures.system) c.in_ok-step.ensures.system c.in_ok-step-2.ensures.system c.in_ok-step-3.ensures.system

@@ -3,7 +3,7 @@ use Rattle.std.proofs.lemmas.Result.{on_ok_weaker}
 use Rattle.world_steps.specs.declared.effect.Effect.{Effect}
 use Rattle.traces.specs.StepLines.{effect_text, told}
 use Rattle.traces.specs.declared.counts.Count.{Count}
-use Rattle.traces.proofs.Pieces.{more_same}
+use Rattle.sentences.proofs.Appending.{more_same}
 use Rattle.traces.proofs.steps.tell_taken.Goals as goal
 
 pub returns-in-Ok-clause-told : goal.returns-in-Ok-clause-told

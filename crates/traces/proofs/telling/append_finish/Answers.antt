@@ -1,6 +1,6 @@
 use Rattle.std.proofs.lemmas.Result.{on_ok_weaker}
 use Rattle.traces.specs.Traces.{finish_words, head_text}
-use Rattle.traces.proofs.Pieces.{more}
+use Rattle.sentences.proofs.Appending.{more}
 use Rattle.traces.proofs.telling.append_finish.Goals as goal
 
 pub returns : goal.returns

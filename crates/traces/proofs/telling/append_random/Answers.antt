@@ -1,7 +1,7 @@
 use Rattle.std.proofs.Common.{ℕ, ◌++◌, codes, decimal, ap}
 use Rattle.std.proofs.lemmas.Result.{on_ok_weaker}
 use Rattle.traces.specs.Traces.{head_text, random_line}
-use Rattle.traces.proofs.Pieces.{more, more_same}
+use Rattle.sentences.proofs.Appending.{more, more_same}
 use Rattle.traces.proofs.telling.append_random.Goals as goal
 
 pub returns : goal.returns

@@ -1,6 +1,6 @@
 use Rattle.std.proofs.Common.{◌≡◌, ◌≤◌}
 use Rattle.fault_script.specs.ScriptRuns.{walk_after}
-use Rattle.traces.proofs.Strides.{IsWalkAt}
+use Rattle.fault_script.proofs.Walking.{IsWalkAt}
 use Rattle.traces.specs.Tellings.{told_by, with_lines}
 use Rattle.traces.specs.Traces.{walk_from, walk_lines}
 use Rattle.traces.proofs.walking.walk.Given as goal

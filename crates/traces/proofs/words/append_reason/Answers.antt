@@ -1,7 +1,7 @@
 use Rattle.std.proofs.Common.{codes}
 use Rattle.std.proofs.lemmas.Result.{on_ok_weaker}
 use Rattle.traces.specs.Words.{reason_text}
-use Rattle.traces.proofs.Pieces.{more, number}
+use Rattle.sentences.proofs.Appending.{more, number}
 use Rattle.traces.proofs.words.append_reason.Goals as goal
 
 pub returns : goal.returns
