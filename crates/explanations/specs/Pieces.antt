@@ -1,6 +1,7 @@
 -- Pieces that sentences are made of.
 use Rattle.std.specs.Prelude.{List, [], ◌++◌, ℕ, decimal, fold, option_copied}
-use Rattle.explanations.specs.Sentences.{above_text, call_line, due_line, placed_line, tag_text}
+use Rattle.explanations.specs.Sentences.{above_text, call_line, due_line, placed_line}
+use Rattle.sentences.specs.Words.{tag_text}
 use Rattle.explanations.specs.declared.hall_rows.HallRows.{HallRows}
 use Rattle.explanations.specs.declared.pieces.Piece.{Piece}
 use Rattle.explanations.specs.declared.pieces.Piece.TheVariants as piece

@@ -1,11 +1,9 @@
 -- Why a list is no order of a key's calls, and why their tags aren't sound, in sentences. Each is a
 -- line of its own, after two blanks. They name calls, lines of the history file, and places in the
 -- order.
-use Rattle.std.specs.Prelude.{ℕ, ◌/◌, ◌%◌, List, [], ◌∷◌, ◌++◌, Option, Some, None, cond, nat_lt}
-use Rattle.std.specs.Prelude.{chars, codes, decimal, flat_map, slice_index, unwrap_or}
+use Rattle.std.specs.Prelude.{ℕ, List, [], ◌++◌, Option, Some, None, codes, decimal, slice_index}
+use Rattle.std.specs.Prelude.{unwrap_or}
 use Rattle.std.specs.Borrow.{Bor}
-use Rattle.std.specs.Char.{digit_char, encode_utf8, is_control}
-use Rattle.json.specs.Print.{escape_letter}
 use Rattle.tag.specs.declared.actions.Action.{Action}
 use Rattle.tag.specs.declared.actions.Action.TheVariants.{Read, Write}
 use Rattle.tag.specs.declared.actions.Returned.{Returned}
@@ -14,6 +12,7 @@ use Rattle.tag.specs.declared.numbers.OpId.{OpId}
 use Rattle.tag.specs.Tags.{Tag, least}
 use Rattle.recorder.specs.declared.part.Call.{Call}
 use Rattle.recorder.specs.declared.part.Response.{Response}
+use Rattle.sentences.specs.Words.{tag_text, value_text}
 use Rattle.tag_check.specs.declared.rule.BrokenRule.{BrokenRule}
 use Rattle.tag_check.specs.declared.rule.BrokenRule.TheVariants as rule
 use Rattle.reasons.specs.Notes.{note_place}
@@ -47,26 +46,6 @@ response_line hall None = 0
 response_line hall (Some response) = line_at hall response.place
 
 -- ---- calls
-
--- a tag: its number and its writer
-unfoldable pub tag_text : Tag → List ℕ
-tag_text tag =
-    codes "(" ++ decimal tag.number ++ codes ", " ++ decimal tag.writer ++ codes ")"
-
--- a character in a JSON text: each control character, `"` and `\` as its escape, others as they are
-unfoldable pub char_text : ℕ → List ℕ
-char_text c = cond (nat_lt 0 (escape_letter c)) (codes "\\" ++ escape_letter c ∷ [])
-    (cond (is_control c) (codes "\\u00" ++ digit_char (c / 16) ∷ digit_char (c % 16) ∷ [])
-    (encode_utf8 c))
-
--- a text as a JSON text
-abbrev pub quoted_text : List ℕ → List ℕ
-quoted_text text = codes "\"" ++ flat_map char_text (chars text) ++ codes "\""
-
--- a value as a JSON text; `null` stands for no value
-unfoldable pub value_text : Option (List ℕ) → List ℕ
-value_text None = codes "null"
-value_text (Some value) = quoted_text value
 
 -- what a response answers: a read's a value or none; a write's nothing
 unfoldable pub returned_text : Returned → List ℕ

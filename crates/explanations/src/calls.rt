@@ -3,11 +3,13 @@ ghost use Rattle.std.specs.Prelude.{◌≡◌, ◌++◌, OnOk};
 ghost use Rattle.explanations.specs.Sentences.{action_text, call_line, call_text, note_text};
 ghost use Rattle.explanations.specs.Sentences.{placed_line, response_text, returned_text};
 
+use crate::hall_rows::HallRows;
 use crate::pieces::Subject;
-use crate::words::{append, append_number, append_op, append_tag, append_value};
+use crate::words::append_op;
 use reasons::PlacedCall;
 use recorder::Call;
-use tag::{Action, Memory, Returned};
+use sentences::{append, append_number, append_tag, append_value};
+use tag::{Action, Key, Memory, Returned};
 
 /// Adds what a response answers, if it is a read's.
 #[tactic(auto, unfolding(crate::specs::Sentences::returned_text))]
@@ -124,4 +126,19 @@ impl Subject<'_, '_> {
         append_number(text, words, placed.place as u64)?;
         self.append_line(text, ": ", placed.call)
     }
+}
+
+/// Adds the call on the key, which has its rows in the hall: its number, its client, what it does,
+/// and the lines of its rows.
+pub fn append_call(
+    text: &mut Vec<u8>,
+    key: &Key,
+    hall: &HallRows<'_>,
+    call: &Call,
+) -> Result<(), Memory>
+    ensures { OnOk result
+        (text.new.items ≡ text.old.items ++ call_text key.now hall.now call.now) }
+{
+    let subject = Subject { key, hall: *hall };
+    subject.append_call(text, call)
 }

@@ -3,30 +3,31 @@ ghost use Rattle.std.specs.Prelude.{◌≡◌};
 
 use reasons::note_place;
 use recorder::{Call, Response, Row};
+use row_lines::RowLines;
 
 /// The rows of a hall's history, and the line of each in the history file, from 1. Of a row whose
 /// line isn't among them the line 0 is said.
 #[derive(Clone, Copy)]
 pub struct HallRows<'a> {
     pub rows: &'a [Row],
-    pub lines: &'a [u64],
+    pub lines: &'a RowLines,
 }
 
 impl HallRows<'_> {
     ghost use Rattle.explanations.specs.Sentences.{line_at, line_of, note_line, response_line};
 
     /// The line of the row at that place.
-    pub(crate) fn line_at(&self, place: usize) -> u64
+    pub fn line_at(&self, place: usize) -> u64
         ensures { result ≡ line_at self.now place }
     {
         match self.lines.get(place) {
-            Some(line) => *line,
+            Some(line) => line,
             None => 0,
         }
     }
 
     /// The line of the call's note.
-    pub(crate) fn note_line(&self, call: &Call) -> u64
+    pub fn note_line(&self, call: &Call) -> u64
         ensures { result ≡ note_line self.now call.now }
     {
         match note_place(self.rows, call) {

@@ -9,11 +9,11 @@ mod calls;
 mod hall_rows;
 mod order_sentences;
 mod pieces;
-mod quoted;
 mod rules;
 mod tag_sentences;
 mod words;
 
+pub use calls::append_call;
 pub use hall_rows::HallRows;
 pub use order_sentences::append_order_reason;
 pub use rules::append_rule;

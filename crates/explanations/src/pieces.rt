@@ -3,9 +3,10 @@ ghost use Rattle.std.specs.Prelude.{◌≡◌, ◌++◌, OnOk};
 ghost use Rattle.explanations.specs.Pieces.{pieces_text, with_piece};
 
 use crate::hall_rows::HallRows;
-use crate::words::{append, append_above, append_due, append_number, append_op, append_tag};
+use crate::words::{append_above, append_due, append_op};
 use reasons::PlacedCall;
 use recorder::Call;
+use sentences::{append, append_number, append_tag};
 use tag::{Action, Key, Memory, OpId, Tag, Value};
 
 /// A piece of a sentence.

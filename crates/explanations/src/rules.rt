@@ -2,7 +2,8 @@
 ghost use Rattle.std.specs.Prelude.{◌≡◌, ◌++◌, decimal, OnOk};
 ghost use Rattle.explanations.specs.Sentences.{rule_text};
 
-use crate::words::{append, append_op};
+use crate::words::append_op;
+use sentences::append;
 use tag::{Memory, OpId};
 use tag_check::BrokenRule;
 

@@ -6,9 +6,10 @@ ghost use Rattle.explanations.specs.Sentences.{not_above_text, other_value_text,
 
 use crate::hall_rows::HallRows;
 use crate::pieces::{Piece, Subject};
-use crate::words::{append, written_by};
+use crate::words::written_by;
 use reasons::TagReason;
 use recorder::Call;
+use sentences::append;
 use tag::{Key, Memory, Tag};
 
 /// The tag that the call is noted with; the least, if it has no note.

@@ -4,6 +4,7 @@ ghost use Rattle.recorder.specs.Histories.{call_count};
 ghost use Rattle.fault_details.specs.RowDetails.{is_sought, last_place, line_at};
 
 use recorder::{History, Row};
+use row_lines::RowLines;
 
 /// The rows of a hall before the line with the fault, and the line of each, from 1. Of a row whose
 /// line isn't among them the line 0 is said.
@@ -14,7 +15,7 @@ pub struct EarlierRows<'a> {
     /// The history of those rows.
     pub history: &'a History,
     /// The line of each.
-    pub lines: &'a [u64],
+    pub lines: &'a RowLines,
 }
 
 /// Which row is looked for.
@@ -65,7 +66,7 @@ impl EarlierRows<'_> {
         ensures { result ≡ line_at self.now place }
     {
         match self.lines.get(place) {
-            Some(line) => *line,
+            Some(line) => line,
             None => 0,
         }
     }

@@ -139,7 +139,7 @@ fn append_row(
     let earlier = EarlierRows {
         hall: if is_of_halls { Some(place as u8) } else { None },
         history: &halls[place],
-        lines: numbered.lines[place].as_slice(),
+        lines: &numbered.lines[place],
     };
     let call = number_of(value, "call").unwrap_or(0);
     let client = number_of(value, "client").unwrap_or(0);

@@ -1,7 +1,6 @@
 -- The lines of the rows of each hall: what one row more makes of them, and which row stands on each.
 use Rattle.std.proofs.Common.{ℕ, zero, suc, ◌≡◌, ◌≢◌, ◌<◌, ◌+◌, ◌-◌, List, [], ◌∷◌, ◌++◌, Bool, true, false, cond, Some, Err, length, set, map, get_or, nat_eq, refl, sym, ap, ap₂, ◌∙◌, subst, inl, inr, arith, append-nil, eq-eqb, eqb-true}
-use Rattle.std.specs.Prelude.{Vec, Option, IsSomeAnd, MatchOption}
-use Rattle.std.specs.declared.alloc.Global.{Global}
+use Rattle.std.specs.Prelude.{Option, IsSomeAnd, MatchOption}
 use Rattle.std.specs.List.{All, slice_get, filter, enumerate_from, range_with_len}
 use Rattle.std.proofs.lemmas.Bool.{ne_eqb}
 use Rattle.std.proofs.lemmas.List.{map-append, length-set}
@@ -73,11 +72,11 @@ inside_some : {X : Type 0} {x y : X} → Some x ≡ Some y → x ≡ y
 inside_some e = cc
 
 -- a row's line more in its hall's list
-AreLinesByHall-here : (header : FileHeader) (items : List HallRow) (item : HallRow) (lists : List (Vec ℕ Global)) (old new : Vec ℕ Global) (line : ℕ) → AreLinesByHall header items lists → slice_get lists item.hall ≡ Some old → new.items ≡ old.items ++ line ∷ [] → line ≡ length items + 2
+AreLinesByHall-here : (header : FileHeader) (items : List HallRow) (item : HallRow) (lists : List (List ℕ)) (old new : List ℕ) (line : ℕ) → AreLinesByHall header items lists → slice_get lists item.hall ≡ Some old → new ≡ old ++ line ∷ [] → line ≡ length items + 2
     → AreLinesByHall header (items ++ item ∷ []) (set lists item.hall new)
 AreLinesByHall-here header items item lists old new line h here more counted =
     let next : line ≡ 2 + length items = omega (arith, counted) in
-    let own : new.items ≡ lines_of item.hall (items ++ item ∷ []) =
+    let own : new ≡ lines_of item.hall (items ++ item ∷ []) =
     more ∙ ap₂ (λ (ls : List ℕ) (l : ℕ). ls ++ l ∷ []) (h.each item.hall old here) next ∙ sym (line_here items item) in
     record {
       count = length-set lists item.hall new ∙ h.count;
@@ -85,23 +84,23 @@ AreLinesByHall-here header items item lists old new line h here more counted =
           elim (slice_get-set lists item.hall hall new (slice_get_within lists item.hall old here)) [
             | inl same ↦
                 let is : new ≡ lines = inside_some (sym same.1 ∙ at) in
-                subst (λ (k : ℕ). lines.items ≡ lines_of k (items ++ item ∷ [])) (sym same.0) (ap (λ (v : Vec ℕ Global). v.items) (sym is) ∙ own)
+                subst (λ (k : ℕ). lines ≡ lines_of k (items ++ item ∷ [])) (sym same.0) (sym is ∙ own)
             | inr apart ↦ h.each hall lines (sym apart.1 ∙ at) ∙ sym (line_apart hall items item (λ e. apart.0 (sym e)))
           ];
     }
 
-pub AreLinesByHall-more : (header : FileHeader) (items : List HallRow) (item : HallRow) (lists : List (Vec ℕ Global)) (place : ℕ) (old new : Vec ℕ Global) (line : ℕ) → AreLinesByHall header items lists → place ≡ item.hall → place < length lists → old ≡ get_or lists place old → new.items ≡ old.items ++ line ∷ [] → line ≡ length items + 2
+pub AreLinesByHall-more : (header : FileHeader) (items : List HallRow) (item : HallRow) (lists : List (List ℕ)) (place : ℕ) (old new : List ℕ) (line : ℕ) → AreLinesByHall header items lists → place ≡ item.hall → place < length lists → old ≡ get_or lists place old → new ≡ old ++ line ∷ [] → line ≡ length items + 2
     → AreLinesByHall header (items ++ item ∷ []) (set lists place new)
 AreLinesByHall-more header items item lists place old new line h is below read more counted =
     let here : slice_get lists item.hall ≡ Some old = subst (λ (k : ℕ). slice_get lists k ≡ Some old) is (item_at lists place old below read) in
     subst (λ (k : ℕ). AreLinesByHall header (items ++ item ∷ []) (set lists k new)) (sym is) (AreLinesByHall-here header items item lists old new line h here more counted)
 
 -- lists without a line, before the first row
-pub AreLinesByHall-none : (header : FileHeader) (lists : List (Vec ℕ Global)) → length lists ≡ halls_in header → All (λ (lines : Vec ℕ Global). lines.items ≡ []) lists → AreLinesByHall header [] lists
+pub AreLinesByHall-none : (header : FileHeader) (lists : List (List ℕ)) → length lists ≡ halls_in header → All (λ (lines : List ℕ). lines ≡ []) lists → AreLinesByHall header [] lists
 AreLinesByHall-none header lists count empty = record {
   count = count;
   each = λ hall lines at.
-      subst (λ (v : Vec ℕ Global). v.items ≡ []) (get_or_from_slice_get lists hall lines lines at) (empty hall lines (slice_get_within lists hall lines at));
+      subst (λ (v : List ℕ). v ≡ []) (get_or_from_slice_get lists hall lines lines at) (empty hall lines (slice_get_within lists hall lines at));
 }
 
 -- a row that isn't taken leaves no line
@@ -157,12 +156,12 @@ lines_of_rows items hall = record {
   each = λ k row line e f. stands_on items (record { hall = hall; row = row }) line (placed hall 2 items k row line e f);
 }
 
-pub kept_lines : (header : FileHeader) (items : List HallRow) (numbered : NumberedHistories) → MakesNumbered header items numbered → (hall : ℕ) (history : Recorded) (lines : Vec ℕ Global) → slice_get numbered.histories.halls hall ≡ Some history → slice_get numbered.lines.items hall ≡ Some lines
-    → AreLinesOfRows items hall history.rows lines.items
+pub kept_lines : (header : FileHeader) (items : List HallRow) (numbered : NumberedHistories) → MakesNumbered header items numbered → (hall : ℕ) (history : Recorded) (lines : List ℕ) → slice_get numbered.histories.halls hall ≡ Some history → slice_get numbered.lines.items hall ≡ Some lines
+    → AreLinesOfRows items hall history.rows lines
 kept_lines header items numbered h hall history lines there at =
     let rows : rows_of hall items ≡ history.rows = sym (ap (λ (r : Recorded). r.rows) (h.made.each hall history there)) in
-    let own : lines_of hall items ≡ lines.items = sym (h.lines.each hall lines at) in
-    subst (λ (rs : List Row). AreLinesOfRows items hall rs lines.items) rows (subst (λ (ls : List ℕ). AreLinesOfRows items hall (rows_of hall items) ls) own (lines_of_rows items hall))
+    let own : lines_of hall items ≡ lines = sym (h.lines.each hall lines at) in
+    subst (λ (rs : List Row). AreLinesOfRows items hall rs lines) rows (subst (λ (ls : List ℕ). AreLinesOfRows items hall (rows_of hall items) ls) own (lines_of_rows items hall))
 
 -- ---- the line of the bytes
 

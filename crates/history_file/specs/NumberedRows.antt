@@ -1,8 +1,7 @@
 -- The lines of a history file on which the rows of each hall stand. The header is line 1.
-use Rattle.std.specs.Prelude.{ℕ, ◌≡◌, ◌≤◌, ◌-◌, List, Some, Vec, length, map, filter, nat_eq}
+use Rattle.std.specs.Prelude.{ℕ, ◌≡◌, ◌≤◌, ◌-◌, List, Some, length, map, filter, nat_eq}
 use Rattle.std.specs.Prelude.{slice_get, IsSomeAnd}
 use Rattle.std.specs.List.{enumerate_from}
-use Rattle.std.specs.declared.alloc.Global.{Global}
 use Rattle.counted_devices.specs.Cuts.{last_lines}
 use Rattle.recorder.specs.declared.row.Row.{Row}
 use Rattle.file_format.specs.declared.file_header.FileHeader.{FileHeader}
@@ -24,10 +23,10 @@ lines_of hall items =
 
 -- as many lists as halls, for each hall the lines of its rows
 pub record AreLinesByHall (header : FileHeader) (items : List HallRow)
-    (lists : List (Vec ℕ Global)) : Type 0 where
+    (lists : List (List ℕ)) : Type 0 where
   pub count : length lists ≡ halls_in header
-  pub each : (hall : ℕ) (lines : Vec ℕ Global) → slice_get lists hall ≡ Some lines
-      → lines.items ≡ lines_of hall items
+  pub each : (hall : ℕ) (lines : List ℕ) → slice_get lists hall ≡ Some lines
+      → lines ≡ lines_of hall items
 
 -- for each hall the history of its rows and the lines of these, and the quorums that the header
 -- tells

@@ -1,7 +1,6 @@
 //! Laws of the definitions, each the contract of a function that does nothing.
-ghost use Rattle.std.specs.Prelude.{ℕ, ◌≡◌, List, Some, Vec, length, slice_get};
+ghost use Rattle.std.specs.Prelude.{ℕ, ◌≡◌, List, Some, length, slice_get};
 ghost use Rattle.std.specs.List.{range_with_len};
-ghost use Rattle.std.specs.declared.alloc.Global.{Global};
 ghost use Rattle.recorder.specs.Histories.{Recorded};
 ghost use Rattle.file_format.specs.declared.file_header.FileHeader.{FileHeader};
 ghost use Rattle.file_format.specs.declared.file_header.FileHeader.TheVariants.{Version1};
@@ -16,9 +15,9 @@ ghost use Rattle.history_file.specs.NumberedRows.{StandsOn, LineSaysItem};
 pub fn a_row_stands_on_its_line()
     ensures { (header : FileHeader) (items : List HallRow) (numbered : NumberedHistories)
         → MakesNumbered header items numbered → (hall : ℕ) (history : Recorded)
-        (lines : Vec ℕ Global) → slice_get numbered.histories.halls hall ≡ Some history
+        (lines : List ℕ) → slice_get numbered.histories.halls hall ≡ Some history
         → slice_get numbered.lines.items hall ≡ Some lines
-        → AreLinesOfRows items hall history.rows lines.items }
+        → AreLinesOfRows items hall history.rows lines }
 {}
 
 /// The line on which an item stands is the line of the file's bytes that says it.

@@ -6,32 +6,33 @@ ghost use Rattle.file_format.specs.Readings.{Reads};
 use crate::format::Contents;
 use file_format::{FaultKind, FileFault, FileHeader, HallHistories, HallRow, LineFault, Stop};
 use recorder::Histories;
+use row_lines::RowLines;
 use std::alloc::Global;
 use tag::Memory;
 
-/// The histories of a file's halls, and the lines of the file on which their rows stand: `lines[h][k]`
-/// is the line of row `k` of hall `h`. The header is line 1.
+/// The histories of a file's halls, and the lines of the file on which their rows stand: `lines[h]` has
+/// at place `k` the line of row `k` of hall `h`. The header is line 1.
 #[derive(Debug, Drop)]
 pub struct NumberedHistories {
     pub histories: Histories,
-    pub lines: Vec<Vec<u64>>,
+    pub lines: Vec<RowLines>,
 }
 
 /// The same while the lines come: before the header there are no histories and no lists.
 #[derive(Drop)]
 pub struct NumberedHalls {
     halls: Option<HallHistories>,
-    lines: Vec<Vec<u64>>,
+    lines: Vec<RowLines>,
 }
 
 /// So many lists without a line.
-fn empty_lists(alloc: Global, count: u8) -> Result<Vec<Vec<u64>>, Memory>
+fn empty_lists(alloc: Global, count: u8) -> Result<Vec<RowLines>, Memory>
     ensures count { IfOk result (λ lists. length lists.items ≡ count) }
-    ensures empty { IfOk result (λ lists. All (λ lines. lines.items ≡ []) lists.items) }
+    ensures empty { IfOk result (λ lists. All (λ lines. lines ≡ []) lists.items) }
 {
     let mut lists = Vec::new(alloc);
     for _ in 0..count {
-        lists.push(Vec::new(alloc))?;
+        lists.push(RowLines::new(alloc))?;
     }
     Ok(lists)
 }

@@ -1,7 +1,8 @@
 use Rattle.std.proofs.Common.{ℕ, List, Option, ◌++◌, codes, ap, ◌∙◌}
 use Rattle.std.proofs.lemmas.Result.{on_ok_weaker}
-use Rattle.explanations.specs.Sentences.{returned_text, value_text}
-use Rattle.explanations.proofs.Appending.{more}
+use Rattle.sentences.specs.Words.{value_text}
+use Rattle.explanations.specs.Sentences.{returned_text}
+use Rattle.sentences.proofs.Appending.{more}
 use Rattle.explanations.proofs.calls.append_returned.Goals as goal
 
 pub returns-in_ok-append-in-Value : goal.returns-in_ok-append-in-Value

@@ -1,5 +1,5 @@
 use Rattle.std.proofs.lemmas.Result.{on_ok_weaker}
-use Rattle.explanations.proofs.Appending.{more_two}
+use Rattle.sentences.proofs.Appending.{more_two}
 use Rattle.explanations.proofs.rules.append_two.Goals as goal
 
 pub returns : goal.returns

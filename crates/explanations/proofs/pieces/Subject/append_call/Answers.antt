@@ -1,7 +1,7 @@
 use Rattle.std.proofs.Common.{codes, ◌∙◌}
 use Rattle.std.proofs.lemmas.Result.{on_ok_weaker}
 use Rattle.explanations.specs.Sentences.{call_text}
-use Rattle.explanations.proofs.Appending.{more, more_number}
+use Rattle.sentences.proofs.Appending.{more, more_number}
 use Rattle.explanations.proofs.pieces.Subject.append_call.Goals as goal
 
 pub returns : goal.returns

@@ -16,6 +16,6 @@ returns-in-Ok c = λ header items made fits counted.
       taken.0,
       record {
         made = taken.1;
-        lines = AreLinesByHall-more header items c.args.item lists c.from-hall.result c.index_mut.result.now c.push.new.self c.args.line made.lines c.from-hall.ensures below c.index_mut.ensures.value c.in-Ok.ensures.items counted;
+        lines = AreLinesByHall-more header items c.args.item lists c.from-hall.result c.index_mut.result.now c.push.new.self c.args.line made.lines c.from-hall.ensures below c.index_mut.ensures.value c.in-Ok.ensures.ok counted;
       },
     )

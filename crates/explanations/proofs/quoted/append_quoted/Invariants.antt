@@ -1,7 +1,0 @@
-use Rattle.std.proofs.Common.{◌≡◌, ◌++◌}
-use Rattle.std.specs.List.{flat_map}
-use Rattle.explanations.specs.Sentences.{char_text}
-use Rattle.explanations.proofs.quoted.append_quoted.Given as goal
-
-abbrev pub invariant-loop-letter : goal.invariant-loop-letter
-invariant-loop-letter l = l.text.items ≡ l.initial.text.items ++ flat_map char_text l.yielded
