@@ -1,12 +1,14 @@
 -- The least numbered calls, found by index.
-use Rattle.std.proofs.Common.{ℕ, ◌≡◌, ◌<◌, ◌≤◌, ◌+◌, inl, inr, List, Some, length, refl, ap, subst, arith}
+use Rattle.std.proofs.Common.{ℕ, ◌≡◌, ◌<◌, ◌≤◌, ◌+◌, inl, inr, List, Option, Some, None, true, false, length, refl, ap, sym, subst, arith}
+use Rattle.std.specs.Option.{is_some}
 use Rattle.std.specs.List.{slice_get}
-use Rattle.std.proofs.lemmas.Bool.{cases_lt}
+use Rattle.std.proofs.lemmas.Bool.{cases_lt, false≢true}
+use Rattle.tag.specs.declared.numbers.OpId.{OpId}
 use Rattle.std.proofs.lemmas.Option.{slice_get_within}
 use Rattle.recorder.specs.declared.part.Call.{Call}
 use Rattle.recorder.specs.Parts.{IsSequence}
 use Rattle.tag.proofs.Lists.{place_of, Contains-slice_get}
-use Rattle.tag_check.specs.Least.{LacksCall, IsLeastCall}
+use Rattle.tag_check.specs.Least.{LacksCall, IsFirstBefore, IsLeastCall}
 
 -- no call below index i has the property
 abbrev pub NoneBelow : List Call → (Call → Type 0) → ℕ → Type 0
@@ -65,3 +67,15 @@ pub none_all : (part : List Call) (P : Call → Type 0) (i : ℕ) → length par
 none_all part P i past none call there holds =
     let k = place_of part call there in
     none k.0 call (omega (arith, slice_get_within part k.0 call k.1)) k.1 holds
+
+-- ---- the first of the calls below an index
+
+-- one that was found stays the first
+pub first_stays : (part : List Call) (P : Call → Type 0) (i : ℕ) (first : Option OpId) → is_some first ≡ true → IsFirstBefore part P i first → IsFirstBefore part P (i + 1) first
+first_stays part P i None some before = absurd (false≢true some)
+first_stays part P i (Some op) some before = before
+
+-- none that was found
+pub first_none : (part : List Call) (P : Call → Type 0) (i : ℕ) (first : Option OpId) → is_some first ≡ false → IsFirstBefore part P i first → NoneBelow part P i
+first_none part P i None none before = before
+first_none part P i (Some op) none before = absurd (false≢true (sym none))

@@ -1,5 +1,5 @@
 -- The order of tags.
-use Rattle.std.proofs.Common.{◌≡◌, ◌⊎◌, inl, inr, ap, sym, subst, arith}
+use Rattle.std.proofs.Common.{◌≡◌, ◌⊎◌, inl, inr, refl, ap, sym, subst, arith}
 use Rattle.std.proofs.lemmas.Bool.{cases_lt}
 use Rattle.tag.proofs.SameTags.{same_tag}
 use Rattle.tag.specs.Tags.{Tag, IsBelow, least}
@@ -60,3 +60,15 @@ pub at_most_trans : (s t u : Tag) → IsAtMost s t → IsAtMost t u → IsAtMost
 at_most_trans s t u (inr e) q = subst (λ (x : Tag). IsAtMost x u) (sym e) q
 at_most_trans s t u (inl p) (inr e) = subst (λ (x : Tag). IsAtMost s x) e (inl p)
 at_most_trans s t u (inl p) (inl q) = inl (below_at_most s t u p (inl q))
+
+-- what is no greater than one that is below
+pub at_most_below : (s t u : Tag) → IsAtMost s t → IsBelow t u → IsBelow s u
+at_most_below s t u (inr e) q = subst (λ (x : Tag). IsBelow x u) (sym e) q
+at_most_below s t u (inl p) q = below_at_most s t u p (inl q)
+
+pub below_trans : (s t u : Tag) → IsBelow s t → IsBelow t u → IsBelow s u
+below_trans s t u p q = below_at_most s t u p (inl q)
+
+-- no tag is below itself
+pub below_itself : (t : Tag) → IsBelow t t → ⊥
+below_itself t below = not_below t t (inr refl) below

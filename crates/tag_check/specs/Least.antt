@@ -1,5 +1,5 @@
 -- Of the calls of a part with a property, the one with the least number.
-use Rattle.std.specs.Prelude.{◌≡◌, ◌≤◌, Contains, List, Option, Some, None}
+use Rattle.std.specs.Prelude.{ℕ, ◌≡◌, ◌<◌, ◌≤◌, Contains, List, Option, Some, None, slice_get}
 use Rattle.tag.specs.declared.numbers.OpId.{OpId}
 use Rattle.recorder.specs.declared.part.Call.{Call}
 
@@ -19,6 +19,12 @@ pub record IsLeastCall (part : List Call) (P : Call → Type 0) (op : OpId) : Ty
 abbrev pub IsFirstCall : List Call → (Call → Type 0) → Option OpId → Type 0
 IsFirstCall part P None = LacksCall part P
 IsFirstCall part P (Some op) = IsLeastCall part P op
+
+-- the same of the calls below index i
+abbrev pub IsFirstBefore : List Call → (Call → Type 0) → ℕ → Option OpId → Type 0
+IsFirstBefore part P i None =
+    (m : ℕ) (call : Call) → m < i → slice_get part m ≡ Some call → P call → ⊥
+IsFirstBefore part P i (Some op) = IsLeastCall part P op
 
 -- one of the part's calls stands so to the later call
 abbrev pub HasPartner : List Call → (Call → Call → Type 0) → Call → Type 0

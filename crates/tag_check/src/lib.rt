@@ -2,10 +2,11 @@
 //! tags are sound.
 //!
 //! Each rule is judged in one pass over the calls, in `n log n` steps; no pass compares all pairs.
-//! Nothing of a call is copied but its tag and its number.
+//! Nothing of a call is copied but its tag and its index.
 #![tactic(auto)]
 
 mod check;
+mod entries;
 pub mod laws;
 mod notes;
 mod rule;

@@ -1,24 +1,24 @@
 //! The notes of a part's calls, which are judged rule by rule.
-ghost use Rattle.std.specs.Prelude.{◌≡◌, ◌≤◌, IfOk, IfSome, MatchResult, MatchOption, length};
-ghost use Rattle.std.specs.BTreeMap.{get};
+ghost use Rattle.std.specs.Prelude.{◌≡◌, ◌<◌, ◌≤◌, ◌+◌, IfOk, IfSome, MatchResult, MatchOption, Some, length};
 ghost use Rattle.recorder.specs.Parts.{IsSequence};
-ghost use Rattle.tag.specs.Tags.{tag_cmp};
-ghost use Rattle.tag_check.specs.Least.{IsFirstCall, IsLeastCall, IsLeastPair, LacksCall, HasNoPair};
+ghost use Rattle.tag_check.specs.Least.{IsFirstCall, IsFirstBefore, IsLeastCall, IsLeastPair, LacksCall};
+ghost use Rattle.tag_check.specs.Least.{HasNoPair};
 ghost use Rattle.tag_check.specs.Rules.{LacksNote, IsLeastWrite, ShareTag, IsNotAbove};
 ghost use Rattle.tag_check.specs.Rules.{AnswersNoWrite, AllAnswerRight};
 ghost use Rattle.tag_check.specs.Rules.{IsOtherValue, IsWriteOf, IsWriteWith};
 ghost use Rattle.tag_check.specs.Answers.{IsAnswer};
-ghost use Rattle.tag_check.specs.Writes.{AreWrites, HasWriteAt};
+ghost use Rattle.tag_check.specs.Writes.{AreEntries, AreNoted, AreWrites, HaveOwnTags};
+ghost use Rattle.tag_check.specs.Writes.{HasNoEarlier, IsEarlierOf, IsIndexOf};
 ghost use Rattle.tag_check.specs.Greatest.{AreAnsweredTags, IsBegunBy};
 
 use crate::BrokenRule;
+use crate::entries::{Entry, add_write, are_rising, first_place, sort_by_tag};
 use crate::tags::{
-    answers, falls, greater, is_least, is_least_write, is_not_above, is_write_of, lacks_note,
-    read_tag, write_tag,
+    answers, falls, greater, is_least, is_least_write, is_not_above, is_same, lacks_note, read_tag,
+    write_tag,
 };
 use recorder::Call;
 use std::alloc::Global;
-use std::collections::BTreeMap;
 use tag::{Action, Memory, OpId, Tag, Value};
 
 /// What a call answers, beside what its tag stands for.
@@ -38,9 +38,6 @@ pub struct Notes<'a> {
     ghost sequence: { IsSequence calls.now },
 }
 
-/// The index of each noted write, by its tag.
-type Writes = BTreeMap<Tag, usize>;
-
 impl<'a> Notes<'a> {
     ghost use Rattle.tag_check.specs.Verdicts.{IsTagVerdict};
 
@@ -56,20 +53,18 @@ impl<'a> Notes<'a> {
     pub(crate) fn broken_rule(&self, alloc: Global) -> Result<Option<BrokenRule>, Memory>
         ensures { IfOk result (λ broken. IsTagVerdict self.now.calls.now broken) }
     {
-        if let Some(call) = self.first_without_note() {
-            return Ok(Some(BrokenRule::NoNote(call)));
-        }
-        if let Some(write) = self.first_least_write() {
-            return Ok(Some(BrokenRule::LeastTag(write)));
-        }
-        let writes = match self.writes(alloc)? {
+        let noted = match self.noted_writes(alloc)? {
+            Ok(noted) => noted,
+            Err(rule) => return Ok(Some(rule)),
+        };
+        let writes = match self.by_tag(noted) {
             Ok(writes) => writes,
             Err((earlier, later)) => return Ok(Some(BrokenRule::SameTag(earlier, later))),
         };
         if let Some((earlier, later)) = self.first_not_above(alloc)? {
             return Ok(Some(BrokenRule::NotAbove(earlier, later)));
         }
-        let other = match self.first_other_value(&writes) {
+        let other = match self.first_other_value(writes.as_slice()) {
             Ok(other) => other,
             Err(read) => return Ok(Some(BrokenRule::NoWrite(read))),
         };
@@ -79,46 +74,88 @@ impl<'a> Notes<'a> {
         Ok(None)
     }
 
-    /// The first completed call without a note.
-    fn first_without_note(&self) -> Option<OpId>
-        ensures { IsFirstCall self.now.calls.now LacksNote result }
-    {
-        for (i, call) in self.calls.iter().enumerate() {
-            if lacks_note(call) {
-                return Some(call.op);
-            }
-        }
-        None
-    }
-
-    /// The first write that is noted with the least tag.
-    fn first_least_write(&self) -> Option<OpId>
-        ensures { IsFirstCall self.now.calls.now IsLeastWrite result }
-    {
-        for (i, call) in self.calls.iter().enumerate() {
-            if is_least_write(call) {
-                return Some(call.op);
-            }
-        }
-        None
-    }
-
-    /// The noted writes by tag, or the first write whose tag an earlier one has, after that one.
-    fn writes(&self, alloc: Global) -> Result<Result<Writes, (OpId, OpId)>, Memory>
+    /// The entries of the noted writes; or rule 1 or 2, if it is the first that is broken.
+    fn noted_writes(&self, alloc: Global) -> Result<Result<Vec<Entry>, BrokenRule>, Memory>
         ensures { IfOk result
             (λ answer. MatchResult answer
-            (λ writes. AreWrites self.now.calls.now (length self.now.calls.now) writes)
-            (λ pair. IsLeastPair self.now.calls.now ShareTag pair.0 pair.1)) }
+            (λ noted. LacksCall self.now.calls.now LacksNote
+            × LacksCall self.now.calls.now IsLeastWrite
+            × AreNoted self.now.calls.now (length self.now.calls.now) noted.items)
+            (λ rule. IsTagVerdict self.now.calls.now (Some rule))) }
     {
-        let mut writes = BTreeMap::new(alloc);
+        let mut noted = Vec::new(alloc);
+        let mut least = None;
         for (i, call) in self.calls.iter().enumerate() {
-            if let Some(tag) = write_tag(call) {
-                if let Some(k) = writes.insert(tag, i)? {
-                    return Ok(Err((self.calls[k].op, call.op)));
-                }
+            if lacks_note(call) {
+                return Ok(Err(BrokenRule::NoNote(call.op)));
+            }
+            least = self.first_least_write(i, least);
+            add_write(&mut noted, call, i)?;
+        }
+        match least {
+            Some(write) => Ok(Err(BrokenRule::LeastTag(write))),
+            None => Ok(Ok(noted)),
+        }
+    }
+
+    /// The first write that is noted with the least tag, up to index `i`, if `least` is that before it.
+    fn first_least_write(&self, i: usize, least: Option<OpId>) -> Option<OpId>
+        requires inside { i < length self.now.calls.now }
+        requires before { IsFirstBefore self.now.calls.now IsLeastWrite i least }
+        ensures { IsFirstBefore self.now.calls.now IsLeastWrite (i + 1) result }
+    {
+        if least.is_some() {
+            return least;
+        }
+        let call = &self.calls[i];
+        if is_least_write(call) {
+            Some(call.op)
+        } else {
+            None
+        }
+    }
+
+    /// The entries by tag; or the first write whose tag an earlier one has, after that one.
+    fn by_tag(&self, mut noted: Vec<Entry>) -> Result<Vec<Entry>, (OpId, OpId)>
+        requires { AreNoted self.now.calls.now (length self.now.calls.now) noted.items }
+        ensures { MatchResult result
+            (λ writes. AreWrites self.now.calls.now writes.items)
+            (λ pair. IsLeastPair self.now.calls.now ShareTag pair.0 pair.1) }
+    {
+        sort_by_tag(&mut noted);
+        if are_rising(noted.as_slice()) {
+            return Ok(noted);
+        }
+        match self.first_shared(noted.as_slice()) {
+            Some(pair) => Err(pair),
+            None => Ok(noted),
+        }
+    }
+
+    /// The first write whose tag an earlier one has, after that one.
+    fn first_shared(&self, noted: &[Entry]) -> Option<(OpId, OpId)>
+        requires { AreEntries self.now.calls.now noted.now }
+        ensures { MatchOption result (HaveOwnTags self.now.calls.now)
+            (λ pair. IsLeastPair self.now.calls.now ShareTag pair.0 pair.1) }
+    {
+        for (i, call) in self.calls.iter().enumerate() {
+            if let Some(k) = self.earlier_of_tag(noted, call, i) {
+                return Some((self.calls[k].op, call.op));
             }
         }
-        Ok(Ok(writes))
+        None
+    }
+
+    /// The index of the first write with the call's tag, if the call is a write and that one stands
+    /// before index `i`.
+    fn earlier_of_tag(&self, noted: &[Entry], call: &Call, i: usize) -> Option<usize>
+        requires { AreEntries self.now.calls.now noted.now }
+        ensures { MatchOption result (HasNoEarlier self.now.calls.now call.now i)
+            (λ k. IsEarlierOf self.now.calls.now call.now i k) }
+    {
+        let tag = write_tag(call)?;
+        let k = self.index_of(noted, tag, 0)?;
+        if k < i { Some(k) } else { None }
     }
 
     /// How many calls began at that place of the history or before it, looked for from `near` on.
@@ -126,24 +163,40 @@ impl<'a> Notes<'a> {
         ensures most { result ≤ length self.now.calls.now }
         ensures begun { IsBegunBy self.now.calls.now place result }
     {
-        match self.begun_near(place, near) {
+        match self.begun_near(place, near, 4) {
+            Some(begun) => begun,
+            None => self.begun_later(place, near),
+        }
+    }
+
+    /// The same, where it is no number close to `near`.
+    fn begun_later(&self, place: usize, near: usize) -> usize
+        ensures most { result ≤ length self.now.calls.now }
+        ensures begun { IsBegunBy self.now.calls.now place result }
+    {
+        match self.begun_near(place, near, 128) {
             Some(begun) => begun,
             None => self.calls.partition_point(|call| call.invoked <= place),
         }
     }
 
-    /// The same, if it is `near` or one of the 15 numbers after it.
-    fn begun_near(&self, place: usize, near: usize) -> Option<usize>
+    /// The same, if it is `near` or one of so many numbers after it.
+    fn begun_near(&self, place: usize, near: usize, many: usize) -> Option<usize>
         ensures most { IfSome result (λ begun. begun ≤ length self.now.calls.now) }
         ensures begun { IfSome result (λ begun. IsBegunBy self.now.calls.now place begun) }
     {
-        let end = self.calls.len().min(near.saturating_add(16));
-        for next in near.max(1)..end {
-            if self.calls[next - 1].invoked <= place && place < self.calls[next].invoked {
-                return Some(next);
-            }
+        let end = self.calls.len().min(near.saturating_add(many));
+        let start = near.min(end);
+        let later = self.calls[start..end].partition_point(|call| call.invoked <= place);
+        let next = start + later;
+        if next == 0 || next >= self.calls.len() {
+            return None;
         }
-        None
+        if self.calls[next - 1].invoked <= place && place < self.calls[next].invoked {
+            Some(next)
+        } else {
+            None
+        }
     }
 
     /// Beside each call the greatest tag of the calls that were answered before it began, and not
@@ -211,8 +264,8 @@ impl<'a> Notes<'a> {
     /// The first read that answers another value than its tag stands for, and the write of that
     /// tag, if the tag isn't the least; or `Err` with the first read that answers under a tag which
     /// no write has, if any.
-    fn first_other_value(&self, writes: &Writes) -> Result<Option<(OpId, Option<OpId>)>, OpId>
-        requires { AreWrites self.now.calls.now (length self.now.calls.now) writes.now }
+    fn first_other_value(&self, writes: &[Entry]) -> Result<Option<(OpId, Option<OpId>)>, OpId>
+        requires { AreWrites self.now.calls.now writes.now }
         ensures { MatchResult result
             (λ other. LacksCall self.now.calls.now (AnswersNoWrite self.now.calls.now)
             × MatchOption other (AllAnswerRight self.now.calls.now)
@@ -220,8 +273,10 @@ impl<'a> Notes<'a> {
             (λ read. IsLeastCall self.now.calls.now (AnswersNoWrite self.now.calls.now) read) }
     {
         let mut other = None;
+        let mut begun: usize = 0;
         for (i, call) in self.calls.iter().enumerate() {
-            match self.answer(writes, call, i) {
+            begun = begun.saturating_add(usize::from(write_tag(call).is_some()));
+            match self.answer(writes, call, begun) {
                 Answer::Right => {}
                 Answer::NoWrite => return Err(call.op),
                 Answer::Other(write) => {
@@ -234,10 +289,10 @@ impl<'a> Notes<'a> {
         Ok(other)
     }
 
-    /// What the call answers, beside what its tag stands for; its write is looked for before call
-    /// `near` first.
-    fn answer(&self, writes: &Writes, call: &Call, near: usize) -> Answer
-        requires { AreWrites self.now.calls.now (length self.now.calls.now) writes.now }
+    /// What the call answers, beside what its tag stands for; the entry of its write is looked for near
+    /// that place first.
+    fn answer(&self, writes: &[Entry], call: &Call, near: usize) -> Answer
+        requires { AreWrites self.now.calls.now writes.now }
         ensures { IsAnswer self.now.calls.now call.now result }
     {
         let Some(response) = &call.response else {
@@ -263,34 +318,26 @@ impl<'a> Notes<'a> {
         }
     }
 
-    /// The index of the write that is noted with the tag, which is looked for before call `near`
-    /// first.
-    fn index_of(&self, writes: &Writes, tag: Tag, near: usize) -> Option<usize>
-        requires { AreWrites self.now.calls.now (length self.now.calls.now) writes.now }
-        ensures { result ≡ get tag_cmp writes.now tag }
+    /// The index of the first write that is noted with the tag, whose entry is looked for near that
+    /// place first.
+    fn index_of(&self, writes: &[Entry], tag: Tag, near: usize) -> Option<usize>
+        requires { AreEntries self.now.calls.now writes.now }
+        ensures { IsIndexOf self.now.calls.now tag result }
     {
-        match self.write_near(tag, near) {
-            Some(k) => Some(k),
-            None => writes.get(&tag).copied(),
+        let place = first_place(writes, tag, near);
+        if place >= writes.len() {
+            return None;
         }
-    }
-
-    /// The index of a write that is noted with the tag, if the 16 calls before call `near` have one.
-    fn write_near(&self, tag: Tag, near: usize) -> Option<usize>
-        ensures { IfSome result (λ k. HasWriteAt self.now.calls.now tag k) }
-    {
-        let end = near.min(self.calls.len());
-        for k in (end.saturating_sub(16)..end).rev() {
-            if is_write_of(&self.calls[k], tag) {
-                return Some(k);
-            }
+        if is_same(writes[place].0, tag) {
+            Some(writes[place].1)
+        } else {
+            None
         }
-        None
     }
 
     /// The write that is noted with the tag, and its value.
-    fn write_of(&self, writes: &Writes, tag: Tag, near: usize) -> Option<(OpId, &'a Value)>
-        requires { AreWrites self.now.calls.now (length self.now.calls.now) writes.now }
+    fn write_of(&self, writes: &[Entry], tag: Tag, near: usize) -> Option<(OpId, &'a Value)>
+        requires { AreWrites self.now.calls.now writes.now }
         ensures { MatchOption result (LacksCall self.now.calls.now (λ write. IsWriteOf write tag))
             (λ found. IsWriteWith self.now.calls.now tag found.0 found.1.now) }
     {

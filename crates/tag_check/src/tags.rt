@@ -2,7 +2,7 @@
 ghost use Rattle.std.specs.Prelude.{◌≡◌, ◌↔◌, ◌⊎◌, IsTrue, Some};
 ghost use Rattle.std.specs.Option.{option_copied};
 ghost use Rattle.recorder.specs.Parts.{Precedes};
-ghost use Rattle.tag.specs.Tags.{Tag, least};
+ghost use Rattle.tag.specs.Tags.{IsBelow, Tag, least};
 ghost use Rattle.tag_check.specs.Rules.{LacksNote, IsWriteOf, IsLeastWrite, IsAnsweredRead, IsTooLow, IsNotAbove};
 ghost use Rattle.tag_check.specs.Greatest.{IsGreatest, Falls};
 
@@ -27,21 +27,21 @@ pub(crate) fn write_tag(call: &Call) -> Option<Tag>
     }
 }
 
+/// Whether the first tag is below the second.
+pub(crate) fn is_below(a: Tag, b: Tag) -> bool
+    ensures { IsTrue result ↔ IsBelow a b }
+{
+    match a.cmp(&b) {
+        Ordering::Less => true,
+        Ordering::Equal | Ordering::Greater => false,
+    }
+}
+
 /// Whether the tags are one.
-fn is_same(a: Tag, b: Tag) -> bool
+pub(crate) fn is_same(a: Tag, b: Tag) -> bool
     ensures { IsTrue result ↔ (a ≡ b) }
 {
     a == b
-}
-
-/// Whether the call is a write that is noted with the tag.
-pub(crate) fn is_write_of(call: &Call, tag: Tag) -> bool
-    ensures { IsTrue result ↔ IsWriteOf call.now tag }
-{
-    match write_tag(call) {
-        Some(noted) => is_same(noted, tag),
-        None => false,
-    }
 }
 
 /// The tag of a read that has its response, if it is noted.

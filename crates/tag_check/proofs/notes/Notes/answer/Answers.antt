@@ -23,7 +23,7 @@ returns-then-answers c =
     let tag = c.in-Some-read_tag.tag in
     let answered = (c.read_tag.ensures tag).0 c.in-Some-read_tag.is in
     let least = c.is_least.ensures.0 c.if-is_least.true in (
-      right_here calls c.args.writes.now c.requires c.args.call.now c.in-Some.response tag None None answered.2 c.in-Some.is (least, refl) (c.answers.ensures.0 c.if-answers.true),
+      right_here calls c.requires.own c.args.call.now c.in-Some.response tag None None answered.2 c.in-Some.is (least, refl) (c.answers.ensures.0 c.if-answers.true),
       stands_not_without calls c.args.call.now tag None None answered.2 (least, refl),
     )
 
@@ -63,7 +63,7 @@ returns-then-answers-2 c =
     let text = c.in-Some-write_of.value.now in
     let answered = (c.read_tag.ensures tag).0 c.in-Some-read_tag.is in
     let stands : IsValueOf calls tag (Some write) (Some text) = (λ e. false≢true (sym c.if-is_least.false ∙ c.is_least.ensures.1 e), text, c.in-Some-write_of.ensures, refl) in (
-      right_here calls c.args.writes.now c.requires c.args.call.now c.in-Some.response tag (Some write) (Some text) answered.2 c.in-Some.is stands (c.answers-2.ensures.0 c.if-answers-2.true),
+      right_here calls c.requires.own c.args.call.now c.in-Some.response tag (Some write) (Some text) answered.2 c.in-Some.is stands (c.answers-2.ensures.0 c.if-answers-2.true),
       stands_not_without calls c.args.call.now tag (Some write) (Some text) answered.2 stands,
     )
 

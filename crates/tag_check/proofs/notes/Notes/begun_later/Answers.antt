@@ -3,7 +3,7 @@ use Rattle.std.proofs.Math.Dec.{leb}
 use Rattle.std.proofs.lemmas.List.Sorted.{IsPartitionedBy-leb, IsPartitionPoint-from_clause}
 use Rattle.recorder.specs.declared.part.Call.{Call}
 use Rattle.tag_check.proofs.Answered.{begun_from, invoked_sorted}
-use Rattle.tag_check.proofs.notes.Notes.begun_by.Goals as goal
+use Rattle.tag_check.proofs.notes.Notes.begun_later.Goals as goal
 
 pub returns-in-None-clause-begun : goal.returns-in-None-clause-begun
 returns-in-None-clause-begun c =

@@ -1,0 +1,12 @@
+use Rattle.tag_check.specs.Least.{IsFirstBefore}
+use Rattle.tag_check.specs.Rules.{LacksNote, IsLeastWrite}
+use Rattle.tag_check.specs.Writes.{AreNoted}
+use Rattle.tag_check.proofs.Calls.{NoneBelow}
+use Rattle.tag_check.proofs.notes.Notes.noted_writes.Given as goal
+
+abbrev pub invariant-loop-i : goal.invariant-loop-i
+invariant-loop-i l = record {
+  complete : NoneBelow l.self.calls.now LacksNote l.i;
+  least : IsFirstBefore l.self.calls.now IsLeastWrite l.i l.least;
+  noted : AreNoted l.self.calls.now l.i l.noted.items;
+}
