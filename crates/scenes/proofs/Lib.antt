@@ -1,5 +1,7 @@
 pub mod RunningPoints
-pub mod PlacedPoints
 pub mod Rising
-pub mod Windows
+pub mod Just
+pub mod ShownCalls
+pub mod OrderDots
+pub mod Around
 pub mod Overlaps

@@ -1,22 +1,21 @@
 -- Numbers, each once, in rising order.
-use Rattle.std.proofs.Common.{ℕ, zero, suc, ◌≡◌, ◌<◌, ◌≤◌, ◌+◌, inl, inr, List, [], ◌∷◌, ◌++◌, Some, map, length, take, get_or, refl}
-use Rattle.std.proofs.Common.{sym, ◌∙◌, ap, subst, arith}
+use Rattle.std.proofs.Common.{ℕ, zero, suc, ◌≡◌, ◌<◌, ◌≤◌, ◌+◌, inl, inr, List, [], ◌∷◌, ◌++◌, Some, map, length, get_or, refl}
+use Rattle.std.proofs.Common.{sym, ap, subst, arith}
 use Rattle.std.specs.List.{slice_get, Contains, dedup, flat_map}
 use Rattle.std.specs.List.Sorted.{IsPermutation, IsSorted, IsStrictlyIncreasing}
 use Rattle.std.specs.Ordering.{nat_cmp}
 use Rattle.std.proofs.lemmas.Bool.{cases_lt}
-use Rattle.std.proofs.lemmas.List.{map_more}
+use Rattle.std.proofs.lemmas.List.{length-map}
 use Rattle.std.proofs.lemmas.List.Elements.{Contains-append_left, Contains-append_right, Contains-append_cases}
 use Rattle.std.proofs.lemmas.List.Kept.{AllPairs-from_increasing, Contains-dedup_nat, Contains-from_dedup}
 use Rattle.std.proofs.lemmas.List.Sorted.{Contains-permutation, IsPermutation-sym}
 use Rattle.std.proofs.lemmas.Map.Keys.{IsStrictlyIncreasing-dedup}
 use Rattle.std.proofs.lemmas.Option.{same_Some, slice_get_within, get_or_from_slice_get}
 use Rattle.std.proofs.Common.{eqb}
-use Rattle.tag.proofs.Lists.{place_of, Contains-slice_get, slice_get-map_at, slice_get-map_back}
+use Rattle.tag.proofs.Lists.{place_of, get_at, push_cases, Contains-slice_get, slice_get-map_at}
 use Rattle.tag.proofs.Options.{none_some}
-use Rattle.recorder.specs.declared.part.Call.{Call}
 use Rattle.scenes.specs.declared.scene.Bar.{Bar}
-use Rattle.scenes.specs.Scenes.{IsRisingListOf, HasCallOf, HasPlace, places_of}
+use Rattle.scenes.specs.Scenes.{IsRisingListOf, HasPlace, places_of}
 
 -- sorted, and each number once
 pub rising_list : (P : ℕ → Type 0) (start sorted list : List ℕ) → ((n : ℕ) → Contains start n → P n) → ((n : ℕ) → P n → Contains start n)
@@ -53,27 +52,48 @@ not_there list n at there below above =
       | inr h ↦ let more : n < get_or list place.0 0 = above place.0 h (slice_get_within list place.0 n place.1) in omega arith
     ]
 
--- one element more of what a function makes of each
-pub map_next : {X : Type 0} (f : X → ℕ) (xs : List X) (ys now : List ℕ) (i : ℕ) (x : X) → slice_get xs i ≡ Some x → now ≡ ys ++ f x ∷ []
-    → ys ≡ map f (take i xs) → now ≡ map f (take (i + 1) xs)
-map_next f xs ys now i x at more before =
-    let value : get_or xs i x ≡ x = get_or_from_slice_get xs i x x at in
-    more ∙
-    (ap (λ l. l ++ f x ∷ []) before ∙
-    (ap (λ z. map f (take i xs) ++ f z ∷ []) (sym value) ∙ sym (map_more f xs i x (slice_get_within xs i x at))))
+-- the function rises along the list
+abbrev pub Rises : {X : Type 0} → (X → ℕ) → List X → Type 0
+Rises {X} f xs = (i j : ℕ) (a b : X) → i < j → slice_get xs i ≡ Some a → slice_get xs j ≡ Some b → f a < f b
 
--- the clients of calls
-pub client_of : (calls : List Call) (client : ℕ) → Contains (map (λ (call : Call). call.client) calls) client → HasCallOf calls client
-client_of calls client there =
-    let at = place_of (map (λ (call : Call). call.client) calls) client there in
-    let back = slice_get-map_back (λ (call : Call). call.client) calls at.0 client at.1 in
-    (back.0, Contains-slice_get calls at.0 back.0 back.1, back.2)
+pub rises_mapped : {X : Type 0} (f : X → ℕ) (xs : List X) → Rises f xs → IsStrictlyIncreasing (map f xs)
+rises_mapped f xs up k within =
+    let long : k + 1 < length xs = omega (arith, within, length-map xs f) in
+    let a = get_at xs k (omega arith) in
+    let b = get_at xs (k + 1) long in
+    let less : f a.0 < f b.0 = up k (k + 1) a.0 b.0 (omega arith) a.1 b.1 in
+    let at_a : get_or (map f xs) k 0 ≡ f a.0 = get_or_from_slice_get (map f xs) k (f a.0) 0 (slice_get-map_at f xs k a.0 a.1) in
+    let at_b : get_or (map f xs) (k + 1) 0 ≡ f b.0 = get_or_from_slice_get (map f xs) (k + 1) (f b.0) 0
+    (slice_get-map_at f xs (k + 1) b.0 b.1) in
+    let rise : get_or (map f xs) k 0 < get_or (map f xs) (k + 1) 0 = omega (arith, less, at_a, at_b) in
+    rise
 
-pub client_there : (calls : List Call) (client : ℕ) → HasCallOf calls client → Contains (map (λ (call : Call). call.client) calls) client
-client_there calls client has =
-    let at = place_of calls has.0 has.1 in
-    Contains-slice_get (map (λ (call : Call). call.client) calls) at.0 client
-    (slice_get-map_at (λ (call : Call). call.client) calls at.0 has.0 at.1 ∙ ap Some has.2)
+-- numbers of a rising list
+pub rises_in : (list : List ℕ) → IsStrictlyIncreasing list → Rises (λ (n : ℕ). n) list
+rises_in list up i j a b less at_a at_b =
+    let value_a : get_or list i 0 ≡ a = get_or_from_slice_get list i a 0 at_a in
+    let value_b : get_or list j 0 ≡ b = get_or_from_slice_get list j b 0 at_b in
+    let below : get_or list i 0 < get_or list j 0 = AllPairs-from_increasing list up i j 0 less (slice_get_within list j b at_b) in
+    omega (arith, value_a, value_b, below)
+
+pub rises_from : {X : Type 0} (f : X → ℕ) (xs : List X) → IsStrictlyIncreasing (map f xs) → Rises f xs
+rises_from f xs up i j a b less at_a at_b = rises_in (map f xs) up i j (f a) (f b) less (slice_get-map_at f xs i a at_a)
+    (slice_get-map_at f xs j b at_b)
+
+-- one element more, above all others
+pub rises_more : {X : Type 0} (f : X → ℕ) (xs now : List X) (y : X) → now ≡ xs ++ y ∷ [] → ((x : X) → Contains xs x → f x < f y)
+    → Rises f xs → Rises f now
+rises_more {X} f xs now y more above up = subst (Rises f) (sym more)
+    (λ i j a b less at_a at_b. elim (push_cases xs y j b at_b) [
+      | inl b_old ↦ elim (push_cases xs y i a at_a) [
+        | inl a_old ↦ up i j a b less a_old b_old
+        | inr a_new ↦ absurd (omega (arith, a_new.0, slice_get_within xs j b b_old))
+      ]
+      | inr b_new ↦ elim (push_cases xs y i a at_a) [
+        | inl a_old ↦ subst (λ (z : X). f a < f z) b_new.1 (above a (Contains-slice_get xs i a a_old))
+        | inr a_new ↦ absurd (omega (arith, a_new.0, b_new.0))
+      ]
+    ])
 
 -- the places of bars
 in_one : {X : Type 0} (f : X → List ℕ) (xs : List X) (n : ℕ) → Contains (flat_map f xs) n → (x : X) × Contains xs x × Contains (f x) n

@@ -1,6 +1,7 @@
--- What a picture of a key's calls shows: a lane for each client, and in it a bar for each call.
-use Rattle.std.specs.Prelude.{ℕ, ◌≡◌, ◌<◌, ◌≤◌, ◌↔◌, List, [], ◌∷◌, ◌++◌, Option, Some, None}
-use Rattle.std.specs.Prelude.{length, take, drop, slice_get, Contains}
+-- What a picture of a key's calls shows: a lane for each client, in it a bar for each call, and on
+-- the bars the linearization points of an order as dots.
+use Rattle.std.specs.Prelude.{ℕ, ◌≡◌, ◌<◌, ◌≤◌, ◌↔◌, List, [], ◌∷◌, ◌++◌, Some}
+use Rattle.std.specs.Prelude.{length, map, slice_get, Contains}
 use Rattle.std.specs.List.{AllZip}
 use Rattle.std.specs.List.Sorted.{IsStrictlyIncreasing}
 use Rattle.std.specs.Option.{option_map, option_to_list}
@@ -9,26 +10,17 @@ use Rattle.recorder.specs.declared.row.Row.{Row}
 use Rattle.recorder.specs.declared.part.Call.{Call}
 use Rattle.reasons.specs.Notes.{note_place}
 use Rattle.scenes.specs.declared.scene.Bar.{Bar}
+use Rattle.scenes.specs.declared.scene.Dot.{Dot}
 use Rattle.scenes.specs.declared.scene.Scene.{Scene}
-use Rattle.scenes.specs.declared.scene.Window.{Window}
-
--- the calls of a window: its count of them from its first index on, or as many as there are
-abbrev pub calls_in : Window → List Call → List Call
-calls_in window part = take window.count (drop window.first part)
 
 -- the list has just the numbers with the property, each once, in rising order
 pub record IsRisingListOf (P : ℕ → Type 0) (list : List ℕ) : Type 0 where
   pub rising : IsStrictlyIncreasing list
   pub exactly : (n : ℕ) → Contains list n ↔ P n
 
--- some call is the client's
-abbrev pub HasCallOf : List Call → ℕ → Type 0
-HasCallOf calls client = (call : Call) × Contains calls call × (call.client ≡ client)
-
--- the places of a bar: its begin, its note, its point and its end, those that it has
+-- the places of a bar: its begin, its note and its end, those that it has
 abbrev pub places_of : Bar → List ℕ
-places_of bar = (((bar.begins ∷ []) ++ option_to_list bar.note) ++ option_to_list bar.point)
-    ++ option_to_list bar.ends
+places_of bar = ((bar.begins ∷ []) ++ option_to_list bar.note) ++ option_to_list bar.ends
 
 -- some bar has the place
 abbrev pub HasPlace : List Bar → ℕ → Type 0
@@ -38,35 +30,48 @@ HasPlace bars place = (bar : Bar) × Contains bars bar × Contains (places_of ba
 abbrev pub IsPlaceIn : Bar → ℕ → Type 0
 IsPlaceIn bar place = (bar.begins ≤ place) × ((end : ℕ) → bar.ends ≡ Some end → place < end)
 
--- the point of a call among those of an order: one at which the call is listed; none: it isn't
--- listed, or the order has no points
-abbrev pub IsPointOf : List OpId → List ℕ → OpId → Option ℕ → Type 0
-IsPointOf order points op None = (i place : ℕ) → slice_get order i ≡ Some op
-    → slice_get points i ≡ Some place → ⊥
-IsPointOf order points op (Some place) =
-    (i : ℕ) × (slice_get order i ≡ Some op) × (slice_get points i ≡ Some place)
+-- the bar of a call: in the lane of its client, from its invocation to its response or with an open
+-- end, with the place of its note
+pub record IsBarOf (rows : List Row) (lanes : List ℕ) (call : Call) (bar : Bar) : Type 0 where
+  pub call_is : bar.call ≡ call.op
+  pub lane : slice_get lanes bar.lane ≡ Some call.client
+  pub begins : bar.begins ≡ call.invoked
+  pub ends : bar.ends ≡ option_map (λ response. response.place) call.response
+  pub note : bar.note ≡ note_place rows call
 
--- for each call the point that it has in the order
-pub record ArePointsOf (order : List OpId) (points : List ℕ) (calls : List Call)
-    (placed : List (Option ℕ)) : Type 0 where
-  pub all : length placed ≡ length calls
-  pub each : (k : ℕ) (call : Call) (point : Option ℕ) → slice_get calls k ≡ Some call
-      → slice_get placed k ≡ Some point → IsPointOf order points call.op point
+module _ (order : List OpId) (points : List ℕ) (bars : List Bar) where
+  -- the dot of a place of the order: on the bar of the call that is listed there, at its point
+  abbrev pub IsDotOf : Dot → Type 0
+  IsDotOf dot = (bar : Bar) × (slice_get bars dot.bar ≡ Some bar)
+      × (slice_get order dot.number ≡ Some bar.call)
+      × (slice_get points dot.number ≡ Some dot.place)
 
-module _ (rows : List Row) (order : List OpId) (points : List ℕ) where
-  -- the bar of a call: in the lane of its client, from its invocation to its response or with an
-  -- open end, with the place of its note, and the point that it has in the order
-  pub record IsBarOf (lanes : List ℕ) (call : Call) (bar : Bar) : Type 0 where
-    pub call_is : bar.call ≡ call.op
-    pub lane : slice_get lanes bar.lane ≡ Some call.client
-    pub begins : bar.begins ≡ call.invoked
-    pub ends : bar.ends ≡ option_map (λ response. response.place) call.response
-    pub note : bar.note ≡ note_place rows call
-    pub point : IsPointOf order points call.op bar.point
+  -- the dots of all places of the order whose calls have bars, in the order's order
+  pub record AreDotsOf (dots : List Dot) : Type 0 where
+    pub rising : IsStrictlyIncreasing (map (λ dot. dot.number) dots)
+    pub exactly : (dot : Dot) → Contains dots dot ↔ IsDotOf dot
 
-  -- the scene of calls: their clients as lanes, a bar for each call in the order of the calls, and
-  -- the places of the bars as ticks
-  pub record IsSceneOf (calls : List Call) (scene : Scene) : Type 0 where
-    pub lanes : IsRisingListOf (HasCallOf calls) scene.lanes.items
-    pub bars : AllZip (IsBarOf scene.lanes.items) calls scene.bars.items
+module _ (part : List Call) (shown : List ℕ) where
+  -- the shown indexes are those of calls of the part, each once, in rising order
+  pub record IsSelection : Type 0 where
+    pub rising : IsStrictlyIncreasing shown
+    pub within : (i : ℕ) → Contains shown i → i < length part
+
+  -- some shown call is the client's
+  abbrev pub HasCallOf : ℕ → Type 0
+  HasCallOf client = (i : ℕ) × (call : Call) × Contains shown i × (slice_get part i ≡ Some call)
+      × (call.client ≡ client)
+
+  -- for each shown index the bar of its call
+  abbrev pub AreBarsOf : List Row → List ℕ → List Bar → Type 0
+  AreBarsOf rows lanes bars = AllZip (λ i bar. (call : Call) × (slice_get part i ≡ Some call)
+      × IsBarOf rows lanes call bar) shown bars
+
+  -- the scene of the shown calls and of an order with its points: their clients as lanes, their
+  -- bars, the places of the bars as ticks, and the dots
+  pub record IsSceneOf (rows : List Row) (order : List OpId) (points : List ℕ) (scene : Scene)
+      : Type 0 where
+    pub lanes : IsRisingListOf HasCallOf scene.lanes.items
+    pub bars : AreBarsOf rows scene.lanes.items scene.bars.items
     pub ticks : IsRisingListOf (HasPlace scene.bars.items) scene.ticks.items
+    pub dots : AreDotsOf order points scene.bars.items scene.dots.items

@@ -1,42 +1,37 @@
-//! The bars of a scene, one for each call.
+//! The bars of a scene, one for each shown call.
 ghost use Rattle.std.specs.Prelude.{◌≡◌, IfOk};
-ghost use Rattle.std.specs.List.{AllZip};
 ghost use Rattle.std.specs.Option.{option_map};
-ghost use Rattle.recorder.specs.Parts.{IsSequence};
-ghost use Rattle.scenes.specs.Scenes.{HasCallOf, IsBarOf, IsRisingListOf};
+ghost use Rattle.scenes.specs.Scenes.{AreBarsOf, HasCallOf, IsRisingListOf, IsSelection};
 
 use crate::Bar;
+use crate::find::call_at;
 use crate::lanes::lane_of;
-use crate::placed_points::points_in;
 use reasons::note_place;
 use recorder::{Call, Response, Row};
 use std::alloc::Global;
-use tag::{ClientId, Memory, OpId};
+use tag::{ClientId, Memory};
 
-/// A bar for each call, in the order of the calls.
+/// A bar for each shown call, in the order of the calls.
 pub(crate) fn bars_of(
     alloc: Global,
     rows: &[Row],
     calls: &[Call],
+    shown: &[usize],
     lanes: &[ClientId],
-    order: &[OpId],
-    points: &[usize],
 ) -> Result<Vec<Bar>, Memory>
-    requires sequence { IsSequence calls.now }
-    requires lanes { IsRisingListOf (HasCallOf calls.now) lanes.now }
-    ensures { IfOk result (λ bars.
-        AllZip (IsBarOf rows.now order.now points.now lanes.now) calls.now bars.items) }
+    requires shown { IsSelection calls.now shown.now }
+    requires lanes { IsRisingListOf (HasCallOf calls.now shown.now) lanes.now }
+    ensures { IfOk result (λ bars. AreBarsOf calls.now shown.now rows.now lanes.now bars.items) }
 {
-    let placed = points_in(alloc, calls, order, points)?;
-    let mut bars = Vec::with_capacity(alloc, calls.len())?;
-    for (k, call) in calls.iter().enumerate() {
+    let mut bars = Vec::with_capacity(alloc, shown.len())?;
+    for i in shown {
+        let call = call_at(calls, *i);
         bars.push(Bar {
             call: call.op,
             lane: lane_of(lanes, call.client),
             begins: call.invoked,
             ends: end_of(&call.response),
             note: note_place(rows, call),
-            point: placed[k],
         })?;
     }
     Ok(bars)

@@ -1,5 +1,5 @@
 //! Calls by their numbers.
-ghost use Rattle.std.specs.Prelude.{◌≡◌, IfSome, IfNone, Contains};
+ghost use Rattle.std.specs.Prelude.{◌≡◌, ◌<◌, IfSome, IfNone, Some, Contains, length, slice_get};
 ghost use Rattle.recorder.specs.declared.part.Call.{Call};
 ghost use Rattle.recorder.specs.Parts.{IsSequence};
 ghost use Rattle.certificate_check.specs.Places.{HasOpAt};
@@ -15,6 +15,14 @@ pub(crate) fn find(calls: &[Call], op: OpId) -> Option<usize>
     ensures none { IfNone result ((call : Call) → Contains calls.now call → call.op ≡ op → ⊥) }
 {
     calls.binary_search_by_key(&op.0, |call| call.op.0).ok()
+}
+
+/// The call at that index.
+pub(crate) fn call_at(calls: &[Call], i: usize) -> &Call
+    requires { i < length calls.now }
+    ensures { slice_get calls.now i ≡ Some result.now }
+{
+    &calls[i]
 }
 
 /// The place at which the call of that number begins, where there is one.

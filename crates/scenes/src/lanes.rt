@@ -1,29 +1,37 @@
 //! The lanes of a scene, one for each client.
-ghost use Rattle.std.specs.Prelude.{◌≡◌, IfOk, Some, Contains, map, slice_get};
+ghost use Rattle.std.specs.Prelude.{ℕ, ◌≡◌, ◌↔◌, IfOk, Some, Contains, slice_get};
 ghost use Rattle.std.specs.List.Sorted.{IsStrictlyIncreasing};
-ghost use Rattle.scenes.specs.Scenes.{HasCallOf, IsRisingListOf};
+ghost use Rattle.scenes.specs.Scenes.{HasCallOf, IsRisingListOf, IsSelection};
 
+use crate::find::call_at;
 use recorder::Call;
 use std::alloc::Global;
 use tag::{ClientId, Memory};
 
-/// The clients of the calls, each once, in rising order.
-pub(crate) fn lanes_of(alloc: Global, calls: &[Call]) -> Result<Vec<ClientId>, Memory>
-    ensures { IfOk result (λ lanes. IsRisingListOf (HasCallOf calls.now) lanes.items) }
+/// The clients of the shown calls, each once, in rising order.
+pub(crate) fn lanes_of(
+    alloc: Global,
+    calls: &[Call],
+    shown: &[usize],
+) -> Result<Vec<ClientId>, Memory>
+    requires { IsSelection calls.now shown.now }
+    ensures { IfOk result (λ lanes. IsRisingListOf (HasCallOf calls.now shown.now) lanes.items) }
 {
-    let mut lanes = clients_of(alloc, calls)?;
+    let mut lanes = clients_of(alloc, calls, shown)?;
     lanes.sort_unstable();
     lanes.dedup();
     Ok(lanes)
 }
 
-/// The clients of the calls, in the order of the calls.
-fn clients_of(alloc: Global, calls: &[Call]) -> Result<Vec<ClientId>, Memory>
-    ensures { IfOk result (λ clients. clients.items ≡ map (λ call. call.client) calls.now) }
+/// The clients of the shown calls, in any order.
+fn clients_of(alloc: Global, calls: &[Call], shown: &[usize]) -> Result<Vec<ClientId>, Memory>
+    requires { IsSelection calls.now shown.now }
+    ensures { IfOk result (λ clients. (client : ℕ)
+        → Contains clients.items client ↔ HasCallOf calls.now shown.now client) }
 {
-    let mut clients = Vec::with_capacity(alloc, calls.len())?;
-    for call in calls {
-        clients.push(call.client)?;
+    let mut clients = Vec::with_capacity(alloc, shown.len())?;
+    for i in shown {
+        clients.push(call_at(calls, *i).client)?;
     }
     Ok(clients)
 }

@@ -1,30 +1,14 @@
 //! Scenes.
-ghost use Rattle.std.specs.Prelude.{◌≡◌, IfOk};
-ghost use Rattle.scenes.specs.Scenes.{IsSceneOf, calls_in};
+ghost use Rattle.std.specs.Prelude.{IfOk};
+ghost use Rattle.scenes.specs.Scenes.{IsSceneOf, IsSelection};
 
 use crate::bars::bars_of;
+use crate::dots::dots_of;
 use crate::lanes::lanes_of;
 use crate::ticks::ticks_of;
-use recorder::{Call, Part, Row};
+use recorder::{Part, Row};
 use std::alloc::Global;
 use tag::{ClientId, Memory, OpId};
-
-/// A range of a part's calls: `count` of them from the index `first` on, or as many as there are.
-#[derive(Clone, Copy, Debug, PartialEq, Eq)]
-pub struct Window {
-    pub first: usize,
-    pub count: usize,
-}
-
-impl Window {
-    /// The calls of the window.
-    pub fn calls_in(self, calls: &[Call]) -> &[Call]
-        ensures { result.now ≡ calls_in self calls.now }
-    {
-        let rest = &calls[self.first.min(calls.len())..];
-        &rest[..self.count.min(rest.len())]
-    }
-}
 
 /// What a picture shows of a call. Places are those of a history's rows, counted from 0.
 #[derive(Clone, Copy, Debug, PartialEq, Eq)]
@@ -38,8 +22,17 @@ pub struct Bar {
     pub ends: Option<usize>,
     /// The place of its note, if it has one.
     pub note: Option<usize>,
-    /// Its linearization point, if one is given: the place just after which it takes effect.
-    pub point: Option<usize>,
+}
+
+/// The linearization point of a bar's call.
+#[derive(Clone, Copy, Debug, PartialEq, Eq)]
+pub struct Dot {
+    /// The index of the bar.
+    pub bar: usize,
+    /// Where the call stands in the order, counted from 0.
+    pub number: usize,
+    /// The place just after which the call takes effect.
+    pub place: usize,
 }
 
 /// What a picture of a part's calls shows.
@@ -49,30 +42,39 @@ pub struct Scene {
     pub lanes: Vec<ClientId>,
     /// A bar for each call, in the order of the calls.
     pub bars: Vec<Bar>,
-    /// The places at which something is shown, in rising order.
+    /// The places at which a bar begins, ends or has its note, in rising order.
     pub ticks: Vec<usize>,
+    /// The points of the calls that the order lists, in the order's order.
+    pub dots: Vec<Dot>,
 }
 
-/// The scene of the part's calls in the window, which the rows record. A bar has the point that its
-/// call has in the order; without an order, give no point.
+/// The scene of the part's calls at the shown indexes, which the rows record, and of an order with
+/// its points. For a picture without points give an empty order.
 ///
-/// It takes time in proportion to the order and the logarithm of the window's count, and to the
-/// rows between each call of the window and its note; `Memory` comes only where an allocation was
-/// refused.
+/// It takes time in proportion to the shown calls and the order, times the logarithm of the shown
+/// calls' count, and to the rows between each shown call and its note; `Memory` comes only where an
+/// allocation was refused.
 pub fn scene_of(
     alloc: Global,
     rows: &[Row],
     part: &Part,
-    window: Window,
+    shown: &[usize],
     order: &[OpId],
     points: &[usize],
 ) -> Result<Scene, Memory>
+    requires { IsSelection part.now shown.now }
     ensures { IfOk result (λ scene.
-        IsSceneOf rows.now order.now points.now (calls_in window part.now) scene) }
+        IsSceneOf part.now shown.now rows.now order.now points.now scene) }
 {
-    let calls = window.calls_in(part.calls());
-    let lanes = lanes_of(alloc, calls)?;
-    let bars = bars_of(alloc, rows, calls, &lanes, order, points)?;
+    let calls = part.calls();
+    let lanes = lanes_of(alloc, calls, shown)?;
+    let bars = bars_of(alloc, rows, calls, shown, &lanes)?;
     let ticks = ticks_of(alloc, &bars)?;
-    Ok(Scene { lanes, bars, ticks })
+    let dots = dots_of(alloc, &bars, order, points)?;
+    Ok(Scene {
+        lanes,
+        bars,
+        ticks,
+        dots,
+    })
 }

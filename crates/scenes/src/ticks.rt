@@ -1,4 +1,4 @@
-//! The ticks of a scene: the places at which it shows something.
+//! The ticks of a scene: the places of its bars.
 ghost use Rattle.std.specs.Prelude.{◌≡◌, ◌++◌, IfOk, OnOk};
 ghost use Rattle.std.specs.List.{flat_map};
 ghost use Rattle.std.specs.Option.{option_to_list};
@@ -35,7 +35,6 @@ fn add_places(places: &mut Vec<usize>, bar: &Bar) -> Result<(), Memory>
 {
     places.push(bar.begins)?;
     add_some(places, bar.note)?;
-    add_some(places, bar.point)?;
     add_some(places, bar.ends)?;
     Ok(())
 }

@@ -1,12 +1,25 @@
-use Rattle.tag.proofs.Lists.{item_at}
-use Rattle.recorder.specs.declared.part.Call.{Call}
-use Rattle.scenes.proofs.Rising.{map_next}
+use Rattle.std.proofs.Common.{List, subst, ℕ}
+use Rattle.std.proofs.lemmas.List.{take_all}
+use Rattle.std.proofs.lemmas.Option.{slice_get-get_or}
+use Rattle.tag.proofs.Lists.{Contains-slice_get}
+use Rattle.scenes.specs.Scenes.{HasCallOf}
+use Rattle.scenes.proofs.Just.{HasJust}
+use Rattle.scenes.proofs.ShownCalls.{clients_more}
 use Rattle.scenes.proofs.lanes.clients_of.Goals as goal
 
-pub loop-call-preserved : goal.loop-call-preserved
-loop-call-preserved c =
-    let calls = c.args.calls.now in
-    let i = c.loop-call.call-index in
-    let call = c.call-item.result in
-    map_next (λ (x : Call). x.client) calls c.loop-call.clients.items _ i call
-    (item_at calls i call c.loop-call-test.true c.call-item.is) c.in_ok-push.ensures.items c.loop-call.invariant
+pub call_at-requires : goal.call_at-requires
+call_at-requires c =
+    let shown = c.args.shown.now in
+    let k = c.loop-i.i-index in
+    c.requires.within _ (Contains-slice_get shown k _ (slice_get-get_or shown k 0 c.loop-i-test.true))
+
+pub loop-i-preserved : goal.loop-i-preserved
+loop-i-preserved c =
+    let shown = c.args.shown.now in
+    let k = c.loop-i.i-index in
+    clients_more c.args.calls.now shown k _ c.call_at.result.now c.loop-i.clients.items _
+    (slice_get-get_or shown k 0 c.loop-i-test.true) c.call_at.ensures c.in_ok-push.ensures.items c.loop-i.invariant
+
+pub returns : goal.returns
+returns c = subst (λ (l : List ℕ). HasJust (HasCallOf c.args.calls.now l) c.loop-i.clients.items)
+    (take_all c.loop-i.i-index c.args.shown.now c.loop-i-test.false) c.loop-i.invariant

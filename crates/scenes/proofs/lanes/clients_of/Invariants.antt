@@ -1,6 +1,7 @@
-use Rattle.std.proofs.Common.{◌≡◌, map, take}
-use Rattle.recorder.specs.declared.part.Call.{Call}
+use Rattle.std.proofs.Common.{take}
+use Rattle.scenes.specs.Scenes.{HasCallOf}
+use Rattle.scenes.proofs.Just.{HasJust}
 use Rattle.scenes.proofs.lanes.clients_of.Given as goal
 
-abbrev pub invariant-loop-call : goal.invariant-loop-call
-invariant-loop-call l = l.clients.items ≡ map (λ (call : Call). call.client) (take l.call-index l.calls)
+abbrev pub invariant-loop-i : goal.invariant-loop-i
+invariant-loop-i l = HasJust (HasCallOf l.calls (take l.i-index l.shown)) l.clients.items
