@@ -1,0 +1,5 @@
+pub mod Counts
+pub mod Finding
+pub mod Rendering
+pub mod Fitting
+pub mod Rows

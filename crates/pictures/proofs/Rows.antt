@@ -1,0 +1,163 @@
+-- Rows of ticks and dots: each has its own, in the order of their places.
+use Rattle.std.proofs.Common.{ℕ, ◌≡◌, ◌<◌, ◌≤◌, ◌+◌, zero, suc, Bool, true, false, cond, nat_le, nat_lt, List, [], ◌∷◌, Some, get_or, map, count_by, refl, ap, ◌∙◌, arith}
+use Rattle.std.specs.List.{slice_get}
+use Rattle.std.specs.List.Sorted.{IsNonDecreasing, IsStrictlyIncreasing}
+use Rattle.std.proofs.lemmas.Bool.Decides.{nat_tests}
+use Rattle.std.proofs.lemmas.List.Kept.{AllPairs-from_increasing}
+use Rattle.std.proofs.lemmas.List.Sums.{sum_by-cons}
+use Rattle.std.proofs.lemmas.Option.{same_Some, slice_get_within, get_or_from_slice_get}
+use Rattle.tag.proofs.Options.{none_some}
+use Rattle.scenes.specs.declared.scene.Dot.{Dot}
+use Rattle.scenes.specs.declared.scene.Scene.{Scene}
+use Rattle.pictures.specs.Layout.{HasRowsInOrder, IsInOrder, row_of_dot, row_of_place}
+use Rattle.pictures.proofs.Counts.{mapped_not_falling}
+
+below : (m n : ℕ) → m < n → nat_lt m n ≡ true
+below m n less = grind (arith, nat_tests)
+
+not_below : (m n : ℕ) → n ≤ m → nat_lt m n ≡ false
+not_below m n le = grind (arith, nat_tests)
+
+up_to : (m n : ℕ) → m ≤ n → nat_le m n ≡ true
+up_to m n le = grind (arith, nat_tests)
+
+from_below : (m n : ℕ) → nat_lt m n ≡ true → m < n
+from_below m n is = grind (arith, nat_tests)
+
+from_up_to : (m n : ℕ) → nat_le m n ≡ true → m ≤ n
+from_up_to m n is = grind (arith, nat_tests)
+
+-- one for a test that passes
+abbrev one_for : Bool → ℕ
+one_for b = cond b 1 0
+
+one_less : (b c : Bool) → (b ≡ true → c ≡ true) → one_for b ≤ one_for c
+one_less true true implied = omega arith
+one_less true false implied = let no : false ≡ true = implied refl in cc
+one_less false true implied = omega arith
+one_less false false implied = omega arith
+
+at_most_one : (b : Bool) → one_for b ≤ 1
+at_most_one true = omega arith
+at_most_one false = omega arith
+
+counted : {X : Type 0} (p : X → Bool) (x : X) (xs : List X) → count_by p (x ∷ xs) ≡ one_for (p x) + count_by p xs
+counted p x xs = sum_by-cons (λ y. cond (p y) 1 0) x xs
+
+module _ {X : Type 0} (p q : X → Bool) (implied : (x : X) → p x ≡ true → q x ≡ true) where
+  -- a test that asks less passes no fewer
+  count_less : (xs : List X) → count_by p xs ≤ count_by q xs
+  count_less [] = omega arith
+  count_less (x ∷ xs) =
+      let one = one_less (p x) (q x) (implied x) in
+      let rest = count_less xs in
+      omega (arith, one, rest, counted p x xs, counted q x xs)
+
+  -- and more, where one passes it alone
+  count_more : (xs : List X) (i : ℕ) (x : X) → slice_get xs i ≡ Some x → p x ≡ false → q x ≡ true → count_by p xs < count_by q xs
+  count_more [] i x at fails passes = none_some at
+  count_more (y ∷ ys) zero x at fails passes =
+      let same : y ≡ x = same_Some y x at in
+      let no : one_for (p y) ≡ 0 = ap one_for (ap p same ∙ fails) in
+      let one : one_for (q y) ≡ 1 = ap one_for (ap q same ∙ passes) in
+      let rest = count_less ys in
+      omega (arith, no, one, rest, counted p y ys, counted q y ys)
+  count_more (y ∷ ys) (suc i) x at fails passes =
+      let one = one_less (p y) (q y) (implied y) in
+      let rest = count_more ys i x at fails passes in
+      omega (arith, one, rest, counted p y ys, counted q y ys)
+
+module _ {X : Type 0} (p : X → Bool) where
+  -- where none passes from an index on, no more pass than stand before it
+  count_at_most : (xs : List X) (j : ℕ) → ((k : ℕ) (y : X) → j ≤ k → slice_get xs k ≡ Some y → p y ≡ false) → count_by p xs ≤ j
+  count_at_most [] j fails = omega arith
+  count_at_most (x ∷ xs) zero fails =
+      let no : one_for (p x) ≡ 0 = ap one_for (fails 0 x (omega arith) refl) in
+      let rest = count_at_most xs 0 (λ k y le at. fails (suc k) y (omega arith) at) in
+      omega (arith, no, rest, counted p x xs)
+  count_at_most (x ∷ xs) (suc j) fails =
+      let one = at_most_one (p x) in
+      let rest = count_at_most xs j (λ k y le at. fails (suc k) y (omega arith) at) in
+      omega (arith, one, rest, counted p x xs)
+
+  -- where all up to an index pass, so many do
+  count_at_least : (xs : List X) (j : ℕ) (x : X) → slice_get xs j ≡ Some x
+      → ((k : ℕ) (y : X) → k ≤ j → slice_get xs k ≡ Some y → p y ≡ true) → j < count_by p xs
+  count_at_least [] j x at passes = none_some at
+  count_at_least (y ∷ ys) zero x at passes =
+      let one : one_for (p y) ≡ 1 = ap one_for (passes 0 y (omega arith) refl) in
+      omega (arith, one, counted p y ys)
+  count_at_least (y ∷ ys) (suc j) x at passes =
+      let one : one_for (p y) ≡ 1 = ap one_for (passes 0 y (omega arith) refl) in
+      let rest = count_at_least ys j x at (λ k z le there. passes (suc k) z (omega arith) there) in
+      omega (arith, one, rest, counted p y ys)
+
+-- a later tick is a later place
+ticks_rise : (ticks : List ℕ) → IsStrictlyIncreasing ticks → (i j p q : ℕ) → i < j → slice_get ticks i ≡ Some p → slice_get ticks j ≡ Some q → p < q
+ticks_rise ticks up i j p q less at_i at_j =
+    let first : get_or ticks i 0 ≡ p = get_or_from_slice_get ticks i p 0 at_i in
+    let second : get_or ticks j 0 ≡ q = get_or_from_slice_get ticks j q 0 at_j in
+    let rise : get_or ticks i 0 < get_or ticks j 0 = AllPairs-from_increasing ticks up i j 0 less (slice_get_within ticks j q at_j) in
+    omega (arith, first, second, rise)
+
+-- a later dot is at no earlier place
+dots_rise : (dots : List Dot) → IsNonDecreasing (map (λ (d : Dot). d.place) dots) → (i j : ℕ) (d e : Dot) → i ≤ j
+    → slice_get dots i ≡ Some d → slice_get dots j ≡ Some e → d.place ≤ e.place
+dots_rise dots up i j d e le at_i at_j =
+    let first : (get_or dots i d).place ≡ d.place = ap (λ (x : Dot). x.place) (get_or_from_slice_get dots i d d at_i) in
+    let second : (get_or dots j d).place ≡ e.place = ap (λ (x : Dot). x.place) (get_or_from_slice_get dots j e d at_j) in
+    let rise = mapped_not_falling (λ (x : Dot). x.place) dots up i j d le (slice_get_within dots j e at_j) in
+    omega (arith, first, second, rise)
+
+module _ (scene : Scene) (ordered : IsInOrder scene) where
+  ticks_in_order : (i j p q : ℕ) → i < j → slice_get scene.ticks.items i ≡ Some p → slice_get scene.ticks.items j ≡ Some q
+      → row_of_place scene p < row_of_place scene q
+  ticks_in_order i j p q less at_i at_j =
+      let rise = ticks_rise scene.ticks.items ordered.ticks i j p q less at_i at_j in
+      let ticks = count_more (λ (t : ℕ). nat_lt t p) (λ (t : ℕ). nat_lt t q) (λ t is. below t q (let h = from_below t p is in omega (arith, h, rise)))
+      scene.ticks.items i p at_i (not_below p p (omega arith)) (below p q rise)
+      in
+      let dots = count_less (λ (d : Dot). nat_lt d.place p) (λ (d : Dot). nat_lt d.place q)
+      (λ d is. below d.place q (let h = from_below d.place p is in omega (arith, h, rise))) scene.dots.items
+      in
+      omega (arith, ticks, dots)
+
+  dots_in_order : (i j : ℕ) (d e : Dot) → i < j → slice_get scene.dots.items i ≡ Some d → slice_get scene.dots.items j ≡ Some e
+      → row_of_dot scene i d.place < row_of_dot scene j e.place
+  dots_in_order i j d e less at_i at_j =
+      let rise = dots_rise scene.dots.items ordered.dots i j d e (omega arith) at_i at_j in
+      let ticks = count_less (λ (t : ℕ). nat_le t d.place) (λ (t : ℕ). nat_le t e.place)
+      (λ t is. up_to t e.place (let h = from_up_to t d.place is in omega (arith, h, rise))) scene.ticks.items
+      in
+      omega (arith, ticks)
+
+  tick_above_dot : (i j p : ℕ) (d : Dot) → slice_get scene.ticks.items i ≡ Some p → slice_get scene.dots.items j ≡ Some d → p ≤ d.place
+      → row_of_place scene p < row_of_dot scene j d.place
+  tick_above_dot i j p d at_i at_j le =
+      let ticks = count_more (λ (t : ℕ). nat_lt t p) (λ (t : ℕ). nat_le t d.place)
+      (λ t is. up_to t d.place (let h = from_below t p is in omega (arith, h, le))) scene.ticks.items i p at_i
+      (not_below p p (omega arith)) (up_to p d.place le)
+      in
+      let dots = count_at_most (λ (x : Dot). nat_lt x.place p) scene.dots.items j (λ k y later at_k.
+      not_below y.place p (let rise = dots_rise scene.dots.items ordered.dots j k d y later at_j at_k in omega (arith, rise, le)))
+      in
+      omega (arith, ticks, dots)
+
+  dot_above_tick : (i j p : ℕ) (d : Dot) → slice_get scene.ticks.items i ≡ Some p → slice_get scene.dots.items j ≡ Some d → d.place < p
+      → row_of_dot scene j d.place < row_of_place scene p
+  dot_above_tick i j p d at_i at_j less =
+      let ticks = count_less (λ (t : ℕ). nat_le t d.place) (λ (t : ℕ). nat_lt t p)
+      (λ t is. below t p (let h = from_up_to t d.place is in omega (arith, h, less))) scene.ticks.items
+      in
+      let dots = count_at_least (λ (x : Dot). nat_lt x.place p) scene.dots.items j d at_j (λ k y earlier at_k.
+      below y.place p (let rise = dots_rise scene.dots.items ordered.dots k j y d earlier at_k at_j in omega (arith, rise, less)))
+      in
+      omega (arith, ticks, dots)
+
+  pub rows_in_order : HasRowsInOrder scene
+  rows_in_order = record {
+    ticks = ticks_in_order;
+    dots = dots_in_order;
+    tick_above_dot = tick_above_dot;
+    dot_above_tick = dot_above_tick;
+  }

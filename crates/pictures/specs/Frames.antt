@@ -1,0 +1,64 @@
+-- The shapes of bars: four sides, or, of a pending call, three.
+use Rattle.std.specs.Prelude.{ℕ, ◌+◌, ◌-◌, ◌*◌, ◌≤◌, List, [], ◌∷◌, Option, Some, None}
+use Rattle.markup.specs.Markup.{Markup, all_tenths_text, empty}
+use Rattle.markup.specs.declared.names.AttributeName.TheVariants as name
+use Rattle.markup.specs.declared.names.Element.TheVariants as tag
+use Rattle.scenes.specs.declared.scene.Bar.{Bar}
+use Rattle.scenes.specs.declared.scene.Scene.{Scene}
+use Rattle.pictures.specs.declared.frames.Frame.{Frame}
+use Rattle.pictures.specs.declared.style.TheConstants.{BAR_FOOT, BAR_LEFT, BAR_MARGINS, BAR_TOP}
+use Rattle.pictures.specs.declared.style.TheConstants.{FARTHEST, FLOOR, OPEN}
+use Rattle.pictures.specs.Labels.{number_of, words_of}
+use Rattle.pictures.specs.Layout.{across, column_width, down, row_of_place, rows_of}
+
+-- no side stands farther than FARTHEST
+pub record IsNear (frame : Frame) : Type 0 where
+  pub left : frame.left ≤ FARTHEST
+  pub right : frame.right ≤ FARTHEST
+  pub top : frame.top ≤ FARTHEST
+  pub bottom : frame.bottom ≤ FARTHEST
+
+-- the shape of an answered call, with so round corners
+abbrev pub shut_shape : Frame → ℕ → Markup
+shut_shape frame corner = empty tag.Rect (number_of name.X frame.left ∷ number_of name.Y frame.top
+    ∷ number_of name.Width (frame.right - frame.left)
+    ∷ number_of name.Height (frame.bottom - frame.top) ∷ number_of name.Rx corner ∷ [])
+
+-- the corners of an open shape, in tenths of a pixel: up the left side, over the top, and down
+abbrev pub open_corners : Frame → ℕ → List ℕ
+open_corners frame corner =
+    frame.left * 10 ∷ frame.bottom * 10
+    ∷ frame.left * 10 ∷ (frame.top + corner) * 10
+    ∷ (frame.left + corner) * 10 ∷ frame.top * 10
+    ∷ (frame.right - corner) * 10 ∷ frame.top * 10
+    ∷ frame.right * 10 ∷ (frame.top + corner) * 10
+    ∷ frame.right * 10 ∷ frame.bottom * 10 ∷ []
+
+-- the shape of a pending call: without a side below
+abbrev pub open_shape : Frame → ℕ → Markup
+open_shape frame corner = empty tag.Polyline (words_of name.Class OPEN.now
+    ∷ words_of name.Points (all_tenths_text (open_corners frame corner)) ∷ [])
+
+-- the shape of a bar with that end
+abbrev pub shape_of : Option ℕ → Frame → ℕ → Markup
+shape_of None frame corner = open_shape frame corner
+shape_of (Some place) frame corner = shut_shape frame corner
+
+module _ (scene : Scene) where
+  -- the bottom of a bar with that end: in the row of the end, or at the floor
+  abbrev pub bottom_of : Option ℕ → ℕ
+  bottom_of None = down FLOOR (rows_of scene)
+  bottom_of (Some place) = down BAR_FOOT (row_of_place scene place)
+
+  -- where a bar stands: in its lane's column, from the row of its begin down
+  abbrev pub frame_of : Bar → Frame
+  frame_of bar = record {
+    left = across scene BAR_LEFT bar.lane;
+    right = across scene (BAR_LEFT + (column_width scene - BAR_MARGINS)) bar.lane;
+    top = down BAR_TOP (row_of_place scene bar.begins);
+    bottom = bottom_of bar.ends;
+  }
+
+  -- the shape of a bar, with so round corners
+  abbrev pub shape : Bar → ℕ → Markup
+  shape bar corner = shape_of bar.ends (frame_of bar) corner

@@ -1,0 +1,77 @@
+-- Where a picture shows what, in pixels. Time goes down: each tick and each dot of the scene has a
+-- row of its own, and each lane a column.
+use Rattle.std.specs.Prelude.{ℕ, ◌≡◌, ◌+◌, ◌-◌, ◌*◌, ◌/◌, ◌<◌, ◌≤◌, Bool, nat_le, nat_lt, min, max}
+use Rattle.std.specs.Prelude.{List, Some, length, map, count_by, slice_get}
+use Rattle.std.specs.List.Sorted.{IsNonDecreasing, IsStrictlyIncreasing}
+use Rattle.scenes.specs.declared.scene.Dot.{Dot}
+use Rattle.scenes.specs.declared.scene.Scene.{Scene}
+use Rattle.pictures.specs.declared.style.TheConstants.{COLUMNS, FARTHEST, LETTER, MARGINS}
+use Rattle.pictures.specs.declared.style.TheConstants.{NARROWEST, ROOMY, ROW, WIDEST}
+
+-- so many steps beyond a start; nothing stands farther than FARTHEST
+abbrev pub pixels : ℕ → ℕ → ℕ → ℕ
+pixels start count step = min (start + count * step) FARTHEST
+
+-- so far down in that row: the start is that of the first row
+abbrev pub down : ℕ → ℕ → ℕ
+down start row = pixels start row ROW
+
+-- how many of the ticks stand before the place
+abbrev pub ticks_before : List ℕ → ℕ → ℕ
+ticks_before ticks place = count_by (λ tick. nat_lt tick place) ticks
+
+-- how many of the ticks don't stand after the place
+abbrev pub ticks_up_to : List ℕ → ℕ → ℕ
+ticks_up_to ticks place = count_by (λ tick. nat_le tick place) ticks
+
+-- how many of the dots stand before the place
+abbrev pub dots_before : List Dot → ℕ → ℕ
+dots_before dots place = count_by (λ dot. nat_lt dot.place place) dots
+
+-- the ticks rise, and the places of the dots don't fall
+pub record IsInOrder (scene : Scene) : Type 0 where
+  pub ticks : IsStrictlyIncreasing scene.ticks.items
+  pub dots : IsNonDecreasing (map (λ dot. dot.place) scene.dots.items)
+
+module _ (scene : Scene) where
+  -- the row of a place: below the ticks and the dots of earlier places
+  abbrev pub row_of_place : ℕ → ℕ
+  row_of_place place = ticks_before scene.ticks.items place + dots_before scene.dots.items place
+
+  -- the row of the dot of that index, at its place: below the ticks up to there, and earlier dots
+  abbrev pub row_of_dot : ℕ → ℕ → ℕ
+  row_of_dot index place = ticks_up_to scene.ticks.items place + index
+
+  -- how many rows there are
+  abbrev pub rows_of : ℕ
+  rows_of = length scene.ticks.items + length scene.dots.items
+
+  -- the width of a column: the columns share the width of a page, as far as they stay readable
+  abbrev pub column_width : ℕ
+  column_width = max (min (COLUMNS / max (length scene.lanes.items) 1) WIDEST) NARROWEST
+
+  -- so far right in that lane's column: the start is that of the first one
+  abbrev pub across : ℕ → ℕ → ℕ
+  across start lane = pixels start lane column_width
+
+  -- columns are narrow
+  abbrev pub is_narrow : Bool
+  is_narrow = nat_lt column_width ROOMY
+
+  -- how many letters a column holds
+  abbrev pub room_of : ℕ
+  room_of = (column_width - MARGINS) / LETTER
+
+-- each tick and each dot has a row of its own, in the order of their places
+pub record HasRowsInOrder (scene : Scene) : Type 0 where
+  pub ticks : (i j p q : ℕ) → i < j → slice_get scene.ticks.items i ≡ Some p
+      → slice_get scene.ticks.items j ≡ Some q → row_of_place scene p < row_of_place scene q
+  pub dots : (i j : ℕ) (d e : Dot) → i < j → slice_get scene.dots.items i ≡ Some d
+      → slice_get scene.dots.items j ≡ Some e
+      → row_of_dot scene i d.place < row_of_dot scene j e.place
+  pub tick_above_dot : (i j p : ℕ) (d : Dot) → slice_get scene.ticks.items i ≡ Some p
+      → slice_get scene.dots.items j ≡ Some d → p ≤ d.place
+      → row_of_place scene p < row_of_dot scene j d.place
+  pub dot_above_tick : (i j p : ℕ) (d : Dot) → slice_get scene.ticks.items i ≡ Some p
+      → slice_get scene.dots.items j ≡ Some d → d.place < p
+      → row_of_dot scene j d.place < row_of_place scene p

@@ -1,0 +1,11 @@
+pub mod Layout
+pub mod Words
+pub mod Cuts
+pub mod Labels
+pub mod Ground
+pub mod Dots
+pub mod Frames
+pub mod Texts
+pub mod Pictures
+pub mod Tables
+pub mod Sheets

@@ -1,0 +1,114 @@
+-- The picture of a key's calls: the ground, the line along the order, the bars and the dots.
+use Rattle.std.specs.Prelude.{ℕ, ◌*◌, ◌==◌, Bool, nat_lt, if◌then◌else◌, List, [], ◌∷◌, length}
+use Rattle.std.specs.Prelude.{Option, Some, None, slice_get}
+use Rattle.std.specs.List.{find, list_any}
+use Rattle.markup.specs.Markup.{Markup, NamedText, nothing, text, element, both, each}
+use Rattle.markup.specs.Markup.{all_tenths_text}
+use Rattle.markup.specs.declared.names.AttributeName.TheVariants as name
+use Rattle.markup.specs.declared.names.Element.TheVariants as tag
+use Rattle.tag.specs.declared.actions.Action.{Action}
+use Rattle.tag.specs.declared.actions.Action.TheVariants.{Read, Write}
+use Rattle.tag.specs.declared.numbers.OpId.{OpId}
+use Rattle.recorder.specs.declared.part.Call.{Call}
+use Rattle.explanations.specs.Sentences.{call_text}
+use Rattle.scenes.specs.declared.scene.Bar.{Bar}
+use Rattle.scenes.specs.declared.scene.Scene.{Scene}
+use Rattle.pictures.specs.declared.picture.Picture.{Picture}
+use Rattle.pictures.specs.declared.style.TheConstants.{BOTTOM, FAULTY_READ, FAULTY_WRITE, FOOT_BASE}
+use Rattle.pictures.specs.declared.style.TheConstants.{IMAGE, LONG, NAMES_BASE, PICTURE, READ}
+use Rattle.pictures.specs.declared.style.TheConstants.{READ_CORNER, RIGHT, TITLE, WRITE}
+use Rattle.pictures.specs.declared.style.TheConstants.{WRITE_CORNER}
+use Rattle.pictures.specs.Labels.{number_of, words_of}
+use Rattle.pictures.specs.Layout.{across, down, rows_of}
+use Rattle.pictures.specs.Words.{text_of}
+use Rattle.pictures.specs.Ground.{client_name, each_from, lane_markup, tick_markup}
+use Rattle.pictures.specs.Dots.{dot_markup, path_markup}
+use Rattle.pictures.specs.Frames.{shape}
+use Rattle.pictures.specs.Texts.{if_any, texts}
+
+-- ---- calls
+
+-- the call of that number, if it is one of these
+abbrev pub call_of : List Call → OpId → Option Call
+call_of calls op = find (λ call. call.op.0 == op.0) calls
+
+-- the call at that index, if there is an index
+abbrev pub call_at : List Call → Option ℕ → Option Call
+call_at calls None = None
+call_at calls (Some k) = slice_get calls k
+
+-- the class of a bar of that action
+abbrev pub class_of : Action → Bool → List ℕ
+class_of Read faulty = if faulty then FAULTY_READ.now else READ.now
+class_of (Write value) faulty = if faulty then FAULTY_WRITE.now else WRITE.now
+
+-- how round the corners are of a bar of that action
+abbrev pub corner_of : Action → ℕ
+corner_of Read = READ_CORNER
+corner_of (Write value) = WRITE_CORNER
+
+-- a title
+abbrev pub title : List ℕ → Markup
+title words = element tag.Title [] (text (text_of words))
+
+-- the title of the picture of that key
+abbrev pub picture_title : List ℕ → Markup
+picture_title key = element tag.Title [] (both (text TITLE.now) (text key))
+
+module _ (scene : Scene) where
+  -- the names of the clients below the rows, in a long picture
+  abbrev pub foot : Markup
+  foot = if nat_lt LONG (rows_of scene)
+      then each_from (client_name scene (down FOOT_BASE (rows_of scene))) 0 scene.lanes.items
+      else nothing
+
+  -- the size of the picture
+  abbrev pub svg_attributes : List NamedText
+  svg_attributes =
+      let width = across scene RIGHT (length scene.lanes.items) in
+      let height = down BOTTOM (rows_of scene) in
+      words_of name.Role IMAGE.now ∷ number_of name.Width width ∷ number_of name.Height height
+      ∷ words_of name.ViewBox (all_tenths_text (0 ∷ 0 ∷ width * 10 ∷ height * 10 ∷ [])) ∷ []
+
+module _ (p : Picture) where
+  -- the call shows why the key is refused
+  abbrev pub is_faulty : OpId → Bool
+  is_faulty op = list_any (λ other. other.0 == op.0) p.faulty.now
+
+  -- the call's sentence, as a title
+  abbrev pub sentence : Call → Markup
+  sentence call = title (call_text p.key.now p.hall call)
+
+  -- what stands in the element of a call's bar: its sentence, its shape, and its texts
+  abbrev pub in_bar : Bar → Call → Markup
+  in_bar bar call = both (sentence call)
+      (both (shape p.scene.now bar (corner_of call.action)) (texts p.scene.now bar call))
+
+  -- the bar of a call, in the class of what it does
+  abbrev pub call_bar : Bar → Call → Markup
+  call_bar bar call = element tag.G
+      (words_of name.Class (class_of call.action (is_faulty call.op)) ∷ []) (in_bar bar call)
+
+  -- a bar, with the call of its number
+  abbrev pub bar_markup : Bar → Markup
+  bar_markup bar = if_any (call_bar bar) (call_of p.part.now bar.call)
+
+  -- what bars stand on: the clients' names, the lanes, and the ticks
+  abbrev pub ground : Markup
+  ground = both (each_from (client_name p.scene.now NAMES_BASE) 0 p.scene.now.lanes.items)
+      (both (foot p.scene.now) (both (each_from (lane_markup p.scene.now) 0 p.scene.now.lanes.items)
+      (each (tick_markup p.scene.now p.hall) p.scene.now.ticks.items)))
+
+  -- the line along the order, the bars above it, and the dots above these
+  abbrev pub calls_markup : Markup
+  calls_markup = both (path_markup p.scene.now) (both (each bar_markup p.scene.now.bars.items)
+      (each_from (dot_markup p.scene.now) 0 p.scene.now.dots.items))
+
+  -- the picture's element: its title, the ground, and the calls
+  abbrev pub svg : Markup
+  svg = element tag.Svg (svg_attributes p.scene.now)
+      (both (picture_title p.key.now) (both ground calls_markup))
+
+  -- the picture
+  abbrev pub picture_markup : Markup
+  picture_markup = element tag.Div (words_of name.Class PICTURE.now ∷ []) svg

@@ -1,0 +1,73 @@
+-- The table of the calls of a picture: a row for each bar.
+use Rattle.std.specs.Prelude.{ℕ, false, List, [], ◌∷◌, Some, decimal}
+use Rattle.markup.specs.Markup.{Markup, text, element, both, each}
+use Rattle.markup.specs.declared.names.AttributeName.TheVariants as name
+use Rattle.markup.specs.declared.names.Element.TheVariants as tag
+use Rattle.recorder.specs.declared.part.Call.{Call}
+use Rattle.explanations.specs.declared.hall_rows.HallRows.{HallRows}
+use Rattle.scenes.specs.declared.scene.Bar.{Bar}
+use Rattle.pictures.specs.declared.picture.Picture.{Picture}
+use Rattle.pictures.specs.declared.style.TheConstants.{ANSWERED_HEADING, ANSWER_HEADING, CALLS}
+use Rattle.pictures.specs.declared.style.TheConstants.{BEGINS_HEADING, CALL_HEADING, CLIENT_HEADING}
+use Rattle.pictures.specs.declared.style.TheConstants.{COLUMN, DOES_HEADING, NOTED_HEADING}
+use Rattle.pictures.specs.declared.style.TheConstants.{NOTE_HEADING, TABLE_TITLE}
+use Rattle.pictures.specs.Labels.{words_of}
+use Rattle.pictures.specs.Pictures.{call_of, class_of, is_faulty}
+use Rattle.pictures.specs.Texts.{if_any}
+use Rattle.pictures.specs.Words.{action_words, line_words, note_words, response_words, text_of}
+
+-- a cell with those words
+abbrev pub cell : List ℕ → Markup
+cell words = element tag.Td [] (text (text_of words))
+
+-- the heading of a column
+abbrev pub heading : List ℕ → Markup
+heading words = element tag.Th (words_of name.Scope COLUMN.now ∷ []) (text words)
+
+-- the headings of what a call does
+abbrev pub call_headings : Markup
+call_headings = both (heading CALL_HEADING.now) (both (heading CLIENT_HEADING.now)
+    (both (heading DOES_HEADING.now) (heading ANSWER_HEADING.now)))
+
+-- the headings of where it stands in the history
+abbrev pub line_headings : Markup
+line_headings = both (heading NOTE_HEADING.now) (both (heading BEGINS_HEADING.now)
+    (both (heading NOTED_HEADING.now) (heading ANSWERED_HEADING.now)))
+
+-- the row of headings
+abbrev pub headings : Markup
+headings = element tag.Tr [] (both call_headings line_headings)
+
+-- what a call does: its number, its client, its action, and what it answers
+abbrev pub call_cells : Call → Markup
+call_cells call = both (cell (decimal call.op.0)) (both (cell (decimal call.client))
+    (both (cell (action_words false call.action)) (cell (response_words call.response))))
+
+-- where it stands in the history: its note, and the lines of its bar's places
+abbrev pub line_cells : HallRows → Bar → Call → Markup
+line_cells hall bar call = both (cell (note_words call.note))
+    (both (cell (line_words hall (Some bar.begins)))
+    (both (cell (line_words hall bar.note)) (cell (line_words hall bar.ends))))
+
+-- what is shown of a folded table
+abbrev pub summary : Markup
+summary = element tag.Summary [] (text TABLE_TITLE.now)
+
+module _ (p : Picture) where
+  -- the row of a call, in the class of what it does
+  abbrev pub call_row : Bar → Call → Markup
+  call_row bar call = element tag.Tr
+      (words_of name.Class (class_of call.action (is_faulty p call.op)) ∷ [])
+      (both (call_cells call) (line_cells p.hall bar call))
+
+  -- the row of a bar, with the call of its number
+  abbrev pub row_markup : Bar → Markup
+  row_markup bar = if_any (call_row bar) (call_of p.part.now bar.call)
+
+  -- the table
+  abbrev pub rows_table : Markup
+  rows_table = element tag.Table [] (both headings (each row_markup p.scene.now.bars.items))
+
+  -- the table, folded
+  abbrev pub table_markup : Markup
+  table_markup = element tag.Details (words_of name.Class CALLS.now ∷ []) (both summary rows_table)

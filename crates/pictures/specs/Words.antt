@@ -1,0 +1,69 @@
+-- What is said of a call, in few words. A value stands as a JSON text.
+use Rattle.std.specs.Prelude.{ℕ, Bool, true, false, ◌||◌, if◌then◌else◌, List, [], ◌++◌, decimal}
+use Rattle.std.specs.Prelude.{Option, Some, None}
+use Rattle.std.specs.Str.{is_utf8}
+use Rattle.tag.specs.declared.actions.Action.{Action}
+use Rattle.tag.specs.declared.actions.Action.TheVariants.{Read, Write}
+use Rattle.tag.specs.declared.actions.Returned.{Returned}
+use Rattle.tag.specs.declared.actions.Returned.TheVariants.{Value, Written}
+use Rattle.tag.specs.Tags.{Tag}
+use Rattle.recorder.specs.declared.part.Call.{Call}
+use Rattle.recorder.specs.declared.part.Response.{Response}
+use Rattle.sentences.specs.Words.{tag_text, value_text}
+use Rattle.explanations.specs.Sentences.{line_at}
+use Rattle.explanations.specs.declared.hall_rows.HallRows.{HallRows}
+use Rattle.pictures.specs.declared.style.TheConstants.{ANSWER, BLANK, CALL_SIGN, DONE, NOT_ANSWERED}
+use Rattle.pictures.specs.declared.style.TheConstants.{READS, WRITES}
+
+-- words as a text: UTF-8, as names and values are
+abbrev pub text_of : List ℕ → List ℕ
+text_of words = if is_utf8 words then words else []
+
+-- words that are left out where there is little room
+abbrev pub unless : Bool → List ℕ → List ℕ
+unless briefly words = if briefly then [] else words
+
+-- what a call of that action does
+abbrev pub action_words : Bool → Action → List ℕ
+action_words briefly Read = READS.now
+action_words briefly (Write value) = unless briefly WRITES.now ++ value_text (Some value)
+
+-- a call's number, and what it does
+abbrev pub begin_words : Bool → Call → List ℕ
+begin_words briefly call =
+    CALL_SIGN.now ++ decimal call.op.0 ++ BLANK.now ++ action_words briefly call.action
+
+-- what a response answers
+abbrev pub returned_words : Returned → List ℕ
+returned_words Written = DONE.now
+returned_words (Value value) = value_text value
+
+-- what that response answers, or that there is none
+abbrev pub response_words : Option Response → List ℕ
+response_words None = NOT_ANSWERED.now
+response_words (Some response) = returned_words response.returned
+
+-- the answer is a write's
+abbrev pub is_written_answer : Returned → Bool
+is_written_answer Written = true
+is_written_answer (Value value) = false
+
+-- the response is a write's
+abbrev pub is_written : Option Response → Bool
+is_written None = false
+is_written (Some response) = is_written_answer response.returned
+
+-- what that response answers, where a call ends
+abbrev pub end_words : Bool → Option Response → List ℕ
+end_words briefly response =
+    unless (briefly || is_written response) ANSWER.now ++ response_words response
+
+-- that tag, if there is one
+abbrev pub note_words : Option Tag → List ℕ
+note_words None = []
+note_words (Some tag) = tag_text tag
+
+-- the line of the hall's row at that place, if there is one
+abbrev pub line_words : HallRows → Option ℕ → List ℕ
+line_words hall None = []
+line_words hall (Some place) = decimal (line_at hall place)

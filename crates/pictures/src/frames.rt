@@ -1,0 +1,122 @@
+//! The shapes of bars.
+ghost use Rattle.std.specs.Prelude.{◌≡◌, ◌++◌, OnOk};
+ghost use Rattle.markup.specs.Markup.{rendered};
+ghost use Rattle.pictures.specs.Layout.{IsInOrder};
+ghost use Rattle.pictures.specs.Frames.{IsNear, bottom_of, frame_of, open_corners, open_shape};
+ghost use Rattle.pictures.specs.Frames.{shape, shut_shape};
+
+use crate::layout::{across, column_width, down, row_of_place, rows_of};
+use crate::style::{BAR_FOOT, BAR_LEFT, BAR_MARGINS, BAR_TOP, FLOOR, OPEN};
+use markup::{Attribute, AttributeName, Element, append_empty};
+use scenes::{Bar, Scene};
+use tag::Memory;
+
+/// Where a bar stands.
+#[derive(Clone, Copy)]
+pub(crate) struct Frame {
+    pub(crate) left: u64,
+    pub(crate) right: u64,
+    pub(crate) top: u64,
+    pub(crate) bottom: u64,
+}
+
+/// The bottom of a bar with that end.
+fn bottom_of(scene: &Scene, ends: Option<usize>) -> u64
+    requires { IsInOrder scene.now }
+    ensures { result ≡ bottom_of scene.now ends }
+{
+    match ends {
+        Some(place) => down(BAR_FOOT, row_of_place(scene, place)),
+        None => down(FLOOR, rows_of(scene)),
+    }
+}
+
+/// Where the bar stands.
+fn frame_of(scene: &Scene, bar: &Bar) -> Frame
+    requires { IsInOrder scene.now }
+    ensures frame { result ≡ frame_of scene.now bar.now }
+    ensures near { IsNear result }
+{
+    let width = column_width(scene) - BAR_MARGINS;
+    Frame {
+        left: across(scene, BAR_LEFT, bar.lane),
+        right: across(scene, BAR_LEFT + width, bar.lane),
+        top: down(BAR_TOP, row_of_place(scene, bar.begins)),
+        bottom: bottom_of(scene, bar.ends),
+    }
+}
+
+/// Adds the shape of an answered call.
+#[tactic(auto, unfolding(markup::specs::Markup::rendered))]
+fn append_shut(page: &mut Vec<u8>, frame: Frame, corner: u8) -> Result<(), Memory>
+    ensures { OnOk result
+        (page.new.items ≡ page.old.items ++ rendered (shut_shape frame corner)) }
+{
+    let attributes = [
+        Attribute::Number(AttributeName::X, frame.left),
+        Attribute::Number(AttributeName::Y, frame.top),
+        Attribute::Number(AttributeName::Width, frame.right.saturating_sub(frame.left)),
+        Attribute::Number(
+            AttributeName::Height,
+            frame.bottom.saturating_sub(frame.top),
+        ),
+        Attribute::Number(AttributeName::Rx, u64::from(corner)),
+    ];
+    append_empty(page, Element::Rect, &attributes)
+}
+
+/// The corners of an open shape, in tenths of a pixel: each a distance right, and one down.
+fn open_corners(frame: Frame, corner: u8) -> [u64; 12]
+    requires { IsNear frame }
+    ensures { result ≡ open_corners frame corner }
+{
+    let corner = u64::from(corner);
+    let (left, right, top, bottom) = (frame.left, frame.right, frame.top, frame.bottom);
+    [
+        left * 10,
+        bottom * 10,
+        left * 10,
+        (top + corner) * 10,
+        (left + corner) * 10,
+        top * 10,
+        right.saturating_sub(corner) * 10,
+        top * 10,
+        right * 10,
+        (top + corner) * 10,
+        right * 10,
+        bottom * 10,
+    ]
+}
+
+/// Adds the shape of a pending call: without a side below.
+#[tactic(auto, unfolding(markup::specs::Markup::rendered))]
+fn append_open(page: &mut Vec<u8>, frame: Frame, corner: u8) -> Result<(), Memory>
+    requires { IsNear frame }
+    ensures { OnOk result
+        (page.new.items ≡ page.old.items ++ rendered (open_shape frame corner)) }
+{
+    let corners = open_corners(frame, corner);
+    let attributes = [
+        Attribute::Words(AttributeName::Class, OPEN),
+        Attribute::AllTenths(AttributeName::Points, &corners),
+    ];
+    append_empty(page, Element::Polyline, &attributes)
+}
+
+/// Adds the shape of the bar: with four sides, or of a pending call with an open end.
+pub(crate) fn append_shape(
+    page: &mut Vec<u8>,
+    scene: &Scene,
+    bar: &Bar,
+    corner: u8,
+) -> Result<(), Memory>
+    requires { IsInOrder scene.now }
+    ensures { OnOk result
+        (page.new.items ≡ page.old.items ++ rendered (shape scene.now bar.now corner)) }
+{
+    let frame = frame_of(scene, bar);
+    match bar.ends {
+        Some(_) => append_shut(page, frame, corner),
+        None => append_open(page, frame, corner),
+    }
+}

@@ -1,0 +1,106 @@
+//! Where a picture shows what, in pixels.
+ghost use Rattle.std.specs.Prelude.{◌≡◌, ◌<◌, ◌≤◌, length, map};
+ghost use Rattle.std.specs.List.Sorted.{IsNonDecreasing, IsStrictlyIncreasing};
+ghost use Rattle.pictures.specs.Layout.{IsInOrder, across, column_width, dots_before, down};
+ghost use Rattle.pictures.specs.Layout.{is_narrow, pixels, room_of, row_of_dot, row_of_place};
+ghost use Rattle.pictures.specs.Layout.{rows_of, ticks_before, ticks_up_to};
+
+use crate::style::{COLUMNS, FARTHEST, LETTER, MARGINS, NARROWEST, ROOMY, ROW, WIDEST};
+use scenes::{Dot, Scene};
+
+/// So many steps beyond a start.
+fn pixels(start: u64, count: usize, step: u64) -> u64
+    ensures { result ≡ pixels start count step }
+{
+    (count as u64)
+        .saturating_mul(step)
+        .saturating_add(start)
+        .min(FARTHEST)
+}
+
+/// So far down in that row, from its first one.
+pub(crate) fn down(start: u64, row: usize) -> u64
+    ensures { result ≡ down start row }
+{
+    pixels(start, row, ROW)
+}
+
+/// The width of a column.
+pub(crate) fn column_width(scene: &Scene) -> u64
+    ensures { result ≡ column_width scene.now }
+{
+    let lanes = scene.lanes.len().max(1) as u64;
+    (COLUMNS / lanes).min(WIDEST).max(NARROWEST)
+}
+
+/// So far right in that lane's column, from the first one.
+pub(crate) fn across(scene: &Scene, start: u64, lane: usize) -> u64
+    ensures { result ≡ across scene.now start lane }
+{
+    pixels(start, lane, column_width(scene))
+}
+
+/// Whether columns are narrow.
+pub(crate) fn is_narrow(scene: &Scene) -> bool
+    ensures { result ≡ is_narrow scene.now }
+{
+    column_width(scene) < ROOMY
+}
+
+/// How many letters a column holds.
+pub(crate) fn room_of(scene: &Scene) -> u64
+    ensures { result ≡ room_of scene.now }
+{
+    (column_width(scene) - MARGINS) / LETTER
+}
+
+/// How many of the ticks stand before the place.
+fn ticks_before(ticks: &[usize], place: usize) -> usize
+    requires { IsStrictlyIncreasing ticks.now }
+    ensures count { result ≡ ticks_before ticks.now place }
+    ensures bound { result ≤ length ticks.now }
+{
+    ticks.partition_point(|tick| *tick < place)
+}
+
+/// How many of the ticks don't stand after the place.
+fn ticks_up_to(ticks: &[usize], place: usize) -> usize
+    requires { IsStrictlyIncreasing ticks.now }
+    ensures count { result ≡ ticks_up_to ticks.now place }
+    ensures bound { result ≤ length ticks.now }
+{
+    ticks.partition_point(|tick| *tick <= place)
+}
+
+/// How many of the dots stand before the place.
+fn dots_before(dots: &[Dot], place: usize) -> usize
+    requires { IsNonDecreasing (map (λ dot. dot.place) dots.now) }
+    ensures count { result ≡ dots_before dots.now place }
+    ensures bound { result ≤ length dots.now }
+{
+    dots.partition_point(|dot| dot.place < place)
+}
+
+/// The row of that place.
+pub(crate) fn row_of_place(scene: &Scene, place: usize) -> usize
+    requires { IsInOrder scene.now }
+    ensures { result ≡ row_of_place scene.now place }
+{
+    ticks_before(&scene.ticks, place) + dots_before(&scene.dots, place)
+}
+
+/// The row of the dot of that index, at its place.
+pub(crate) fn row_of_dot(scene: &Scene, index: usize, place: usize) -> usize
+    requires order { IsInOrder scene.now }
+    requires index { index < length scene.now.dots.items }
+    ensures { result ≡ row_of_dot scene.now index place }
+{
+    ticks_up_to(&scene.ticks, place) + index
+}
+
+/// How many rows there are.
+pub(crate) fn rows_of(scene: &Scene) -> usize
+    ensures { result ≡ rows_of scene.now }
+{
+    scene.ticks.len() + scene.dots.len()
+}

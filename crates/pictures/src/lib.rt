@@ -1,0 +1,31 @@
+//! The picture of one key's calls, as SVG in a page, and the table of the same calls.
+//!
+//! Time goes down: each client has a column, each place at which a shown call begins, is noted or
+//! is answered has a row, and each linearization point has a row of its own, so that no words stand
+//! over others. The page is of the scene: each function adds exactly the bytes of a tree of
+//! elements that a definition makes of the scene and the calls. Colours and words of a page are of
+//! no contract; they stand in `style.rt`. A picture takes time in proportion to what it shows,
+//! times the logarithm of that and of the key's calls.
+#![tactic(auto)]
+
+mod bars;
+mod cells;
+mod cuts;
+mod dots;
+mod find;
+mod frames;
+mod ground;
+mod labels;
+pub mod laws;
+mod layout;
+mod path;
+mod picture;
+mod sheet;
+mod style;
+mod table;
+mod texts;
+mod words;
+
+pub use picture::{Picture, append_picture};
+pub use sheet::{append_legend, append_style};
+pub use table::append_call_table;

@@ -1,0 +1,155 @@
+//! The picture of one key's calls.
+ghost use Rattle.std.specs.Prelude.{◌≡◌, ◌++◌, OnOk};
+ghost use Rattle.std.specs.Option.{option_copied};
+ghost use Rattle.markup.specs.Markup.{opening_tag, rendered};
+ghost use Rattle.markup.specs.declared.names.Element.TheVariants as tag;
+ghost use Rattle.pictures.specs.Layout.{IsInOrder};
+ghost use Rattle.pictures.specs.Pictures.{call_of, calls_markup, foot, ground, is_faulty};
+ghost use Rattle.pictures.specs.Pictures.{picture_markup, picture_title, svg, svg_attributes};
+
+use crate::bars::append_bars;
+use crate::dots::append_dots;
+use crate::find::find;
+use crate::ground::{append_guides, append_names, append_ticks};
+use crate::layout::{across, down, rows_of};
+use crate::path::append_path;
+use crate::style::{BOTTOM, FOOT_BASE, IMAGE, LONG, NAMES_BASE, PICTURE, RIGHT, TITLE};
+use explanations::HallRows;
+use markup::{Attribute, AttributeName, Element, append_closing, append_opening, append_text};
+use recorder::{Call, Part};
+use scenes::Scene;
+use std::alloc::Global;
+use tag::{Key, Memory, OpId};
+
+/// What a picture shows: the calls of a key, as a scene of them has them.
+#[derive(Clone, Copy)]
+pub struct Picture<'a> {
+    pub key: &'a Key,
+    /// The rows of the key's hall, and the line of each.
+    pub hall: HallRows<'a>,
+    /// The calls on the key.
+    pub part: &'a Part,
+    pub scene: &'a Scene,
+    /// The calls that show why the key is refused.
+    pub faulty: &'a [OpId],
+}
+
+impl<'a> Picture<'a> {
+    /// Whether the call shows why the key is refused.
+    pub(crate) fn is_faulty(&self, op: OpId) -> bool
+        ensures { result ≡ is_faulty self.now op }
+    {
+        self.faulty.iter().any(|other| other.0 == op.0)
+    }
+
+    /// The call of that number, if the part has it.
+    pub(crate) fn call_of(&self, op: OpId) -> Option<&'a Call>
+        ensures { option_copied result ≡ call_of self.now.part.now op }
+    {
+        let calls = self.part.calls();
+        match find(calls, op) {
+            Some(index) => Some(&calls[index]),
+            None => None,
+        }
+    }
+}
+
+/// Adds the picture's title.
+#[tactic(auto, unfolding(markup::specs::Markup::rendered))]
+fn append_name(page: &mut Vec<u8>, key: &Key) -> Result<(), Memory>
+    ensures { OnOk result (page.new.items ≡ page.old.items ++ rendered (picture_title key.now)) }
+{
+    append_opening(page, Element::Title, &[])?;
+    append_text(page, TITLE)?;
+    append_text(page, key.as_str())?;
+    append_closing(page, Element::Title)
+}
+
+/// Adds the names of the clients below the rows, if the picture is long.
+#[tactic(auto, unfolding(markup::specs::Markup::rendered))]
+fn append_foot(alloc: Global, page: &mut Vec<u8>, scene: &Scene) -> Result<(), Memory>
+    ensures { OnOk result (page.new.items ≡ page.old.items ++ rendered (foot scene.now)) }
+{
+    let rows = rows_of(scene);
+    if rows > LONG {
+        append_names(alloc, page, scene, down(FOOT_BASE, rows))
+    } else {
+        Ok(())
+    }
+}
+
+/// Adds the names of the clients, the lines of the lanes, and the ticks.
+#[tactic(auto, unfolding(markup::specs::Markup::rendered))]
+fn append_ground(alloc: Global, page: &mut Vec<u8>, picture: &Picture<'_>) -> Result<(), Memory>
+    requires { IsInOrder picture.now.scene.now }
+    ensures { OnOk result (page.new.items ≡ page.old.items ++ rendered (ground picture.now)) }
+{
+    append_names(alloc, page, picture.scene, NAMES_BASE)?;
+    append_foot(alloc, page, picture.scene)?;
+    append_guides(page, picture.scene)?;
+    append_ticks(alloc, page, picture.scene, &picture.hall)
+}
+
+/// Adds the line that joins the dots, the bars above it, and the dots above these.
+#[tactic(auto, unfolding(markup::specs::Markup::rendered))]
+fn append_calls(alloc: Global, page: &mut Vec<u8>, picture: &Picture<'_>) -> Result<(), Memory>
+    requires { IsInOrder picture.now.scene.now }
+    ensures { OnOk result
+        (page.new.items ≡ page.old.items ++ rendered (calls_markup picture.now)) }
+{
+    append_path(alloc, page, picture.scene)?;
+    append_bars(alloc, page, picture)?;
+    append_dots(alloc, page, picture.scene)
+}
+
+/// Opens the picture's element.
+fn open_svg(page: &mut Vec<u8>, scene: &Scene) -> Result<(), Memory>
+    ensures { OnOk result (page.new.items
+        ≡ page.old.items ++ opening_tag tag.Svg (svg_attributes scene.now)) }
+{
+    let width = across(scene, RIGHT, scene.lanes.len());
+    let height = down(BOTTOM, rows_of(scene));
+    let attributes = [
+        Attribute::Words(AttributeName::Role, IMAGE),
+        Attribute::Number(AttributeName::Width, width),
+        Attribute::Number(AttributeName::Height, height),
+        Attribute::AllTenths(AttributeName::ViewBox, &[0, 0, width * 10, height * 10]),
+    ];
+    append_opening(page, Element::Svg, &attributes)
+}
+
+/// Adds the picture's element.
+#[tactic(auto, unfolding(markup::specs::Markup::rendered))]
+fn append_svg(alloc: Global, page: &mut Vec<u8>, picture: &Picture<'_>) -> Result<(), Memory>
+    requires { IsInOrder picture.now.scene.now }
+    ensures { OnOk result (page.new.items ≡ page.old.items ++ rendered (svg picture.now)) }
+{
+    open_svg(page, picture.scene)?;
+    append_name(page, picture.key)?;
+    append_ground(alloc, page, picture)?;
+    append_calls(alloc, page, picture)?;
+    append_closing(page, Element::Svg)
+}
+
+/// Adds the picture: each bar with its call's sentence as its title, each dot and each tick. It
+/// scrolls where the window is too narrow.
+///
+/// If it fails, a beginning of that may have been added; so it is with each function here.
+#[tactic(auto, unfolding(markup::specs::Markup::rendered))]
+pub fn append_picture(
+    alloc: Global,
+    page: &mut Vec<u8>,
+    picture: &Picture<'_>,
+) -> Result<(), Memory>
+    requires { IsInOrder picture.now.scene.now }
+    ensures { OnOk result
+        (page.new.items ≡ page.old.items ++ rendered (picture_markup picture.now)) }
+{
+    append_opening(
+        page,
+        Element::Div,
+        &[Attribute::Words(AttributeName::Class, PICTURE)],
+    )?;
+    append_svg(alloc, page, picture)?;
+    append_closing(page, Element::Div)
+}

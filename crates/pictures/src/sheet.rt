@@ -1,0 +1,63 @@
+//! What a page of pictures has once: its style sheet and its legend.
+ghost use Rattle.std.specs.Prelude.{◌≡◌, ◌++◌, OnOk};
+ghost use Rattle.markup.specs.Markup.{rendered};
+ghost use Rattle.pictures.specs.Sheets.{legend, legend_key, legend_keys, style};
+
+use crate::style::{
+    FAULTY_KEY, FAULTY_READ, LEGEND, LEGEND_WORDS, OPEN, OPEN_KEY, READ, READ_KEY, SHEET, WRITE,
+    WRITE_KEY,
+};
+use markup::{Attribute, AttributeName, Element, append_closing, append_opening, append_text};
+use tag::Memory;
+
+/// Adds the style sheet, which belongs into the page's `head`: for light and dark windows, and for
+/// paper. Beside pictures and tables it has colours for the classes `yes` and `no`.
+#[tactic(auto, unfolding(markup::specs::Markup::rendered))]
+pub fn append_style(page: &mut Vec<u8>) -> Result<(), Memory>
+    ensures { OnOk result (page.new.items ≡ page.old.items ++ rendered style) }
+{
+    append_opening(page, Element::Style, &[])?;
+    append_text(page, SHEET)?;
+    append_closing(page, Element::Style)
+}
+
+/// Adds the words, looking as the bars of that class.
+#[tactic(auto, unfolding(markup::specs::Markup::rendered))]
+fn append_key(page: &mut Vec<u8>, class: &str, words: &str) -> Result<(), Memory>
+    ensures { OnOk result
+        (page.new.items ≡ page.old.items ++ rendered (legend_key class.now words.now)) }
+{
+    append_opening(
+        page,
+        Element::Span,
+        &[Attribute::Words(AttributeName::Class, class)],
+    )?;
+    append_text(page, words)?;
+    append_closing(page, Element::Span)
+}
+
+/// Adds a sample of each kind of bar.
+#[tactic(auto, unfolding(markup::specs::Markup::rendered))]
+fn append_keys(page: &mut Vec<u8>) -> Result<(), Memory>
+    ensures { OnOk result (page.new.items ≡ page.old.items ++ rendered legend_keys) }
+{
+    append_key(page, WRITE, WRITE_KEY)?;
+    append_key(page, READ, READ_KEY)?;
+    append_key(page, OPEN, OPEN_KEY)?;
+    append_key(page, FAULTY_READ, FAULTY_KEY)
+}
+
+/// Adds the legend of the pictures.
+#[tactic(auto, unfolding(markup::specs::Markup::rendered))]
+pub fn append_legend(page: &mut Vec<u8>) -> Result<(), Memory>
+    ensures { OnOk result (page.new.items ≡ page.old.items ++ rendered legend) }
+{
+    append_opening(
+        page,
+        Element::P,
+        &[Attribute::Words(AttributeName::Class, LEGEND)],
+    )?;
+    append_keys(page)?;
+    append_text(page, LEGEND_WORDS)?;
+    append_closing(page, Element::P)
+}

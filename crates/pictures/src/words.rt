@@ -1,0 +1,134 @@
+//! What is said of a call, in few words.
+ghost use Rattle.std.specs.Prelude.{◌≡◌, ◌++◌, decimal, OnOk};
+ghost use Rattle.pictures.specs.Words.{action_words, begin_words, end_words, is_written};
+ghost use Rattle.pictures.specs.Words.{line_words, note_words, response_words, returned_words};
+ghost use Rattle.pictures.specs.Words.{text_of, unless};
+
+use crate::style::{ANSWER, BLANK, CALL_SIGN, DONE, NOT_ANSWERED, READS, WRITES};
+use explanations::HallRows;
+use itoa::Buffer;
+use recorder::{Call, Response};
+use sentences::{append_tag, append_value};
+use tag::{Action, Memory, Returned, Tag};
+
+/// Adds the words.
+pub(crate) fn say(words: &mut Vec<u8>, more: &str) -> Result<(), Memory>
+    ensures { OnOk result (words.new.items ≡ words.old.items ++ more.now) }
+{
+    words.extend_from_slice(more.as_bytes())?;
+    Ok(())
+}
+
+/// Adds the number.
+pub(crate) fn say_number(words: &mut Vec<u8>, number: u64) -> Result<(), Memory>
+    ensures { OnOk result (words.new.items ≡ words.old.items ++ decimal number) }
+{
+    let mut digits = Buffer::new();
+    say(words, digits.format(number))
+}
+
+/// The words as a text, if they are one.
+pub(crate) fn text_of(words: &[u8]) -> &str
+    ensures { result.now ≡ text_of words.now }
+{
+    match str::from_utf8(words) {
+        Ok(text) => text,
+        Err(_) => "",
+    }
+}
+
+/// Adds the words where there is room for them.
+pub(crate) fn say_unless(words: &mut Vec<u8>, briefly: bool, more: &str) -> Result<(), Memory>
+    ensures { OnOk result (words.new.items ≡ words.old.items ++ unless briefly more.now) }
+{
+    if briefly { Ok(()) } else { say(words, more) }
+}
+
+/// Adds what a call of that action does.
+pub(crate) fn say_action(words: &mut Vec<u8>, action: &Action, briefly: bool) -> Result<(), Memory>
+    ensures { OnOk result (words.new.items ≡ words.old.items ++ action_words briefly action.now) }
+{
+    match action {
+        Action::Read => say(words, READS),
+        Action::Write(value) => {
+            say_unless(words, briefly, WRITES)?;
+            append_value(words, Some(value))
+        }
+    }
+}
+
+/// Adds the call's number, and what it does.
+pub(crate) fn say_begin(words: &mut Vec<u8>, call: &Call, briefly: bool) -> Result<(), Memory>
+    ensures { OnOk result (words.new.items ≡ words.old.items ++ begin_words briefly call.now) }
+{
+    say(words, CALL_SIGN)?;
+    say_number(words, u64::from(call.op.0))?;
+    say(words, BLANK)?;
+    say_action(words, &call.action, briefly)
+}
+
+/// Adds what a response answers.
+fn say_returned(words: &mut Vec<u8>, returned: &Returned) -> Result<(), Memory>
+    ensures { OnOk result (words.new.items ≡ words.old.items ++ returned_words returned.now) }
+{
+    match returned {
+        Returned::Written => say(words, DONE),
+        Returned::Value(value) => append_value(words, value.as_ref()),
+    }
+}
+
+/// Whether the response is a write's.
+fn is_written(response: &Option<Response>) -> bool
+    ensures { result ≡ is_written response.now }
+{
+    match response {
+        Some(response) => matches!(&response.returned, Returned::Written),
+        None => false,
+    }
+}
+
+/// Adds what that response answers, or that there is none.
+pub(crate) fn say_response(words: &mut Vec<u8>, response: &Option<Response>) -> Result<(), Memory>
+    ensures { OnOk result (words.new.items ≡ words.old.items ++ response_words response.now) }
+{
+    match response {
+        None => say(words, NOT_ANSWERED),
+        Some(response) => say_returned(words, &response.returned),
+    }
+}
+
+/// Adds what that response answers, where a call ends.
+pub(crate) fn say_end(
+    words: &mut Vec<u8>,
+    response: &Option<Response>,
+    briefly: bool,
+) -> Result<(), Memory>
+    ensures { OnOk result (words.new.items ≡ words.old.items ++ end_words briefly response.now) }
+{
+    say_unless(words, briefly || is_written(response), ANSWER)?;
+    say_response(words, response)
+}
+
+/// Adds the tag, if there is one.
+pub(crate) fn say_note(words: &mut Vec<u8>, note: Option<Tag>) -> Result<(), Memory>
+    ensures { OnOk result (words.new.items ≡ words.old.items ++ note_words note) }
+{
+    match note {
+        None => Ok(()),
+        Some(tag) => append_tag(words, tag),
+    }
+}
+
+/// Adds the line of the hall's row at that place, if there is one.
+pub(crate) fn say_line(
+    words: &mut Vec<u8>,
+    hall: &HallRows<'_>,
+    place: Option<usize>,
+) -> Result<(), Memory>
+    ensures { OnOk result (words.new.items ≡ words.old.items ++ line_words hall.now place) }
+{
+    match place {
+        None => Ok(()),
+        Some(place) => say_number(words, hall.line_at(place)),
+    }
+}
