@@ -1,4 +1,3 @@
-mod CommandNames
 mod DeviceFailures
 pub mod EachKey
 pub mod Entries
@@ -12,8 +11,8 @@ mod Tagging
 pub mod Told
 mod Escapes
 pub mod ShownNames
-mod Reported
-pub mod Unmade
+pub mod Reported
+pub mod Sends
 pub mod Noted
 pub mod Prefixes
 pub mod Reading

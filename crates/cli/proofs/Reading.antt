@@ -13,7 +13,7 @@ use Rattle.cli.specs.Checks.{ChecksFiles, EndsCheck, IsStatusOf, ReadsFiles}
 use Rattle.cli.specs.Devices.{Receives, ReceivesPrefix}
 use Rattle.cli.specs.Readings.{ReadsHistories}
 use Rattle.cli.specs.VerdictLines.{HasLines}
-use Rattle.cli.specs.declared.json_lines.Lines.{Lines}
+use Rattle.command_line.specs.declared.lines.Lines.{Lines}
 use Rattle.cli.specs.declared.status.Status.{Status}
 use Rattle.cli.specs.declared.status.Status.TheVariants.{Good, Refused, Usage, Format, Failed}
 

@@ -14,7 +14,7 @@ use Rattle.parallel_keys.specs.Histories.{AreOn, AreVerdictsOnHistories, KeyVerd
 use Rattle.parallel_keys.proofs.Fronts.{front_more}
 use Rattle.cli.specs.VerdictStatuses.{AreYes, SaysAll}
 use Rattle.cli.specs.VerdictLines.{AreVerdictLines, AreCheckLines, line_in, lines_text}
-use Rattle.cli.specs.declared.json_lines.Lines.{Lines}
+use Rattle.command_line.specs.declared.lines.Lines.{Lines}
 use Rattle.cli.specs.declared.status.Status.TheVariants.{Refused}
 
 -- the verdicts after the first

@@ -12,7 +12,7 @@ use Rattle.counted_devices.specs.DeviceStates.{DeviceStates}
 use Rattle.cli.specs.Devices.{Receives, ReceivesNothing, ReceivesPrefix}
 use Rattle.cli.specs.Readings.{HasFaultyLine, IsHistoryRead, ReadsHistories, ReadsPieces}
 use Rattle.cli.specs.VerdictLines.{HasLines}
-use Rattle.cli.specs.declared.json_lines.Lines.{Lines}
+use Rattle.command_line.specs.declared.lines.Lines.{Lines}
 use Rattle.cli.specs.declared.status.Status.{Status}
 use Rattle.cli.specs.declared.status.Status.TheVariants as status
 

@@ -7,9 +7,9 @@ pub mod VerdictStatuses
 pub mod Justifications
 pub mod Readings
 pub mod Reports
+pub mod SentTexts
 pub mod ShownNames
 pub mod SimulationEndings
 pub mod Statuses
 pub mod TagOrders
 pub mod VerdictLines
-pub mod Words

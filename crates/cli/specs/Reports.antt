@@ -69,11 +69,15 @@ module _ (history : FileStates) (out : DeviceStates) where
   IsOfJustification failure.Memory = IsOfOutput out failure.Memory
   IsOfJustification why = ⊥
 
--- a script isn't run for the fault at which its reading stopped; or memory was wanted, of which no
--- more is said
-abbrev pub IsOfScript : FileStates → Failure → Type 0
-IsOfScript file (failure.Script name error) = (name.now ≡ file.name)
+-- the failure is the fault of that script at which its reading stopped
+abbrev pub IsScriptFault : FileStates → Failure → Type 0
+IsScriptFault file (failure.Script name error) = (name.now ≡ file.name)
     × StopsFrom script_faults file.reader error × FailsFrom file.reader error
+IsScriptFault file why = ⊥
+
+-- a script isn't run for such a fault; or memory was wanted, of which no more is said
+abbrev pub IsOfScript : FileStates → Failure → Type 0
+IsOfScript file (failure.Script name error) = IsScriptFault file (failure.Script name error)
 IsOfScript file failure.Memory = Unit {0}
 IsOfScript file why = ⊥
 

@@ -14,8 +14,8 @@ use Rattle.file_format.specs.OrderFormat.{AreJoined}
 use Rattle.parallel_keys.specs.Histories.{AreHallParts, KeyVerdicts}
 use Rattle.parallel_keys.specs.CheckedKeys.{CheckedKey, KeyParts, all_parts, checked_keys}
 use Rattle.cli.specs.JsonLines.{json_line}
-use Rattle.cli.specs.declared.json_lines.Lines.{Lines}
-use Rattle.cli.specs.declared.json_lines.Lines.TheVariants as form
+use Rattle.command_line.specs.declared.lines.Lines.{Lines}
+use Rattle.command_line.specs.declared.lines.Lines.TheVariants as form
 
 -- what is wrong with an order
 abbrev pub fault_text : Fault → List ℕ

@@ -13,8 +13,8 @@ ghost use Rattle.cli.specs.Reports.{IsFaultOf, IsOfCheck, ReportsEnd};
 ghost use Rattle.cli.specs.Statuses.{status_of};
 
 use crate::check_keys::check_keys;
-use crate::json_lines::Lines;
 use crate::status::{Failure, Status};
+use command_line::Lines;
 use counted_devices::{CountedRead, CountedWrite};
 use history_file::{read_histories, read_orders};
 use parallel_keys::Workers;

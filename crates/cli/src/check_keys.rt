@@ -10,9 +10,10 @@ ghost use Rattle.cli.specs.Halts.{Halts};
 ghost use Rattle.cli.specs.VerdictStatuses.{SaysAll};
 ghost use Rattle.cli.specs.VerdictLines.{HasLines, lines_text};
 
-use crate::json_lines::{Lines, append_line_in};
+use crate::json_lines::append_line_in;
 use crate::status::{Failure, Status};
 use certificate_check::Verdict;
+use command_line::Lines;
 use counted_devices::{CountedWrite, write_text};
 use parallel_keys::{CheckError, NoGate, Workers, check_histories};
 use recorder::{Histories, KeyOrder};

@@ -5,16 +5,8 @@ ghost use Rattle.cli.specs.VerdictLines.{line_in};
 
 use crate::verdict_lines::{append, append_line, append_number};
 use certificate_check::{Fault, Verdict};
+use command_line::Lines;
 use tag::{Key, Memory};
-
-/// The form of the lines that a check prints.
-#[derive(Clone, Copy, Debug, PartialEq, Eq)]
-pub enum Lines {
-    /// For people: the key, and the verdict in words.
-    Plain,
-    /// For programs: an object of JSON.
-    Json,
-}
 
 /// Says what is wrong with an order, as members of an object.
 fn append_fault_members(text: &mut Vec<u8>, fault: Fault) -> Result<(), Memory>

@@ -9,8 +9,9 @@ ghost use Rattle.cli.specs.Reports.{IsOfJustification, IsOfOutput, ReportsEnd};
 
 use crate::check::{Source, histories_in};
 use crate::noted_orders::checked_orders;
+use crate::sending::send;
 use crate::status::{Failure, Status};
-use counted_devices::{CountedRead, CountedWrite, Counting, write_text};
+use counted_devices::{CountedRead, CountedWrite, Counting};
 use file_format::write_orders;
 use parallel_keys::hall_parts;
 use recorder::{Histories, KeyOrder};
@@ -45,12 +46,9 @@ pub(crate) fn send_orders<W: CountedWrite, E: CountedWrite>(
         (states E.contents E.failures errors.old errors.new)
         result }
 {
-    let Ok(text) = order_file(alloc, orders) else {
-        return Failure::Memory.report(errors);
-    };
-    match write_text(text.as_slice(), out) {
-        Ok(()) => Status::Good,
-        Err(_) => Failure::Output.report(errors),
+    match order_file(alloc, orders) {
+        Ok(text) => send(text.as_slice(), out, errors),
+        Err(_) => Failure::Memory.report(errors),
     }
 }
 

@@ -1,33 +1,30 @@
 //! The commands of `abd`, over readers and writers.
 //!
-//! Each command is one function that answers the exit status; `command` says which one the words
-//! of a command line ask for.
+//! Each command is one function that answers the exit status. The crate `command_line` says which one
+//! the words of a command line ask for.
 #![tactic(auto)]
 
 mod check;
 mod check_keys;
-mod command_line;
-mod help;
 mod json_lines;
 mod justify;
 mod noted_orders;
+mod sending;
 mod shown_names;
 mod simulate;
 mod status;
 mod tag_orders;
 mod unchecked;
 mod verdict_lines;
-mod words;
 
 pub use check::{Source, check_command, orders_in};
-pub use command_line::{Command, ExplainAsked, Usage};
+pub use command_line::Lines;
 pub use counted_devices::Counting;
-pub use json_lines::Lines;
 pub use justify::justify_command;
 pub use noted_orders::{Unjustified, checked_orders};
+pub use sending::send;
 pub use shown_names::{shown_name, shown_names_are_harmless};
 pub use simulate::simulate_command;
 pub use status::{Failure, Status, say};
 pub use unchecked::justify_unchecked_command;
 pub use verdict_lines::{append, append_line, append_number};
-pub use words::command;

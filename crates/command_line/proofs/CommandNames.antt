@@ -1,0 +1,33 @@
+-- Commands by their names.
+use Rattle.std.proofs.Common.{ℕ, ◌≡◌, Bool, eqb, false, ap, codes, refl, slice_index}
+use Rattle.std.proofs.lemmas.Bool.{eqb-false}
+use Rattle.std.specs.Borrow.{Bor}
+use Rattle.clap.specs.Words.{Text}
+use Rattle.run_options.specs.declared.asked.RunAsked.{RunAsked}
+use Rattle.command_line.specs.Words.{name_of}
+use Rattle.command_line.specs.declared.asked.Command.{Command}
+use Rattle.command_line.specs.declared.asked.Command.TheVariants.{Check, Draw, Explain, Justify, Run, Simulate, Trace}
+use Rattle.command_line.specs.declared.asked.DrawAsked.{DrawAsked}
+use Rattle.command_line.specs.declared.asked.ExplainAsked.{ExplainAsked}
+use Rattle.command_line.specs.declared.lines.Lines.{Lines}
+
+-- names that begin with different bytes are different
+pub differ : (a b : Text) → eqb (slice_index a 0) (slice_index b 0) ≡ false → a ≡ b → ⊥
+differ a b other same = eqb-false (slice_index a 0) (slice_index b 0) other (ap (λ (name : Text). slice_index name 0) same)
+
+-- what holds of each command of a name
+module _ (P : Command → Type 0) (name : Text) where
+  pub by_name : ((history orders : Bor Text) (workers : ℕ) (form : Lines) → codes "check" ≡ name → P (Check history orders workers form))
+      → ((asked : DrawAsked) → codes "draw" ≡ name → P (Draw asked))
+      → ((asked : ExplainAsked) → codes "explain" ≡ name → P (Explain asked))
+      → ((history : Bor Text) (unchecked : Bool) → codes "justify" ≡ name → P (Justify history unchecked))
+      → ((script : Bor Text) → codes "simulate" ≡ name → P (Simulate script))
+      → ((script : Bor Text) (most : ℕ) → codes "trace" ≡ name → P (Trace script most))
+      → ((asked : RunAsked) → codes "run" ≡ name → P (Run asked)) → (command : Command) → name_of command ≡ name → P command
+  by_name check draw explain justify simulate trace run (Check history orders workers form) is = check history orders workers form is
+  by_name check draw explain justify simulate trace run (Draw asked) is = draw asked is
+  by_name check draw explain justify simulate trace run (Explain asked) is = explain asked is
+  by_name check draw explain justify simulate trace run (Justify history unchecked) is = justify history unchecked is
+  by_name check draw explain justify simulate trace run (Simulate script) is = simulate script is
+  by_name check draw explain justify simulate trace run (Trace script most) is = trace script most is
+  by_name check draw explain justify simulate trace run (Run asked) is = run asked is

@@ -1,0 +1,2 @@
+mod CommandNames
+pub mod Unmade

@@ -1,0 +1,155 @@
+-- What the words of a command line ask for, by clap's reading of a simple command.
+use Rattle.std.specs.Prelude.{ℕ, ◌≡◌, ◌≤◌, ◌⊎◌, ◌↔◌, Bool, IsTrue, List, [], Option, Some, None, codes}
+use Rattle.std.specs.Prelude.{option_map}
+use Rattle.std.specs.Str.Parse.{IsNumeral, digits_value, without_leading_plus}
+use Rattle.clap.specs.Words.{IsAmong, Row, Text, fault_of, first_of, one_of, subcommand_of}
+use Rattle.clap.specs.declared.error.kind.ErrorKind.{ErrorKind}
+use Rattle.clap.specs.declared.error.kind.ErrorKind.TheVariants.{DisplayHelp, DisplayVersion}
+use Rattle.clap.specs.declared.error.kind.ErrorKind.TheVariants.{OutOfMemory}
+use Rattle.parallel_keys.specs.Workers.{worker_limit}
+use Rattle.run_options.specs.RunWords.{AsksRun}
+use Rattle.command_line.specs.Forms.{abd_app, most_explained, most_named, most_shown, most_told}
+use Rattle.command_line.specs.declared.asked.Command.{Command}
+use Rattle.command_line.specs.declared.asked.ExplainAsked.{ExplainAsked}
+use Rattle.command_line.specs.declared.asked.Command.TheVariants.{Check, Draw, Explain, Justify}
+use Rattle.command_line.specs.declared.asked.Command.TheVariants.{Run, Simulate, Trace}
+use Rattle.command_line.specs.declared.asked.DrawAsked.{DrawAsked}
+use Rattle.command_line.specs.declared.lines.Lines.{Lines}
+use Rattle.command_line.specs.declared.lines.Lines.TheVariants as form
+use Rattle.command_line.specs.declared.asked.Usage.{Usage}
+use Rattle.command_line.specs.declared.asked.Usage.TheVariants as usage
+
+-- the files that the words after `check` name
+pub record NamesFiles (rows : List Row) (history orders : Text) : Type 0 where
+  pub history_named : first_of (codes "HISTORY") rows ≡ Some history
+  pub orders_named : first_of (codes "ORDERS") rows ≡ Some orders
+
+-- the words ask for that number, within the range, by the option of that name: it is what stands
+-- after the option, or else the option's default
+pub record AsksNumber (rows : List Row) (name : Text) (least most number : ℕ) : Type 0 where
+  pub text : Text
+  pub given : one_of name rows ≡ Some text
+  pub is_numeral : IsNumeral 10 (without_leading_plus text)
+  pub value : digits_value 10 (without_leading_plus text) ≡ number
+  pub from : least ≤ number
+  pub upto : number ≤ most
+
+-- the words after `check` ask for so many workers
+abbrev pub AsksWorkers : List Row → ℕ → Type 0
+AsksWorkers rows workers = AsksNumber rows (codes "workers") 1 worker_limit workers
+
+-- the words give the flag of that name
+abbrev pub GivesFlag : Text → List Row → Type 0
+GivesFlag name rows = one_of name rows ≡ Some (codes "true")
+
+-- the words after `check` ask for lines in that form: for objects of JSON if they give `--json`
+abbrev pub AsksForm : List Row → Lines → Type 0
+AsksForm rows form.Plain = GivesFlag (codes "json") rows → ⊥
+AsksForm rows form.Json = GivesFlag (codes "json") rows
+
+-- the words after `justify` name the history, and say by `--unchecked` whether orders go unchecked
+pub record AsksOrders (rows : List Row) (history : Text) (unchecked : Bool) : Type 0 where
+  pub history_named : first_of (codes "HISTORY") rows ≡ Some history
+  pub way : IsTrue unchecked ↔ GivesFlag (codes "unchecked") rows
+
+-- the words after `explain` name the files and the key, and ask for so many keys
+pub record AsksExplanation (rows : List Row) (asked : ExplainAsked) : Type 0 where
+  pub history : first_of (codes "HISTORY") rows ≡ Some asked.history.now
+  pub orders : first_of (codes "ORDERS") rows ≡ option_map (λ s. s.now) asked.orders
+  pub key : first_of (codes "key") rows ≡ option_map (λ s. s.now) asked.key
+  pub most : AsksNumber rows (codes "most") 0 most_explained asked.most
+
+-- the words give a call's number after `--around`, or have no such option
+abbrev pub AsksAround : List Row → Option ℕ → Type 0
+AsksAround rows None = first_of (codes "around") rows ≡ None
+AsksAround rows (Some call) = AsksNumber rows (codes "around") 0 most_named call
+
+-- the files, the key and how many keys are drawn
+abbrev pub drawn_keys : DrawAsked → ExplainAsked
+drawn_keys asked = record {
+  history = asked.history;
+  orders = asked.orders;
+  key = asked.key;
+  most = asked.most;
+}
+
+-- the words after `draw` name the files and the key as those after `explain` do, and ask for so
+-- many calls, and for those around a call
+pub record AsksDrawing (rows : List Row) (asked : DrawAsked) : Type 0 where
+  pub keys : AsksExplanation rows (drawn_keys asked)
+  pub calls : AsksNumber rows (codes "calls") 1 most_shown asked.calls
+  pub around : AsksAround rows asked.around
+
+-- the words after `trace` name the script, and ask for so many lines
+pub record AsksTrace (rows : List Row) (script : Text) (most : ℕ) : Type 0 where
+  pub script_named : first_of (codes "SCRIPT") rows ≡ Some script
+  pub lines : AsksNumber rows (codes "most") 0 most_told most
+
+-- the words after the command's name make it that command
+abbrev pub Makes : List Row → Command → Type 0
+Makes rows (Check history orders workers form) =
+    NamesFiles rows history.now orders.now × AsksWorkers rows workers × AsksForm rows form
+Makes rows (Draw asked) = AsksDrawing rows asked
+Makes rows (Explain asked) = AsksExplanation rows asked
+Makes rows (Justify history unchecked) = AsksOrders rows history.now unchecked
+Makes rows (Simulate script) = first_of (codes "SCRIPT") rows ≡ Some script.now
+Makes rows (Trace script most) = AsksTrace rows script.now most
+Makes rows (Run asked) = AsksRun rows asked
+
+-- the command's name
+abbrev pub name_of : Command → Text
+name_of (Check history orders workers form) = codes "check"
+name_of (Draw asked) = codes "draw"
+name_of (Explain asked) = codes "explain"
+name_of (Justify history unchecked) = codes "justify"
+name_of (Simulate script) = codes "simulate"
+name_of (Trace script most) = codes "trace"
+name_of (Run asked) = codes "run"
+
+-- the command has that name, and the words after it make the command
+abbrev pub MakesAs : Text → List Row → Command → Type 0
+MakesAs name rows command = (name_of command ≡ name) × Makes rows command
+
+-- the command that was met, with the words after its name
+abbrev pub MakesOf : Option (Text × List Row) → Command → Type 0
+MakesOf met command = (rows : List Row) × (met ≡ Some (name_of command, rows)) × Makes rows command
+
+-- clap finds no fault in the words, and they ask neither for help nor for the version
+abbrev pub AreParsed : List Text → Type 0
+AreParsed words = fault_of abd_app words ≡ []
+
+-- the words ask for the command: clap finds no fault in them, and they make it
+abbrev pub Asks : List Text → Command → Type 0
+Asks words command = AreParsed words × MakesOf (subcommand_of abd_app words) command
+
+-- the kind is of a fault of the words
+abbrev pub IsMistake : ErrorKind → Type 0
+IsMistake kind = (kind ≡ DisplayHelp → ⊥) × (kind ≡ DisplayVersion → ⊥) × (kind ≡ OutOfMemory → ⊥)
+
+-- the words have a fault, or clap finds none and they make no command
+abbrev pub AreFaulty : List Text → Type 0
+AreFaulty words =
+    ((kind : ErrorKind) × IsAmong kind (fault_of abd_app words) × IsMistake kind)
+    ⊎ (AreParsed words × ((command : Command) → MakesOf (subcommand_of abd_app words) command → ⊥))
+
+-- why there is no command: help was asked for, or the version, or the words have a fault, or memory
+-- ran out
+abbrev pub AsksNothing : List Text → Usage → Type 0
+AsksNothing words (usage.Help text) = IsAmong DisplayHelp (fault_of abd_app words)
+AsksNothing words (usage.Version text) = IsAmong DisplayVersion (fault_of abd_app words)
+AsksNothing words (usage.Fault text) = AreFaulty words
+AsksNothing words usage.Memory = Unit {0}
+
+-- the answer to an error of clap's that has that kind
+abbrev pub IsUsageOf : ErrorKind → Usage → Type 0
+IsUsageOf kind (usage.Help text) = kind ≡ DisplayHelp
+IsUsageOf kind (usage.Version text) = kind ≡ DisplayVersion
+IsUsageOf kind (usage.Fault text) = IsMistake kind
+IsUsageOf kind usage.Memory = Unit {0}
+
+-- the answer says that no command is made, where none is, or that memory ran out
+abbrev pub MakesNothing : Type 0 → Usage → Type 0
+MakesNothing none (usage.Help text) = ⊥
+MakesNothing none (usage.Version text) = ⊥
+MakesNothing none (usage.Fault text) = none
+MakesNothing none usage.Memory = Unit {0}

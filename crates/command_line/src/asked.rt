@@ -1,0 +1,77 @@
+//! What a command line asks for.
+use crate::lines::Lines;
+use parallel_keys::Workers;
+use run_options::RunAsked;
+
+/// What the words of `abd explain` ask for.
+#[derive(Clone, Copy, Debug, PartialEq, Eq)]
+pub struct ExplainAsked<'a> {
+    pub history: &'a str,
+    /// Without orders the tags of the calls are judged.
+    pub orders: Option<&'a str>,
+    /// The key that alone is explained, if one is named.
+    pub key: Option<&'a str>,
+    /// How many refused keys are explained, 10,000 at most.
+    pub most: u16,
+}
+
+/// What the words of `abd draw` ask for.
+#[derive(Clone, Copy, Debug, PartialEq, Eq)]
+pub struct DrawAsked<'a> {
+    pub history: &'a str,
+    /// Without orders those that the tags make are drawn.
+    pub orders: Option<&'a str>,
+    /// The key that alone is drawn, if one is named.
+    pub key: Option<&'a str>,
+    /// How many keys have a picture, 10,000 at most.
+    pub most: u16,
+    /// How many calls of a key are shown, 1 to 10,000.
+    pub calls: u16,
+    /// The number of the call around which calls are shown, if one is given.
+    pub around: Option<u32>,
+}
+
+/// What a command line asks for.
+#[derive(Clone, Copy, Debug, PartialEq, Eq)]
+pub enum Command<'a> {
+    /// To check the orders of a history's keys, by so many workers, and print lines in that form.
+    Check {
+        history: &'a str,
+        orders: &'a str,
+        workers: Workers,
+        form: Lines,
+    },
+    /// To draw the calls of keys, with the points of their orders or of the orders that their tags make.
+    Draw(DrawAsked<'a>),
+    /// To say why orders, or without them tags, are refused.
+    Explain(ExplainAsked<'a>),
+    /// To make the orders of a history's keys from its notes, checked or as the tags make them.
+    Justify {
+        history: &'a str,
+        unchecked: bool,
+    },
+    /// To run a script and write the history of its run.
+    Simulate {
+        script: &'a str,
+    },
+    /// To run a script and tell the steps of its run, in so many lines at most.
+    Trace {
+        script: &'a str,
+        most: u32,
+    },
+    /// To run a store under a load and write its history.
+    Run(RunAsked),
+}
+
+/// Why a command line asks for no command.
+#[derive(Debug, Drop)]
+pub enum Usage {
+    /// It asks for help, which is this text.
+    Help(String),
+    /// It asks for the program's version, which is this text.
+    Version(String),
+    /// It has none of the forms; the text says why, and what they are.
+    Fault(String),
+    /// Want of memory.
+    Memory,
+}

@@ -1,0 +1,220 @@
+//! The commands of `abd`, as clap takes them.
+ghost use Rattle.std.specs.Prelude.{◌≡◌, false, codes, IfOk};
+ghost use Rattle.clap.specs.Words.{app_of, new_rule, rule_of, with_subcommand};
+ghost use Rattle.clap.specs.declared.builder.command.Command.TheViews.{out-Command as fields_of};
+ghost use Rattle.command_line.specs.Forms.{abd_app, bare_app, check_app, draw_app, explain_app, file_app};
+ghost use Rattle.command_line.specs.Forms.{flag, justify_app, keys_app, number_option, required_argument};
+ghost use Rattle.command_line.specs.Forms.{simulate_app, trace_app, value_option};
+
+use crate::help;
+use clap::builder::ValueParser;
+use clap::{Arg, ArgAction, Command, value_parser};
+use run_options::run_words;
+use std::alloc::{AllocError, Global};
+
+/// An argument that has to be there, with what help says of it.
+fn required_argument<'a>(alloc: Global, name: &'a str, help: &'a str) -> Arg<'a>
+    ensures rule { rule_of result ≡ required_argument name.entry.now }
+    ensures local { result.global ≡ false }
+{
+    Arg::new(alloc, name).required(true).help(help)
+}
+
+/// An option that takes no value.
+fn flag<'a>(alloc: Global, name: &'a str, help: &'a str) -> Arg<'a>
+    ensures rule { rule_of result ≡ flag name.entry.now }
+    ensures local { result.global ≡ false }
+{
+    Arg::new(alloc, name)
+        .long(name)
+        .action(ArgAction::SetTrue)
+        .help(help)
+}
+
+/// An option that takes a value, which help calls so.
+fn value_option<'a>(alloc: Global, name: &'a str, value: &'a str, help: &'a str) -> Arg<'a>
+    ensures rule { rule_of result ≡ value_option name.entry.now }
+    ensures local { result.global ≡ false }
+{
+    Arg::new(alloc, name)
+        .long(name)
+        .value_name(value)
+        .help(help)
+}
+
+/// An option whose value is one of these numbers, and that default where it isn't given.
+fn number_option<'a>(
+    alloc: Global,
+    name: &'a str,
+    default: &'a str,
+    numbers: ValueParser<'a>,
+    help: &'a str,
+) -> Arg<'a>
+    ensures rule { rule_of result
+        ≡ number_option name.entry.now default.entry.now numbers.entry }
+    ensures local { result.global ≡ false }
+{
+    value_option(alloc, name, "N", help)
+        .default_value(default)
+        .value_parser(numbers)
+}
+
+/// The order file where it may be missing.
+fn orders_argument<'a>(alloc: Global) -> Arg<'a>
+    ensures rule { rule_of result ≡ new_rule (codes "ORDERS") }
+    ensures local { result.global ≡ false }
+{
+    Arg::new(alloc, "ORDERS").help(help::ORDERS)
+}
+
+/// A command that reads one file: `abd NAME FILE`.
+fn file_words<'a>(
+    alloc: Global,
+    name: &'a str,
+    about: &'a str,
+    after: &'a str,
+    file: &'a str,
+    told: &'a str,
+) -> Result<Command<'a>, AllocError>
+    ensures app { IfOk result (λ words. app_of words ≡ file_app name.entry.now file.entry.now) }
+    ensures local { IfOk result (λ words. (fields_of words).has_globals ≡ false) }
+{
+    let argument = required_argument(alloc, file, told);
+    let command = Command::new(alloc, name).about(about).after_help(after);
+    command.arg(argument)
+}
+
+/// `abd check HISTORY ORDERS [--workers N] [--json]`.
+fn check_words<'a>(alloc: Global) -> Result<Command<'a>, AllocError>
+    ensures app { IfOk result (λ words. app_of words ≡ check_app) }
+    ensures local { IfOk result (λ words. (fields_of words).has_globals ≡ false) }
+{
+    let about = "Check, key by key, whether the orders show that the history is atomic";
+    let check = file_words(alloc, "check", about, help::CHECK, "HISTORY", help::HISTORY)?;
+    let check = check.arg(required_argument(alloc, "ORDERS", help::ORDERS))?;
+    let few = value_parser!(u8).range(1..17);
+    let check = check.arg(number_option(alloc, "workers", "1", few, help::WORKERS))?;
+    check.arg(flag(alloc, "json", help::JSON))
+}
+
+/// A command that tells of keys of a history: `abd NAME HISTORY [ORDERS] [--key KEY] [--most N]`.
+fn keys_words<'a>(
+    alloc: Global,
+    name: &'a str,
+    about: &'a str,
+    after: &'a str,
+    key: &'a str,
+    most: &'a str,
+) -> Result<Command<'a>, AllocError>
+    ensures app { IfOk result (λ words. app_of words ≡ keys_app name.entry.now) }
+    ensures local { IfOk result (λ words. (fields_of words).has_globals ≡ false) }
+{
+    let words = file_words(alloc, name, about, after, "HISTORY", help::HISTORY)?;
+    let words = words.arg(orders_argument(alloc))?;
+    let words = words.arg(value_option(alloc, "key", "KEY", key))?;
+    let few = value_parser!(u16).range(0..10001);
+    words.arg(number_option(alloc, "most", "20", few, most))
+}
+
+/// `abd draw HISTORY [ORDERS] [--key KEY] [--most N] [--calls N] [--around CALL]`.
+fn draw_words<'a>(alloc: Global) -> Result<Command<'a>, AllocError>
+    ensures app { IfOk result (λ words. app_of words ≡ draw_app) }
+    ensures local { IfOk result (λ words. (fields_of words).has_globals ≡ false) }
+{
+    let about = "Draw, key by key, when each call ran, and the order of the calls or what is wrong";
+    let (key, most) = (help::DRAWN_KEY, help::PICTURES);
+    let draw = keys_words(alloc, "draw", about, help::DRAW, key, most)?;
+    let few = value_parser!(u16).range(1..10001);
+    let draw = draw.arg(number_option(alloc, "calls", "200", few, help::CALLS))?;
+    let call = value_parser!(u32).range(0..4_294_967_296);
+    draw.arg(value_option(alloc, "around", "CALL", help::AROUND).value_parser(call))
+}
+
+/// `abd explain HISTORY [ORDERS] [--key KEY] [--most N]`.
+fn explain_words<'a>(alloc: Global) -> Result<Command<'a>, AllocError>
+    ensures app { IfOk result (λ words. app_of words ≡ explain_app) }
+    ensures local { IfOk result (λ words. (fields_of words).has_globals ≡ false) }
+{
+    let about = "Say, key by key, why orders are refused, or without orders the tags of the calls";
+    keys_words(
+        alloc,
+        "explain",
+        about,
+        help::EXPLAIN,
+        help::KEY,
+        help::MOST,
+    )
+}
+
+/// `abd justify HISTORY [--unchecked]`.
+fn justify_words<'a>(alloc: Global) -> Result<Command<'a>, AllocError>
+    ensures app { IfOk result (λ words. app_of words ≡ justify_app) }
+    ensures local { IfOk result (λ words. (fields_of words).has_globals ≡ false) }
+{
+    let about = "Make from the notes an order of each key's calls, check it, and write the orders";
+    let history = "The recorded calls, with their notes: a history file";
+    let justify = file_words(alloc, "justify", about, help::JUSTIFY, "HISTORY", history)?;
+    justify.arg(flag(alloc, "unchecked", help::UNCHECKED))
+}
+
+/// `abd simulate SCRIPT`.
+fn simulate_words<'a>(alloc: Global) -> Result<Command<'a>, AllocError>
+    ensures app { IfOk result (λ words. app_of words ≡ simulate_app) }
+    ensures local { IfOk result (λ words. (fields_of words).has_globals ≡ false) }
+{
+    let about = "Run a script of calls and faults, and write the history of its run";
+    file_words(
+        alloc,
+        "simulate",
+        about,
+        help::SIMULATE,
+        "SCRIPT",
+        help::SCRIPT,
+    )
+}
+
+/// `abd trace SCRIPT [--most N]`.
+fn trace_words<'a>(alloc: Global) -> Result<Command<'a>, AllocError>
+    ensures app { IfOk result (λ words. app_of words ≡ trace_app) }
+    ensures local { IfOk result (λ words. (fields_of words).has_globals ≡ false) }
+{
+    let about = "Run a script of calls and faults, and tell each step of its run";
+    let trace = file_words(alloc, "trace", about, help::TRACE, "SCRIPT", help::SCRIPT)?;
+    let many = value_parser!(u32).range(0..4_294_967_296);
+    trace.arg(number_option(alloc, "most", "10000", many, help::LINES))
+}
+
+/// `abd` by itself.
+fn bare_words<'a>(alloc: Global) -> Command<'a>
+    ensures { app_of result ≡ bare_app }
+{
+    Command::new(alloc, "abd")
+        .version(help::VERSION)
+        .about(
+            "Simulates a register store, and makes and checks certificates that its record is atomic",
+        )
+        .after_help(help::ABD)
+        .subcommand_required(true)
+}
+
+/// The words with one command more.
+fn with_command<'a>(words: Command<'a>, command: Command<'a>) -> Result<Command<'a>, AllocError>
+    requires { (fields_of command).has_globals ≡ false }
+    ensures { IfOk result (λ more.
+        app_of more ≡ with_subcommand (app_of words.entry) (app_of command.entry).top) }
+{
+    words.subcommand(command)
+}
+
+/// `abd` with its commands.
+pub(crate) fn abd_words<'a>(alloc: Global) -> Result<Command<'a>, AllocError>
+    ensures { IfOk result (λ words. app_of words ≡ abd_app) }
+{
+    let words = with_command(bare_words(alloc), check_words(alloc)?)?;
+    let words = with_command(words, draw_words(alloc)?)?;
+    let words = with_command(words, explain_words(alloc)?)?;
+    let words = with_command(words, justify_words(alloc)?)?;
+    let words = with_command(words, simulate_words(alloc)?)?;
+    let words = with_command(words, trace_words(alloc)?)?;
+    with_command(words, run_words(alloc)?)
+}

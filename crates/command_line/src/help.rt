@@ -1,0 +1,119 @@
+//! What help says of the commands, after what clap says of their words.
+
+/// The version that `abd --version` says.
+pub const VERSION: &str = "0.2.0";
+
+/// Of `abd`.
+pub const ABD: &str =
+    "A file name may be /dev/stdin, for what is piped in. Files, scripts, messages and \
+limits: docs/FORMATS.md.\n\nExample:\n  \
+abd simulate examples/new_then_old.script > made.history\n  \
+abd justify made.history > made.orders\n  \
+abd check made.history made.orders";
+
+/// Of a history file.
+pub const HISTORY: &str = "The recorded calls: a history file";
+
+/// Of an order file.
+pub const ORDERS: &str = "For each key an order of its calls: an order file";
+
+/// Of a script.
+pub const SCRIPT: &str = "What clients, replicas and the network do, step by step: a script";
+
+/// Of the option `--workers`.
+pub const WORKERS: &str = "How many threads check the orders, 1 to 16; the lines are the same";
+
+/// Of the option `--json`.
+pub const JSON: &str = "Print each line as an object of JSON, for programs";
+
+/// Of `abd check`.
+pub const CHECK: &str =
+    "Prints one line a key, `KEY: yes` or `KEY: no` and the fault, keys hall by hall, in each in the \
+order in which the history first sees them, then those that only the orders have. HISTORY is of version 1 or 2. One \
+of the files may be /dev/stdin, for what is piped in.\nExit status: 0 all yes, 1 a key refused, 2 usage, 3 a file \
+can't be opened or read as its format, 4 memory, a device or a thread.\n\n\
+Example: abd check examples/two_calls.history examples/two_calls.orders";
+
+/// Of the option `--key` of `abd draw`.
+pub const DRAWN_KEY: &str = "The only key to draw";
+
+/// Of the option `--most` of `abd draw`.
+pub const PICTURES: &str = "How many keys have a picture, 0 to 10,000";
+
+/// Of the option `--calls`.
+pub const CALLS: &str =
+    "How many calls of a key are shown, 1 to 10,000, beside those that show why it is refused";
+
+/// Of the option `--around`.
+pub const AROUND: &str = "The number of a call: the calls around it are shown";
+
+/// Of `abd draw`.
+pub const DRAW: &str =
+    "Writes one page of HTML, for any browser, with all pictures in it: a table of the keys, refused ones first, and \
+for each key a picture with a lane a client and a bar a call, from its invocation to its response. A `yes` has a point \
+in each bar, in the order that shows it; a `no` has its calls marked, below the sentences of `abd explain`. Without \
+ORDERS the orders that the tags make are drawn. HISTORY is of version 1 or 2. One of the files may be /dev/stdin, for \
+what is piped in.\nExit status: 0 all yes, 1 a key refused or no such key, 2 usage, 3 a file can't be opened or read as \
+its format, 4 memory or a device.\n\n\
+Example: abd draw examples/two_calls.history examples/two_calls.orders > two_calls.html";
+
+/// Of the option `--key` of `abd explain`.
+pub const KEY: &str = "The only key to explain";
+
+/// Of the option `--most` of `abd explain`.
+pub const MOST: &str = "How many refused keys are explained, 0 to 10,000";
+
+/// Of `abd explain`.
+pub const EXPLAIN: &str =
+    "Prints for each key the line of `abd check`, and under a `no` the reason: each call that matters, with its \
+client, what it did, the lines of HISTORY on which it began, was noted and was answered, its place in the order, and \
+what would have been right. Without ORDERS the tags of the calls are judged: `KEY: yes` where they are sound, and else \
+`KEY: no tags`, the first rule that they break, and a hint at what to look for in a store. HISTORY is of version 1 \
+or 2. One of the files may be /dev/stdin, for what is piped in.\nExit status: 0 all yes, 1 a key refused or no such \
+key, 2 usage, 3 a file can't be opened or read as its format, 4 memory or a device.\n\n\
+Example: abd explain examples/two_calls.history examples/two_calls_refused.orders";
+
+/// Of the option `--unchecked`.
+pub const UNCHECKED: &str = "Write the orders that the tags make, without checking them";
+
+/// Of `abd justify`.
+pub const JUSTIFY: &str =
+    "Writes an order file, for `abd check`, keys hall by hall, in each in the order in which the \
+history first sees them. HISTORY is of version 1 or 2. Where a key has no such order it writes nothing, and says the \
+first such key on standard error. With --unchecked it leaves out only the keys with a completed call that has no \
+note, and says each on standard error; `abd check` and `abd explain` then show what is wrong with the other orders. \
+HISTORY may be /dev/stdin, for what is piped in.\nExit status: 0 written, 1 a key has no order, 2 usage, 3 the file \
+can't be opened or read as its format, 4 memory or a device.\n\n\
+Example: abd justify examples/new_then_old.history";
+
+/// Of `abd simulate`.
+pub const SIMULATE: &str =
+    "The commands of a script, one a line (a line that begins with # says nothing):\n  \
+replicas N [CALLS [MESSAGES]]  how many there are; the first command\n  \
+reads full, reads short        whether each read writes back\n  \
+votes V .. ask A put P         quorums by votes; majorities if missing\n  \
+join CLIENT                    a client joins\n  \
+invoke CLIENT read KEY         it begins a read\n  \
+invoke CLIENT write KEY VALUE  it begins a write\n  \
+send CLIENT REPLICA            it sends its request, as the next message\n  \
+deliver M, lose M, repeat M    what becomes of a copy of message M\n  \
+respond CLIENT                 it responds, where it has its answer\n  \
+stop client C                  for good\n  \
+stop replica R, start replica R\n  \
+finish CLIENT                  the steps that complete its call\n  \
+random SEED COUNT              up to COUNT random steps\n\
+SCRIPT may be /dev/stdin, for what is piped in.\n\n\
+Writes a history file, for `abd justify` and `abd check`. A message on standard error says which line was refused and \
+why, and how many random steps were taken.\nExit status: 0 written, 2 usage, 3 the script can't be opened or has a \
+fault, 4 memory or a device.\n\nExample: abd simulate examples/new_then_old.script";
+
+/// Of the option `--most` of `abd trace`.
+pub const LINES: &str = "How many lines are told, 0 to 4,294,967,295";
+
+/// Of `abd trace`.
+pub const TRACE: &str =
+    "Prints one line a step: the script's line, who took the step, and what came of it, or why it was refused. The \
+steps are those of `abd simulate`, whose help says the commands of a script; those of `finish` and `random` stand \
+below the line of their command, and a line says how many were taken. A last line says how many lines were left out, \
+if some were. SCRIPT may be /dev/stdin, for what is piped in.\nExit status: 0 told, 2 usage, 3 the script can't be \
+opened or has a fault, 4 memory or a device.\n\nExample: abd trace examples/new_then_old.script";

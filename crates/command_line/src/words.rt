@@ -1,0 +1,271 @@
+//! The words of a command line.
+ghost use Rattle.std.specs.Prelude.{ℕ, ◌≡◌, ◌↔◌, IsTrue, codes, IfOk, IfErr, MatchOption, MatchResult};
+ghost use Rattle.std.specs.Prelude.{Option, map, string_bytes};
+ghost use Rattle.clap.specs.Words.{found_of, kind_of, rows_of, subcommand_rows_of};
+ghost use Rattle.command_line.specs.Words.{Asks, AsksAround, AsksExplanation, AsksForm, AsksNothing};
+ghost use Rattle.command_line.specs.Words.{AsksNumber, GivesFlag, IsUsageOf, MakesAs, MakesNothing, MakesOf};
+ghost use Rattle.command_line.specs.declared.asked.Command.{Command};
+ghost use Rattle.command_line.specs.declared.asked.ExplainAsked.{ExplainAsked};
+
+use crate::asked::{Command, DrawAsked, ExplainAsked, Usage};
+use crate::forms::abd_words;
+use crate::lines::Lines;
+use clap::error::ErrorKind;
+use clap::{ArgMatches, Error};
+use parallel_keys::Workers;
+use run_options::{RunFault, run_in};
+use std::alloc::Global;
+
+/// What an error of clap's says.
+fn usage_of(alloc: Global, error: &Error) -> Usage
+    ensures { IsUsageOf (kind_of error.now) result }
+{
+    let Ok(text) = error.to_string(alloc) else {
+        return Usage::Memory;
+    };
+    match error.kind() {
+        ErrorKind::OutOfMemory => Usage::Memory,
+        ErrorKind::DisplayHelp => Usage::Help(text),
+        ErrorKind::DisplayVersion => Usage::Version(text),
+        _ => Usage::Fault(text),
+    }
+}
+
+/// Whether the flag is given.
+fn has_flag(matches: &ArgMatches<'_>, name: &str) -> bool
+    ensures { IsTrue result ↔ GivesFlag name.now (rows_of (found_of matches.now)) }
+{
+    matches.get_one::<bool>(name).unwrap_or(false)
+}
+
+/// The form of the lines that are asked for.
+fn form_in(matches: &ArgMatches<'_>) -> Lines
+    ensures { AsksForm (rows_of (found_of matches.now)) result }
+{
+    if has_flag(matches, "json") {
+        Lines::Json
+    } else {
+        Lines::Plain
+    }
+}
+
+/// The number that the option of that name asks for, where it is within the range.
+fn number_in(matches: &ArgMatches<'_>, name: &str, least: u32, most: u32) -> Option<u32>
+    ensures { MatchOption result
+        ((number : ℕ) → AsksNumber (rows_of (found_of matches.now)) name.now least most number → ⊥)
+        (AsksNumber (rows_of (found_of matches.now)) name.now least most) }
+{
+    let number = matches.get_one::<u32>(name)?;
+    if number < least {
+        return None;
+    }
+    if most < number {
+        return None;
+    }
+    Some(number)
+}
+
+/// `check`, of the words after its name.
+fn check_in<'a>(matches: &ArgMatches<'a>) -> Option<Command<'a>>
+    ensures { MatchOption result
+        ((command : Command) → MakesAs (codes "check") (rows_of (found_of matches.now)) command → ⊥)
+        (MakesAs (codes "check") (rows_of (found_of matches.now))) }
+{
+    let history = matches.get_str("HISTORY")?;
+    let orders = matches.get_str("ORDERS")?;
+    let count = number_in(matches, "workers", 1, 16)?;
+    let workers = Workers::new(count as u8)?;
+    let form = form_in(matches);
+    Some(Command::Check {
+        history,
+        orders,
+        workers,
+        form,
+    })
+}
+
+/// The number of the call that is named, if one is.
+fn around_in(matches: &ArgMatches<'_>) -> Option<Option<u32>>
+    ensures { MatchOption result
+        ((around : Option ℕ) → AsksAround (rows_of (found_of matches.now)) around → ⊥)
+        (AsksAround (rows_of (found_of matches.now))) }
+{
+    if matches.get_str("around").is_none() {
+        return Some(None);
+    }
+    let call = number_in(matches, "around", 0, u32::MAX)?;
+    Some(Some(call))
+}
+
+/// The files, the key and how many keys are asked for by `explain` or `draw`.
+fn keys_in<'a>(matches: &ArgMatches<'a>) -> Option<ExplainAsked<'a>>
+    ensures { MatchOption result
+        ((asked : ExplainAsked) → AsksExplanation (rows_of (found_of matches.now)) asked → ⊥)
+        (AsksExplanation (rows_of (found_of matches.now))) }
+{
+    let history = matches.get_str("HISTORY")?;
+    let most = number_in(matches, "most", 0, 10000)?;
+    Some(ExplainAsked {
+        history,
+        orders: matches.get_str("ORDERS"),
+        key: matches.get_str("key"),
+        most: most as u16,
+    })
+}
+
+/// `draw`, of the words after its name.
+fn draw_in<'a>(matches: &ArgMatches<'a>) -> Option<Command<'a>>
+    ensures { MatchOption result
+        ((command : Command) → MakesAs (codes "draw") (rows_of (found_of matches.now)) command → ⊥)
+        (MakesAs (codes "draw") (rows_of (found_of matches.now))) }
+{
+    let keys = keys_in(matches)?;
+    let calls = number_in(matches, "calls", 1, 10000)?;
+    let around = around_in(matches)?;
+    Some(Command::Draw(DrawAsked {
+        history: keys.history,
+        orders: keys.orders,
+        key: keys.key,
+        most: keys.most,
+        calls: calls as u16,
+        around,
+    }))
+}
+
+/// `explain`, of the words after its name.
+fn explain_in<'a>(matches: &ArgMatches<'a>) -> Option<Command<'a>>
+    ensures { MatchOption result
+        ((command : Command) → MakesAs (codes "explain") (rows_of (found_of matches.now)) command
+        → ⊥)
+        (MakesAs (codes "explain") (rows_of (found_of matches.now))) }
+{
+    let keys = keys_in(matches)?;
+    Some(Command::Explain(keys))
+}
+
+/// `justify`, of the words after its name.
+fn justify_in<'a>(matches: &ArgMatches<'a>) -> Option<Command<'a>>
+    ensures { MatchOption result
+        ((command : Command) → MakesAs (codes "justify") (rows_of (found_of matches.now)) command
+        → ⊥)
+        (MakesAs (codes "justify") (rows_of (found_of matches.now))) }
+{
+    let history = matches.get_str("HISTORY")?;
+    let unchecked = has_flag(matches, "unchecked");
+    Some(Command::Justify { history, unchecked })
+}
+
+/// `simulate`, of the words after its name.
+fn simulate_in<'a>(matches: &ArgMatches<'a>) -> Option<Command<'a>>
+    ensures { MatchOption result
+        ((command : Command) → MakesAs (codes "simulate") (rows_of (found_of matches.now)) command
+        → ⊥)
+        (MakesAs (codes "simulate") (rows_of (found_of matches.now))) }
+{
+    let script = matches.get_str("SCRIPT")?;
+    Some(Command::Simulate { script })
+}
+
+/// `trace`, of the words after its name.
+fn trace_in<'a>(matches: &ArgMatches<'a>) -> Option<Command<'a>>
+    ensures { MatchOption result
+        ((command : Command) → MakesAs (codes "trace") (rows_of (found_of matches.now)) command
+        → ⊥)
+        (MakesAs (codes "trace") (rows_of (found_of matches.now))) }
+{
+    let script = matches.get_str("SCRIPT")?;
+    let most = number_in(matches, "most", 0, u32::MAX)?;
+    Some(Command::Trace { script, most })
+}
+
+/// `run`, of the words after its name.
+fn asked_run<'a>(alloc: Global, matches: &ArgMatches<'a>) -> Result<Command<'a>, Usage>
+    ensures { MatchResult result (MakesAs (codes "run") (rows_of (found_of matches.now)))
+        (MakesNothing ((command : Command)
+        → MakesAs (codes "run") (rows_of (found_of matches.now)) command → ⊥)) }
+{
+    match run_in(alloc, matches) {
+        Ok(asked) => Ok(Command::Run(asked)),
+        Err(RunFault::Memory) => Err(Usage::Memory),
+        Err(fault) => Err(fault_of(alloc, fault)),
+    }
+}
+
+/// Says why the words after `run` ask for no load.
+fn fault_of(alloc: Global, fault: RunFault) -> Usage
+    ensures { IsUsageOf ErrorKind.MissingSubcommand result }
+{
+    match format!(in alloc; "abd: {fault}; see abd run --help\n") {
+        Ok(text) => Usage::Fault(text),
+        Err(_) => Usage::Memory,
+    }
+}
+
+/// The command of that name, where it is one that reads files.
+fn made_in<'a>(name: &str, matches: &ArgMatches<'a>) -> Option<Command<'a>>
+    requires { name.now ≡ codes "run" → ⊥ }
+    ensures { MatchOption result
+        ((command : Command) → MakesAs name.now (rows_of (found_of matches.now)) command → ⊥)
+        (MakesAs name.now (rows_of (found_of matches.now))) }
+{
+    if name == "check" {
+        check_in(matches)
+    } else if name == "draw" {
+        draw_in(matches)
+    } else if name == "explain" {
+        explain_in(matches)
+    } else if name == "justify" {
+        justify_in(matches)
+    } else if name == "simulate" {
+        simulate_in(matches)
+    } else if name == "trace" {
+        trace_in(matches)
+    } else {
+        None
+    }
+}
+
+/// The command that was met.
+fn command_in<'a>(alloc: Global, matches: &ArgMatches<'a>) -> Result<Command<'a>, Usage>
+    ensures { MatchResult result (MakesOf (subcommand_rows_of matches.now))
+        (MakesNothing ((command : Command)
+        → MakesOf (subcommand_rows_of matches.now) command → ⊥)) }
+{
+    let Some((name, found)) = matches.subcommand() else {
+        return Err(no_command(alloc));
+    };
+    if name == "run" {
+        return asked_run(alloc, found);
+    }
+    match made_in(name, found) {
+        Some(command) => Ok(command),
+        None => Err(no_command(alloc)),
+    }
+}
+
+/// Where clap takes the words and they make no command of ours.
+fn no_command(alloc: Global) -> Usage
+    ensures { IsUsageOf ErrorKind.MissingSubcommand result }
+{
+    match String::from_str(alloc, "abd: no command; see abd --help\n") {
+        Ok(text) => Usage::Fault(text),
+        Err(_) => Usage::Memory,
+    }
+}
+
+/// The command that the words, the program's own name first, ask for.
+///
+/// Help, the version and faults come with a text for people, which ends with a line's end. Help and
+/// the version are answered only where they were asked for, a fault only where the words have one.
+pub fn command<'a>(alloc: Global, words: &'a [String]) -> Result<Command<'a>, Usage>
+    ensures asked { IfOk result (Asks (map string_bytes words.now)) }
+    ensures not_asked { IfErr result (AsksNothing (map string_bytes words.now)) }
+{
+    let Ok(abd) = abd_words(alloc) else {
+        return Err(Usage::Memory);
+    };
+    match abd.try_get_matches_from(words) {
+        Ok(matches) => command_in(alloc, &matches),
+        Err(error) => Err(usage_of(alloc, &error)),
+    }
+}
