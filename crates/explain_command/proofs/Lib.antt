@@ -1,6 +1,6 @@
 mod ExplanationLines
-mod Selecting
+pub mod Selecting
 mod Reporting
-mod Ending
+pub mod Ending
 mod SoundKeys
 mod CheckStatus

@@ -1,8 +1,7 @@
 -- The explanation of a key: the verdict on its order or on its tags, and of a no the calls that
 -- show it, with the lines of the history file on which they stand.
 use Rattle.std.specs.Prelude.{ℕ, ◌≡◌, Bool, true, List, [], ◌∷◌, ◌++◌, Option, None, Some, codes}
-use Rattle.std.specs.Prelude.{Vec, filter, length, slice_get, bytes_eq}
-use Rattle.std.specs.declared.alloc.Global.{Global}
+use Rattle.std.specs.Prelude.{filter, length, slice_get, bytes_eq}
 use Rattle.recorder.specs.declared.part.Call.{Call}
 use Rattle.recorder.specs.Histories.{Recorded}
 use Rattle.recorder.specs.Sound.{TagSound}
@@ -41,9 +40,7 @@ module _ (numbered : NumberedHistories) where
     pub history : Recorded
     pub recorded : slice_get numbered.histories.halls number ≡ Some history
     pub rows : hall.rows.now ≡ history.rows
-    pub numbers : Vec ℕ Global
-    pub listed : slice_get numbered.lines.items number ≡ Some numbers
-    pub lines : hall.lines.now ≡ numbers.items
+    pub lines : slice_get numbered.lines.items number ≡ Some hall.lines.now
 
   -- the key's order has that fault; the line says so, and the text which calls show it
   pub record RefusesOrder (one : CheckedKey) (line text : List ℕ) : Type 0 where

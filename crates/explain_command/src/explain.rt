@@ -21,7 +21,7 @@ use std::alloc::Global;
 use std::thread::Threads;
 
 /// The histories that the file is, each row with its line.
-fn numbered_in<'a, R: CountedRead>(
+pub fn numbered_in<'a, R: CountedRead>(
     rt: &(impl Threads + Sync),
     alloc: Global,
     source: &mut Source<'a, R>,

@@ -7,7 +7,7 @@ use recorder::Halls;
 use tag::Key;
 
 /// The rows of the key's hall, each with its line.
-pub(crate) fn hall_of<'a>(numbered: &'a NumberedHistories, key: &Key) -> HallRows<'a>
+pub fn hall_of<'a>(numbered: &'a NumberedHistories, key: &Key) -> HallRows<'a>
     requires { HasLinesOfEach numbered.now }
     ensures { IsHallOfKey numbered.now key.now result }
 {
@@ -17,7 +17,7 @@ pub(crate) fn hall_of<'a>(numbered: &'a NumberedHistories, key: &Key) -> HallRow
             let hall = usize::from(halls.of(key));
             HallRows {
                 rows: histories[hall].rows(),
-                lines: numbered.lines[hall].as_slice(),
+                lines: &numbered.lines[hall],
             }
         }
         None => unreachable!(),

@@ -14,5 +14,6 @@ pub mod laws;
 mod report;
 mod selection;
 
-pub use explain::{explain_orders_command, explain_tags_command};
+pub use explain::{explain_orders_command, explain_tags_command, numbered_in};
+pub use find_hall::hall_of;
 pub use selection::Selection;

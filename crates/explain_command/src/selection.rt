@@ -28,7 +28,7 @@ impl Selection<'_> {
     }
 
     /// Whether a key is named, and so many keys have that name: none.
-    pub(crate) fn misses(&self, count: usize) -> bool
+    pub fn misses(&self, count: usize) -> bool
         ensures { result ≡ is_missing (named_key self.now) count }
     {
         match self.key {
@@ -38,7 +38,7 @@ impl Selection<'_> {
     }
 
     /// The keys that are selected, in their order.
-    pub(crate) fn select<'k>(
+    pub fn select<'k>(
         &self,
         alloc: Global,
         keys: &[KeyToCheck<'k>],

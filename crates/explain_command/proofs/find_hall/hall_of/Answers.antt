@@ -20,7 +20,5 @@ returns c =
       history = history;
       recorded = subst (λ (hs : List Recorded). slice_get hs hall ≡ Some history) c.halls-histories.ensures.halls (item_at halls hall history below c.index-histories-hall.is);
       rows = c.rows.ensures.rows;
-      numbers = c.index.result.now;
-      listed = item_at c.args.numbered.now.lines.items hall c.index.result.now listed c.index.ensures;
-      lines = c.as_slice.ensures.value;
+      lines = item_at c.args.numbered.now.lines.items hall c.index.result.now listed c.index.ensures;
     }

@@ -1,0 +1,68 @@
+-- No call of a key begins where another one ends.
+use Rattle.std.proofs.Common.{ℕ, suc, ◌≡◌, ◌<◌, not, List, [], ◌∷◌, All, filter, get_or, length, map, refl, ap, sym, subst, ◌∙◌, arith}
+use Rattle.std.proofs.Math.ListN.{get_or-map}
+use Rattle.std.proofs.lemmas.List.{length-map}
+use Rattle.std.specs.List.{Contains}
+use Rattle.std.proofs.lemmas.List.Elements.{All-append, All-cons, All-contains_itself, All-filter, All-get_or, All-head, All-map, All-nil, All-same, All-tail, All-weaker}
+use Rattle.recorder.specs.declared.order.KeyOrder.{KeyOrder}
+use Rattle.recorder.specs.declared.part.Call.{Call}
+use Rattle.recorder.specs.Histories.{Recorded}
+use Rattle.parallel_keys.specs.CheckedKeys.{CheckedKey, KeyParts, all_parts, checked_keys, is_other, other_key, recorded_key}
+use Rattle.parallel_keys.specs.Histories.{AreHallParts}
+use Rattle.cli.proofs.Entries.{contains_nothing}
+use Rattle.scenes.specs.Points.{AreApart}
+use Rattle.scenes.proofs.RunningPoints.{apart}
+use Rattle.draw_command.specs.Findings.{AreJudged, IsFinding, Judgement, is_no, refused_first}
+use Rattle.draw_command.specs.Judging.{IsDrawable, judgement_of}
+use Rattle.draw_command.specs.declared.finding.JudgedKey.{JudgedKey}
+use Rattle.draw_command.specs.declared.judged.Judged.{Judged}
+
+nothing_apart : AreApart []
+nothing_apart = λ a b response first second is same. contains_nothing a first
+
+-- the part of each entry of the halls
+entries_apart : (halls : List Recorded) (parts : List KeyParts) → AreHallParts halls parts → All (λ (entry : List ℕ × List Call). AreApart entry.1) (all_parts parts)
+entries_apart halls [] are = All-nil (λ (entry : List ℕ × List Call). AreApart entry.1)
+entries_apart [] (own ∷ parts) are = let none = are.all in absurd (omega (arith, none))
+entries_apart (history ∷ halls) (own ∷ parts) are =
+    let P = λ (entry : List ℕ × List Call). AreApart entry.1 in
+    let its = are.each 0 history own refl refl in
+    All-append P own (all_parts parts)
+    (All-weaker (Contains own) P (λ entry h. apart history.rows entry.0 entry.1 (its.each entry.0 entry.1 h)) own (All-contains_itself own))
+    (entries_apart halls parts (record { all = let same = are.all in omega (arith, same); each = λ hall later mine at_history at_own. are.each (suc hall) later mine at_history at_own }))
+
+-- each key that is checked
+pub checked_apart : (halls : List Recorded) (parts : List KeyParts) (orders : List KeyOrder) → AreHallParts halls parts → All (λ (one : CheckedKey). AreApart one.part) (checked_keys (all_parts parts) orders)
+checked_apart halls parts orders are =
+    let P = λ (one : CheckedKey). AreApart one.part in
+    let entries = all_parts parts in
+    let others = filter (is_other entries) orders in
+    All-append P (map (recorded_key orders) entries) (map other_key others)
+    (All-map P (recorded_key orders) entries (entries_apart halls parts are))
+    (All-map P other_key others (All-weaker (Contains others) (λ (one : KeyOrder). AreApart []) (λ one h. nothing_apart) others (All-contains_itself others)))
+
+-- keys that were judged can be drawn
+drawable_each : (judged : Judged) (js : List Judgement) → All (λ (j : Judgement). IsFinding judged j.one j.finding) js → All (λ (one : CheckedKey). AreApart one.part) (map (λ (j : Judgement). j.one) js)
+    → All (IsDrawable judged) js
+drawable_each judged [] found apart_all = All-nil (IsDrawable judged)
+drawable_each judged (j ∷ js) found apart_all =
+    let F = λ (k : Judgement). IsFinding judged k.one k.finding in
+    let A = λ (one : CheckedKey). AreApart one.part in
+    let rest = map (λ (k : Judgement). k.one) js in
+    All-cons (IsDrawable judged) j js (record { found = All-head F j js found; apart = All-head A j.one rest apart_all })
+    (drawable_each judged js (All-tail F j js found) (All-tail A j.one rest apart_all))
+
+pub drawable : (judged : Judged) (keys : List CheckedKey) (all : List Judgement) (ordered : List JudgedKey) → AreJudged judged keys all → All (λ (one : CheckedKey). AreApart one.part) keys
+    → map judgement_of ordered ≡ refused_first all → All (IsDrawable judged) (map judgement_of ordered)
+drawable judged keys all ordered are apart_all in_order =
+    let D = IsDrawable judged in
+    let each = drawable_each judged all are.found (All-same (λ (one : CheckedKey). AreApart one.part) (map (λ (j : Judgement). j.one) all) keys are.each_key apart_all) in
+    All-same D (map judgement_of ordered) (refused_first all) in_order
+    (All-append D (filter (λ (j : Judgement). is_no j.finding) all) (filter (λ (j : Judgement). not (is_no j.finding)) all)
+    (All-filter (λ (j : Judgement). is_no j.finding) D all each) (All-filter (λ (j : Judgement). not (is_no j.finding)) D all each))
+
+-- what holds of each judged key holds of the one that was read
+pub read_one : (P : Judgement → Type 0) (keys : List JudgedKey) (n : ℕ) (key : JudgedKey) → All P (map judgement_of keys) → n < length keys → key ≡ get_or keys n key → P (judgement_of key)
+read_one P keys n key all within is =
+    let same : get_or (map judgement_of keys) n (judgement_of key) ≡ judgement_of key = get_or-map judgement_of keys n key ∙ ap judgement_of (sym is) in
+    subst P same (All-get_or P (map judgement_of keys) n (judgement_of key) (subst (λ (k : ℕ). n < k) (sym (length-map keys judgement_of)) within) all)

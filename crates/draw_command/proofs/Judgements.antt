@@ -1,0 +1,42 @@
+-- Judged keys, one more at the end, and those first that are refused.
+use Rattle.std.proofs.Common.{◌≡◌, Bool, true, false, cond, not, List, [], ◌∷◌, ◌++◌, All, filter, length, map, refl, sym, ap, ap₂, subst, ◌∙◌}
+use Rattle.std.proofs.lemmas.List.{length-map, map-append}
+use Rattle.std.proofs.lemmas.List.Elements.{All-append, All-cons, All-nil}
+use Rattle.parallel_keys.specs.CheckedKeys.{CheckedKey}
+use Rattle.draw_command.specs.Findings.{AreJudged, IsFinding, Judgement, is_no, refused_count, refused_first}
+use Rattle.draw_command.specs.Judging.{judgement_of}
+use Rattle.draw_command.specs.declared.finding.JudgedKey.{JudgedKey}
+use Rattle.draw_command.specs.declared.judged.Judged.{Judged}
+
+-- one key more
+pub judged_more : (judged : Judged) (keys more : List CheckedKey) (js now : List Judgement) (j : Judgement) → more ≡ keys ++ j.one ∷ [] → now ≡ js ++ j ∷ []
+    → IsFinding judged j.one j.finding → AreJudged judged keys js → AreJudged judged more now
+judged_more judged keys more js now j are_more are_now found so_far = record {
+  each_key = ap (map (λ (k : Judgement). k.one)) are_now ∙ map-append (λ (k : Judgement). k.one) js (j ∷ []) ∙ ap (λ (l : List CheckedKey). l ++ j.one ∷ []) so_far.each_key ∙ sym are_more;
+  found = subst (All (λ (k : Judgement). IsFinding judged k.one k.finding)) (sym are_now)
+      (All-append (λ (k : Judgement). IsFinding judged k.one k.finding) js (j ∷ []) so_far.found
+      (All-cons (λ (k : Judgement). IsFinding judged k.one k.finding) j [] found (All-nil (λ (k : Judgement). IsFinding judged k.one k.finding))));
+}
+
+-- what a function makes of the elements that pass is what passes of all that it makes
+map-filter : {X Y : Type 0} (f : X → Y) (p : Y → Bool) (xs : List X) → map f (filter (λ x. p (f x)) xs) ≡ filter p (map f xs)
+map-filter f p [] = refl
+map-filter {X} {Y} f p (x ∷ xs) = by (p (f x)) (map-filter f p xs)
+  where
+    by : (b : Bool) → map f (filter (λ x. p (f x)) xs) ≡ filter p (map f xs) → map f (cond b (x ∷ filter (λ x. p (f x)) xs) (filter (λ x. p (f x)) xs)) ≡ cond b (f x ∷ filter p (map f xs)) (filter p (map f xs))
+    by true later = ap (λ (ys : List Y). f x ∷ ys) later
+    by false later = later
+
+module _ (all refused others keys : List JudgedKey) (refused_are : refused ≡ filter (λ key. is_no key.finding) all) where
+  made_refused : map judgement_of refused ≡ filter (λ (j : Judgement). is_no j.finding) (map judgement_of all)
+  made_refused = ap (map judgement_of) refused_are ∙ map-filter judgement_of (λ (j : Judgement). is_no j.finding) all
+
+  -- the keys that are refused, and then the others
+  pub in_order : others ≡ filter (λ key. not (is_no key.finding)) all → keys ≡ refused ++ others → map judgement_of keys ≡ refused_first (map judgement_of all)
+  in_order others_are both =
+      ap (map judgement_of) both ∙ map-append judgement_of refused others
+      ∙ ap₂ (λ (a b : List Judgement). a ++ b) made_refused (ap (map judgement_of) others_are ∙ map-filter judgement_of (λ (j : Judgement). not (is_no j.finding)) all)
+
+  -- how many are refused
+  pub counted_refused : length refused ≡ refused_count (map judgement_of all)
+  counted_refused = sym (length-map refused judgement_of) ∙ ap length made_refused

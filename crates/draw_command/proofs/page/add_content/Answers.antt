@@ -1,0 +1,47 @@
+-- What stands above the table, the table, what stands below it, and the sections.
+use Rattle.std.proofs.Common.{ℕ, ◌≡◌, ◌++◌, List, length, map, min, take, ap, subst, sym, ◌∙◌}
+use Rattle.std.proofs.lemmas.List.{length-map, take-map}
+use Rattle.std.proofs.lemmas.List.Elements.{All-same, All-take}
+use Rattle.std.proofs.lemmas.Result.{on_ok_weaker}
+use Rattle.markup.specs.Markup.{rendered}
+use Rattle.draw_command.specs.Findings.{Judgement}
+use Rattle.draw_command.specs.Judging.{IsDrawable, judgement_of}
+use Rattle.draw_command.specs.Making.{Adds}
+use Rattle.draw_command.specs.declared.finding.JudgedKey.{JudgedKey}
+use Rattle.draw_command.specs.Pages.{IsEach, IsSectionOf, IsTableOf, below_table, front_markup}
+use Rattle.draw_command.proofs.Framing.{content_added, first_ones}
+use Rattle.draw_command.proofs.page.add_content.Goals as goal
+
+pub add_sections-requires-clause-drawable : goal.add_sections-requires-clause-drawable
+add_sections-requires-clause-drawable c =
+    let n = c.min.result in
+    let slice = c.as_slice-keys.result.now in
+    let keys = map judgement_of c.args.findings.now.keys.items in
+    let Drawable = IsDrawable c.args.task.now.judged in
+    All-same Drawable (map judgement_of (take n slice)) (take n keys)
+    (sym (take-map judgement_of n slice) ∙ ap (λ (items : List JudgedKey). take n (map judgement_of items)) c.as_slice-keys.ensures.value) (All-take Drawable n keys c.requires.drawable)
+
+pub returns : goal.returns
+returns c =
+    let task = c.args.task.now in
+    let most = task.drawn.most in
+    let refused = c.args.findings.now.refused in
+    let missing = c.args.missing in
+    let items = c.args.findings.now.keys.items in
+    let keys = map judgement_of items in
+    let slice = c.as_slice-keys.result.now in
+    let old = c.args.page.now.items in
+    let headed = c.append_front.new.page.items in
+    let tabled = c.add_table.new.page.items in
+    let under = c.append_below.new.page.items in
+    let Sections = IsSectionOf task.judged task.numbered.now task.drawn in
+    let same : map judgement_of slice ≡ keys = ap (map judgement_of) c.as_slice-keys.ensures.value in
+    let count : length slice ≡ length keys = ap length c.as_slice-keys.ensures.value ∙ sym (length-map items judgement_of) in
+    let cut = first_ones judgement_of slice _ most (ap (λ (n : ℕ). take n slice) (c.min.ensures ∙ ap (λ (n : ℕ). min (length slice) n) c.from.ensures)) ∙ ap (λ (js : List Judgement). take most js) same in
+    on_ok_weaker c.add_sections.result (λ drawn.
+    let w = content_added (front_markup (length keys) refused missing) (below_table (length keys) refused) (IsTableOf most keys) (IsEach Sections 0 (take most keys)) old headed tabled under c.add_sections.new.page.items
+    (c.in_ok-append_front.ensures ∙ ap (λ (n : ℕ). old ++ rendered (front_markup n refused missing)) count)
+    (subst (λ (js : List Judgement). Adds (IsTableOf most js) headed tabled) same c.in_ok-add_table.ensures)
+    (c.in_ok-append_below.ensures ∙ ap (λ (n : ℕ). tabled ++ rendered (below_table n refused)) count)
+    (subst (λ (js : List Judgement). Adds (IsEach Sections 0 js) under c.add_sections.new.page.items) cut drawn) in
+    (w.0, record { table = w.1.0; tabled = w.1.2; sections = w.1.1; pictured = w.1.3; is = w.1.4 }, w.2)) c.add_sections.ensures

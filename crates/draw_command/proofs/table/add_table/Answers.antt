@@ -1,0 +1,31 @@
+-- The rows stand in the table's body, and that below what stands above it.
+use Rattle.std.proofs.Common.{ℕ, [], ◌∷◌, List, map, take, ap, subst}
+use Rattle.std.proofs.lemmas.Result.{on_ok_weaker}
+use Rattle.markup.specs.Markup.{Markup, both, element}
+use Rattle.markup.specs.declared.names.AttributeName.TheVariants as name
+use Rattle.markup.specs.declared.names.Element.TheVariants as tag
+use Rattle.draw_command.specs.Findings.{Judgement}
+use Rattle.draw_command.specs.Judging.{judgement_of}
+use Rattle.draw_command.specs.Making.{Adds}
+use Rattle.draw_command.specs.Pages.{IsEach, IsFramed, IsRowOf, table_front, table_size}
+use Rattle.draw_command.specs.declared.words.TheConstants.{KEYS}
+use Rattle.draw_command.proofs.Adding.{adds_after, adds_within, framed_twice}
+use Rattle.draw_command.proofs.Framing.{first_ones}
+use Rattle.draw_command.proofs.table.add_table.Goals as goal
+
+pub returns : goal.returns
+returns c =
+    let keys = c.args.keys.now in
+    let Rows = IsEach (IsRowOf c.args.drawn) 0 (take table_size (map judgement_of keys)) in
+    let class = record { name = name.Class; value = KEYS.now } ∷ [] in
+    let first = first_ones judgement_of keys _ table_size (ap (λ (n : ℕ). take n keys) c.min.ensures) in
+    let rows = subst (λ (js : List Judgement). Adds (IsEach (IsRowOf c.args.drawn) 0 js) c.append_opening-2.new.page.items c.add_rows.new.page.items) first c.in_ok-add_rows.ensures in
+    let body = adds_within Rows tag.Tbody [] c.append_table_front.new.page.items c.append_opening-2.new.page.items c.add_rows.new.page.items c.append_closing.new.page.items
+    c.in_ok-append_opening-2.ensures rows c.in_ok-append_closing.ensures in
+    let inside = adds_after (IsFramed (element tag.Tbody []) Rows) table_front c.append_opening.new.page.items c.append_table_front.new.page.items c.append_closing.new.page.items
+    c.in_ok-append_table_front.ensures body in
+    let within = framed_twice (both table_front) (element tag.Tbody []) Rows _ _ inside in
+    on_ok_weaker c.append_closing-2.result (λ closed.
+    framed_twice (element tag.Table class) (λ (m : Markup). both table_front (element tag.Tbody [] m)) Rows _ _
+    (adds_within (IsFramed (λ (m : Markup). both table_front (element tag.Tbody [] m)) Rows) tag.Table class c.args.page.now.items c.append_opening.new.page.items c.append_closing.new.page.items _
+    c.in_ok-append_opening.ensures within closed)) c.append_closing-2.ensures

@@ -1,0 +1,239 @@
+-- The page: a table of the keys, and for each of the first of them a section with its picture.
+use Rattle.std.specs.Prelude.{ℕ, zero, suc, ◌≡◌, ◌+◌, ◌-◌, Bool, List, [], ◌∷◌, ◌++◌}
+use Rattle.std.specs.Prelude.{cond, decimal, length, nat_lt, take}
+use Rattle.std.specs.Str.Lines.{lines}
+use Rattle.std.specs.Str.Lossy.{utf8_lossy}
+use Rattle.markup.specs.Markup.{Markup, nothing, text, empty, element, both, each}
+use Rattle.markup.specs.declared.names.AttributeName.TheVariants as name
+use Rattle.markup.specs.declared.names.Element.{Element}
+use Rattle.markup.specs.declared.names.Element.TheVariants as tag
+use Rattle.history_file.specs.declared.numbered_format.NumberedHistories.{NumberedHistories}
+use Rattle.pictures.specs.Pictures.{picture_markup}
+use Rattle.pictures.specs.Sheets.{legend, style}
+use Rattle.pictures.specs.Tables.{table_markup as call_table}
+use Rattle.pictures.specs.declared.picture.Picture.{Picture}
+use Rattle.explain_command.specs.KeyExplanations.{IsHallOfKey}
+use Rattle.draw_command.specs.Counts.{AreCountsOf}
+use Rattle.draw_command.specs.Drawings.{IsKeyScene, IsWhy}
+use Rattle.draw_command.specs.Findings.{Judgement, finding_line, is_no, misses_key}
+use Rattle.draw_command.specs.Findings.{refused_count, refused_first}
+use Rattle.draw_command.specs.declared.counts.KeyCounts.{KeyCounts}
+use Rattle.draw_command.specs.declared.drawn.Drawn.{Drawn}
+use Rattle.draw_command.specs.declared.finding.Finding.{Finding}
+use Rattle.draw_command.specs.declared.judged.Judged.{Judged}
+use Rattle.draw_command.specs.declared.words.TheConstants as word
+
+-- ---- pieces
+
+-- an element around a text
+abbrev pub plain : Element → List ℕ → Markup
+plain e words = element e [] (text words)
+
+-- an element of that class around a text
+abbrev pub worded : Element → List ℕ → List ℕ → Markup
+worded e class words = element e (record { name = name.Class; value = class } ∷ []) (text words)
+
+-- words, a number, more words and a number
+abbrev pub numbers : List ℕ → ℕ → List ℕ → ℕ → Markup
+numbers before n between m =
+    both (text before) (both (text (decimal n)) (both (text between) (text (decimal m))))
+
+-- a paragraph of that class with these
+abbrev pub counted : List ℕ → List ℕ → ℕ → List ℕ → ℕ → Markup
+counted class before n between m =
+    element tag.P (record { name = name.Class; value = class } ∷ []) (numbers before n between m)
+
+-- what bytes say, without the ends of lines
+abbrev pub said : List ℕ → Markup
+said words = each (λ line. text line) (lines (utf8_lossy words))
+
+-- what was found of a key
+abbrev pub finding_said : Judgement → Markup
+finding_said key = said (finding_line key.one.key key.finding)
+
+-- the class of a key that is refused, and of any other
+abbrev pub verdict_class : Finding → List ℕ
+verdict_class finding = cond (is_no finding) word.NO.now word.YES.now
+
+-- ---- the table
+
+-- what was found of the key that has that number in the table; it leads to its picture, if it has
+-- one
+abbrev pub finding_link : ℕ → ℕ → Judgement → Markup
+finding_link drawn n key = cond (nat_lt n drawn)
+    (element tag.A (record { name = name.Href; value = word.TO_KEY.now ++ decimal n } ∷ [])
+    (finding_said key))
+    (finding_said key)
+
+-- the first cell of a key's row
+abbrev pub finding_cell : ℕ → ℕ → Judgement → Markup
+finding_cell drawn n key =
+    element tag.Th (record { name = name.Scope; value = word.ROW_SCOPE.now } ∷ [])
+    (finding_link drawn n key)
+
+-- a cell with a number
+abbrev pub count_cell : ℕ → Markup
+count_cell count = worded tag.Td word.COUNT.now (decimal count)
+
+-- the cells of the counts of a key's calls
+abbrev pub count_cells : KeyCounts → Markup
+count_cells counts = both (count_cell counts.calls) (both (count_cell counts.clients)
+    (both (count_cell counts.pending) (count_cell counts.at_once)))
+
+-- the row of the key that has that number in the table
+abbrev pub row_markup : ℕ → ℕ → Judgement → KeyCounts → Markup
+row_markup drawn n key counts =
+    element tag.Tr (record { name = name.Class; value = verdict_class key.finding } ∷ [])
+    (both (finding_cell drawn n key) (count_cells counts))
+
+-- the head of a column
+abbrev pub column_head : List ℕ → Markup
+column_head words =
+    element tag.Th (record { name = name.Scope; value = word.COLUMN_SCOPE.now } ∷ []) (text words)
+
+-- the heads of the table's columns
+abbrev pub columns_markup : Markup
+columns_markup = both (column_head word.FOUND.now) (both (column_head word.CALLS.now)
+    (both (column_head word.CLIENTS.now) (both (column_head word.PENDING.now)
+    (column_head word.AT_ONCE.now))))
+
+-- what stands in the table above its rows
+abbrev pub table_front : Markup
+table_front = both (plain tag.Caption word.CAPTION.now)
+    (element tag.Thead [] (element tag.Tr [] columns_markup))
+
+-- the table with those rows
+abbrev pub table_markup : Markup → Markup
+table_markup rows = element tag.Table (record { name = name.Class; value = word.KEYS.now } ∷ [])
+    (both table_front (element tag.Tbody [] rows))
+
+-- how many keys a table has at most
+abbrev pub table_size : ℕ
+table_size = 1000
+
+-- how many keys have no row, and how many of these are refused, if any has none
+abbrev pub rest_line : ℕ → ℕ → Markup
+rest_line zero refused = nothing
+rest_line (suc count) refused =
+    counted word.REST.now word.MORE.now (suc count) word.MORE_REFUSED.now refused
+
+-- what stands below the table of so many keys, of which so many are refused: how many have no row,
+-- and what the pictures' signs mean
+abbrev pub below_table : ℕ → ℕ → Markup
+below_table count refused = both (rest_line (count - table_size) (refused - table_size)) legend
+
+-- ---- a section
+
+-- a paragraph for each line of the sentences
+abbrev pub why_lines : List ℕ → Markup
+why_lines words = each (worded tag.P word.WHY.now) (lines words)
+
+-- the same of their bytes
+abbrev pub why_markup : List ℕ → Markup
+why_markup words = why_lines (utf8_lossy words)
+
+-- what a section says of its key: what was found, and why it is refused
+abbrev pub saying_markup : Judgement → List ℕ → Markup
+saying_markup key why = both (element tag.H2 [] (finding_said key)) (why_markup why)
+
+-- how many of the calls its picture shows
+abbrev pub shown_line : Picture → Markup
+shown_line picture = counted word.SHOWN.now word.CALLS_SHOWN.now
+    (length picture.scene.now.bars.items) word.OF.now (length picture.part.now)
+
+-- what it shows: that, the picture, and the calls as a table
+abbrev pub showing_markup : Picture → Markup
+showing_markup picture =
+    both (shown_line picture) (both (picture_markup picture) (call_table picture))
+
+-- the section of the key that has that number in the table
+abbrev pub section_markup : ℕ → Judgement → List ℕ → Picture → Markup
+section_markup n key why picture =
+    element tag.Section (record { name = name.Id; value = word.KEY_ID.now ++ decimal n }
+    ∷ record { name = name.Class; value = verdict_class key.finding } ∷ [])
+    (both (saying_markup key why) (showing_markup picture))
+
+-- ---- the page
+
+-- what a browser has to know
+abbrev pub metas_markup : Markup
+metas_markup = both (empty tag.Meta (record { name = name.Charset; value = word.CHARSET.now } ∷ []))
+    (empty tag.Meta (record { name = name.Name; value = word.VIEWPORT_NAME.now }
+    ∷ record { name = name.Content; value = word.VIEWPORT.now } ∷ []))
+
+-- the head: that, the title, and the styles
+abbrev pub head_markup : Markup
+head_markup = element tag.Head [] (both metas_markup (both (plain tag.Title word.TITLE.now)
+    (both style (plain tag.Style word.STYLE.now))))
+
+-- the line that says that no key has the name
+abbrev pub missing_line : Bool → Markup
+missing_line missing = cond missing (worded tag.P word.MISSING.now word.NO_SUCH_KEY.now) nothing
+
+-- what stands above the table: the title, how many keys were judged and refused, and whether the
+-- key that was named is missing
+abbrev pub front_markup : ℕ → ℕ → Bool → Markup
+front_markup count refused missing = both (plain tag.H1 word.TITLE.now)
+    (both (counted word.SUM.now word.KEYS_JUDGED.now count word.REFUSED.now refused)
+    (missing_line missing))
+
+-- the body around what the page says and shows
+abbrev pub body_markup : Markup → Markup
+body_markup content = element tag.Body [] (element tag.Main [] content)
+
+-- the page around that
+abbrev pub page_markup : Markup → Markup
+page_markup content =
+    element tag.Html (record { name = name.Lang; value = word.LANGUAGE.now } ∷ [])
+    (both head_markup (body_markup content))
+
+-- what the frame makes of something of which that holds
+abbrev pub IsFramed : (Markup → Markup) → (Markup → Type 0) → Markup → Type 0
+IsFramed frame Is markup = (inside : Markup) × Is inside × (markup ≡ frame inside)
+
+-- for each item one of these, in the same order; the first item has that number
+abbrev pub IsEach : {X : Type 0} → (ℕ → X → Markup → Type 0) → ℕ → List X → Markup → Type 0
+IsEach Is n [] markup = markup ≡ nothing
+IsEach Is n (x ∷ xs) markup = (first : Markup) × (others : Markup) × Is n x first
+    × IsEach Is (n + 1) xs others × (markup ≡ both first others)
+
+-- the row of a key, with the counts of its calls
+abbrev pub IsRowOf : ℕ → ℕ → Judgement → Markup → Type 0
+IsRowOf drawn n key row = (counts : KeyCounts) × AreCountsOf key.one.part counts
+    × (row ≡ row_markup drawn n key counts)
+
+-- the table of the first of the keys
+abbrev pub IsTableOf : ℕ → List Judgement → Markup → Type 0
+IsTableOf drawn keys table =
+    IsFramed table_markup (IsEach (IsRowOf drawn) 0 (take table_size keys)) table
+
+module _ (judged : Judged) (numbered : NumberedHistories) (drawn : Drawn) where
+  -- the picture of a key's scene, in which the calls are marked that show why the key is refused;
+  -- the words say why
+  pub record IsPictureOf (key : Judgement) (words : List ℕ) (picture : Picture) : Type 0 where
+    pub of_key : picture.key.now ≡ key.one.key
+    pub of_part : picture.part.now ≡ key.one.part
+    pub hall : IsHallOfKey numbered key.one.key picture.hall
+    pub why : IsWhy picture.hall key.one key.finding words picture.faulty.now
+    pub scene : IsKeyScene judged drawn picture.hall key picture.faulty.now picture.scene.now
+
+  -- the section of the key that has that number in the table
+  abbrev pub IsSectionOf : ℕ → Judgement → Markup → Type 0
+  IsSectionOf n key section = (words : List ℕ) × (picture : Picture) × IsPictureOf key words picture
+      × (section ≡ section_markup n key words picture)
+
+  -- what a page says and shows of these keys: how many there are, and of them how many are refused;
+  -- a table of the first; and for as many as are to be drawn a section
+  pub record IsContentOf (keys : List Judgement) (refused : ℕ) (missing : Bool) (content : Markup)
+      : Type 0 where
+    pub table : Markup
+    pub tabled : IsTableOf drawn.most keys table
+    pub sections : Markup
+    pub pictured : IsEach IsSectionOf 0 (take drawn.most keys) sections
+    pub is : content ≡ both (front_markup (length keys) refused missing) (both table
+        (both (below_table (length keys) refused) sections))
+
+  -- the page of judged keys, those first that are refused
+  abbrev pub IsPageOf : List Judgement → Markup → Type 0
+  IsPageOf keys page = IsFramed page_markup
+      (IsContentOf (refused_first keys) (refused_count keys) (misses_key drawn keys)) page

@@ -1,0 +1,52 @@
+//! Which keys are drawn, and how much of each.
+ghost use Rattle.std.specs.Prelude.{◌≡◌};
+ghost use Rattle.draw_command.specs.Drawings.{center, numbered_call};
+
+use explain_command::Selection;
+use tag::OpId;
+
+/// Which keys are judged, how many of them have a picture, and how many calls it shows.
+#[derive(Clone, Copy, Debug)]
+pub struct Drawn<'a> {
+    /// The key that alone is judged, if one is named.
+    pub key: Option<&'a str>,
+    /// How many keys have a picture, at most.
+    pub most: u16,
+    /// How many calls of a key are shown, at most, beside those that show why it is refused.
+    pub calls: u32,
+    /// The number of the call around which calls are shown, if one is given.
+    pub around: Option<u64>,
+}
+
+impl<'a> Drawn<'a> {
+    /// Which keys are judged.
+    pub(crate) fn selection(&self) -> Selection<'a>
+        ensures { result.key ≡ self.now.key }
+    {
+        Selection {
+            key: self.key,
+            most: self.most,
+        }
+    }
+
+    /// The call around which calls are shown.
+    pub(crate) fn center(&self, faulty: &[OpId]) -> Option<OpId>
+        ensures { result ≡ center self.now.around faulty.now }
+    {
+        match self.around {
+            Some(number) => numbered_call(number),
+            None => faulty.first().copied(),
+        }
+    }
+}
+
+/// The call of that number, if a call can have it.
+fn numbered_call(number: u64) -> Option<OpId>
+    ensures { result ≡ numbered_call number }
+{
+    if number < 4_294_967_296 {
+        Some(OpId(number as u32))
+    } else {
+        None
+    }
+}

@@ -1,0 +1,10 @@
+//! What keys are judged by.
+
+/// What keys are judged by.
+#[derive(Clone, Copy, Debug)]
+pub(crate) enum Judged {
+    /// Their orders.
+    Orders,
+    /// The tags of their calls.
+    Tags,
+}

@@ -1,0 +1,23 @@
+//! `abd draw`: a page with a table of the keys, and a picture of the first of them.
+//!
+//! Each key is judged once, by its order, or without orders by the tags of its calls. Refused keys
+//! stand first. Nothing is written before the whole page is made. It takes the time of one check of
+//! each key, on the caller's thread, and of the pictures, which grow with the calls that they show.
+#![tactic(auto)]
+
+mod counts;
+mod draw;
+mod drawn;
+mod finding;
+mod head;
+mod judged;
+mod key_scene;
+mod page;
+mod section;
+mod table;
+mod texts;
+mod why;
+mod words;
+
+pub use draw::{draw_orders_command, draw_tags_command};
+pub use drawn::Drawn;

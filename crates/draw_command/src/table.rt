@@ -1,0 +1,230 @@
+//! The table of the keys.
+ghost use Rattle.std.specs.Prelude.{◌≡◌, ◌++◌, map, OnOk};
+ghost use Rattle.markup.specs.Markup.{rendered};
+ghost use Rattle.draw_command.specs.Judging.{judgement_of};
+ghost use Rattle.draw_command.specs.Making.{Adds};
+ghost use Rattle.draw_command.specs.Pages.{IsEach, IsRowOf, IsTableOf, column_head, columns_markup};
+ghost use Rattle.draw_command.specs.Pages.{count_cell, count_cells, finding_cell, finding_link};
+ghost use Rattle.draw_command.specs.Pages.{below_table, rest_line, row_markup, table_front};
+ghost use Rattle.draw_command.specs.Pages.{verdict_class};
+
+use crate::counts::{KeyCounts, counts_of};
+use crate::finding::{Finding, JudgedKey};
+use crate::texts::{append_counted, append_finding, append_plain, append_worded};
+use crate::words;
+use itoa::Buffer;
+use markup::{Attribute, AttributeName, Element, append_closing, append_opening, append_text};
+use pictures::append_legend;
+use std::alloc::Global;
+use tag::Memory;
+
+/// How many keys the table has at most.
+const TABLE_SIZE: usize = 1000;
+
+/// The class of a key with that finding.
+pub(crate) fn verdict_class(finding: Finding) -> &'static str
+    ensures { result.now ≡ verdict_class finding }
+{
+    if finding.is_no() {
+        words::NO
+    } else {
+        words::YES
+    }
+}
+
+/// Adds what was found of the key; it leads to its picture, if it has one.
+#[tactic(auto, unfolding(markup::specs::Markup::rendered))]
+fn append_link(
+    alloc: Global,
+    page: &mut Vec<u8>,
+    drawn: u16,
+    n: usize,
+    key: &JudgedKey<'_>,
+) -> Result<(), Memory>
+    ensures { OnOk result (page.new.items
+        ≡ page.old.items ++ rendered (finding_link drawn n (judgement_of key.now))) }
+{
+    if n >= usize::from(drawn) {
+        return append_finding(alloc, page, key);
+    }
+    let target = Attribute::Numbered(AttributeName::Href, words::TO_KEY, n as u64);
+    append_opening(page, Element::A, &[target])?;
+    append_finding(alloc, page, key)?;
+    append_closing(page, Element::A)
+}
+
+/// Adds the first cell of a key's row.
+#[tactic(auto, unfolding(markup::specs::Markup::rendered))]
+fn append_cell(
+    alloc: Global,
+    page: &mut Vec<u8>,
+    drawn: u16,
+    n: usize,
+    key: &JudgedKey<'_>,
+) -> Result<(), Memory>
+    ensures { OnOk result (page.new.items
+        ≡ page.old.items ++ rendered (finding_cell drawn n (judgement_of key.now))) }
+{
+    let scope = Attribute::Words(AttributeName::Scope, words::ROW_SCOPE);
+    append_opening(page, Element::Th, &[scope])?;
+    append_link(alloc, page, drawn, n, key)?;
+    append_closing(page, Element::Th)
+}
+
+/// Adds a cell with that number.
+fn append_count(page: &mut Vec<u8>, count: usize) -> Result<(), Memory>
+    ensures { OnOk result (page.new.items ≡ page.old.items ++ rendered (count_cell count)) }
+{
+    let mut digits = Buffer::new();
+    append_worded(page, Element::Td, words::COUNT, digits.format(count as u64))
+}
+
+/// Adds the cells of the counts.
+#[tactic(auto, unfolding(markup::specs::Markup::rendered))]
+fn append_counts(page: &mut Vec<u8>, counts: KeyCounts) -> Result<(), Memory>
+    ensures { OnOk result (page.new.items ≡ page.old.items ++ rendered (count_cells counts)) }
+{
+    append_count(page, counts.calls)?;
+    append_count(page, counts.clients)?;
+    append_count(page, counts.pending)?;
+    append_count(page, counts.at_once)
+}
+
+/// Adds the row of the key that has that number in the table.
+#[tactic(auto, unfolding(markup::specs::Markup::rendered))]
+fn append_row(
+    alloc: Global,
+    page: &mut Vec<u8>,
+    drawn: u16,
+    n: usize,
+    key: &JudgedKey<'_>,
+    counts: KeyCounts,
+) -> Result<(), Memory>
+    ensures { OnOk result (page.new.items ≡ page.old.items
+        ++ rendered (row_markup drawn n (judgement_of key.now) counts)) }
+{
+    let class = Attribute::Words(AttributeName::Class, verdict_class(key.finding));
+    append_opening(page, Element::Tr, &[class])?;
+    append_cell(alloc, page, drawn, n, key)?;
+    append_counts(page, counts)?;
+    append_closing(page, Element::Tr)
+}
+
+/// Counts the key's calls, and adds its row.
+fn add_row(
+    alloc: Global,
+    page: &mut Vec<u8>,
+    drawn: u16,
+    n: usize,
+    key: &JudgedKey<'_>,
+) -> Result<(), Memory>
+    ensures { OnOk result
+        (Adds (IsRowOf drawn n (judgement_of key.now)) page.old.items page.new.items) }
+{
+    let counts = counts_of(alloc, key.one.part)?;
+    append_row(alloc, page, drawn, n, key, counts)
+}
+
+/// Adds a row for each of these keys.
+fn add_rows(
+    alloc: Global,
+    page: &mut Vec<u8>,
+    drawn: u16,
+    keys: &[JudgedKey<'_>],
+) -> Result<(), Memory>
+    ensures { OnOk result (Adds (IsEach (IsRowOf drawn) 0 (map judgement_of keys.now))
+        page.old.items page.new.items) }
+{
+    for (n, key) in keys.iter().enumerate() {
+        add_row(alloc, page, drawn, n, key)?;
+    }
+    Ok(())
+}
+
+/// Adds the head of a column.
+#[tactic(auto, unfolding(markup::specs::Markup::rendered))]
+fn append_column(page: &mut Vec<u8>, words: &str) -> Result<(), Memory>
+    ensures { OnOk result (page.new.items ≡ page.old.items ++ rendered (column_head words.now)) }
+{
+    let scope = Attribute::Words(AttributeName::Scope, words::COLUMN_SCOPE);
+    append_opening(page, Element::Th, &[scope])?;
+    append_text(page, words)?;
+    append_closing(page, Element::Th)
+}
+
+/// Adds the heads of the columns.
+#[tactic(auto, unfolding(markup::specs::Markup::rendered))]
+fn append_columns(page: &mut Vec<u8>) -> Result<(), Memory>
+    ensures { OnOk result (page.new.items ≡ page.old.items ++ rendered columns_markup) }
+{
+    append_column(page, words::FOUND)?;
+    append_column(page, words::CALLS)?;
+    append_column(page, words::CLIENTS)?;
+    append_column(page, words::PENDING)?;
+    append_column(page, words::AT_ONCE)
+}
+
+/// Adds what stands in the table above its rows.
+#[tactic(auto, unfolding(markup::specs::Markup::rendered))]
+fn append_table_front(page: &mut Vec<u8>) -> Result<(), Memory>
+    ensures { OnOk result (page.new.items ≡ page.old.items ++ rendered table_front) }
+{
+    append_plain(page, Element::Caption, words::CAPTION)?;
+    append_opening(page, Element::Thead, &[])?;
+    append_opening(page, Element::Tr, &[])?;
+    append_columns(page)?;
+    append_closing(page, Element::Tr)?;
+    append_closing(page, Element::Thead)
+}
+
+/// Adds the table of the keys, of which the first have pictures.
+pub(crate) fn add_table(
+    alloc: Global,
+    page: &mut Vec<u8>,
+    drawn: u16,
+    keys: &[JudgedKey<'_>],
+) -> Result<(), Memory>
+    ensures { OnOk result
+        (Adds (IsTableOf drawn (map judgement_of keys.now)) page.old.items page.new.items) }
+{
+    let first = &keys[..keys.len().min(TABLE_SIZE)];
+    let class = Attribute::Words(AttributeName::Class, words::KEYS);
+    append_opening(page, Element::Table, &[class])?;
+    append_table_front(page)?;
+    append_opening(page, Element::Tbody, &[])?;
+    add_rows(alloc, page, drawn, first)?;
+    append_closing(page, Element::Tbody)?;
+    append_closing(page, Element::Table)
+}
+
+/// Says how many keys have no row, and how many of these are refused, if any has none.
+#[tactic(auto, unfolding(markup::specs::Markup::rendered))]
+fn append_rest(page: &mut Vec<u8>, count: usize, refused: usize) -> Result<(), Memory>
+    ensures { OnOk result (page.new.items
+        ≡ page.old.items ++ rendered (rest_line count refused)) }
+{
+    if count == 0 {
+        return Ok(());
+    }
+    append_counted(
+        page,
+        words::REST,
+        words::MORE,
+        count as u64,
+        words::MORE_REFUSED,
+        refused as u64,
+    )
+}
+
+/// Adds what stands below the table: how many keys have no row, and what the pictures' signs mean.
+pub(crate) fn append_below(page: &mut Vec<u8>, count: usize, refused: usize) -> Result<(), Memory>
+    ensures { OnOk result (page.new.items
+        ≡ page.old.items ++ rendered (below_table count refused)) }
+{
+    append_rest(
+        page,
+        count.saturating_sub(TABLE_SIZE),
+        refused.saturating_sub(TABLE_SIZE),
+    )?;
+    append_legend(page)
+}
