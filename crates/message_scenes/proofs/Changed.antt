@@ -1,0 +1,91 @@
+-- The first item that passes a test, found by its place and changed.
+use Rattle.std.proofs.Common.{ℕ, zero, suc, ◌≡◌, ◌+◌, ◌<◌, ◌≤◌, Bool, true, false, not, cond, ltb, List, [], ◌∷◌, length, Option, None, Some, get_or, set}
+use Rattle.std.proofs.Common.{refl, sym, ap, ◌∙◌, inl, inr, arith}
+use Rattle.std.specs.List.{find, position, position_or_len}
+use Rattle.std.specs.Prelude.{IfSome}
+use Rattle.std.proofs.lemmas.Bool.{cases_Bool, ltb-false}
+use Rattle.std.proofs.lemmas.List.Quantifiers.{position-Some}
+use Rattle.message_scenes.specs.Lists.{change_first}
+
+none_of : (b : Bool) (n : ℕ) → cond b (Some n) None ≡ None → b ≡ false
+none_of true n e = absurd cc
+none_of false n e = refl
+
+module _ {A : Type 0} (test : A → Bool) (f : A → A) where
+  -- the first item, by whether it passes
+  heads : (x : A) (xs : List A) (b : Bool) → test x ≡ b → change_first test f (x ∷ xs) ≡ cond b (f x ∷ xs) (x ∷ change_first test f xs)
+  heads x xs b e = ap (λ (t : Bool). cond t (f x ∷ xs) (x ∷ change_first test f xs)) e
+
+  -- at a place before which none passes
+  changed_at : (xs : List A) (k : ℕ) (d : A) → k < length xs → test (get_or xs k d) ≡ true
+      → ((j : ℕ) → j < k → test (get_or xs j d) ≡ false) → change_first test f xs ≡ set xs k (f (get_or xs k d))
+  changed_at [] k d inside passes before = absurd (omega (arith, inside))
+  changed_at (x ∷ xs) zero d inside passes before = heads x xs true passes
+  changed_at (x ∷ xs) (suc k) d inside passes before =
+      heads x xs false (before 0 (omega arith))
+      ∙ ap (λ (ys : List A). x ∷ ys) (changed_at xs k d (omega (arith, inside)) passes (λ j below. before (suc j) (omega (arith, below))))
+
+  -- where none passes nothing changes
+  nowhere : (xs : List A) → length xs ≤ position_or_len test xs → change_first test f xs ≡ xs
+  nowhere [] past = refl
+  nowhere (x ∷ xs) past = elim (cases_Bool (test x)) [
+    | inl hit ↦
+        let first : position_or_len test (x ∷ xs) ≡ 0 = ap (λ (b : Bool). cond (not b) (1 + position_or_len test xs) 0) hit in
+        absurd (omega (arith, past, first))
+    | inr miss ↦
+        let rest : position_or_len test (x ∷ xs) ≡ 1 + position_or_len test xs =
+        ap (λ (b : Bool). cond (not b) (1 + position_or_len test xs) 0) miss in
+        heads x xs false miss ∙ ap (λ (ys : List A). x ∷ ys) (nowhere xs (omega (arith, past, rest)))
+  ]
+
+  -- the item at the place that was found is changed
+  pub changed_here : (xs : List A) (k : ℕ) (d : A) → position test xs ≡ Some k → set xs k (f (get_or xs k d)) ≡ change_first test f xs
+  changed_here xs k d is =
+      let (inside, passes, before) = position-Some test xs k d is in
+      sym (changed_at xs k d inside passes before)
+
+  -- nothing changes where none was found
+  pub unchanged : (xs : List A) → position test xs ≡ None → xs ≡ change_first test f xs
+  unchanged xs is =
+      let past : length xs ≤ position_or_len test xs =
+      ltb-false (position_or_len test xs) (length xs) (none_of (ltb (position_or_len test xs) (length xs)) (position_or_len test xs) is) in
+      sym (nowhere xs past)
+
+-- the place that was found is one of the list
+pub found_bound : {A : Type 0} (test : A → Bool) (xs : List A) (place : Option ℕ) → place ≡ position test xs → IfSome place (λ k. k < length xs)
+found_bound test xs None is = tt
+found_bound test [] (Some k) is = absurd (let e : Some k ≡ None = is in cc)
+found_bound test (x ∷ xs) (Some k) is = (position-Some test (x ∷ xs) k x (sym is)).0
+
+module _ {A : Type 0} (test : A → Bool) where
+  -- the first item that passes, at a place before which none does
+  find_at_place : (xs : List A) (k : ℕ) (d : A) → k < length xs → test (get_or xs k d) ≡ true
+      → ((j : ℕ) → j < k → test (get_or xs j d) ≡ false) → find test xs ≡ Some (get_or xs k d)
+  find_at_place [] k d inside passes before = absurd (omega (arith, inside))
+  find_at_place (x ∷ xs) zero d inside passes before = ap (λ (b : Bool). cond b (Some x) (find test xs)) passes
+  find_at_place (x ∷ xs) (suc k) d inside passes before =
+      ap (λ (b : Bool). cond b (Some x) (find test xs)) (before 0 (omega arith))
+      ∙ find_at_place xs k d (omega (arith, inside)) passes (λ j below. before (suc j) (omega (arith, below)))
+
+  pub find_here : (xs : List A) (k : ℕ) (d : A) → position test xs ≡ Some k → find test xs ≡ Some (get_or xs k d)
+  find_here xs k d is =
+      let (inside, passes, before) = position-Some test xs k d is in
+      find_at_place xs k d inside passes before
+
+  -- no item passes
+  find_nowhere : (xs : List A) → length xs ≤ position_or_len test xs → find test xs ≡ None
+  find_nowhere [] past = refl
+  find_nowhere (x ∷ xs) past = elim (cases_Bool (test x)) [
+    | inl hit ↦
+        let first : position_or_len test (x ∷ xs) ≡ 0 = ap (λ (b : Bool). cond (not b) (1 + position_or_len test xs) 0) hit in
+        absurd (omega (arith, past, first))
+    | inr miss ↦
+        let rest : position_or_len test (x ∷ xs) ≡ 1 + position_or_len test xs =
+        ap (λ (b : Bool). cond (not b) (1 + position_or_len test xs) 0) miss in
+        ap (λ (b : Bool). cond b (Some x) (find test xs)) miss ∙ find_nowhere xs (omega (arith, past, rest))
+  ]
+
+  pub find_none : (xs : List A) → position test xs ≡ None → find test xs ≡ None
+  find_none xs is =
+      find_nowhere xs
+      (ltb-false (position_or_len test xs) (length xs) (none_of (ltb (position_or_len test xs) (length xs)) (position_or_len test xs) is))

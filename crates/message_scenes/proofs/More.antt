@@ -1,0 +1,53 @@
+-- The shapes of a scene after one row more.
+use Rattle.std.proofs.Common.{ℕ, ◌≡◌, List, [], ◌∷◌, ◌++◌, length, None, Some, get_or, sym, ap, ◌∙◌}
+use Rattle.std.specs.Prelude.{option_to_list}
+use Rattle.network.specs.Flights.{message_of}
+use Rattle.std.specs.List.{find, position, slice_get}
+use Rattle.message_scenes.specs.Arrows.{arrows_after, arrows_by, copy_arrow, is_under_way}
+use Rattle.message_scenes.specs.Calls.{calls_after, calls_by}
+use Rattle.message_scenes.specs.Replicas.{change_of, downs_after}
+use Rattle.message_scenes.specs.Shapes.{joined_after, with_step}
+use Rattle.message_scenes.specs.Sketches.{drawn_by, drawn_on, shapes_of}
+use Rattle.message_scenes.specs.Taken.{TakenStep}
+use Rattle.message_scenes.specs.declared.arrows.Arrow.{Arrow}
+use Rattle.message_scenes.specs.declared.scene.MessageScene.{MessageScene}
+use Rattle.message_scenes.specs.declared.sketch.Sketch.{Sketch}
+use Rattle.message_scenes.proofs.Changed.{find_here, find_none}
+
+pub shapes_more : (old new : MessageScene) (t : TakenStep) (row sent recorded : ℕ)
+    → row ≡ length old.rows.items → sent ≡ t.before.pool.sent → recorded ≡ length t.before.history.rows
+    → new.rows.items ≡ old.rows.items ++ t.command ∷ [] → new.clients.items ≡ joined_after t.step old.clients.items
+    → new.arrows.items ≡ arrows_by row t.step sent (message_of t.after.pool.flights sent) old.arrows.items
+    → new.calls.items ≡ calls_by row t.step (slice_get t.after.history.rows recorded) old.calls.items
+    → new.changes.items ≡ old.changes.items ++ option_to_list (change_of row t.before t.step)
+    → new.downs.items ≡ downs_after row t.step old.downs.items → shapes_of new ≡ with_step (shapes_of old) t
+unfolding with_step arrows_after calls_after
+shapes_more old new t row sent recorded is_row is_sent is_recorded rows joined arrows calls changes downs = λ i. record {
+  rows = rows i;
+  joined = joined i;
+  arrows = (arrows ∙ (λ j. arrows_by (is_row j) t.step (is_sent j) (message_of t.after.pool.flights (is_sent j)) old.arrows.items)) i;
+  calls = (calls ∙ (λ j. calls_by (is_row j) t.step (slice_get t.after.history.rows (is_recorded j)) old.calls.items)) i;
+  changes = (changes ∙ (λ j. old.changes.items ++ option_to_list (change_of (is_row j) t.before t.step))) i;
+  downs = (downs ∙ (λ j. downs_after (is_row j) t.step old.downs.items)) i;
+}
+
+-- a step that is shown
+pub drawn_shown : (old mid : Sketch) (new : MessageScene) (t : TakenStep)
+    → drawn_on (drawn_by old) t ≡ record (drawn_by mid) { shapes = with_step (shapes_of old.scene) t }
+    → mid.scene ≡ record old.scene { omitted = mid.scene.omitted } → shapes_of new ≡ with_step (shapes_of mid.scene) t
+    → new.omitted ≡ mid.scene.omitted → drawn_by (record mid { scene = new }) ≡ drawn_on (drawn_by old) t
+drawn_shown old mid new t shown same more left_out =
+    let all : shapes_of new ≡ with_step (shapes_of old.scene) t = more ∙ ap (λ (s : MessageScene). with_step (shapes_of s) t) same in
+    let now : drawn_by (record mid { scene = new }) ≡ record (drawn_by mid) { shapes = with_step (shapes_of old.scene) t } =
+    λ i. record { shapes = all i; left = mid.left; omitted = left_out i } in
+    now ∙ sym shown
+
+-- a further arrow, like the first one of the flight under way
+pub copied_found : (f row : ℕ) (arrows : List Arrow) (k : ℕ) (d new : Arrow) → position (is_under_way f) arrows ≡ Some k
+    → d ≡ get_or arrows k d → new ≡ record d { begins = row } → new ∷ [] ≡ copy_arrow row (find (is_under_way f) arrows)
+copied_found f row arrows k d new is item like =
+    ap (λ (a : Arrow). a ∷ []) (like ∙ ap (λ (a : Arrow). record a { begins = row }) item)
+    ∙ ap (copy_arrow row) (sym (find_here (is_under_way f) arrows k d is))
+
+pub copied_none : (f row : ℕ) (arrows : List Arrow) → position (is_under_way f) arrows ≡ None → [] ≡ copy_arrow row (find (is_under_way f) arrows)
+copied_none f row arrows is = ap (copy_arrow row) (sym (find_none (is_under_way f) arrows is))

@@ -1,0 +1,36 @@
+-- A sketch of all commands is the script's scene.
+use Rattle.std.proofs.Common.{ℕ, ◌≡◌, List, ap, ◌∙◌, subst}
+use Rattle.std.specs.Prelude.{take}
+use Rattle.fault_script.specs.declared.command.Script.{Script}
+use Rattle.message_scenes.specs.Running.{IsSketchOf}
+use Rattle.message_scenes.specs.Scenes.{IsRisingOf, IsSceneOf, Shows}
+use Rattle.message_scenes.specs.Shapes.{Shapes, no_shapes, with_steps}
+use Rattle.message_scenes.specs.Sketches.{Drawn, shapes_of}
+use Rattle.message_scenes.specs.declared.scene.MessageScene.{MessageScene}
+use Rattle.message_scenes.specs.declared.sketch.Sketch.{Sketch}
+use Rattle.message_scenes.proofs.FirstSteps.{first_drawn, omitted_first}
+
+-- a scene with its clients in rising order
+shows : (shapes : Shapes) (old new : MessageScene) → shapes_of old ≡ shapes → new ≡ record old { clients = new.clients }
+    → IsRisingOf old.clients.items new.clients.items → Shows shapes new
+shows shapes old new is others risen = record {
+  rows = ap (λ (s : MessageScene). s.rows.items) others ∙ ap (λ (s : Shapes). s.rows) is;
+  clients = subst (λ (names : List ℕ). IsRisingOf names new.clients.items) (ap (λ (s : Shapes). s.joined) is) risen;
+  arrows = ap (λ (s : MessageScene). s.arrows.items) others ∙ ap (λ (s : Shapes). s.arrows) is;
+  calls = ap (λ (s : MessageScene). s.calls.items) others ∙ ap (λ (s : Shapes). s.calls) is;
+  changes = ap (λ (s : MessageScene). s.changes.items) others ∙ ap (λ (s : Shapes). s.changes) is;
+  downs = ap (λ (s : MessageScene). s.downs.items) others ∙ ap (λ (s : Shapes). s.downs) is;
+}
+
+pub all_shown : (script : Script) (most : ℕ) (sketch : Sketch) (scene : MessageScene)
+    → IsSketchOf script.config script.commands.items most sketch → scene ≡ record sketch.scene { clients = scene.clients }
+    → IsRisingOf sketch.scene.clients.items scene.clients.items → IsSceneOf script most scene
+all_shown script most sketch scene all others risen = record {
+  last = all.last;
+  taken = all.taken;
+  takes = all.takes;
+  replicas = ap (λ (s : MessageScene). s.replicas) others ∙ all.replicas;
+  shows = shows (with_steps no_shapes (take most all.taken)) sketch.scene scene
+      (ap (λ (d : Drawn). d.shapes) all.drawn ∙ first_drawn most all.taken) others risen;
+  omitted = ap (λ (s : MessageScene). s.omitted) others ∙ ap (λ (d : Drawn). d.omitted) all.drawn ∙ omitted_first most all.taken;
+}

@@ -1,0 +1,11 @@
+pub mod Lists
+pub mod Arrows
+pub mod Calls
+pub mod Replicas
+pub mod Taken
+pub mod Shapes
+pub mod Sketches
+pub mod Scenes
+pub mod Running
+pub mod Copies
+pub mod CallBars

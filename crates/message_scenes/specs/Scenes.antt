@@ -1,0 +1,34 @@
+-- The scene of a script's run: what a diagram of its messages shows.
+use Rattle.std.specs.Prelude.{ℕ, ◌≡◌, ◌-◌, ◌↔◌, List, length, min, take, Contains}
+use Rattle.std.specs.List.Sorted.{IsStrictlyIncreasing}
+use Rattle.world_steps.specs.Systems.{opening}
+use Rattle.world_steps.specs.declared.system.System.{System}
+use Rattle.fault_script.specs.declared.command.Script.{Script}
+use Rattle.message_scenes.specs.Shapes.{Shapes, no_shapes, with_steps}
+use Rattle.message_scenes.specs.Sketches.{last_count}
+use Rattle.message_scenes.specs.Taken.{TakenStep, TakesAll}
+use Rattle.message_scenes.specs.declared.scene.MessageScene.{MessageScene}
+
+-- the names in rising order, each once
+pub record IsRisingOf (names rising : List ℕ) : Type 0 where
+  pub rises : IsStrictlyIncreasing rising
+  pub same : (name : ℕ) → Contains rising name ↔ Contains names name
+
+-- the scene shows the shapes, with the clients in rising order
+pub record Shows (shapes : Shapes) (scene : MessageScene) : Type 0 where
+  pub rows : scene.rows.items ≡ shapes.rows
+  pub clients : IsRisingOf shapes.joined scene.clients.items
+  pub arrows : scene.arrows.items ≡ shapes.arrows
+  pub calls : scene.calls.items ≡ shapes.calls
+  pub changes : scene.changes.items ≡ shapes.changes
+  pub downs : scene.downs.items ≡ shapes.downs
+
+-- the scene is that of a run of the script: it shows at most so many of the steps that were taken,
+-- and says how many it leaves out
+pub record IsSceneOf (script : Script) (most : ℕ) (scene : MessageScene) : Type 0 where
+  pub last : System
+  pub taken : List TakenStep
+  pub takes : TakesAll (opening script.config) script.commands.items last taken
+  pub replicas : scene.replicas ≡ length script.config.quorums.votes
+  pub shows : Shows (with_steps no_shapes (take most taken)) scene
+  pub omitted : scene.omitted ≡ min (length taken - most) last_count

@@ -1,0 +1,199 @@
+//! Arrows: each copy of a message has one.
+ghost use Rattle.std.specs.Prelude.{◌≡◌, ◌<◌, ◌++◌, IfOk, IfSome, OnOk, length, option_copied};
+ghost use Rattle.std.specs.Prelude.{option_to_list};
+ghost use Rattle.std.specs.List.{find, position};
+ghost use Rattle.message_scenes.specs.Arrows.{arrows_by, copy_arrow, end_flight, is_open};
+ghost use Rattle.message_scenes.specs.Arrows.{is_under_way, replier, reply_arrow, request_arrow};
+
+use network::Message;
+use replica::Reply;
+use tag::{ClientId, Memory, ReplicaId};
+use world_steps::Step;
+
+/// Where a copy of a message ends.
+#[derive(Clone, Copy, Debug, PartialEq, Eq)]
+pub enum ArrowEnd {
+    /// It arrives by the step of that row.
+    Arrives(usize),
+    /// It is lost by the step of that row.
+    Lost(usize),
+    /// It is still under way after the last row.
+    Open,
+}
+
+/// A copy of a message: a request of a client to a replica, or a reply of a replica to a client.
+#[derive(Debug, Drop)]
+pub struct Arrow {
+    pub flight: u32,
+    pub client: ClientId,
+    pub replica: ReplicaId,
+    /// What it asks or tells, and which way it goes.
+    pub message: Message,
+    /// The row of the step that sent it or repeated it.
+    pub begins: usize,
+    pub end: ArrowEnd,
+}
+
+impl ArrowEnd {
+    /// Whether it isn't there yet.
+    pub fn is_open(&self) -> bool
+        ensures { result ≡ is_open self.now }
+    {
+        matches!(self, ArrowEnd::Open)
+    }
+}
+
+impl Arrow {
+    /// Whether it is that of a copy of the flight that is under way.
+    fn is_under_way(&self, flight: u32) -> bool
+        ensures { result ≡ is_under_way flight self.now }
+    {
+        self.flight == flight && self.end.is_open()
+    }
+}
+
+/// The place of the arrow of the flight that was sent first, of those under way.
+fn position_of(arrows: &[Arrow], flight: u32) -> Option<usize>
+    ensures { result ≡ position (is_under_way flight) arrows.now }
+{
+    arrows.iter().position(|arrow| arrow.is_under_way(flight))
+}
+
+/// The same, which is a place of the list.
+fn first_of(arrows: &[Arrow], flight: u32) -> Option<usize>
+    ensures place { result ≡ position (is_under_way flight) arrows.now }
+    ensures bound { IfSome result (λ k. k < length arrows.now) }
+{
+    position_of(arrows, flight)
+}
+
+/// Ends the arrow of the flight that was sent first, of those under way.
+fn end_flight(arrows: &mut [Arrow], flight: u32, end: ArrowEnd)
+    ensures { arrows.new ≡ end_flight flight end arrows.old }
+{
+    match first_of(arrows, flight) {
+        Some(k) => arrows[k].end = end,
+        None => {}
+    }
+}
+
+/// The replica that the reply is from.
+fn replier(reply: &Reply) -> ReplicaId
+    ensures { result ≡ replier reply.now }
+{
+    match reply {
+        Reply::Held { replica, .. } | Reply::Kept { replica, .. } => *replica,
+    }
+}
+
+/// Adds the arrow of a request that the client sends to the replica.
+fn add_request(
+    arrows: &mut Vec<Arrow>,
+    row: usize,
+    client: ClientId,
+    replica: ReplicaId,
+    flight: u32,
+    sent: Option<&Message>,
+) -> Result<(), Memory>
+    ensures { OnOk result (arrows.new.items ≡ arrows.old.items
+        ++ request_arrow row client replica flight (option_copied sent.entry)) }
+{
+    if let Some(message) = sent {
+        arrows.push(Arrow {
+            flight,
+            client,
+            replica,
+            message: message.copy()?,
+            begins: row,
+            end: ArrowEnd::Open,
+        })?;
+    }
+    Ok(())
+}
+
+/// Adds the arrow of a reply, if one was sent.
+fn add_reply(
+    arrows: &mut Vec<Arrow>,
+    row: usize,
+    flight: u32,
+    sent: Option<&Message>,
+) -> Result<(), Memory>
+    ensures { OnOk result (arrows.new.items ≡ arrows.old.items
+        ++ reply_arrow row flight (option_copied sent.entry)) }
+{
+    if let Some(Message::ToClient(client, reply)) = sent {
+        arrows.push(Arrow {
+            flight,
+            client: *client,
+            replica: replier(reply),
+            message: Message::ToClient(*client, reply.copy()?),
+            begins: row,
+            end: ArrowEnd::Open,
+        })?;
+    }
+    Ok(())
+}
+
+/// A further arrow of the message, from that row.
+fn copy_from(arrow: &Arrow, row: usize) -> Result<Arrow, Memory>
+    ensures { IfOk result (λ copy. copy ≡ record arrow.now { begins = row }) }
+{
+    Ok(Arrow {
+        flight: arrow.flight,
+        client: arrow.client,
+        replica: arrow.replica,
+        message: arrow.message.copy()?,
+        begins: row,
+        end: arrow.end,
+    })
+}
+
+/// A further arrow of the flight, from that row, if a copy of it is under way.
+fn copied(arrows: &[Arrow], row: usize, flight: u32) -> Result<Option<Arrow>, Memory>
+    ensures { IfOk result (λ copy.
+        option_to_list copy ≡ copy_arrow row (find (is_under_way flight) arrows.now)) }
+{
+    match first_of(arrows, flight) {
+        Some(k) => Ok(Some(copy_from(&arrows[k], row)?)),
+        None => Ok(None),
+    }
+}
+
+/// Adds the arrow of a copy more of the flight.
+fn add_copy(arrows: &mut Vec<Arrow>, row: usize, flight: u32) -> Result<(), Memory>
+    ensures { OnOk result (arrows.new.items ≡ arrows.old.items
+        ++ copy_arrow row (find (is_under_way flight) arrows.old.items)) }
+{
+    if let Some(arrow) = copied(arrows, row, flight)? {
+        arrows.push(arrow)?;
+    }
+    Ok(())
+}
+
+/// Adds and ends arrows by the step of the row, which may have sent a message as that flight.
+pub(crate) fn add_arrows(
+    arrows: &mut Vec<Arrow>,
+    row: usize,
+    step: &Step,
+    flight: u32,
+    sent: Option<&Message>,
+) -> Result<(), Memory>
+    ensures { OnOk result (arrows.new.items
+        ≡ arrows_by row step.now flight (option_copied sent.entry) arrows.old.items) }
+{
+    match step {
+        Step::Send { client, replica } => {
+            add_request(arrows, row, *client, *replica, flight, sent)
+        }
+        Step::Deliver { flight: number } => {
+            end_flight(arrows, *number, ArrowEnd::Arrives(row));
+            add_reply(arrows, row, flight, sent)
+        }
+        Step::Lose { flight: number } => {
+            end_flight(arrows, *number, ArrowEnd::Lost(row));
+            Ok(())
+        }
+        Step::Repeat { flight: number } => add_copy(arrows, row, *number),
+        _ => Ok(()),
+    }
+}

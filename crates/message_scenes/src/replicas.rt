@@ -1,0 +1,132 @@
+//! Replicas: where what they hold changes, and when they are down.
+ghost use Rattle.std.specs.Prelude.{◌≡◌, ◌<◌, IfOk, IfSome, OnOk, length, slice_get};
+ghost use Rattle.std.specs.List.{position};
+ghost use Rattle.message_scenes.specs.Lists.{change_first};
+ghost use Rattle.message_scenes.specs.Replicas.{change_by, change_of, downs_after};
+ghost use Rattle.message_scenes.specs.Replicas.{is_down_time_of, over};
+
+use network::Message;
+use replica::Request;
+use tag::{Key, Memory, ReplicaId, Tag, Value};
+use world_steps::{Step, World};
+
+/// What a replica comes to hold for a key by the step of a row.
+#[derive(Debug, Drop)]
+pub struct Change {
+    pub row: usize,
+    pub replica: ReplicaId,
+    pub key: Key,
+    pub tag: Tag,
+    pub value: Option<Value>,
+}
+
+/// A time for which a replica is down.
+#[derive(Debug, Drop)]
+pub struct DownTime {
+    pub replica: ReplicaId,
+    /// The row of the step by which it goes down.
+    pub stops: usize,
+    /// The row of the step by which it goes up again; `None` if it is down after the last row.
+    pub starts: Option<usize>,
+}
+
+impl DownTime {
+    /// Whether it is the replica's, and isn't over.
+    fn is_of(&self, replica: ReplicaId) -> bool
+        ensures { result ≡ is_down_time_of replica self.now }
+    {
+        self.replica == replica && self.starts.is_none()
+    }
+}
+
+/// What the replica of that number comes to hold by the request.
+fn change_by(
+    world: &World,
+    row: usize,
+    number: ReplicaId,
+    request: &Request,
+) -> Result<Option<Change>, Memory>
+    ensures { IfOk result (λ change.
+        change ≡ change_by row number (slice_get world.now.nodes number) request.now) }
+{
+    let (
+        Some(replica),
+        Request::Put {
+            key,
+            tag,
+            value,
+            ..
+        },
+    ) = (world.replica(number), request)
+    else {
+        return Ok(None);
+    };
+    if replica.held(key).0 >= *tag {
+        return Ok(None);
+    }
+    Ok(Some(Change {
+        row,
+        replica: number,
+        key: key.copy()?,
+        tag: *tag,
+        value: Value::copy_of(value.as_ref())?,
+    }))
+}
+
+/// What a replica comes to hold by the step, which isn't taken yet.
+#[tactic(auto, unfolding(crate::specs::Replicas::change_of))]
+pub(crate) fn change_of(world: &World, row: usize, step: &Step) -> Result<Option<Change>, Memory>
+    ensures { IfOk result (λ change. change ≡ change_of row world.now step.now) }
+{
+    let Step::Deliver { flight } = step else {
+        return Ok(None);
+    };
+    match world.pool().look(*flight) {
+        Some(Message::ToReplica(number, request)) => change_by(world, row, *number, request),
+        _ => Ok(None),
+    }
+}
+
+/// The place of the time for which the replica is down.
+fn position_of(downs: &[DownTime], replica: ReplicaId) -> Option<usize>
+    ensures { result ≡ position (is_down_time_of replica) downs.now }
+{
+    downs.iter().position(|time| time.is_of(replica))
+}
+
+/// The same, which is a place of the list.
+fn place_of(downs: &[DownTime], replica: ReplicaId) -> Option<usize>
+    ensures place { result ≡ position (is_down_time_of replica) downs.now }
+    ensures bound { IfSome result (λ k. k < length downs.now) }
+{
+    position_of(downs, replica)
+}
+
+/// Ends the time for which the replica is down.
+fn start(downs: &mut [DownTime], row: usize, replica: ReplicaId)
+    ensures { downs.new ≡ change_first (is_down_time_of replica) (over row) downs.old }
+{
+    match place_of(downs, replica) {
+        Some(k) => downs[k].starts = Some(row),
+        None => {}
+    }
+}
+
+/// Begins or ends a time for which a replica is down, by the step of the row.
+#[tactic(auto, unfolding(crate::specs::Replicas::downs_after))]
+pub(crate) fn add_downs(downs: &mut Vec<DownTime>, row: usize, step: &Step) -> Result<(), Memory>
+    ensures { OnOk result (downs.new.items ≡ downs_after row step.now downs.old.items) }
+{
+    match step {
+        Step::StopReplica { replica } => {
+            downs.push(DownTime {
+                replica: *replica,
+                stops: row,
+                starts: None,
+            })?;
+        }
+        Step::StartReplica { replica } => start(downs, row, *replica),
+        _ => {}
+    }
+    Ok(())
+}
