@@ -2,10 +2,11 @@
 use crate::messages::reply_of;
 use crate::texts::{say_request, say_returned, say_set, say_taken};
 use crate::words::Words;
-use client_phases::{Client, Phase};
+use client_phases::{Client, Phase, Taken};
 use replica::Reply;
-use std::alloc::{AllocError, Global};
+use std::alloc::Global;
 use tag::{Action, Key, OpId};
+use test_rows::Answer;
 
 /// `4 read x`, or `4 write x b`.
 fn call_of(alloc: Global, mut words: Words<'_>) -> Option<(OpId, Key, Action)> {
@@ -15,97 +16,100 @@ fn call_of(alloc: Global, mut words: Words<'_>) -> Option<(OpId, Key, Action)> {
     Some((op, key, words.action(alloc, kind)?))
 }
 
-fn invoke(
-    out: &mut String,
-    client: &mut Client,
-    call: Option<(OpId, Key, Action)>,
-) -> Result<(), AllocError> {
+/// What comes of an invocation.
+fn invoked(client: &mut Client, call: Option<(OpId, Key, Action)>) -> &'static str {
     if client.phase() != Phase::Idle {
-        return out.push_str("busy");
+        return "busy";
     }
     match call {
         Some((op, key, action)) => {
             client.invoke(op, key, action);
-            out.push_str("invoked")
+            "invoked"
         }
-        None => out.push_str("NO SUCH CALL"),
+        None => "NO SUCH CALL",
     }
 }
 
-/// What the client makes of a reply, and what it foresaw, where that is another.
-fn hear(out: &mut String, client: &mut Client, reply: Reply) -> Result<(), AllocError> {
+/// What the client made of a reply, and what it foresaw, where that is another.
+fn say_heard(out: &mut Answer, taken: Taken, foreseen: Taken) {
+    say_taken(out, taken);
+    if taken != foreseen {
+        out.push(", FORESEEN AS ");
+        say_taken(out, foreseen);
+    }
+}
+
+fn hear(out: &mut Answer, client: &mut Client, reply: Reply) {
     if let Reply::Held { tag, .. } = &reply
         && tag.number() >= 1_000_000
     {
-        return out.push_str("A NUMBER TOO GREAT");
+        return out.push("A NUMBER TOO GREAT");
     }
     let foreseen = client.foresee(&reply);
     let taken = client.take(reply);
-    say_taken(out, taken)?;
-    if taken != foreseen {
-        out.push_str(", FORESEEN AS ")?;
-        say_taken(out, foreseen)?;
-    }
-    Ok(())
+    say_heard(out, taken, foreseen);
 }
 
-fn respond(out: &mut String, client: &mut Client) -> Result<(), AllocError> {
+fn respond(out: &mut Answer, client: &mut Client) {
     if client.phase() != Phase::Ready {
-        return out.push_str("not ready");
+        return out.push("not ready");
     }
     let returned = client.respond();
-    say_returned(out, &returned)
+    say_returned(out, &returned);
 }
 
-fn say_next_request(out: &mut String, client: &Client) -> Result<(), AllocError> {
+fn say_next_request(out: &mut Answer, client: &Client) {
     match client.request() {
         Ok(Some(request)) => say_request(out, &request),
-        Ok(None) => out.push_str("nothing"),
-        Err(_) => out.push_str("NO MEMORY"),
+        Ok(None) => out.push("nothing"),
+        Err(_) => out.push("NO MEMORY"),
     }
 }
 
-fn say_next_answer(out: &mut String, client: &Client) -> Result<(), AllocError> {
+fn say_next_answer(out: &mut Answer, client: &Client) {
     match client.answer() {
         Ok(Some(returned)) => say_returned(out, &returned),
-        Ok(None) => out.push_str("nothing"),
-        Err(_) => out.push_str("NO MEMORY"),
+        Ok(None) => out.push("nothing"),
+        Err(_) => out.push("NO MEMORY"),
     }
 }
 
 /// Where the client stands, its pending call, and whom it counted in this phase.
-fn say_state(out: &mut String, client: &Client) -> Result<(), AllocError> {
+fn say_state(out: &mut Answer, client: &Client) {
     let phase = client.phase();
-    write!(out, "{phase:?}, ")?;
     match client.pending() {
         Some(op) => {
             let op = op.0;
-            write!(out, "call {op}, ")?;
+            write!(out, "{phase:?}, call {op}");
         }
-        None => out.push_str("no call, ")?,
+        None => write!(out, "{phase:?}, no call"),
     }
     let count = client.counted().count();
-    write!(out, "counted {count}")?;
-    say_set(out, client.counted())
+    write!(out, ", counted {count}");
+    say_set(out, client.counted());
+}
+
+/// What a client answers to a reply.
+fn hear_line(out: &mut Answer, client: &mut Client, line: &str) {
+    match reply_of(out.alloc(), Words { rest: line }) {
+        Some(reply) => hear(out, client, reply),
+        None => out.push("NO SUCH STEP"),
+    }
 }
 
 /// What a client answers to a step or a question.
-pub fn client_answers(out: &mut String, client: &mut Client, line: &str) -> Result<(), AllocError> {
-    let alloc = *out.allocator();
+pub fn client_answers(out: &mut Answer, client: &mut Client, line: &str) {
     let mut words = Words { rest: line };
     match words.word() {
-        "invoke" => invoke(out, client, call_of(alloc, words)),
+        "invoke" => out.push(invoked(client, call_of(out.alloc(), words))),
         "respond" => respond(out, client),
         "stop" => {
             client.stop();
-            out.push_str("stopped")
+            out.push("stopped");
         }
         "request?" => say_next_request(out, client),
         "answer?" => say_next_answer(out, client),
         "state?" => say_state(out, client),
-        _ => match reply_of(alloc, Words { rest: line }) {
-            Some(reply) => hear(out, client, reply),
-            None => out.push_str("NO SUCH STEP"),
-        },
+        _ => hear_line(out, client, line),
     }
 }

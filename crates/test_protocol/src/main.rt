@@ -17,38 +17,32 @@ mod worlds;
 use std::alloc::{AllocError, Global};
 use std::process::ExitCode;
 use subject::Subject;
-use test_rows::run_rows;
+use test_rows::{Answer, run_rows};
 
 /// Says what comes of a line of steps, divided as they are.
-fn say_steps(out: &mut String, subject: &mut Subject, line: &str) -> Result<(), AllocError> {
+fn say_steps(out: &mut Answer, subject: &mut Subject, line: &str) {
     for (place, step) in line.split(" / ").enumerate() {
         if place > 0 {
-            out.push_str(" / ")?;
+            out.push(" / ");
         }
-        subject.answer(out, step)?;
+        subject.answer(out, step);
     }
-    out.push_str("\n")
+    out.push("\n");
 }
 
-/// Says what comes of the lines of steps, a line for each.
-fn say_lines(out: &mut String, subject: &mut Subject, input: &str) -> Result<(), AllocError> {
-    for line in input.lines() {
-        say_steps(out, subject, line)?;
-    }
-    Ok(())
-}
-
-/// Says what comes of a row's steps, which begin with nothing.
-fn say_input(out: &mut String, input: &str) -> Result<(), AllocError> {
+/// Says what comes of a row's steps, which begin with nothing, a line for each line of them.
+fn say_input(out: &mut Answer, input: &str) {
     let mut subject = Subject::None;
-    say_lines(out, &mut subject, input)
+    for line in input.lines() {
+        say_steps(out, &mut subject, line);
+    }
 }
 
 /// What comes of the steps.
 fn found(alloc: Global, input: &str) -> Result<String, AllocError> {
-    let mut out = String::new(alloc);
-    say_input(&mut out, input)?;
-    Ok(out)
+    let mut out = Answer::new(alloc);
+    say_input(&mut out, input);
+    out.text()
 }
 
 fn main(rt: HostRuntime) -> ExitCode {

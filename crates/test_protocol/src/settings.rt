@@ -2,8 +2,8 @@
 use crate::words::Words;
 use client_phases::{Client, ReadMode};
 use quorum::Quorums;
-use std::alloc::{AllocError, Global};
 use tag::ClientId;
+use test_rows::Answer;
 use world_steps::Config;
 
 /// The words `replicas 3`, `calls 10`, `flights 10`, `reads short`, `votes 1,1,3`, `ask 3` and `put 3`
@@ -20,7 +20,7 @@ pub struct Settings {
 }
 
 impl Settings {
-    pub fn read(alloc: Global, mut words: Words<'_>) -> Result<Settings, AllocError> {
+    pub fn read(out: &mut Answer, mut words: Words<'_>) -> Settings {
         let mut settings = Settings {
             replicas: 0,
             calls: 1000,
@@ -31,23 +31,22 @@ impl Settings {
             put: 0,
         };
         for _ in 0..7 {
-            settings.take(alloc, &mut words)?;
+            settings.take(out, &mut words);
         }
-        Ok(settings)
+        settings
     }
 
-    fn take(&mut self, alloc: Global, words: &mut Words<'_>) -> Result<(), AllocError> {
+    fn take(&mut self, out: &mut Answer, words: &mut Words<'_>) {
         match words.word() {
             "replicas" => self.replicas = words.small().unwrap_or(0),
             "calls" => self.calls = words.number().unwrap_or(0),
             "flights" => self.flights = words.number().unwrap_or(0),
             "reads" => self.reads = words.reads(),
-            "votes" => self.votes = Some(words.votes(alloc)?),
+            "votes" => self.votes = Some(words.votes(out)),
             "ask" => self.ask = words.small().unwrap_or(0),
             "put" => self.put = words.small().unwrap_or(0),
             _ => {}
         }
-        Ok(())
     }
 
     pub fn quorums(&self) -> Option<Quorums> {

@@ -15,6 +15,7 @@ use random_steps::RandomSteps;
 use replica::Replica;
 use std::alloc::{AllocError, Global};
 use tag::Memory;
+use test_rows::Answer;
 use world_steps::{Config, Step, World, run};
 
 #[derive(Drop)]
@@ -28,28 +29,38 @@ pub enum Subject {
     Quorums(Quorums),
 }
 
-/// A world, and what draws its random steps.
-fn world_of(alloc: Global, words: Words<'_>) -> Result<Subject, Memory> {
-    match Settings::read(alloc, words)?.config() {
-        Some(config) => Ok(Subject::World(World::new(alloc, config)?, RandomSteps::new(42))),
-        None => Ok(Subject::None),
+/// A world that was made, and what draws its random steps.
+fn begun(out: &mut Answer, world: Result<World, Memory>) -> Subject {
+    match world {
+        Ok(world) => Subject::World(world, RandomSteps::new(42)),
+        Err(Memory) => {
+            out.refuse();
+            Subject::None
+        }
     }
 }
 
-fn client_of(alloc: Global, mut words: Words<'_>) -> Result<Subject, AllocError> {
+fn world_of(out: &mut Answer, config: Option<Config>) -> Subject {
+    match config {
+        Some(config) => begun(out, World::new(out.alloc(), config)),
+        None => Subject::None,
+    }
+}
+
+fn client_of(out: &mut Answer, mut words: Words<'_>) -> Subject {
     let Some(name) = words.client() else {
-        return Ok(Subject::None);
+        return Subject::None;
     };
-    match Settings::read(alloc, words)?.client(name) {
-        Some(client) => Ok(Subject::Client(client)),
-        None => Ok(Subject::None),
+    match Settings::read(out, words).client(name) {
+        Some(client) => Subject::Client(client),
+        None => Subject::None,
     }
 }
 
-fn quorums_of(alloc: Global, words: Words<'_>) -> Result<Subject, AllocError> {
-    match Settings::read(alloc, words)?.quorums() {
-        Some(quorums) => Ok(Subject::Quorums(quorums)),
-        None => Ok(Subject::None),
+fn quorums_of(quorums: Option<Quorums>) -> Subject {
+    match quorums {
+        Some(quorums) => Subject::Quorums(quorums),
+        None => Subject::None,
     }
 }
 
@@ -61,21 +72,26 @@ fn replica_of(alloc: Global, mut words: Words<'_>) -> Subject {
 }
 
 /// A list of steps, empty yet, for a run from that opening world.
-fn steps_of(alloc: Global, words: Words<'_>) -> Result<Subject, AllocError> {
-    match Settings::read(alloc, words)?.config() {
-        Some(config) => Ok(Subject::Steps(config, Vec::new(alloc))),
-        None => Ok(Subject::None),
+fn steps_of(alloc: Global, config: Option<Config>) -> Subject {
+    match config {
+        Some(config) => Subject::Steps(config, Vec::new(alloc)),
+        None => Subject::None,
+    }
+}
+
+/// Lists a step.
+fn list(out: &mut Answer, steps: &mut Vec<Step>, step: Step) {
+    match steps.push(step) {
+        Ok(()) => out.push("listed"),
+        Err(_) => out.refuse(),
     }
 }
 
 /// Lists the step that a line writes.
-fn list(out: &mut String, steps: &mut Vec<Step>, line: &str) -> Result<(), AllocError> {
-    match step_of(*out.allocator(), Words { rest: line }) {
-        Some(step) => {
-            steps.push(step)?;
-            out.push_str("listed")
-        }
-        None => out.push_str("NO SUCH STEP"),
+fn list_line(out: &mut Answer, steps: &mut Vec<Step>, line: &str) {
+    match step_of(out.alloc(), Words { rest: line }) {
+        Some(step) => list(out, steps, step),
+        None => out.push("NO SUCH STEP"),
     }
 }
 
@@ -87,32 +103,42 @@ fn is_made(kind: &str) -> bool {
     )
 }
 
-/// The subject that a line makes.
-fn made(alloc: Global, kind: &str, mut words: Words<'_>) -> Result<Subject, Memory> {
+/// The subject of that kind with those settings.
+fn made_so(out: &mut Answer, kind: &str, settings: &Settings) -> Subject {
     match kind {
-        "world" => world_of(alloc, words),
-        "steps" => Ok(steps_of(alloc, words)?),
-        "client" => Ok(client_of(alloc, words)?),
-        "quorums" => Ok(quorums_of(alloc, words)?),
-        "replica" => Ok(replica_of(alloc, words)),
-        _ => {
+        "world" => world_of(out, settings.config()),
+        "steps" => steps_of(out.alloc(), settings.config()),
+        _ => quorums_of(settings.quorums()),
+    }
+}
+
+/// The subject that a line makes.
+fn made(out: &mut Answer, kind: &str, mut words: Words<'_>) -> Subject {
+    match kind {
+        "client" => client_of(out, words),
+        "replica" => replica_of(out.alloc(), words),
+        "network" => {
             let limit = words.number().unwrap_or(0);
-            Ok(Subject::Network(Pool::new(alloc, limit)))
+            Subject::Network(Pool::new(out.alloc(), limit))
+        }
+        _ => {
+            let settings = Settings::read(out, words);
+            made_so(out, kind, &settings)
         }
     }
 }
 
 /// What comes of a line that needs no subject.
-fn answer_alone(out: &mut String, line: &str) -> Result<(), AllocError> {
+fn answer_alone(out: &mut Answer, line: &str) {
     let mut words = Words { rest: line };
     match words.word() {
-        "copy" => out.push_str(copied(*out.allocator(), words.rest)),
+        "copy" => out.push(copied(out.alloc(), words.rest)),
         "members" => say_members(out, words),
-        "compare" => out.push_str(compared(words)),
+        "compare" => out.push(compared(words)),
         "refusals" => say_refusals(out),
         "reasons" => say_reasons(out),
         "generator" => say_generated(out, words),
-        _ => out.push_str("NO SUCH STEP"),
+        _ => out.push("NO SUCH STEP"),
     }
 }
 
@@ -130,37 +156,28 @@ impl Subject {
     }
 
     /// Puts what was made in its place, and says what it is.
-    fn replace(
-        &mut self,
-        out: &mut String,
-        made: Result<Subject, Memory>,
-    ) -> Result<(), AllocError> {
-        match made {
-            Ok(subject) => {
-                *self = subject;
-                out.push_str(self.name())
-            }
-            Err(_) => out.push_str("NO MEMORY"),
-        }
+    fn replace(&mut self, out: &mut Answer, made: Subject) {
+        *self = made;
+        out.push(self.name());
     }
 
     /// The world that the listed steps leave.
-    fn run(&self, alloc: Global) -> Result<Subject, Memory> {
+    fn run(&self, out: &mut Answer) -> Subject {
         match self {
-            Subject::Steps(config, steps) => Ok(Subject::World(
-                run(alloc, *config, steps.as_slice())?,
-                RandomSteps::new(42),
-            )),
-            _ => Ok(Subject::None),
+            Subject::Steps(config, steps) => {
+                let world = run(out.alloc(), *config, steps.as_slice());
+                begun(out, world)
+            }
+            _ => Subject::None,
         }
     }
 
     /// What comes of a step or a question.
-    fn step(&mut self, out: &mut String, line: &str) -> Result<(), AllocError> {
+    fn step(&mut self, out: &mut Answer, line: &str) {
         match self {
             Subject::None => answer_alone(out, line),
             Subject::World(world, steps) => world_answers(out, (world, steps), line),
-            Subject::Steps(_, steps) => list(out, steps, line),
+            Subject::Steps(_, steps) => list_line(out, steps, line),
             Subject::Client(client) => client_answers(out, client, line),
             Subject::Network(pool) => pool_answers(out, pool, line),
             Subject::Replica(replica) => replica_answers(out, replica, line),
@@ -170,45 +187,50 @@ impl Subject {
 
     /// What comes of a step or a question, as a text of its own.
     fn said(&mut self, alloc: Global, line: &str) -> Result<String, AllocError> {
-        let mut said = String::new(alloc);
-        self.step(&mut said, line)?;
-        Ok(said)
+        let mut said = Answer::new(alloc);
+        self.step(&mut said, line);
+        said.text()
     }
 
     /// Takes a step so many times. It says how often the answer was the last one.
-    fn repeat(&mut self, out: &mut String, times: u32, line: &str) -> Result<(), AllocError> {
-        let alloc = *out.allocator();
-        let mut last = String::new(alloc);
+    fn repeat(&mut self, out: &mut Answer, times: u32, line: &str) {
+        let mut last = String::new(out.alloc());
         let mut alike = 0u32;
         for _ in 0..times {
-            let said = self.said(alloc, line)?;
-            alike = if said == last {
-                alike.saturating_add(1)
-            } else {
-                1
-            };
-            last = said;
+            match self.said(out.alloc(), line) {
+                Ok(said) if said == last => alike = alike.saturating_add(1),
+                Ok(said) => {
+                    alike = 1;
+                    last = said;
+                }
+                Err(_) => out.refuse(),
+            }
         }
         let last = last.as_str();
-        write!(out, "{alike} times {last}")
+        write!(out, "{alike} times {last}");
     }
 
-    /// What comes of a line.
-    pub fn answer(&mut self, out: &mut String, line: &str) -> Result<(), AllocError> {
-        let alloc = *out.allocator();
-        let mut words = Words { rest: line };
-        let kind = words.word();
-        if is_made(kind) {
-            return self.replace(out, made(alloc, kind, words));
-        }
-        if kind == "run" {
-            let left = self.run(alloc);
-            return self.replace(out, left);
-        }
+    /// What comes of a step or a question, or of one that is taken so many times.
+    fn answer_step(&mut self, out: &mut Answer, line: &str) {
         let (times, rest) = line.split_once(" times ").unwrap_or(("", ""));
         match times.parse::<u32>() {
             Ok(times) => self.repeat(out, times, rest),
             Err(_) => self.step(out, line),
+        }
+    }
+
+    /// What comes of a line.
+    pub fn answer(&mut self, out: &mut Answer, line: &str) {
+        let mut words = Words { rest: line };
+        let kind = words.word();
+        if is_made(kind) {
+            let made = made(out, kind, words);
+            self.replace(out, made);
+        } else if kind == "run" {
+            let left = self.run(out);
+            self.replace(out, left);
+        } else {
+            self.answer_step(out, line);
         }
     }
 }

@@ -1,8 +1,9 @@
 //! Words of a step.
 use client_phases::ReadMode;
 use quorum::ReplicaSet;
-use std::alloc::{AllocError, Global};
+use std::alloc::Global;
 use tag::{Action, ClientId, Key, OpId, ReplicaId, Tag, Value};
+use test_rows::Answer;
 
 /// The words of a step that aren't read yet, one space apart.
 #[derive(Clone, Copy)]
@@ -82,14 +83,16 @@ impl<'a> Words<'a> {
     }
 
     /// Votes divided by commas; none at `-`.
-    pub fn votes(&mut self, alloc: Global) -> Result<Vec<u8>, AllocError> {
-        let mut votes = Vec::new(alloc);
+    pub fn votes(&mut self, out: &mut Answer) -> Vec<u8> {
+        let mut votes = Vec::new(out.alloc());
         for word in self.word().split(',') {
             if let Ok(vote) = word.parse::<u8>() {
-                votes.push(vote)?;
+                if votes.push(vote).is_err() {
+                    out.refuse();
+                }
             }
         }
-        Ok(votes)
+        votes
     }
 
     pub fn reads(&mut self) -> ReadMode {

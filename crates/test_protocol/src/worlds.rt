@@ -2,8 +2,9 @@
 use crate::texts::{say_row, say_step, say_taken};
 use crate::words::Words;
 use random_steps::RandomSteps;
-use std::alloc::{AllocError, Global};
+use std::alloc::Global;
 use tag::ClientId;
+use test_rows::Answer;
 use world_settle::{SettleError, settle};
 use world_steps::{Effect, Refusal, Step, World};
 
@@ -64,125 +65,135 @@ pub fn step_of(alloc: Global, mut words: Words<'_>) -> Option<Step> {
     }
 }
 
-fn say_effect(out: &mut String, effect: Effect) -> Result<(), AllocError> {
+/// The word of an effect, and its number, if it has one.
+fn said_of(effect: Effect) -> (&'static str, Option<u32>) {
     match effect {
-        Effect::Joined => out.push_str("joined"),
-        Effect::Invoked(op) => {
-            let op = op.0;
-            write!(out, "invoked {op}")
-        }
-        Effect::Sent(flight) => write!(out, "sent {flight}"),
-        Effect::Answered(flight) => write!(out, "answered {flight}"),
-        Effect::Taken(taken) => say_taken(out, taken),
-        Effect::Lost => out.push_str("lost"),
-        Effect::Repeated => out.push_str("repeated"),
-        Effect::Responded(op) => {
-            let op = op.0;
-            write!(out, "responded {op}")
-        }
-        Effect::Stopped => out.push_str("stopped"),
-        Effect::Started => out.push_str("started"),
+        Effect::Joined => ("joined", None),
+        Effect::Invoked(op) => ("invoked ", Some(op.0)),
+        Effect::Sent(flight) => ("sent ", Some(flight)),
+        Effect::Answered(flight) => ("answered ", Some(flight)),
+        Effect::Taken(_) => ("", None),
+        Effect::Lost => ("lost", None),
+        Effect::Repeated => ("repeated", None),
+        Effect::Responded(op) => ("responded ", Some(op.0)),
+        Effect::Stopped => ("stopped", None),
+        Effect::Started => ("started", None),
     }
 }
 
-fn say_answer(out: &mut String, answer: Result<Effect, Refusal>) -> Result<(), AllocError> {
+fn say_effect(out: &mut Answer, effect: Effect) {
+    if let Effect::Taken(taken) = effect {
+        return say_taken(out, taken);
+    }
+    let (word, number) = said_of(effect);
+    out.push(word);
+    if let Some(number) = number {
+        write!(out, "{number}");
+    }
+}
+
+fn say_answer(out: &mut Answer, answer: Result<Effect, Refusal>) {
     match answer {
         Ok(effect) => say_effect(out, effect),
         Err(refusal) => {
             let number = refusal as u8;
-            write!(out, "refused {number} {refusal:?}")
+            write!(out, "refused {number} {refusal:?}");
         }
     }
 }
 
-fn say_settled(out: &mut String, answer: Result<u32, SettleError>) -> Result<(), AllocError> {
+fn say_settled(out: &mut Answer, answer: Result<u32, SettleError>) {
     match answer {
         Ok(count) => write!(out, "settled {count}"),
         Err(why) => {
             let number = why.number();
-            write!(out, "settle refused {number} {why:?}")
+            write!(out, "settle refused {number} {why:?}");
         }
     }
 }
 
 /// What is seen of a world: what was sent, the messages in flight, the rows, and who joined.
-fn say_seen(out: &mut String, world: &World) -> Result<(), AllocError> {
+fn say_seen(out: &mut Answer, world: &World) {
     let (sent, stored) = (world.pool().sent(), world.pool().stored());
     let rows = world.history().rows().len();
     let joined = world.joined().len();
     write!(
         out,
         "{sent} sent, {stored} under way, {rows} rows, {joined} joined"
-    )
+    );
 }
 
-fn say_rows(out: &mut String, world: &World) -> Result<(), AllocError> {
+fn say_rows(out: &mut Answer, world: &World) {
     let mut divider = "";
     for row in world.history().rows() {
-        out.push_str(divider)?;
-        say_row(out, row)?;
+        out.push(divider);
+        say_row(out, row);
         divider = " / ";
     }
-    Ok(())
 }
 
-fn say_phase(out: &mut String, world: &World, name: Option<ClientId>) -> Result<(), AllocError> {
+fn say_phase(out: &mut Answer, world: &World, name: Option<ClientId>) {
     match name.and_then(|name| world.client(name)) {
         Some(client) => {
             let phase = client.phase();
-            write!(out, "{phase:?}")
+            write!(out, "{phase:?}");
         }
-        None => out.push_str("no such client"),
+        None => out.push("no such client"),
     }
 }
 
-fn take(out: &mut String, world: &mut World, step: Option<Step>) -> Result<(), AllocError> {
-    match step {
+fn say_copies(out: &mut Answer, world: &World, flight: u32) {
+    let copies = world.pool().copies(flight);
+    write!(out, "{copies}");
+}
+
+fn settle_call(out: &mut Answer, world: &mut World, client: Option<ClientId>) {
+    match client {
+        Some(client) => say_settled(out, settle(world, client)),
+        None => out.push("NO SUCH CLIENT"),
+    }
+}
+
+/// Takes the step that a line writes.
+fn take_line(out: &mut Answer, world: &mut World, line: &str) {
+    match step_of(out.alloc(), Words { rest: line }) {
         Some(step) => say_answer(out, world.step(step)),
-        None => out.push_str("NO SUCH STEP"),
+        None => out.push("NO SUCH STEP"),
     }
 }
 
-/// Says the next random step, and takes it if that is asked.
-fn draw(
-    out: &mut String,
-    world: &mut World,
-    steps: &mut RandomSteps,
-    is_taken: bool,
-) -> Result<(), AllocError> {
-    let Ok(step) = steps.next(*out.allocator(), world) else {
-        return out.push_str("NO MEMORY");
-    };
-    say_step(out, &step)?;
-    if is_taken {
-        out.push_str(": ")?;
-        say_answer(out, world.step(step))?;
+fn draw(out: &mut Answer, world: &World, steps: &mut RandomSteps) {
+    match steps.next(out.alloc(), world) {
+        Ok(step) => say_step(out, &step),
+        Err(_) => out.push("NO MEMORY"),
     }
-    Ok(())
+}
+
+/// Says a step that was drawn, and takes it.
+fn take_drawn(out: &mut Answer, world: &mut World, step: Step) {
+    say_step(out, &step);
+    out.push(": ");
+    say_answer(out, world.step(step));
+}
+
+fn take(out: &mut Answer, world: &mut World, steps: &mut RandomSteps) {
+    match steps.next(out.alloc(), world) {
+        Ok(step) => take_drawn(out, world, step),
+        Err(_) => out.push("NO MEMORY"),
+    }
 }
 
 /// What a world answers to a step or a question.
-pub fn world_answers(
-    out: &mut String,
-    (world, steps): (&mut World, &mut RandomSteps),
-    line: &str,
-) -> Result<(), AllocError> {
-    let alloc = *out.allocator();
+pub fn world_answers(out: &mut Answer, (world, steps): (&mut World, &mut RandomSteps), line: &str) {
     let mut words = Words { rest: line };
     match words.word() {
-        "settle" => match words.client() {
-            Some(client) => say_settled(out, settle(world, client)),
-            None => out.push_str("NO SUCH CLIENT"),
-        },
+        "settle" => settle_call(out, world, words.client()),
         "seen?" => say_seen(out, world),
         "rows?" => say_rows(out, world),
         "phase?" => say_phase(out, world, words.client()),
-        "copies?" => {
-            let copies = world.pool().copies(words.number().unwrap_or(0));
-            write!(out, "{copies}")
-        }
-        "draw" => draw(out, world, steps, false),
-        "take" => draw(out, world, steps, true),
-        _ => take(out, world, step_of(alloc, Words { rest: line })),
+        "copies?" => say_copies(out, world, words.number().unwrap_or(0)),
+        "draw" => draw(out, world, steps),
+        "take" => take(out, world, steps),
+        _ => take_line(out, world, line),
     }
 }

@@ -1,12 +1,12 @@
 //! Steps on a history, and questions about it.
 
-use crate::names::{action_of, returned_of, said_equal, tag_of};
+use crate::names::{action_of, returned_of, said_equal, say_found, tag_of};
 use crate::words::{first_word, number};
-use recorder::{Call, History, KeyOrder, Order, Part, Response, Row, RowRefusal};
-use std::alloc::{AllocError, Global};
-use tag::{Action, ClientId, Key, Memory, NameError, OpId, Returned, Tag};
+use recorder::{Call, History, KeyOrder, Order, Part, Parts, Response, Row, RowRefusal};
+use std::alloc::Global;
+use tag::{ClientId, Key, Memory, NameError, OpId, Returned, Tag};
 use tag_check::check_tags;
-use test_rows::{RowSaid, said_by, say_action, say_tag};
+use test_rows::{Answer, RowSaid, said_by, say_action, say_tag};
 use witness_order::order_of;
 
 /// `invoke CLIENT KEY read`, or `write TEXT` in place of `read`.
@@ -33,110 +33,118 @@ fn respond(alloc: Global, history: &mut History, words: &str) -> Option<Result<(
     Some(history.respond(op, returned_of(alloc, returned)?))
 }
 
-fn say_invoked(out: &mut String, taken: Result<OpId, RowRefusal>) -> Result<(), AllocError> {
+/// Says what came of an invocation. Whether there was one.
+fn say_invoked(out: &mut Answer, taken: Option<Result<OpId, RowRefusal>>) -> bool {
     match taken {
-        Ok(op) => {
+        Some(Ok(op)) => {
             let number = op.0;
-            write!(out, "call {number}\n")
+            write!(out, "call {number}\n");
         }
-        Err(refusal) => write!(out, "refused {refusal:?}\n"),
+        Some(Err(refusal)) => write!(out, "refused {refusal:?}\n"),
+        None => {}
     }
+    taken.is_some()
 }
 
-fn say_row_taken(out: &mut String, taken: Result<(), RowRefusal>) -> Result<(), AllocError> {
+/// Says what came of a note or a response. Whether there was one.
+fn say_row_taken(out: &mut Answer, taken: Option<Result<(), RowRefusal>>) -> bool {
     match taken {
-        Ok(()) => out.push_str("taken\n"),
-        Err(refusal) => write!(out, "refused {refusal:?}\n"),
+        Some(Ok(())) => out.push("taken\n"),
+        Some(Err(refusal)) => write!(out, "refused {refusal:?}\n"),
+        None => {}
     }
+    taken.is_some()
 }
 
-fn say_returned(out: &mut String, returned: &Returned) -> Result<(), AllocError> {
+/// The kind of an answer, and its text.
+fn said_of(returned: &Returned) -> (&'static str, &str) {
     match returned {
-        Returned::Written => out.push_str("written"),
-        Returned::Value(None) => out.push_str("none"),
-        Returned::Value(Some(value)) => {
-            let text = value.as_str();
-            write!(out, "value {text}")
-        }
+        Returned::Written => ("written", ""),
+        Returned::Value(None) => ("none", ""),
+        Returned::Value(Some(value)) => ("value ", value.as_str()),
     }
 }
 
 /// Says the tag of a call's note, if it has one.
-fn say_note(out: &mut String, note: Option<Tag>) -> Result<(), AllocError> {
-    out.push_str("note ")?;
+fn say_note(out: &mut Answer, note: Option<Tag>) {
+    out.push("note ");
     match note {
         Some(tag) => say_tag(out, tag),
-        None => out.push_str("none"),
+        None => out.push("none"),
     }
 }
 
 /// Says a call's answer.
-fn say_answered(out: &mut String, returned: &Returned) -> Result<(), AllocError> {
-    out.push_str("answer ")?;
-    say_returned(out, returned)
+fn say_answered(out: &mut Answer, returned: &Returned) {
+    let (kind, text) = said_of(returned);
+    write!(out, "answer {kind}{text}");
 }
 
-fn say_row(out: &mut String, row: &Row) -> Result<(), AllocError> {
+fn say_row(out: &mut Answer, row: &Row) {
     let (op, said) = said_by(row);
-    write!(out, "call {op}: ")?;
+    write!(out, "call {op}: ");
     match said {
         RowSaid::Noted(tag) => say_note(out, Some(tag)),
         RowSaid::Answered(returned) => say_answered(out, returned),
         RowSaid::Invoked(client, key, action) => {
             let (client, key) = (client.get(), key.as_str());
-            write!(out, "client {client}, {key}, ")?;
-            say_action(out, action)
+            write!(out, "client {client}, {key}, ");
+            say_action(out, action);
         }
     }
+    out.push("\n");
 }
 
 /// All rows.
-fn say_rows(out: &mut String, history: &History) -> Result<(), AllocError> {
+fn say_rows(out: &mut Answer, history: &History) {
     for row in history.rows() {
-        say_row(out, row)?;
-        out.push_str("\n")?;
+        say_row(out, row);
     }
-    Ok(())
 }
 
-fn say_response(out: &mut String, response: Option<&Response>) -> Result<(), AllocError> {
+fn say_response(out: &mut Answer, response: Option<&Response>) {
     match response {
-        None => out.push_str("pending\n"),
+        None => out.push("pending\n"),
         Some(response) => {
-            say_answered(out, &response.returned)?;
+            say_answered(out, &response.returned);
             let place = response.place;
-            write!(out, " in row {place}\n")
+            write!(out, " in row {place}\n");
         }
     }
 }
 
 /// A call as its part has it.
-fn say_call(out: &mut String, call: &Call) -> Result<(), AllocError> {
+fn say_call(out: &mut Answer, call: &Call) {
     let (op, client, invoked) = (call.op.0, call.client.get(), call.invoked);
-    write!(out, "{op}: client {client}, ")?;
-    say_action(out, &call.action)?;
-    write!(out, ", in row {invoked}, ")?;
-    say_note(out, call.note)?;
-    out.push_str(", ")?;
-    say_response(out, call.response.as_ref())
+    write!(out, "{op}: client {client}, ");
+    say_action(out, &call.action);
+    write!(out, ", in row {invoked}, ");
+    say_note(out, call.note);
+    out.push(", ");
+    say_response(out, call.response.as_ref());
 }
 
-fn say_part(out: &mut String, key: &Key, part: &Part) -> Result<(), AllocError> {
-    out.push_str(key.as_str())?;
-    out.push_str("\n")?;
+fn say_part(out: &mut Answer, key: &Key, part: &Part) {
+    out.push(key.as_str());
+    out.push("\n");
     for call in part.calls() {
-        say_call(out, call)?;
+        say_call(out, call);
     }
-    Ok(())
 }
 
 /// The keys of the parts in their order, each with its calls.
-fn say_parts(out: &mut String, history: &History) -> Result<(), Memory> {
-    let parts = history.parts()?;
+fn say_entries(out: &mut Answer, parts: &Parts) {
     for (key, part) in parts.entries() {
-        say_part(out, key, part)?;
+        say_part(out, key, part);
     }
-    Ok(())
+}
+
+/// The parts of a history.
+fn say_parts(out: &mut Answer, history: &History) {
+    match history.parts() {
+        Ok(parts) => say_entries(out, &parts),
+        Err(Memory) => out.refuse(),
+    }
 }
 
 /// Whether the copies of the rows, and of the history, are equal to them.
@@ -150,102 +158,104 @@ fn is_copied(history: &History) -> Result<bool, Memory> {
     Ok(copy.rows() == history.rows() && copy.limit() == history.limit())
 }
 
-/// Numbers of calls, as `[0, 1]`.
-fn say_numbers(out: &mut String, ops: &[OpId]) -> Result<(), AllocError> {
-    let [first, others @ ..] = ops else {
-        return out.push_str("[]\n");
-    };
-    let number = first.0;
-    write!(out, "[{number}")?;
-    for op in others {
-        let number = op.0;
-        write!(out, ", {number}")?;
+/// Whether the copies are equal.
+fn say_copy(out: &mut Answer, history: &History) {
+    match is_copied(history) {
+        Ok(equal) => out.push(said_equal(equal)),
+        Err(Memory) => out.refuse(),
     }
-    out.push_str("]\n")
+}
+
+/// Numbers of calls, as `[0, 1]`.
+fn say_numbers(out: &mut Answer, ops: &[OpId]) {
+    let mut divider = "[";
+    for op in ops {
+        let number = op.0;
+        write!(out, "{divider}{number}");
+        divider = ", ";
+    }
+    out.push(if ops.is_empty() { "[]\n" } else { "]\n" });
 }
 
 /// The tag order of a part's calls, or what is missing.
-fn say_order(alloc: Global, out: &mut String, part: &Part) -> Result<(), AllocError> {
-    match order_of(alloc, part) {
+fn say_order(out: &mut Answer, part: &Part) {
+    match order_of(out.alloc(), part) {
         Ok(order) => say_numbers(out, order.as_slice()),
         Err(error) => write!(out, "{error}\n"),
     }
 }
 
 /// The first rule of sound tags that the notes of a part's calls break.
-fn say_rule(alloc: Global, out: &mut String, part: &Part) -> Result<(), Memory> {
-    match check_tags(alloc, part)? {
-        Some(rule) => Ok(write!(out, "{rule}\n")?),
-        None => Ok(out.push_str("sound\n")?),
+fn say_rule(out: &mut Answer, part: &Part) {
+    match check_tags(out.alloc(), part) {
+        Ok(Some(rule)) => write!(out, "{rule}\n"),
+        Ok(None) => out.push("sound\n"),
+        Err(Memory) => out.refuse(),
     }
 }
 
 /// The answer to a question about a part's calls.
-fn say_of_part(alloc: Global, out: &mut String, word: &str, part: &Part) -> Result<(), Memory> {
+fn say_of_part(out: &mut Answer, word: &str, part: &Part) {
     match word {
-        "tags?" => say_rule(alloc, out, part),
-        _ => Ok(say_order(alloc, out, part)?),
+        "tags?" => say_rule(out, part),
+        _ => say_order(out, part),
     }
 }
 
 /// The answer to a question about the calls on a key.
-fn say_of_key(
-    alloc: Global,
-    out: &mut String,
-    history: &History,
-    word: &str,
-    key: &Key,
-) -> Result<(), Memory> {
-    let parts = history.parts()?;
+fn say_of_parts(out: &mut Answer, parts: &Parts, word: &str, key: &Key) {
     match parts.get(key) {
-        Some(part) => say_of_part(alloc, out, word, part),
-        None => Ok(out.push_str("no part\n")?),
+        Some(part) => say_of_part(out, word, part),
+        None => out.push("no part\n"),
+    }
+}
+
+fn say_of_key(out: &mut Answer, history: &History, word: &str, key: &Key) {
+    match history.parts() {
+        Ok(parts) => say_of_parts(out, &parts, word, key),
+        Err(Memory) => out.refuse(),
     }
 }
 
 /// The answer to a question about the calls on the key of that name.
-fn say_of_name(
-    alloc: Global,
-    out: &mut String,
-    history: &History,
-    word: &str,
-    name: &str,
-) -> Result<(), Memory> {
-    match Key::new(alloc, name) {
-        Ok(key) => say_of_key(alloc, out, history, word, &key),
-        Err(NameError::Memory) => Err(Memory),
-        Err(_) => Ok(out.push_str("no key\n")?),
+fn say_of_name(out: &mut Answer, history: &History, word: &str, name: &str) {
+    match Key::new(out.alloc(), name) {
+        Ok(key) => say_of_key(out, history, word, &key),
+        Err(NameError::Memory) => out.refuse(),
+        Err(_) => out.push("no key\n"),
     }
 }
 
 /// The numbers, put into an order one by one.
-fn numbered(alloc: Global, words: &str) -> Result<Order, Memory> {
-    let mut order = Order::empty(alloc);
+fn numbered(out: &mut Answer, words: &str) -> Order {
+    let mut order = Order::empty(out.alloc());
     for word in words.split(' ') {
-        if let Some(number) = number(word) {
-            order.push(OpId(number))?;
+        if let Some(number) = number(word)
+            && order.push(OpId(number)).is_err()
+        {
+            out.refuse();
         }
     }
-    Ok(order)
+    order
 }
 
 /// The numbers put into an order, which is then taken apart and made again for a key.
-fn say_numbered(alloc: Global, out: &mut String, words: &str) -> Result<(), Memory> {
-    let order = Order::from_vec(numbered(alloc, words)?.into_vec());
-    match Key::new(alloc, "x") {
+fn say_numbered(out: &mut Answer, words: &str) {
+    let order = Order::from_vec(numbered(out, words).into_vec());
+    match Key::new(out.alloc(), "x") {
         Ok(key) => {
             let named = KeyOrder { key, order };
-            Ok(say_numbers(out, named.order.as_slice())?)
+            say_numbers(out, named.order.as_slice());
         }
-        Err(_) => Err(Memory),
+        Err(_) => out.refuse(),
     }
 }
 
 /// How many calls the empty part has.
-fn say_empty(alloc: Global, out: &mut String) -> Result<(), AllocError> {
-    let part = Part::empty(alloc);
+fn say_empty(out: &mut Answer) {
+    let part = Part::empty(out.alloc());
     let count = part.calls().len();
-    write!(out, "{count} calls\n")
+    write!(out, "{count} calls\n");
 }
 
 /// Whether the client has a pending call.
@@ -259,79 +269,44 @@ fn busy(history: &History, words: &str) -> Option<&'static str> {
 }
 
 /// Says what comes of a row that is added. Whether the words are one.
-fn say_added(
-    alloc: Global,
-    out: &mut String,
-    history: &mut History,
-    word: &str,
-    rest: &str,
-) -> Result<bool, AllocError> {
-    let taken = match word {
-        "invoke" => match invoke(alloc, history, rest) {
-            Some(taken) => {
-                say_invoked(out, taken)?;
-                return Ok(true);
-            }
-            None => None,
-        },
-        "note" => note(history, rest),
-        "respond" => respond(alloc, history, rest),
-        _ => None,
-    };
-    match taken {
-        Some(taken) => {
-            say_row_taken(out, taken)?;
-            Ok(true)
-        }
-        None => Ok(false),
+fn say_added(out: &mut Answer, history: &mut History, word: &str, rest: &str) -> bool {
+    match word {
+        "invoke" => say_invoked(out, invoke(out.alloc(), history, rest)),
+        "note" => say_row_taken(out, note(history, rest)),
+        "respond" => say_row_taken(out, respond(out.alloc(), history, rest)),
+        _ => false,
     }
-}
-
-/// Says how many calls there are, or may be. Whether that was asked.
-fn say_count(out: &mut String, history: &History, word: &str) -> Result<bool, AllocError> {
-    let count = match word {
-        "calls?" => history.calls(),
-        "limit?" => history.limit() as usize,
-        _ => return Ok(false),
-    };
-    write!(out, "{count}\n")?;
-    Ok(true)
 }
 
 /// Says the answer to a question about the history. Whether the words are one.
-fn say_answer(
-    alloc: Global,
-    out: &mut String,
-    history: &History,
-    word: &str,
-    rest: &str,
-) -> Result<bool, Memory> {
+fn say_answer(out: &mut Answer, history: &History, word: &str, rest: &str) -> bool {
     match word {
-        "rows?" => say_rows(out, history)?,
-        "parts?" => say_parts(out, history)?,
-        "copy?" => out.push_str(said_equal(is_copied(history)?))?,
-        "order?" | "tags?" => say_of_name(alloc, out, history, word, rest)?,
-        "numbers" => say_numbered(alloc, out, rest)?,
-        "empty" => say_empty(alloc, out)?,
-        "busy?" => match busy(history, rest) {
-            Some(text) => out.push_str(text)?,
-            None => return Ok(false),
-        },
-        _ => return Ok(say_count(out, history, word)?),
+        "rows?" => say_rows(out, history),
+        "parts?" => say_parts(out, history),
+        "copy?" => say_copy(out, history),
+        "order?" | "tags?" => say_of_name(out, history, word, rest),
+        "numbers" => say_numbered(out, rest),
+        "empty" => say_empty(out),
+        _ => return false,
     }
-    Ok(true)
+    true
+}
+
+/// Says how many calls there are, or may be, or whether a client is busy. Whether that was asked.
+fn say_state(out: &mut Answer, history: &History, word: &str, rest: &str) -> bool {
+    let count = match word {
+        "calls?" => history.calls(),
+        "limit?" => history.limit() as usize,
+        "busy?" => return say_found(out, busy(history, rest)),
+        _ => return false,
+    };
+    write!(out, "{count}\n");
+    true
 }
 
 /// Says what comes of a step on a history or of a question. Whether the words are one.
-pub fn say(
-    alloc: Global,
-    out: &mut String,
-    history: &mut History,
-    word: &str,
-    rest: &str,
-) -> Result<bool, Memory> {
-    if say_added(alloc, out, history, word, rest)? {
-        return Ok(true);
-    }
-    say_answer(alloc, out, history, word, rest)
+pub fn say(out: &mut Answer, history: &mut History, word: &str, rest: &str) -> bool {
+    say_added(out, history, word, rest)
+        || say_answer(out, history, word, rest)
+        || say_state(out, history, word, rest)
 }

@@ -1,11 +1,10 @@
 //! Steps on names, values and tags.
 
 use crate::words::{first_word, meant, number, two_numbers};
-use std::alloc::{AllocError, Global};
+use std::alloc::Global;
 use std::cmp::Ordering;
-use std::fmt::Debug;
 use tag::{Action, ClientId, Key, Memory, OpId, ReplicaId, Returned, Tag, Value};
-use test_rows::say_tag;
+use test_rows::{Answer, say_tag};
 
 /// Says how one thing stands to another in an order.
 fn said_order(order: Ordering) -> &'static str {
@@ -24,41 +23,52 @@ pub fn said_equal(equal: bool) -> &'static str {
     if equal { "equal\n" } else { "another\n" }
 }
 
-/// Says why a text wasn't taken.
-fn say_refused<E: Debug>(out: &mut String, error: &E) -> Result<(), AllocError> {
-    write!(out, "refused {error:?}\n")
+/// How the copy of a thing stands to it.
+fn said_copy<T: PartialEq + Drop>(copy: Result<T, Memory>, original: &T) -> Option<&'static str> {
+    match copy {
+        Ok(copy) => Some(said_equal(copy == *original)),
+        Err(Memory) => None,
+    }
 }
 
 /// Says a text that was taken, and whether its copy is equal.
-fn say_text(out: &mut String, text: &str, equal: bool) -> Result<(), AllocError> {
-    let equal = said_equal(equal);
-    write!(out, "taken {text}, copy {equal}")
+fn say_text(out: &mut Answer, text: &str, copy: Option<&str>) {
+    match copy {
+        Some(copy) => write!(out, "taken {text}, copy {copy}"),
+        None => out.refuse(),
+    }
 }
 
 /// The key that is made of the text, and whether its copy is equal.
-fn say_key_of(alloc: Global, out: &mut String, text: &str) -> Result<(), Memory> {
-    match Key::new(alloc, text) {
-        Ok(key) => Ok(say_text(out, key.as_str(), key.copy()? == key)?),
-        Err(error) => Ok(say_refused(out, &error)?),
+fn say_key_of(out: &mut Answer, text: &str) {
+    match Key::new(out.alloc(), text) {
+        Ok(key) => say_text(out, key.as_str(), said_copy(key.copy(), &key)),
+        Err(error) => write!(out, "refused {error:?}\n"),
     }
 }
 
 /// The value that is made of the text, and whether its copy is equal.
-fn say_value_of(alloc: Global, out: &mut String, text: &str) -> Result<(), Memory> {
-    match Value::new(alloc, text) {
-        Ok(value) => Ok(say_text(out, value.as_str(), value.copy()? == value)?),
-        Err(error) => Ok(say_refused(out, &error)?),
+fn say_value_of(out: &mut Answer, text: &str) {
+    match Value::new(out.alloc(), text) {
+        Ok(value) => say_text(out, value.as_str(), said_copy(value.copy(), &value)),
+        Err(error) => write!(out, "refused {error:?}\n"),
+    }
+}
+
+/// The key or the value of a text.
+fn say_made_of(out: &mut Answer, word: &str, text: &str) {
+    match word {
+        "key" => say_key_of(out, text),
+        _ => say_value_of(out, text),
     }
 }
 
 /// The key or the value of the text that is meant.
-fn say_made(alloc: Global, out: &mut String, word: &str, words: &str) -> Result<bool, Memory> {
-    let text = meant(alloc, words)?;
-    match word {
-        "key" => say_key_of(alloc, out, text.as_str())?,
-        _ => say_value_of(alloc, out, text.as_str())?,
+fn say_made(out: &mut Answer, word: &str, words: &str) {
+    match meant(out.alloc(), words) {
+        Ok(text) => say_made_of(out, word, text.as_str()),
+        Err(_) => out.refuse(),
     }
-    Ok(true)
 }
 
 /// The tag that a client takes after the least: `next CLIENT`.
@@ -68,13 +78,15 @@ fn next(words: &str) -> Option<Tag> {
 }
 
 /// Says the tag that comes next. Whether there is one.
-fn say_next(out: &mut String, words: &str) -> Result<bool, AllocError> {
-    let Some(tag) = next(words) else {
-        return Ok(false);
-    };
-    say_tag(out, tag)?;
-    out.push_str("\n")?;
-    Ok(true)
+fn say_next(out: &mut Answer, tag: Option<Tag>) -> bool {
+    match tag {
+        Some(tag) => {
+            say_tag(out, tag);
+            out.push("\n");
+            true
+        }
+        None => false,
+    }
 }
 
 /// The action of the words `read` or `write TEXT`.
@@ -96,13 +108,20 @@ pub fn returned_of(alloc: Global, words: &str) -> Option<Returned> {
     }
 }
 
+/// Whether the copy of an answer is equal to it.
+fn copied_answer(alloc: Global, words: &str) -> Option<&'static str> {
+    match returned_of(alloc, words) {
+        Some(returned) => said_copy(returned.copy(), &returned),
+        None => None,
+    }
+}
+
 /// Whether the copy of an action or an answer is equal to it.
 fn copied(alloc: Global, words: &str) -> Option<&'static str> {
-    if let Some(action) = action_of(alloc, words) {
-        return Some(said_equal(action.copy().ok()? == action));
+    match action_of(alloc, words) {
+        Some(action) => said_copy(action.copy(), &action),
+        None => copied_answer(alloc, words),
     }
-    let returned = returned_of(alloc, words)?;
-    Some(said_equal(returned.copy().ok()? == returned))
 }
 
 /// The tag of the words `NUMBER WRITER`.
@@ -149,21 +168,24 @@ fn answer(alloc: Global, word: &str, rest: &str) -> Option<&'static str> {
 }
 
 /// Says such an answer. Whether there is one.
-fn say_found(out: &mut String, found: Option<&str>) -> Result<bool, AllocError> {
+pub fn say_found(out: &mut Answer, found: Option<&str>) -> bool {
     match found {
         Some(text) => {
-            out.push_str(text)?;
-            Ok(true)
+            out.push(text);
+            true
         }
-        None => Ok(false),
+        None => false,
     }
 }
 
 /// Says what comes of a step on names. Whether it is one.
-pub fn say(alloc: Global, out: &mut String, word: &str, rest: &str) -> Result<bool, Memory> {
+pub fn say(out: &mut Answer, word: &str, rest: &str) -> bool {
     match word {
-        "key" | "value" => say_made(alloc, out, word, rest),
-        "next" => Ok(say_next(out, rest)?),
-        _ => Ok(say_found(out, answer(alloc, word, rest))?),
+        "key" | "value" => {
+            say_made(out, word, rest);
+            true
+        }
+        "next" => say_next(out, next(rest)),
+        _ => say_found(out, answer(out.alloc(), word, rest)),
     }
 }

@@ -55,43 +55,92 @@ fn is_broken(calls: &[Call], earlier: OpId, later: OpId) -> bool {
     }
 }
 
-fn first_broken(calls: &[Call], order: &[OpId]) -> Option<Fault> {
-    for (j, later) in order.iter().enumerate() {
-        for (i, earlier) in order.iter().enumerate() {
-            if i < j && is_broken(calls, *earlier, *later) {
-                return Some(Fault::OrderBroken(i, j));
-            }
+/// The first place before `j` whose call and the one there stand the wrong way round.
+fn broken_before(calls: &[Call], order: &[OpId], later: OpId, j: usize) -> Option<usize> {
+    for (i, earlier) in order.iter().enumerate() {
+        if i < j && is_broken(calls, *earlier, later) {
+            return Some(i);
         }
     }
     None
 }
 
-/// The definition, fault by fault.
-pub fn slow_verdict(calls: &[Call], order: &[OpId]) -> Verdict {
+fn first_broken(calls: &[Call], order: &[OpId]) -> Option<Fault> {
+    for (j, later) in order.iter().enumerate() {
+        if let Some(i) = broken_before(calls, order, *later, j) {
+            return Some(Fault::OrderBroken(i, j));
+        }
+    }
+    None
+}
+
+fn first_unknown(calls: &[Call], order: &[OpId]) -> Option<Fault> {
     for (i, op) in order.iter().enumerate() {
         if call_of(calls, *op).is_none() {
-            return Verdict::No(Fault::UnknownCall(i));
+            return Some(Fault::UnknownCall(i));
         }
     }
+    None
+}
+
+fn first_twice(order: &[OpId]) -> Option<Fault> {
     for (i, op) in order.iter().enumerate() {
         if i <= order.len() && order[..i].contains(op) {
-            return Verdict::No(Fault::CallTwice(i));
+            return Some(Fault::CallTwice(i));
         }
     }
+    None
+}
+
+fn first_missing(calls: &[Call], order: &[OpId]) -> Option<Fault> {
     for call in calls {
         if call.response.is_some() && !order.contains(&call.op) {
-            return Verdict::No(Fault::MissingCall(call.op));
+            return Some(Fault::MissingCall(call.op));
         }
     }
+    None
+}
+
+fn first_pending(calls: &[Call], order: &[OpId]) -> Option<Fault> {
     for (i, op) in order.iter().enumerate() {
         if call_of(calls, *op).is_some_and(|call| is_pending_read(call)) {
-            return Verdict::No(Fault::PendingRead(i));
+            return Some(Fault::PendingRead(i));
         }
     }
+    None
+}
+
+fn first_wrong(calls: &[Call], order: &[OpId]) -> Option<Fault> {
     for (i, op) in order.iter().enumerate() {
         if i <= order.len() && is_wrong(calls, *op, &order[..i]) {
-            return Verdict::No(Fault::WrongAnswer(i));
+            return Some(Fault::WrongAnswer(i));
         }
     }
-    first_broken(calls, order).map_or(Verdict::Yes, Verdict::No)
+    None
+}
+
+/// The first fault of an order that lists just the completed calls, and pending ones, once each.
+fn first_of_calls(calls: &[Call], order: &[OpId]) -> Option<Fault> {
+    first_pending(calls, order)
+        .or(first_wrong(calls, order))
+        .or(first_broken(calls, order))
+}
+
+/// The first fault, where there is one.
+fn first_fault(calls: &[Call], order: &[OpId]) -> Option<Fault> {
+    let fault = first_unknown(calls, order)
+        .or(first_twice(order))
+        .or(first_missing(calls, order));
+    if fault.is_some() {
+        return fault;
+    }
+    first_of_calls(calls, order)
+}
+
+/// The definition, fault by fault.
+pub fn slow_verdict(calls: &[Call], order: &[OpId]) -> Verdict {
+    match first_fault(calls, order) {
+        Some(fault) => Verdict::No(fault),
+        None => Verdict::Yes,
+    }
 }

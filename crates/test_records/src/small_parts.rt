@@ -54,14 +54,20 @@ fn answer_of(alloc: Global, kind: u32) -> Option<Returned> {
     }
 }
 
+/// The answer of a call comes, if it stands before the invocation of call `i + 1`.
+fn respond(alloc: Global, history: &mut History, call: u32, choice: Choice, i: u32) -> Option<()> {
+    if choice.before != Some(i) {
+        return Some(());
+    }
+    let returned = answer_of(alloc, choice.kind)?;
+    history.respond(OpId(call), returned).ok()
+}
+
 /// Answers the earlier calls whose response stands before the invocation of call `i + 1`.
-fn respond(alloc: Global, history: &mut History, choices: &[Choice], i: u32) -> Option<()> {
+fn respond_all(alloc: Global, history: &mut History, choices: &[Choice], i: u32) -> Option<()> {
     let mut call = 0u32;
-    for earlier in choices {
-        if earlier.before == Some(i) {
-            let returned = answer_of(alloc, earlier.kind)?;
-            history.respond(OpId(call), returned).ok()?;
-        }
+    for choice in choices {
+        respond(alloc, history, call, *choice, i)?;
         call = call.saturating_add(1);
     }
     Some(())
@@ -71,22 +77,33 @@ fn respond(alloc: Global, history: &mut History, choices: &[Choice], i: u32) -> 
 fn invoke(alloc: Global, history: &mut History, i: u32, kind: u32) -> Option<()> {
     let client = ClientId::new(i.saturating_add(1)).ok()?;
     let key = Key::new(alloc, "x").ok()?;
-    let action = action_of(alloc, kind)?;
-    history.invoke(client, key, action).ok()?;
-    Some(())
+    match action_of(alloc, kind) {
+        Some(action) => history.invoke(client, key, action).ok().map(|_| ()),
+        None => None,
+    }
+}
+
+/// The choices of the calls of the part of that number: those of later calls than it has are pending.
+fn choices_for(number: u32, count: u32) -> [Choice; 4] {
+    let mut choices = [choice_of(0, 0); 4];
+    let mut rest = number;
+    let mut i = 0u32;
+    for choice in choices.iter_mut() {
+        let all = choices_of(count.saturating_sub(i)).max(1);
+        *choice = choice_of(rest % all, i);
+        rest /= all;
+        i = i.saturating_add(1);
+    }
+    choices
 }
 
 /// Records the calls of the part of that number.
 fn record(alloc: Global, history: &mut History, number: u32, count: u32) -> Option<()> {
-    let mut choices = Vec::new(alloc);
-    let mut rest = number;
-    for i in 0..count {
-        let all = choices_of(count.saturating_sub(i));
-        let choice = choice_of(rest.checked_rem(all)?, i);
-        rest = rest.checked_div(all)?;
-        choices.push(choice).ok()?;
-        invoke(alloc, history, i, choice.kind)?;
-        respond(alloc, history, choices.as_slice(), i)?;
+    let choices = choices_for(number, count);
+    for i in 0..count.min(4) {
+        let place = i as usize;
+        invoke(alloc, history, i, choices[place].kind)?;
+        respond_all(alloc, history, &choices[..place + 1], i)?;
     }
     Some(())
 }
@@ -138,39 +155,55 @@ impl Compared {
     }
 }
 
-/// Puts the order of that number and length in place of the one before; `base` numbers are told
-/// apart.
-fn number_order(order: &mut Vec<OpId>, number: u32, length: u32, base: u32) -> Option<()> {
-    order.clear();
+/// The order of that number, of four calls; `base` numbers are told apart.
+fn order_of(number: u32, base: u32) -> [OpId; 4] {
+    let mut order = [OpId(0); 4];
     let mut rest = number;
-    for _ in 0..length {
-        order.push(OpId(rest.checked_rem(base)?)).ok()?;
-        rest = rest.checked_div(base)?;
+    for op in order.iter_mut() {
+        *op = OpId(rest % base.max(1));
+        rest /= base.max(1);
     }
+    order
+}
+
+/// Compares both checks on an order.
+fn compare_order(
+    alloc: Global,
+    part: &Part,
+    order: &[OpId],
+    compared: &mut Compared,
+) -> Option<()> {
+    let fast = check_part(alloc, part, order).ok()?;
+    compared.count(fast, slow_verdict(part.calls(), order));
     Some(())
 }
 
 /// Compares both checks on each order of up to four numbers, one of which the part lacks.
 fn compare_orders(alloc: Global, part: &Part, count: u32, compared: &mut Compared) -> Option<()> {
     let base = count.saturating_add(1);
-    let mut order = Vec::new(alloc);
     let mut all = 1u32;
-    for length in 0..5 {
+    for length in 0..5usize {
         for number in 0..all {
-            number_order(&mut order, number, length, base)?;
-            let fast = check_part(alloc, part, order.as_slice()).ok()?;
-            compared.count(fast, slow_verdict(part.calls(), order.as_slice()));
+            let order = order_of(number, base);
+            compare_order(alloc, part, &order[..length.min(4)], compared)?;
         }
         all = all.saturating_mul(base);
     }
     Some(())
 }
 
+/// Compares both checks on the part of that number with so many calls.
+fn compare_part(alloc: Global, number: u32, count: u32, compared: &mut Compared) -> Option<()> {
+    match small_part(alloc, number, count) {
+        Some(part) => compare_orders(alloc, &part, count, compared),
+        None => None,
+    }
+}
+
 /// Compares both checks on the first `all` parts with so many calls.
 pub fn compare_parts(alloc: Global, count: u32, all: u32, compared: &mut Compared) -> Option<()> {
     for number in 0..all {
-        let part = small_part(alloc, number, count)?;
-        compare_orders(alloc, &part, count, compared)?;
+        compare_part(alloc, number, count, compared)?;
         compared.parts = compared.parts.saturating_add(1);
     }
     Some(())

@@ -3,8 +3,10 @@
 use crate::small_parts::{Compared, compare_parts};
 use crate::words::{first_word, number, two_numbers};
 use certificate_check::{Fault, Verdict};
-use std::alloc::{AllocError, Global};
+use std::alloc::Global;
+use std::fmt::Display;
 use tag::OpId;
+use test_rows::Answer;
 use witness_order::WitnessError;
 
 /// How many parts there are with so many calls.
@@ -28,10 +30,7 @@ fn compared(alloc: Global, from: u32, to: u32) -> Option<Compared> {
 }
 
 /// Says what was compared.
-fn say_compared(out: &mut String, compared: Option<Compared>) -> Result<(), AllocError> {
-    let Some(compared) = compared else {
-        return out.push_str("no memory for a part or an order\n");
-    };
+fn say_compared(out: &mut Answer, compared: &Compared) {
     let (parts, orders, differ) = (compared.parts, compared.orders, compared.differ);
     let yes = if compared.yes > 1000 {
         "more than 1000"
@@ -41,7 +40,15 @@ fn say_compared(out: &mut String, compared: Option<Compared>) -> Result<(), Allo
     write!(
         out,
         "{parts} parts, {orders} orders, {differ} differ, {yes} are yes\n"
-    )
+    );
+}
+
+/// Compares both checks, and says how that came out.
+fn compare(out: &mut Answer, from: u32, to: u32) {
+    match compared(out.alloc(), from, to) {
+        Some(compared) => say_compared(out, &compared),
+        None => out.push("no memory for a part or an order\n"),
+    }
 }
 
 /// The fault of a name and one or two numbers.
@@ -77,22 +84,29 @@ fn error_of(words: &str) -> Option<WitnessError> {
     }
 }
 
-/// Says what comes of a step on verdicts. Whether it is one.
-pub fn say(alloc: Global, out: &mut String, word: &str, rest: &str) -> Result<bool, AllocError> {
-    match word {
-        "verdict" => match verdict_of(rest) {
-            Some(verdict) => write!(out, "{verdict}\n")?,
-            None => return Ok(false),
-        },
-        "error" => match error_of(rest) {
-            Some(error) => write!(out, "{error}\n")?,
-            None => return Ok(false),
-        },
-        "compare" => match two_numbers(rest) {
-            Some((from, to)) => say_compared(out, compared(alloc, from, to))?,
-            None => return Ok(false),
-        },
-        _ => return Ok(false),
+/// Says a thing that was read of the words. Whether they are one.
+fn say_read<T: Display + Drop>(out: &mut Answer, read: Option<T>) -> bool {
+    match read {
+        Some(read) => {
+            write!(out, "{read}\n");
+            true
+        }
+        None => false,
     }
-    Ok(true)
+}
+
+/// Says what comes of a step on verdicts. Whether it is one.
+pub fn say(out: &mut Answer, word: &str, rest: &str) -> bool {
+    match word {
+        "verdict" => say_read(out, verdict_of(rest)),
+        "error" => say_read(out, error_of(rest)),
+        "compare" => match two_numbers(rest) {
+            Some((from, to)) => {
+                compare(out, from, to);
+                true
+            }
+            None => false,
+        },
+        _ => false,
+    }
 }

@@ -1,6 +1,7 @@
 //! Words of a row's lines.
 
 use std::alloc::{AllocError, Global};
+use test_rows::Answer;
 
 /// The first word and what follows it.
 pub fn first_word(line: &str) -> (&str, &str) {
@@ -19,25 +20,25 @@ pub fn two_numbers(text: &str) -> Option<(u32, u32)> {
 }
 
 /// Adds a text in which `\n` stands for the end of a line, at most once.
-fn push_unit(out: &mut String, unit: &str) -> Result<(), AllocError> {
+fn push_unit(out: &mut Answer, unit: &str) {
     match unit.split_once("\\n") {
         Some((before, after)) => {
-            out.push_str(before)?;
-            out.push_str("\n")?;
-            out.push_str(after)
+            out.push(before);
+            out.push("\n");
+            out.push(after);
         }
-        None => out.push_str(unit),
+        None => out.push(unit),
     }
 }
 
 /// The text that is meant: `<65*k>` stands for 65 times `k`, and `\n` for the end of a line.
 pub fn meant(alloc: Global, text: &str) -> Result<String, AllocError> {
-    let mut whole = String::new(alloc);
+    let mut whole = Answer::new(alloc);
     let (count, unit) = repeated(text).unwrap_or((1, text));
     for _ in 0..count {
-        push_unit(&mut whole, unit)?;
+        push_unit(&mut whole, unit);
     }
-    Ok(whole)
+    whole.text()
 }
 
 /// How often which text is meant, where it is written as `<65*k>`.

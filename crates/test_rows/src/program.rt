@@ -3,59 +3,86 @@ use crate::{Row, report};
 use std::alloc::{AllocError, Global};
 use std::process::ExitCode;
 use std::rt::{Env, Files};
-use std::{env, fs, io};
+use std::{env, fs};
+
+/// Says what was found of a row. Whether it is as expected, and was said.
+fn say_found<R>(rt: &R, row: &Row<'_>, found: &str) -> bool
+where
+    R: Print + Alloc<A = Global>,
+{
+    match report(rt.alloc(), row, found) {
+        Ok(text) => rt.print(text.as_str()).is_ok() && found == row.expected,
+        Err(_) => false,
+    }
+}
 
 /// Says what came of a row. Whether it is as expected.
-fn say_row<R, F>(rt: &R, found: &F, block: &str) -> io::Result<bool>
+fn say_row<R, F>(rt: &R, found: &F, block: &str) -> bool
 where
     R: Print + Alloc<A = Global>,
     F: Fn(&str) -> Result<String, AllocError>,
     requires { F.IsAlwaysCallable found.now }
 {
     let Some(row) = Row::read(block) else {
-        rt.println("NOT A ROW")?;
-        return Ok(false);
+        let _ = rt.println("NOT A ROW");
+        return false;
     };
-    let found = found(row.input)?;
-    let text = report(rt.alloc(), &row, found.as_str())?;
-    rt.print(text.as_str())?;
-    Ok(found.as_str() == row.expected)
+    match found(row.input) {
+        Ok(text) => say_found(rt, &row, text.as_str()),
+        Err(_) => false,
+    }
+}
+
+/// Says what came of the rows of a file's text. Whether all are as expected.
+fn say_rows<R, F>(rt: &R, found: &F, text: &str) -> bool
+where
+    R: Print + Alloc<A = Global>,
+    F: Fn(&str) -> Result<String, AllocError>,
+    requires { F.IsAlwaysCallable found.now }
+{
+    let mut good = true;
+    for block in text.split("\n### ").skip(1) {
+        good = say_row(rt, found, block) && good;
+    }
+    good
 }
 
 /// Says what came of the rows of a file. Whether all are as expected.
-fn say_file<R, F>(rt: &R, found: &F, name: &str) -> io::Result<bool>
+fn say_file<R, F>(rt: &R, found: &F, name: &str) -> bool
 where
     R: Files + Print + Alloc<A = Global>,
     F: Fn(&str) -> Result<String, AllocError>,
     requires { F.IsAlwaysCallable found.now }
 {
-    let text = fs::read_to_string(rt, name)?;
-    let mut good = true;
-    for block in text.as_str().split("\n### ").skip(1) {
-        if !say_row(rt, found, block)? {
-            good = false;
-        }
+    match fs::read_to_string(rt, name) {
+        Ok(text) => say_rows(rt, found, text.as_str()),
+        Err(_) => false,
     }
-    Ok(good)
 }
 
-/// Says what came of the rows of each file that the program's words name. Whether all are as expected.
-fn say_files<R, F>(rt: &R, found: &F) -> io::Result<bool>
+/// Says what came of the rows of the files of those names, after the program's own. Whether all are as expected.
+fn say_files<R, F>(rt: &R, found: &F, words: &[String]) -> bool
 where
-    R: Env + Files + Print + Alloc<A = Global>,
+    R: Files + Print + Alloc<A = Global>,
     F: Fn(&str) -> Result<String, AllocError>,
     requires { F.IsAlwaysCallable found.now }
 {
-    let Ok(words) = env::args(rt)?.collect::<Vec<String>>(rt.alloc()) else {
-        return Ok(false);
-    };
     let mut good = true;
     for name in words.iter().skip(1) {
-        if !say_file(rt, found, name.as_str())? {
-            good = false;
-        }
+        good = say_file(rt, found, name.as_str()) && good;
     }
-    Ok(good)
+    good
+}
+
+/// The program's words.
+fn words<R>(rt: &R) -> Option<Vec<String>>
+where
+    R: Env + Alloc<A = Global>,
+{
+    match env::args(rt) {
+        Ok(words) => words.collect::<Vec<String>>(rt.alloc()).ok(),
+        Err(_) => None,
+    }
 }
 
 /// Goes over the files that the program's words name, and says what came of each row: what `found`
@@ -66,8 +93,8 @@ where
     F: Fn(&str) -> Result<String, AllocError>,
     requires { F.IsAlwaysCallable found.now }
 {
-    match say_files(rt, found) {
-        Ok(true) => ExitCode::SUCCESS,
+    match words(rt) {
+        Some(words) if say_files(rt, found, words.as_slice()) => ExitCode::SUCCESS,
         _ => ExitCode::FAILURE,
     }
 }

@@ -1,8 +1,8 @@
 //! Rows of histories, by what they say of their calls.
 ghost use Rattle.test_rows.specs.Recorded.{SaysOf};
 
+use crate::Answer;
 use recorder::Row;
-use std::alloc::AllocError;
 use tag::{Action, ClientId, Key, Returned, Tag};
 
 /// What a row says of its call: who begins it, on which key, and what it does; or its tag; or its answer.
@@ -30,18 +30,18 @@ pub fn said_by(row: &Row) -> (u32, RowSaid<'_>)
 }
 
 /// A tag as `(NUMBER, WRITER)`.
-pub fn say_tag(out: &mut String, tag: Tag) -> Result<(), AllocError> {
+pub fn say_tag(out: &mut Answer, tag: Tag) {
     let (number, writer) = (tag.number(), tag.writer());
-    write!(out, "({number}, {writer})")
+    write!(out, "({number}, {writer})");
 }
 
 /// `read`, or `write TEXT`.
-pub fn say_action(out: &mut String, action: &Action) -> Result<(), AllocError> {
+pub fn say_action(out: &mut Answer, action: &Action) {
     match action {
-        Action::Read => out.push_str("read"),
+        Action::Read => out.push("read"),
         Action::Write(value) => {
             let text = value.as_str();
-            write!(out, "write {text}")
+            write!(out, "write {text}");
         }
     }
 }

@@ -3,15 +3,14 @@ mod answers;
 mod further;
 
 use crate::slow::{Rules, SlowWorld};
+use crate::stop::Stop;
 use answers::Answers;
 use client_phases::ReadMode;
 use further::{client, further_step, query, read, with_same_value};
 use quorum::Quorums;
 use random_steps::RandomSteps;
 use std::alloc::Global;
-use std::process::Abort;
-use std::test::Fail;
-use world_steps::{Config, Refusal, Step, World};
+use world_steps::{Config, Effect, Refusal, Step, World};
 
 /// A run: the seed of its random steps and how many they are, the votes and those of an ask quorum and
 /// of a put quorum, how clients read, how many calls and messages there may be, and whether all writes
@@ -29,27 +28,32 @@ struct Run<'a> {
     same_value: bool,
 }
 
-/// The real world and the slow one.
+/// The real world and the slow one, and what the slow one answered last.
 #[derive(Drop)]
 struct Twins {
     real: World,
     slow: SlowWorld,
+    expected: Result<Effect, Refusal>,
 }
 
-fn real_world(alloc: Global, run: &Run) -> Result<World, Fail> {
-    let quorums = Quorums::new(run.votes, run.ask, run.put).ok_or("quorums")?;
-    let config = Config::new(quorums.replicas(), run.calls, run.flights).ok_or("limits")?;
-    let config = config.with_quorums(quorums).ok_or("as many replicas")?;
+fn real_world(alloc: Global, run: &Run) -> Result<World, Stop> {
+    let quorums = Quorums::new(run.votes, run.ask, run.put).ok_or(Stop::Quorums)?;
+    let config = Config::new(quorums.replicas(), run.calls, run.flights).ok_or(Stop::Limits)?;
+    let config = config.with_quorums(quorums).ok_or(Stop::Replica)?;
     Ok(World::new(alloc, config.with_reads(run.reads))?)
 }
 
-fn slow_world(alloc: Global, run: &Run) -> Result<SlowWorld, Fail> {
+fn votes_of(alloc: Global, run: &Run) -> Result<Vec<u32>, Stop> {
     let mut votes = Vec::new(alloc);
     for vote in run.votes {
         votes.push(u32::from(*vote))?;
     }
+    Ok(votes)
+}
+
+fn slow_world(alloc: Global, run: &Run) -> Result<SlowWorld, Stop> {
     let rules = Rules {
-        votes,
+        votes: votes_of(alloc, run)?,
         ask: u32::from(run.ask),
         put: u32::from(run.put),
         reads: run.reads,
@@ -57,85 +61,116 @@ fn slow_world(alloc: Global, run: &Run) -> Result<SlowWorld, Fail> {
     SlowWorld::new(alloc, rules, run.calls, run.flights)
 }
 
-/// Both worlds take a step, and answer the same; want of memory ends the test.
-fn take(rt: &impl Abort, twins: &mut Twins, answers: &mut Answers, step: Step) -> Result<(), Fail> {
-    let expected = twins.slow.take(&step)?;
-    let answer = twins.real.step(step);
-    if answer == Err(Refusal::Memory) {
-        return Err("no memory")?;
+fn both_of(alloc: Global, run: &Run) -> Result<Twins, Stop> {
+    let real = real_world(alloc, run)?;
+    match slow_world(alloc, run) {
+        Ok(slow) => Ok(Twins {
+            real,
+            slow,
+            expected: Err(Refusal::Memory),
+        }),
+        Err(stop) => Err(stop),
     }
-    assert_eq!(rt; answer, expected);
+}
+
+/// Ends the test where the answer isn't the one that has to come, or memory was wanted.
+fn compare_answers(
+    answer: &Result<Effect, Refusal>,
+    expected: &Result<Effect, Refusal>,
+) -> Result<(), Stop> {
+    if *answer == Err(Refusal::Memory) {
+        return Err(Stop::Memory);
+    }
+    if *answer != *expected {
+        return Err(Stop::Differs);
+    }
+    Ok(())
+}
+
+/// Both worlds take a step, and answer the same.
+fn take(twins: &mut Twins, answers: &mut Answers, step: Step) -> Result<(), Stop> {
+    twins.slow.take(&step, &mut twins.expected)?;
+    let answer = twins.real.step(step);
+    compare_answers(&answer, &twins.expected)?;
     answers.add(answer);
     Ok(())
 }
 
 /// Four clients join.
-fn join(rt: &impl Abort, twins: &mut Twins, answers: &mut Answers) -> Result<(), Fail> {
+fn join(twins: &mut Twins, answers: &mut Answers) -> Result<(), Stop> {
     for name in 1..5 {
         let client = client(name)?;
-        take(rt, twins, answers, Step::Join { client })?;
+        take(twins, answers, Step::Join { client })?;
     }
     Ok(())
 }
 
 /// One client reads, sends a query, and the query is repeated until it has as many copies as may be.
-fn repeat(
-    rt: &impl Abort,
+fn repeat(alloc: Global, twins: &mut Twins, answers: &mut Answers) -> Result<(), Stop> {
+    take(twins, answers, read(alloc, 1)?)?;
+    take(twins, answers, query(1)?)?;
+    for _ in 0..1000 {
+        take(twins, answers, Step::Repeat { flight: 0 })?;
+    }
+    Ok(())
+}
+
+/// Takes the further step before the random one of that number, if there is one.
+fn take_further(
     alloc: Global,
     twins: &mut Twins,
     answers: &mut Answers,
-) -> Result<(), Fail> {
-    take(rt, twins, answers, read(alloc, 1)?)?;
-    take(rt, twins, answers, query(1)?)?;
-    for _ in 0..1000 {
-        take(rt, twins, answers, Step::Repeat { flight: 0 })?;
+    number: u32,
+) -> Result<(), Stop> {
+    let replicas = twins.real.config().replicas();
+    match further_step(alloc, replicas, number)? {
+        Some(step) => take(twins, answers, step),
+        None => Ok(()),
     }
-    Ok(())
+}
+
+/// The next random step.
+fn drawn(
+    alloc: Global,
+    random: &mut RandomSteps,
+    real: &World,
+    same_value: bool,
+) -> Result<Step, Stop> {
+    let step = random.next(alloc, real)?;
+    if same_value {
+        with_same_value(alloc, &step)
+    } else {
+        Ok(step)
+    }
 }
 
 /// The random steps of a run, and the further ones between them.
-fn walk(
-    rt: &impl Abort,
-    alloc: Global,
-    run: &Run,
-    twins: &mut Twins,
-    answers: &mut Answers,
-) -> Result<(), Fail> {
-    let replicas = twins.real.config().replicas();
+fn walk(alloc: Global, run: &Run, twins: &mut Twins, answers: &mut Answers) -> Result<(), Stop> {
     let mut random = RandomSteps::new(run.seed);
     for number in 0..run.steps {
-        if let Some(step) = further_step(alloc, replicas, number)? {
-            take(rt, twins, answers, step)?;
-        }
-        let step = random.next(alloc, &twins.real)?;
-        let step = if run.same_value {
-            with_same_value(alloc, &step)?
-        } else {
-            step
-        };
-        take(rt, twins, answers, step)?;
+        take_further(alloc, twins, answers, number)?;
+        let step = drawn(alloc, &mut random, &twins.real, run.same_value)?;
+        take(twins, answers, step)?;
     }
     Ok(())
 }
 
-/// The records are equal, row by row.
-fn compare_records(rt: &impl Abort, twins: &Twins) {
-    let rows = twins.real.history().rows();
-    assert_eq!(rt; rows.len(), twins.slow.rows().len());
-    for (row, expected) in rows.iter().zip(twins.slow.rows().iter()) {
-        assert_eq!(rt; row, expected);
+/// The steps of a run, after which the records are equal.
+fn play(alloc: Global, run: &Run, twins: &mut Twins, answers: &mut Answers) -> Result<(), Stop> {
+    join(twins, answers)?;
+    repeat(alloc, twins, answers)?;
+    walk(alloc, run, twins, answers)?;
+    if twins.real.history().rows() != twins.slow.rows() {
+        return Err(Stop::Differs);
     }
+    Ok(())
 }
 
-fn compare(rt: &impl Abort, alloc: Global, run: &Run, answers: &mut Answers) -> Result<(), Fail> {
-    let real = real_world(alloc, run)?;
-    let slow = slow_world(alloc, run)?;
-    let mut twins = Twins { real, slow };
-    join(rt, &mut twins, answers)?;
-    repeat(rt, alloc, &mut twins, answers)?;
-    walk(rt, alloc, run, &mut twins, answers)?;
-    compare_records(rt, &twins);
-    Ok(())
+fn compare(alloc: Global, run: &Run, answers: &mut Answers) -> Result<(), Stop> {
+    match both_of(alloc, run) {
+        Ok(mut twins) => play(alloc, run, &mut twins, answers),
+        Err(stop) => Err(stop),
+    }
 }
 
 /// Majorities of five replicas, and limits that aren't reached.
@@ -191,15 +226,17 @@ fn runs(seed: u64) -> [Run<'static>; 7] {
 }
 
 #[test]
-fn both_worlds_answer_the_same(rt: HostRuntime) -> Result<(), Fail> {
+fn both_worlds_answer_the_same(rt: HostRuntime) -> Result<(), Stop> {
     let mut answers = Answers::none();
     for seed in 1..4 {
-        for run in runs(seed) {
-            compare(&rt, rt.alloc(), &run, &mut answers)?;
+        for run in &runs(seed) {
+            compare(rt.alloc(), run, &mut answers)?;
         }
     }
     for number in (1..14).chain(16..30) {
-        assert!(rt; answers.count(number) > 0, "the answer {number} never came");
+        if answers.count(number) == 0 {
+            return Err(Stop::NeverCame(number));
+        }
     }
     Ok(())
 }

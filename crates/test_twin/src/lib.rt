@@ -7,3 +7,5 @@
 mod comparison;
 #[cfg(test)]
 mod slow;
+#[cfg(test)]
+mod stop;

@@ -4,6 +4,7 @@ mod moving;
 mod replicas;
 mod step_conditions;
 
+use crate::stop::Stop;
 use client_phases::Phase;
 pub(crate) use clients::Rules;
 use clients::SlowClient;
@@ -11,7 +12,6 @@ use network::Message;
 use recorder::Row;
 use replicas::SlowReplica;
 use std::alloc::Global;
-use std::test::Fail;
 use tag::{ClientId, ReplicaId};
 use world_steps::{Effect, Refusal, Step};
 
@@ -42,24 +42,20 @@ impl SlowWorld {
         rules: Rules,
         calls: u32,
         limit: u32,
-    ) -> Result<SlowWorld, Fail> {
-        let mut replicas = Vec::new(alloc);
-        for number in 0u8..15 {
-            if usize::from(number) < rules.votes.len() {
-                let number = ReplicaId::new(number).ok_or("a replica")?;
-                replicas.push(SlowReplica::new(alloc, number))?;
-            }
+    ) -> Result<SlowWorld, Stop> {
+        match replicas::all(alloc, rules.votes.len()) {
+            Ok(replicas) => Ok(SlowWorld {
+                alloc,
+                rules,
+                calls,
+                limit,
+                clients: Vec::new(alloc),
+                replicas,
+                flights: Vec::new(alloc),
+                rows: Vec::new(alloc),
+            }),
+            Err(stop) => Err(stop),
         }
-        Ok(SlowWorld {
-            alloc,
-            rules,
-            calls,
-            limit,
-            clients: Vec::new(alloc),
-            replicas,
-            flights: Vec::new(alloc),
-            rows: Vec::new(alloc),
-        })
     }
 
     /// The record.
@@ -67,12 +63,17 @@ impl SlowWorld {
         &self.rows
     }
 
-    /// Takes a step: refuses it by the table, or moves.
-    pub(crate) fn take(&mut self, step: &Step) -> Result<Result<Effect, Refusal>, Fail> {
-        match self.refusal(step) {
-            Some(refusal) => Ok(Err(refusal)),
-            None => Ok(Ok(self.moved(step)?)),
-        }
+    /// Takes a step: refuses it by the table, or moves. What it answers goes into `answer`.
+    pub(crate) fn take(
+        &mut self,
+        step: &Step,
+        answer: &mut Result<Effect, Refusal>,
+    ) -> Result<(), Stop> {
+        *answer = match self.refusal(step) {
+            Some(refusal) => Err(refusal),
+            None => Ok(self.moved(step)?),
+        };
+        Ok(())
     }
 }
 

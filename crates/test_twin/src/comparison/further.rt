@@ -1,20 +1,20 @@
 //! The steps that random steps never are.
+use crate::stop::Stop;
 use std::alloc::Global;
-use std::test::Fail;
 use tag::{Action, ClientId, Key, ReplicaId, Value};
 use world_steps::Step;
 
-pub(crate) fn client(name: u32) -> Result<ClientId, Fail> {
+pub(crate) fn client(name: u32) -> Result<ClientId, Stop> {
     Ok(ClientId::new(name)?)
 }
 
-fn replica(number: u32) -> Result<ReplicaId, Fail> {
-    let number = u8::try_from(number).ok().ok_or("a small number")?;
-    Ok(ReplicaId::new(number).ok_or("a replica")?)
+fn replica(number: u32) -> Result<ReplicaId, Stop> {
+    let number = u8::try_from(number).ok().ok_or(Stop::Replica)?;
+    ReplicaId::new(number).ok_or(Stop::Replica)
 }
 
 /// A client invokes a read.
-pub(crate) fn read(alloc: Global, name: u32) -> Result<Step, Fail> {
+pub(crate) fn read(alloc: Global, name: u32) -> Result<Step, Stop> {
     Ok(Step::Invoke {
         client: client(name)?,
         key: Key::new(alloc, "k0")?,
@@ -23,31 +23,39 @@ pub(crate) fn read(alloc: Global, name: u32) -> Result<Step, Fail> {
 }
 
 /// A client sends to the first replica.
-pub(crate) fn query(name: u32) -> Result<Step, Fail> {
+pub(crate) fn query(name: u32) -> Result<Step, Stop> {
     Ok(Step::Send {
         client: client(name)?,
         replica: replica(0)?,
     })
 }
 
+/// A write of `a` on the key.
+fn write(alloc: Global, client: ClientId, key: &Key) -> Result<Step, Stop> {
+    match (key.copy(), Value::new(alloc, "a")) {
+        (Ok(key), Ok(value)) => Ok(Step::Invoke {
+            client,
+            key,
+            action: Action::Write(value),
+        }),
+        _ => Err(Stop::Memory),
+    }
+}
+
 /// The same step, but that a write writes `a`.
-pub(crate) fn with_same_value(alloc: Global, step: &Step) -> Result<Step, Fail> {
+pub(crate) fn with_same_value(alloc: Global, step: &Step) -> Result<Step, Stop> {
     match step {
         Step::Invoke {
             client,
             key,
             action: Action::Write(_),
-        } => Ok(Step::Invoke {
-            client: *client,
-            key: key.copy()?,
-            action: Action::Write(Value::new(alloc, "a")?),
-        }),
+        } => write(alloc, *client, key),
         other => Ok(other.copy()?),
     }
 }
 
 /// A step of a client that never joined.
-fn step_of_nobody(alloc: Global, round: u32) -> Result<Step, Fail> {
+fn step_of_nobody(alloc: Global, round: u32) -> Result<Step, Stop> {
     let name = 65_535;
     match round % 4 {
         0 => read(alloc, name),
@@ -63,7 +71,7 @@ fn step_of_nobody(alloc: Global, round: u32) -> Result<Step, Fail> {
 
 /// A step of a client that joined: it stops, and another joins in its place; it joins again; or it
 /// sends to a replica that isn't there.
-fn step_of_somebody(round: u32) -> Result<Step, Fail> {
+fn step_of_somebody(round: u32) -> Result<Step, Stop> {
     let name = round / 64 % 1000 + 1;
     match round % 64 {
         20 | 21 => Ok(Step::StopClient {
@@ -82,13 +90,13 @@ fn step_of_somebody(round: u32) -> Result<Step, Fail> {
     }
 }
 
-fn stop(number: u32) -> Result<Step, Fail> {
+fn stop(number: u32) -> Result<Step, Stop> {
     Ok(Step::StopReplica {
         replica: replica(number)?,
     })
 }
 
-fn start(number: u32) -> Result<Step, Fail> {
+fn start(number: u32) -> Result<Step, Stop> {
     Ok(Step::StartReplica {
         replica: replica(number)?,
     })
@@ -97,7 +105,7 @@ fn start(number: u32) -> Result<Step, Fail> {
 /// The step before the random one of that number, if there is one. In each round of 60 steps a replica
 /// stops, stops again and starts; another, that is up, starts; and two clients take a step, one of
 /// whom never joined. Of the replicas that take turns one isn't there.
-pub(crate) fn further_step(alloc: Global, replicas: u8, number: u32) -> Result<Option<Step>, Fail> {
+pub(crate) fn further_step(alloc: Global, replicas: u8, number: u32) -> Result<Option<Step>, Stop> {
     let round = number / 60;
     let turns = u32::from(replicas) + 1;
     let step = match number % 60 {

@@ -1,9 +1,9 @@
 //! A client as where it stands, its call, whom it counted and what it was told.
 use super::replicas::copied;
+use crate::stop::Stop;
 use client_phases::{Phase, ReadMode, Taken};
 use replica::{Reply, Request};
 use std::alloc::Global;
-use std::test::Fail;
 use tag::{Action, ClientId, Key, OpId, ReplicaId, Returned, Tag, Value};
 
 /// The votes of each replica, how many end an asking and a putting, and how clients read.
@@ -40,6 +40,15 @@ pub(crate) struct Call {
     action: Action,
 }
 
+impl Call {
+    fn new(op: OpId, key: &Key, action: &Action) -> Result<Call, Stop> {
+        match (key.copy(), action.copy()) {
+            (Ok(key), Ok(action)) => Ok(Call { op, key, action }),
+            _ => Err(Stop::Memory),
+        }
+    }
+}
+
 /// A client: where it stands; its call, unless it is idle or stopped; the replicas that it counted in
 /// this phase; the pair that it puts, or the one of the greatest tag that it was told; the least tag
 /// that it was told.
@@ -69,38 +78,47 @@ impl SlowClient {
     }
 
     /// It begins to ask: nobody is counted, and nothing was told.
-    pub(crate) fn invoke(&mut self, op: OpId, key: Key, action: Action) {
-        self.call = Some(Call { op, key, action });
+    pub(crate) fn invoke(&mut self, op: OpId, key: &Key, action: &Action) -> Result<(), Stop> {
+        self.call = Some(Call::new(op, key, action)?);
         self.phase = Phase::Ask;
         self.counted.clear();
         self.tag = Tag::least();
         self.value = None;
         self.least = Tag::least();
+        Ok(())
     }
 
-    fn call(&self) -> Result<&Call, Fail> {
-        Ok(self.call.as_ref().ok_or("a client with a call")?)
+    fn call(&self) -> Result<&Call, Stop> {
+        self.call.as_ref().ok_or(Stop::Call)
+    }
+
+    /// The put of its pair.
+    fn put(&self, op: OpId, key: Key) -> Result<Request, Stop> {
+        match copied(&self.value) {
+            Ok(value) => Ok(Request::Put {
+                op,
+                key,
+                tag: self.tag,
+                value,
+            }),
+            Err(stop) => Err(stop),
+        }
     }
 
     /// What it sends: a query while it asks, its pair while it puts.
-    pub(crate) fn request(&self) -> Result<Request, Fail> {
+    pub(crate) fn request(&self) -> Result<Request, Stop> {
         let call = self.call()?;
         let op = call.op;
         let key = call.key.copy()?;
         match self.phase {
             Phase::Ask => Ok(Request::Query { op, key }),
-            Phase::Put => Ok(Request::Put {
-                op,
-                key,
-                tag: self.tag,
-                value: copied(&self.value)?,
-            }),
-            _ => Err("a client that asks or puts")?,
+            Phase::Put => self.put(op, key),
+            _ => Err(Stop::Call),
         }
     }
 
     /// The number of its call and its answer: a read's value, or that the write is done.
-    pub(crate) fn answer(&self) -> Result<(OpId, Returned), Fail> {
+    pub(crate) fn answer(&self) -> Result<(OpId, Returned), Stop> {
         let call = self.call()?;
         match &call.action {
             Action::Read => Ok((call.op, Returned::Value(copied(&self.value)?))),
@@ -125,32 +143,37 @@ impl SlowClient {
         }
     }
 
+    /// A pair that counts was told.
+    fn told(
+        &mut self,
+        rules: &Rules,
+        replica: ReplicaId,
+        tag: Tag,
+        value: &Option<Value>,
+    ) -> Result<Taken, Stop> {
+        self.learn(tag, value)?;
+        self.counted.push(replica)?;
+        self.asked(rules)
+    }
+
     /// It makes of a reply what comes of it.
-    pub(crate) fn hear(&mut self, rules: &Rules, reply: &Reply) -> Result<Taken, Fail> {
-        match (self.phase, reply) {
-            (
-                Phase::Ask,
-                Reply::Held {
-                    op,
-                    replica,
-                    tag,
-                    value,
-                },
-            ) if self.counts(rules, *op, *replica) => {
-                self.learn(*tag, value)?;
-                self.counted.push(*replica)?;
-                self.asked(rules)
-            }
-            (Phase::Put, Reply::Kept { op, replica }) if self.counts(rules, *op, *replica) => {
-                self.counted.push(*replica)?;
-                Ok(self.kept(rules))
-            }
-            _ => Ok(Taken::Stale),
+    pub(crate) fn hear(&mut self, rules: &Rules, reply: &Reply) -> Result<Taken, Stop> {
+        let (phase, op, replica) = match reply {
+            Reply::Held { op, replica, .. } => (Phase::Ask, *op, *replica),
+            Reply::Kept { op, replica } => (Phase::Put, *op, *replica),
+        };
+        if self.phase != phase || !self.counts(rules, op, replica) {
+            return Ok(Taken::Stale);
         }
+        if let Reply::Held { tag, value, .. } = reply {
+            return self.told(rules, replica, *tag, value);
+        }
+        self.counted.push(replica)?;
+        Ok(self.kept(rules))
     }
 
     /// It was told a pair.
-    fn learn(&mut self, tag: Tag, value: &Option<Value>) -> Result<(), Fail> {
+    fn learn(&mut self, tag: Tag, value: &Option<Value>) -> Result<(), Stop> {
         if self.counted.is_empty() || tag < self.least {
             self.least = tag;
         }
@@ -170,7 +193,7 @@ impl SlowClient {
     }
 
     /// An asking is over with an ask quorum.
-    fn asked(&mut self, rules: &Rules) -> Result<Taken, Fail> {
+    fn asked(&mut self, rules: &Rules) -> Result<Taken, Stop> {
         if rules.votes_of(&self.counted) < rules.ask {
             return Ok(Taken::Counted);
         }
@@ -185,13 +208,13 @@ impl SlowClient {
     }
 
     /// A read puts the pair that it found, a write its own value with the first of its tags above that.
-    fn choose(&mut self) -> Result<(), Fail> {
+    fn choose(&mut self) -> Result<(), Stop> {
         let value = match &self.call()?.action {
             Action::Read => return Ok(()),
             Action::Write(value) => value.copy()?,
         };
         let number = self.tag.number().saturating_add(1);
-        self.tag = Tag::new(number, self.name.get()).ok_or("a tag")?;
+        self.tag = Tag::new(number, self.name.get()).ok_or(Stop::Tag)?;
         self.value = Some(value);
         Ok(())
     }

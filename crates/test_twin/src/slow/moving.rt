@@ -2,17 +2,30 @@
 use super::clients::SlowClient;
 use super::replicas::SlowReplica;
 use super::{SlowFlight, SlowWorld};
+use crate::stop::Stop;
 use client_phases::{Phase, Taken};
 use network::Message;
 use recorder::Row;
 use replica::{Reply, Request};
-use std::test::Fail;
 use tag::{Action, ClientId, Key, OpId, ReplicaId, Tag};
 use world_steps::{Effect, Step};
 
+/// The row of an invocation.
+fn invocation(op: OpId, client: ClientId, key: &Key, action: &Action) -> Result<Row, Stop> {
+    match (key.copy(), action.copy()) {
+        (Ok(key), Ok(action)) => Ok(Row::Invoke {
+            op,
+            client,
+            key,
+            action,
+        }),
+        _ => Err(Stop::Memory),
+    }
+}
+
 impl SlowWorld {
     /// Takes a step that nothing refuses, and says what it did.
-    pub(super) fn moved(&mut self, step: &Step) -> Result<Effect, Fail> {
+    pub(super) fn moved(&mut self, step: &Step) -> Result<Effect, Stop> {
         match step {
             Step::Join { client } => self.join(*client),
             Step::Invoke {
@@ -40,66 +53,65 @@ impl SlowWorld {
         }
     }
 
-    fn client_mut(&mut self, name: ClientId) -> Result<&mut SlowClient, Fail> {
+    fn client_mut(&mut self, name: ClientId) -> Result<&mut SlowClient, Stop> {
         let found = self.clients.iter().position(|client| client.name == name);
-        let place = found.ok_or("a client")?;
-        Ok(self.clients.get_mut(place).ok_or("a client")?)
+        let place = found.ok_or(Stop::Client)?;
+        self.clients.get_mut(place).ok_or(Stop::Client)
     }
 
-    fn replica_mut(&mut self, number: ReplicaId) -> Result<&mut SlowReplica, Fail> {
+    fn replica_mut(&mut self, number: ReplicaId) -> Result<&mut SlowReplica, Stop> {
         let place = usize::from(number.get());
-        Ok(self.replicas.get_mut(place).ok_or("a replica")?)
+        self.replicas.get_mut(place).ok_or(Stop::Replica)
     }
 
-    fn flight_mut(&mut self, number: u32) -> Result<&mut SlowFlight, Fail> {
-        Ok(self.flights.get_mut(number as usize).ok_or("a flight")?)
+    fn flight_mut(&mut self, number: u32) -> Result<&mut SlowFlight, Stop> {
+        self.flights.get_mut(number as usize).ok_or(Stop::Flight)
     }
 
-    fn join(&mut self, name: ClientId) -> Result<Effect, Fail> {
+    fn join(&mut self, name: ClientId) -> Result<Effect, Stop> {
         self.clients.push(SlowClient::new(self.alloc, name))?;
         Ok(Effect::Joined)
     }
 
     /// The call is recorded, and has the number of the calls before it.
-    fn invoke(&mut self, name: ClientId, key: &Key, action: &Action) -> Result<Effect, Fail> {
+    fn invoke(&mut self, name: ClientId, key: &Key, action: &Action) -> Result<Effect, Stop> {
         let op = OpId(self.call_count());
-        let (first_key, first_action) = (key.copy()?, action.copy()?);
-        self.client_mut(name)?.invoke(op, first_key, first_action);
-        self.rows.push(Row::Invoke {
-            op,
-            client: name,
-            key: key.copy()?,
-            action: action.copy()?,
-        })?;
+        self.client_mut(name)?.invoke(op, key, action)?;
+        self.rows.push(invocation(op, name, key, action)?)?;
         Ok(Effect::Invoked(op))
     }
 
     /// A message that is sent has the next number, and one copy.
-    fn put_in_flight(&mut self, message: Message) -> Result<u32, Fail> {
+    fn put_in_flight(&mut self, message: Message) -> Result<u32, Stop> {
         let number = self.sent();
         self.flights.push(SlowFlight { message, copies: 1 })?;
         Ok(number)
     }
 
-    fn send(&mut self, name: ClientId, replica: ReplicaId) -> Result<Effect, Fail> {
+    fn send(&mut self, name: ClientId, replica: ReplicaId) -> Result<Effect, Stop> {
         let request = self.client_mut(name)?.request()?;
         let number = self.put_in_flight(Message::ToReplica(replica, request))?;
         Ok(Effect::Sent(number))
     }
 
-    /// A copy comes to whom it was sent, and goes.
-    fn deliver(&mut self, number: u32) -> Result<Effect, Fail> {
+    /// A copy comes to whom it was sent.
+    fn carry(&mut self, number: u32) -> Result<Effect, Stop> {
         let message = self.flight_mut(number)?.message.copy()?;
-        let effect = match &message {
-            Message::ToReplica(replica, request) => self.handle(*replica, request)?,
-            Message::ToClient(client, reply) => self.hear(*client, reply)?,
-        };
+        match &message {
+            Message::ToReplica(replica, request) => self.handle(*replica, request),
+            Message::ToClient(client, reply) => self.hear(*client, reply),
+        }
+    }
+
+    /// A copy comes to whom it was sent, and goes.
+    fn deliver(&mut self, number: u32) -> Result<Effect, Stop> {
+        let effect = self.carry(number)?;
         let _ = self.lose(number)?;
         Ok(effect)
     }
 
     /// The client that made a call.
-    fn caller(&self, call: OpId) -> Result<ClientId, Fail> {
+    fn caller(&self, call: OpId) -> Result<ClientId, Stop> {
         for row in &self.rows {
             if let Row::Invoke { op, client, .. } = row {
                 if *op == call {
@@ -107,11 +119,11 @@ impl SlowWorld {
                 }
             }
         }
-        Err("a caller")?
+        Err(Stop::Caller)
     }
 
     /// A replica handles a request, and its reply is sent to the client that made the call.
-    fn handle(&mut self, number: ReplicaId, request: &Request) -> Result<Effect, Fail> {
+    fn handle(&mut self, number: ReplicaId, request: &Request) -> Result<Effect, Stop> {
         let op = match request {
             Request::Query { op, .. } => *op,
             Request::Put { op, .. } => *op,
@@ -123,7 +135,7 @@ impl SlowWorld {
     }
 
     /// A client takes a reply, and a note that it makes is recorded.
-    fn hear(&mut self, name: ClientId, reply: &Reply) -> Result<Effect, Fail> {
+    fn hear(&mut self, name: ClientId, reply: &Reply) -> Result<Effect, Stop> {
         let op = match reply {
             Reply::Held { op, .. } => *op,
             Reply::Kept { op, .. } => *op,
@@ -137,34 +149,34 @@ impl SlowWorld {
         Ok(Effect::Taken(taken))
     }
 
-    fn taken(&mut self, name: ClientId, reply: &Reply) -> Result<Taken, Fail> {
+    fn taken(&mut self, name: ClientId, reply: &Reply) -> Result<Taken, Stop> {
         for client in &mut self.clients {
             if client.name == name {
                 return client.hear(&self.rules, reply);
             }
         }
-        Err("a client")?
+        Err(Stop::Client)
     }
 
-    fn note(&mut self, op: OpId, tag: Tag) -> Result<(), Fail> {
+    fn note(&mut self, op: OpId, tag: Tag) -> Result<(), Stop> {
         self.rows.push(Row::Note { op, tag })?;
         Ok(())
     }
 
-    fn lose(&mut self, number: u32) -> Result<Effect, Fail> {
+    fn lose(&mut self, number: u32) -> Result<Effect, Stop> {
         let flight = self.flight_mut(number)?;
         flight.copies = flight.copies.saturating_sub(1);
         Ok(Effect::Lost)
     }
 
-    fn repeat(&mut self, number: u32) -> Result<Effect, Fail> {
+    fn repeat(&mut self, number: u32) -> Result<Effect, Stop> {
         let flight = self.flight_mut(number)?;
         flight.copies = flight.copies.saturating_add(1);
         Ok(Effect::Repeated)
     }
 
     /// A client that is ready answers, which is recorded, and is idle.
-    fn respond(&mut self, name: ClientId) -> Result<Effect, Fail> {
+    fn respond(&mut self, name: ClientId) -> Result<Effect, Stop> {
         let client = self.client_mut(name)?;
         let (op, returned) = client.answer()?;
         client.end(Phase::Idle);

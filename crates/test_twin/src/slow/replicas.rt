@@ -1,11 +1,11 @@
 //! A replica as a list of what it keeps.
+use crate::stop::Stop;
 use replica::{Reply, Request};
 use std::alloc::Global;
-use std::test::Fail;
-use tag::{Key, ReplicaId, Tag, Value};
+use tag::{Key, Memory, ReplicaId, Tag, Value};
 
 /// An equal value, or absent.
-pub(crate) fn copied(value: &Option<Value>) -> Result<Option<Value>, Fail> {
+pub(crate) fn copied(value: &Option<Value>) -> Result<Option<Value>, Stop> {
     match value {
         None => Ok(None),
         Some(value) => Ok(Some(value.copy()?)),
@@ -38,32 +38,37 @@ impl SlowReplica {
         }
     }
 
+    /// The entry of a key, if somebody wrote it.
+    fn entry(&self, key: &Key) -> Option<&Entry> {
+        self.entries.iter().find(|entry| entry.key == *key)
+    }
+
     /// The tag of a key: the least where nobody wrote it.
     fn tag_of(&self, key: &Key) -> Tag {
-        for entry in &self.entries {
-            if entry.key == *key {
-                return entry.tag;
-            }
+        match self.entry(key) {
+            Some(entry) => entry.tag,
+            None => Tag::least(),
         }
-        Tag::least()
     }
 
     /// The value of a key: absent where nobody wrote it.
-    fn value_of(&self, key: &Key) -> Result<Option<Value>, Fail> {
-        for entry in &self.entries {
-            if entry.key == *key {
-                return copied(&entry.value);
-            }
+    fn value_of(&self, key: &Key) -> Result<Option<Value>, Stop> {
+        match self.entry(key) {
+            Some(entry) => copied(&entry.value),
+            None => Ok(None),
         }
-        Ok(None)
     }
 
-    /// A pair is adopted where its tag is above that of the key's own.
-    fn adopt(&mut self, key: &Key, tag: Tag, value: &Option<Value>) -> Result<(), Fail> {
-        if tag <= self.tag_of(key) {
-            return Ok(());
+    /// An entry of a key that nobody wrote before.
+    fn add(&mut self, key: &Key, tag: Tag, value: Option<Value>) -> Result<(), Stop> {
+        match key.copy() {
+            Ok(key) => Ok(self.entries.push(Entry { key, tag, value })?),
+            Err(Memory) => Err(Stop::Memory),
         }
-        let value = copied(value)?;
+    }
+
+    /// A pair is the key's own from now on.
+    fn keep(&mut self, key: &Key, tag: Tag, value: Option<Value>) -> Result<(), Stop> {
         for entry in &mut self.entries {
             if entry.key == *key {
                 entry.tag = tag;
@@ -71,13 +76,20 @@ impl SlowReplica {
                 return Ok(());
             }
         }
-        let key = key.copy()?;
-        self.entries.push(Entry { key, tag, value })?;
-        Ok(())
+        self.add(key, tag, value)
+    }
+
+    /// A pair is adopted where its tag is above that of the key's own.
+    fn adopt(&mut self, key: &Key, tag: Tag, value: &Option<Value>) -> Result<(), Stop> {
+        if tag <= self.tag_of(key) {
+            return Ok(());
+        }
+        let value = copied(value)?;
+        self.keep(key, tag, value)
     }
 
     /// What it answers to a request, which it carries out.
-    pub(crate) fn answer(&mut self, request: &Request) -> Result<Reply, Fail> {
+    pub(crate) fn answer(&mut self, request: &Request) -> Result<Reply, Stop> {
         let replica = self.number;
         let (op, key) = match request {
             Request::Query { op, key } | Request::Put { op, key, .. } => (*op, key),
@@ -86,12 +98,24 @@ impl SlowReplica {
             self.adopt(key, *tag, value)?;
             return Ok(Reply::Kept { op, replica });
         }
-        let value = self.value_of(key)?;
         Ok(Reply::Held {
             op,
             replica,
             tag: self.tag_of(key),
-            value,
+            value: self.value_of(key)?,
         })
     }
+}
+
+/// So many of them, at most fifteen.
+pub(crate) fn all(alloc: Global, count: usize) -> Result<Vec<SlowReplica>, Stop> {
+    let mut replicas = Vec::new(alloc);
+    for number in 0u8..15 {
+        if let Some(name) = ReplicaId::new(number)
+            && usize::from(number) < count
+        {
+            replicas.push(SlowReplica::new(alloc, name))?;
+        }
+    }
+    Ok(replicas)
 }
