@@ -4,7 +4,7 @@ _abd() {
   local word=${COMP_WORDS[COMP_CWORD]} before=${COMP_WORDS[COMP_CWORD - 1]} command=${COMP_WORDS[1]} options
   COMPREPLY=()
   if [ "$COMP_CWORD" -eq 1 ]; then
-    mapfile -t COMPREPLY < <(compgen -W "check explain justify simulate run help --help --version" -- "$word")
+    mapfile -t COMPREPLY < <(compgen -W "check draw explain justify simulate trace run help --help --version" -- "$word")
     return
   fi
   case $before in
@@ -12,19 +12,21 @@ _abd() {
       mapfile -t COMPREPLY < <(compgen -W "full short" -- "$word")
       return
       ;;
-    --workers | --key | --most | --replicas | --callers | --calls | --keys | --rounds | --drop | --double | --halls | --show | --votes | --ask | --put)
+    --workers | --key | --most | --around | --replicas | --callers | --calls | --keys | --rounds | --drop | --double | --halls | --show | --votes | --ask | --put)
       return
       ;;
   esac
   case $command in
     check) options="--workers --json --help" ;;
+    draw) options="--key --most --calls --around --help" ;;
     explain) options="--key --most --help" ;;
     justify) options="--unchecked --help" ;;
+    trace) options="--most --help" ;;
     run)
       options="--replicas --callers --calls --keys --rounds --drop --double --halls --show --reads --votes --ask --put --help"
       ;;
     help)
-      mapfile -t COMPREPLY < <(compgen -W "check explain justify simulate run" -- "$word")
+      mapfile -t COMPREPLY < <(compgen -W "check draw explain justify simulate trace run" -- "$word")
       return
       ;;
     *) options="--help" ;;

@@ -1,20 +1,27 @@
 # Completion of abd's words for fish: install it as vendor_completions.d/abd.fish.
 
-set -l commands check explain justify simulate run help
+set -l commands check draw explain justify simulate trace run help
 complete -c abd -n "not __fish_seen_subcommand_from $commands" -f -l help -s h -d "say what abd takes"
 complete -c abd -n "not __fish_seen_subcommand_from $commands" -f -l version -s V -d "say the version"
 complete -c abd -n "not __fish_seen_subcommand_from $commands" -f -a check -d "check whether orders show that a history is atomic"
+complete -c abd -n "not __fish_seen_subcommand_from $commands" -f -a draw -d "draw the calls of keys, a page for a browser"
 complete -c abd -n "not __fish_seen_subcommand_from $commands" -f -a explain -d "say why orders, or without them tags, are refused"
 complete -c abd -n "not __fish_seen_subcommand_from $commands" -f -a justify -d "make orders from the tags, and check them"
 complete -c abd -n "not __fish_seen_subcommand_from $commands" -f -a simulate -d "run a script, and write the history of its run"
+complete -c abd -n "not __fish_seen_subcommand_from $commands" -f -a trace -d "run a script, and tell each step of its run"
 complete -c abd -n "not __fish_seen_subcommand_from $commands" -f -a run -d "run a store under a load, and write its history"
 complete -c abd -n "not __fish_seen_subcommand_from $commands" -f -a help -d "say what a command takes"
 complete -c abd -n "__fish_seen_subcommand_from $commands" -l help -s h -d "say what it takes"
 complete -c abd -n "__fish_seen_subcommand_from check" -x -l workers -d "threads that check, 1 to 16"
 complete -c abd -n "__fish_seen_subcommand_from check" -l json -d "an object of JSON a key"
 complete -c abd -n "__fish_seen_subcommand_from justify" -l unchecked -d "leave the check out"
+complete -c abd -n "__fish_seen_subcommand_from draw" -x -l key -d "the only key"
+complete -c abd -n "__fish_seen_subcommand_from draw" -x -l most -d "keys with a picture"
+complete -c abd -n "__fish_seen_subcommand_from draw" -x -l calls -d "calls of a key that are shown"
+complete -c abd -n "__fish_seen_subcommand_from draw" -x -l around -d "a call among them"
 complete -c abd -n "__fish_seen_subcommand_from explain" -x -l key -d "the only key"
 complete -c abd -n "__fish_seen_subcommand_from explain" -x -l most -d "refused keys with a reason"
+complete -c abd -n "__fish_seen_subcommand_from trace" -x -l most -d "lines that are told"
 complete -c abd -n "__fish_seen_subcommand_from run" -x -l replicas -d "replicas, 1 to 15"
 complete -c abd -n "__fish_seen_subcommand_from run" -x -l callers -d "callers, 1 to 16"
 complete -c abd -n "__fish_seen_subcommand_from run" -x -l calls -d "calls of each caller"

@@ -9,9 +9,11 @@ use crate::faults::explain_faults;
 use crate::names::FileName;
 use crate::progress::{Progress, SharedProgress};
 use cli::{
-    Command, Counting, ExplainAsked, Failure, Lines, Source, Status, Usage, check_command, command,
-    justify_command, justify_unchecked_command, simulate_command,
+    Counting, Failure, Lines, Source, Status, check_command, justify_command,
+    justify_unchecked_command, simulate_command,
 };
+use command_line::{Command, DrawAsked, ExplainAsked, Usage, command};
+use draw_command::{Drawn, draw_orders_command, draw_tags_command};
 use explain_command::{Selection, explain_orders_command, explain_tags_command};
 use parallel_keys::Workers;
 use run_command::{KeyWatch, NoWatch, Watch, run_command};
@@ -22,6 +24,7 @@ use std::process::ExitCode;
 use std::sync::Wait;
 use std::thread::Threads;
 use std::{env, fs};
+use trace_command::trace_command;
 
 /// Says the failure on standard error. Its status.
 fn fail(rt: &HostRuntime, failure: Failure<'_>) -> Status {
@@ -56,6 +59,21 @@ fn open<'a>(
     match fs::open(rt, name.given) {
         Ok(file) => Ok(Source::new(name.told(), Counting::new(file))),
         Err(_) => Err(fail(rt, Failure::Closed { name: name.told() })),
+    }
+}
+
+/// Opens the file, and runs the command on it.
+fn on_file<F>(rt: &HostRuntime, name: &str, run: F) -> Status
+where
+    F: FnOnce(&mut Source<'_, Counting<File>>) -> Status,
+    requires { F.IsAlwaysCallable run }
+{
+    let Ok(name) = FileName::new(rt, name) else {
+        return fail(rt, Failure::Memory);
+    };
+    match open(rt, &name) {
+        Ok(mut file) => run(&mut file),
+        Err(status) => status,
     }
 }
 
@@ -133,31 +151,24 @@ fn explain_orders(
     )
 }
 
-/// Opens the history, and explains the tags of its calls.
+/// Explains the tags of the history's calls.
 fn explain_tags(
     rt: &HostRuntime,
     threads: &(impl Threads + Sync),
     history: &str,
     selection: Selection<'_>,
 ) -> Status {
-    let Ok(history) = FileName::new(rt, history) else {
-        return fail(rt, Failure::Memory);
-    };
-    let mut history = match open(rt, &history) {
-        Ok(history) => history,
-        Err(status) => return status,
-    };
-    let mut out = Counting::new(rt.stdout());
-    let mut errors = Counting::new(rt.stderr());
-    let alloc = rt.alloc();
-    explain_tags_command(
-        threads,
-        alloc,
-        &mut history,
-        selection,
-        &mut out,
-        &mut errors,
-    )
+    on_file(rt, history, |history| {
+        let (mut out, mut errors) = (Counting::new(rt.stdout()), Counting::new(rt.stderr()));
+        explain_tags_command(
+            threads,
+            rt.alloc(),
+            history,
+            selection,
+            &mut out,
+            &mut errors,
+        )
+    })
 }
 
 /// Explains the orders, or without orders the tags; of a faulty file, what is wrong with it.
@@ -176,42 +187,93 @@ fn explain(rt: &HostRuntime, threads: &(impl Threads + Sync), asked: &ExplainAsk
     status
 }
 
-/// Opens the history, and justifies it, or writes the orders that its tags make.
+/// Opens both files before either is read, and draws the history's calls, with the points of the orders.
+fn draw_orders(
+    rt: &HostRuntime,
+    threads: &(impl Threads + Sync),
+    history: &str,
+    orders: &str,
+    drawn: Drawn<'_>,
+) -> Status {
+    let (Ok(history), Ok(orders)) = (FileName::new(rt, history), FileName::new(rt, orders)) else {
+        return fail(rt, Failure::Memory);
+    };
+    let (mut history, mut orders) = match open_both(rt, &history, &orders) {
+        Ok(files) => files,
+        Err(status) => return status,
+    };
+    let mut out = Counting::new(rt.stdout());
+    let mut errors = Counting::new(rt.stderr());
+    draw_orders_command(
+        threads,
+        rt.alloc(),
+        &mut history,
+        &mut orders,
+        drawn,
+        &mut out,
+        &mut errors,
+    )
+}
+
+/// Draws the history's calls, with the points of the orders that its tags make.
+fn draw_tags(
+    rt: &HostRuntime,
+    threads: &(impl Threads + Sync),
+    history: &str,
+    drawn: Drawn<'_>,
+) -> Status {
+    on_file(rt, history, |history| {
+        let (mut out, mut errors) = (Counting::new(rt.stdout()), Counting::new(rt.stderr()));
+        draw_tags_command(threads, rt.alloc(), history, drawn, &mut out, &mut errors)
+    })
+}
+
+/// Draws the history's calls, with orders or without.
+fn draw(rt: &HostRuntime, threads: &(impl Threads + Sync), asked: &DrawAsked<'_>) -> Status {
+    let drawn = Drawn {
+        key: asked.key,
+        most: asked.most,
+        calls: u32::from(asked.calls),
+        around: asked.around.map(u64::from),
+    };
+    match asked.orders {
+        Some(orders) => draw_orders(rt, threads, asked.history, orders, drawn),
+        None => draw_tags(rt, threads, asked.history, drawn),
+    }
+}
+
+/// Justifies the history, or writes the orders that its tags make.
 fn justify(
     rt: &HostRuntime,
     threads: &(impl Threads + Sync),
     history: &str,
     unchecked: bool,
 ) -> Status {
-    let Ok(history) = FileName::new(rt, history) else {
-        return fail(rt, Failure::Memory);
-    };
-    let mut history = match open(rt, &history) {
-        Ok(history) => history,
-        Err(status) => return status,
-    };
-    let mut out = Counting::new(rt.stdout());
-    let mut errors = Counting::new(rt.stderr());
-    let alloc = rt.alloc();
-    if unchecked {
-        justify_unchecked_command(threads, alloc, &mut history, &mut out, &mut errors)
-    } else {
-        justify_command(threads, alloc, &mut history, &mut out, &mut errors)
-    }
+    on_file(rt, history, |history| {
+        let (mut out, mut errors) = (Counting::new(rt.stdout()), Counting::new(rt.stderr()));
+        let alloc = rt.alloc();
+        if unchecked {
+            justify_unchecked_command(threads, alloc, history, &mut out, &mut errors)
+        } else {
+            justify_command(threads, alloc, history, &mut out, &mut errors)
+        }
+    })
 }
 
-/// Opens the script, and simulates it.
+/// Simulates the script.
 fn simulate(rt: &HostRuntime, script: &str) -> Status {
-    let Ok(script) = FileName::new(rt, script) else {
-        return fail(rt, Failure::Memory);
-    };
-    let mut script = match open(rt, &script) {
-        Ok(script) => script,
-        Err(status) => return status,
-    };
-    let mut out = Counting::new(rt.stdout());
-    let mut errors = Counting::new(rt.stderr());
-    simulate_command(rt.alloc(), &mut script, &mut out, &mut errors)
+    on_file(rt, script, |script| {
+        let (mut out, mut errors) = (Counting::new(rt.stdout()), Counting::new(rt.stderr()));
+        simulate_command(rt.alloc(), script, &mut out, &mut errors)
+    })
+}
+
+/// Tells the script's run.
+fn trace(rt: &HostRuntime, script: &str, most: u32) -> Status {
+    on_file(rt, script, |script| {
+        let (mut out, mut errors) = (Counting::new(rt.stdout()), Counting::new(rt.stderr()));
+        trace_command(rt.alloc(), script, most, &mut out, &mut errors)
+    })
 }
 
 /// Runs a store under a load that is watched.
@@ -295,9 +357,11 @@ where
             workers,
             form,
         } => check(rt, threads, history, orders, *workers, *form),
+        Command::Draw(asked) => draw(rt, threads, asked),
         Command::Explain(asked) => explain(rt, threads, asked),
         Command::Justify { history, unchecked } => justify(rt, threads, history, *unchecked),
         Command::Simulate { script } => simulate(rt, script),
+        Command::Trace { script, most } => trace(rt, script, *most),
         Command::Run(asked) => run(rt, threads, *asked),
     }
 }

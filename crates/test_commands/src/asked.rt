@@ -79,6 +79,11 @@ impl<'a> Asked<'a> {
         }
     }
 
+    /// How many lines of a trace are told: 10,000 or as many as the option `most` says.
+    pub fn lines_told(self) -> u32 {
+        u32::try_from(self.number("most", 10_000)).unwrap_or(10_000)
+    }
+
     /// The sizes of pieces in which each file of the row is read: 1, 7 and 1,048,576 bytes unless
     /// the row says others.
     pub fn sizes(self) -> &'a str {

@@ -100,7 +100,7 @@ fn say_extents(answer: &mut Answer, said: &Said<Status>, whole: &Said<Status>, w
     say_lines(answer, extent_or_text(errors, whole, way.errors));
 }
 
-/// The way of a row with devices that do all that is asked of them: with `json` and `unchecked` the
+/// The way of a row with devices that do all that is asked of them: with `json`, `unchecked` and `most` the
 /// commands have those options.
 fn well(asked: Asked<'_>) -> Way {
     let form = if asked.has("json") {
@@ -111,6 +111,7 @@ fn well(asked: Asked<'_>) -> Way {
     Way {
         form,
         unchecked: asked.has("unchecked"),
+        most: asked.lines_told(),
         ..WELL
     }
 }
@@ -223,11 +224,11 @@ fn say_file(rt: &(impl Threads + Wait + Sync), out: &mut Answer, asked: Asked<'_
     say_one(rt, out, asked, input);
 }
 
-/// `simulate`: each line is a script. `justify` and `explain-tags`: the lines are a history.
+/// `simulate` and `trace`: each line is a script. `justify` and `explain-tags`: the lines are a history.
 /// `check` and `explain`: the lines up to `orders:` are a history, those from each such line on are orders.
 pub fn say_command_row(rt: &(impl Threads + Wait + Sync), out: &mut Answer, asked: Asked<'_>) {
     match asked.kind() {
-        "simulate" => {
+        "simulate" | "trace" => {
             for line in asked.lines.lines() {
                 say_file(rt, out, asked, line);
             }

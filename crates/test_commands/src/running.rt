@@ -11,6 +11,7 @@ use std::io::ErrorKind;
 use std::sync::Wait;
 use std::thread::Threads;
 use test_rows::{AMPLE, Outputs, Pieces, Said};
+use trace_command::trace_command;
 
 /// What a command reads: a script or a history, and orders where it needs some; and which keys it explains.
 #[derive(Clone, Copy)]
@@ -28,7 +29,8 @@ pub const ALL_KEYS: Selection<'static> = Selection {
 
 /// How the devices are: the size of pieces, how the first file's reader fails at its end, if it
 /// does, and the room of the standard output and of standard error. How many workers there are, in which
-/// form a check prints its lines, and whether a justification leaves the check out.
+/// form a check prints its lines, whether a justification leaves the check out, and how many lines of a trace
+/// are told.
 #[derive(Clone, Copy)]
 pub struct Way {
     pub size: usize,
@@ -38,6 +40,7 @@ pub struct Way {
     pub workers: u8,
     pub form: Lines,
     pub unchecked: bool,
+    pub most: u32,
 }
 
 /// Devices that do all that is asked of them.
@@ -49,6 +52,7 @@ pub const WELL: Way = Way {
     workers: 1,
     form: Lines::Plain,
     unchecked: false,
+    most: 10_000,
 };
 
 /// The file of that name.
@@ -80,12 +84,16 @@ pub fn run(
     let Some(workers) = Workers::new(way.workers) else {
         return outputs.said(Status::Usage);
     };
-    let first = if name == "simulate" { "s" } else { "h" };
+    let first = match name {
+        "simulate" | "trace" => "s",
+        _ => "h",
+    };
     let mut first = file(first, input.file, way.size, way.failure);
     let mut orders = file("o", input.orders, way.size, None);
     let (keys, out, errors) = (input.selection, &mut outputs.out, &mut outputs.errors);
     let status = match name {
         "simulate" => simulate_command(alloc, &mut first, out, errors),
+        "trace" => trace_command(alloc, &mut first, way.most, out, errors),
         "justify" if way.unchecked => {
             justify_unchecked_command(rt, alloc, &mut first, out, errors)
         }

@@ -1,6 +1,6 @@
 //! Rows of command lines.
-use cli::{Command, ExplainAsked, Lines, Usage, command};
 use client_phases::ReadMode;
+use command_line::{Command, DrawAsked, ExplainAsked, Lines, Usage, command};
 use run_options::{RunAsked, Shown};
 use std::alloc::{AllocError, Global};
 use test_rows::{Answer, text_said, words_of};
@@ -46,6 +46,21 @@ fn say_explained(out: &mut Answer, asked: &ExplainAsked<'_>) {
     )
 }
 
+/// The files that are to be drawn, the key alone, how many keys and calls, and the call among them.
+fn say_drawn(out: &mut Answer, asked: &DrawAsked<'_>) {
+    let (history, most, calls) = (asked.history, asked.most, asked.calls);
+    let orders = asked.orders.unwrap_or("");
+    let key = asked.key.unwrap_or("");
+    write!(
+        out,
+        "draw of [{history}] and [{orders}], key [{key}], most {most}, calls {calls}"
+    );
+    if let Some(call) = asked.around {
+        write!(out, ", around {call}");
+    }
+    out.push("\n");
+}
+
 fn say_asked(out: &mut Answer, asked: &Command<'_>) {
     match asked {
         Command::Check {
@@ -64,12 +79,14 @@ fn say_asked(out: &mut Answer, asked: &Command<'_>) {
                 "check of [{history}] and [{orders}], workers: {count}{form}\n"
             )
         }
+        Command::Draw(asked) => say_drawn(out, asked),
         Command::Explain(asked) => say_explained(out, asked),
         Command::Justify { history, unchecked } => {
             let way = if *unchecked { ", unchecked" } else { "" };
             write!(out, "justify of [{history}]{way}\n")
         }
         Command::Simulate { script } => write!(out, "simulate of [{script}]\n"),
+        Command::Trace { script, most } => write!(out, "trace of [{script}], most {most}\n"),
         Command::Run(asked) => say_run(out, asked),
     }
 }

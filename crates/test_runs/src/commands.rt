@@ -1,5 +1,6 @@
 //! The commands, over texts in memory.
-use cli::{Command, Counting, Lines, Source, Status, check_command, command, justify_command};
+use cli::{Counting, Lines, Source, Status, check_command, justify_command};
+use command_line::{Command, command};
 use parallel_keys::Workers;
 use run_command::{NoWatch, run_command};
 use run_options::RunAsked;

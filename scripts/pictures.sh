@@ -1,0 +1,28 @@
+#!/usr/bin/env bash
+# Makes the histories and the pictures of examples/ anew, with the built program:
+#   scripts/pictures.sh ABD           writes examples/NAME.history of each script, and examples/pictures/NAME.html of each history
+#   scripts/pictures.sh ABD --check   says which of these files aren't what ABD makes
+set -eu
+abd=$(realpath "$1")
+cd "$(dirname "$0")/../examples"
+made=$(mktemp -d)
+trap 'rm -r "$made"' EXIT
+mkdir -p "$made/pictures"
+for script in *.script; do
+  "$abd" simulate "$script" > "$made/${script%.script}.history" 2> /dev/null
+done
+for history in *.history; do
+  [ -e "$made/$history" ] || cp "$history" "$made/$history"
+done
+for history in "$made"/*.history; do
+  page="$made/pictures/$(basename "$history" .history).html"
+  "$abd" draw "$history" > "$page" || [ $? -eq 1 ]
+done
+python3 ../scripts/picture_of.py "$made/pictures/skipped_write_back.html" > "$made/pictures/skipped_write_back.svg"
+"$abd" draw two_calls.history two_calls_refused.orders > "$made/pictures/two_calls_refused.html" || [ $? -eq 1 ]
+if [ "${2:-}" = --check ]; then
+  diff -rq "$made" . | grep -v '^Only in \.' && exit 1
+  exit 0
+fi
+mkdir -p pictures
+cp -r "$made"/. .
