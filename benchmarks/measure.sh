@@ -19,7 +19,8 @@ for keys in 100 1 100000; do
   [ $keys -ne 100 ] || times=${TIMES:-9}
   echo "== 1,000,000 calls, $keys keys"
   python3 "$here/in_turn.py" "$times" "abd check=$abd check $files" "abd check --workers 4=$abd check --workers 4 $files" \
-    "plain_check --fast=$plain --fast $files"
+    "plain_check --fast=$plain --fast $files" "plain_check --columns=$plain --columns $files" \
+    "plain_check --columns --threads 4=$plain --columns --threads 4 $files"
   python3 "$here/in_turn.py" 3 "plain_check=$plain $files" "abd justify=$abd justify $work/$keys.history" \
     "justify, plain_check=$plain $work/$keys.history"
 done

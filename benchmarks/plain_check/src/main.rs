@@ -1,6 +1,8 @@
 //! What `abd check` (two files) and `abd justify` (one) do, in plain sequential Rust with serde_json: the yardstick of the
 //! benchmark. It reads lawful files only, and stops at the first line that is none. With `--fast` before the files, histories are read
-//! whole and their lines taken apart by hand, as far as `abd` itself writes them, and no text is copied (`fast.rs`).
+//! whole and their lines taken apart by hand, as far as `abd` itself writes them, and no text is copied (`fast.rs`). With `--columns`,
+//! and `--threads N` after it, a history is checked as fast as we can (`columns.rs`).
+mod columns;
 mod fast;
 
 use serde_json::Value;
@@ -188,10 +190,23 @@ fn answer<T: AsRef<str> + Clone + Eq + Hash>(rows: Vec<Row<T>>, orders: Option<&
     eprintln!("{yes} of {} keys yes, {notes} notes; history read in {read:?}, all in {:?}", parts.len(), start.elapsed());
 }
 
+/// Takes `[--threads N] HISTORY ORDERS`, with 1 to 64 threads, and 1 if there is no number.
+fn check_columns(words: &[String]) {
+    let (threads, files) = match words {
+        [name, count, files @ ..] if name == "--threads" => (count.parse().expect("a number of threads"), files),
+        files => (1, files),
+    };
+    assert!((1..=64).contains(&threads), "1 to 64 threads");
+    let [history, orders] = files else { panic!("a history and its orders") };
+    columns::check(history, orders, threads);
+}
+
 fn main() {
     let mut files: Vec<String> = std::env::args().skip(1).collect();
     let start = Instant::now();
-    if files[0] == "--fast" {
+    if files[0] == "--columns" {
+        check_columns(&files[1..]);
+    } else if files[0] == "--fast" {
         files.remove(0);
         let bytes = std::fs::read(&files[0]).expect("a history");
         answer(fast::rows_in(&bytes), files.get(1).map(String::as_str), start);
