@@ -8,7 +8,7 @@ use Rattle.recorder.specs.declared.log_entry.Entry.{Entry}
 use Rattle.seats.specs.Answers.{FailsWith}
 use Rattle.seats.specs.declared.errors.CallError.{CallError}
 use Rattle.seats.specs.declared.errors.CallError.TheVariants as fault
-use Rattle.run_options.specs.Loads.{most_keys}
+use Rattle.run_options.specs.Loads.{load_limits}
 use Rattle.run_options.specs.Turns.{action_at, key_at}
 use Rattle.run_options.specs.declared.load.LoadOptions.{LoadOptions}
 use Rattle.run_options.specs.declared.turns.Turn.{Turn}
@@ -18,7 +18,7 @@ use Rattle.load.specs.declared.callers.Work.{Work}
 -- so many keys as a load may have
 pub record AreKeys (keys : ℕ) : Type 0 where
   pub least : 1 ≤ keys
-  pub most : keys ≤ most_keys
+  pub most : keys ≤ load_limits.keys
 
 -- the turn of that number
 abbrev pub turn_of : Work → ℕ → Turn

@@ -77,42 +77,6 @@ fn run_workers<'s, 'e: 's, R: Threads, G: CheckGate + Sync>(
     Ok(lists)
 }
 
-/// The lists of all workers' verdicts, in order of worker.
-fn run_all<R: Threads + Wait, G: CheckGate + Sync>(
-    rt: &R,
-    alloc: Global,
-    parts: &[&Part],
-    orders: &[&[OpId]],
-    workers: Workers,
-    gate: &G,
-) -> Result<Vec<Vec<Verdict>>, CheckError>
-    requires { length parts.now ≡ length orders.now }
-    ensures { MatchResult result (λ lists. AreLists (map (λ p. p.now) parts.now)
-        (map (λ o. o.now) orders.now) workers (map (λ v. v.items) lists.items))
-        (MayFail workers) }
-{
-    let workers = usize::from(workers.count());
-    thread::scope(
-        thread::scope_env(),
-        rt,
-        |scope| -> Result<Vec<Vec<Verdict>>, CheckError>
-            requires { (length parts.now ≡ length orders.now)
-                × (0 < workers) × (workers ≤ worker_limit) }
-            ensures { MatchResult result (λ lists. AreLists (map (λ p. p.now) parts.entry.now)
-                (map (λ o. o.now) orders.entry.now) workers (map (λ v. v.items) lists.items))
-                (MayFail workers) }
-        {
-            run_workers(
-                rt,
-                scope,
-                alloc,
-                share_of(parts, orders, workers - 1, workers),
-                gate,
-            )
-        },
-    )
-}
-
 /// Checks the order at each index against the part there; a verdict for each index, in order of index.
 ///
 /// Worker w of k checks the indexes w, w + k, w + 2k and so on. Each worker has a thread of its own, all
@@ -132,6 +96,25 @@ pub fn check_all<R: Threads + Wait, G: CheckGate + Sync>(
     ensures { MatchResult result (λ verdicts. AreVerdicts (map (λ p. p.now) parts.now)
         (map (λ o. o.now) orders.now) verdicts.items) (MayFail workers) }
 {
-    let lists = run_all(rt, alloc, parts, orders, workers, gate)?;
+    let count = usize::from(workers.count());
+    let lists = thread::scope(
+        thread::scope_env(),
+        rt,
+        |scope| -> Result<Vec<Vec<Verdict>>, CheckError>
+            requires { (length parts.now ≡ length orders.now)
+                × (0 < count) × (count ≤ worker_limit) }
+            ensures { MatchResult result (λ lists. AreLists (map (λ p. p.now) parts.entry.now)
+                (map (λ o. o.now) orders.entry.now) count (map (λ v. v.items) lists.items))
+                (MayFail count) }
+        {
+            run_workers(
+                rt,
+                scope,
+                alloc,
+                share_of(parts, orders, count - 1, count),
+                gate,
+            )
+        },
+    )?;
     Ok(weave(alloc, parts, orders, &lists)?)
 }

@@ -1,58 +1,64 @@
 -- The options of `abd run`.
-use Rattle.std.specs.Prelude.{ℕ, ◌-◌, [], ◌∷◌, Some, pos, codes}
+use Rattle.std.specs.Prelude.{ℕ, ◌-◌, List, [], ◌∷◌, Option, Some, None, pos, codes}
+use Rattle.std.specs.Option.{option_map}
 use Rattle.tag.specs.Limits.{replica_limit}
 use Rattle.recorder.specs.Halls.{hall_limit}
 use Rattle.clap.specs.Words.{App, Rule, Text, new_app, new_rule, with_rule}
 use Rattle.clap.specs.declared.builder.value_parser.ValueParser.{ValueParser}
 use Rattle.clap.specs.declared.builder.value_parser.ValueParser.TheVariants as parser
-use Rattle.run_options.specs.Loads.{most_apart, most_callers, most_calls, most_keys, most_rounds}
-use Rattle.run_options.specs.Loads.{most_votes}
+use Rattle.run_options.specs.Loads.{load_limits, most_votes}
+use Rattle.run_options.specs.declared.options.RunOption.{RunOption}
+use Rattle.run_options.specs.declared.options.Takes.{Takes}
+use Rattle.run_options.specs.declared.options.Takes.TheVariants.{Number}
+use Rattle.run_options.specs.declared.options.Takes.TheVariants as takes
 
--- an option --name VALUE that may be missing
-abbrev pub free_option : Text → ValueParser → Rule
-free_option name read = record (new_rule name) {
+-- what clap tests of what stands after an option
+abbrev pub parser_of : Takes → ValueParser
+parser_of takes.Text = parser.String
+parser_of (Number least most) = parser.Signed (pos least) (pos most)
+
+-- the value of an option that isn't given, if it has one
+abbrev pub defaults : Option Text → List Text
+defaults None = []
+defaults (Some text) = text ∷ []
+
+-- an option --name VALUE
+abbrev pub option : Text → Option Text → Takes → Rule
+option name default read = record (new_rule name) {
   long = Some name;
   value_names = 1;
-  parser = Some read;
+  parser = Some (parser_of read);
+  defaults = defaults default;
 }
 
--- one that has a default
-abbrev pub option : Text → Text → ValueParser → Rule
-option name default read = record (free_option name read) { defaults = default ∷ [] }
+-- the option as clap takes it
+abbrev pub rule_of_option : RunOption → Rule
+rule_of_option o = option o.name.now (option_map (λ d. d.now) o.default) o.takes
 
--- a number within a range
-abbrev within : ℕ → ℕ → ValueParser
-within least most = parser.Signed (pos least) (pos most)
+-- an app with more options, in their order
+abbrev pub with_rules : App → List Rule → App
+with_rules app [] = app
+with_rules app (rule ∷ rules) = with_rules (with_rule app rule) rules
 
--- how large the load is
-abbrev pub with_sizes : App → App
-with_sizes app = with_rule (with_rule (with_rule (with_rule app
-    (option (codes "replicas") (codes "3") (within 1 replica_limit)))
-    (option (codes "callers") (codes "4") (within 1 most_callers)))
-    (option (codes "calls") (codes "50") (within 1 most_calls)))
-    (option (codes "keys") (codes "2") (within 1 most_keys))
-
--- what the gate does, and how long a call goes on
-abbrev pub with_faults : App → App
-with_faults app = with_rule (with_rule (with_rule app
-    (option (codes "rounds") (codes "1000") (within 1 most_rounds)))
-    (option (codes "drop") (codes "0") (within 0 most_apart)))
-    (option (codes "double") (codes "0") (within 0 most_apart))
-
--- the halls, and how clients read
-abbrev pub with_halls : App → App
-with_halls app = with_rule (with_rule (with_rule app
-    (option (codes "halls") (codes "1") (within 1 hall_limit)))
-    (free_option (codes "show") (within 0 (hall_limit - 1))))
-    (option (codes "reads") (codes "full") parser.String)
-
--- the quorums
-abbrev pub with_quorums : App → App
-with_quorums app = with_rule (with_rule (with_rule app
-    (free_option (codes "votes") parser.String))
-    (free_option (codes "ask") (within 1 most_votes)))
-    (free_option (codes "put") (within 1 most_votes))
+-- how large the load is, what the gate does, how long a call goes on, the halls, how clients read,
+-- and the quorums
+abbrev pub run_rules : List Rule
+run_rules =
+    option (codes "replicas") (Some (codes "3")) (Number 1 replica_limit)
+    ∷ option (codes "callers") (Some (codes "4")) (Number 1 load_limits.callers)
+    ∷ option (codes "calls") (Some (codes "50")) (Number 1 load_limits.calls)
+    ∷ option (codes "keys") (Some (codes "2")) (Number 1 load_limits.keys)
+    ∷ option (codes "rounds") (Some (codes "1000")) (Number 1 load_limits.rounds)
+    ∷ option (codes "drop") (Some (codes "0")) (Number 0 load_limits.drop)
+    ∷ option (codes "double") (Some (codes "0")) (Number 0 load_limits.double)
+    ∷ option (codes "halls") (Some (codes "1")) (Number 1 hall_limit)
+    ∷ option (codes "show") None (Number 0 (hall_limit - 1))
+    ∷ option (codes "reads") (Some (codes "full")) takes.Text
+    ∷ option (codes "votes") None takes.Text
+    ∷ option (codes "ask") None (Number 1 most_votes)
+    ∷ option (codes "put") None (Number 1 most_votes)
+    ∷ []
 
 -- abd run with its options
 abbrev pub run_app : App
-run_app = with_quorums (with_halls (with_faults (with_sizes (new_app (codes "run")))))
+run_app = with_rules (new_app (codes "run")) run_rules

@@ -9,8 +9,7 @@ use Rattle.client_phases.specs.declared.rules.ReadMode.TheVariants.{Full, Short}
 use Rattle.tag.specs.Limits.{replica_limit}
 use Rattle.recorder.specs.Halls.{hall_limit}
 use Rattle.quorum.specs.Quorums.{IsLawful, Quorums, majority_of}
-use Rattle.run_options.specs.Loads.{most_apart, most_callers, most_calls, most_keys, most_rounds}
-use Rattle.run_options.specs.Loads.{most_votes}
+use Rattle.run_options.specs.Loads.{load_limits, most_votes}
 use Rattle.run_options.specs.declared.asked.RunAsked.{RunAsked}
 use Rattle.run_options.specs.declared.asked.Shown.{Shown}
 use Rattle.run_options.specs.declared.asked.Shown.TheVariants as shown
@@ -115,12 +114,12 @@ module _ (rows : List Row) where
 
   -- the numbers of the load, each within its limit
   pub record AsksCounts (counts : LoadCounts) : Type 0 where
-    pub callers : AsksNumber (codes "callers") 1 most_callers counts.callers
-    pub calls : AsksNumber (codes "calls") 1 most_calls counts.calls
-    pub keys : AsksNumber (codes "keys") 1 most_keys counts.keys
-    pub rounds : AsksNumber (codes "rounds") 1 most_rounds counts.rounds
-    pub drop : AsksNumber (codes "drop") 0 most_apart counts.drop
-    pub double : AsksNumber (codes "double") 0 most_apart counts.double
+    pub callers : AsksNumber (codes "callers") 1 load_limits.callers counts.callers
+    pub calls : AsksNumber (codes "calls") 1 load_limits.calls counts.calls
+    pub keys : AsksNumber (codes "keys") 1 load_limits.keys counts.keys
+    pub rounds : AsksNumber (codes "rounds") 1 load_limits.rounds counts.rounds
+    pub drop : AsksNumber (codes "drop") 0 load_limits.drop counts.drop
+    pub double : AsksNumber (codes "double") 0 load_limits.double counts.double
 
   -- what is asked for: how large the load is, its halls and replicas, how its clients read, and
   -- which histories are written

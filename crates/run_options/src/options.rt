@@ -1,139 +1,110 @@
 //! The options of `abd run`, as clap takes them.
-ghost use Rattle.std.specs.Prelude.{◌≡◌, false, IfOk};
-ghost use Rattle.clap.specs.Words.{app_of, rule_of, with_rule};
+ghost use Rattle.std.specs.Prelude.{◌≡◌, false, map, IfOk};
+ghost use Rattle.clap.specs.Words.{app_of, rule_of};
 ghost use Rattle.clap.specs.declared.builder.command.Command.TheViews.{out-Command as fields_of};
-ghost use Rattle.run_options.specs.Options.{free_option, option, run_app, with_faults, with_halls};
-ghost use Rattle.run_options.specs.Options.{with_quorums, with_sizes};
+ghost use Rattle.run_options.specs.Options.{parser_of, rule_of_option, run_app, with_rules};
 
 use crate::help;
+use crate::options::Takes::{Number, Text};
 use clap::builder::ValueParser;
-use clap::{Arg, Command, value_parser};
+use clap::{Arg, Command};
 use std::alloc::{AllocError, Global};
 
-/// An option that may be missing.
-fn free_option<'a>(
-    alloc: Global,
-    name: &'a str,
-    value: &'a str,
-    parser: ValueParser<'a>,
-    help: &'a str,
-) -> Arg<'a>
-    ensures rule { rule_of result ≡ free_option name.entry.now parser.entry }
-    ensures local { result.global ≡ false }
-{
-    Arg::new(alloc, name)
-        .long(name)
-        .value_name(value)
-        .value_parser(parser)
-        .help(help)
+/// What may stand after an option.
+#[derive(Clone, Copy)]
+enum Takes {
+    /// Any text.
+    Text,
+    /// A number between two.
+    Number(u16, u16),
 }
 
-/// An option that has a default.
+/// An option of `abd run`.
+#[derive(Clone, Copy)]
+struct RunOption<'a> {
+    /// Its name.
+    name: &'a str,
+    /// What help calls its value.
+    value: &'a str,
+    /// Its value where it isn't given; `None` where it may be missing.
+    default: Option<&'a str>,
+    /// What may stand after it.
+    takes: Takes,
+    /// What help says of it.
+    help: &'a str,
+}
+
+impl Takes {
+    /// What tests it.
+    fn parser<'a>(self) -> ValueParser<'a>
+        ensures { result ≡ parser_of self }
+    {
+        match self {
+            Takes::Text => ValueParser::String,
+            Takes::Number(least, most) => ValueParser::signed(i64::from(least), i64::from(most)),
+        }
+    }
+}
+
+impl<'a> RunOption<'a> {
+    /// The option as clap takes it.
+    fn argument(&self, alloc: Global) -> Arg<'a>
+        ensures rule { rule_of result ≡ rule_of_option self.now }
+        ensures local { result.global ≡ false }
+    {
+        let free = Arg::new(alloc, self.name)
+            .long(self.name)
+            .value_name(self.value)
+            .value_parser(self.takes.parser())
+            .help(self.help);
+        match self.default {
+            Some(default) => free.default_value(default),
+            None => free,
+        }
+    }
+}
+
+/// The option of that name.
 fn option<'a>(
-    alloc: Global,
     name: &'a str,
     value: &'a str,
-    default: &'a str,
-    parser: ValueParser<'a>,
+    default: Option<&'a str>,
+    takes: Takes,
     help: &'a str,
-) -> Arg<'a>
-    ensures rule { rule_of result ≡ option name.entry.now default.entry.now parser.entry }
-    ensures local { result.global ≡ false }
+) -> RunOption<'a>
+    ensures { result ≡ record {
+      name = name.entry;
+      value = value.entry;
+      default = default.entry;
+      takes = takes;
+      help = help.entry;
+    } }
 {
-    free_option(alloc, name, value, parser, help).default_value(default)
+    RunOption {
+        name,
+        value,
+        default,
+        takes,
+        help,
+    }
 }
 
-/// The words with one option more, which may be missing.
-fn with_free_option<'a>(
+/// The words with these options more, in their order.
+fn with_options<'a>(
     alloc: Global,
     words: Command<'a>,
-    name: &'a str,
-    value: &'a str,
-    parser: ValueParser<'a>,
-    help: &'a str,
+    options: &[RunOption<'a>],
 ) -> Result<Command<'a>, AllocError>
     requires { (fields_of words).has_globals ≡ false }
     ensures app { IfOk result (λ more.
-        app_of more ≡ with_rule (app_of words.entry) (free_option name.entry.now parser.entry)) }
+        app_of more ≡ with_rules (app_of words.entry) (map rule_of_option options.now)) }
     ensures local { IfOk result (λ more. (fields_of more).has_globals ≡ false) }
 {
-    words.arg(free_option(alloc, name, value, parser, help))
-}
-
-/// The words with one option more, which has a default.
-fn with_option<'a>(
-    alloc: Global,
-    words: Command<'a>,
-    name: &'a str,
-    value: &'a str,
-    default: &'a str,
-    parser: ValueParser<'a>,
-    help: &'a str,
-) -> Result<Command<'a>, AllocError>
-    requires { (fields_of words).has_globals ≡ false }
-    ensures app { IfOk result (λ more. app_of more
-        ≡ with_rule (app_of words.entry) (option name.entry.now default.entry.now parser.entry)) }
-    ensures local { IfOk result (λ more. (fields_of more).has_globals ≡ false) }
-{
-    words.arg(option(alloc, name, value, default, parser, help))
-}
-
-/// How large the load is.
-fn with_sizes<'a>(alloc: Global, words: Command<'a>) -> Result<Command<'a>, AllocError>
-    requires { (fields_of words).has_globals ≡ false }
-    ensures app { IfOk result (λ more. app_of more ≡ with_sizes (app_of words.entry)) }
-    ensures local { IfOk result (λ more. (fields_of more).has_globals ≡ false) }
-{
-    let replicas = value_parser!(u8).range(1..16);
-    let words = with_option(alloc, words, "replicas", "N", "3", replicas, help::REPLICAS)?;
-    let callers = value_parser!(u8).range(1..17);
-    let words = with_option(alloc, words, "callers", "C", "4", callers, help::CALLERS)?;
-    let calls = value_parser!(u16).range(1..10001);
-    let words = with_option(alloc, words, "calls", "T", "50", calls, help::CALLS)?;
-    let keys = value_parser!(u8).range(1..9);
-    with_option(alloc, words, "keys", "K", "2", keys, help::KEYS)
-}
-
-/// What the gate does, and how long a call goes on.
-fn with_faults<'a>(alloc: Global, words: Command<'a>) -> Result<Command<'a>, AllocError>
-    requires { (fields_of words).has_globals ≡ false }
-    ensures app { IfOk result (λ more. app_of more ≡ with_faults (app_of words.entry)) }
-    ensures local { IfOk result (λ more. (fields_of more).has_globals ≡ false) }
-{
-    let rounds = value_parser!(u16).range(1..10001);
-    let words = with_option(alloc, words, "rounds", "R", "1000", rounds, help::ROUNDS)?;
-    let drop = value_parser!(u16).range(0..1001);
-    let words = with_option(alloc, words, "drop", "D", "0", drop, help::DROP)?;
-    let double = value_parser!(u16).range(0..1001);
-    with_option(alloc, words, "double", "E", "0", double, help::DOUBLE)
-}
-
-/// The halls, and how clients read.
-fn with_halls<'a>(alloc: Global, words: Command<'a>) -> Result<Command<'a>, AllocError>
-    requires { (fields_of words).has_globals ≡ false }
-    ensures app { IfOk result (λ more. app_of more ≡ with_halls (app_of words.entry)) }
-    ensures local { IfOk result (λ more. (fields_of more).has_globals ≡ false) }
-{
-    let halls = value_parser!(u8).range(1..65);
-    let words = with_option(alloc, words, "halls", "H", "1", halls, help::HALLS)?;
-    let show = value_parser!(u8).range(0..64);
-    let words = with_free_option(alloc, words, "show", "N", show, help::SHOW)?;
-    let reads = ValueParser::String;
-    with_option(alloc, words, "reads", "HOW", "full", reads, help::READS)
-}
-
-/// The quorums.
-fn with_quorums<'a>(alloc: Global, words: Command<'a>) -> Result<Command<'a>, AllocError>
-    requires { (fields_of words).has_globals ≡ false }
-    ensures app { IfOk result (λ more. app_of more ≡ with_quorums (app_of words.entry)) }
-    ensures local { IfOk result (λ more. (fields_of more).has_globals ≡ false) }
-{
-    let votes = ValueParser::String;
-    let words = with_free_option(alloc, words, "votes", "DIGITS", votes, help::VOTES)?;
-    let ask = value_parser!(u8).range(1..136);
-    let words = with_free_option(alloc, words, "ask", "A", ask, help::ASK)?;
-    let put = value_parser!(u8).range(1..136);
-    with_free_option(alloc, words, "put", "P", put, help::PUT)
+    let mut more = words;
+    for option in options {
+        more = more.arg(option.argument(alloc))?;
+    }
+    Ok(more)
 }
 
 /// `abd run` with its options.
@@ -144,8 +115,20 @@ pub fn run_words<'a>(alloc: Global) -> Result<Command<'a>, AllocError>
     let bare = Command::new(alloc, "run")
         .about(help::ABOUT)
         .after_help(help::RUN);
-    let sized = with_sizes(alloc, bare)?;
-    let faulty = with_faults(alloc, sized)?;
-    let housed = with_halls(alloc, faulty)?;
-    with_quorums(alloc, housed)
+    let options = [
+        option("replicas", "N", Some("3"), Number(1, 15), help::REPLICAS),
+        option("callers", "C", Some("4"), Number(1, 16), help::CALLERS),
+        option("calls", "T", Some("50"), Number(1, 10000), help::CALLS),
+        option("keys", "K", Some("2"), Number(1, 8), help::KEYS),
+        option("rounds", "R", Some("1000"), Number(1, 10000), help::ROUNDS),
+        option("drop", "D", Some("0"), Number(0, 1000), help::DROP),
+        option("double", "E", Some("0"), Number(0, 1000), help::DOUBLE),
+        option("halls", "H", Some("1"), Number(1, 64), help::HALLS),
+        option("show", "N", None, Number(0, 63), help::SHOW),
+        option("reads", "HOW", Some("full"), Text, help::READS),
+        option("votes", "DIGITS", None, Text, help::VOTES),
+        option("ask", "A", None, Number(1, 135), help::ASK),
+        option("put", "P", None, Number(1, 135), help::PUT),
+    ];
+    with_options(alloc, bare, &options)
 }

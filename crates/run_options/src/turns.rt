@@ -1,7 +1,7 @@
 //! Which call a caller makes at a turn.
 ghost use Rattle.std.specs.Prelude.{◌≡◌, ◌<◌, ◌≤◌, IfOk, length, string_bytes};
 ghost use Rattle.tag.specs.Limits.{value_limit};
-ghost use Rattle.run_options.specs.Loads.{most_keys};
+ghost use Rattle.run_options.specs.Loads.{load_limits};
 ghost use Rattle.run_options.specs.Turns.{action_at, key_at, key_number, key_text, value_text, writes};
 
 use itoa::Buffer;
@@ -47,7 +47,7 @@ fn writes(turn: Turn) -> bool
 
 /// The key of that number.
 fn key_of(alloc: Global, number: u8) -> Result<Key, Memory>
-    requires { number < most_keys }
+    requires { number < load_limits.keys }
     ensures { IfOk result (λ key. key ≡ key_text number) }
 {
     let text = match number {
@@ -108,7 +108,7 @@ fn action_of(alloc: Global, turn: Turn) -> Result<Action, Memory>
 /// was refused.
 pub fn call_at(alloc: Global, turn: Turn) -> Result<(Key, Action), Memory>
     requires least { 1 ≤ turn.keys }
-    requires most { turn.keys ≤ most_keys }
+    requires most { turn.keys ≤ load_limits.keys }
     ensures key { IfOk result (λ call. call.0 ≡ key_at turn) }
     ensures action { IfOk result (λ call. call.1 ≡ action_at turn) }
 {
