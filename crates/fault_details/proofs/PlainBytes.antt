@@ -4,7 +4,8 @@ use Rattle.std.specs.List.{list_all}
 use Rattle.std.specs.Char.{digit_char}
 use Rattle.std.proofs.lemmas.Bool.{and_from, both_ways, le-leb, ltb-false}
 use Rattle.std.proofs.lemmas.List.Folds.{list_all-append}
-use Rattle.fault_details.specs.Shown.{escaped, is_control, piece, plain_after}
+use Rattle.sentences.specs.Words.{control_escape}
+use Rattle.fault_details.specs.Shown.{is_control, piece, plain_after}
 
 abbrev ok : ℕ → Bool
 ok b = nat_le 32 b
@@ -19,11 +20,11 @@ on_cond d false = omega arith
 digit_ok : (d : ℕ) → 32 ≤ digit_char d
 digit_ok d = on_cond d (nat_lt d 10)
 
-escaped_ok : (byte : ℕ) → list_all ok (escaped byte) ≡ true
+escaped_ok : (byte : ℕ) → list_all ok (control_escape byte) ≡ true
 escaped_ok byte = and_from (ok (digit_char (byte / 16))) (list_all ok (digit_char (byte % 16) ∷ []))
     (le-leb 32 (digit_char (byte / 16)) (digit_ok (byte / 16))) (one (digit_char (byte % 16)) (digit_ok (byte % 16)))
 
-after_lead : (byte : ℕ) (b : Bool) → nat_lt byte 160 ≡ b → list_all ok (cond b (escaped byte) (194 ∷ byte ∷ [])) ≡ true
+after_lead : (byte : ℕ) (b : Bool) → nat_lt byte 160 ≡ b → list_all ok (cond b (control_escape byte) (194 ∷ byte ∷ [])) ≡ true
 after_lead byte true e = escaped_ok byte
 after_lead byte false e = let high : 160 ≤ byte = ltb-false byte 160 e in one byte (omega (arith, high))
 
@@ -31,16 +32,16 @@ not_low : (byte : ℕ) (b : Bool) → nat_lt byte 32 ≡ b → (b || byte == 127
 not_low byte true e h = absurd (both_ways true h refl)
 not_low byte false e h = ltb-false byte 32 e
 
-by_itself : (byte : ℕ) (b : Bool) → is_control byte ≡ b → list_all ok (cond b (escaped byte) (byte ∷ [])) ≡ true
+by_itself : (byte : ℕ) (b : Bool) → is_control byte ≡ b → list_all ok (cond b (control_escape byte) (byte ∷ [])) ≡ true
 by_itself byte true e = escaped_ok byte
 by_itself byte false e = one byte (not_low byte (nat_lt byte 32) refl e)
 
-alone : (byte : ℕ) (b : Bool) → list_all ok (cond b [] (cond (is_control byte) (escaped byte) (byte ∷ []))) ≡ true
+alone : (byte : ℕ) (b : Bool) → list_all ok (cond b [] (cond (is_control byte) (control_escape byte) (byte ∷ []))) ≡ true
 alone byte true = refl
 alone byte false = by_itself byte (is_control byte) refl
 
-either : (byte : ℕ) (b : Bool) → list_all ok (cond b (cond (nat_lt byte 160) (escaped byte) (194 ∷ byte ∷ []))
-    (cond (byte == 194) [] (cond (is_control byte) (escaped byte) (byte ∷ [])))) ≡ true
+either : (byte : ℕ) (b : Bool) → list_all ok (cond b (cond (nat_lt byte 160) (control_escape byte) (194 ∷ byte ∷ []))
+    (cond (byte == 194) [] (cond (is_control byte) (control_escape byte) (byte ∷ [])))) ≡ true
 either byte true = after_lead byte (nat_lt byte 160) refl
 either byte false = alone byte (byte == 194)
 

@@ -3,7 +3,7 @@
 use Rattle.std.specs.Prelude.{ℕ, zero, suc, ◌/◌, ◌%◌, ◌&&◌, ◌||◌, ◌==◌, List, [], ◌∷◌, ◌++◌, Bool}
 use Rattle.std.specs.Prelude.{codes, decimal, length, take, slice_index, nat_le, nat_lt}
 use Rattle.std.specs.Prelude.{if◌then◌else◌}
-use Rattle.std.specs.Char.{digit_char}
+use Rattle.sentences.specs.Words.{control_escape}
 
 -- ---- numbers
 
@@ -25,10 +25,6 @@ grouped n = if nat_lt n 1000 then decimal n
 
 -- ---- texts
 
--- the escape of a character below U+0100
-abbrev pub escaped : ℕ → List ℕ
-escaped byte = codes "\\u00" ++ digit_char (byte / 16) ∷ digit_char (byte % 16) ∷ []
-
 -- the bytes U+0000 to U+001F and U+007F
 abbrev pub is_control : ℕ → Bool
 is_control byte = nat_lt byte 32 || byte == 127
@@ -37,8 +33,8 @@ is_control byte = nat_lt byte 32 || byte == 127
 -- to 159, so 194 is shown with the byte after it
 unfoldable pub piece : ℕ → ℕ → List ℕ
 piece before byte =
-    if before == 194 then (if nat_lt byte 160 then escaped byte else 194 ∷ byte ∷ [])
-    else if byte == 194 then [] else if is_control byte then escaped byte else byte ∷ []
+    if before == 194 then (if nat_lt byte 160 then control_escape byte else 194 ∷ byte ∷ [])
+    else if byte == 194 then [] else if is_control byte then control_escape byte else byte ∷ []
 
 -- the bytes after that one, control characters as escapes
 abbrev pub plain_after : ℕ → List ℕ → List ℕ

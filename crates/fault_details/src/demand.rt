@@ -8,7 +8,8 @@ ghost use Rattle.file_format.specs.Members.{text_at, number_at, numbers_at, numb
 ghost use Rattle.fault_details.specs.Demands.{allowed_text, are_calls, first_failing, is_answer};
 ghost use Rattle.fault_details.specs.Demands.{is_text_allowed, name_text, number_text, passes};
 
-use crate::words::{append, append_grouped};
+use crate::grouped::append_grouped;
+use sentences::append;
 use serde_json::Value;
 use std::alloc::Global;
 use tag::{Memory, is_key};

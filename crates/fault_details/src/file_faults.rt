@@ -1,5 +1,6 @@
 //! Why a history file, or an order file, has its first fault.
-ghost use Rattle.std.specs.Prelude.{◌≡◌, ◌++◌, IfOk, OnOk};
+ghost use Rattle.std.specs.Prelude.{◌≡◌, ◌++◌, IfOk, IfSome, OnOk};
+ghost use Rattle.counted_devices.specs.declared.read_fault.FaultKind.TheVariants.{Line};
 ghost use Rattle.fault_details.specs.FileFaults.{AddsHall, AddsHistory, AddsOfRows, AddsOrders};
 ghost use Rattle.fault_details.specs.FileFaults.{Explains, hall_line};
 ghost use Rattle.fault_details.specs.FileFaults.{needs_earlier_rows};
@@ -11,11 +12,11 @@ use crate::found_line::{FoundLine, find_line};
 use crate::json_line::{Parsed, parse};
 use crate::line_details::{FaultyLine, append_line_details};
 use crate::row_details::append_row_details;
-use crate::words::{append, append_number};
 use counted_devices::Counting;
 use file_format::{FaultKind, FileFault, LineFault, Stop, judge_file_header};
 use history_file::{NumberedHistories, read_numbered_histories};
 use recorder::Halls;
+use sentences::{append, append_number};
 use serde_json::Value;
 use std::alloc::Global;
 use std::io::Read;
@@ -41,6 +42,23 @@ fn is_gone(line: &FoundLine, fault: LineFault) -> bool {
     fault == LineFault::NotJson && line.bytes.is_empty() && !line.has_end
 }
 
+/// The line of the fault, where it came again, and what is wrong with it.
+fn find_fault<R: Read>(
+    alloc: Global,
+    reader: &mut R,
+    fault: FileFault,
+) -> Result<Option<(FoundLine, LineFault)>, Memory>
+    ensures { IfOk result (λ found. IfSome found (λ line. fault.kind ≡ Line line.1)) }
+{
+    let FaultKind::Line(kind) = fault.kind else {
+        return Ok(None);
+    };
+    match find_line(alloc, reader, fault.line)? {
+        Some(line) if !is_gone(&line, kind) => Ok(Some((line, kind))),
+        _ => Ok(None),
+    }
+}
+
 /// How many halls the header tells; none where it is of version 1, or is no header.
 fn told_halls(alloc: Global, header: &[u8]) -> Result<Option<u8>, Memory> {
     match judge_file_header(alloc, header) {
@@ -51,6 +69,7 @@ fn told_halls(alloc: Global, header: &[u8]) -> Result<Option<u8>, Memory> {
 }
 
 /// Adds the key's hall, of so many.
+#[tactic(auto, unfolding(crate::specs::FileFaults::hall_line))]
 fn append_hall_line(text: &mut Vec<u8>, key: &str, hall: u64, count: u64) -> Result<(), Memory>
     ensures { OnOk result (text.new.items ≡ text.old.items ++ hall_line key.now hall count) }
 {
@@ -206,14 +225,8 @@ pub fn explain_history_fault<R: Read, S: Read + Drop>(
     ensures { IfOk result (λ text. Explains AddsHistory fault.kind text.items) }
 {
     let mut text = Vec::new(alloc);
-    let FaultKind::Line(kind) = fault.kind else {
-        return Ok(text);
-    };
-    match find_line(alloc, reader, fault.line)? {
-        Some(line) if !is_gone(&line, kind) => {
-            append_history(rt, alloc, &mut text, &line, again, kind)?;
-        }
-        _ => {}
+    if let Some((line, kind)) = find_fault(alloc, reader, fault)? {
+        append_history(rt, alloc, &mut text, &line, again, kind)?;
     }
     Ok(text)
 }
@@ -242,14 +255,8 @@ pub fn explain_orders_fault<R: Read>(
     ensures { IfOk result (λ text. Explains AddsOrders fault.kind text.items) }
 {
     let mut text = Vec::new(alloc);
-    let FaultKind::Line(kind) = fault.kind else {
-        return Ok(text);
-    };
-    match find_line(alloc, reader, fault.line)? {
-        Some(line) if !is_gone(&line, kind) => {
-            append_orders_line(alloc, &mut text, &line, kind)?;
-        }
-        _ => {}
+    if let Some((line, kind)) = find_fault(alloc, reader, fault)? {
+        append_orders_line(alloc, &mut text, &line, kind)?;
     }
     Ok(text)
 }

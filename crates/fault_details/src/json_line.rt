@@ -2,7 +2,8 @@
 ghost use Rattle.std.specs.Prelude.{◌≡◌, ◌++◌, IfOk, OnOk};
 ghost use Rattle.fault_details.specs.LineDetails.{broken_text, cut_text, invalid_text, Parses};
 
-use crate::words::{append, append_grouped};
+use crate::grouped::append_grouped;
+use sentences::append;
 use serde_json::Value;
 use serde_json::error::Category;
 use std::alloc::Global;

@@ -12,13 +12,13 @@ mod demands;
 mod earlier_rows;
 mod file_faults;
 mod found_line;
+mod grouped;
 mod json_line;
 pub mod laws;
 mod line_details;
 mod row_details;
 mod script_faults;
 mod shown;
-mod words;
 
 pub use demands::LineKind;
 pub use earlier_rows::EarlierRows;

@@ -5,9 +5,9 @@ ghost use Rattle.fault_details.specs.RowDetails.{kind_text, next_text, noted_row
 ghost use Rattle.fault_details.specs.RowDetails.{place_of, row_text, unasked_text, unbegun_text};
 
 use crate::earlier_rows::{EarlierRows, Sought};
-use crate::words::{append, append_number};
 use file_format::LineFault;
 use recorder::Row;
+use sentences::{append, append_number};
 use tag::{Action, Memory};
 
 /// Adds the hall, where a file has several.
@@ -32,6 +32,7 @@ fn append_next(text: &mut Vec<u8>, earlier: &EarlierRows<'_>) -> Result<(), Memo
 }
 
 /// Adds the call, what is said of it, a line, and what is said after that.
+#[tactic(auto, unfolding(crate::specs::RowDetails::call_line))]
 fn append_call_line(
     text: &mut Vec<u8>,
     call: u64,
@@ -57,6 +58,7 @@ fn append_unbegun(text: &mut Vec<u8>, call: u64) -> Result<(), Memory>
 }
 
 /// Says that the client's call, begun at that line, has no answer yet.
+#[tactic(auto, unfolding(crate::specs::RowDetails::busy_text))]
 fn append_busy(text: &mut Vec<u8>, client: u64, call: u64, line: u64) -> Result<(), Memory>
     ensures { OnOk result (text.new.items ≡ text.old.items ++ busy_text client call line) }
 {
@@ -67,6 +69,7 @@ fn append_busy(text: &mut Vec<u8>, client: u64, call: u64, line: u64) -> Result<
 }
 
 /// Says that the call was noted with that number and that writer at that line.
+#[tactic(auto, unfolding(crate::specs::RowDetails::noted_text))]
 fn append_noted(
     text: &mut Vec<u8>,
     call: u64,

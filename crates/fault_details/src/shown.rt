@@ -1,39 +1,16 @@
 //! What stands in a file, as it is shown.
 ghost use Rattle.std.specs.Prelude.{◌≡◌, ◌++◌, ◌<◌, ◌≤◌, length, IfOk, OnOk};
-ghost use Rattle.std.specs.Char.{digit_char};
 ghost use Rattle.json.specs.Print.{quoted};
-ghost use Rattle.fault_details.specs.Shown.{boundary, escaped, is_within, piece, plain_after, sentence};
+ghost use Rattle.fault_details.specs.Shown.{boundary, is_within, piece, plain_after, sentence};
 ghost use Rattle.fault_details.specs.Shown.{shown};
 
-use crate::words::append;
 use json::Writer;
+use sentences::{append, append_control};
 use std::alloc::Global;
 use tag::Memory;
 
 /// How many bytes of a text are shown.
 const MOST: usize = 60;
-
-/// The digit of a number below 16.
-fn digit(number: u8) -> u8
-    requires { number < 16 }
-    ensures { result ≡ digit_char number }
-{
-    if number < 10 {
-        b'0' + number
-    } else {
-        b'a' + (number - 10)
-    }
-}
-
-/// Adds the escape of a character below U+0100.
-fn append_escaped(text: &mut Vec<u8>, byte: u8) -> Result<(), Memory>
-    ensures { OnOk result (text.new.items ≡ text.old.items ++ escaped byte) }
-{
-    append(text, "\\u00")?;
-    text.push(digit(byte / 16))?;
-    text.push(digit(byte % 16))?;
-    Ok(())
-}
 
 /// Adds what is shown for a byte and the one before it.
 #[tactic(auto, unfolding(crate::specs::Shown::piece))]
@@ -42,13 +19,13 @@ fn append_piece(text: &mut Vec<u8>, before: u8, byte: u8) -> Result<(), Memory>
 {
     if before == 194 {
         if byte < 160 {
-            return append_escaped(text, byte);
+            return append_control(text, byte);
         }
         text.push(194)?;
         text.push(byte)?;
     } else if byte != 194 {
         if byte < 32 || byte == 127 {
-            return append_escaped(text, byte);
+            return append_control(text, byte);
         }
         text.push(byte)?;
     }

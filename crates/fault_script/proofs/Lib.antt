@@ -13,7 +13,6 @@ mod SaidBack
 mod FormFaults
 mod LineFaults
 mod ReadOnce
-mod MessageSpelling
 mod RunSteps
 pub mod Walking
 mod RunsOfSteps

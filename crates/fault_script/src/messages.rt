@@ -1,31 +1,14 @@
 //! Messages of a script's run, as they are written.
-ghost use Rattle.std.specs.Prelude.{ℕ, ◌≡◌, ◌≢◌, ◌++◌, codes, decimal, OnOk};
+ghost use Rattle.std.specs.Prelude.{ℕ, ◌≡◌, ◌≢◌, ◌++◌, OnOk};
 ghost use Rattle.fault_script.specs.MessageTexts.{random_message, reason_message, refused_message, unfinished_message};
 
-use itoa::Buffer;
+use sentences::{append, append_number};
 use tag::Memory;
 use world_settle::SettleError;
 use world_steps::Refusal;
 
-/// Adds the text.
-fn append(messages: &mut Vec<u8>, text: &str) -> Result<(), Memory>
-    ensures { OnOk result (messages.new.items ≡ messages.old.items ++ text.now) }
-{
-    messages.extend_from_slice(text.as_bytes())?;
-    Ok(())
-}
-
-/// Adds the text and then the number.
-fn append_number(messages: &mut Vec<u8>, before: &str, number: u64) -> Result<(), Memory>
-    ensures { OnOk result
-        (messages.new.items ≡ messages.old.items ++ before.now ++ decimal number) }
-{
-    let mut digits = Buffer::new();
-    append(messages, before)?;
-    append(messages, digits.format(number))
-}
-
 /// Says that the command of that line was refused, in those words, with the reason's number and name.
+#[tactic(auto, unfolding(crate::specs::MessageTexts::reason_message))]
 fn append_reason(
     messages: &mut Vec<u8>,
     line: u64,

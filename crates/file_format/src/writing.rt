@@ -60,6 +60,25 @@ fn write_row<W: CountedWrite>(
     relieve(batch, writer)
 }
 
+/// The lines of a hall's rows come after what waits, which goes out once it is enough.
+fn write_hall<W: CountedWrite>(
+    hall: Option<u8>,
+    history: &History,
+    batch: &mut Vec<u8>,
+    writer: &mut W,
+) -> Result<(), WriteFault>
+    ensures sent { OnOk result (WritesBut (states W.contents W.failures writer.old writer.new)
+        (batch.old.items ++ flat_map (row_text_with hall) history.now.rows) batch.new.items) }
+    ensures broken { IfErr result (FailsWriting (states W.contents W.failures writer.old writer.new)
+        (batch.old.items ++ flat_map (row_text_with hall) history.now.rows)) }
+    ensures range { OnOk result (IsWritten history.now) }
+{
+    for row in history.rows() {
+        write_row(hall, row, batch, writer)?;
+    }
+    Ok(())
+}
+
 /// Writes the text of the history: its header, then a line for each row. It is read as the
 /// history's rows, and as no others.
 ///
@@ -78,29 +97,9 @@ pub fn write_history<W: CountedWrite>(
 {
     let mut batch = Vec::new(alloc);
     append_header(&mut batch, "history")?;
-    for row in lawful_rows(history) {
-        write_row(None, row, &mut batch, writer)?;
-    }
+    let _rows = lawful_rows(history);
+    write_hall(None, history, &mut batch, writer)?;
     write_text(batch.as_slice(), writer)
-}
-
-/// The lines of a hall's rows come after what waits, which goes out once it is enough.
-fn write_hall<W: CountedWrite>(
-    hall: Option<u8>,
-    history: &History,
-    batch: &mut Vec<u8>,
-    writer: &mut W,
-) -> Result<(), WriteFault>
-    ensures sent { OnOk result (WritesBut (states W.contents W.failures writer.old writer.new)
-        (batch.old.items ++ flat_map (row_text_with hall) history.now.rows) batch.new.items) }
-    ensures broken { IfErr result (FailsWriting (states W.contents W.failures writer.old writer.new)
-        (batch.old.items ++ flat_map (row_text_with hall) history.now.rows)) }
-    ensures range { OnOk result (IsWritten history.now) }
-{
-    for row in history.rows() {
-        write_row(hall, row, batch, writer)?;
-    }
-    Ok(())
 }
 
 /// Writes the text of the histories: its header, then a line for each row of hall 0, then for those

@@ -11,17 +11,14 @@ use std::alloc::Global;
 
 /// What the lines of a file make, one after another.
 pub trait Contents: Drop + Send {
-    /// What the first line says of the others.
-    type Header: Copy + Send + Sync;
-
-    type Item: LineItem<Header = Self::Header> + Send;
+    type Item: LineItem + Send;
 
     /// What the lines of a whole file are to those who read it.
     type Whole: Drop + Send;
 
-    ghost format: { Format Self.Header Self.Item };
+    ghost format: { Format Self.Item.Header Self.Item };
 
-    ghost Makes: { Self.Header → List Self.Item → Self → Type 0 };
+    ghost Makes: { Self.Item.Header → List Self.Item → Self → Type 0 };
 
     ghost ReadsWhole: { List ℕ → Self.Whole → Type 0 };
 
@@ -29,7 +26,7 @@ pub trait Contents: Drop + Send {
     fn opening(alloc: Global) -> Self
     where
         Self: Sized,
-        ensures some { (header : Self.Header) × format.Admits header [] };
+        ensures some { (header : Self.Item.Header) × format.Admits header [] };
 
     /// What the first line makes.
     fn begin(alloc: Global, line: &[u8]) -> Result<Self, Stop>
@@ -38,13 +35,13 @@ pub trait Contents: Drop + Send {
         ensures { BeginsFile format Makes line.now result };
 
     /// What the first line said.
-    fn header(&self) -> Self::Header
-        ensures { (header : Self.Header) (items : List Self.Item) → Makes header items self.now
+    fn header(&self) -> <Self::Item as LineItem>::Header
+        ensures { (header : Self.Item.Header) (items : List Self.Item) → Makes header items self.now
             → result ≡ header };
 
     /// Adds the next item, which stands on that line, or says which fault it has after the others.
     fn follow(&mut self, line: u64, item: Self::Item) -> Result<(), Stop>
-        ensures { (header : Self.Header) (items : List Self.Item) → Makes header items self.old
+        ensures { (header : Self.Item.Header) (items : List Self.Item) → Makes header items self.old
             → format.Admits header items → line ≡ length items + 2
             → Follows format Makes header items item result self.new };
 
@@ -55,5 +52,5 @@ pub trait Contents: Drop + Send {
         ensures { (bytes : List ℕ) → Reads format Makes bytes self
             → FileAnswers (file_faults format) ReadsWhole bytes result };
 
-    ghost says: { (header : Self.Header) → format.meaning header ≡ Self.Item.meaning header };
+    ghost says: { (header : Self.Item.Header) → format.meaning header ≡ Self.Item.meaning header };
 }

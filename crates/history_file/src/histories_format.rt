@@ -13,8 +13,6 @@ use std::alloc::Global;
 
 /// The histories of a file's halls: there are none before its header comes.
 impl Contents for Option<HallHistories> {
-    type Header = FileHeader;
-
     type Item = HallRow;
 
     type Whole = Histories;

@@ -45,8 +45,6 @@ impl FileHistory {
 }
 
 impl Contents for FileHistory {
-    type Header = ();
-
     type Item = LineRow;
 
     type Whole = History;

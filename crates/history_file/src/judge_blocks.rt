@@ -7,7 +7,7 @@ use crate::format::Contents;
 use crate::judgements::Judgements;
 use crate::side_by_side::judge_chunks;
 use counted_devices::{cut_chunks, first_end};
-use file_format::ToolSets;
+use file_format::{LineItem, ToolSets};
 use std::alloc::Global;
 use std::thread::Threads;
 use tag::Memory;
@@ -25,7 +25,7 @@ pub struct JudgedLines<T> {
 pub(crate) fn judge_block<C: Contents, R: Threads + Sync>(
     rt: &R,
     alloc: Global,
-    header: C::Header,
+    header: <C::Item as LineItem>::Header,
     tools: &ToolSets,
     rest: &[u8],
     block: &[u8],

@@ -41,8 +41,6 @@ impl Contents for NumberedHalls {
     ghost use Rattle.history_file.specs.Making.{MakesNumberedHalls};
     ghost use Rattle.history_file.specs.NumberedRows.{MakesNumbered};
 
-    type Header = FileHeader;
-
     type Item = HallRow;
 
     type Whole = NumberedHistories;

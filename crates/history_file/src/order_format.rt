@@ -51,8 +51,6 @@ impl Orders {
 impl Contents for Orders {
     ghost use Rattle.history_file.specs.Making.{MakesOrders};
 
-    type Header = ();
-
     type Item = OrderPiece;
 
     type Whole = Vec<KeyOrder>;

@@ -6,13 +6,13 @@ ghost use Rattle.counted_devices.specs.DeviceStates.{states, states_since};
 ghost use Rattle.counted_devices.specs.Deliveries.{Holds, HoldsAll, ReadsFrom};
 ghost use Rattle.counted_devices.specs.FirstFaults.{ReadsOn, StopsFrom};
 ghost use Rattle.counted_devices.specs.ReadFaults.{FailsFrom};
-ghost use Rattle.history_file.specs.FileFaults.{file_faults};
-ghost use Rattle.history_file.specs.Feeds.{StandsForLines};
-ghost use Rattle.history_file.specs.Ahead.{StandsAhead};
-ghost use Rattle.file_format.specs.Readings.{Reads};
-ghost use Rattle.file_format.specs.HistoryFormat.{history_format, MakesHistory};
 ghost use Rattle.file_format.specs.HistoriesFormat.{histories_format, MakesHistories};
+ghost use Rattle.file_format.specs.HistoryFormat.{history_format, MakesHistory};
 ghost use Rattle.file_format.specs.OrderFormat.{order_format, MakesJoined};
+ghost use Rattle.file_format.specs.Readings.{Reads};
+ghost use Rattle.history_file.specs.Ahead.{StandsAhead};
+ghost use Rattle.history_file.specs.Feeds.{StandsForLines};
+ghost use Rattle.history_file.specs.FileFaults.{file_faults};
 ghost use Rattle.history_file.specs.NumberedRows.{MakesNumbered};
 
 use crate::ahead::{Ahead, LEAST};

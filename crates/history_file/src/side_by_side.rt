@@ -5,7 +5,7 @@ ghost use Rattle.file_format.specs.Lines.{ShowChunks};
 
 use crate::format::Contents;
 use crate::judgements::Judgements;
-use file_format::{Judgement, ToolSets, judge_chunk};
+use file_format::{Judgement, LineItem, ToolSets, judge_chunk};
 use rayon::prelude::*;
 use std::alloc::Global;
 use std::thread::Threads;
@@ -16,7 +16,7 @@ use tag::Memory;
 pub(crate) fn judge_chunks<C: Contents, R: Threads + Sync>(
     rt: &R,
     alloc: Global,
-    header: C::Header,
+    header: <C::Item as LineItem>::Header,
     tools: &ToolSets,
     chunks: &[&[u8]],
 ) -> Result<Judgements<C::Item>, Memory>

@@ -23,7 +23,7 @@ returns g c =
     let I : Result (Vec (Vec (Judgement g.row.C-Item.Denot) Global) Global) Memory → Type 0 = λ r. IfOk r (λ found. AllZip Shows c.args.chunks.now found.items) in
     let all : AllZip Shows c.args.chunks.now runs = subst I c.in_ok-runs-2.was (collected Shows (λ (found : Vec (Vec (Judgement g.row.C-Item.Denot) Global) Global). found.items) c.args.chunks.now h.0 c.in_ok-runs.runs _ shown h.2) in
     let chunks = map (λ (chunk : Bor (List ℕ)). chunk.now) c.args.chunks.now in
-    let P : g.row.C-Header.Denot → List (Judgement g.row.C-Item.Denot) → Type 0 = λ header js. ShowChunks (g.C.Item.LineItem.meaning header) chunks js in
+    let P : g.row.C-Item-Header.Denot → List (Judgement g.row.C-Item.Denot) → Type 0 = λ header js. ShowChunks (g.C.Item.LineItem.meaning header) chunks js in
     let one = show_all (g.C.Item.LineItem.meaning lent) (λ (chunk : Bor (List ℕ)). chunk.now) (λ (run : Vec (Judgement g.row.C-Item.Denot) Global). run.items) c.args.chunks.now runs all in
     let laws = g.met.C.Contents g.world.𝓛 g.world.𝓜 g.world.𝓡 ((λ s x. x), (λ x. x), (λ x. x), λ x. x) in
-    subst (λ meaning. ShowChunks meaning chunks c.of.result) (sym (laws.says c.args.header)) (subst (P c.args.header) (sym c.of.ensures) (subst (λ (header : g.row.C-Header.Denot). P header (flat_map (λ (run : Vec (Judgement g.row.C-Item.Denot) Global). run.items) runs)) known one))
+    subst (λ meaning. ShowChunks meaning chunks c.of.result) (sym (laws.says c.args.header)) (subst (P c.args.header) (sym c.of.ensures) (subst (λ (header : g.row.C-Item-Header.Denot). P header (flat_map (λ (run : Vec (Judgement g.row.C-Item.Denot) Global). run.items) runs)) known one))

@@ -29,5 +29,5 @@ returns-clause-goes g c =
     let a = s.0 in
     let known : c.header-header.result ≡ a.header = c.header-header.ensures a.header a.at.items (a.at.made (omega (arith, a.at.counted, some))) in
     let judged = subst Q c.in-Ok.is c.join-read.ensures.second.0 a.splits.partial in
-    let H : g.row.C-Header.Denot → Type 0 = λ h. IsJudged g.C.Contents.format h (old.judged.rest.items ++ c.args.block.now) _ in
+    let H : g.row.C-Item-Header.Denot → Type 0 = λ h. IsJudged g.C.Contents.format h (old.judged.rest.items ++ c.args.block.now) _ in
     c.check_length.ensures.goes _ (advanced g.C.Contents.format g.C.Contents.Makes bytes c.args.block.now old _ a some (subst P c.in_ok-progress.was c.join-read.ensures.first.0) (subst H known judged) refl)

@@ -21,7 +21,7 @@ returns-in-Ok-clause-read g c = λ lines cut header before at some.
     let same : shows.lines ≡ lines = (splits_once (flat_map with_end chunks) shows.lines lines [] [] shows.cut cut).0 in
     let known : c.header.result ≡ header = c.header.ensures header at.items (at.made some) in
     let P : List (List ℕ) → Type 0 = λ ls. AllZip (ShowsItem (g.C.Contents.format.meaning c.header.result)) ls c.in-Ok.judgements in
-    let Q : g.row.C-Header.Denot → Type 0 = λ h. AllZip (ShowsItem (g.C.Contents.format.meaning h)) lines c.in-Ok.judgements in
+    let Q : g.row.C-Item-Header.Denot → Type 0 = λ h. AllZip (ShowsItem (g.C.Contents.format.meaning h)) lines c.in-Ok.judgements in
     c.record.ensures.read header lines (subst Q known (subst P same shows.shown)) before at some
 
 pub returns-in-Ok-clause-lines : goal.returns-in-Ok-clause-lines

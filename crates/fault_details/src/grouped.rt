@@ -1,26 +1,9 @@
-//! What sentences are made of: words and numbers.
-ghost use Rattle.std.specs.Prelude.{◌≡◌, ◌++◌, ◌<◌, decimal, OnOk};
+//! Numbers with commas.
+ghost use Rattle.std.specs.Prelude.{◌≡◌, ◌++◌, ◌<◌, OnOk};
 ghost use Rattle.fault_details.specs.Shown.{group, grouped};
 
-use itoa::Buffer;
+use sentences::append_number;
 use tag::Memory;
-
-/// Adds the words.
-pub(crate) fn append(text: &mut Vec<u8>, words: &str) -> Result<(), Memory>
-    ensures { OnOk result (text.new.items ≡ text.old.items ++ words.now) }
-{
-    text.extend_from_slice(words.as_bytes())?;
-    Ok(())
-}
-
-/// Adds the words and then the number.
-pub(crate) fn append_number(text: &mut Vec<u8>, words: &str, number: u64) -> Result<(), Memory>
-    ensures { OnOk result (text.new.items ≡ text.old.items ++ (words.now ++ decimal number)) }
-{
-    let mut digits = Buffer::new();
-    append(text, words)?;
-    append(text, digits.format(number))
-}
 
 /// Adds three digits after a comma.
 #[tactic(auto, unfolding(crate::specs::Shown::group))]
