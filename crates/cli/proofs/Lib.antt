@@ -3,13 +3,13 @@ pub mod EachKey
 pub mod Entries
 mod FailureSpelling
 pub mod HallParts
-mod HaltLemmas
-pub mod HistoryEndings
+pub mod Endings
 pub mod CheckedKeys
 mod LineSpelling
 mod Tagging
 pub mod Told
 mod Escapes
+mod Justified
 pub mod ShownNames
 pub mod Reported
 pub mod Sends

@@ -1,17 +1,19 @@
 -- What a check of a history file and an order file comes to.
-use Rattle.std.specs.Prelude.{ℕ, ◌≡◌, ◌⊎◌, List, length, Some, slice_get}
+use Rattle.std.specs.Prelude.{ℕ, ◌≡◌, List, [], length, Some, slice_get}
 use Rattle.recorder.specs.declared.part.Call.{Call}
 use Rattle.recorder.specs.declared.order.KeyOrder.{KeyOrder}
 use Rattle.recorder.specs.Histories.{Recorded}
 use Rattle.recorder.specs.Halls.{RecordedHalls, hall_of}
 use Rattle.recorder.specs.Records.{IsPart}
 use Rattle.recorder.specs.Orders.{IsOrder}
-use Rattle.file_format.specs.OrderFormat.{order_format, order_on}
-use Rattle.file_format.specs.HistoriesFormat.{histories_format}
+use Rattle.file_format.specs.OrderFormat.{AreJoined, order_on}
 use Rattle.counted_devices.specs.DeviceStates.{DeviceStates}
-use Rattle.cli.specs.Devices.{Receives, ReceivesNothing, ReceivesPrefix}
-use Rattle.cli.specs.Readings.{HasFaultyLine, IsHistoryRead, ReadsHistories, ReadsPieces}
-use Rattle.cli.specs.VerdictLines.{HasLines}
+use Rattle.cli.specs.Devices.{FileStates, WriterStates}
+use Rattle.cli.specs.Outcomes.{Ends, ended}
+use Rattle.cli.specs.Readings.{ReadsHistories, ReadsPieces}
+use Rattle.cli.specs.Reports.{StopsCheck}
+use Rattle.cli.specs.VerdictLines.{AreCheckLines}
+use Rattle.cli.specs.declared.outcome.Outcome.{Outcome}
 use Rattle.command_line.specs.declared.lines.Lines.{Lines}
 use Rattle.cli.specs.declared.status.Status.{Status}
 use Rattle.cli.specs.declared.status.Status.TheVariants as status
@@ -41,35 +43,32 @@ module _ (halls : List Recorded) (pieces : List KeyOrder) where
   IsStatusOf status.Refused = (key : List ℕ) × IsNo key
   IsStatusOf s = ⊥
 
--- both files were read to their ends: these histories, and an order file of these pieces
-pub record ReadsFiles (history orders : DeviceStates) (histories : RecordedHalls)
-    (pieces : List KeyOrder) : Type 0 where
-  pub history_read : ReadsHistories history histories
-  pub orders_read : ReadsPieces orders pieces
+module _ (form : Lines) where
+  -- a check of the histories, with orders that pieces make: whether each key's order is one of its
+  -- part, and the lines in that form
+  pub record MakesCheck (histories : RecordedHalls) (orders : List KeyOrder) (outcome : Outcome)
+      : Type 0 where
+    pub is : (pieces : List KeyOrder) → AreJoined pieces orders
+        → IsStatusOf histories.halls pieces (ended outcome.good)
+    pub lines : (pieces : List KeyOrder) → AreJoined pieces orders
+        → AreCheckLines form histories.halls pieces outcome.text.items
+    pub quiet : outcome.notes.items ≡ []
 
-module _ (form : Lines) (history orders out : DeviceStates) where
-  -- both files were read, the status is that of their check, and its lines went out in that form
-  pub record ChecksFiles (s : Status) : Type 0 where
+  -- both files were read to their ends, the status is that of their check, and the text has its
+  -- lines in that form
+  pub record ChecksFiles (history orders : DeviceStates) (outcome : Outcome) : Type 0 where
     pub histories : RecordedHalls
     pub pieces : List KeyOrder
-    pub read : ReadsFiles history orders histories pieces
-    pub is : IsStatusOf histories.halls pieces s
-    pub lines : HasLines form histories.halls pieces (Receives out)
+    pub history_read : ReadsHistories history histories
+    pub orders_read : ReadsPieces orders pieces
+    pub is : IsStatusOf histories.halls pieces (ended outcome.good)
+    pub lines : AreCheckLines form histories.halls pieces outcome.text.items
+    pub quiet : outcome.notes.items ≡ []
 
-  -- both files were read, and a beginning of the lines of their check went out
-  pub record PrintsPrefix : Type 0 where
-    pub histories : RecordedHalls
-    pub pieces : List KeyOrder
-    pub read : ReadsFiles history orders histories pieces
-    pub lines : HasLines form histories.halls pieces (ReceivesPrefix out)
-
-  -- what the status of a check says. Good or refused: the files were checked. Format: the history
-  -- has a faulty line, or was read and the orders have one. Failed: nothing went out, or a
-  -- beginning of the lines
-  abbrev pub EndsCheck : Status → Type 0
-  EndsCheck status.Good = ChecksFiles status.Good
-  EndsCheck status.Refused = ChecksFiles status.Refused
-  EndsCheck status.Usage = ⊥
-  EndsCheck status.Format = HasFaultyLine histories_format history
-      ⊎ (IsHistoryRead history × HasFaultyLine order_format orders)
-  EndsCheck status.Failed = ReceivesNothing out ⊎ PrintsPrefix
+-- how a check ends: both files were checked; or one isn't read to its end, or its keys aren't
+-- checked
+abbrev pub EndsCheck : {W E : Type 0} → Lines → ℕ → FileStates → FileStates → WriterStates W
+    → WriterStates E → Status → Type 0
+EndsCheck form workers history orders out errors s =
+    Ends (ChecksFiles form history.reader orders.reader) (StopsCheck history orders workers)
+    out errors s

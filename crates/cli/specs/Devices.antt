@@ -1,10 +1,10 @@
 -- What a command does to its devices, and a file that it reads.
-use Rattle.std.specs.Prelude.{ℕ, ◌≡◌, ◌⊎◌, List, Option}
+use Rattle.std.specs.Prelude.{ℕ, ◌≡◌, ◌⊎◌, List, [], ◌∷◌, Option}
 use Rattle.std.specs.Io.KnownBytes.{Appends}
 use Rattle.counted_devices.specs.Counts.{IsOneMore}
 use Rattle.counted_devices.specs.DeviceStates.{DeviceStates, states}
 use Rattle.counted_devices.specs.Sendings.{AppendsPrefix}
-use Rattle.cli.specs.declared.check.Source.{Source}
+use Rattle.cli.specs.declared.sources.Source.{Source}
 
 module _ (device : DeviceStates) where
   -- the text went out to the device, and nothing else did
@@ -49,3 +49,20 @@ abbrev pub file_states : {R : Type 0} → (R → Option (List ℕ)) → (R → �
     → FileStates
 file_states remaining failures old new =
     record { name = old.name.now; reader = states remaining failures old.reader new.reader }
+
+-- a writer before and after a command: itself, and as a device
+pub record WriterStates (W : Type 0) : Type 0 where
+  pub old : W
+  pub new : W
+  pub device : DeviceStates
+
+-- the states of a writer, by what had gone out to it and by its count of failures
+abbrev pub writer_states : {W : Type 0} → (W → Option (List ℕ)) → (W → ℕ) → W → W → WriterStates W
+writer_states contents failures old new =
+    record { old = old; new = new; device = states contents failures old new }
+
+-- the text goes to the writer so; if it is empty, the writer is as it was
+abbrev pub Writes : {W : Type 0} → WriterStates W → (DeviceStates → List ℕ → Type 0) → List ℕ
+    → Type 0
+Writes writer Goes [] = writer.new ≡ writer.old
+Writes writer Goes (c ∷ text) = Goes writer.device (c ∷ text)

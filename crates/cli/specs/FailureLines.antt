@@ -6,8 +6,15 @@ use Rattle.file_format.specs.declared.fault.LineFault as file
 use Rattle.file_format.specs.Numbers as file_numbers
 use Rattle.fault_script.specs.declared.fault.LineFault as script
 use Rattle.fault_script.specs.Numbers as script_numbers
+use Rattle.parallel_keys.specs.declared.error.CheckError.{CheckError}
+use Rattle.parallel_keys.specs.declared.error.CheckError.TheVariants as error
 use Rattle.cli.specs.declared.status.Failure.{Failure}
 use Rattle.cli.specs.declared.status.Failure.TheVariants as failure
+
+-- the failure of a command whose keys weren't checked for that reason
+abbrev pub failure_of : CheckError → Failure
+failure_of error.Memory = failure.Memory
+failure_of error.Thread = failure.Thread
 
 -- how faults of files are called and numbered
 abbrev pub file_words : FaultWords file.LineFault

@@ -1,5 +1,6 @@
 -- Orders that the notes of a history give its keys.
-use Rattle.std.specs.Prelude.{ℕ, ◌≡◌, ◌⊎◌, List, ◌∷◌, ◌++◌, Some, length, codes, decimal, slice_get}
+use Rattle.std.specs.Prelude.{ℕ, ◌≡◌, Bool, true, false, List, [], ◌∷◌, ◌++◌, Some, length, codes}
+use Rattle.std.specs.Prelude.{decimal, slice_get}
 use Rattle.tag.specs.declared.numbers.OpId.{OpId}
 use Rattle.recorder.specs.declared.part.Call.{Call}
 use Rattle.recorder.specs.declared.order.KeyOrder.{KeyOrder}
@@ -10,7 +11,6 @@ use Rattle.recorder.specs.Sound.{IsByTag}
 use Rattle.witness_order.specs.Notes.{AllNoted, IsLeastUnnoted}
 use Rattle.certificate_check.specs.Verdicts.{IsFault}
 use Rattle.counted_devices.specs.DeviceStates.{DeviceStates}
-use Rattle.file_format.specs.HistoriesFormat.{histories_format}
 use Rattle.parallel_keys.specs.Histories.{AreHallParts}
 use Rattle.parallel_keys.specs.CheckedKeys.{KeyParts, all_parts}
 use Rattle.file_format.specs.Texts.{orders_text}
@@ -18,9 +18,12 @@ use Rattle.cli.specs.declared.noted_orders.Unjustified.{Unjustified}
 use Rattle.cli.specs.declared.noted_orders.Unjustified.TheVariants as unjustified
 use Rattle.cli.specs.declared.status.Status.{Status}
 use Rattle.cli.specs.declared.status.Status.TheVariants as status
-use Rattle.cli.specs.Devices.{Receives, ReceivesNothing, ReceivesOrFails, ReceivesPrefix}
-use Rattle.cli.specs.Readings.{HasFaultyLine, ReadsHistories}
+use Rattle.cli.specs.Devices.{FileStates, ReceivesOrFails, WriterStates}
+use Rattle.cli.specs.Outcomes.{Ends}
+use Rattle.cli.specs.Readings.{ReadsHistories}
+use Rattle.cli.specs.Reports.{StopsHistory}
 use Rattle.cli.specs.VerdictLines.{fault_text}
+use Rattle.cli.specs.declared.outcome.Outcome.{Outcome}
 
 -- a key with its part
 abbrev pub KeyPart : Type 0
@@ -81,54 +84,41 @@ Refuses refusal errors status.Refused =
 Refuses refusal errors status.Failed = Unit {0}
 Refuses refusal errors s = ⊥
 
--- the text of the orders went out; or, if the command failed, nothing did, or a beginning of it
-abbrev pub SendsOrders : List KeyOrder → DeviceStates → Status → Type 0
-SendsOrders orders out status.Good = Receives out (orders_text orders)
-SendsOrders orders out status.Failed = ReceivesNothing out ⊎ ReceivesPrefix out (orders_text orders)
-SendsOrders orders out s = ⊥
+-- the text is that of the orders of the keys with these parts
+pub record HaveOrders (parts : List KeyPart) (text : List ℕ) : Type 0 where
+  pub orders : List KeyOrder
+  pub justified : AreJustified parts orders
+  pub is : text ≡ orders_text orders
 
--- the keys with these parts have orders, and that holds of the orders' text
-abbrev pub HaveOrders : List KeyPart → (List ℕ → Type 0) → Type 0
-HaveOrders parts P =
-    (orders : List KeyOrder) × AreJustified parts orders × P (orders_text orders)
+-- no text; and the line says why the first key without an order has none
+pub record RefusesFirst (parts : List KeyPart) (text line : List ℕ) : Type 0 where
+  pub refusal : Unjustified
+  pub first : IsFirstUnjustified parts refusal
+  pub refused : status_of_refusal refusal ≡ status.Refused
+  pub quiet : text ≡ []
+  pub is : line ≡ refusal_text refusal
 
--- the first key without an order is refused
-abbrev pub RefusesFirst : List KeyPart → DeviceStates → Type 0
-RefusesFirst parts errors = (refusal : Unjustified) × IsFirstUnjustified parts refusal
-    × Refuses refusal errors status.Refused
+-- what a justification makes of keys with these parts: it is good if each has an order, with the
+-- text of the orders; or else it refuses the first key without one
+abbrev pub Justifies : List KeyPart → Bool → List ℕ → List ℕ → Type 0
+Justifies parts true text notes = HaveOrders parts text × (notes ≡ [])
+Justifies parts false text notes = RefusesFirst parts text notes
 
--- the keys of the histories, hall by hall, have these parts, of which that holds
-abbrev pub OfHallParts : List Recorded → (List KeyPart → Type 0) → Type 0
-OfHallParts halls P = (parts : List KeyParts) × AreHallParts halls parts × P (all_parts parts)
+module _ (Makes : List KeyPart → Bool → List ℕ → List ℕ → Type 0) where
+  -- the keys of the histories, hall by hall, have these parts, and that is made of them
+  pub record OfHalls (halls : List Recorded) (outcome : Outcome) : Type 0 where
+    pub parts : List KeyParts
+    pub split : AreHallParts halls parts
+    pub makes : Makes (all_parts parts) outcome.good outcome.text.items outcome.notes.items
 
-module _ (halls : List Recorded) (out errors : DeviceStates) where
-  -- what the status says of histories. Good: the text of their keys' orders went out. Refused: the
-  -- first key without an order is refused. Failed: nothing went out, or a beginning of that text
-  abbrev pub JustifiesHalls : Status → Type 0
-  JustifiesHalls status.Good = OfHallParts halls (λ parts. HaveOrders parts (Receives out))
-  JustifiesHalls status.Refused = OfHallParts halls (λ parts. RefusesFirst parts errors)
-  JustifiesHalls status.Failed = ReceivesNothing out
-      ⊎ OfHallParts halls (λ parts. HaveOrders parts (ReceivesPrefix out))
-  JustifiesHalls s = ⊥
-
-module _ (Ends : List Recorded → Status → Type 0) (file out : DeviceStates) where
-  -- the file was read, and that is how it ended with its histories
-  pub record EndsHistories (s : Status) : Type 0 where
+  -- the file was read, and that is made of its histories
+  pub record OfFile (history : DeviceStates) (outcome : Outcome) : Type 0 where
     pub histories : RecordedHalls
-    pub read : ReadsHistories file histories
-    pub ends : Ends histories.halls s
+    pub read : ReadsHistories history histories
+    pub makes : OfHalls histories.halls outcome
 
-  -- what a status says of a file that has to be read as histories. Good or refused: that is how it
-  -- ended with them. Format: it has a faulty line. Failed: that is how it ended with them, or
-  -- nothing went out
-  abbrev pub EndsFile : Status → Type 0
-  EndsFile status.Good = EndsHistories status.Good
-  EndsFile status.Refused = EndsHistories status.Refused
-  EndsFile status.Usage = ⊥
-  EndsFile status.Format = HasFaultyLine histories_format file
-  EndsFile status.Failed = ReceivesNothing out ⊎ EndsHistories status.Failed
-
--- what the status of a justification says: how it ended with the file's histories
-abbrev pub EndsJustification : DeviceStates → DeviceStates → DeviceStates → Status → Type 0
-EndsJustification file out errors s =
-    EndsFile (λ halls. JustifiesHalls halls out errors) file out s
+  -- how a command ends that makes that of a history's keys
+  abbrev pub EndsOfFile : {W E : Type 0} → FileStates → WriterStates W → WriterStates E → Status
+      → Type 0
+  EndsOfFile history out errors s =
+      Ends (OfFile history.reader) (StopsHistory history) out errors s

@@ -1,10 +1,10 @@
 pub mod Checks
 pub mod Devices
 pub mod FailureLines
-pub mod Halts
 pub mod JsonLines
 pub mod VerdictStatuses
 pub mod Justifications
+pub mod Outcomes
 pub mod Readings
 pub mod Reports
 pub mod SentTexts

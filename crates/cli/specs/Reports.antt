@@ -11,7 +11,7 @@ use Rattle.fault_script.specs.Simulations.{Simulates}
 use Rattle.cli.specs.Devices.{FailsOnce, FileStates, IsUntouched, Receives, ReceivesOrFails}
 use Rattle.cli.specs.Devices.{ReceivesPrefix, device_since, device_until}
 use Rattle.cli.specs.FailureLines.{failure_line}
-use Rattle.cli.specs.Readings.{IsHistoryRead, StopsReading}
+use Rattle.cli.specs.Readings.{IsHistoryRead, StopsFile}
 use Rattle.cli.specs.Statuses.{status_of}
 use Rattle.cli.specs.declared.status.Failure.{Failure}
 use Rattle.cli.specs.declared.status.Failure.TheVariants as failure
@@ -39,7 +39,7 @@ ReportsEnd good refused Holds errors status.Failed = ReportsFailure Holds errors
 -- the failure is the fault of that file at which its reading stopped
 abbrev pub IsFaultOf : {Header Item : Type 0} → Format Header Item → FileStates → Failure → Type 0
 IsFaultOf format file (failure.File name fault) =
-    (name.now ≡ file.name) × StopsReading format file.reader fault
+    (name.now ≡ file.name) × StopsFile format file.reader fault
 IsFaultOf format file why = ⊥
 
 -- the output failed once more; or memory was wanted, and the output is as it was
@@ -48,26 +48,28 @@ IsOfOutput out failure.Output = FailsOnce out
 IsOfOutput out failure.Memory = IsUntouched out
 IsOfOutput out why = ⊥
 
-module _ (history orders : FileStates) (workers : ℕ) (out : DeviceStates) where
-  -- a check fails by a fault of the history; by one of the orders, once the history was read; by
-  -- its output; or, with the output as it was, for want of memory or of a second worker's thread
-  abbrev pub IsOfCheck : Failure → Type 0
-  IsOfCheck (failure.File name fault) =
-      IsFaultOf histories_format history (failure.File name fault)
-      ⊎ (IsHistoryRead history.reader × IsFaultOf order_format orders (failure.File name fault))
-  IsOfCheck failure.Thread = (2 ≤ workers) × IsUntouched out
-  IsOfCheck failure.Output = IsOfOutput out failure.Output
-  IsOfCheck failure.Memory = IsOfOutput out failure.Memory
-  IsOfCheck why = ⊥
+-- the failure is a fault of the history, or one of the orders once the history was read
+abbrev pub StopsReading : FileStates → FileStates → Failure → Type 0
+StopsReading history orders why = IsFaultOf histories_format history why
+    ⊎ (IsHistoryRead history.reader × IsFaultOf order_format orders why)
 
-module _ (history : FileStates) (out : DeviceStates) where
-  -- a justification fails by a fault of the history, by its output, or for want of memory
-  abbrev pub IsOfJustification : Failure → Type 0
-  IsOfJustification (failure.File name fault) =
-      IsFaultOf histories_format history (failure.File name fault)
-  IsOfJustification failure.Output = IsOfOutput out failure.Output
-  IsOfJustification failure.Memory = IsOfOutput out failure.Memory
-  IsOfJustification why = ⊥
+-- keys aren't checked by so many workers for want of memory, or of a second worker's thread
+abbrev pub StopsKeys : ℕ → Failure → Type 0
+StopsKeys workers failure.Memory = Unit {0}
+StopsKeys workers failure.Thread = 2 ≤ workers
+StopsKeys workers why = ⊥
+
+-- a check isn't made: a file isn't read to its end, or its keys aren't checked
+abbrev pub StopsCheck : FileStates → FileStates → ℕ → Failure → Type 0
+StopsCheck history orders workers why = StopsReading history orders why ⊎ StopsKeys workers why
+
+-- nothing is made of both files: one isn't read to its end, or memory is wanted
+abbrev pub StopsBoth : FileStates → FileStates → Failure → Type 0
+StopsBoth history orders why = StopsReading history orders why ⊎ (why ≡ failure.Memory)
+
+-- nothing is made of a history alone: it isn't read to its end, or memory is wanted
+abbrev pub StopsHistory : FileStates → Failure → Type 0
+StopsHistory history why = IsFaultOf histories_format history why ⊎ (why ≡ failure.Memory)
 
 -- the failure is the fault of that script at which its reading stopped
 abbrev pub IsScriptFault : FileStates → Failure → Type 0

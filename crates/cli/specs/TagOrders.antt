@@ -1,18 +1,11 @@
 -- The orders that the tags of a history make, without a check of them.
-use Rattle.std.specs.Prelude.{ℕ, ◌≡◌, ◌≤◌, ◌⊎◌, ◌+◌, List, [], ◌∷◌, ◌++◌}
+use Rattle.std.specs.Prelude.{ℕ, ◌≡◌, ◌==◌, ◌+◌, Bool, List, [], ◌∷◌, ◌++◌}
 use Rattle.tag.specs.declared.numbers.OpId.{OpId}
 use Rattle.recorder.specs.declared.order.KeyOrder.{KeyOrder}
-use Rattle.recorder.specs.Histories.{Recorded}
 use Rattle.recorder.specs.Sound.{IsByTag}
 use Rattle.witness_order.specs.Notes.{IsLeastUnnoted}
-use Rattle.counted_devices.specs.DeviceStates.{DeviceStates}
 use Rattle.file_format.specs.Texts.{orders_text}
-use Rattle.parallel_keys.specs.Histories.{AreHallParts}
-use Rattle.parallel_keys.specs.CheckedKeys.{KeyParts, all_parts}
-use Rattle.cli.specs.Devices.{Receives, ReceivesNothing, ReceivesOrFails, ReceivesPrefix}
 use Rattle.cli.specs.Justifications.{KeyPart, no_note_text}
-use Rattle.cli.specs.declared.status.Status.{Status}
-use Rattle.cli.specs.declared.status.Status.TheVariants as status
 use Rattle.cli.specs.declared.tag_orders.TagOrders.{TagOrders}
 
 -- what the tags make of a key: an order; or none, since that call on it has no note
@@ -55,27 +48,14 @@ left_out_count [] = 0
 left_out_count (Ordered order ∷ tagged) = left_out_count tagged
 left_out_count (LeftOut key op ∷ tagged) = left_out_count tagged + 1
 
-module _ (halls : List Recorded) (out errors : DeviceStates) where
-  -- the tags make these of the keys of the histories, hall by hall, and that holds of them
-  pub record MakesTagged (Holds : List Tagged → Type 0) : Type 0 where
-    pub parts : List KeyParts
-    pub split : AreHallParts halls parts
-    pub tagged : List Tagged
-    pub are : AreTagged (all_parts parts) tagged
-    pub holds : Holds tagged
-
-  -- what the status says of histories. Good: each key has a tag order, and the orders' text went
-  -- out. Refused: some are left out, the text of the others' orders went out, and a line for each
-  -- that is left out went to standard error. Failed: nothing went out, or a beginning of that text
-  abbrev pub OrdersHalls : Status → Type 0
-  OrdersHalls status.Good = MakesTagged (λ tagged.
-      (left_out_count tagged ≡ 0) × Receives out (orders_text (orders_of tagged)))
-  OrdersHalls status.Refused = MakesTagged (λ tagged.
-      (1 ≤ left_out_count tagged) × Receives out (orders_text (orders_of tagged))
-      × ReceivesOrFails errors (left_out_text tagged))
-  OrdersHalls status.Failed = ReceivesNothing out
-      ⊎ MakesTagged (λ tagged. ReceivesPrefix out (orders_text (orders_of tagged)))
-  OrdersHalls s = ⊥
+-- what the tags make of keys with these parts: the text of the orders of those that have one, and a
+-- line for each that is left out; it is good if none is
+pub record OrdersKeys (parts : List KeyPart) (good : Bool) (text notes : List ℕ) : Type 0 where
+  pub tagged : List Tagged
+  pub are : AreTagged parts tagged
+  pub is : good ≡ (left_out_count tagged == 0)
+  pub orders : text ≡ orders_text (orders_of tagged)
+  pub lines : notes ≡ left_out_text tagged
 
 -- the orders and the lines are what the tags make of the keys with these parts
 pub record AreMade (parts : List KeyPart) (made : TagOrders) : Type 0 where
@@ -83,21 +63,3 @@ pub record AreMade (parts : List KeyPart) (made : TagOrders) : Type 0 where
   pub are : AreTagged parts tagged
   pub orders : made.orders.items ≡ orders_of tagged
   pub lines : made.left_out.items ≡ left_out_text tagged
-
--- good if no line is to be said; refused if the lines went to standard error
-abbrev pub SaysLeftOut : List ℕ → DeviceStates → Status → Type 0
-SaysLeftOut lines errors status.Good = lines ≡ []
-SaysLeftOut lines errors status.Refused = (lines ≡ [] → ⊥) × ReceivesOrFails errors lines
-SaysLeftOut lines errors s = ⊥
-
--- the text of the orders went out and the lines were said, if the command didn't fail
-abbrev pub SendsTagOrders : TagOrders → DeviceStates → DeviceStates → Status → Type 0
-SendsTagOrders made out errors status.Good =
-    SaysLeftOut made.left_out.items errors status.Good
-    × Receives out (orders_text made.orders.items)
-SendsTagOrders made out errors status.Refused =
-    SaysLeftOut made.left_out.items errors status.Refused
-    × Receives out (orders_text made.orders.items)
-SendsTagOrders made out errors status.Failed =
-    ReceivesNothing out ⊎ ReceivesPrefix out (orders_text made.orders.items)
-SendsTagOrders made out errors s = ⊥

@@ -62,7 +62,3 @@ module _ (form : Lines) where
       pub recorded : AreHallParts halls parts
       pub joined : AreJoined pieces orders
       pub lines : AreVerdictLines (checked_keys (all_parts parts) orders) text
-
-    -- that holds of what a check of these histories and pieces prints
-    abbrev pub HasLines : (List ℕ → Type 0) → Type 0
-    HasLines P = (text : List ℕ) × AreCheckLines text × P text

@@ -1,6 +1,7 @@
 //! The lines of a check in each form: for people, and as objects of JSON.
 ghost use Rattle.std.specs.Prelude.{◌≡◌, ◌++◌, OnOk};
-ghost use Rattle.cli.specs.JsonLines.{fault_members, json_line, verdict_members};
+ghost use Rattle.cli.specs.JsonLines.{fault_members, json_line, place_members};
+ghost use Rattle.cli.specs.JsonLines.{verdict_members};
 ghost use Rattle.cli.specs.VerdictLines.{line_in};
 
 use crate::verdict_lines::{append, append_line, append_number};
@@ -8,21 +9,29 @@ use certificate_check::{Fault, Verdict};
 use command_line::Lines;
 use tag::{Key, Memory};
 
+/// Says where an order is wrong, as members of an object.
+fn append_place_members(text: &mut Vec<u8>, fault: Fault) -> Result<(), Memory>
+    ensures { OnOk result (text.new.items ≡ text.old.items ++ place_members fault) }
+{
+    match fault {
+        Fault::MissingCall(op) => append_number(text, ",\"call\":", u64::from(op.0)),
+        Fault::OrderBroken(i, j) => {
+            append_number(text, ",\"at\":", i as u64)?;
+            append_number(text, ",\"and\":", j as u64)
+        }
+        Fault::UnknownCall(i)
+        | Fault::CallTwice(i)
+        | Fault::PendingRead(i)
+        | Fault::WrongAnswer(i) => append_number(text, ",\"at\":", i as u64),
+    }
+}
+
 /// Says what is wrong with an order, as members of an object.
 fn append_fault_members(text: &mut Vec<u8>, fault: Fault) -> Result<(), Memory>
     ensures { OnOk result (text.new.items ≡ text.old.items ++ fault_members fault) }
 {
-    match fault {
-        Fault::UnknownCall(i) => append_number(text, ",\"fault\":1,\"at\":", i as u64),
-        Fault::CallTwice(i) => append_number(text, ",\"fault\":2,\"at\":", i as u64),
-        Fault::MissingCall(op) => { append_number(text, ",\"fault\":3,\"call\":", u64::from(op.0)) }
-        Fault::PendingRead(i) => append_number(text, ",\"fault\":4,\"at\":", i as u64),
-        Fault::WrongAnswer(i) => append_number(text, ",\"fault\":5,\"at\":", i as u64),
-        Fault::OrderBroken(i, j) => {
-            append_number(text, ",\"fault\":6,\"at\":", i as u64)?;
-            append_number(text, ",\"and\":", j as u64)
-        }
-    }
+    append_number(text, ",\"fault\":", u64::from(fault.number()))?;
+    append_place_members(text, fault)
 }
 
 /// Says a verdict, as a string and, if it is no, the members that say why.

@@ -1,15 +1,13 @@
 //! `abd justify`: an order of each key's calls, made from the notes of its history.
-ghost use Rattle.std.specs.Prelude.{◌≡◌, ◌⊎◌, IfOk};
-ghost use Rattle.counted_devices.specs.Counts.{IsOneMore};
-ghost use Rattle.counted_devices.specs.DeviceStates.{states};
+ghost use Rattle.std.specs.Prelude.{◌≡◌, IfOk, IfErr};
 ghost use Rattle.file_format.specs.Texts.{orders_text};
-ghost use Rattle.cli.specs.Devices.{file_states};
-ghost use Rattle.cli.specs.Justifications.{EndsJustification, JustifiesHalls, SendsOrders};
-ghost use Rattle.cli.specs.Reports.{IsOfJustification, IsOfOutput, ReportsEnd};
+ghost use Rattle.cli.specs.Devices.{file_states, writer_states};
+ghost use Rattle.cli.specs.Justifications.{EndsOfFile, Justifies, OfHalls};
+ghost use Rattle.cli.specs.declared.status.Failure.TheVariants as failure;
 
-use crate::check::{Source, histories_in};
 use crate::noted_orders::checked_orders;
-use crate::sending::send;
+use crate::outcome::{Outcome, conclude};
+use crate::sources::{Source, histories_in};
 use crate::status::{Failure, Status};
 use counted_devices::{CountedRead, CountedWrite, Counting};
 use file_format::write_orders;
@@ -20,7 +18,7 @@ use std::thread::Threads;
 use tag::Memory;
 
 /// The text of the order file of the orders.
-fn order_file(alloc: Global, orders: &[KeyOrder]) -> Result<Vec<u8>, Memory>
+pub(crate) fn order_file(alloc: Global, orders: &[KeyOrder]) -> Result<Vec<u8>, Memory>
     ensures { IfOk result (λ text. text.items ≡ orders_text orders.now) }
 {
     let mut writer = Counting::new(Vec::new(alloc));
@@ -31,53 +29,18 @@ fn order_file(alloc: Global, orders: &[KeyOrder]) -> Result<Vec<u8>, Memory>
     }
 }
 
-/// Writes the order file of the orders, once the whole of it is made.
-pub(crate) fn send_orders<W: CountedWrite, E: CountedWrite>(
-    alloc: Global,
-    orders: &[KeyOrder],
-    out: &mut W,
-    errors: &mut E,
-) -> Status
-    ensures ends { SendsOrders orders.now (states W.contents W.failures out.old out.new) result }
-    ensures failed { result ≡ Status.Failed
-        → (out.new ≡ out.old) ⊎ IsOneMore (W.failures out.old) (W.failures out.new) }
-    ensures said { ReportsEnd (errors.new ≡ errors.old) (Unit {0})
-        (IsOfOutput (states W.contents W.failures out.old out.new))
-        (states E.contents E.failures errors.old errors.new)
-        result }
+/// Makes each key's order from the notes of its part, checks it, and makes the order file.
+fn justified(alloc: Global, histories: &Histories) -> Result<Outcome, Failure<'static>>
+    ensures made { IfOk result (OfHalls Justifies histories.now.halls) }
+    ensures stops { IfErr result (λ why. why ≡ failure.Memory) }
 {
-    match order_file(alloc, orders) {
-        Ok(text) => send(text.as_slice(), out, errors),
-        Err(_) => Failure::Memory.report(errors),
-    }
-}
-
-/// Makes each key's order from the notes of its part, checks it, and writes the order file.
-fn justify_histories<W: CountedWrite, E: CountedWrite>(
-    alloc: Global,
-    histories: &Histories,
-    out: &mut W,
-    errors: &mut E,
-) -> Status
-    ensures ends { JustifiesHalls histories.now.halls
-        (states W.contents W.failures out.old out.new)
-        (states E.contents E.failures errors.old errors.new)
-        result }
-    ensures refused { result ≡ Status.Refused → out.new ≡ out.old }
-    ensures failed { result ≡ Status.Failed
-        → (out.new ≡ out.old) ⊎ IsOneMore (W.failures out.old) (W.failures out.new) }
-    ensures said { ReportsEnd (errors.new ≡ errors.old) (Unit {0})
-        (IsOfOutput (states W.contents W.failures out.old out.new))
-        (states E.contents E.failures errors.old errors.new)
-        result }
-{
-    let parts = match hall_parts(alloc, histories.halls()) {
-        Ok(parts) => parts,
-        Err(_) => return Failure::Memory.report(errors),
-    };
+    let parts = hall_parts(alloc, histories.halls())?;
     match checked_orders(alloc, parts.as_slice()) {
-        Ok(orders) => send_orders(alloc, orders.as_slice(), out, errors),
-        Err(refusal) => refusal.report(alloc, errors),
+        Ok(orders) => {
+            let text = order_file(alloc, orders.as_slice())?;
+            Ok(Outcome::of_text(alloc, text, true))
+        }
+        Err(refusal) => Ok(refusal.outcome(alloc)?),
     }
 }
 
@@ -94,24 +57,14 @@ pub fn justify_command<'a, H: CountedRead, W: CountedWrite, E: CountedWrite>(
     out: &mut W,
     errors: &mut E,
 ) -> Status
-    ensures ends { EndsJustification
-        (states H.remaining H.failures history.old.reader history.new.reader)
-        (states W.contents W.failures out.old out.new)
-        (states E.contents E.failures errors.old errors.new)
-        result }
-    ensures refused { result ≡ Status.Refused → out.new ≡ out.old }
-    ensures faulty { result ≡ Status.Format → out.new ≡ out.old }
-    ensures failed { result ≡ Status.Failed
-        → (out.new ≡ out.old) ⊎ IsOneMore (W.failures out.old) (W.failures out.new) }
-    ensures said { ReportsEnd (errors.new ≡ errors.old) (Unit {0})
-        (IsOfJustification
+    ensures { EndsOfFile Justifies
         (file_states H.remaining H.failures history.old history.new)
-        (states W.contents W.failures out.old out.new))
-        (states E.contents E.failures errors.old errors.new)
+        (writer_states W.contents W.failures out.old out.new)
+        (writer_states E.contents E.failures errors.old errors.new)
         result }
 {
     match histories_in(rt, alloc, history) {
-        Ok(histories) => justify_histories(alloc, &histories, out, errors),
+        Ok(histories) => conclude(justified(alloc, &histories), out, errors),
         Err(failure) => failure.report(errors),
     }
 }

@@ -1,5 +1,5 @@
 //! The orders that the notes of a history give its keys, each checked.
-ghost use Rattle.std.specs.Prelude.{◌≡◌, ◌++◌, List, map, IfOk, IfErr, OnOk};
+ghost use Rattle.std.specs.Prelude.{◌≡◌, ◌++◌, [], List, false, map, IfOk, IfErr, OnOk};
 ghost use Rattle.counted_devices.specs.DeviceStates.{states};
 ghost use Rattle.parallel_keys.specs.CheckedKeys.{all_parts};
 ghost use Rattle.cli.specs.FailureLines.{failure_line};
@@ -8,6 +8,7 @@ ghost use Rattle.cli.specs.Justifications.{IsFirstUnjustified, Refuses, refusal_
 ghost use Rattle.cli.specs.Justifications.{status_of_refusal};
 ghost use Rattle.cli.specs.Devices.{ReceivesOrFails};
 
+use crate::outcome::Outcome;
 use crate::status::{Failure, Status};
 use crate::verdict_lines::{append, append_fault, append_number};
 use certificate_check::{Fault, Verdict, check_part};
@@ -76,6 +77,25 @@ impl Unjustified<'_> {
         }
         let _ = write_text(text.as_slice(), errors);
         self.status()
+    }
+
+    /// The outcome of a justification that ends so: no text, and why in a line.
+    pub(crate) fn outcome(self, alloc: Global) -> Result<Outcome, Memory>
+        ensures bad { IfOk result (λ outcome. outcome.good ≡ false) }
+        ensures refused { OnOk result (status_of_refusal self.entry ≡ Status.Refused) }
+        ensures quiet { IfOk result (λ outcome. outcome.text.items ≡ []) }
+        ensures line { IfOk result (λ outcome. outcome.notes.items ≡ refusal_text self.entry) }
+    {
+        if let Unjustified::Memory = self {
+            return Err(Memory);
+        }
+        let mut notes = Vec::new(alloc);
+        self.append_to(&mut notes)?;
+        Ok(Outcome {
+            text: Vec::new(alloc),
+            notes,
+            good: false,
+        })
     }
 }
 

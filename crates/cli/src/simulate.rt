@@ -5,7 +5,7 @@ ghost use Rattle.cli.specs.Devices.{file_states};
 ghost use Rattle.cli.specs.Reports.{ReportsSimulation};
 ghost use Rattle.cli.specs.SimulationEndings.{EndsSimulation};
 
-use crate::check::Source;
+use crate::sources::Source;
 use crate::status::{Failure, Status};
 use counted_devices::{CountedRead, CountedWrite};
 use fault_script::{SimulateError, simulate};

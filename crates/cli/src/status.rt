@@ -10,6 +10,8 @@ use counted_devices::{CountedWrite, FaultKind, FaultNumbers, ReadFault, write_pi
 use fault_script::ScriptError;
 use file_format::FileFault;
 use itoa::Buffer;
+use parallel_keys::CheckError;
+use tag::Memory;
 use thiserror::Error;
 
 /// How a command ended.
@@ -57,6 +59,31 @@ pub enum Failure<'a> {
     Memory,
     #[error("no thread")]
     Thread,
+}
+
+impl From<Memory> for Failure<'_> {
+    ghost use Rattle.std.specs.Prelude.{◌≡◌};
+    ghost use Rattle.cli.specs.declared.status.Failure.TheVariants.{Memory};
+
+    ghost from_gives = { λ _ failure. failure ≡ Memory };
+
+    fn from(_: Memory) -> Self {
+        Failure::Memory
+    }
+}
+
+impl From<CheckError> for Failure<'_> {
+    ghost use Rattle.std.specs.Prelude.{◌≡◌};
+    ghost use Rattle.cli.specs.FailureLines.{failure_of};
+
+    ghost from_gives = { λ error failure. failure ≡ failure_of error };
+
+    fn from(error: CheckError) -> Self {
+        match error {
+            CheckError::Memory => Failure::Memory,
+            CheckError::Thread => Failure::Thread,
+        }
+    }
 }
 
 /// The status of a file or a script that couldn't be read.

@@ -1,57 +1,30 @@
 //! `abd draw`: the keys of a history, and pictures of their calls.
-ghost use Rattle.std.specs.Prelude.{◌≡◌, ◌⊎◌, List, All, IfOk, OnOk, map};
-ghost use Rattle.counted_devices.specs.Counts.{IsOneMore};
-ghost use Rattle.counted_devices.specs.DeviceStates.{states};
-ghost use Rattle.recorder.specs.Halls.{AreHalls};
-ghost use Rattle.parallel_keys.specs.CheckedKeys.{AreDistinct, KeyParts, all_parts, checked_keys};
-ghost use Rattle.parallel_keys.specs.Histories.{AreHallParts};
+ghost use Rattle.std.specs.Prelude.{◌≡◌, List, All, IfOk, IfErr, map};
+ghost use Rattle.parallel_keys.specs.CheckedKeys.{AreDistinct, CheckedKey};
 ghost use Rattle.parallel_keys.specs.KeysToCheck.{what_of};
 ghost use Rattle.scenes.specs.Points.{AreApart};
-ghost use Rattle.cli.specs.Devices.{file_states};
-ghost use Rattle.cli.specs.Reports.{IsOfCheck, IsOfJustification, IsOfOutput, ReportsEnd};
+ghost use Rattle.cli.specs.Devices.{file_states, writer_states};
+ghost use Rattle.cli.specs.declared.status.Failure.TheVariants as failure;
+ghost use Rattle.explain_command.specs.Files.{EndsOnBoth, EndsOnHistory, HaveKeys};
 ghost use Rattle.explain_command.specs.KeyExplanations.{HasLinesOfEach};
-ghost use Rattle.draw_command.specs.Endings.{EndsOrders, EndsTags};
-ghost use Rattle.draw_command.specs.Making.{HasStatus, IsMadeOf, SendsPage};
+ghost use Rattle.draw_command.specs.Making.{DrawsFiles, IsMadeOf};
 
 use crate::drawn::Drawn;
 use crate::finding::find_each;
 use crate::judged::Judged;
 use crate::page::page_of;
 use crate::section::Task;
-use cli::{Failure, Source, Status, orders_in};
-use counted_devices::{CountedRead, CountedWrite, write_text};
-use explain_command::numbered_in;
+use cli::{Failure, Outcome, Source, Status, conclude};
+use counted_devices::{CountedRead, CountedWrite};
+use explain_command::{files_in, history_in, is_good};
 use parallel_keys::{KeyToCheck, hall_parts, keys_to_check};
 use recorder::{KeyOrder, Part};
 use std::alloc::Global;
 use std::thread::Threads;
 use tag::Memory;
 
-/// A page, and what the command ends with if it goes out.
-#[derive(Drop)]
-pub(crate) struct Page {
-    pub(crate) text: Vec<u8>,
-    /// How many keys are refused.
-    pub(crate) refused: usize,
-    /// Whether no key has the name that was given.
-    pub(crate) missing: bool,
-}
-
-impl Page {
-    /// `Good` where no key is refused and one has the name, if one was given; else `Refused`.
-    fn status(&self) -> Status
-        ensures { HasStatus self.now result }
-    {
-        if self.refused == 0 && !self.missing {
-            Status::Good
-        } else {
-            Status::Refused
-        }
-    }
-}
-
 /// Judges the selected keys, and makes their page.
-fn draw_keys(alloc: Global, task: &Task<'_>, keys: &[KeyToCheck<'_>]) -> Result<Page, Memory>
+fn draw_keys(alloc: Global, task: &Task<'_>, keys: &[KeyToCheck<'_>]) -> Result<Outcome, Memory>
     requires lines { HasLinesOfEach task.now.numbered.now }
     requires apart { All (λ one. AreApart one.part) (map what_of keys.now) }
     ensures { IfOk result (IsMadeOf task.now.judged task.now.numbered.now task.now.drawn
@@ -62,43 +35,27 @@ fn draw_keys(alloc: Global, task: &Task<'_>, keys: &[KeyToCheck<'_>]) -> Result<
     let missing = selection.misses(few.len());
     let findings = find_each(alloc, task.judged, few.as_slice())?;
     let text = page_of(alloc, task, &findings, missing)?;
-    Ok(Page {
-        text,
-        refused: findings.refused,
-        missing,
-    })
+    let good = is_good(findings.refused, missing);
+    Ok(Outcome::of_text(alloc, text, good))
 }
 
 /// The same, of the keys of the histories, and of those that only the orders have.
-fn draw_halls(alloc: Global, task: &Task<'_>, orders: &[KeyOrder]) -> Result<Page, Memory>
+fn draw_files(
+    alloc: Global,
+    task: &Task<'_>,
+    orders: &[KeyOrder],
+) -> Result<Outcome, Failure<'static>>
     requires lines { HasLinesOfEach task.now.numbered.now }
     requires distinct { AreDistinct orders.now }
-    ensures lawful { OnOk result (AreHalls task.now.numbered.now.histories) }
-    ensures page { IfOk result (λ page. (parts : List KeyParts)
-        × AreHallParts task.now.numbered.now.histories.halls parts
-        × IsMadeOf task.now.judged task.now.numbered.now task.now.drawn
-        (checked_keys (all_parts parts) orders.now) page) }
+    ensures made { IfOk result (λ outcome. (keys : List CheckedKey)
+        × HaveKeys task.now.numbered.now.histories orders.now keys
+        × IsMadeOf task.now.judged task.now.numbered.now task.now.drawn keys outcome) }
+    ensures stops { IfErr result (λ why. why ≡ failure.Memory) }
 {
     let parts = hall_parts(alloc, task.numbered.histories.halls())?;
     let nothing = Part::empty(alloc);
     let keys = keys_to_check(alloc, parts.as_slice(), orders, &nothing)?;
-    draw_keys(alloc, task, keys.as_slice())
-}
-
-/// Writes the page, and answers its status.
-fn send<W: CountedWrite, E: CountedWrite>(page: &Page, out: &mut W, errors: &mut E) -> Status
-    ensures ends { SendsPage page.now (states W.contents W.failures out.old out.new) result }
-    ensures failed { result ≡ Status.Failed
-        → (out.new ≡ out.old) ⊎ IsOneMore (W.failures out.old) (W.failures out.new) }
-    ensures said { ReportsEnd (errors.new ≡ errors.old) (errors.new ≡ errors.old)
-        (IsOfOutput (states W.contents W.failures out.old out.new))
-        (states E.contents E.failures errors.old errors.new)
-        result }
-{
-    match write_text(page.text.as_slice(), out) {
-        Ok(()) => page.status(),
-        Err(_) => Failure::Output.report(errors),
-    }
+    Ok(draw_keys(alloc, task, keys.as_slice())?)
 }
 
 /// Reads the history, of version 1 or 2, and then the orders, judges the keys by their orders, and
@@ -120,40 +77,27 @@ pub fn draw_orders_command<'a, H: CountedRead, O: CountedRead, W: CountedWrite, 
     out: &mut W,
     errors: &mut E,
 ) -> Status
-    ensures ends { EndsOrders drawn.entry
-        (states H.remaining H.failures history.old.reader history.new.reader)
-        (states O.remaining O.failures orders.old.reader orders.new.reader)
-        (states W.contents W.failures out.old out.new)
-        result }
-    ensures quiet { result ≡ Status.Format → out.new ≡ out.old }
-    ensures failed { result ≡ Status.Failed
-        → (out.new ≡ out.old) ⊎ IsOneMore (W.failures out.old) (W.failures out.new) }
-    // As of a check by one worker, which starts no thread.
-    ensures said { ReportsEnd (errors.new ≡ errors.old) (errors.new ≡ errors.old)
-        (IsOfCheck
+    ensures { EndsOnBoth (DrawsFiles Judged.Orders drawn.entry)
         (file_states H.remaining H.failures history.old history.new)
         (file_states O.remaining O.failures orders.old orders.new)
-        1
-        (states W.contents W.failures out.old out.new))
-        (states E.contents E.failures errors.old errors.new)
+        (writer_states W.contents W.failures out.old out.new)
+        (writer_states E.contents E.failures errors.old errors.new)
         result }
 {
-    let numbered = match numbered_in(rt, alloc, history) {
-        Ok(numbered) => numbered,
-        Err(failure) => return failure.report(errors),
-    };
-    let orders = match orders_in(rt, alloc, orders) {
-        Ok(orders) => orders,
-        Err(failure) => return failure.report(errors),
-    };
-    let task = Task {
-        judged: Judged::Orders,
-        numbered: &numbered,
-        drawn,
-    };
-    match draw_halls(alloc, &task, orders.as_slice()) {
-        Ok(page) => send(&page, out, errors),
-        Err(_) => Failure::Memory.report(errors),
+    match files_in(rt, alloc, history, orders) {
+        Ok(files) => {
+            let task = Task {
+                judged: Judged::Orders,
+                numbered: &files.numbered,
+                drawn,
+            };
+            conclude(
+                draw_files(alloc, &task, files.orders.as_slice()),
+                out,
+                errors,
+            )
+        }
+        Err(failure) => failure.report(errors),
     }
 }
 
@@ -173,32 +117,25 @@ pub fn draw_tags_command<'a, H: CountedRead, W: CountedWrite, E: CountedWrite>(
     out: &mut W,
     errors: &mut E,
 ) -> Status
-    ensures ends { EndsTags drawn.entry
-        (states H.remaining H.failures history.old.reader history.new.reader)
-        (states W.contents W.failures out.old out.new)
-        result }
-    ensures quiet { result ≡ Status.Format → out.new ≡ out.old }
-    ensures failed { result ≡ Status.Failed
-        → (out.new ≡ out.old) ⊎ IsOneMore (W.failures out.old) (W.failures out.new) }
-    // As of a justification: a fault of the file, the output, or want of memory.
-    ensures said { ReportsEnd (errors.new ≡ errors.old) (errors.new ≡ errors.old)
-        (IsOfJustification
+    ensures { EndsOnHistory (DrawsFiles Judged.Tags drawn.entry)
         (file_states H.remaining H.failures history.old history.new)
-        (states W.contents W.failures out.old out.new))
-        (states E.contents E.failures errors.old errors.new)
+        (writer_states W.contents W.failures out.old out.new)
+        (writer_states E.contents E.failures errors.old errors.new)
         result }
 {
-    let numbered = match numbered_in(rt, alloc, history) {
-        Ok(numbered) => numbered,
-        Err(failure) => return failure.report(errors),
-    };
-    let task = Task {
-        judged: Judged::Tags,
-        numbered: &numbered,
-        drawn,
-    };
-    match draw_halls(alloc, &task, &[]) {
-        Ok(page) => send(&page, out, errors),
-        Err(_) => Failure::Memory.report(errors),
+    match history_in(rt, alloc, history) {
+        Ok(files) => {
+            let task = Task {
+                judged: Judged::Tags,
+                numbered: &files.numbered,
+                drawn,
+            };
+            conclude(
+                draw_files(alloc, &task, files.orders.as_slice()),
+                out,
+                errors,
+            )
+        }
+        Err(failure) => failure.report(errors),
     }
 }

@@ -33,78 +33,79 @@ fn tag_order(alloc: Global, part: &Part) -> Result<Order, Memory>
     }
 }
 
+/// How a key is shown: how much of it, on the rows of its hall, and with the calls that show why it is
+/// refused.
+#[derive(Clone, Copy)]
+struct View<'a> {
+    drawn: &'a Drawn<'a>,
+    hall: &'a HallRows<'a>,
+    faulty: &'a [OpId],
+}
+
 /// The scene of the calls that are shown of the part, and of that order with its points.
 fn scene_around(
     alloc: Global,
-    drawn: &Drawn<'_>,
-    hall: &HallRows<'_>,
+    view: &View<'_>,
     part: &Part,
-    faulty: &[OpId],
     order: &[OpId],
     points: &[usize],
 ) -> Result<Scene, Memory>
-    ensures { IfOk result
-        (IsSceneAround drawn.now hall.now part.now faulty.now order.now points.now) }
+    ensures { IfOk result (IsSceneAround view.now.drawn.now view.now.hall.now part.now
+        view.now.faulty.now order.now points.now) }
 {
+    let (drawn, faulty) = (view.drawn, view.faulty);
     let window = window_around(part, drawn.calls as usize, drawn.center(faulty));
     let shown = shown_calls(alloc, part, window, faulty)?;
-    scene_of(alloc, hall.rows, part, shown.as_slice(), order, points)
+    scene_of(alloc, view.hall.rows, part, shown.as_slice(), order, points)
 }
 
 /// The scene of a key that isn't refused, with the points of its order.
 fn scene_of_yes(
     alloc: Global,
-    drawn: &Drawn<'_>,
-    hall: &HallRows<'_>,
+    view: &View<'_>,
     part: &Part,
-    faulty: &[OpId],
     order: &[OpId],
 ) -> Result<Scene, Memory>
     requires apart { AreApart part.now }
     requires order { IsOrder part.now order.now }
     ensures { IfOk result (λ scene. (points : List ℕ) × ArePoints part.now order.now points
-        × IsSceneAround drawn.now hall.now part.now faulty.now order.now points scene) }
+        × IsSceneAround view.now.drawn.now view.now.hall.now part.now view.now.faulty.now order.now
+        points scene) }
 {
     let points = points_of(alloc, part, order)?;
-    scene_around(alloc, drawn, hall, part, faulty, order, points.as_slice())
+    scene_around(alloc, view, part, order, points.as_slice())
 }
 
 /// The scene of a key whose tags are sound, with the points of the order that they make.
-fn scene_of_tags(
-    alloc: Global,
-    drawn: &Drawn<'_>,
-    hall: &HallRows<'_>,
-    part: &Part,
-    faulty: &[OpId],
-) -> Result<Scene, Memory>
+fn scene_of_tags(alloc: Global, view: &View<'_>, part: &Part) -> Result<Scene, Memory>
     requires apart { AreApart part.now }
     requires sound { TagSound part.now }
     ensures { IfOk result (λ scene. (order : List OpId) × IsByTag part.now order
         × (points : List ℕ) × ArePoints part.now order points
-        × IsSceneAround drawn.now hall.now part.now faulty.now order points scene) }
+        × IsSceneAround view.now.drawn.now view.now.hall.now part.now view.now.faulty.now order
+        points scene) }
 {
     let order = tag_order(alloc, part)?;
-    scene_of_yes(alloc, drawn, hall, part, faulty, order.as_slice())
+    scene_of_yes(alloc, view, part, order.as_slice())
 }
 
 /// The scene of a key that isn't refused.
 fn scene_of_found(
     alloc: Global,
     judged: Judged,
-    drawn: &Drawn<'_>,
-    hall: &HallRows<'_>,
+    view: &View<'_>,
     one: &KeyToCheck<'_>,
-    faulty: &[OpId],
 ) -> Result<Scene, Memory>
     requires apart { AreApart one.now.part.now }
     requires found { IsFinding judged (what_of one.now) Finding.Yes }
     ensures { IfOk result (λ scene. (order : List OpId) × (points : List ℕ)
         × AreDrawnPoints judged (what_of one.now) Finding.Yes order points
-        × IsSceneAround drawn.now hall.now one.now.part.now faulty.now order points scene) }
+        × IsSceneAround view.now.drawn.now view.now.hall.now one.now.part.now view.now.faulty.now
+        order points scene) }
 {
     match judged {
-        Judged::Orders => scene_of_yes(alloc, drawn, hall, one.part, faulty, one.order),
-        Judged::Tags => scene_of_tags(alloc, drawn, hall, one.part, faulty),
+        Judged::Orders => scene_of_yes(alloc, view, one.part, one.order),
+        Judged::Tags => scene_of_tags(alloc, view, one.part),
     }
 }
 
@@ -121,8 +122,13 @@ pub(crate) fn scene_of_key(
     ensures { IfOk result
         (IsKeyScene judged drawn.now hall.now (judgement_of key.now) faulty.now) }
 {
+    let view = View {
+        drawn,
+        hall,
+        faulty,
+    };
     match key.finding {
-        Finding::Yes => scene_of_found(alloc, judged, drawn, hall, &key.one, faulty),
-        _ => scene_around(alloc, drawn, hall, key.one.part, faulty, &[], &[]),
+        Finding::Yes => scene_of_found(alloc, judged, &view, &key.one),
+        _ => scene_around(alloc, &view, key.one.part, &[], &[]),
     }
 }

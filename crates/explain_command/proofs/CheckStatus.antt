@@ -72,20 +72,22 @@ module _ (numbered : NumberedHistories) where
   some_no (one ∷ keys) (No line reason ∷ es) are some = (0, are.0.fault, record { key = one.key; told = refl })
 
 module _ (selection : Selection) (history orders : DeviceStates) (es : List Explanation) (are : AreOfOrders selection history orders es) (unnamed : selection.key ≡ None) where
-  all_explained : AreExplained (ExplainsOrder are.numbered) (checked_keys (all_parts are.parts) are.joined) es
+  all_explained : AreExplained (ExplainsOrder are.numbered) (checked_keys (all_parts are.read.keys_are.parts) are.read.joined) es
   all_explained =
-      let keys = checked_keys (all_parts are.parts) are.joined in
       let none : named_key selection ≡ None = cc in
-      subst (λ (ks : List CheckedKey). AreExplained (ExplainsOrder are.numbered) ks es) (ap (λ (name : Option (List ℕ)). selected_keys name keys) none ∙ all_selected keys) are.explained
+      subst (λ (ks : List CheckedKey). AreExplained (ExplainsOrder are.numbered) ks es)
+      (ap (λ (name : Option (List ℕ)). selected_keys name are.keys) none ∙ all_selected are.keys ∙ are.read.keys_are.are) are.explained
 
-  says : (s : Status) → SaysAll (verdicts_of are.numbered (checked_keys (all_parts are.parts) are.joined) es all_explained) s → IsStatusOf are.numbered.histories.halls are.pieces s
+  says : (s : Status) → SaysAll (verdicts_of are.numbered (checked_keys (all_parts are.read.keys_are.parts) are.read.joined) es all_explained) s → IsStatusOf are.numbered.histories.halls are.read.pieces s
   says s all =
       let halls = are.numbered.histories.halls in
-      let keys = checked_keys (all_parts are.parts) are.joined in
-      status_is halls (all_parts are.parts) (have_parts halls are.parts are.recorded are.lawful.count.least are.lawful.keys) are.pieces are.joined (verdicts_of are.numbered keys es all_explained) are.are_joined (are_on are.numbered keys es all_explained) s all
+      let has = are.read.keys_are in
+      let keys = checked_keys (all_parts has.parts) are.read.joined in
+      status_is halls (all_parts has.parts) (have_parts halls has.parts has.recorded has.lawful.count.least has.lawful.keys) are.read.pieces are.read.joined (verdicts_of are.numbered keys es all_explained) are.read.are_joined
+      (are_on are.numbered keys es all_explained) s all
 
-  pub good : no_count es ≡ 0 → IsStatusOf are.numbered.histories.halls are.pieces Good
-  good none = says Good (all_yes are.numbered (checked_keys (all_parts are.parts) are.joined) es all_explained none)
+  pub good : no_count es ≡ 0 → IsStatusOf are.numbered.histories.halls are.read.pieces Good
+  good none = says Good (all_yes are.numbered (checked_keys (all_parts are.read.keys_are.parts) are.read.joined) es all_explained none)
 
-  pub refused : 1 ≤ no_count es → IsStatusOf are.numbered.histories.halls are.pieces Refused
-  refused some = says Refused (some_no are.numbered (checked_keys (all_parts are.parts) are.joined) es all_explained some)
+  pub refused : 1 ≤ no_count es → IsStatusOf are.numbered.histories.halls are.read.pieces Refused
+  refused some = says Refused (some_no are.numbered (checked_keys (all_parts are.read.keys_are.parts) are.read.joined) es all_explained some)

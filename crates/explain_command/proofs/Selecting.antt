@@ -11,7 +11,7 @@ use Rattle.explain_command.specs.declared.judged.Judged.TheVariants.{Tags}
 use Rattle.explain_command.proofs.ExplanationLines.{explained_map}
 
 -- what a function makes of the elements that pass is what passes of all that it makes
-map-filter : {X Y : Type 0} (f : X → Y) (p : Y → Bool) (xs : List X) → map f (filter (λ x. p (f x)) xs) ≡ filter p (map f xs)
+pub map-filter : {X Y : Type 0} (f : X → Y) (p : Y → Bool) (xs : List X) → map f (filter (λ x. p (f x)) xs) ≡ filter p (map f xs)
 map-filter f p [] = refl
 map-filter {X} {Y} f p (x ∷ xs) = by (p (f x)) (map-filter f p xs)
   where

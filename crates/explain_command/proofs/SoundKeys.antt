@@ -6,13 +6,18 @@ use Rattle.std.specs.Map.{lookup}
 use Rattle.counted_devices.specs.DeviceStates.{DeviceStates}
 use Rattle.recorder.specs.declared.part.Call.{Call}
 use Rattle.recorder.specs.Sound.{TagSound}
-use Rattle.parallel_keys.specs.CheckedKeys.{all_parts}
+use Rattle.recorder.specs.Histories.{Recorded}
+use Rattle.parallel_keys.specs.CheckedKeys.{CheckedKey, KeyParts, all_parts}
 use Rattle.cli.proofs.Entries.{contains_cases, contains_nothing, found_entry}
 use Rattle.cli.proofs.HallParts.{have_parts, HaveParts}
 use Rattle.cli.specs.Justifications.{KeyPart}
 use Rattle.explain_command.specs.Endings.{AreOfTags}
 use Rattle.explain_command.specs.Explanations.{Explanation, Yes, No, named_key, no_count}
-use Rattle.explain_command.specs.KeyExplanations.{AreExplained, ExplainsTags, HasSoundTags, is_selected}
+use Rattle.explain_command.specs.Files.{HaveKeys}
+use Rattle.explain_command.specs.KeyExplanations.{AreExplained, ExplainsTags, HasSoundTags, is_selected, selected_keys, selected_parts}
+use Rattle.explain_command.specs.Reports.{Explains}
+use Rattle.explain_command.specs.declared.judged.Judged.TheVariants.{Tags}
+use Rattle.explain_command.proofs.Selecting.{selected_tags}
 use Rattle.explain_command.specs.declared.selection.Selection.{Selection}
 
 -- what a yes says holds of each that passes, where none is a no
@@ -45,15 +50,29 @@ sound_nothing = record {
 
 pub sound_keys : (selection : Selection) (history : DeviceStates) (es : List Explanation) (are : AreOfTags selection history es) → no_count es ≡ 0
     → (key : List ℕ) → is_selected (named_key selection) key ≡ true → HasSoundTags are.numbered.histories.halls key
-sound_keys selection history es are none key passes = by (lookup (bytes_eq key) (all_parts are.parts)) refl (have_parts are.numbered.histories.halls are.parts are.recorded are.lawful.count.least are.lawful.keys)
+sound_keys selection history es are none key passes = by (lookup (bytes_eq key) parts) refl (have_parts halls has.parts has.recorded has.lawful.count.least has.lawful.keys)
   where
-    by : (o : Option (List Call)) → lookup (bytes_eq key) (all_parts are.parts) ≡ o → HaveParts are.numbered.histories.halls (all_parts are.parts) → HasSoundTags are.numbered.histories.halls key
+    halls : List Recorded
+    halls = are.numbered.histories.halls
+
+    has : HaveKeys are.numbered.histories [] are.keys
+    has = are.read.keys_are
+
+    parts : KeyParts
+    parts = all_parts has.parts
+
+    explained : AreExplained (ExplainsTags are.numbered) (selected_parts (named_key selection) parts) es
+    explained =
+        selected_tags are.numbered (named_key selection) parts es
+        (subst (λ (ks : List CheckedKey). AreExplained (Explains Tags are.numbered) (selected_keys (named_key selection) ks) es) has.are are.explained)
+
+    by : (o : Option (List Call)) → lookup (bytes_eq key) parts ≡ o → HaveParts halls parts → HasSoundTags halls key
     by None is have = record { part = []; recorded = have.none key is; sound = sound_nothing }
     by (Some part) is have =
-        let h = found_entry (all_parts are.parts) key part is in
+        let h = found_entry parts key part is in
         let name = named_key selection in
         record {
           part = part;
           recorded = have.each key part h;
-          sound = each_yes (ExplainsTags are.numbered) (λ (entry : KeyPart). TagSound entry.1) (λ (entry : KeyPart). is_selected name entry.0) (λ entry line says. says.0) (all_parts are.parts) es are.explained none (key, part) h passes;
+          sound = each_yes (ExplainsTags are.numbered) (λ (entry : KeyPart). TagSound entry.1) (λ (entry : KeyPart). is_selected name entry.0) (λ entry line says. says.0) parts es explained none (key, part) h passes;
         }

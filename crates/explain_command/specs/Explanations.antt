@@ -1,5 +1,5 @@
 -- What is said of keys, and the text that says it.
-use Rattle.std.specs.Prelude.{ℕ, zero, suc, ◌≡◌, ◌≤◌, ◌⊎◌, ◌+◌, ◌-◌, ◌==◌, Bool, true, false}
+use Rattle.std.specs.Prelude.{ℕ, zero, suc, ◌+◌, ◌-◌, ◌==◌, ◌&&◌, not, Bool, false}
 use Rattle.std.specs.Prelude.{List, [], ◌∷◌, ◌++◌}
 use Rattle.std.specs.Prelude.{Option, None, Some, codes, decimal, length, option_map}
 use Rattle.std.specs.Prelude.{if◌then◌else◌}
@@ -42,15 +42,9 @@ is_missing (Some name) count = count == 0
 abbrev pub misses_key : Selection → List Explanation → Bool
 misses_key selection explanations = is_missing (named_key selection) (length explanations)
 
--- none of them says no, and if a key was named, it is explained
-abbrev pub AreGood : Selection → List Explanation → Type 0
-AreGood selection explanations =
-    (no_count explanations ≡ 0) × (misses_key selection explanations ≡ false)
-
--- one of them says no, or no key has the name that was given
-abbrev pub AreRefused : Selection → List Explanation → Type 0
-AreRefused selection explanations =
-    (1 ≤ no_count explanations) ⊎ (misses_key selection explanations ≡ true)
+-- so many keys are refused: none, and no key that was named is missing
+abbrev pub is_good : ℕ → Bool → Bool
+is_good refused missing = (refused == 0) && not missing
 
 -- the line that says that no key has the name
 abbrev pub missing_line : Bool → List ℕ

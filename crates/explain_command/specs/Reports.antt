@@ -1,11 +1,7 @@
--- A report: what is said of keys so far, and how it is sent.
-use Rattle.std.specs.Prelude.{ℕ, ◌≡◌, ◌≤◌, ◌+◌, ◌-◌, ◌⊎◌, List, [], ◌∷◌, ◌++◌, true, false}
-use Rattle.counted_devices.specs.DeviceStates.{DeviceStates}
+-- A report: what is said of keys so far.
+use Rattle.std.specs.Prelude.{ℕ, ◌≡◌, ◌+◌, ◌-◌, List, [], ◌∷◌, ◌++◌}
 use Rattle.history_file.specs.declared.numbered_format.NumberedHistories.{NumberedHistories}
 use Rattle.parallel_keys.specs.CheckedKeys.{CheckedKey}
-use Rattle.cli.specs.Devices.{Receives, ReceivesNothing, ReceivesPrefix}
-use Rattle.cli.specs.declared.status.Status.{Status}
-use Rattle.cli.specs.declared.status.Status.TheVariants as status
 use Rattle.explain_command.specs.Explanations.{Explanation, explanations_text, lines_text}
 use Rattle.explain_command.specs.Explanations.{misses_key, no_count}
 use Rattle.explain_command.specs.KeyExplanations.{AreExplained, ExplainsOrder, ExplainsTags}
@@ -46,20 +42,3 @@ module _ (judged : Judged) (numbered : NumberedHistories) (keys : List CheckedKe
     pub text : report.text.items ≡ explanations_text selection explanations
     pub refused : report.refused ≡ no_count explanations
     pub missing : report.missing ≡ misses_key selection explanations
-
--- good if no key is refused and none is missing, else refused
-abbrev pub HasStatus : Report → Status → Type 0
-HasStatus report status.Good = (report.refused ≡ 0) × (report.missing ≡ false)
-HasStatus report status.Refused = (1 ≤ report.refused) ⊎ (report.missing ≡ true)
-HasStatus report s = ⊥
-
--- the text of the report went out; or, if the command failed, nothing did, or a beginning of it
-abbrev pub SendsReport : Report → DeviceStates → Status → Type 0
-SendsReport report out status.Good =
-    HasStatus report status.Good × Receives out report.text.items
-SendsReport report out status.Refused =
-    HasStatus report status.Refused × Receives out report.text.items
-SendsReport report out status.Usage = ⊥
-SendsReport report out status.Format = ⊥
-SendsReport report out status.Failed =
-    ReceivesNothing out ⊎ ReceivesPrefix out report.text.items

@@ -21,9 +21,9 @@ pub fn orders_are_explained_as_they_are_checked()
     ensures good { (selection : Selection) (history orders : DeviceStates)
         (explanations : List Explanation) (are : AreOfOrders selection history orders explanations)
         → selection.key ≡ None → no_count explanations ≡ 0
-        → IsStatusOf are.numbered.histories.halls are.pieces Good }
+        → IsStatusOf are.numbered.histories.halls are.read.pieces Good }
     ensures refused { (selection : Selection) (history orders : DeviceStates)
         (explanations : List Explanation) (are : AreOfOrders selection history orders explanations)
         → selection.key ≡ None → 1 ≤ no_count explanations
-        → IsStatusOf are.numbered.histories.halls are.pieces Refused }
+        → IsStatusOf are.numbered.histories.halls are.read.pieces Refused }
 {}

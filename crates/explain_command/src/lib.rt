@@ -8,12 +8,15 @@
 
 mod explain;
 mod explain_keys;
+mod files;
 mod find_hall;
 mod judged;
 pub mod laws;
 mod report;
 mod selection;
 
-pub use explain::{explain_orders_command, explain_tags_command, numbered_in};
+pub use explain::{explain_orders_command, explain_tags_command};
+pub use files::{Files, files_in, history_in};
 pub use find_hall::hall_of;
+pub use report::is_good;
 pub use selection::Selection;

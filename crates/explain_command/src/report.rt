@@ -3,15 +3,15 @@ ghost use Rattle.std.specs.Prelude.{◌≡◌, ◌<◌, ◌+◌, ◌-◌, ◌++�
 ghost use Rattle.certificate_check.specs.Verdicts.{IsFault};
 ghost use Rattle.parallel_keys.specs.KeysToCheck.{what_of};
 ghost use Rattle.tag_check.specs.Verdicts.{IsTagVerdict};
-ghost use Rattle.explain_command.specs.Explanations.{left_out_line, missing_line};
+ghost use Rattle.explain_command.specs.Explanations.{is_good, left_out_line, missing_line};
 ghost use Rattle.explain_command.specs.KeyExplanations.{HasLinesOfEach, ExplainsOrder, ExplainsTags};
 ghost use Rattle.explain_command.specs.KeyExplanations.{tag_line};
-ghost use Rattle.explain_command.specs.Reports.{AddsOf, Explains, HasStatus};
+ghost use Rattle.explain_command.specs.Reports.{AddsOf, Explains};
 
 use crate::find_hall::hall_of;
 use crate::judged::Judged;
 use certificate_check::{Fault, Verdict, check_part};
-use cli::{Status, append, append_line, append_number};
+use cli::{append, append_line, append_number};
 use explanations::{append_order_reason, append_rule, append_tag_reason};
 use history_file::NumberedHistories;
 use parallel_keys::KeyToCheck;
@@ -203,15 +203,11 @@ impl Report {
         append_number(&mut self.text, "refused keys not explained: ", left as u64)?;
         append(&mut self.text, "; --most N says how many are\n")
     }
+}
 
-    /// `Good` where each key is a yes and a key has the name, if one was given; else `Refused`.
-    pub(crate) fn status(&self) -> Status
-        ensures { HasStatus self.now result }
-    {
-        if self.refused == 0 && !self.missing {
-            Status::Good
-        } else {
-            Status::Refused
-        }
-    }
+/// Whether all is as it should be: no key is refused, and none is missing.
+pub fn is_good(refused: usize, missing: bool) -> bool
+    ensures { result ≡ is_good refused missing }
+{
+    refused == 0 && !missing
 }

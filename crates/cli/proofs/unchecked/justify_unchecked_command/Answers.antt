@@ -1,11 +1,12 @@
-use Rattle.counted_devices.specs.DeviceStates.{states}
-use Rattle.cli.specs.TagOrders.{OrdersHalls}
-use Rattle.cli.proofs.HistoryEndings.{ended}
+use Rattle.std.proofs.Common.{inl, inr, refl}
+use Rattle.cli.specs.TagOrders.{OrdersKeys}
+use Rattle.cli.proofs.Endings.{concluded, stopped}
+use Rattle.cli.proofs.Justified.{of_file}
 use Rattle.cli.proofs.unchecked.justify_unchecked_command.Goals as goal
 
-pub returns-in-Ok-clause-ends : goal.returns-in-Ok-clause-ends
-returns-in-Ok-clause-ends g c =
-    let out = states g.W.Write.contents g.W.Counted.failures c.args.out.now c.order_histories.new.out in
-    let errors = states g.E.Write.contents g.E.Counted.failures c.args.errors.now c.order_histories.new.errors in
-    ended (λ halls. OrdersHalls halls out errors) _ out c.in-Ok.histories c.in-Ok.ensures.read (λ none. none) (λ none. none)
-    c.order_histories.result c.order_histories.ensures.ends
+pub returns-in-Ok : goal.returns-in-Ok
+returns-in-Ok g c =
+    concluded _ _ _ _ _ _ c.ordered.result c.ordered.ensures.made c.ordered.ensures.stops (of_file OrdersKeys _ c.in-Ok.histories c.in-Ok.ensures.read) (λ why is. inr is) c.conclude.result c.conclude.ensures
+
+pub returns-in-Err : goal.returns-in-Err
+returns-in-Err g c = stopped _ _ _ _ c.in-Err.failure (inl c.in-Err.ensures.told) refl c.report.result c.report.ensures.status c.report.ensures.told

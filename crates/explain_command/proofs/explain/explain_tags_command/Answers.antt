@@ -1,28 +1,13 @@
--- The history was read: the text of the explanations went out, or a beginning of it.
-use Rattle.tag.proofs.Options.{none_some}
-use Rattle.parallel_keys.specs.CheckedKeys.{all_parts}
-use Rattle.explain_command.specs.Explanations.{named_key}
-use Rattle.explain_command.proofs.Ending.{lines_of_each, sent}
-use Rattle.explain_command.proofs.Selecting.{selected_tags}
+-- The history was read, and its explanations were sent.
+use Rattle.std.proofs.Common.{inl, inr, refl}
+use Rattle.cli.proofs.Endings.{concluded, stopped}
+use Rattle.explain_command.proofs.Ending.{read_so, without_orders}
 use Rattle.explain_command.proofs.explain.explain_tags_command.Goals as goal
 
-pub explain_halls-requires-clause-lines : goal.explain_halls-requires-clause-lines
-explain_halls-requires-clause-lines g c = let read = c.in-Ok.ensures.read.fact.1 in lines_of_each read.header read.items c.in-Ok.numbered read.made
+pub returns-in-Ok : goal.returns-in-Ok
+returns-in-Ok g c =
+    concluded _ _ _ _ _ _ c.explain_files-made.result c.explain_files-made.ensures.made c.explain_files-made.ensures.stops
+    (read_so _ c.args.selection _ _ (λ numbered keys are. without_orders _ c.in-Ok.files c.in-Ok.ensures.read numbered keys are c.in-Ok.ensures.none)) (λ why is. inr is) c.conclude.result c.conclude.ensures
 
-pub explain_halls-requires-clause-distinct : goal.explain_halls-requires-clause-distinct
-explain_halls-requires-clause-distinct g c = λ i j a b lt at_i at_j same. none_some at_i
-
-pub returns-in-Ok-explain_halls-clause-ends : goal.returns-in-Ok-explain_halls-clause-ends
-returns-in-Ok-explain_halls-clause-ends g c =
-    let said = c.in-Ok-explain_halls.ensures.report in
-    let whole = said.2 in
-    sent c.args.selection _ _ _ c.in-Ok-explain_halls.report whole.explanations
-    (record {
-      numbered = c.in-Ok.numbered;
-      read = c.in-Ok.ensures.read;
-      lawful = c.in-Ok-explain_halls.ensures.lawful;
-      parts = said.0;
-      recorded = said.1;
-      explained = selected_tags c.in-Ok.numbered (named_key c.args.selection) (all_parts said.0) whole.explanations whole.explained;
-    })
-    whole.text whole.refused whole.missing c.send.result c.send.ensures.ends
+pub returns-in-Err : goal.returns-in-Err
+returns-in-Err g c = stopped _ _ _ _ c.in-Err.failure (inl c.in-Err.ensures.stops) refl c.report.result c.report.ensures.status c.report.ensures.told
