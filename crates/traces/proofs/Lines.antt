@@ -1,62 +1,47 @@
 -- Lines, told one after another.
-use Rattle.std.proofs.Common.{ℕ, ◌≡◌, ◌+◌, ◌-◌, ◌==◌, Bool, false, cond, List, [], ◌∷◌, ◌++◌, None, refl, sym, ap, ◌∙◌}
-use Rattle.std.specs.Prelude.{min}
-use Rattle.std.proofs.Common.{inl, inr, eqb-true}
-use Rattle.std.proofs.lemmas.Bool.{cases_Bool}
-use Rattle.world_steps.specs.Runs.{after_from, next}
-use Rattle.world_steps.specs.declared.step.Step.{Step}
-use Rattle.world_steps.specs.declared.system.System.{System}
-use Rattle.traces.specs.Tellings.{Told, last_count, with_line, with_lines}
-use Rattle.traces.specs.Traces.{step_line, step_lines}
+use Rattle.std.proofs.Common.{Vec, Global, Result, Ok, Err, ℕ, ◌≡◌, List, [], ◌∷◌, ◌++◌, flat_map, ap, ◌∙◌}
+use Rattle.std.specs.Prelude.{IfOk}
+use Rattle.std.proofs.lemmas.List.{flat_map_more}
+use Rattle.std.proofs.lemmas.List.Concat.{flat_map_single}
+use Rattle.fault_script.specs.declared.command.Script.{Script}
+use Rattle.observed_runs.specs.Events.{Event}
+use Rattle.observed_runs.specs.Observing.{ObservesRun}
+use Rattle.observed_runs.proofs.Observing.{all_added}
+use Rattle.observed_runs.proofs.Quotas.{GoesOn, HasRoom, IsFull, one_omitted, one_shown}
+use Rattle.traces.specs.Running.{IsTellingOf, IsText, IsTold, TellsOn}
+use Rattle.traces.specs.Traces.{IsTraceText, event_line, omitted_line}
+use Rattle.traces.specs.declared.telling.Telling.{Telling}
 
--- a number that isn't 0
-not_zero : (n : ℕ) → (n ≡ 0 → ⊥) → (n == 0) ≡ false
-not_zero n none = elim (cases_Bool (n == 0)) [
-  | inl is ↦ absurd (none (eqb-true n 0 is))
-  | inr other ↦ other
-]
+module _ (old new : Telling) (line : List ℕ) (on : GoesOn old.quota new.quota) where
+  -- a line that is told
+  pub line_told : HasRoom old.quota → new.text.items ≡ old.text.items ++ line
+      → (most : ℕ) (lines : List (List ℕ)) → IsTold most lines old → IsTold most (lines ++ line ∷ []) new
+  line_told room text most lines told =
+      one_shown (IsText old) (IsText new) old.quota new.quota line on most lines told room
+      (λ shown is. text ∙ ap (λ (t : List ℕ). t ++ line) is ∙ flat_map_more (λ (l : List ℕ). l) [] shown line)
 
--- a line less
-abbrev pub left_out : Told → Told
-left_out t = record { text = t.text; left = t.left; omitted = min (t.omitted + 1) last_count }
+  -- a line that is left out
+  pub line_omitted : IsFull old.quota → new.text.items ≡ old.text.items
+      → (most : ℕ) (lines : List (List ℕ)) → IsTold most lines old → IsTold most (lines ++ line ∷ []) new
+  line_omitted full text most lines told =
+      one_omitted (IsText old) (IsText new) old.quota new.quota line on most lines told full (λ shown is. text ∙ is)
 
--- a line that is told
-pub told_more : (t : Told) (line : List ℕ) → (t.left ≡ 0 → ⊥) → with_line t line
-    ≡ record { text = t.text ++ line; left = t.left - 1; omitted = t.omitted }
-unfolding with_line
-told_more t line has_room = ap (λ (b : Bool). cond b (left_out t) (record { text = t.text ++ line; left = t.left - 1; omitted = t.omitted })) (not_zero t.left has_room)
+-- the telling of a script
+pub script_told : (script : Script) (most : ℕ) (old new : Telling) → IsTold most [] old → ObservesRun TellsOn script old new
+    → IsTellingOf script most new
+script_told script most old new none run = record {
+  lines = flat_map (λ (event : Event). event_line event ∷ []) run.events;
+  trace = record { last = run.last; events = run.events; happen = run.happen; told = flat_map_single event_line run.events };
+  told = all_added IsTold (λ (event : Event). event_line event ∷ []) old new run.events run.observes most [] none;
+}
 
--- a line that is left out
-pub told_less : (t : Told) (line : List ℕ) → t.left ≡ 0 → with_line t line ≡ left_out t
-unfolding with_line
-told_less t line full = ap (λ (b : Bool). cond b (left_out t) (record { text = t.text ++ line; left = t.left - 1; omitted = t.omitted })) (ap (λ (n : ℕ). n == 0) full)
-
--- lines and then further ones
-pub lines_on : (t : Told) (lines further : List (List ℕ)) → with_lines t (lines ++ further) ≡ with_lines (with_lines t lines) further
-lines_on t [] further = refl
-lines_on t (line ∷ lines) further = lines_on (with_line t line) lines further
-
--- a line more
-pub line_on : (first old new : Told) (lines : List (List ℕ)) (line : List ℕ) → old ≡ with_lines first lines → new ≡ with_line old line
-    → new ≡ with_lines first (lines ++ line ∷ [])
-line_on first old new lines line before more =
-    more ∙ ap (λ (t : Told). with_line t line) before ∙ sym (lines_on first lines (line ∷ []))
-
--- lines more
-pub more_lines : (first old new : Told) (lines further : List (List ℕ)) → old ≡ with_lines first lines → new ≡ with_lines old further
-    → new ≡ with_lines first (lines ++ further)
-more_lines first old new lines further before more =
-    more ∙ ap (λ (t : Told). with_lines t further) before ∙ sym (lines_on first lines further)
-
--- a line above lines, and one below them
-pub between : (first above mid below : Told) (head foot : List ℕ) (lines : List (List ℕ)) → above ≡ with_line first head
-    → mid ≡ with_lines above lines → below ≡ with_line mid foot → below ≡ with_lines first (head ∷ lines ++ foot ∷ [])
-between first above mid below head foot lines one all last =
-    line_on (with_line first head) mid below lines foot (all ∙ ap (λ (t : Told). with_lines t lines) one) last
-
--- the lines of steps, and of further ones
-pub steps_on : (s : System) (steps further : List Step) → step_lines s (steps ++ further)
-    ≡ step_lines s steps ++ step_lines (after_from s steps) further
-steps_on s [] further = refl
-steps_on s (step ∷ steps) further =
-    ap (λ (lines : List (List ℕ)). step_line None s step ∷ lines) (steps_on (next s step) steps further)
+-- and its text
+pub text_told : {E : Type 0} (script : Script) (most : ℕ) (telling : Telling) (r : Result (Vec ℕ Global) E) → IsTellingOf script most telling
+    → IfOk r (λ text. text.items ≡ telling.text.items ++ omitted_line telling.quota.omitted)
+    → IfOk r (λ text. IsTraceText script most text.items)
+text_told script most telling (Ok text) all is = record {
+  lines = all.lines;
+  trace = all.trace;
+  is = is ∙ (λ i. all.told.shows i ++ omitted_line (all.told.counted.omitted i));
+}
+text_told script most telling (Err why) all is = tt

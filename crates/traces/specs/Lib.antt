@@ -1,5 +1,4 @@
 pub mod Words
 pub mod StepLines
-pub mod Tellings
 pub mod Traces
 pub mod Running

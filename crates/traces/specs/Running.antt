@@ -1,35 +1,26 @@
 -- A script's trace under way.
-use Rattle.std.specs.Prelude.{ℕ, ◌≡◌, List, length}
-use Rattle.world_settle.specs.Settling.{AreSettleSteps}
-use Rattle.world_steps.specs.Runs.{after_from}
-use Rattle.world_steps.specs.declared.step.Step.{Step}
-use Rattle.world_steps.specs.declared.system.System.{System}
-use Rattle.fault_script.specs.declared.command.Command.{Command}
-use Rattle.fault_script.specs.declared.command.NumberedCommand.{NumberedCommand}
+use Rattle.std.specs.Prelude.{ℕ, ◌≡◌, List, [], ◌∷◌}
+use Rattle.fault_script.specs.declared.command.Script.{Script}
+use Rattle.observed_runs.specs.Events.{Event}
+use Rattle.observed_runs.specs.Observing.{Adds}
+use Rattle.observed_runs.specs.Quotas.{ShowsFirst}
+use Rattle.traces.specs.Traces.{IsTraceOf, event_line, joined}
 use Rattle.traces.specs.declared.telling.Telling.{Telling}
-use Rattle.traces.specs.Tellings.{told_by, untold, with_lines}
-use Rattle.traces.specs.Traces.{Tells, TellsAll, step_lines}
 
--- the trace goes on by the command of that line
-pub record TellsOn (old : Telling) (before : System) (number : ℕ) (command : Command)
-    (new : Telling) (after : System) : Type 0 where
+-- the text is that of the lines
+abbrev pub IsText : Telling → List (List ℕ) → Type 0
+IsText telling lines = telling.text.items ≡ joined lines
+
+-- the lines are told, at most so many of them
+abbrev pub IsTold : ℕ → List (List ℕ) → Telling → Type 0
+IsTold most lines telling = ShowsFirst (IsText telling) most lines telling.quota
+
+-- the telling goes on by the line of what happens
+abbrev pub TellsOn : Telling → Event → Telling → Type 0
+TellsOn = Adds IsTold (λ event. event_line event ∷ [])
+
+-- the trace of the script is told, at most so many lines of it
+pub record IsTellingOf (script : Script) (most : ℕ) (telling : Telling) : Type 0 where
   pub lines : List (List ℕ)
-  pub tells : Tells number before command after lines
-  pub told : told_by new ≡ with_lines (told_by old) lines
-
--- the trace goes on by the steps that complete a client's call, so many
-pub record TellsSettling (old : Telling) (before : System) (name count : ℕ) (new : Telling)
-    (after : System) : Type 0 where
-  pub steps : List Step
-  pub settles : AreSettleSteps name before steps
-  pub counted : count ≡ length steps
-  pub there : after ≡ after_from before steps
-  pub told : told_by new ≡ with_lines (told_by old) (step_lines before steps)
-
--- the trace is that of those commands, of whose lines so many are told
-pub record IsTellingOf (first : System) (commands : List NumberedCommand) (most : ℕ)
-    (telling : Telling) : Type 0 where
-  pub last : System
-  pub lines : List (List ℕ)
-  pub tells : TellsAll first commands last lines
-  pub told : told_by telling ≡ with_lines (untold most) lines
+  pub trace : IsTraceOf script lines
+  pub told : IsTold most lines telling

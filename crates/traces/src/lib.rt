@@ -9,13 +9,11 @@
 mod acts;
 mod counts;
 mod effects;
-mod finishing;
 pub mod laws;
 mod script_trace;
 mod step_words;
 mod steps;
 mod telling;
-mod walking;
 mod words;
 
 pub use script_trace::trace_text;

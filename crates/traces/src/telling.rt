@@ -1,25 +1,25 @@
 //! Lines that are told while there is room for them, and then counted.
-ghost use Rattle.std.specs.Prelude.{ℕ, ◌≡◌, ◌++◌, [], List, true, false, IfOk, OnOk, is_none};
-ghost use Rattle.world_steps.specs.Refusals.{refusal_of};
-ghost use Rattle.world_steps.specs.Runs.{next};
-ghost use Rattle.traces.specs.Tellings.{told_by, untold, with_line};
-ghost use Rattle.traces.specs.Traces.{finish_line, finish_words, finished_line, omitted_line};
-ghost use Rattle.traces.specs.Traces.{random_line, step_line, unfinished_line, walked_line};
+ghost use Rattle.std.specs.Prelude.{◌≡◌, ◌++◌, [], IfOk, OnOk};
+ghost use Rattle.traces.specs.Running.{IsTold, TellsOn};
+ghost use Rattle.traces.specs.Traces.{finish_line, finish_words, finished_line, notice_line};
+ghost use Rattle.traces.specs.Traces.{omitted_line, own_line, random_line, unfinished_line};
+ghost use Rattle.traces.specs.Traces.{walked_line};
 
 use crate::step_words::{append_client, append_unsettled};
 use crate::steps::{append_head, take_untold, tell_step};
+use fault_script::{Command, NumberedCommand};
+use observed_runs::{Notice, Observer, Quota};
 use sentences::{append, append_number};
 use std::alloc::Global;
 use tag::{ClientId, Memory};
 use world_settle::SettleError;
 use world_steps::{Step, World};
 
-/// The text of lines, how many more are told, and how many were left out.
+/// The text of the lines that are told.
 #[derive(Drop)]
 pub struct Telling {
-    pub(crate) text: Vec<u8>,
-    left: u32,
-    omitted: u64,
+    text: Vec<u8>,
+    quota: Quota,
 }
 
 /// Adds the words of a line that has a client's call completed.
@@ -98,125 +98,71 @@ fn append_omitted(text: &mut Vec<u8>, count: u64) -> Result<(), Memory>
     append(text, "; --most N says how many are told\n")
 }
 
+/// Adds the line of what there is to say of the command of that line.
+fn append_notice(text: &mut Vec<u8>, number: u64, notice: Notice) -> Result<(), Memory>
+    ensures { OnOk result (text.new.items ≡ text.old.items ++ notice_line number notice) }
+{
+    match notice {
+        Notice::Finishes(client) => append_finish_line(text, number, client),
+        Notice::Finished(count) => append_finished(text, count),
+        Notice::Unfinished(client, why) => append_unfinished(text, number, client, why),
+        Notice::Randomizes { seed, count } => append_random(text, number, seed, count),
+        Notice::Randomized { taken, count } => append_walked(text, taken, count),
+    }
+}
+
+/// The number of the command's line, if the command is one step.
+fn own_line(command: &NumberedCommand) -> Option<u64>
+    ensures { result ≡ own_line command.now.line command.now.command }
+{
+    match command.command {
+        Command::Step(_) => Some(command.line),
+        _ => None,
+    }
+}
+
 impl Telling {
     /// Before the first line, of which so many are told.
     pub(crate) fn new(alloc: Global, most: u32) -> Telling
-        ensures { told_by result ≡ untold most }
+        ensures { IsTold most [] result }
     {
         Telling {
             text: Vec::new(alloc),
-            left: most,
-            omitted: 0,
+            quota: Quota::new(most),
         }
-    }
-
-    /// Whether the next line is told. If not, it is left out.
-    fn is_told(&mut self) -> bool
-        ensures text { self.new.text.items ≡ self.old.text.items }
-        ensures told { result ≡ true → (line : List ℕ)
-            → with_line (told_by self.old) line
-            ≡ record (told_by self.new) { text = self.old.text.items ++ line } }
-        ensures omitted { result ≡ false → (line : List ℕ)
-            → with_line (told_by self.old) line ≡ told_by self.new }
-    {
-        if self.left == 0 {
-            self.omitted = self.omitted.saturating_add(1);
-            return false;
-        }
-        self.left -= 1;
-        true
-    }
-
-    /// Takes the step, if nothing refuses it, and tells its line; answers whether it was taken.
-    pub(crate) fn step(
-        &mut self,
-        world: &mut World,
-        number: Option<u64>,
-        step: Step,
-    ) -> Result<bool, Memory>
-        ensures told { OnOk result (told_by self.new
-            ≡ with_line (told_by self.old) (step_line number world.old step)) }
-        ensures system { OnOk result (world.new ≡ next world.old step) }
-        ensures taken { IfOk result (λ taken. taken ≡ is_none (refusal_of world.old step)) }
-    {
-        if self.is_told() {
-            tell_step(&mut self.text, world, number, step)
-        } else {
-            take_untold(world, step)
-        }
-    }
-
-    /// Tells the line above the steps that complete a client's call.
-    pub(crate) fn finish(&mut self, number: u64, client: ClientId) -> Result<(), Memory>
-        ensures { OnOk result (told_by self.new
-            ≡ with_line (told_by self.old) (finish_line number client)) }
-    {
-        if self.is_told() {
-            append_finish_line(&mut self.text, number, client)?;
-        }
-        Ok(())
-    }
-
-    /// Tells the line below the steps that completed a client's call.
-    pub(crate) fn finished(&mut self, count: u32) -> Result<(), Memory>
-        ensures { OnOk result (told_by self.new
-            ≡ with_line (told_by self.old) (finished_line count)) }
-    {
-        if self.is_told() {
-            append_finished(&mut self.text, count)?;
-        }
-        Ok(())
-    }
-
-    /// Tells the line of a call that can't be completed.
-    pub(crate) fn unfinished(
-        &mut self,
-        number: u64,
-        client: ClientId,
-        why: SettleError,
-    ) -> Result<(), Memory>
-        ensures { OnOk result (told_by self.new
-            ≡ with_line (told_by self.old) (unfinished_line number client why)) }
-    {
-        if self.is_told() {
-            append_unfinished(&mut self.text, number, client, why)?;
-        }
-        Ok(())
-    }
-
-    /// Tells the line above random steps.
-    pub(crate) fn random(&mut self, number: u64, seed: u64, count: u32) -> Result<(), Memory>
-        ensures { OnOk result (told_by self.new
-            ≡ with_line (told_by self.old) (random_line number seed count)) }
-    {
-        if self.is_told() {
-            append_random(&mut self.text, number, seed, count)?;
-        }
-        Ok(())
-    }
-
-    /// Tells the line below random steps.
-    pub(crate) fn walked(&mut self, taken: u32, count: u32) -> Result<(), Memory>
-        ensures { OnOk result (told_by self.new
-            ≡ with_line (told_by self.old) (walked_line taken count)) }
-    {
-        if self.is_told() {
-            append_walked(&mut self.text, taken, count)?;
-        }
-        Ok(())
     }
 
     /// The text, with how many lines were left out.
     pub(crate) fn into_text(self) -> Result<Vec<u8>, Memory>
         ensures { IfOk result (λ text. text.items
-            ≡ (told_by self).text ++ omitted_line (told_by self).omitted) }
+            ≡ self.text.items ++ omitted_line self.quota.omitted) }
     {
-        let Telling {
-            mut text,
-            omitted,
-            ..
-        } = self;
-        append_omitted(&mut text, omitted)?;
+        let Telling { mut text, quota } = self;
+        append_omitted(&mut text, quota.omitted)?;
         Ok(text)
+    }
+}
+
+impl Observer for Telling {
+    ghost sees = { TellsOn };
+
+    fn step(
+        &mut self,
+        world: &mut World,
+        command: &NumberedCommand,
+        step: Step,
+    ) -> Result<bool, Memory> {
+        if self.quota.admits() {
+            tell_step(&mut self.text, world, own_line(command), step)
+        } else {
+            take_untold(world, step)
+        }
+    }
+
+    fn notice(&mut self, line: u64, notice: Notice) -> Result<(), Memory> {
+        if self.quota.admits() {
+            append_notice(&mut self.text, line, notice)?;
+        }
+        Ok(())
     }
 }

@@ -1,31 +1,5 @@
-use Rattle.std.proofs.Common.{◌≡◌, List, sym, subst, ◌∙◌, arith}
-use Rattle.std.proofs.lemmas.List.{map-id}
-use Rattle.std.proofs.lemmas.Iterator.Adapters.{YieldsList-from_vec}
-use Rattle.std.proofs.lemmas.Iterator.Consumers.{YieldsList-end}
-use Rattle.world_steps.specs.Systems.{opening}
-use Rattle.fault_script.specs.declared.command.NumberedCommand.{NumberedCommand}
-use Rattle.traces.specs.Running.{IsTellingOf}
-use Rattle.traces.proofs.Commands.{all_told, none_told, one_told}
+use Rattle.traces.proofs.Lines.{script_told}
 use Rattle.traces.proofs.script_trace.tell_script.Goals as goal
 
-pub loop-numbered-init : goal.loop-numbered-init
-loop-numbered-init c =
-    none_told (opening c.args.script.config) c.in_ok-world.world c.args.most c.new-telling.result c.in_ok-world.ensures.opening
-    c.new-telling.ensures
-
-pub loop-numbered-preserved : goal.loop-numbered-preserved
-loop-numbered-preserved c =
-    let l = c.loop-numbered in
-    one_told (opening c.args.script.config) l.yielded c.args.most l.world c.run.new.world c.in-Some.numbered l.telling c.run.new.telling
-    l.invariant c.in_ok-run.ensures
-
 pub returns : goal.returns
-returns c =
-    let l = c.loop-numbered in
-    let commands = c.args.script.commands in
-    let gives = c.into_iter-numbered-iterator.ensures.into_iter_gives in
-    let ended = YieldsList-end (YieldsList-from_vec commands.items gives.0 (omega (arith, gives.1, commands.ok.0))) l.yielded
-    l.numbered-iterator l.yielded_by c.next.result c.next.new.self c.in-None.is c.next.ensures.steps in
-    let all : l.yielded ≡ commands.items = sym (map-id l.yielded) ∙ ended.0 in
-    subst (λ (numbereds : List NumberedCommand). IsTellingOf (opening c.args.script.config) numbereds c.args.most l.telling) all
-    (all_told (opening c.args.script.config) l.world l.yielded c.args.most l.telling l.invariant)
+returns c = script_told c.args.script c.args.most c.new-telling.result c.observe.new.observer c.new-telling.ensures c.in_ok-observe.ensures

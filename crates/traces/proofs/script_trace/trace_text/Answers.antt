@@ -1,4 +1,4 @@
-use Rattle.traces.proofs.Commands.{text_told}
+use Rattle.traces.proofs.Lines.{text_told}
 use Rattle.traces.proofs.script_trace.trace_text.Goals as goal
 
 pub returns : goal.returns

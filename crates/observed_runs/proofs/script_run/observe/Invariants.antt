@@ -1,0 +1,7 @@
+use Rattle.world_steps.specs.Systems.{opening}
+use Rattle.observed_runs.proofs.Commands.{HasSeen}
+use Rattle.observed_runs.proofs.script_run.observe.Given as goal
+
+-- the commands so far were run and seen
+abbrev pub invariant-loop-numbered : goal.invariant-loop-numbered
+invariant-loop-numbered g l = HasSeen g.O.Observer.sees (opening l.fn.script.config) l.yielded l.fn.observer l.world l.observer

@@ -1,0 +1,5 @@
+pub mod Events
+pub mod Chains
+pub mod Observing
+pub mod Running
+pub mod Quotas
