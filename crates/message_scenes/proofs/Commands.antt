@@ -1,5 +1,6 @@
 -- What the commands of a script make of a scene.
-use Rattle.std.proofs.Common.{ℕ, ◌≡◌, List, [], ◌∷◌, ◌++◌, length, refl, sym, ◌∙◌, subst, append_assoc, append-nil}
+use Rattle.std.proofs.Common.{ℕ, ◌≡◌, ◌<◌, ◌+◌, List, [], ◌∷◌, ◌++◌, add-one, ap, get_or, length, refl, sym, take, ◌∙◌, subst, append_assoc, append-nil}
+use Rattle.std.proofs.Math.Seq.{take-suc}
 use Rattle.world_settle.specs.Refusing.{IsUnsettled, MaySettle}
 use Rattle.world_settle.specs.declared.errors.SettleError.{SettleError}
 use Rattle.world_steps.specs.Configs.{Config}
@@ -70,34 +71,27 @@ all_push a b c xs x taken further (goes s mid last numbered others first rest be
     subst P (sym (append_assoc first rest further))
     (goes s mid c numbered (others ++ x ∷ []) first (rest ++ further) before (all_push mid last c others x rest further all one))
 
--- the sketch so far, and the system that its commands left
-pub record IsSketched (config : Config) (commands : List NumberedCommand) (most : ℕ) (system : System) (sketch : Sketch) : Type 0 where
-  pub taken : List TakenStep
-  pub takes : TakesAll (opening config) commands system taken
-  pub drawn : drawn_by sketch ≡ drawn_all (undrawn most) taken
-  pub replicas : sketch.scene.replicas ≡ length config.quorums.votes
+-- a front of commands with one more
+pub front_more : (commands : List NumberedCommand) (i : ℕ) (numbered : NumberedCommand) → i < length commands → numbered ≡ get_or commands i numbered
+    → take (i + 1) commands ≡ take i commands ++ numbered ∷ []
+front_more commands i numbered below is = ap (λ (n : ℕ). take n commands) (add-one i) ∙ take-suc commands i numbered below
+    ∙ ap (λ (one : NumberedCommand). take i commands ++ one ∷ []) (sym is)
 
 -- no command yet
 pub none_sketched : (config : Config) (system : System) (most count : ℕ) (sketch : Sketch) → system ≡ opening config
     → drawn_by sketch ≡ undrawn most → sketch.scene.replicas ≡ count → count ≡ length config.quorums.votes
-    → IsSketched config [] most system sketch
+    → IsSketchOf config [] most system sketch
 none_sketched config system most count sketch same drawn is counted =
     let P : System → Type 0 = λ w. TakesAll (opening config) [] w [] in
     record { taken = []; takes = subst P (sym same) (done (opening config)); drawn = drawn; replicas = is ∙ counted }
 
 -- one more
 pub one_sketched : (config : Config) (commands : List NumberedCommand) (most : ℕ) (s after : System) (numbered : NumberedCommand)
-    (old new : Sketch) → IsSketched config commands most s old → DrawsOn old s numbered.line numbered.command new after
-    → IsSketched config (commands ++ numbered ∷ []) most after new
+    (old new : Sketch) → IsSketchOf config commands most s old → DrawsOn old s numbered.line numbered.command new after
+    → IsSketchOf config (commands ++ numbered ∷ []) most after new
 one_sketched config commands most s after numbered old new so_far on = record {
   taken = so_far.taken ++ on.taken;
   takes = all_push (opening config) s after commands numbered so_far.taken on.taken so_far.takes on.takes;
   drawn = more_steps (undrawn most) (drawn_by old) (drawn_by new) so_far.taken on.taken so_far.drawn on.drawn;
   replicas = on.replicas ∙ so_far.replicas;
 }
-
--- all of them
-pub all_sketched : (config : Config) (system : System) (commands : List NumberedCommand) (most : ℕ) (sketch : Sketch)
-    → IsSketched config commands most system sketch → IsSketchOf config commands most sketch
-all_sketched config system commands most sketch all =
-    record { last = system; taken = all.taken; takes = all.takes; drawn = all.drawn; replicas = all.replicas }

@@ -1,9 +1,14 @@
--- A sketch of all commands is the script's scene.
+-- A sketch of all commands is the script's scene, and its world has the history of the run.
 use Rattle.std.proofs.Common.{ℕ, ◌≡◌, List, ap, ◌∙◌, subst}
 use Rattle.std.specs.Prelude.{take}
+use Rattle.recorder.specs.Histories.{Recorded}
+use Rattle.recorder.specs.Records.{IsPart}
+use Rattle.recorder.specs.Sound.{TagSound}
+use Rattle.recorder.specs.declared.part.Call.{Call}
+use Rattle.world_steps.specs.declared.system.System.{System}
 use Rattle.fault_script.specs.declared.command.Script.{Script}
 use Rattle.message_scenes.specs.Running.{IsSketchOf}
-use Rattle.message_scenes.specs.Scenes.{IsRisingOf, IsSceneOf, Shows}
+use Rattle.message_scenes.specs.Scenes.{IsRecordedScene, IsRisingOf, Shows}
 use Rattle.message_scenes.specs.Shapes.{Shapes, no_shapes, with_steps}
 use Rattle.message_scenes.specs.Sketches.{Drawn, shapes_of}
 use Rattle.message_scenes.specs.declared.scene.MessageScene.{MessageScene}
@@ -22,15 +27,20 @@ shows shapes old new is others risen = record {
   downs = ap (λ (s : MessageScene). s.downs.items) others ∙ ap (λ (s : Shapes). s.downs) is;
 }
 
-pub all_shown : (script : Script) (most : ℕ) (sketch : Sketch) (scene : MessageScene)
-    → IsSketchOf script.config script.commands.items most sketch → scene ≡ record sketch.scene { clients = scene.clients }
-    → IsRisingOf sketch.scene.clients.items scene.clients.items → IsSceneOf script most scene
-all_shown script most sketch scene all others risen = record {
-  last = all.last;
-  taken = all.taken;
-  takes = all.takes;
-  replicas = ap (λ (s : MessageScene). s.replicas) others ∙ all.replicas;
-  shows = shows (with_steps no_shapes (take most all.taken)) sketch.scene scene
-      (ap (λ (d : Drawn). d.shapes) all.drawn ∙ first_drawn most all.taken) others risen;
-  omitted = ap (λ (s : MessageScene). s.omitted) others ∙ ap (λ (d : Drawn). d.omitted) all.drawn ∙ omitted_first most all.taken;
+pub all_recorded : (script : Script) (most : ℕ) (last : System) (sketch : Sketch) (scene : MessageScene) (history : Recorded)
+    → IsSketchOf script.config script.commands.items most last sketch → scene ≡ record sketch.scene { clients = scene.clients }
+    → IsRisingOf sketch.scene.clients.items scene.clients.items → history ≡ last.history
+    → ((key : List ℕ) (part : List Call) → IsPart last.history.rows key part → TagSound part) → IsRecordedScene script most scene history
+all_recorded script most last sketch scene history all others risen same sound = record {
+  scene_is = record {
+    last = last;
+    taken = all.taken;
+    takes = all.takes;
+    replicas = ap (λ (s : MessageScene). s.replicas) others ∙ all.replicas;
+    shows = shows (with_steps no_shapes (take most all.taken)) sketch.scene scene
+        (ap (λ (d : Drawn). d.shapes) all.drawn ∙ first_drawn most all.taken) others risen;
+    omitted = ap (λ (s : MessageScene). s.omitted) others ∙ ap (λ (d : Drawn). d.omitted) all.drawn ∙ omitted_first most all.taken;
+  };
+  recorded = same;
+  sound = λ key part is. sound key part (subst (λ (h : Recorded). IsPart h.rows key part) same is);
 }

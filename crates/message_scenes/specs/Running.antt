@@ -29,10 +29,9 @@ pub record DrawsSettling (old : Sketch) (before : System) (numbered : NumberedCo
   pub drawn : drawn_by new ≡ drawn_all (drawn_by old) (all_taken numbered before steps)
   pub replicas : new.scene.replicas ≡ old.scene.replicas
 
--- the sketch is that of those commands, of whose steps so many are shown
+-- the sketch is that of those commands, of whose steps so many are shown, and they leave that system
 pub record IsSketchOf (config : Config) (commands : List NumberedCommand) (most : ℕ)
-    (sketch : Sketch) : Type 0 where
-  pub last : System
+    (last : System) (sketch : Sketch) : Type 0 where
   pub taken : List TakenStep
   pub takes : TakesAll (opening config) commands last taken
   pub drawn : drawn_by sketch ≡ drawn_all (undrawn most) taken

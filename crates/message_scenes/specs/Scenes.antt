@@ -1,6 +1,10 @@
 -- The scene of a script's run: what a diagram of its messages shows.
 use Rattle.std.specs.Prelude.{ℕ, ◌≡◌, ◌-◌, ◌↔◌, List, length, min, take, Contains}
 use Rattle.std.specs.List.Sorted.{IsStrictlyIncreasing}
+use Rattle.recorder.specs.Histories.{Recorded}
+use Rattle.recorder.specs.Records.{IsPart}
+use Rattle.recorder.specs.Sound.{TagSound}
+use Rattle.recorder.specs.declared.part.Call.{Call}
 use Rattle.world_steps.specs.Systems.{opening}
 use Rattle.world_steps.specs.declared.system.System.{System}
 use Rattle.fault_script.specs.declared.command.Script.{Script}
@@ -32,3 +36,11 @@ pub record IsSceneOf (script : Script) (most : ℕ) (scene : MessageScene) : Typ
   pub replicas : scene.replicas ≡ length script.config.quorums.votes
   pub shows : Shows (with_steps no_shapes (take most taken)) scene
   pub omitted : scene.omitted ≡ min (length taken - most) last_count
+
+-- the scene is that of a run of the script, and the history is what that run records; the tags of
+-- each of its parts are sound
+pub record IsRecordedScene (script : Script) (most : ℕ) (scene : MessageScene) (history : Recorded)
+    : Type 0 where
+  pub scene_is : IsSceneOf script most scene
+  pub recorded : history ≡ scene_is.last.history
+  pub sound : (key : List ℕ) (part : List Call) → IsPart history.rows key part → TagSound part

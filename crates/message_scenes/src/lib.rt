@@ -21,4 +21,4 @@ pub use arrows::{Arrow, ArrowEnd};
 pub use calls::{CallBar, CallEnd, PlacedNote};
 pub use replicas::{Change, DownTime};
 pub use scene::MessageScene;
-pub use script_scene::message_scene;
+pub use script_scene::{RecordedScene, message_scene, recorded_scene};

@@ -1,6 +1,8 @@
-use Rattle.std.proofs.Common.{ap, ◌∙◌}
-use Rattle.world_steps.specs.declared.step.Step.{Step}
+use Rattle.std.proofs.Common.{◌≡◌, ap, subst, sym, ◌∙◌}
+use Rattle.fault_script.specs.declared.command.Command.{Command}
 use Rattle.fault_script.specs.declared.command.Command.TheVariants as command
+use Rattle.fault_script.specs.declared.command.NumberedCommand.{NumberedCommand}
+use Rattle.message_scenes.specs.Running.{DrawsOn}
 use Rattle.message_scenes.specs.Sketches.{drawn_all, drawn_by}
 use Rattle.message_scenes.specs.Taken.{taken_of}
 use Rattle.message_scenes.proofs.Commands.{at_line, step_drawn}
@@ -9,8 +11,14 @@ use Rattle.message_scenes.proofs.script_scene.take_step.Goals as goal
 pub returns : goal.returns
 returns c =
     let h = c.in_ok-step.ensures in
-    let old = drawn_by c.args.sketch.now in
+    let old = c.args.sketch.now in
+    let new = c.step.new.self in
     let s = c.args.world.now in
-    step_drawn c.args.sketch.now c.step.new.self s c.step.new.world c.args.line c.args.step h.system
-    (h.drawn ∙ ap (λ (x : Step). drawn_all old (taken_of (at_line c.args.line (command.Step x)) s c.args.step)) c.in_ok-copy.ensures.equal)
-    h.replicas
+    let after = c.step.new.world in
+    let n = c.args.numbered.now in
+    let copy = c.in_ok-copy.copy in
+    let is : n.command ≡ command.Step copy = c.requires ∙ ap command.Step (sym c.in_ok-copy.ensures.equal) in
+    let whole : n ≡ at_line n.line (command.Step copy) = ap (at_line n.line) is in
+    subst (λ (k : Command). DrawsOn old s n.line k new after) (sym is)
+    (step_drawn old new s after n.line copy h.system
+    (h.drawn ∙ ap (λ (x : NumberedCommand). drawn_all (drawn_by old) (taken_of x s copy)) whole) h.replicas)

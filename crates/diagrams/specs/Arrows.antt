@@ -1,0 +1,145 @@
+-- The arrows of a diagram: from the row where a copy of a message is sent to the row where it
+-- arrives or is lost, and from the lifeline of its sender towards that of its receiver.
+use Rattle.std.specs.Prelude.{ℕ, ◌≡◌, ◌+◌, ◌-◌, ◌/◌, max, Bool, true, false, if◌then◌else◌}
+use Rattle.std.specs.Prelude.{List, [], ◌∷◌}
+use Rattle.markup.specs.Markup.{Markup, nothing, element, both}
+use Rattle.markup.specs.declared.names.AttributeName.TheVariants as name
+use Rattle.markup.specs.declared.names.Element.TheVariants as tag
+use Rattle.replica.specs.declared.requests.Request.{Request}
+use Rattle.replica.specs.declared.replies.Reply.{Reply}
+use Rattle.network.specs.declared.messages.Message.{Message}
+use Rattle.network.specs.declared.messages.Message.TheVariants.{ToClient, ToReplica}
+use Rattle.message_scenes.specs.declared.arrows.Arrow.{Arrow}
+use Rattle.message_scenes.specs.declared.arrows.ArrowEnd.{ArrowEnd}
+use Rattle.message_scenes.specs.declared.arrows.ArrowEnd.TheVariants as ending
+use Rattle.message_scenes.specs.declared.scene.MessageScene.{MessageScene}
+use Rattle.diagrams.specs.declared.labels.Way.{Way}
+use Rattle.diagrams.specs.declared.style.TheConstants.{ARM, ARRIVING, CLIENT_EDGE, CROSS, LABEL}
+use Rattle.diagrams.specs.declared.style.TheConstants.{LABEL_BASE, LETTERS, LOST, MOMENT, NEAREST}
+use Rattle.diagrams.specs.declared.style.TheConstants.{REPLICA_EDGE, REPLY, REQUEST, ROW}
+use Rattle.diagrams.specs.declared.style.TheConstants.{UNDER_WAY}
+use Rattle.diagrams.specs.Labels.{label_markup, line_markup, title, words_of}
+use Rattle.diagrams.specs.Layout.{IsNear, client_x, down, replica_x, rows_of}
+use Rattle.diagrams.specs.Words.{message_words}
+
+-- whether a message is a request, which a client sends to a replica; else it is a reply
+abbrev pub is_request : Message → Bool
+is_request (ToReplica replica request) = true
+is_request (ToClient name reply) = false
+
+-- the class of an arrow by what it is
+abbrev pub direction_class : Bool → List ℕ
+direction_class request = if request then REQUEST.now else REPLY.now
+
+-- the class of its line by how it ends
+abbrev pub end_class : ArrowEnd → List ℕ
+end_class (ending.Arrives row) = ARRIVING.now
+end_class (ending.Lost row) = LOST.now
+end_class ending.Open = UNDER_WAY.now
+
+-- no end of the line stands farther than FARTHEST
+pub record IsNearWay (way : Way) : Type 0 where
+  pub x1 : IsNear way.x1
+  pub y1 : IsNear way.y1
+  pub x2 : IsNear way.x2
+  pub y2 : IsNear way.y2
+
+-- a cross at that place
+abbrev pub cross : ℕ → ℕ → Markup
+cross x y = both
+    (line_markup CROSS.now
+    (record { x1 = x - ARM; y1 = y - ARM; x2 = x + ARM; y2 = y + ARM }))
+    (line_markup CROSS.now
+    (record { x1 = x - ARM; y1 = y + ARM; x2 = x + ARM; y2 = y - ARM }))
+
+-- a cross at the end of the line of a copy that is lost
+abbrev pub cross_of : ArrowEnd → Way → Markup
+cross_of (ending.Lost row) way = cross way.x2 way.y2
+cross_of other way = nothing
+
+-- how far from its begin an arrow comes halfway to the next row
+abbrev pub label_distance : Way → ℕ
+label_distance way =
+    max ((way.x2 - way.x1 + (way.x1 - way.x2)) / 2 / max ((way.y2 - way.y1) / ROW) 1) NEAREST
+
+-- the middle of what an arrow asks or tells: there, and not too near to its begin
+abbrev pub label_x : Bool → Way → ℕ
+label_x request way =
+    if request then way.x1 + label_distance way else way.x1 - label_distance way
+
+-- what an arrow asks or tells, below the row where it begins
+abbrev pub arrow_label : Way → Arrow → Markup
+arrow_label way arrow = label_markup LABEL.now (label_x (is_request arrow.message) way)
+    (down LABEL_BASE arrow.begins) LETTERS (message_words arrow.message)
+
+-- what stands in the element of an arrow that goes there
+abbrev pub in_arrow : Way → Arrow → Markup
+in_arrow way arrow = both (title (message_words arrow.message))
+    (both (line_markup (end_class arrow.end) way)
+    (both (cross_of arrow.end way) (arrow_label way arrow)))
+
+module _ (scene : MessageScene) where
+  -- the lifeline of an arrow's client, and that of its replica
+  abbrev pub client_side : Arrow → ℕ
+  client_side arrow = client_x scene CLIENT_EDGE arrow.client
+
+  abbrev pub replica_side : Arrow → ℕ
+  replica_side arrow = replica_x scene REPLICA_EDGE arrow.replica
+
+  -- an arrow begins at the lifeline of its sender
+  abbrev pub sender_x : Arrow → ℕ
+  sender_x arrow =
+      if is_request arrow.message then client_side arrow else replica_side arrow
+
+  -- its receiver's lifeline
+  abbrev pub receiver_x : Arrow → ℕ
+  receiver_x arrow =
+      if is_request arrow.message then replica_side arrow else client_side arrow
+
+  -- halfway between these lifelines
+  abbrev pub halfway : Arrow → ℕ
+  halfway arrow = (client_side arrow + replica_side arrow) / 2
+
+  -- it ends at the lifeline of its receiver if it arrives, and else halfway
+  abbrev pub end_x : ArrowEnd → Arrow → ℕ
+  end_x (ending.Arrives row) arrow = receiver_x arrow
+  end_x other arrow = halfway arrow
+
+  -- it ends in the row in which it arrives or is lost, and else below the last one
+  abbrev pub end_y : ArrowEnd → ℕ
+  end_y (ending.Arrives row) = down MOMENT row
+  end_y (ending.Lost row) = down MOMENT row
+  end_y ending.Open = down MOMENT (rows_of scene)
+
+  -- from where to where an arrow goes
+  abbrev pub way_of : Arrow → Way
+  way_of arrow = record {
+    x1 = sender_x arrow;
+    y1 = down MOMENT arrow.begins;
+    x2 = end_x arrow.end arrow;
+    y2 = end_y arrow.end;
+  }
+
+  -- an arrow
+  abbrev pub arrow_markup : Arrow → Markup
+  arrow_markup arrow = element tag.G
+      (words_of name.Class (direction_class (is_request arrow.message)) ∷ [])
+      (in_arrow (way_of arrow) arrow)
+
+-- an arrow's line begins in the row where its copy is sent, at the lifeline of its sender; if the
+-- copy arrives, it ends in the row where it does, at the lifeline of its receiver; and if it is
+-- lost, in the row where it is
+pub record GoesFromRowToRow (scene : MessageScene) (arrow : Arrow) : Type 0 where
+  pub begins : (way_of scene arrow).y1 ≡ down MOMENT arrow.begins
+  pub arrives : (row : ℕ) → arrow.end ≡ ending.Arrives row
+      → (way_of scene arrow).y2 ≡ down MOMENT row
+  pub lost : (row : ℕ) → arrow.end ≡ ending.Lost row
+      → (way_of scene arrow).y2 ≡ down MOMENT row
+  pub request : (row replica : ℕ) (request : Request) → arrow.end ≡ ending.Arrives row
+      → arrow.message ≡ ToReplica replica request
+      → (way_of scene arrow).x1 ≡ client_side scene arrow
+      × (way_of scene arrow).x2 ≡ replica_side scene arrow
+  pub reply : (row name : ℕ) (reply : Reply) → arrow.end ≡ ending.Arrives row
+      → arrow.message ≡ ToClient name reply
+      → (way_of scene arrow).x1 ≡ replica_side scene arrow
+      × (way_of scene arrow).x2 ≡ client_side scene arrow

@@ -1,0 +1,133 @@
+-- The calls of a diagram: each is a bar on its client's lifeline, from the row of its invocation to
+-- the row of its response, or to the row where its client stopped. It asks until its tag is fixed,
+-- and then it puts.
+use Rattle.std.specs.Prelude.{ℕ, ◌-◌, ◌*◌, List, [], ◌∷◌, Option, Some, None}
+use Rattle.markup.specs.Markup.{Markup, nothing, empty, element, both, all_tenths_text}
+use Rattle.markup.specs.declared.names.AttributeName.TheVariants as name
+use Rattle.markup.specs.declared.names.Element.TheVariants as tag
+use Rattle.tag.specs.declared.actions.Action.{Action}
+use Rattle.tag.specs.declared.actions.Action.TheVariants.{Read, Write}
+use Rattle.tag.specs.declared.actions.Returned.{Returned}
+use Rattle.message_scenes.specs.declared.calls.CallBar.{CallBar}
+use Rattle.message_scenes.specs.declared.calls.CallEnd.{CallEnd}
+use Rattle.message_scenes.specs.declared.calls.CallEnd.TheVariants as ending
+use Rattle.message_scenes.specs.declared.calls.PlacedNote.{PlacedNote}
+use Rattle.message_scenes.specs.declared.scene.MessageScene.{MessageScene}
+use Rattle.diagrams.specs.declared.bars.Frame.{Frame}
+use Rattle.diagrams.specs.declared.style.TheConstants.{ASKING, BAR_LEFT, BAR_RIGHT, BEGIN, LETTERS}
+use Rattle.diagrams.specs.declared.style.TheConstants.{MOMENT, NOTE, OUTCOME, PUTTING, READING}
+use Rattle.diagrams.specs.declared.style.TheConstants.{STOP, STOPPED, STOP_LEFT, STOP_RIGHT}
+use Rattle.diagrams.specs.declared.style.TheConstants.{TEXT_BASE, TEXT_RIGHT, WRITING}
+use Rattle.diagrams.specs.Labels.{label_markup, line_markup, number_of, title, words_of}
+use Rattle.diagrams.specs.Layout.{IsNear, client_x, down, rows_of}
+use Rattle.diagrams.specs.Words.{begin_words, note_words, returned_words}
+
+-- the class of a bar by what its call does
+abbrev pub action_class : Action → List ℕ
+action_class Read = READING.now
+action_class (Write value) = WRITING.now
+
+-- no side stands farther than FARTHEST
+pub record IsNearFrame (frame : Frame) : Type 0 where
+  pub left : IsNear frame.left
+  pub right : IsNear frame.right
+  pub top : IsNear frame.top
+  pub bottom : IsNear frame.bottom
+
+-- a part of a bar that has an end: with four sides
+abbrev pub shut_part : List ℕ → Frame → Markup
+shut_part class frame = empty tag.Rect (words_of name.Class class ∷ number_of name.X frame.left
+    ∷ number_of name.Y frame.top ∷ number_of name.Width (frame.right - frame.left)
+    ∷ number_of name.Height (frame.bottom - frame.top) ∷ [])
+
+-- the corners of a part that has none, in tenths of a pixel: up the left side, over, and down
+abbrev pub open_corners : Frame → List ℕ
+open_corners frame = frame.left * 10 ∷ frame.bottom * 10 ∷ frame.left * 10 ∷ frame.top * 10
+    ∷ frame.right * 10 ∷ frame.top * 10 ∷ frame.right * 10 ∷ frame.bottom * 10 ∷ []
+
+-- a part that has none: without a side below
+abbrev pub open_part : List ℕ → Frame → Markup
+open_part class frame = empty tag.Polyline (words_of name.Class class
+    ∷ words_of name.Points (all_tenths_text (open_corners frame)) ∷ [])
+
+-- the last part of a bar
+abbrev pub last_part : CallEnd → List ℕ → Frame → Markup
+last_part ending.Open class frame = open_part class frame
+last_part other class frame = shut_part class frame
+
+module _ (scene : MessageScene) where
+  -- where a bar ends, down: in the row of its end, or below the last one
+  abbrev pub bottom_of : CallEnd → ℕ
+  bottom_of (ending.Answered row returned) = down MOMENT row
+  bottom_of (ending.Stopped row) = down MOMENT row
+  bottom_of ending.Open = down MOMENT (rows_of scene)
+
+  -- a piece of a client's lifeline
+  abbrev pub piece : ℕ → ℕ → ℕ → Frame
+  piece client top bottom = record {
+    left = client_x scene BAR_LEFT client;
+    right = client_x scene BAR_RIGHT client;
+    top = top;
+    bottom = bottom;
+  }
+
+  -- the parts of a bar: where the call asks, and, from the row of its note on, where it puts
+  abbrev pub parts : Option PlacedNote → CallBar → Markup
+  parts None bar = last_part bar.end ASKING.now
+      (piece bar.client (down MOMENT bar.begins) (bottom_of bar.end))
+  parts (Some note) bar = both
+      (shut_part ASKING.now (piece bar.client (down MOMENT bar.begins) (down MOMENT note.row)))
+      (last_part bar.end PUTTING.now
+      (piece bar.client (down MOMENT note.row) (bottom_of bar.end)))
+
+  -- a line across the lifeline at that height, where the client stopped
+  abbrev pub stop_line : ℕ → ℕ → Markup
+  stop_line client y = line_markup STOP.now (record {
+    x1 = client_x scene STOP_LEFT client;
+    y1 = y;
+    x2 = client_x scene STOP_RIGHT client;
+    y2 = y;
+  })
+
+  -- such a line, if the call ends so
+  abbrev pub stop_of : ℕ → CallEnd → Markup
+  stop_of client (ending.Stopped row) = stop_line client (down MOMENT row)
+  stop_of client other = nothing
+
+  -- the bar of a call
+  abbrev pub bar_markup : CallBar → Markup
+  bar_markup bar = element tag.G (words_of name.Class (action_class bar.action) ∷ [])
+      (both (title (begin_words bar)) (both (parts bar.note bar) (stop_of bar.client bar.end)))
+
+  -- words of that class left of the client's lifeline, in a row
+  abbrev pub text_at : List ℕ → ℕ → ℕ → List ℕ → Markup
+  text_at class client row words = label_markup class (client_x scene TEXT_RIGHT client)
+      (down TEXT_BASE row) LETTERS words
+
+  -- what a call does, in the row where it begins
+  abbrev pub begin_text : CallBar → Markup
+  begin_text bar = text_at BEGIN.now bar.client bar.begins (begin_words bar)
+
+  -- the tag that a client's call notes, in the row of its note
+  abbrev pub note_text : ℕ → Option PlacedNote → Markup
+  note_text client None = nothing
+  note_text client (Some note) = text_at NOTE.now client note.row (note_words note.tag)
+
+  -- what a client's call answers, in that row
+  abbrev pub answer_text : ℕ → ℕ → Returned → Markup
+  answer_text client row returned = text_at OUTCOME.now client row (returned_words returned)
+
+  -- that the client stopped, in that row
+  abbrev pub stopped_text : ℕ → ℕ → Markup
+  stopped_text client row = text_at OUTCOME.now client row STOPPED.now
+
+  -- how a client's call ends, in the row where it does
+  abbrev pub outcome_text : ℕ → CallEnd → Markup
+  outcome_text client (ending.Answered row returned) = answer_text client row returned
+  outcome_text client (ending.Stopped row) = stopped_text client row
+  outcome_text client ending.Open = nothing
+
+  -- the texts of a call
+  abbrev pub call_texts : CallBar → Markup
+  call_texts bar = both (begin_text bar)
+      (both (note_text bar.client bar.note) (outcome_text bar.client bar.end))

@@ -1,0 +1,86 @@
+-- The diagram of a scene: a tree of elements with one shape for each row, each lifeline, each
+-- arrow, each call, each change and each down time of the scene.
+use Rattle.std.specs.Prelude.{◌*◌, nat_lt, if◌then◌else◌, List, [], ◌∷◌}
+use Rattle.markup.specs.Markup.{Markup, NamedText, nothing, text, empty, element, both, each}
+use Rattle.markup.specs.Markup.{all_tenths_text}
+use Rattle.markup.specs.declared.names.AttributeName.TheVariants as name
+use Rattle.markup.specs.declared.names.Element.TheVariants as tag
+use Rattle.sentences.specs.Words.{numbered}
+use Rattle.message_scenes.specs.declared.scene.MessageScene.{MessageScene}
+use Rattle.diagrams.specs.declared.style.TheConstants.{AUTO, BOTTOM, COMMAND_LEFT, HEAD, HEAD_BOX}
+use Rattle.diagrams.specs.declared.style.TheConstants.{HEAD_MIDDLE, HEAD_PATH, HEAD_SIZE, HEAD_TIP}
+use Rattle.diagrams.specs.declared.style.TheConstants.{IMAGE, KEY, LEGEND_WORDS, MESSAGES}
+use Rattle.diagrams.specs.declared.style.TheConstants.{MORE, OMITTED, RIGHT, SENTENCE_LETTERS}
+use Rattle.diagrams.specs.declared.style.TheConstants.{SHEET, TEXT_BASE, TITLE}
+use Rattle.diagrams.specs.Arrows.{arrow_markup}
+use Rattle.diagrams.specs.Calls.{bar_markup, call_texts}
+use Rattle.diagrams.specs.Labels.{label_markup, number_of, title, words_of}
+use Rattle.diagrams.specs.Layout.{down, replica_x, rows_of}
+use Rattle.diagrams.specs.Lifelines.{lifelines}
+use Rattle.diagrams.specs.Replicas.{change_markup, down_markup}
+use Rattle.diagrams.specs.Rows.{each_from, row_markup}
+use Rattle.diagrams.specs.Sheets.{arrow_samples, bar_samples}
+
+-- the attributes of the head of arrows
+abbrev pub head_attributes : List NamedText
+head_attributes = words_of name.Id HEAD.now ∷ words_of name.ViewBox HEAD_BOX.now
+    ∷ number_of name.RefX HEAD_TIP ∷ number_of name.RefY HEAD_MIDDLE
+    ∷ number_of name.MarkerWidth HEAD_SIZE ∷ number_of name.MarkerHeight HEAD_SIZE
+    ∷ words_of name.Orient AUTO.now ∷ []
+
+-- the head of arrows, which the style sheet puts at the end of each that arrives
+abbrev pub head : Markup
+head = element tag.Marker head_attributes
+    (empty tag.Path (words_of name.Class HEAD.now ∷ words_of name.D HEAD_PATH.now ∷ []))
+
+-- what stands before the shapes of a diagram: its title, and the head
+abbrev pub prologue : Markup
+prologue = both (title TITLE.now) (element tag.Defs [] head)
+
+module _ (scene : MessageScene) where
+  -- how many further steps there were, below the last row, if there were any
+  abbrev pub omitted_text : Markup
+  omitted_text = if nat_lt 0 scene.omitted
+      then label_markup MORE.now COMMAND_LEFT (down TEXT_BASE (rows_of scene)) SENTENCE_LETTERS
+      (numbered OMITTED.now scene.omitted)
+      else nothing
+
+  -- what arrows and calls stand on: the rows, the lifelines, and the times replicas are down
+  abbrev pub plane : Markup
+  plane = both (each_from (row_markup scene) 0 scene.rows.items)
+      (both (lifelines scene) (each (down_markup scene) scene.downs.items))
+
+  -- the bars of the calls, the arrows above them, and above these the texts
+  abbrev pub shapes : Markup
+  shapes = both (each (bar_markup scene) scene.calls.items)
+      (both (each (arrow_markup scene) scene.arrows.items)
+      (both (each (call_texts scene) scene.calls.items)
+      (each (change_markup scene) scene.changes.items)))
+
+  -- the size of the diagram
+  abbrev pub svg_attributes : List NamedText
+  svg_attributes =
+      let width = replica_x scene RIGHT scene.replicas in
+      let height = down BOTTOM (rows_of scene) in
+      words_of name.Role IMAGE.now ∷ number_of name.Width width ∷ number_of name.Height height
+      ∷ words_of name.ViewBox (all_tenths_text (0 ∷ 0 ∷ width * 10 ∷ height * 10 ∷ [])) ∷ []
+
+  -- the diagram's element
+  abbrev pub svg : Markup
+  svg = element tag.Svg svg_attributes
+      (both prologue (both plane (both shapes omitted_text)))
+
+  -- the diagram, which scrolls where the window is too narrow
+  abbrev pub diagram : Markup
+  diagram = element tag.Div (words_of name.Class MESSAGES.now ∷ []) svg
+
+-- ---- what a page of diagrams has once
+
+-- the style sheet
+abbrev pub diagram_style : Markup
+diagram_style = element tag.Style [] (text SHEET.now)
+
+-- the legend of diagrams
+abbrev pub diagram_legend : Markup
+diagram_legend = element tag.P (words_of name.Class KEY.now ∷ [])
+    (both arrow_samples (both bar_samples (text LEGEND_WORDS.now)))

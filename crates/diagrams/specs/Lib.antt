@@ -1,0 +1,11 @@
+pub mod Layout
+pub mod Words
+pub mod Cuts
+pub mod Labels
+pub mod Lifelines
+pub mod Rows
+pub mod Arrows
+pub mod Calls
+pub mod Replicas
+pub mod Sheets
+pub mod Diagrams

@@ -1,0 +1,40 @@
+-- What a diagram shows of replicas: when they are down, and what they come to hold.
+use Rattle.std.specs.Prelude.{ℕ, List, Option, Some, None}
+use Rattle.markup.specs.Markup.{Markup, both}
+use Rattle.message_scenes.specs.declared.replicas.Change.{Change}
+use Rattle.message_scenes.specs.declared.replicas.DownTime.{DownTime}
+use Rattle.message_scenes.specs.declared.scene.MessageScene.{MessageScene}
+use Rattle.diagrams.specs.declared.style.TheConstants.{CHANGE_LEFT, DOWN_LEFT, DOWN_RIGHT}
+use Rattle.diagrams.specs.declared.style.TheConstants.{DOWN_TIME, DOWN_WORD, HOLDS, LETTERS}
+use Rattle.diagrams.specs.declared.style.TheConstants.{MOMENT, TEXT_BASE}
+use Rattle.diagrams.specs.Calls.{shut_part}
+use Rattle.diagrams.specs.Labels.{label_markup}
+use Rattle.diagrams.specs.Layout.{down, replica_x, rows_of}
+use Rattle.diagrams.specs.Words.{change_words}
+
+module _ (scene : MessageScene) where
+  -- where a down time that so ends ends, down: in that row, or below the last one
+  abbrev pub up_at : Option ℕ → ℕ
+  up_at (Some row) = down MOMENT row
+  up_at None = down MOMENT (rows_of scene)
+
+  -- words of that class right of the replica's lifeline, in a row
+  abbrev pub words_beside : List ℕ → ℕ → ℕ → List ℕ → Markup
+  words_beside class replica row words = label_markup class
+      (replica_x scene CHANGE_LEFT replica) (down TEXT_BASE row) LETTERS words
+
+  -- a time for which a replica is down: a rectangle on its lifeline, and a word
+  abbrev pub down_markup : DownTime → Markup
+  down_markup time = both
+      (shut_part DOWN_TIME.now (record {
+        left = replica_x scene DOWN_LEFT time.replica;
+        right = replica_x scene DOWN_RIGHT time.replica;
+        top = down MOMENT time.stops;
+        bottom = up_at time.starts;
+      }))
+      (words_beside DOWN_TIME.now time.replica time.stops DOWN_WORD.now)
+
+  -- what a replica comes to hold, in the row where it does
+  abbrev pub change_markup : Change → Markup
+  change_markup change =
+      words_beside HOLDS.now change.replica change.row (change_words change)

@@ -1,0 +1,274 @@
+//! The arrows of a diagram, one for each copy of a message.
+ghost use Rattle.std.specs.Prelude.{◌≡◌, ◌++◌, OnOk};
+ghost use Rattle.markup.specs.Markup.{each, rendered};
+ghost use Rattle.diagrams.specs.Arrows.{IsNearWay, arrow_label, arrow_markup, client_side, cross};
+ghost use Rattle.diagrams.specs.Arrows.{cross_of, direction_class, end_class, end_x, end_y};
+ghost use Rattle.diagrams.specs.Arrows.{halfway, in_arrow, is_request, label_distance, label_x};
+ghost use Rattle.diagrams.specs.Arrows.{receiver_x, replica_side, sender_x, way_of};
+ghost use Rattle.diagrams.specs.Layout.{HasClientsInOrder, IsNear};
+ghost use Rattle.diagrams.specs.Words.{message_words};
+
+use crate::labels::{Spot, Way, append_label, append_line, append_title};
+use crate::layout::{client_x, down, replica_x, rows_of};
+use crate::style::{
+    ARM, ARRIVING, CLIENT_EDGE, CROSS, LABEL, LABEL_BASE, LETTERS, LOST, MOMENT, NEAREST,
+    REPLICA_EDGE, REPLY, REQUEST, ROW, UNDER_WAY,
+};
+use crate::words::say_message;
+use markup::{Attribute, AttributeName, Element, append_closing, append_opening};
+use message_scenes::{Arrow, ArrowEnd, MessageScene};
+use network::Message;
+use std::alloc::Global;
+use tag::Memory;
+
+/// Whether the message is a request.
+fn is_request(message: &Message) -> bool
+    ensures { result ≡ is_request message.now }
+{
+    match message {
+        Message::ToReplica(_, _) => true,
+        Message::ToClient(_, _) => false,
+    }
+}
+
+/// The class of a request, or of a reply.
+fn direction_class(request: bool) -> &'static str
+    ensures { result.now ≡ direction_class request }
+{
+    if request { REQUEST } else { REPLY }
+}
+
+/// The class of a line that so ends.
+fn end_class(end: &ArrowEnd) -> &'static str
+    ensures { result.now ≡ end_class end.now }
+{
+    match end {
+        ArrowEnd::Arrives(_) => ARRIVING,
+        ArrowEnd::Lost(_) => LOST,
+        ArrowEnd::Open => UNDER_WAY,
+    }
+}
+
+/// Where the arrow touches the lifeline of its client.
+fn client_side(scene: &MessageScene, arrow: &Arrow) -> u64
+    requires { HasClientsInOrder scene.now }
+    ensures side { result ≡ client_side scene.now arrow.now }
+    ensures near { IsNear result }
+{
+    client_x(scene, CLIENT_EDGE, arrow.client)
+}
+
+/// Where the arrow touches the lifeline of its replica.
+fn replica_side(scene: &MessageScene, arrow: &Arrow) -> u64
+    ensures side { result ≡ replica_side scene.now arrow.now }
+    ensures near { IsNear result }
+{
+    replica_x(scene, REPLICA_EDGE, arrow.replica.get())
+}
+
+/// Where the arrow begins, across.
+fn sender_x(scene: &MessageScene, arrow: &Arrow) -> u64
+    requires { HasClientsInOrder scene.now }
+    ensures begins { result ≡ sender_x scene.now arrow.now }
+    ensures near { IsNear result }
+{
+    if is_request(&arrow.message) {
+        client_side(scene, arrow)
+    } else {
+        replica_side(scene, arrow)
+    }
+}
+
+/// The lifeline of its receiver.
+fn receiver_x(scene: &MessageScene, arrow: &Arrow) -> u64
+    requires { HasClientsInOrder scene.now }
+    ensures ends { result ≡ receiver_x scene.now arrow.now }
+    ensures near { IsNear result }
+{
+    if is_request(&arrow.message) {
+        replica_side(scene, arrow)
+    } else {
+        client_side(scene, arrow)
+    }
+}
+
+/// Halfway between its lifelines.
+fn halfway(scene: &MessageScene, arrow: &Arrow) -> u64
+    requires { HasClientsInOrder scene.now }
+    ensures halfway { result ≡ halfway scene.now arrow.now }
+    ensures near { IsNear result }
+{
+    (client_side(scene, arrow) + replica_side(scene, arrow)) / 2
+}
+
+/// Where it ends, across.
+fn end_x(scene: &MessageScene, arrow: &Arrow) -> u64
+    requires { HasClientsInOrder scene.now }
+    ensures ends { result ≡ end_x scene.now arrow.now.end arrow.now }
+    ensures near { IsNear result }
+{
+    match arrow.end {
+        ArrowEnd::Arrives(_) => receiver_x(scene, arrow),
+        _ => halfway(scene, arrow),
+    }
+}
+
+/// Where it ends, down.
+fn end_y(scene: &MessageScene, end: ArrowEnd) -> u64
+    ensures ends { result ≡ end_y scene.now end }
+    ensures near { IsNear result }
+{
+    match end {
+        ArrowEnd::Arrives(row) => down(MOMENT, row),
+        ArrowEnd::Lost(row) => down(MOMENT, row),
+        ArrowEnd::Open => down(MOMENT, rows_of(scene)),
+    }
+}
+
+/// From where to where it goes.
+fn way_of(scene: &MessageScene, arrow: &Arrow) -> Way
+    requires { HasClientsInOrder scene.now }
+    ensures way { result ≡ way_of scene.now arrow.now }
+    ensures near { IsNearWay result }
+{
+    Way {
+        x1: sender_x(scene, arrow),
+        y1: down(MOMENT, arrow.begins),
+        x2: end_x(scene, arrow),
+        y2: end_y(scene, arrow.end),
+    }
+}
+
+/// Adds a cross at the end of the line.
+#[tactic(auto, unfolding(markup::specs::Markup::rendered))]
+fn append_cross(page: &mut Vec<u8>, way: Way) -> Result<(), Memory>
+    requires { IsNearWay way }
+    ensures { OnOk result (page.new.items ≡ page.old.items ++ rendered (cross way.x2 way.y2)) }
+{
+    let (left, right) = (way.x2.saturating_sub(ARM), way.x2 + ARM);
+    let (top, bottom) = (way.y2.saturating_sub(ARM), way.y2 + ARM);
+    let falling = Way {
+        x1: left,
+        y1: top,
+        x2: right,
+        y2: bottom,
+    };
+    let rising = Way {
+        x1: left,
+        y1: bottom,
+        x2: right,
+        y2: top,
+    };
+    append_line(page, CROSS, falling)?;
+    append_line(page, CROSS, rising)
+}
+
+/// Adds a cross at the end of the line, if the copy is lost.
+#[tactic(auto, unfolding(markup::specs::Markup::rendered))]
+fn append_cross_of(page: &mut Vec<u8>, end: ArrowEnd, way: Way) -> Result<(), Memory>
+    requires { IsNearWay way }
+    ensures { OnOk result (page.new.items ≡ page.old.items ++ rendered (cross_of end way)) }
+{
+    match end {
+        ArrowEnd::Lost(_) => append_cross(page, way),
+        _ => Ok(()),
+    }
+}
+
+/// How far from its begin the middle of what it asks or tells stands.
+fn label_distance(way: Way) -> u64
+    requires { IsNearWay way }
+    ensures distance { result ≡ label_distance way }
+    ensures near { IsNear result }
+{
+    let far = way.x2.saturating_sub(way.x1) + way.x1.saturating_sub(way.x2);
+    let rows = way.y2.saturating_sub(way.y1) / ROW;
+    (far / 2 / rows.max(1)).max(NEAREST)
+}
+
+/// The middle of what it asks or tells.
+fn label_x(request: bool, way: Way) -> u64
+    requires { IsNearWay way }
+    ensures { result ≡ label_x request way }
+{
+    let distance = label_distance(way);
+    if request {
+        way.x1 + distance
+    } else {
+        way.x1.saturating_sub(distance)
+    }
+}
+
+/// Adds what it asks or tells, which these words say.
+fn append_arrow_label(
+    alloc: Global,
+    page: &mut Vec<u8>,
+    way: Way,
+    arrow: &Arrow,
+    words: &[u8],
+) -> Result<(), Memory>
+    requires near { IsNearWay way }
+    requires words { words.now ≡ message_words arrow.now.message }
+    ensures { OnOk result
+        (page.new.items ≡ page.old.items ++ rendered (arrow_label way arrow.now)) }
+{
+    let spot = Spot {
+        class: LABEL,
+        x: label_x(is_request(&arrow.message), way),
+        y: down(LABEL_BASE, arrow.begins),
+        room: LETTERS,
+    };
+    append_label(alloc, page, &spot, words)
+}
+
+/// Adds what stands in the element of the arrow.
+#[tactic(auto, unfolding(markup::specs::Markup::rendered))]
+fn append_in_arrow(alloc: Global, page: &mut Vec<u8>, way: Way, arrow: &Arrow) -> Result<(), Memory>
+    requires { IsNearWay way }
+    ensures { OnOk result (page.new.items ≡ page.old.items ++ rendered (in_arrow way arrow.now)) }
+{
+    let mut words = Vec::new(alloc);
+    say_message(&mut words, &arrow.message)?;
+    append_title(page, &words)?;
+    append_line(page, end_class(&arrow.end), way)?;
+    append_cross_of(page, arrow.end, way)?;
+    append_arrow_label(alloc, page, way, arrow, &words)
+}
+
+/// Adds the arrow.
+#[tactic(auto, unfolding(markup::specs::Markup::rendered))]
+fn append_arrow(
+    alloc: Global,
+    page: &mut Vec<u8>,
+    scene: &MessageScene,
+    arrow: &Arrow,
+) -> Result<(), Memory>
+    requires { HasClientsInOrder scene.now }
+    ensures { OnOk result
+        (page.new.items ≡ page.old.items ++ rendered (arrow_markup scene.now arrow.now)) }
+{
+    let class = direction_class(is_request(&arrow.message));
+    append_opening(
+        page,
+        Element::G,
+        &[Attribute::Words(AttributeName::Class, class)],
+    )?;
+    append_in_arrow(alloc, page, way_of(scene, arrow), arrow)?;
+    append_closing(page, Element::G)
+}
+
+/// Adds the arrows.
+pub(crate) fn append_arrows(
+    alloc: Global,
+    page: &mut Vec<u8>,
+    scene: &MessageScene,
+) -> Result<(), Memory>
+    requires { HasClientsInOrder scene.now }
+    ensures { OnOk result (page.new.items ≡ page.old.items
+        ++ rendered (each (arrow_markup scene.now) scene.now.arrows.items)) }
+{
+    for arrow in &scene.arrows {
+        append_arrow(alloc, page, scene, arrow)?;
+    }
+    Ok(())
+}

@@ -1,0 +1,248 @@
+//! The bars of a diagram, one for each call on its client's lifeline.
+ghost use Rattle.std.specs.Prelude.{◌≡◌, ◌++◌, OnOk};
+ghost use Rattle.markup.specs.Markup.{each, rendered};
+ghost use Rattle.diagrams.specs.Calls.{IsNearFrame, action_class, bar_markup, bottom_of};
+ghost use Rattle.diagrams.specs.Calls.{last_part, open_corners, open_part, parts, piece};
+ghost use Rattle.diagrams.specs.Calls.{shut_part, stop_line, stop_of};
+ghost use Rattle.diagrams.specs.Labels.{title};
+ghost use Rattle.diagrams.specs.Layout.{HasClientsInOrder, IsNear};
+ghost use Rattle.diagrams.specs.Words.{begin_words};
+
+use crate::labels::{Way, append_line, append_title};
+use crate::layout::{client_x, down, rows_of};
+use crate::style::{
+    ASKING, BAR_LEFT, BAR_RIGHT, MOMENT, PUTTING, READING, STOP, STOP_LEFT, STOP_RIGHT, WRITING,
+};
+use crate::words::say_begin;
+use markup::{Attribute, AttributeName, Element, append_closing, append_empty, append_opening};
+use message_scenes::{CallBar, CallEnd, MessageScene, PlacedNote};
+use std::alloc::Global;
+use tag::{Action, ClientId, Memory};
+
+/// Where a part of a bar stands.
+#[derive(Clone, Copy)]
+pub(crate) struct Frame {
+    pub(crate) left: u64,
+    pub(crate) right: u64,
+    pub(crate) top: u64,
+    pub(crate) bottom: u64,
+}
+
+/// The class of the bar of such a call.
+fn action_class(action: &Action) -> &'static str
+    ensures { result.now ≡ action_class action.now }
+{
+    match action {
+        Action::Read => READING,
+        Action::Write(_) => WRITING,
+    }
+}
+
+/// Adds a part with four sides.
+#[tactic(auto, unfolding(markup::specs::Markup::rendered))]
+pub(crate) fn append_shut(page: &mut Vec<u8>, class: &str, frame: Frame) -> Result<(), Memory>
+    ensures { OnOk result
+        (page.new.items ≡ page.old.items ++ rendered (shut_part class.now frame)) }
+{
+    let attributes = [
+        Attribute::Words(AttributeName::Class, class),
+        Attribute::Number(AttributeName::X, frame.left),
+        Attribute::Number(AttributeName::Y, frame.top),
+        Attribute::Number(AttributeName::Width, frame.right.saturating_sub(frame.left)),
+        Attribute::Number(
+            AttributeName::Height,
+            frame.bottom.saturating_sub(frame.top),
+        ),
+    ];
+    append_empty(page, Element::Rect, &attributes)
+}
+
+/// The corners of a part without a side below, in tenths of a pixel: each a distance right, and one
+/// down.
+fn open_corners(frame: Frame) -> [u64; 8]
+    requires { IsNearFrame frame }
+    ensures { result ≡ open_corners frame }
+{
+    let (left, right, top, bottom) = (frame.left, frame.right, frame.top, frame.bottom);
+    [
+        left * 10,
+        bottom * 10,
+        left * 10,
+        top * 10,
+        right * 10,
+        top * 10,
+        right * 10,
+        bottom * 10,
+    ]
+}
+
+/// Adds a part without a side below.
+#[tactic(auto, unfolding(markup::specs::Markup::rendered))]
+fn append_open(page: &mut Vec<u8>, class: &str, frame: Frame) -> Result<(), Memory>
+    requires { IsNearFrame frame }
+    ensures { OnOk result
+        (page.new.items ≡ page.old.items ++ rendered (open_part class.now frame)) }
+{
+    let corners = open_corners(frame);
+    let attributes = [
+        Attribute::Words(AttributeName::Class, class),
+        Attribute::AllTenths(AttributeName::Points, &corners),
+    ];
+    append_empty(page, Element::Polyline, &attributes)
+}
+
+/// Adds the last part of a bar that so ends.
+fn append_last(page: &mut Vec<u8>, end: &CallEnd, class: &str, frame: Frame) -> Result<(), Memory>
+    requires { IsNearFrame frame }
+    ensures { OnOk result
+        (page.new.items ≡ page.old.items ++ rendered (last_part end.now class.now frame)) }
+{
+    match end {
+        CallEnd::Open => append_open(page, class, frame),
+        _ => append_shut(page, class, frame),
+    }
+}
+
+/// Where a bar of that end ends, down.
+fn bottom_of(scene: &MessageScene, end: &CallEnd) -> u64
+    ensures bottom { result ≡ bottom_of scene.now end.now }
+    ensures near { IsNear result }
+{
+    match end {
+        CallEnd::Answered { row, .. } => down(MOMENT, *row),
+        CallEnd::Stopped(row) => down(MOMENT, *row),
+        CallEnd::Open => down(MOMENT, rows_of(scene)),
+    }
+}
+
+/// A piece of the client's lifeline.
+fn piece(scene: &MessageScene, client: ClientId, top: u64, bottom: u64) -> Frame
+    requires order { HasClientsInOrder scene.now }
+    requires top { IsNear top }
+    requires bottom { IsNear bottom }
+    ensures piece { result ≡ piece scene.now client top bottom }
+    ensures near { IsNearFrame result }
+{
+    Frame {
+        left: client_x(scene, BAR_LEFT, client),
+        right: client_x(scene, BAR_RIGHT, client),
+        top,
+        bottom,
+    }
+}
+
+/// Adds the parts of the bar: where its call asks, and where it puts.
+#[tactic(auto, unfolding(markup::specs::Markup::rendered))]
+fn append_parts(page: &mut Vec<u8>, scene: &MessageScene, bar: &CallBar) -> Result<(), Memory>
+    requires { HasClientsInOrder scene.now }
+    ensures { OnOk result (page.new.items
+        ≡ page.old.items ++ rendered (parts scene.now bar.now.note bar.now)) }
+{
+    let top = down(MOMENT, bar.begins);
+    let bottom = bottom_of(scene, &bar.end);
+    match bar.note {
+        None => append_last(
+            page,
+            &bar.end,
+            ASKING,
+            piece(scene, bar.client, top, bottom),
+        ),
+        Some(PlacedNote { row, .. }) => {
+            let middle = down(MOMENT, row);
+            append_shut(page, ASKING, piece(scene, bar.client, top, middle))?;
+            append_last(
+                page,
+                &bar.end,
+                PUTTING,
+                piece(scene, bar.client, middle, bottom),
+            )
+        }
+    }
+}
+
+/// Adds a line across the client's lifeline at that height.
+fn append_stop(
+    page: &mut Vec<u8>,
+    scene: &MessageScene,
+    client: ClientId,
+    y: u64,
+) -> Result<(), Memory>
+    requires { HasClientsInOrder scene.now }
+    ensures { OnOk result
+        (page.new.items ≡ page.old.items ++ rendered (stop_line scene.now client y)) }
+{
+    let way = Way {
+        x1: client_x(scene, STOP_LEFT, client),
+        y1: y,
+        x2: client_x(scene, STOP_RIGHT, client),
+        y2: y,
+    };
+    append_line(page, STOP, way)
+}
+
+/// Adds such a line where the client stopped, if its call ends so.
+#[tactic(auto, unfolding(markup::specs::Markup::rendered))]
+fn append_stop_of(
+    page: &mut Vec<u8>,
+    scene: &MessageScene,
+    client: ClientId,
+    end: &CallEnd,
+) -> Result<(), Memory>
+    requires { HasClientsInOrder scene.now }
+    ensures { OnOk result
+        (page.new.items ≡ page.old.items ++ rendered (stop_of scene.now client end.now)) }
+{
+    match end {
+        CallEnd::Stopped(row) => append_stop(page, scene, client, down(MOMENT, *row)),
+        _ => Ok(()),
+    }
+}
+
+/// Adds what the call does, as a title.
+fn append_call_title(alloc: Global, page: &mut Vec<u8>, bar: &CallBar) -> Result<(), Memory>
+    ensures { OnOk result
+        (page.new.items ≡ page.old.items ++ rendered (title (begin_words bar.now))) }
+{
+    let mut words = Vec::new(alloc);
+    say_begin(&mut words, bar)?;
+    append_title(page, &words)
+}
+
+/// Adds the bar of the call.
+#[tactic(auto, unfolding(markup::specs::Markup::rendered))]
+fn append_bar(
+    alloc: Global,
+    page: &mut Vec<u8>,
+    scene: &MessageScene,
+    bar: &CallBar,
+) -> Result<(), Memory>
+    requires { HasClientsInOrder scene.now }
+    ensures { OnOk result
+        (page.new.items ≡ page.old.items ++ rendered (bar_markup scene.now bar.now)) }
+{
+    append_opening(
+        page,
+        Element::G,
+        &[Attribute::Words(AttributeName::Class, action_class(&bar.action))],
+    )?;
+    append_call_title(alloc, page, bar)?;
+    append_parts(page, scene, bar)?;
+    append_stop_of(page, scene, bar.client, &bar.end)?;
+    append_closing(page, Element::G)
+}
+
+/// Adds the bars of the calls.
+pub(crate) fn append_bars(
+    alloc: Global,
+    page: &mut Vec<u8>,
+    scene: &MessageScene,
+) -> Result<(), Memory>
+    requires { HasClientsInOrder scene.now }
+    ensures { OnOk result (page.new.items ≡ page.old.items
+        ++ rendered (each (bar_markup scene.now) scene.now.calls.items)) }
+{
+    for bar in &scene.calls {
+        append_bar(alloc, page, scene, bar)?;
+    }
+    Ok(())
+}

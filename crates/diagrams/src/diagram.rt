@@ -1,0 +1,147 @@
+//! The diagram of the messages of a script's run.
+ghost use Rattle.std.specs.Prelude.{◌≡◌, ◌++◌, OnOk};
+ghost use Rattle.markup.specs.Markup.{opening_tag, rendered};
+ghost use Rattle.markup.specs.declared.names.Element.TheVariants as tag;
+ghost use Rattle.diagrams.specs.Diagrams.{diagram, head, omitted_text, plane, prologue, shapes};
+ghost use Rattle.diagrams.specs.Diagrams.{svg, svg_attributes};
+ghost use Rattle.diagrams.specs.Layout.{HasClientsInOrder};
+
+use crate::arrows::append_arrows;
+use crate::bars::append_bars;
+use crate::labels::{Spot, append_numbered, append_title};
+use crate::layout::{down, replica_x, rows_of};
+use crate::lifelines::append_lifelines;
+use crate::replicas::{append_changes, append_downs};
+use crate::rows::append_rows;
+use crate::style::{
+    AUTO, BOTTOM, COMMAND_LEFT, HEAD, HEAD_BOX, HEAD_MIDDLE, HEAD_PATH, HEAD_SIZE, HEAD_TIP, IMAGE,
+    MESSAGES, MORE, OMITTED, RIGHT, SENTENCE_LETTERS, TEXT_BASE, TITLE,
+};
+use crate::texts::append_texts;
+use markup::{Attribute, AttributeName, Element, append_closing, append_empty, append_opening};
+use message_scenes::MessageScene;
+use std::alloc::Global;
+use tag::Memory;
+
+/// Adds the head of arrows.
+#[tactic(auto, unfolding(markup::specs::Markup::rendered))]
+fn append_head(page: &mut Vec<u8>) -> Result<(), Memory>
+    ensures { OnOk result (page.new.items ≡ page.old.items ++ rendered head) }
+{
+    let attributes = [
+        Attribute::Words(AttributeName::Id, HEAD),
+        Attribute::Words(AttributeName::ViewBox, HEAD_BOX),
+        Attribute::Number(AttributeName::RefX, HEAD_TIP),
+        Attribute::Number(AttributeName::RefY, HEAD_MIDDLE),
+        Attribute::Number(AttributeName::MarkerWidth, HEAD_SIZE),
+        Attribute::Number(AttributeName::MarkerHeight, HEAD_SIZE),
+        Attribute::Words(AttributeName::Orient, AUTO),
+    ];
+    append_opening(page, Element::Marker, &attributes)?;
+    let shape = [
+        Attribute::Words(AttributeName::Class, HEAD),
+        Attribute::Words(AttributeName::D, HEAD_PATH),
+    ];
+    append_empty(page, Element::Path, &shape)?;
+    append_closing(page, Element::Marker)
+}
+
+/// Adds the diagram's title, and the head of its arrows.
+#[tactic(auto, unfolding(markup::specs::Markup::rendered))]
+fn append_prologue(page: &mut Vec<u8>) -> Result<(), Memory>
+    ensures { OnOk result (page.new.items ≡ page.old.items ++ rendered prologue) }
+{
+    append_title(page, TITLE.as_bytes())?;
+    append_opening(page, Element::Defs, &[])?;
+    append_head(page)?;
+    append_closing(page, Element::Defs)
+}
+
+/// Adds how many further steps there were, if there were any.
+#[tactic(auto, unfolding(markup::specs::Markup::rendered))]
+fn append_omitted(alloc: Global, page: &mut Vec<u8>, scene: &MessageScene) -> Result<(), Memory>
+    ensures { OnOk result (page.new.items ≡ page.old.items ++ rendered (omitted_text scene.now)) }
+{
+    if scene.omitted > 0 {
+        let spot = Spot {
+            class: MORE,
+            x: COMMAND_LEFT,
+            y: down(TEXT_BASE, rows_of(scene)),
+            room: SENTENCE_LETTERS,
+        };
+        append_numbered(alloc, page, &spot, OMITTED, scene.omitted)
+    } else {
+        Ok(())
+    }
+}
+
+/// Adds what arrows and calls stand on.
+#[tactic(auto, unfolding(markup::specs::Markup::rendered))]
+fn append_plane(alloc: Global, page: &mut Vec<u8>, scene: &MessageScene) -> Result<(), Memory>
+    requires { HasClientsInOrder scene.now }
+    ensures { OnOk result (page.new.items ≡ page.old.items ++ rendered (plane scene.now)) }
+{
+    append_rows(alloc, page, scene)?;
+    append_lifelines(alloc, page, scene)?;
+    append_downs(alloc, page, scene)
+}
+
+/// Adds the bars of the calls, the arrows above them, and above these the texts.
+#[tactic(auto, unfolding(markup::specs::Markup::rendered))]
+fn append_shapes(alloc: Global, page: &mut Vec<u8>, scene: &MessageScene) -> Result<(), Memory>
+    requires { HasClientsInOrder scene.now }
+    ensures { OnOk result (page.new.items ≡ page.old.items ++ rendered (shapes scene.now)) }
+{
+    append_bars(alloc, page, scene)?;
+    append_arrows(alloc, page, scene)?;
+    append_texts(alloc, page, scene)?;
+    append_changes(alloc, page, scene)
+}
+
+/// Opens the diagram's element.
+fn open_svg(page: &mut Vec<u8>, scene: &MessageScene) -> Result<(), Memory>
+    ensures { OnOk result (page.new.items
+        ≡ page.old.items ++ opening_tag tag.Svg (svg_attributes scene.now)) }
+{
+    let width = replica_x(scene, RIGHT, scene.replicas);
+    let height = down(BOTTOM, rows_of(scene));
+    let attributes = [
+        Attribute::Words(AttributeName::Role, IMAGE),
+        Attribute::Number(AttributeName::Width, width),
+        Attribute::Number(AttributeName::Height, height),
+        Attribute::AllTenths(AttributeName::ViewBox, &[0, 0, width * 10, height * 10]),
+    ];
+    append_opening(page, Element::Svg, &attributes)
+}
+
+/// Adds the diagram's element.
+#[tactic(auto, unfolding(markup::specs::Markup::rendered))]
+fn append_svg(alloc: Global, page: &mut Vec<u8>, scene: &MessageScene) -> Result<(), Memory>
+    requires { HasClientsInOrder scene.now }
+    ensures { OnOk result (page.new.items ≡ page.old.items ++ rendered (svg scene.now)) }
+{
+    open_svg(page, scene)?;
+    append_prologue(page)?;
+    append_plane(alloc, page, scene)?;
+    append_shapes(alloc, page, scene)?;
+    append_omitted(alloc, page, scene)?;
+    append_closing(page, Element::Svg)
+}
+
+/// Adds the diagram: each row, each lifeline, each arrow, each call, each change and each down time
+/// of the scene. It scrolls where the window is too narrow.
+///
+/// If it fails, a beginning of that may have been added; so it is with each function here.
+#[tactic(auto, unfolding(markup::specs::Markup::rendered))]
+pub fn append_diagram(alloc: Global, page: &mut Vec<u8>, scene: &MessageScene) -> Result<(), Memory>
+    requires { HasClientsInOrder scene.now }
+    ensures { OnOk result (page.new.items ≡ page.old.items ++ rendered (diagram scene.now)) }
+{
+    append_opening(
+        page,
+        Element::Div,
+        &[Attribute::Words(AttributeName::Class, MESSAGES)],
+    )?;
+    append_svg(alloc, page, scene)?;
+    append_closing(page, Element::Div)
+}

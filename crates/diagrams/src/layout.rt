@@ -1,0 +1,69 @@
+//! Where a diagram shows what, in pixels.
+ghost use Rattle.std.specs.Prelude.{◌≡◌, ◌≤◌, length};
+ghost use Rattle.std.specs.List.Sorted.{IsStrictlyIncreasing};
+ghost use Rattle.diagrams.specs.Layout.{HasClientsInOrder, IsNear, across, client_x, down};
+ghost use Rattle.diagrams.specs.Layout.{names_below, pixels, replica_x, rows_of};
+
+use crate::style::{COLUMN, FARTHEST, ROW};
+use message_scenes::MessageScene;
+use tag::ClientId;
+
+/// So many steps beyond a start.
+fn pixels(start: u64, count: usize, step: u64) -> u64
+    ensures pixels { result ≡ pixels start count step }
+    ensures near { IsNear result }
+{
+    (count as u64)
+        .saturating_mul(step)
+        .saturating_add(start)
+        .min(FARTHEST)
+}
+
+/// So far down in that row, from its first one.
+pub(crate) fn down(start: u64, row: usize) -> u64
+    ensures down { result ≡ down start row }
+    ensures near { IsNear result }
+{
+    pixels(start, row, ROW)
+}
+
+/// So far right in that column, from the first one.
+fn across(start: u64, column: usize) -> u64
+    ensures across { result ≡ across start column }
+    ensures near { IsNear result }
+{
+    pixels(start, column, COLUMN)
+}
+
+/// How many of the names are smaller.
+fn names_below(names: &[ClientId], name: ClientId) -> usize
+    requires { IsStrictlyIncreasing names.now }
+    ensures count { result ≡ names_below names.now name }
+    ensures bound { result ≤ length names.now }
+{
+    names.partition_point(|other| other.get() < name.get())
+}
+
+/// So far right in the client's column: the start is that of the first one.
+pub(crate) fn client_x(scene: &MessageScene, start: u64, name: ClientId) -> u64
+    requires { HasClientsInOrder scene.now }
+    ensures across { result ≡ client_x scene.now start name }
+    ensures near { IsNear result }
+{
+    across(start, names_below(&scene.clients, name))
+}
+
+/// So far right in the column of the replica of that number, which stands after the clients.
+pub(crate) fn replica_x(scene: &MessageScene, start: u64, number: u8) -> u64
+    ensures across { result ≡ replica_x scene.now start number }
+    ensures near { IsNear result }
+{
+    across(start, scene.clients.len() + usize::from(number))
+}
+
+/// How many rows there are.
+pub(crate) fn rows_of(scene: &MessageScene) -> usize
+    ensures { result ≡ rows_of scene.now }
+{
+    scene.rows.len()
+}

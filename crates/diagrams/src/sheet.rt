@@ -1,0 +1,75 @@
+//! What a page of diagrams has once: its style sheet and its legend.
+ghost use Rattle.std.specs.Prelude.{◌≡◌, ◌++◌, OnOk};
+ghost use Rattle.markup.specs.Markup.{rendered};
+ghost use Rattle.diagrams.specs.Diagrams.{diagram_legend, diagram_style};
+ghost use Rattle.diagrams.specs.Sheets.{arrow_samples, bar_samples, sample};
+
+use crate::style::{
+    ASKING, ASKING_KEY, DOWN_KEY, DOWN_TIME, KEY, LEGEND_WORDS, LOST, LOST_KEY, PUTTING,
+    PUTTING_KEY, REPLY, REPLY_KEY, REQUEST, REQUEST_KEY, SHEET, UNDER_WAY, UNDER_WAY_KEY,
+};
+use markup::{Attribute, AttributeName, Element, append_closing, append_opening, append_text};
+use tag::Memory;
+
+/// Adds the style sheet, which belongs into the page's `head`: for light and dark windows, and for
+/// paper.
+#[tactic(auto, unfolding(markup::specs::Markup::rendered))]
+pub fn append_diagram_style(page: &mut Vec<u8>) -> Result<(), Memory>
+    ensures { OnOk result (page.new.items ≡ page.old.items ++ rendered diagram_style) }
+{
+    append_opening(page, Element::Style, &[])?;
+    append_text(page, SHEET)?;
+    append_closing(page, Element::Style)
+}
+
+/// Adds the words, looking as the shapes of that class.
+#[tactic(auto, unfolding(markup::specs::Markup::rendered))]
+fn append_sample(page: &mut Vec<u8>, class: &str, words: &str) -> Result<(), Memory>
+    ensures { OnOk result
+        (page.new.items ≡ page.old.items ++ rendered (sample class.now words.now)) }
+{
+    append_opening(
+        page,
+        Element::Span,
+        &[Attribute::Words(AttributeName::Class, class)],
+    )?;
+    append_text(page, words)?;
+    append_closing(page, Element::Span)
+}
+
+/// Adds a sample of each kind of arrow.
+#[tactic(auto, unfolding(markup::specs::Markup::rendered))]
+fn append_arrow_samples(page: &mut Vec<u8>) -> Result<(), Memory>
+    ensures { OnOk result (page.new.items ≡ page.old.items ++ rendered arrow_samples) }
+{
+    append_sample(page, REQUEST, REQUEST_KEY)?;
+    append_sample(page, REPLY, REPLY_KEY)?;
+    append_sample(page, LOST, LOST_KEY)?;
+    append_sample(page, UNDER_WAY, UNDER_WAY_KEY)
+}
+
+/// Adds a sample of each part of a bar, and of a down time.
+#[tactic(auto, unfolding(markup::specs::Markup::rendered))]
+fn append_bar_samples(page: &mut Vec<u8>) -> Result<(), Memory>
+    ensures { OnOk result (page.new.items ≡ page.old.items ++ rendered bar_samples) }
+{
+    append_sample(page, ASKING, ASKING_KEY)?;
+    append_sample(page, PUTTING, PUTTING_KEY)?;
+    append_sample(page, DOWN_TIME, DOWN_KEY)
+}
+
+/// Adds the legend of diagrams.
+#[tactic(auto, unfolding(markup::specs::Markup::rendered))]
+pub fn append_diagram_legend(page: &mut Vec<u8>) -> Result<(), Memory>
+    ensures { OnOk result (page.new.items ≡ page.old.items ++ rendered diagram_legend) }
+{
+    append_opening(
+        page,
+        Element::P,
+        &[Attribute::Words(AttributeName::Class, KEY)],
+    )?;
+    append_arrow_samples(page)?;
+    append_bar_samples(page)?;
+    append_text(page, LEGEND_WORDS)?;
+    append_closing(page, Element::P)
+}
