@@ -50,7 +50,7 @@ FIRST = (
     ("Verdicts", "certificate_check.IsVerdict tag_check.IsTagVerdict parallel_keys.AreVerdictsOnHistory"),
     ("The protocol", "quorum.IsAskQuorum quorum.IsPutQuorum world_steps.System world_steps.Steps world_steps.Sound world_steps.IsSound"),
     ("The running store", "hall_lock.HasOneHall recorder.IsLog seats.IsAnswered node_threads.IsClosed node_threads.Closes"),
-    ("Files and commands", "counted_devices.Splits file_format.history_text cli.EndsCheck cli.EndsSimulation run_command.EndsRun"),
+    ("Files and commands", "counted_devices.Splits file_format.history_text cli.Ends cli.EndsCheck cli.EndsSimulation run_command.EndsRun"),
 )
 
 

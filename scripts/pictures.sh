@@ -1,6 +1,7 @@
 #!/usr/bin/env bash
 # Makes the histories and the pictures of examples/ anew, with the built program:
-#   scripts/pictures.sh ABD           writes examples/NAME.history of each script, and examples/pictures/NAME.html of each history
+#   scripts/pictures.sh ABD           writes examples/NAME.history of each script, examples/pictures/NAME.html of each history, and
+#                                     examples/pictures/NAME.messages.html of each script
 #   scripts/pictures.sh ABD --check   says which of these files aren't what ABD makes
 set -eu
 abd=$(realpath "$1")
@@ -10,6 +11,7 @@ trap 'rm -r "$made"' EXIT
 mkdir -p "$made/pictures"
 for script in *.script; do
   "$abd" simulate "$script" > "$made/${script%.script}.history" 2> /dev/null
+  "$abd" trace "$script" --draw > "$made/pictures/${script%.script}.messages.html"
 done
 for history in *.history; do
   [ -e "$made/$history" ] || cp "$history" "$made/$history"

@@ -21,7 +21,7 @@ _abd() {
     draw) options="--key --most --calls --around --help" ;;
     explain) options="--key --most --help" ;;
     justify) options="--unchecked --help" ;;
-    trace) options="--most --help" ;;
+    trace) options="--most --draw --help" ;;
     run)
       options="--replicas --callers --calls --keys --rounds --drop --double --halls --show --reads --votes --ask --put --help"
       ;;

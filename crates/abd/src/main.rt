@@ -24,7 +24,15 @@ use std::process::ExitCode;
 use std::sync::Wait;
 use std::thread::Threads;
 use std::{env, fs};
-use trace_command::trace_command;
+use trace_command::{trace_command, trace_page_command};
+
+/// What a page of a trace draws of the history of its run: what `abd draw` draws without options.
+const RUN_PICTURES: Drawn<'static> = Drawn {
+    key: None,
+    most: 20,
+    calls: 200,
+    around: None,
+};
 
 /// Says the failure on standard error. Its status.
 fn fail(rt: &HostRuntime, failure: Failure<'_>) -> Status {
@@ -276,6 +284,15 @@ fn trace(rt: &HostRuntime, script: &str, most: u32) -> Status {
     })
 }
 
+/// Draws the script's run.
+fn trace_page(rt: &HostRuntime, script: &str, most: u32) -> Status {
+    on_file(rt, script, |script| {
+        let (mut out, mut errors) = (Counting::new(rt.stdout()), Counting::new(rt.stderr()));
+        let alloc = rt.alloc();
+        trace_page_command(alloc, script, most, RUN_PICTURES, &mut out, &mut errors)
+    })
+}
+
 /// Runs a store under a load that is watched.
 fn run_watched<R, L>(
     rt: &HostRuntime,
@@ -362,6 +379,7 @@ where
         Command::Justify { history, unchecked } => justify(rt, threads, history, *unchecked),
         Command::Simulate { script } => simulate(rt, script),
         Command::Trace { script, most } => trace(rt, script, *most),
+        Command::TracePage { script, most } => trace_page(rt, script, *most),
         Command::Run(asked) => run(rt, threads, *asked),
     }
 }

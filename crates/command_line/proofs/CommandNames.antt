@@ -6,7 +6,7 @@ use Rattle.clap.specs.Words.{Text}
 use Rattle.run_options.specs.declared.asked.RunAsked.{RunAsked}
 use Rattle.command_line.specs.Words.{name_of}
 use Rattle.command_line.specs.declared.asked.Command.{Command}
-use Rattle.command_line.specs.declared.asked.Command.TheVariants.{Check, Draw, Explain, Justify, Run, Simulate, Trace}
+use Rattle.command_line.specs.declared.asked.Command.TheVariants.{Check, Draw, Explain, Justify, Run, Simulate, Trace, TracePage}
 use Rattle.command_line.specs.declared.asked.DrawAsked.{DrawAsked}
 use Rattle.command_line.specs.declared.asked.ExplainAsked.{ExplainAsked}
 use Rattle.command_line.specs.declared.lines.Lines.{Lines}
@@ -23,11 +23,13 @@ module _ (P : Command → Type 0) (name : Text) where
       → ((history : Bor Text) (unchecked : Bool) → codes "justify" ≡ name → P (Justify history unchecked))
       → ((script : Bor Text) → codes "simulate" ≡ name → P (Simulate script))
       → ((script : Bor Text) (most : ℕ) → codes "trace" ≡ name → P (Trace script most))
+      → ((script : Bor Text) (most : ℕ) → codes "trace" ≡ name → P (TracePage script most))
       → ((asked : RunAsked) → codes "run" ≡ name → P (Run asked)) → (command : Command) → name_of command ≡ name → P command
-  by_name check draw explain justify simulate trace run (Check history orders workers form) is = check history orders workers form is
-  by_name check draw explain justify simulate trace run (Draw asked) is = draw asked is
-  by_name check draw explain justify simulate trace run (Explain asked) is = explain asked is
-  by_name check draw explain justify simulate trace run (Justify history unchecked) is = justify history unchecked is
-  by_name check draw explain justify simulate trace run (Simulate script) is = simulate script is
-  by_name check draw explain justify simulate trace run (Trace script most) is = trace script most is
-  by_name check draw explain justify simulate trace run (Run asked) is = run asked is
+  by_name check draw explain justify simulate trace page run (Check history orders workers form) is = check history orders workers form is
+  by_name check draw explain justify simulate trace page run (Draw asked) is = draw asked is
+  by_name check draw explain justify simulate trace page run (Explain asked) is = explain asked is
+  by_name check draw explain justify simulate trace page run (Justify history unchecked) is = justify history unchecked is
+  by_name check draw explain justify simulate trace page run (Simulate script) is = simulate script is
+  by_name check draw explain justify simulate trace page run (Trace script most) is = trace script most is
+  by_name check draw explain justify simulate trace page run (TracePage script most) is = page script most is
+  by_name check draw explain justify simulate trace page run (Run asked) is = run asked is

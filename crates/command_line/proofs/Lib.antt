@@ -1,2 +1,3 @@
 mod CommandNames
+mod Traces
 pub mod Unmade

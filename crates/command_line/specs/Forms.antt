@@ -15,6 +15,10 @@ most_explained = 10000
 abbrev pub most_told : ℕ
 most_told = 4294967295
 
+-- the most steps that a page of a trace draws
+abbrev pub most_drawn : ℕ
+most_drawn = 10000
+
 -- an argument that has to be there
 abbrev pub required_argument : Text → Rule
 required_argument name = record (new_rule name) { required = true }
@@ -82,10 +86,14 @@ justify_app = with_rule (file_app (codes "justify") (codes "HISTORY")) (flag (co
 abbrev pub simulate_app : App
 simulate_app = file_app (codes "simulate") (codes "SCRIPT")
 
--- abd trace SCRIPT [--most N]
+-- an option --name N, how many lines are told or steps are drawn
+abbrev many_option : Text → Rule
+many_option name = record (value_option name) { parser = Some (within 0 most_told) }
+
+-- abd trace SCRIPT [--most N] [--draw]
 abbrev pub trace_app : App
-trace_app = with_rule (file_app (codes "trace") (codes "SCRIPT"))
-    (number_option (codes "most") (codes "10000") (within 0 most_told))
+trace_app = with_rule (with_rule (file_app (codes "trace") (codes "SCRIPT"))
+    (many_option (codes "most"))) (flag (codes "draw"))
 
 -- abd by itself, which has a version and needs a command
 abbrev pub bare_app : App

@@ -1,6 +1,7 @@
 -- What the words of a command line ask for, by clap's reading of a simple command.
-use Rattle.std.specs.Prelude.{ℕ, ◌≡◌, ◌≤◌, ◌⊎◌, ◌↔◌, Bool, IsTrue, List, [], Option, Some, None, codes}
-use Rattle.std.specs.Prelude.{option_map}
+use Rattle.std.specs.Prelude.{ℕ, ◌≡◌, ◌≤◌, ◌⊎◌, ◌↔◌, Bool, IsTrue, List, []}
+use Rattle.std.specs.Prelude.{Option, Some, None, codes}
+use Rattle.std.specs.Prelude.{min, option_map}
 use Rattle.std.specs.Str.Parse.{IsNumeral, digits_value, without_leading_plus}
 use Rattle.clap.specs.Words.{IsAmong, Row, Text, fault_of, first_of, one_of, subcommand_of}
 use Rattle.clap.specs.declared.error.kind.ErrorKind.{ErrorKind}
@@ -8,11 +9,12 @@ use Rattle.clap.specs.declared.error.kind.ErrorKind.TheVariants.{DisplayHelp, Di
 use Rattle.clap.specs.declared.error.kind.ErrorKind.TheVariants.{OutOfMemory}
 use Rattle.parallel_keys.specs.Workers.{worker_limit}
 use Rattle.run_options.specs.RunWords.{AsksRun}
-use Rattle.command_line.specs.Forms.{abd_app, most_explained, most_named, most_shown, most_told}
+use Rattle.command_line.specs.Forms.{abd_app, most_drawn, most_explained, most_named, most_shown}
+use Rattle.command_line.specs.Forms.{most_told}
 use Rattle.command_line.specs.declared.asked.Command.{Command}
 use Rattle.command_line.specs.declared.asked.ExplainAsked.{ExplainAsked}
 use Rattle.command_line.specs.declared.asked.Command.TheVariants.{Check, Draw, Explain, Justify}
-use Rattle.command_line.specs.declared.asked.Command.TheVariants.{Run, Simulate, Trace}
+use Rattle.command_line.specs.declared.asked.Command.TheVariants.{Run, Simulate, Trace, TracePage}
 use Rattle.command_line.specs.declared.asked.DrawAsked.{DrawAsked}
 use Rattle.command_line.specs.declared.lines.Lines.{Lines}
 use Rattle.command_line.specs.declared.lines.Lines.TheVariants as form
@@ -80,10 +82,25 @@ pub record AsksDrawing (rows : List Row) (asked : DrawAsked) : Type 0 where
   pub calls : AsksNumber rows (codes "calls") 1 most_shown asked.calls
   pub around : AsksAround rows asked.around
 
--- the words after `trace` name the script, and ask for so many lines
+-- the words ask for so many by `--most`, or for so many where they have no such option
+abbrev pub AsksMost : List Row → ℕ → ℕ → Type 0
+AsksMost rows default most = AsksNumber rows (codes "most") 0 most_told most
+    ⊎ ((first_of (codes "most") rows ≡ None) × (most ≡ default))
+
+-- the words after `trace` name the script, and ask for so many lines of it
 pub record AsksTrace (rows : List Row) (script : Text) (most : ℕ) : Type 0 where
+  pub told : GivesFlag (codes "draw") rows → ⊥
   pub script_named : first_of (codes "SCRIPT") rows ≡ Some script
-  pub lines : AsksNumber rows (codes "most") 0 most_told most
+  pub lines : AsksMost rows 10000 most
+
+-- the words after `trace` name the script, and ask by `--draw` for a page with so many steps of it,
+-- or the most that a page draws if they ask for more
+pub record AsksTracePage (rows : List Row) (script : Text) (most : ℕ) : Type 0 where
+  pub drawn : GivesFlag (codes "draw") rows
+  pub script_named : first_of (codes "SCRIPT") rows ≡ Some script
+  pub asked : ℕ
+  pub steps : AsksMost rows 1000 asked
+  pub few : most ≡ min asked most_drawn
 
 -- the words after the command's name make it that command
 abbrev pub Makes : List Row → Command → Type 0
@@ -94,6 +111,7 @@ Makes rows (Explain asked) = AsksExplanation rows asked
 Makes rows (Justify history unchecked) = AsksOrders rows history.now unchecked
 Makes rows (Simulate script) = first_of (codes "SCRIPT") rows ≡ Some script.now
 Makes rows (Trace script most) = AsksTrace rows script.now most
+Makes rows (TracePage script most) = AsksTracePage rows script.now most
 Makes rows (Run asked) = AsksRun rows asked
 
 -- the command's name
@@ -104,6 +122,7 @@ name_of (Explain asked) = codes "explain"
 name_of (Justify history unchecked) = codes "justify"
 name_of (Simulate script) = codes "simulate"
 name_of (Trace script most) = codes "trace"
+name_of (TracePage script most) = codes "trace"
 name_of (Run asked) = codes "run"
 
 -- the command has that name, and the words after it make the command

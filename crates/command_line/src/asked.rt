@@ -59,6 +59,11 @@ pub enum Command<'a> {
         script: &'a str,
         most: u32,
     },
+    /// To run a script and write a page of its run, with so many steps drawn, 10,000 at most.
+    TracePage {
+        script: &'a str,
+        most: u32,
+    },
     /// To run a store under a load and write its history.
     Run(RunAsked),
 }

@@ -173,15 +173,17 @@ fn simulate_words<'a>(alloc: Global) -> Result<Command<'a>, AllocError>
     )
 }
 
-/// `abd trace SCRIPT [--most N]`.
+/// `abd trace SCRIPT [--most N] [--draw]`.
 fn trace_words<'a>(alloc: Global) -> Result<Command<'a>, AllocError>
     ensures app { IfOk result (λ words. app_of words ≡ trace_app) }
     ensures local { IfOk result (λ words. (fields_of words).has_globals ≡ false) }
 {
-    let about = "Run a script of calls and faults, and tell each step of its run";
+    let about =
+        "Run a script of calls and faults, and tell each step of its run, or draw its messages";
     let trace = file_words(alloc, "trace", about, help::TRACE, "SCRIPT", help::SCRIPT)?;
     let many = value_parser!(u32).range(0..4_294_967_296);
-    trace.arg(number_option(alloc, "most", "10000", many, help::LINES))
+    let trace = trace.arg(value_option(alloc, "most", "N", help::LINES).value_parser(many))?;
+    trace.arg(flag(alloc, "draw", help::MESSAGES))
 }
 
 /// `abd` by itself.

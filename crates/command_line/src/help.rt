@@ -53,8 +53,8 @@ pub const DRAW: &str =
 for each key a picture with a lane a client and a bar a call, from its invocation to its response. A `yes` has a point \
 in each bar, in the order that shows it; a `no` has its calls marked, below the sentences of `abd explain`. Without \
 ORDERS the orders that the tags make are drawn. HISTORY is of version 1 or 2. One of the files may be /dev/stdin, for \
-what is piped in.\nExit status: 0 all yes, 1 a key refused or no such key, 2 usage, 3 a file can't be opened or read as \
-its format, 4 memory or a device.\n\n\
+what is piped in.\nExit status: 0 all yes, 1 a key refused or no such key, 2 usage, 3 a file can't be opened or read \
+as its format, 4 memory or a device.\n\n\
 Example: abd draw examples/two_calls.history examples/two_calls.orders > two_calls.html";
 
 /// Of the option `--key` of `abd explain`.
@@ -108,12 +108,22 @@ why, and how many random steps were taken.\nExit status: 0 written, 2 usage, 3 t
 fault, 4 memory or a device.\n\nExample: abd simulate examples/new_then_old.script";
 
 /// Of the option `--most` of `abd trace`.
-pub const LINES: &str = "How many lines are told, 0 to 4,294,967,295";
+pub const LINES: &str =
+    "How many lines are told, 0 to 4,294,967,295 [default: 10000]; with --draw how many steps are drawn, 10,000 at \
+most [default: 1000]";
+
+/// Of the option `--draw`.
+pub const MESSAGES: &str =
+    "Write a page of HTML: a diagram of the messages, and the history's pictures";
 
 /// Of `abd trace`.
 pub const TRACE: &str =
     "Prints one line a step: the script's line, who took the step, and what came of it, or why it was refused. The \
 steps are those of `abd simulate`, whose help says the commands of a script; those of `finish` and `random` stand \
 below the line of their command, and a line says how many were taken. A last line says how many lines were left out, \
-if some were. SCRIPT may be /dev/stdin, for what is piped in.\nExit status: 0 told, 2 usage, 3 the script can't be \
-opened or has a fault, 4 memory or a device.\n\nExample: abd trace examples/new_then_old.script";
+if some were.\n\nWith --draw it writes one page of HTML, for any browser: time goes down, a row a step, with a line for \
+each client and each replica, an arrow for each message, and what each replica comes to hold; below stand those \
+lines, and the pictures of the history of the run, as `abd draw` makes them without ORDERS. SCRIPT may be \
+/dev/stdin, for what is piped in.\nExit status: 0 told, 2 usage, 3 the script can't be opened or has a fault, 4 \
+memory or a device.\n\n\
+Examples:\n  abd trace examples/new_then_old.script\n  abd trace examples/new_then_old.script --draw > page.html";

@@ -3,7 +3,8 @@ ghost use Rattle.std.specs.Prelude.{ℕ, ◌≡◌, ◌↔◌, IsTrue, codes, If
 ghost use Rattle.std.specs.Prelude.{Option, map, string_bytes};
 ghost use Rattle.clap.specs.Words.{found_of, kind_of, rows_of, subcommand_rows_of};
 ghost use Rattle.command_line.specs.Words.{Asks, AsksAround, AsksExplanation, AsksForm, AsksNothing};
-ghost use Rattle.command_line.specs.Words.{AsksNumber, GivesFlag, IsUsageOf, MakesAs, MakesNothing, MakesOf};
+ghost use Rattle.command_line.specs.Words.{AsksMost, AsksNumber, GivesFlag, IsUsageOf, MakesAs};
+ghost use Rattle.command_line.specs.Words.{MakesNothing, MakesOf};
 ghost use Rattle.command_line.specs.declared.asked.Command.{Command};
 ghost use Rattle.command_line.specs.declared.asked.ExplainAsked.{ExplainAsked};
 
@@ -166,6 +167,46 @@ fn simulate_in<'a>(matches: &ArgMatches<'a>) -> Option<Command<'a>>
     Some(Command::Simulate { script })
 }
 
+/// How many lines or steps are asked for; the default where the words don't say it.
+fn most_in(matches: &ArgMatches<'_>, default: u32) -> Option<u32>
+    ensures { MatchOption result
+        ((most : ℕ) → AsksMost (rows_of (found_of matches.now)) default most → ⊥)
+        (AsksMost (rows_of (found_of matches.now)) default) }
+{
+    if matches.get_str("most").is_none() {
+        return Some(default);
+    }
+    let most = number_in(matches, "most", 0, u32::MAX)?;
+    Some(most)
+}
+
+/// `trace` without `--draw`, of the words after its name.
+fn told_in<'a>(matches: &ArgMatches<'a>) -> Option<Command<'a>>
+    requires { GivesFlag (codes "draw") (rows_of (found_of matches.now)) → ⊥ }
+    ensures { MatchOption result
+        ((command : Command) → MakesAs (codes "trace") (rows_of (found_of matches.now)) command
+        → ⊥)
+        (MakesAs (codes "trace") (rows_of (found_of matches.now))) }
+{
+    let script = matches.get_str("SCRIPT")?;
+    let most = most_in(matches, 10_000)?;
+    Some(Command::Trace { script, most })
+}
+
+/// `trace` with `--draw`, of the words after its name.
+fn drawn_in<'a>(matches: &ArgMatches<'a>) -> Option<Command<'a>>
+    requires { GivesFlag (codes "draw") (rows_of (found_of matches.now)) }
+    ensures { MatchOption result
+        ((command : Command) → MakesAs (codes "trace") (rows_of (found_of matches.now)) command
+        → ⊥)
+        (MakesAs (codes "trace") (rows_of (found_of matches.now))) }
+{
+    let script = matches.get_str("SCRIPT")?;
+    let asked = most_in(matches, 1000)?;
+    let most = asked.min(10_000);
+    Some(Command::TracePage { script, most })
+}
+
 /// `trace`, of the words after its name.
 fn trace_in<'a>(matches: &ArgMatches<'a>) -> Option<Command<'a>>
     ensures { MatchOption result
@@ -173,9 +214,11 @@ fn trace_in<'a>(matches: &ArgMatches<'a>) -> Option<Command<'a>>
         → ⊥)
         (MakesAs (codes "trace") (rows_of (found_of matches.now))) }
 {
-    let script = matches.get_str("SCRIPT")?;
-    let most = number_in(matches, "most", 0, u32::MAX)?;
-    Some(Command::Trace { script, most })
+    if has_flag(matches, "draw") {
+        drawn_in(matches)
+    } else {
+        told_in(matches)
+    }
 }
 
 /// `run`, of the words after its name.

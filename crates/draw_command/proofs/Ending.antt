@@ -1,30 +1,20 @@
--- How a drawing ends.
-use Rattle.std.proofs.Common.{◌≡◌, List, inl, inr, sym, subst, ◌∙◌, arith}
-use Rattle.counted_devices.specs.DeviceStates.{DeviceStates}
-use Rattle.markup.specs.Markup.{Markup, page_text}
-use Rattle.cli.specs.Devices.{Receives, ReceivesPrefix}
-use Rattle.cli.specs.declared.status.Status.{Status}
-use Rattle.cli.specs.declared.status.Status.TheVariants.{Good, Refused, Usage, Format as Faulty_file, Failed}
-use Rattle.draw_command.specs.Endings.{EndsDrawing}
-use Rattle.draw_command.specs.Findings.{AreRefused, Judgement, misses_key, refused_count}
-use Rattle.draw_command.specs.Making.{HasStatus, SendsPage}
-use Rattle.draw_command.specs.declared.draw.Page.{Page}
+-- The page of files that were read.
+use Rattle.std.proofs.Common.{List, refl}
+use Rattle.parallel_keys.specs.CheckedKeys.{CheckedKey}
+use Rattle.history_file.specs.declared.numbered_format.NumberedHistories.{NumberedHistories}
+use Rattle.cli.specs.declared.outcome.Outcome.{Outcome}
+use Rattle.explain_command.specs.Files.{AreInFiles, HaveKeys}
+use Rattle.explain_command.specs.declared.files.Files.{Files}
+use Rattle.draw_command.specs.Making.{DrawsFiles, IsMadeOf}
 use Rattle.draw_command.specs.declared.drawn.Drawn.{Drawn}
+use Rattle.draw_command.specs.declared.judged.Judged.{Judged}
 
-module _ (drawn : Drawn) (Draws : List Judgement → Markup → Type 0) (Faulty : Type 0) (out : DeviceStates) where
-  -- the page was sent
-  pub sent : (page : Page) (keys : List Judgement) (markup : Markup) → Draws keys markup → page.text.items ≡ page_text markup
-      → page.refused ≡ refused_count keys → page.missing ≡ misses_key drawn keys
-      → (s : Status) → SendsPage page out s → EndsDrawing drawn Draws Faulty out s
-  sent page keys markup draws text refused missing Good sends =
-      record { keys = keys; page = markup; draws = draws; say = (sym refused ∙ sends.0.0, sym missing ∙ sends.0.1); goes = subst (Receives out) text sends.1 }
-  sent page keys markup draws text refused missing Refused sends =
-      record { keys = keys; page = markup; draws = draws; say = refused_so sends.0; goes = subst (Receives out) text sends.1 }
-    where
-      refused_so : HasStatus page Refused → AreRefused drawn keys
-      refused_so (inl some) = inl (omega (arith, refused, some))
-      refused_so (inr none) = inr (sym missing ∙ none)
-  sent page keys markup draws text refused missing Usage sends = absurd sends
-  sent page keys markup draws text refused missing Faulty_file sends = absurd sends
-  sent page keys markup draws text refused missing Failed (inl nothing) = inl nothing
-  sent page keys markup draws text refused missing Failed (inr begun) = inr (record { keys = keys; page = markup; draws = draws; say = tt; goes = subst (ReceivesPrefix out) text begun })
+-- the page of the keys that files have
+abbrev pub DrawsKeys : Judged → Drawn → Files → Outcome → Type 0
+DrawsKeys judged drawn files outcome =
+    (keys : List CheckedKey) × HaveKeys files.numbered.histories files.orders.items keys × IsMadeOf judged files.numbered drawn keys outcome
+
+pub drawn_of : (judged : Judged) (drawn : Drawn) (files : Files) (Reads : NumberedHistories → List CheckedKey → Type 0) → ((numbered : NumberedHistories) (keys : List CheckedKey) → AreInFiles files numbered keys → Reads numbered keys)
+    → (outcome : Outcome) → DrawsKeys judged drawn files outcome → DrawsFiles judged drawn Reads outcome
+drawn_of judged drawn files Reads reads outcome made =
+    record { numbered = files.numbered; keys = made.0; read = reads files.numbered made.0 (record { same = refl; keys_are = made.1 }); made = made.2 }

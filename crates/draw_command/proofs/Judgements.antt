@@ -1,8 +1,9 @@
 -- Judged keys, one more at the end, and those first that are refused.
-use Rattle.std.proofs.Common.{◌≡◌, Bool, true, false, cond, not, List, [], ◌∷◌, ◌++◌, All, filter, length, map, refl, sym, ap, ap₂, subst, ◌∙◌}
+use Rattle.std.proofs.Common.{◌≡◌, not, List, [], ◌∷◌, ◌++◌, All, filter, length, map, sym, ap, ap₂, subst, ◌∙◌}
 use Rattle.std.proofs.lemmas.List.{length-map, map-append}
 use Rattle.std.proofs.lemmas.List.Elements.{All-append, All-cons, All-nil}
 use Rattle.parallel_keys.specs.CheckedKeys.{CheckedKey}
+use Rattle.explain_command.proofs.Selecting.{map-filter}
 use Rattle.draw_command.specs.Findings.{AreJudged, IsFinding, Judgement, is_no, refused_count, refused_first}
 use Rattle.draw_command.specs.Judging.{judgement_of}
 use Rattle.draw_command.specs.declared.finding.JudgedKey.{JudgedKey}
@@ -17,15 +18,6 @@ judged_more judged keys more js now j are_more are_now found so_far = record {
       (All-append (λ (k : Judgement). IsFinding judged k.one k.finding) js (j ∷ []) so_far.found
       (All-cons (λ (k : Judgement). IsFinding judged k.one k.finding) j [] found (All-nil (λ (k : Judgement). IsFinding judged k.one k.finding))));
 }
-
--- what a function makes of the elements that pass is what passes of all that it makes
-map-filter : {X Y : Type 0} (f : X → Y) (p : Y → Bool) (xs : List X) → map f (filter (λ x. p (f x)) xs) ≡ filter p (map f xs)
-map-filter f p [] = refl
-map-filter {X} {Y} f p (x ∷ xs) = by (p (f x)) (map-filter f p xs)
-  where
-    by : (b : Bool) → map f (filter (λ x. p (f x)) xs) ≡ filter p (map f xs) → map f (cond b (x ∷ filter (λ x. p (f x)) xs) (filter (λ x. p (f x)) xs)) ≡ cond b (f x ∷ filter p (map f xs)) (filter p (map f xs))
-    by true later = ap (λ (ys : List Y). f x ∷ ys) later
-    by false later = later
 
 module _ (all refused others keys : List JudgedKey) (refused_are : refused ≡ filter (λ key. is_no key.finding) all) where
   made_refused : map judgement_of refused ≡ filter (λ (j : Judgement). is_no j.finding) (map judgement_of all)

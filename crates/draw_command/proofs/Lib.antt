@@ -1,7 +1,9 @@
 mod Judgements
-mod Adding
-mod Framing
+pub mod Adding
+pub mod Framing
 mod Apart
 mod SceneOrder
 mod Selected
 mod Ending
+mod Content
+pub mod NoRefusal

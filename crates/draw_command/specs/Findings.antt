@@ -1,5 +1,5 @@
 -- What judging keys finds, and in which order keys stand on the page.
-use Rattle.std.specs.Prelude.{ℕ, ◌≡◌, ◌≤◌, ◌⊎◌, Bool, true, false, not, List, ◌++◌, Option}
+use Rattle.std.specs.Prelude.{ℕ, ◌≡◌, Bool, true, false, not, List, ◌++◌, Option}
 use Rattle.std.specs.Prelude.{None, Some, All, filter, length, map, option_map}
 use Rattle.certificate_check.specs.Verdicts.{IsVerdict}
 use Rattle.certificate_check.specs.declared.verdict.Verdict.TheVariants as verdict
@@ -70,12 +70,3 @@ named_key drawn = option_map (λ key. key.now) drawn.key
 -- a key was named, and no key has that name
 abbrev pub misses_key : Drawn → List Judgement → Bool
 misses_key drawn judgements = is_missing (named_key drawn) (length judgements)
-
--- no key is refused, and if a key was named, there is one
-abbrev pub AreGood : Drawn → List Judgement → Type 0
-AreGood drawn judgements = (refused_count judgements ≡ 0) × (misses_key drawn judgements ≡ false)
-
--- some key is refused, or no key has the name that was given
-abbrev pub AreRefused : Drawn → List Judgement → Type 0
-AreRefused drawn judgements =
-    (1 ≤ refused_count judgements) ⊎ (misses_key drawn judgements ≡ true)

@@ -4,4 +4,4 @@ pub mod Counts
 pub mod Drawings
 pub mod Pages
 pub mod Making
-pub mod Endings
+pub mod HistoryPictures

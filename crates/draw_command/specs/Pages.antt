@@ -161,10 +161,14 @@ metas_markup = both (empty tag.Meta (record { name = name.Charset; value = word.
     (empty tag.Meta (record { name = name.Name; value = word.VIEWPORT_NAME.now }
     ∷ record { name = name.Content; value = word.VIEWPORT.now } ∷ []))
 
--- the head: that, the title, and the styles
+-- the styles: that of pictures, and that of what stands around them
+abbrev pub styles_markup : Markup
+styles_markup = both style (plain tag.Style word.STYLE.now)
+
+-- the head: what a browser has to know, the title, and the styles
 abbrev pub head_markup : Markup
 head_markup = element tag.Head [] (both metas_markup (both (plain tag.Title word.TITLE.now)
-    (both style (plain tag.Style word.STYLE.now))))
+    styles_markup))
 
 -- the line that says that no key has the name
 abbrev pub missing_line : Bool → Markup

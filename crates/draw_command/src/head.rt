@@ -2,6 +2,7 @@
 ghost use Rattle.std.specs.Prelude.{◌≡◌, ◌++◌, OnOk};
 ghost use Rattle.markup.specs.Markup.{rendered};
 ghost use Rattle.draw_command.specs.Pages.{front_markup, head_markup, metas_markup, missing_line};
+ghost use Rattle.draw_command.specs.Pages.{styles_markup};
 
 use crate::texts::{append_counted, append_plain, append_worded};
 use crate::words;
@@ -11,7 +12,7 @@ use tag::Memory;
 
 /// Adds what a browser has to know.
 #[tactic(auto, unfolding(markup::specs::Markup::rendered))]
-fn append_metas(page: &mut Vec<u8>) -> Result<(), Memory>
+pub fn append_metas(page: &mut Vec<u8>) -> Result<(), Memory>
     ensures { OnOk result (page.new.items ≡ page.old.items ++ rendered metas_markup) }
 {
     append_empty(
@@ -29,6 +30,15 @@ fn append_metas(page: &mut Vec<u8>) -> Result<(), Memory>
     )
 }
 
+/// Adds the style of pictures, and that of what stands around them.
+#[tactic(auto, unfolding(markup::specs::Markup::rendered))]
+pub fn append_styles(page: &mut Vec<u8>) -> Result<(), Memory>
+    ensures { OnOk result (page.new.items ≡ page.old.items ++ rendered styles_markup) }
+{
+    append_style(page)?;
+    append_plain(page, Element::Style, words::STYLE)
+}
+
 /// Adds the head.
 #[tactic(auto, unfolding(markup::specs::Markup::rendered))]
 pub(crate) fn append_head(page: &mut Vec<u8>) -> Result<(), Memory>
@@ -37,8 +47,7 @@ pub(crate) fn append_head(page: &mut Vec<u8>) -> Result<(), Memory>
     append_opening(page, Element::Head, &[])?;
     append_metas(page)?;
     append_plain(page, Element::Title, words::TITLE)?;
-    append_style(page)?;
-    append_plain(page, Element::Style, words::STYLE)?;
+    append_styles(page)?;
     append_closing(page, Element::Head)
 }
 

@@ -10,6 +10,7 @@ mod draw;
 mod drawn;
 mod finding;
 mod head;
+mod history_pictures;
 mod judged;
 mod key_scene;
 mod page;
@@ -21,3 +22,5 @@ mod words;
 
 pub use draw::{draw_orders_command, draw_tags_command};
 pub use drawn::Drawn;
+pub use head::{append_metas, append_styles};
+pub use history_pictures::add_history_pictures;

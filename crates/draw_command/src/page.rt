@@ -16,7 +16,7 @@ use std::alloc::Global;
 use tag::Memory;
 
 /// Adds what the page says and shows of the keys.
-fn add_content(
+pub(crate) fn add_content(
     alloc: Global,
     page: &mut Vec<u8>,
     task: &Task<'_>,

@@ -87,6 +87,7 @@ fn say_asked(out: &mut Answer, asked: &Command<'_>) {
         }
         Command::Simulate { script } => write!(out, "simulate of [{script}]\n"),
         Command::Trace { script, most } => write!(out, "trace of [{script}], most {most}\n"),
+        Command::TracePage { script, most } => write!(out, "page of [{script}], most {most}\n"),
         Command::Run(asked) => say_run(out, asked),
     }
 }

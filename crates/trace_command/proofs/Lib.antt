@@ -1,1 +1,3 @@
 mod Ending
+mod Numbering
+mod PageEnding

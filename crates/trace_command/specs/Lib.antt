@@ -1,1 +1,3 @@
 pub mod TraceEndings
+pub mod TracePages
+pub mod PageEndings

@@ -16,7 +16,7 @@ use std::alloc::Global;
 use traces::trace_text;
 
 /// The script that the file is.
-fn script_in<'a, R: CountedRead>(
+pub(crate) fn script_in<'a, R: CountedRead>(
     alloc: Global,
     source: &mut Source<'a, R>,
 ) -> Result<Script, Failure<'a>>

@@ -13,7 +13,7 @@ use Rattle.command_line.proofs.words.draw_in.Goals as goal
 not_draw : (rows : List Row) → ((asked : DrawAsked) → AsksDrawing rows asked → ⊥) → (command : Command) → MakesAs (codes "draw") rows command → ⊥
 not_draw rows none command makes = by_name (λ c. Makes rows c → ⊥) (codes "draw")
     (λ h o w f is. absurd (differ _ _ refl is)) (λ asked is makes. none asked makes) (λ a is. absurd (differ _ _ refl is))
-    (λ h u is. absurd (differ _ _ refl is)) (λ s is. absurd (differ _ _ refl is)) (λ s m is. absurd (differ _ _ refl is))
+    (λ h u is. absurd (differ _ _ refl is)) (λ s is. absurd (differ _ _ refl is)) (λ s m is. absurd (differ _ _ refl is)) (λ s m is. absurd (differ _ _ refl is))
     (λ a is. absurd (differ _ _ refl is)) command makes.0 makes.1
 
 no_keys : (rows : List Row) → ((asked : ExplainAsked) → AsksExplanation rows asked → ⊥) → (command : Command) → MakesAs (codes "draw") rows command → ⊥

@@ -11,7 +11,7 @@ use Rattle.command_line.proofs.words.explain_in.Goals as goal
 not_explain : (rows : List Row) → ((asked : ExplainAsked) → AsksExplanation rows asked → ⊥) → (command : Command) → MakesAs (codes "explain") rows command → ⊥
 not_explain rows none command makes = by_name (λ c. Makes rows c → ⊥) (codes "explain")
     (λ h o w f is. absurd (differ _ _ refl is)) (λ a is. absurd (differ _ _ refl is)) (λ asked is makes. none asked makes)
-    (λ h u is. absurd (differ _ _ refl is)) (λ s is. absurd (differ _ _ refl is)) (λ s m is. absurd (differ _ _ refl is))
+    (λ h u is. absurd (differ _ _ refl is)) (λ s is. absurd (differ _ _ refl is)) (λ s m is. absurd (differ _ _ refl is)) (λ s m is. absurd (differ _ _ refl is))
     (λ a is. absurd (differ _ _ refl is)) command makes.0 makes.1
 
 pub returns-in_err-keys : goal.returns-in_err-keys

@@ -1,6 +1,7 @@
 -- The selected keys are judged, and the page is theirs.
-use Rattle.std.proofs.Common.{◌≡◌, length, map, arith}
+use Rattle.std.proofs.Common.{◌≡◌, ◌∙◌, ap₂, length, map, arith}
 use Rattle.parallel_keys.specs.KeysToCheck.{what_of}
+use Rattle.explain_command.specs.Explanations.{is_good}
 use Rattle.draw_command.specs.Judging.{judgement_of}
 use Rattle.draw_command.proofs.Apart.{drawable}
 use Rattle.draw_command.proofs.Selected.{few_apart, few_judged, missing_is, page_of_judged}
@@ -27,10 +28,10 @@ returns c =
     record {
       keys = found.all;
       keys_are = few_judged task.drawn selection c.selection-selection.ensures keys few c.in_ok-few.ensures task.judged found.all found.judged_are;
-      markup = page.0;
+      page = page.0;
       page_is = page_of_judged task.judged task.numbered.now task.drawn found.all (map judgement_of c.in_ok-findings.findings.keys.items) c.in_ok-findings.findings.refused c.misses-missing.result page.0
           found.ordered.in_order found.ordered.refused missing page.1;
-      text = page.2;
-      refused = found.ordered.refused;
-      missing = missing;
+      text = rw c.of_text.ensures.text page.2;
+      is = c.of_text.ensures.good ∙ c.is_good-good.ensures ∙ ap₂ is_good found.ordered.refused missing;
+      quiet = c.of_text.ensures.notes;
     }

@@ -1,42 +1,14 @@
--- Both files were read: the page went out, or a beginning of it.
-use Rattle.std.proofs.Common.{List, refl, subst, sym}
-use Rattle.recorder.specs.declared.order.KeyOrder.{KeyOrder}
-use Rattle.parallel_keys.specs.CheckedKeys.{AreDistinct}
-use Rattle.cli.proofs.EachKey.{distinct}
-use Rattle.cli.specs.declared.status.Failure.TheVariants.{Memory}
-use Rattle.explain_command.proofs.Ending.{lines_of_each, pieces_read}
-use Rattle.draw_command.proofs.Ending.{sent}
+-- Both files were read, and their page was sent.
+use Rattle.std.proofs.Common.{inl, inr, refl}
+use Rattle.cli.proofs.Endings.{concluded, stopped}
+use Rattle.explain_command.proofs.Ending.{with_orders}
+use Rattle.draw_command.proofs.Ending.{drawn_of}
 use Rattle.draw_command.proofs.draw.draw_orders_command.Goals as goal
 
-pub draw_halls-requires-clause-lines : goal.draw_halls-requires-clause-lines
-draw_halls-requires-clause-lines g c = let read = c.in-Ok.ensures.read.fact.1 in lines_of_each read.header read.items c.in-Ok.numbered read.made
+pub returns-in-Ok : goal.returns-in-Ok
+returns-in-Ok g c =
+    concluded _ _ _ _ _ _ c.draw_files.result (rw c.as_slice.ensures.value at c.draw_files.ensures.made) c.draw_files.ensures.stops
+    (drawn_of _ c.args.drawn c.in-Ok.files _ (λ numbered keys are. with_orders _ c.in-Ok.files c.in-Ok.ensures.read numbered keys are _ c.in-Ok.ensures.orders)) (λ why is. inr is) c.conclude.result c.conclude.ensures
 
-pub draw_halls-requires-clause-distinct : goal.draw_halls-requires-clause-distinct
-draw_halls-requires-clause-distinct g c =
-    let read = c.in-Ok-orders_in.ensures.read.fact.1 in
-    subst (λ (l : List KeyOrder). AreDistinct l) (sym c.as_slice.ensures.value) (distinct read.items c.in-Ok-orders_in.orders.items read.made)
-
-pub returns-in-Ok-draw_halls-clause-ends : goal.returns-in-Ok-draw_halls-clause-ends
-returns-in-Ok-draw_halls-clause-ends g c =
-    let read = c.in-Ok-orders_in.ensures.read in
-    let drawn = rw c.as_slice.ensures.value at c.in-Ok-draw_halls.ensures.page in
-    let made = drawn.2 in
-    sent c.args.drawn _ _ _ c.in-Ok-draw_halls.page made.keys made.markup
-    (record {
-      numbered = c.in-Ok.numbered;
-      read = c.in-Ok.ensures.read;
-      lawful = c.in-Ok-draw_halls.ensures.lawful;
-      pieces = read.fact.1.items;
-      orders_read = pieces_read _ _ c.in-Ok-orders_in.orders.items read;
-      parts = drawn.0;
-      recorded = drawn.1;
-      joined = c.in-Ok-orders_in.orders.items;
-      are_joined = read.fact.1.made;
-      draws = record { keys_are = made.keys_are; page_is = made.page_is };
-    })
-    made.text made.refused made.missing c.send.result c.send.ensures.ends
-
--- memory was wanted, and the output is as it was
-pub returns-clause-said : goal.returns-clause-said
-returns-clause-said g c =
-    rw c.report-in-Err-draw_halls.ensures.status (record { failure = Memory; ends = refl; holds = (refl, refl); told = c.report-in-Err-draw_halls.ensures.told })
+pub returns-in-Err : goal.returns-in-Err
+returns-in-Err g c = stopped _ _ _ _ c.in-Err.failure (inl c.in-Err.ensures.stops) refl c.report.result c.report.ensures.status c.report.ensures.told

@@ -1,26 +1,14 @@
--- The history was read: the page went out, or a beginning of it.
-use Rattle.tag.proofs.Options.{none_some}
-use Rattle.explain_command.proofs.Ending.{lines_of_each}
-use Rattle.draw_command.proofs.Ending.{sent}
+-- The history was read, and its page was sent.
+use Rattle.std.proofs.Common.{inl, inr, refl}
+use Rattle.cli.proofs.Endings.{concluded, stopped}
+use Rattle.explain_command.proofs.Ending.{without_orders}
+use Rattle.draw_command.proofs.Ending.{drawn_of}
 use Rattle.draw_command.proofs.draw.draw_tags_command.Goals as goal
 
-pub draw_halls-requires-clause-lines : goal.draw_halls-requires-clause-lines
-draw_halls-requires-clause-lines g c = let read = c.in-Ok.ensures.read.fact.1 in lines_of_each read.header read.items c.in-Ok.numbered read.made
+pub returns-in-Ok : goal.returns-in-Ok
+returns-in-Ok g c =
+    concluded _ _ _ _ _ _ c.draw_files.result (rw c.as_slice.ensures.value at c.draw_files.ensures.made) c.draw_files.ensures.stops
+    (drawn_of _ c.args.drawn c.in-Ok.files _ (λ numbered keys are. without_orders _ c.in-Ok.files c.in-Ok.ensures.read numbered keys are c.in-Ok.ensures.none)) (λ why is. inr is) c.conclude.result c.conclude.ensures
 
-pub draw_halls-requires-clause-distinct : goal.draw_halls-requires-clause-distinct
-draw_halls-requires-clause-distinct g c = λ i j a b lt at_i at_j same. none_some at_i
-
-pub returns-in-Ok-draw_halls-clause-ends : goal.returns-in-Ok-draw_halls-clause-ends
-returns-in-Ok-draw_halls-clause-ends g c =
-    let drawn = c.in-Ok-draw_halls.ensures.page in
-    let made = drawn.2 in
-    sent c.args.drawn _ _ _ c.in-Ok-draw_halls.page made.keys made.markup
-    (record {
-      numbered = c.in-Ok.numbered;
-      read = c.in-Ok.ensures.read;
-      lawful = c.in-Ok-draw_halls.ensures.lawful;
-      parts = drawn.0;
-      recorded = drawn.1;
-      draws = record { keys_are = made.keys_are; page_is = made.page_is };
-    })
-    made.text made.refused made.missing c.send.result c.send.ensures.ends
+pub returns-in-Err : goal.returns-in-Err
+returns-in-Err g c = stopped _ _ _ _ c.in-Err.failure (inl c.in-Err.ensures.stops) refl c.report.result c.report.ensures.status c.report.ensures.told

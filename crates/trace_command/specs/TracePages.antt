@@ -1,0 +1,100 @@
+-- The page of a script: the diagram of the messages of its run, the trace in words, and the
+-- pictures of the history that the run records.
+use Rattle.std.specs.Prelude.{ℕ, zero, suc, ◌≡◌, List, [], ◌∷◌, None, decimal, length}
+use Rattle.std.specs.Str.Lines.{lines}
+use Rattle.std.specs.Str.Lossy.{utf8_lossy}
+use Rattle.recorder.specs.Histories.{Recorded}
+use Rattle.markup.specs.Markup.{Markup, NamedText, nothing, text, line_end, element, both, each}
+use Rattle.markup.specs.declared.names.AttributeName.TheVariants as name
+use Rattle.markup.specs.declared.names.Element.TheVariants as tag
+use Rattle.file_format.specs.Texts.{rows_from}
+use Rattle.history_file.specs.NumberedRows.{lines_of}
+use Rattle.history_file.specs.declared.numbered_format.NumberedHistories.{NumberedHistories}
+use Rattle.fault_script.specs.declared.command.Script.{Script}
+use Rattle.traces.specs.Traces.{IsTraceText}
+use Rattle.message_scenes.specs.Scenes.{IsRecordedScene}
+use Rattle.message_scenes.specs.declared.scene.MessageScene.{MessageScene}
+use Rattle.diagrams.specs.Diagrams.{diagram, diagram_legend, diagram_style}
+use Rattle.draw_command.specs.HistoryPictures.{IsContentOfTags}
+use Rattle.draw_command.specs.Pages.{IsFramed, body_markup, metas_markup, plain, styles_markup}
+use Rattle.draw_command.specs.declared.drawn.Drawn.{Drawn}
+use Rattle.trace_command.specs.declared.words.TheConstants as word
+
+-- ---- the head
+
+-- the styles: those of a page of `abd draw`, that of diagrams, and that of what stands around them
+abbrev pub all_styles : Markup
+all_styles = both styles_markup (both diagram_style (plain tag.Style word.STYLE.now))
+
+-- the head: what a browser has to know, the title, and the styles
+abbrev pub head_markup : Markup
+head_markup = element tag.Head [] (both metas_markup (both (plain tag.Title word.TITLE.now)
+    all_styles))
+
+-- ---- the run
+
+-- the class of an element
+abbrev pub of_class : List ℕ → List NamedText
+of_class words = record { name = name.Class; value = words } ∷ []
+
+-- how many steps the diagram leaves out, if it leaves some out
+abbrev pub left_out : ℕ → Markup
+left_out zero = nothing
+left_out (suc count) = both (text word.LEFT_OUT.now) (text (decimal (suc count)))
+
+-- how many steps the diagram shows, and how many it leaves out
+abbrev pub steps_line : MessageScene → Markup
+steps_line scene = element tag.P (of_class word.STEPS.now) (both (text word.STEPS_SHOWN.now)
+    (both (text (decimal (length scene.rows.items))) (left_out scene.omitted)))
+
+-- what the signs of a diagram mean, and the diagram of the run's messages
+abbrev pub messages_markup : MessageScene → Markup
+messages_markup scene = both diagram_legend (diagram scene)
+
+-- a line of the trace
+abbrev pub told_line : List ℕ → Markup
+told_line line = both (text line) line_end
+
+-- the trace, line by line
+abbrev pub told_lines : List ℕ → Markup
+told_lines trace = each told_line (lines (utf8_lossy trace))
+
+-- the trace, folded away
+abbrev pub trace_markup : List ℕ → Markup
+trace_markup trace = element tag.Details (of_class word.TOLD.now)
+    (both (plain tag.Summary word.EACH_STEP.now) (element tag.Pre [] (told_lines trace)))
+
+-- what is said and shown of the run
+abbrev pub run_markup : MessageScene → List ℕ → Markup
+run_markup scene trace = both (plain tag.H1 word.TITLE.now)
+    (both (steps_line scene) (both (messages_markup scene) (trace_markup trace)))
+
+-- ---- the page
+
+-- the page around its content
+abbrev pub page_markup : Markup → Markup
+page_markup content =
+    element tag.Html (record { name = name.Lang; value = word.LANGUAGE.now } ∷ [])
+    (both head_markup (body_markup content))
+
+-- the page of that scene and trace, and of the pictures of that history
+abbrev pub IsPageOf : MessageScene → List ℕ → NumberedHistories → Drawn → Markup → Type 0
+IsPageOf scene trace numbered drawn page = IsFramed page_markup
+    (IsFramed (both (run_markup scene trace)) (IsContentOfTags numbered drawn)) page
+
+-- the history, and the lines of its rows in the file that `abd simulate` writes of it
+pub record IsNumbered (history : Recorded) (numbered : NumberedHistories) : Type 0 where
+  pub histories : numbered.histories ≡ record { halls = history ∷ []; quorums = None }
+  pub lines : numbered.lines.items ≡ lines_of 0 (rows_from 0 (history ∷ [])) ∷ []
+
+-- the page of the script: of a run of it the scene, with at most so many steps, and the history
+-- that it records; and the trace, with at most so many lines
+pub record IsTracePage (script : Script) (most : ℕ) (drawn : Drawn) (page : Markup) : Type 0 where
+  pub scene : MessageScene
+  pub history : Recorded
+  pub run : IsRecordedScene script most scene history
+  pub trace : List ℕ
+  pub told : IsTraceText script most trace
+  pub numbered : NumberedHistories
+  pub numbered_is : IsNumbered history numbered
+  pub is : IsPageOf scene trace numbered drawn page

@@ -1,0 +1,157 @@
+//! The page of a script's run.
+ghost use Rattle.std.specs.Prelude.{◌≡◌, ◌++◌, IfOk, OnOk};
+ghost use Rattle.markup.specs.Markup.{Markup, both, page_text, rendered};
+ghost use Rattle.diagrams.specs.Layout.{HasClientsInOrder};
+ghost use Rattle.explain_command.specs.KeyExplanations.{HasLinesOfEach};
+ghost use Rattle.draw_command.specs.HistoryPictures.{IsContentOfTags};
+ghost use Rattle.draw_command.specs.Making.{Adds};
+ghost use Rattle.draw_command.specs.Pages.{IsFramed, body_markup};
+ghost use Rattle.trace_command.specs.TracePages.{IsPageOf, all_styles, head_markup, left_out};
+ghost use Rattle.trace_command.specs.TracePages.{messages_markup, run_markup, steps_line};
+ghost use Rattle.trace_command.specs.TracePages.{trace_markup};
+
+use crate::texts::{append_number, append_plain, append_told};
+use crate::words;
+use diagrams::{append_diagram, append_diagram_legend, append_diagram_style};
+use draw_command::{Drawn, add_history_pictures, append_metas, append_styles};
+use history_file::NumberedHistories;
+use markup::{
+    Attribute, AttributeName, Element, append_closing, append_doctype, append_opening, append_text,
+};
+use message_scenes::MessageScene;
+use std::alloc::Global;
+use tag::Memory;
+
+/// What is drawn of a run: its scene, its trace, and the history that it records.
+#[derive(Clone, Copy)]
+pub(crate) struct RunShown<'a> {
+    pub(crate) scene: &'a MessageScene,
+    pub(crate) trace: &'a [u8],
+    pub(crate) numbered: &'a NumberedHistories,
+    pub(crate) drawn: Drawn<'a>,
+}
+
+/// Adds the styles.
+#[tactic(auto, unfolding(markup::specs::Markup::rendered))]
+fn append_all_styles(page: &mut Vec<u8>) -> Result<(), Memory>
+    ensures { OnOk result (page.new.items ≡ page.old.items ++ rendered all_styles) }
+{
+    append_styles(page)?;
+    append_diagram_style(page)?;
+    append_plain(page, Element::Style, words::STYLE)
+}
+
+/// Adds the head.
+#[tactic(auto, unfolding(markup::specs::Markup::rendered))]
+fn append_head(page: &mut Vec<u8>) -> Result<(), Memory>
+    ensures { OnOk result (page.new.items ≡ page.old.items ++ rendered head_markup) }
+{
+    append_opening(page, Element::Head, &[])?;
+    append_metas(page)?;
+    append_plain(page, Element::Title, words::TITLE)?;
+    append_all_styles(page)?;
+    append_closing(page, Element::Head)
+}
+
+/// Says how many steps are left out, if any are.
+#[tactic(auto, unfolding(markup::specs::Markup::rendered))]
+fn append_left_out(page: &mut Vec<u8>, count: u64) -> Result<(), Memory>
+    ensures { OnOk result (page.new.items ≡ page.old.items ++ rendered (left_out count)) }
+{
+    if count == 0 {
+        return Ok(());
+    }
+    append_text(page, words::LEFT_OUT)?;
+    append_number(page, count)
+}
+
+/// Says how many steps are shown, and how many are left out.
+#[tactic(auto, unfolding(markup::specs::Markup::rendered))]
+fn append_steps(page: &mut Vec<u8>, scene: &MessageScene) -> Result<(), Memory>
+    ensures { OnOk result (page.new.items ≡ page.old.items ++ rendered (steps_line scene.now)) }
+{
+    let class = Attribute::Words(AttributeName::Class, words::STEPS);
+    append_opening(page, Element::P, &[class])?;
+    append_text(page, words::STEPS_SHOWN)?;
+    append_number(page, scene.rows.len() as u64)?;
+    append_left_out(page, scene.omitted)?;
+    append_closing(page, Element::P)
+}
+
+/// Adds what the signs of a diagram mean, and the diagram of the run's messages.
+#[tactic(auto, unfolding(markup::specs::Markup::rendered))]
+fn append_messages(alloc: Global, page: &mut Vec<u8>, scene: &MessageScene) -> Result<(), Memory>
+    requires { HasClientsInOrder scene.now }
+    ensures { OnOk result
+        (page.new.items ≡ page.old.items ++ rendered (messages_markup scene.now)) }
+{
+    append_diagram_legend(page)?;
+    append_diagram(alloc, page, scene)
+}
+
+/// Adds the trace.
+#[tactic(auto, unfolding(markup::specs::Markup::rendered))]
+fn append_trace(alloc: Global, page: &mut Vec<u8>, trace: &[u8]) -> Result<(), Memory>
+    ensures { OnOk result (page.new.items ≡ page.old.items ++ rendered (trace_markup trace.now)) }
+{
+    let class = Attribute::Words(AttributeName::Class, words::TOLD);
+    append_opening(page, Element::Details, &[class])?;
+    append_plain(page, Element::Summary, words::EACH_STEP)?;
+    append_opening(page, Element::Pre, &[])?;
+    append_told(alloc, page, trace)?;
+    append_closing(page, Element::Pre)?;
+    append_closing(page, Element::Details)
+}
+
+/// Adds what is said and shown of the run.
+#[tactic(auto, unfolding(markup::specs::Markup::rendered))]
+fn append_run(
+    alloc: Global,
+    page: &mut Vec<u8>,
+    scene: &MessageScene,
+    trace: &[u8],
+) -> Result<(), Memory>
+    requires { HasClientsInOrder scene.now }
+    ensures { OnOk result (page.new.items
+        ≡ page.old.items ++ rendered (run_markup scene.now trace.now)) }
+{
+    append_plain(page, Element::H1, words::TITLE)?;
+    append_steps(page, scene)?;
+    append_messages(alloc, page, scene)?;
+    append_trace(alloc, page, trace)
+}
+
+/// Adds the page's body.
+fn add_body(alloc: Global, page: &mut Vec<u8>, shown: &RunShown<'_>) -> Result<(), Memory>
+    requires clients { HasClientsInOrder shown.now.scene.now }
+    requires lines { HasLinesOfEach shown.now.numbered.now }
+    ensures { OnOk result (Adds (IsFramed body_markup
+        (IsFramed (both (run_markup shown.now.scene.now shown.now.trace.now))
+        (IsContentOfTags shown.now.numbered.now shown.now.drawn)))
+        page.old.items page.new.items) }
+{
+    append_opening(page, Element::Body, &[])?;
+    append_opening(page, Element::Main, &[])?;
+    append_run(alloc, page, shown.scene, shown.trace)?;
+    add_history_pictures(alloc, page, shown.numbered, shown.drawn)?;
+    append_closing(page, Element::Main)?;
+    append_closing(page, Element::Body)
+}
+
+/// The page of the run.
+pub(crate) fn page_of(alloc: Global, shown: &RunShown<'_>) -> Result<Vec<u8>, Memory>
+    requires clients { HasClientsInOrder shown.now.scene.now }
+    requires lines { HasLinesOfEach shown.now.numbered.now }
+    ensures { IfOk result (λ page. (markup : Markup) × IsPageOf shown.now.scene.now
+        shown.now.trace.now shown.now.numbered.now shown.now.drawn markup
+        × (page.items ≡ page_text markup)) }
+{
+    let mut page = Vec::new(alloc);
+    append_doctype(&mut page)?;
+    let language = Attribute::Words(AttributeName::Lang, words::LANGUAGE);
+    append_opening(&mut page, Element::Html, &[language])?;
+    append_head(&mut page)?;
+    add_body(alloc, &mut page, shown)?;
+    append_closing(&mut page, Element::Html)?;
+    Ok(page)
+}

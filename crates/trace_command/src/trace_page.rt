@@ -1,0 +1,84 @@
+//! `abd trace --draw`: the page of a script.
+ghost use Rattle.std.specs.Prelude.{◌≡◌, ◌⊎◌, IfOk};
+ghost use Rattle.counted_devices.specs.Counts.{IsOneMore};
+ghost use Rattle.counted_devices.specs.DeviceStates.{states};
+ghost use Rattle.markup.specs.Markup.{Markup, page_text};
+ghost use Rattle.cli.specs.Devices.{file_states};
+ghost use Rattle.cli.specs.Reports.{ReportsEnd};
+ghost use Rattle.trace_command.specs.PageEndings.{EndsTracePage};
+ghost use Rattle.trace_command.specs.TraceEndings.{IsOfTrace};
+ghost use Rattle.trace_command.specs.TracePages.{IsTracePage};
+
+use crate::numbered::numbered_of;
+use crate::page::{RunShown, page_of};
+use crate::trace::script_in;
+use cli::{Failure, Source, Status, send};
+use counted_devices::{CountedRead, CountedWrite};
+use draw_command::Drawn;
+use fault_script::Script;
+use message_scenes::{RecordedScene, recorded_scene};
+use std::alloc::Global;
+use tag::Memory;
+use traces::trace_text;
+
+/// Runs the script, and makes its page.
+fn page_of_script(
+    alloc: Global,
+    script: Script,
+    most: u32,
+    drawn: Drawn<'_>,
+) -> Result<Vec<u8>, Memory>
+    ensures { IfOk result (λ page. (markup : Markup)
+        × IsTracePage script most drawn.entry markup × (page.items ≡ page_text markup)) }
+{
+    let RecordedScene { scene, history } = recorded_scene(alloc, &script, most)?;
+    let trace = trace_text(alloc, script, most)?;
+    let numbered = numbered_of(alloc, history)?;
+    let shown = RunShown {
+        scene: &scene,
+        trace: trace.as_slice(),
+        numbered: &numbered,
+        drawn,
+    };
+    page_of(alloc, &shown)
+}
+
+/// Reads the script, runs it, and writes its page: a diagram of the messages of the run, with `most`
+/// steps at most, the trace of `trace_command`, and the pictures of the history that the run records,
+/// as the page of `draw_tags_command` has them.
+///
+/// The steps and the history are those of `simulate_command`; the lines that a picture names are
+/// those of the file that it writes. What goes to `out` is that page, once the whole of it is made, or
+/// after a failure of `out` a beginning of it; nothing where the script has a fault. The status is
+/// `Good` whatever the verdicts on the keys. A failure is said on `errors`.
+pub fn trace_page_command<'a, S: CountedRead, W: CountedWrite, E: CountedWrite>(
+    alloc: Global,
+    script: &mut Source<'a, S>,
+    most: u32,
+    drawn: Drawn<'_>,
+    out: &mut W,
+    errors: &mut E,
+) -> Status
+    ensures ends { EndsTracePage most drawn.entry
+        (states S.remaining S.failures script.old.reader script.new.reader)
+        (states W.contents W.failures out.old out.new)
+        result }
+    ensures faulty { result ≡ Status.Format → out.new ≡ out.old }
+    ensures failed { result ≡ Status.Failed
+        → (out.new ≡ out.old) ⊎ IsOneMore (W.failures out.old) (W.failures out.new) }
+    ensures said { ReportsEnd (errors.new ≡ errors.old) ⊥
+        (IsOfTrace
+        (file_states S.remaining S.failures script.old script.new)
+        (states W.contents W.failures out.old out.new))
+        (states E.contents E.failures errors.old errors.new)
+        result }
+{
+    let script = match script_in(alloc, script) {
+        Ok(script) => script,
+        Err(failure) => return failure.report(errors),
+    };
+    match page_of_script(alloc, script, most, drawn) {
+        Ok(page) => send(page.as_slice(), out, errors),
+        Err(_) => Failure::Memory.report(errors),
+    }
+}

@@ -1,0 +1,27 @@
+//! The words, names of classes and styles of a page: of no contract, all in this file. The rest of
+//! them stands with diagrams and pictures.
+
+// ---- names of classes
+
+pub(crate) const STEPS: &str = "sum";
+
+pub(crate) const TOLD: &str = "told";
+
+// ---- words
+
+pub(crate) const LANGUAGE: &str = "en";
+
+pub(crate) const TITLE: &str = "abd trace";
+
+pub(crate) const STEPS_SHOWN: &str = "Steps shown: ";
+
+pub(crate) const LEFT_OUT: &str = ", left out: ";
+
+pub(crate) const EACH_STEP: &str = "The steps in words";
+
+// ---- styles
+
+/// Beside those of diagrams and pictures: without quotation marks and other marks of HTML, so that
+/// it stands as it is.
+pub(crate) const STYLE: &str = ".told summary{cursor:pointer;color:var(--soft)}\
+.told pre{overflow-x:auto;margin:.5rem 0 2rem;font-family:ui-monospace,monospace;font-size:13px}";
