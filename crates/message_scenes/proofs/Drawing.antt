@@ -1,60 +1,72 @@
 -- Steps, drawn one after another.
-use Rattle.std.proofs.Common.{ℕ, ◌≡◌, ◌+◌, ◌-◌, ◌==◌, Bool, false, cond, List, [], ◌∷◌, ◌++◌, refl, sym, ap, ◌∙◌, append_assoc, append-nil}
-use Rattle.std.specs.Prelude.{min}
-use Rattle.std.proofs.Common.{inl, inr, eqb-true}
-use Rattle.std.proofs.lemmas.Bool.{cases_Bool}
-use Rattle.world_steps.specs.Runs.{after_from, next}
+use Rattle.std.proofs.Common.{ℕ, ◌≡◌, true, false, List, [], ◌∷◌, ◌++◌, flat_map, Option, None, Some, is_some}
+use Rattle.std.proofs.Common.{refl, sym, ap, ◌∙◌, subst, append-nil}
+use Rattle.world_steps.specs.Refusals.{refusal_of}
+use Rattle.world_steps.specs.declared.refusal.Refusal.{Refusal}
 use Rattle.world_steps.specs.declared.step.Step.{Step}
 use Rattle.world_steps.specs.declared.system.System.{System}
 use Rattle.fault_script.specs.declared.command.NumberedCommand.{NumberedCommand}
-use Rattle.message_scenes.specs.Shapes.{with_step}
-use Rattle.message_scenes.specs.Sketches.{Drawn, drawn_all, drawn_on, last_count}
-use Rattle.message_scenes.specs.Taken.{TakenStep, all_taken, taken_of}
+use Rattle.fault_script.specs.declared.command.Script.{Script}
+use Rattle.observed_runs.specs.Events.{notices, tries}
+use Rattle.observed_runs.specs.Observing.{ObservesRun}
+use Rattle.observed_runs.specs.declared.notice.Notice.{Notice}
+use Rattle.observed_runs.proofs.Observing.{all_added}
+use Rattle.observed_runs.proofs.Quotas.{GoesOn, HasRoom, IsFull, one_omitted, one_shown}
+use Rattle.message_scenes.specs.Shapes.{Shapes, no_shapes, with_step, with_steps}
+use Rattle.message_scenes.specs.Sketches.{Draws, DrawsOn, IsDrawing, IsSketched, IsSketchOf, frame_of, shapes_of}
+use Rattle.message_scenes.specs.Taken.{TakenStep, taken_in, taken_of, taken_step, taken_unless}
+use Rattle.message_scenes.specs.declared.scene.MessageScene.{MessageScene}
+use Rattle.message_scenes.specs.declared.sketch.Sketch.{Sketch}
 
--- a number that isn't 0
-not_zero : (n : ℕ) → (n ≡ 0 → ⊥) → (n == 0) ≡ false
-not_zero n none = elim (cases_Bool (n == 0)) [
-  | inl is ↦ absurd (none (eqb-true n 0 is))
-  | inr other ↦ other
-]
+-- the shapes of some steps, and of one more
+steps_on : (shapes : Shapes) (taken : List TakenStep) (t : TakenStep) → with_step (with_steps shapes taken) t ≡ with_steps shapes (taken ++ t ∷ [])
+steps_on shapes [] t = refl
+steps_on shapes (first ∷ taken) t = steps_on (with_step shapes first) taken t
 
--- a step that is left out
-abbrev pub left_out : Drawn → Drawn
-left_out d = record { shapes = d.shapes; left = d.left; omitted = min (d.omitted + 1) last_count }
+module _ (old new : Sketch) (t : TakenStep) (on : GoesOn old.quota new.quota) where
+  -- a step that is drawn
+  pub step_drawn : HasRoom old.quota → shapes_of new.scene ≡ with_step (shapes_of old.scene) t
+      → new.scene.replicas ≡ old.scene.replicas → Draws old t new
+  step_drawn room more count = λ frame taken sketched.
+      one_shown (IsDrawing frame.replicas old.scene) (IsDrawing frame.replicas new.scene) old.quota new.quota t on frame.most taken sketched room
+      (λ shown is. record {
+        count = count ∙ is.count;
+        shapes = more ∙ ap (λ (s : Shapes). with_step s t) is.shapes ∙ steps_on no_shapes shown t;
+      })
 
--- a step that is shown
-abbrev pub shown : Drawn → TakenStep → Drawn
-shown d t = record { shapes = with_step d.shapes t; left = d.left - 1; omitted = d.omitted }
+  -- a step that is counted
+  pub step_omitted : IsFull old.quota → new.scene ≡ old.scene → Draws old t new
+  step_omitted full same = λ frame taken sketched.
+      one_omitted (IsDrawing frame.replicas old.scene) (IsDrawing frame.replicas new.scene) old.quota new.quota t on frame.most taken sketched full
+      (λ shown is. subst (λ (scene : MessageScene). IsDrawing frame.replicas scene shown) (sym same) is)
 
-pub drawn_more : (d : Drawn) (t : TakenStep) → (d.left ≡ 0 → ⊥) → drawn_on d t ≡ shown d t
-unfolding drawn_on
-drawn_more d t has_room = ap (λ (b : Bool). cond b (left_out d) (shown d t)) (not_zero d.left has_room)
+-- a step that is refused isn't drawn
+pub refused_unseen : (old : Sketch) (command : NumberedCommand) (s : System) (step : Step) (found : Option Refusal)
+    → found ≡ refusal_of s step → is_some found ≡ true → DrawsOn old (tries command s step) old
+unfolding taken_of
+refused_unseen old command s step None is refused = absurd cc
+refused_unseen old command s step (Some why) is refused = λ frame taken sketched.
+    subst (λ (all : List TakenStep). IsSketched frame all old)
+    (sym (append-nil taken) ∙ ap (λ (o : Option Refusal). taken ++ taken_unless command s step o) is) sketched
 
-pub drawn_less : (d : Drawn) (t : TakenStep) → d.left ≡ 0 → drawn_on d t ≡ left_out d
-unfolding drawn_on
-drawn_less d t full = ap (λ (b : Bool). cond b (left_out d) (shown d t)) (ap (λ (n : ℕ). n == 0) full)
+-- one that is taken is
+pub taken_seen : (old new : Sketch) (command : NumberedCommand) (s : System) (step : Step) (found : Option Refusal)
+    → found ≡ refusal_of s step → is_some found ≡ false → Draws old (taken_step command s step) new → DrawsOn old (tries command s step) new
+unfolding taken_of
+taken_seen old new command s step None is none draws = λ frame taken sketched.
+    subst (λ (o : Option Refusal). IsSketched frame (taken ++ taken_unless command s step o) new) is (draws frame taken sketched)
+taken_seen old new command s step (Some why) is none draws = absurd cc
 
--- steps and then further ones
-pub all_on : (d : Drawn) (taken further : List TakenStep) → drawn_all d (taken ++ further) ≡ drawn_all (drawn_all d taken) further
-all_on d [] further = refl
-all_on d (t ∷ taken) further = all_on (drawn_on d t) taken further
+-- a notice adds no step
+pub notice_unseen : (old : Sketch) (line : ℕ) (notice : Notice) → DrawsOn old (notices line notice) old
+notice_unseen old line notice = λ frame taken sketched.
+    subst (λ (all : List TakenStep). IsSketched frame all old) (sym (append-nil taken)) sketched
 
-pub more_steps : (first old new : Drawn) (taken further : List TakenStep) → old ≡ drawn_all first taken → new ≡ drawn_all old further
-    → new ≡ drawn_all first (taken ++ further)
-more_steps first old new taken further before more =
-    more ∙ ap (λ (d : Drawn). drawn_all d further) before ∙ sym (all_on first taken further)
-
--- three, one after another
-pub three_on : (d : Drawn) (a b c : List TakenStep) → drawn_all (drawn_all (drawn_all d a) b) c ≡ drawn_all d (a ++ (b ++ (c ++ [])))
-three_on d a b c =
-    ap (drawn_all (drawn_all (drawn_all d a) b)) (sym (append-nil c)) ∙ sym (all_on (drawn_all d a) b (c ++ []))
-    ∙ sym (all_on d a (b ++ (c ++ [])))
-
--- those of steps that are taken, and of further ones
-pub taken_on : (command : NumberedCommand) (s : System) (steps further : List Step)
-    → all_taken command s (steps ++ further) ≡ all_taken command s steps ++ all_taken command (after_from s steps) further
-taken_on command s [] further = refl
-taken_on command s (step ∷ steps) further =
-    ap (λ (taken : List TakenStep). taken_of command s step ++ taken) (taken_on command (next s step) steps further)
-    ∙ sym (append_assoc (taken_of command s step) (all_taken command (next s step) steps)
-    (all_taken command (after_from (next s step) steps) further))
+-- a script is drawn
+pub script_drawn : (script : Script) (most : ℕ) (last : System) (old new : Sketch) → IsSketched (frame_of script most) [] old
+    → ObservesRun DrawsOn script last old new → IsSketchOf script most last new
+script_drawn script most last old new none run = record {
+  taken = flat_map taken_in run.events;
+  takes = record { events = run.events; happen = run.happen; are = refl };
+  sketched = all_added IsSketched taken_in old new run.events run.observes (frame_of script most) [] none;
+}

@@ -1,10 +1,5 @@
 pub mod Changed
 pub mod Drawing
-pub mod Strides
-pub mod Rounds
-pub mod SettleSteps
-pub mod Commands
-pub mod FirstSteps
 pub mod Rising
 pub mod Scenes
 pub mod Underway
@@ -14,5 +9,4 @@ pub mod Stepping
 pub mod Chain
 pub mod ShownCopies
 pub mod More
-pub mod Runs
 pub mod ShownCalls

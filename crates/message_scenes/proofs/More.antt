@@ -7,11 +7,10 @@ use Rattle.message_scenes.specs.Arrows.{arrows_after, arrows_by, copy_arrow, is_
 use Rattle.message_scenes.specs.Calls.{calls_after, calls_by}
 use Rattle.message_scenes.specs.Replicas.{change_of, downs_after}
 use Rattle.message_scenes.specs.Shapes.{joined_after, with_step}
-use Rattle.message_scenes.specs.Sketches.{drawn_by, drawn_on, shapes_of}
+use Rattle.message_scenes.specs.Sketches.{shapes_of}
 use Rattle.message_scenes.specs.Taken.{TakenStep}
 use Rattle.message_scenes.specs.declared.arrows.Arrow.{Arrow}
 use Rattle.message_scenes.specs.declared.scene.MessageScene.{MessageScene}
-use Rattle.message_scenes.specs.declared.sketch.Sketch.{Sketch}
 use Rattle.message_scenes.proofs.Changed.{find_here, find_none}
 
 pub shapes_more : (old new : MessageScene) (t : TakenStep) (row sent recorded : ℕ)
@@ -30,17 +29,6 @@ shapes_more old new t row sent recorded is_row is_sent is_recorded rows joined a
   changes = (changes ∙ (λ j. old.changes.items ++ option_to_list (change_of (is_row j) t.before t.step))) i;
   downs = (downs ∙ (λ j. downs_after (is_row j) t.step old.downs.items)) i;
 }
-
--- a step that is shown
-pub drawn_shown : (old mid : Sketch) (new : MessageScene) (t : TakenStep)
-    → drawn_on (drawn_by old) t ≡ record (drawn_by mid) { shapes = with_step (shapes_of old.scene) t }
-    → mid.scene ≡ record old.scene { omitted = mid.scene.omitted } → shapes_of new ≡ with_step (shapes_of mid.scene) t
-    → new.omitted ≡ mid.scene.omitted → drawn_by (record mid { scene = new }) ≡ drawn_on (drawn_by old) t
-drawn_shown old mid new t shown same more left_out =
-    let all : shapes_of new ≡ with_step (shapes_of old.scene) t = more ∙ ap (λ (s : MessageScene). with_step (shapes_of s) t) same in
-    let now : drawn_by (record mid { scene = new }) ≡ record (drawn_by mid) { shapes = with_step (shapes_of old.scene) t } =
-    λ i. record { shapes = all i; left = mid.left; omitted = left_out i } in
-    now ∙ sym shown
 
 -- a further arrow, like the first one of the flight under way
 pub copied_found : (f row : ℕ) (arrows : List Arrow) (k : ℕ) (d new : Arrow) → position (is_under_way f) arrows ≡ Some k

@@ -36,7 +36,7 @@ use Rattle.message_scenes.specs.CallBars.{ShowCalls, invocation_of, is_invocatio
 use Rattle.message_scenes.specs.Calls.{calls_after, calls_with, closed, is_of_call, is_pending_of, noted}
 use Rattle.message_scenes.specs.Lists.{change_first}
 use Rattle.message_scenes.specs.Shapes.{Shapes, no_shapes, with_step, with_steps}
-use Rattle.message_scenes.specs.Taken.{TakenStep, TakesAll}
+use Rattle.message_scenes.specs.Taken.{TakenStep, TakesAll, taken_step}
 use Rattle.message_scenes.specs.declared.calls.CallBar.{CallBar}
 use Rattle.message_scenes.specs.declared.calls.CallEnd.TheVariants as ending
 use Rattle.message_scenes.proofs.Chain.{AreChained, chain_all, chain_first}
@@ -150,11 +150,8 @@ up_rows s number is_up None = inl refl
 up_rows s number is_up (Some node) = inl refl
 
 -- ---- steps
-abbrev step_of : NumberedCommand → System → Step → TakenStep
-step_of command s step = record { command = command; before = s; step = step; after = system_after s step }
-
 calls_on : (row : ℕ) (command : NumberedCommand) (s : System) (bars : List CallBar) (x : Step) → ShowCalls s.history.rows bars
-    → ShowCalls (system_after s x).history.rows (calls_after row (step_of command s x) bars)
+    → ShowCalls (system_after s x).history.rows (calls_after row (taken_step command s x) bars)
 unfolding calls_after
 calls_on row command s bars (step.Join name) shown = grown_calls row s.history.rows s.history.rows bars (inl refl) shown
 calls_on row command s bars (step.Invoke name key action) shown =
@@ -182,7 +179,7 @@ calls_on row command s bars (step.StartReplica number) shown =
     (up_rows s number true (slice_get s.nodes number)) shown
 
 step_on : (command : NumberedCommand) (s : System) (x : Step) (shapes : Shapes) → ShowCalls s.history.rows shapes.calls
-    → ShowCalls (system_after s x).history.rows (with_step shapes (step_of command s x)).calls
+    → ShowCalls (system_after s x).history.rows (with_step shapes (taken_step command s x)).calls
 unfolding with_step
 step_on command s x shapes shown = calls_on (length shapes.rows) command s shapes.calls x shown
 
@@ -190,7 +187,7 @@ all_on : (s last : System) (taken : List TakenStep) (shapes : Shapes) → AreCha
     → ShowCalls (recorded_after s.history.rows taken) (with_steps shapes taken).calls
 all_on s last taken shapes (ends a) shown = shown
 all_on s last taken shapes (begins command a x others end none rest) shown =
-    all_on (system_after a x) end others (with_step shapes (step_of command a x)) rest (step_on command a x shapes shown)
+    all_on (system_after a x) end others (with_step shapes (taken_step command a x)) rest (step_on command a x shapes shown)
 
 pub calls_shown : (config : Config) (commands : List NumberedCommand) (last : System) (taken : List TakenStep) (most : ℕ)
     → TakesAll (opening config) commands last taken

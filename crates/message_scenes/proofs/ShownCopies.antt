@@ -17,24 +17,20 @@ use Rattle.fault_script.specs.declared.command.NumberedCommand.{NumberedCommand}
 use Rattle.message_scenes.specs.Arrows.{arrows_after}
 use Rattle.message_scenes.specs.Copies.{ShowCopies}
 use Rattle.message_scenes.specs.Shapes.{Shapes, no_shapes, with_step, with_steps}
-use Rattle.message_scenes.specs.Taken.{TakenStep, TakesAll}
+use Rattle.message_scenes.specs.Taken.{TakenStep, TakesAll, taken_step}
 use Rattle.message_scenes.proofs.Chain.{AreChained, chain_all, chain_first}
 use Rattle.message_scenes.proofs.Chain.AreChained.{begins, ends}
 use Rattle.message_scenes.proofs.Copying.{Shown}
 use Rattle.message_scenes.proofs.Stepping.{step_shown}
 
--- a step, taken
-abbrev step_of : NumberedCommand → System → Step → TakenStep
-step_of command s step = record { command = command; before = s; step = step; after = system_after s step }
-
 -- one step more
 shapes_on : (earlier : List TakenStep) (command : NumberedCommand) (s : System) (step : Step) (shapes : Shapes)
     → Shown earlier (length shapes.rows) s.pool shapes.arrows → refusal_of s step ≡ None
-    → Shown (earlier ++ step_of command s step ∷ []) (length (with_step shapes (step_of command s step)).rows) (system_after s step).pool
-    (with_step shapes (step_of command s step)).arrows
+    → Shown (earlier ++ taken_step command s step ∷ []) (length (with_step shapes (taken_step command s step)).rows) (system_after s step).pool
+    (with_step shapes (taken_step command s step)).arrows
 unfolding with_step arrows_after
 shapes_on earlier command s step shapes so_far none =
-    let t : TakenStep = step_of command s step in
+    let t : TakenStep = taken_step command s step in
     let grows = length-append shapes.rows (command ∷ []) in
     let long : length shapes.rows + 1 ≡ length (shapes.rows ++ command ∷ []) = omega (arith, grows) in
     subst (λ (n : ℕ). Shown (earlier ++ t ∷ []) n (system_after s step).pool (with_step shapes t).arrows) long
@@ -46,7 +42,7 @@ all_on : (s last : System) (earlier taken : List TakenStep) (shapes : Shapes) �
 all_on s last earlier taken shapes (ends a) so_far =
     subst (λ (all : List TakenStep). ShowCopies all shapes.arrows) (sym (append-nil earlier)) so_far.copies
 all_on s last earlier taken shapes (begins command a step others end none rest) so_far =
-    let t : TakenStep = step_of command a step in
+    let t : TakenStep = taken_step command a step in
     subst (λ (all : List TakenStep). ShowCopies all (with_steps (with_step shapes t) others).arrows) (append_assoc earlier (t ∷ []) others)
     (all_on (system_after a step) end (earlier ++ t ∷ []) others (with_step shapes t) rest (shapes_on earlier command a step shapes so_far none))
 

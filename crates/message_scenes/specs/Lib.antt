@@ -6,6 +6,5 @@ pub mod Taken
 pub mod Shapes
 pub mod Sketches
 pub mod Scenes
-pub mod Running
 pub mod Copies
 pub mod CallBars

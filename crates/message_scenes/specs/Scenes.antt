@@ -8,8 +8,8 @@ use Rattle.recorder.specs.declared.part.Call.{Call}
 use Rattle.world_steps.specs.Systems.{opening}
 use Rattle.world_steps.specs.declared.system.System.{System}
 use Rattle.fault_script.specs.declared.command.Script.{Script}
+use Rattle.observed_runs.specs.Quotas.{last_count}
 use Rattle.message_scenes.specs.Shapes.{Shapes, no_shapes, with_steps}
-use Rattle.message_scenes.specs.Sketches.{last_count}
 use Rattle.message_scenes.specs.Taken.{TakenStep, TakesAll}
 use Rattle.message_scenes.specs.declared.scene.MessageScene.{MessageScene}
 

@@ -1,34 +1,16 @@
--- A scene under way: the first steps are shown, and those after them are counted.
-use Rattle.std.specs.Prelude.{ℕ, ◌+◌, ◌-◌, ◌==◌, List, [], ◌∷◌, min, if◌then◌else◌}
-use Rattle.message_scenes.specs.Shapes.{Shapes, no_shapes, with_step}
-use Rattle.message_scenes.specs.Taken.{TakenStep}
+-- A scene under way: of the steps that were taken the first ones are drawn, and those after them
+-- are counted.
+use Rattle.std.specs.Prelude.{ℕ, ◌≡◌, List, [], ◌∷◌, ◌++◌, length}
+use Rattle.world_steps.specs.Systems.{opening}
+use Rattle.world_steps.specs.declared.system.System.{System}
+use Rattle.fault_script.specs.declared.command.Script.{Script}
+use Rattle.observed_runs.specs.Events.{Event}
+use Rattle.observed_runs.specs.Observing.{Adds}
+use Rattle.observed_runs.specs.Quotas.{ShowsFirst}
+use Rattle.message_scenes.specs.Shapes.{Shapes, no_shapes, with_steps}
+use Rattle.message_scenes.specs.Taken.{TakenStep, TakesAll, taken_in}
 use Rattle.message_scenes.specs.declared.scene.MessageScene.{MessageScene}
 use Rattle.message_scenes.specs.declared.sketch.Sketch.{Sketch}
-
--- the greatest count of steps that are left out
-abbrev pub last_count : ℕ
-last_count = 18446744073709551615
-
--- the shapes, how many further steps are shown, and how many were left out
-pub record Drawn : Type 0 where
-  pub shapes : Shapes
-  pub left : ℕ
-  pub omitted : ℕ
-
--- before the first step, where so many are shown
-abbrev pub undrawn : ℕ → Drawn
-undrawn most = record { shapes = no_shapes; left = most; omitted = 0 }
-
--- a step more: it is shown if there is room for one, and else left out
-unfoldable pub drawn_on : Drawn → TakenStep → Drawn
-drawn_on d t = if d.left == 0
-    then record d { omitted = min (d.omitted + 1) last_count }
-    else record d { shapes = with_step d.shapes t; left = d.left - 1 }
-
--- some steps more
-abbrev pub drawn_all : Drawn → List TakenStep → Drawn
-drawn_all d [] = d
-drawn_all d (t ∷ taken) = drawn_all (drawn_on d t) taken
 
 -- the shapes of a scene
 abbrev pub shapes_of : MessageScene → Shapes
@@ -41,10 +23,36 @@ shapes_of scene = record {
   downs = scene.downs.items;
 }
 
--- what a sketch shows
-abbrev pub drawn_by : Sketch → Drawn
-drawn_by sketch = record {
-  shapes = shapes_of sketch.scene;
-  left = sketch.left;
-  omitted = sketch.scene.omitted;
-}
+-- the scene has that count of replicas, and the shapes of the steps
+pub record IsDrawing (replicas : ℕ) (scene : MessageScene) (taken : List TakenStep) : Type 0 where
+  pub count : scene.replicas ≡ replicas
+  pub shapes : shapes_of scene ≡ with_steps no_shapes taken
+
+-- how many replicas there are, and how many steps are drawn at most
+pub record Frame : Type 0 where
+  pub replicas : ℕ
+  pub most : ℕ
+
+-- the frame of a script's scene with at most so many steps
+abbrev pub frame_of : Script → ℕ → Frame
+frame_of script most = record { replicas = length script.config.quorums.votes; most = most }
+
+-- of the steps the first ones are drawn in the frame, and those after them are counted
+abbrev pub IsSketched : Frame → List TakenStep → Sketch → Type 0
+IsSketched frame taken sketch =
+    ShowsFirst (IsDrawing frame.replicas sketch.scene) frame.most taken sketch.quota
+
+-- what the first sketch is of steps, the second is of these and that step
+abbrev pub Draws : Sketch → TakenStep → Sketch → Type 0
+Draws old t new = (frame : Frame) (taken : List TakenStep) → IsSketched frame taken old
+    → IsSketched frame (taken ++ t ∷ []) new
+
+-- the sketch goes on by the step that is tried, if it is taken
+abbrev pub DrawsOn : Sketch → Event → Sketch → Type 0
+DrawsOn = Adds IsSketched taken_in
+
+-- the sketch is that of a run of the script, which leaves that system
+pub record IsSketchOf (script : Script) (most : ℕ) (last : System) (sketch : Sketch) : Type 0 where
+  pub taken : List TakenStep
+  pub takes : TakesAll (opening script.config) script.commands.items last taken
+  pub sketched : IsSketched (frame_of script most) taken sketch

@@ -9,13 +9,11 @@
 
 mod arrows;
 mod calls;
-mod finishing;
 pub mod laws;
 mod replicas;
 mod scene;
 mod script_scene;
 mod sketch;
-mod walking;
 
 pub use arrows::{Arrow, ArrowEnd};
 pub use calls::{CallBar, CallEnd, PlacedNote};

@@ -8,6 +8,7 @@ ghost use Rattle.message_scenes.specs.Calls.{calls_by};
 ghost use Rattle.message_scenes.specs.Replicas.{change_of, downs_after};
 ghost use Rattle.message_scenes.specs.Shapes.{joined_after, no_shapes, with_step};
 ghost use Rattle.message_scenes.specs.Sketches.{shapes_of};
+ghost use Rattle.message_scenes.specs.Taken.{taken_step};
 
 use crate::arrows::{Arrow, add_arrows};
 use crate::calls::{CallBar, add_calls};
@@ -110,6 +111,7 @@ impl MessageScene {
             omitted: 0,
         }
     }
+
     /// Takes a step that isn't refused, and adds its row and its shapes.
     pub(crate) fn add(
         &mut self,
@@ -118,12 +120,8 @@ impl MessageScene {
         step: Step,
     ) -> Result<(), Memory>
         requires { refusal_of world.old step ≡ None }
-        ensures shapes { OnOk result (shapes_of self.new ≡ with_step (shapes_of self.old) (record {
-          command = command.now;
-          before = world.old;
-          step = step;
-          after = system_after world.old step;
-        })) }
+        ensures shapes { OnOk result (shapes_of self.new
+            ≡ with_step (shapes_of self.old) (taken_step command.now world.old step)) }
         ensures system { OnOk result (world.new ≡ system_after world.old step) }
         ensures replicas { OnOk result (self.new.replicas ≡ self.old.replicas) }
         ensures omitted { OnOk result (self.new.omitted ≡ self.old.omitted) }

@@ -1,18 +1,16 @@
 //! The scene of a script's run.
-ghost use Rattle.std.specs.Prelude.{◌≡◌, IfOk, OnOk};
-ghost use Rattle.fault_script.specs.declared.command.Command.{Command};
-ghost use Rattle.message_scenes.specs.Running.{DrawsOn, IsSketchOf};
+ghost use Rattle.std.specs.Prelude.{IfOk};
 ghost use Rattle.message_scenes.specs.Scenes.{IsRecordedScene, IsRisingOf, IsSceneOf};
+ghost use Rattle.message_scenes.specs.Sketches.{IsSketchOf};
 
 use crate::MessageScene;
-use crate::finishing::finish;
 use crate::sketch::Sketch;
-use crate::walking::randomize;
-use fault_script::{Command, NumberedCommand, Script};
+use fault_script::Script;
+use observed_runs::observe;
 use recorder::History;
 use std::alloc::Global;
 use tag::{ClientId, Memory};
-use world_steps::{Step, World};
+use world_steps::World;
 
 /// The scene of a run, and the history that the run records.
 #[derive(Debug, Drop)]
@@ -21,50 +19,12 @@ pub struct RecordedScene {
     pub history: History,
 }
 
-/// Takes the step that is the command, if nothing refuses it, and shows it.
-fn take_step(
-    sketch: &mut Sketch,
-    world: &mut World,
-    numbered: &NumberedCommand,
-    step: &Step,
-) -> Result<(), Memory>
-    requires { numbered.now.command ≡ Command.Step step.now }
-    ensures { OnOk result (DrawsOn sketch.old world.old numbered.now.line numbered.now.command
-        sketch.new world.new) }
-{
-    let copy = step.copy()?;
-    sketch.step(world, numbered, copy)?;
-    Ok(())
-}
-
-/// Runs the command, and shows its steps.
-fn run(
-    alloc: Global,
-    sketch: &mut Sketch,
-    world: &mut World,
-    numbered: &NumberedCommand,
-) -> Result<(), Memory>
-    ensures { OnOk result (DrawsOn sketch.old world.old numbered.now.line numbered.now.command
-        sketch.new world.new) }
-{
-    let line = numbered.line;
-    match &numbered.command {
-        Command::Step(step) => take_step(sketch, world, numbered, step),
-        Command::Finish(client) => finish(sketch, world, line, *client),
-        Command::Random { seed, count } => randomize(alloc, sketch, world, line, *seed, *count),
-    }
-}
-
-/// Runs all commands of the script, and shows their steps. The sketch, and the world that they leave.
+/// Runs the script, and draws its steps. The sketch, and the world that they leave.
 fn sketch_script(alloc: Global, script: &Script, most: u32) -> Result<(Sketch, World), Memory>
-    ensures { IfOk result (λ drawn. IsSketchOf script.now.config script.now.commands.items most
-        drawn.1 drawn.0) }
+    ensures { IfOk result (λ drawn. IsSketchOf script.now most drawn.1 drawn.0) }
 {
     let mut sketch = Sketch::new(alloc, script.config.replicas(), most);
-    let mut world = World::new(alloc, script.config)?;
-    for numbered in &script.commands {
-        run(alloc, &mut sketch, &mut world, numbered)?;
-    }
+    let world = observe(alloc, &mut sketch, script)?;
     Ok((sketch, world))
 }
 
@@ -84,8 +44,9 @@ fn raise(names: &mut Vec<ClientId>)
 pub fn recorded_scene(alloc: Global, script: &Script, most: u32) -> Result<RecordedScene, Memory>
     ensures { IfOk result (λ run. IsRecordedScene script.now most run.scene run.history) }
 {
-    let (Sketch { mut scene, .. }, world) = sketch_script(alloc, script, most)?;
+    let (Sketch { mut scene, quota }, world) = sketch_script(alloc, script, most)?;
     raise(&mut scene.clients);
+    scene.omitted = quota.omitted;
     Ok(RecordedScene {
         scene,
         history: world.into_history(),

@@ -1,5 +1,6 @@
 -- What the commands of a script make of an observer.
-use Rattle.std.proofs.Common.{ℕ, ◌≡◌, List, [], ◌∷◌, ◌++◌, length, sym, ap, subst, append_assoc, append-nil}
+use Rattle.std.proofs.Common.{ℕ, ◌≡◌, ◌<◌, ◌+◌, List, [], ◌∷◌, ◌++◌, add-one, get_or, length, take, sym, ap, ◌∙◌, subst, append_assoc, append-nil}
+use Rattle.std.proofs.Math.Seq.{take-suc}
 use Rattle.world_settle.specs.Refusing.{IsUnsettled, MaySettle}
 use Rattle.world_settle.specs.declared.errors.SettleError.{SettleError}
 use Rattle.world_steps.specs.Runs.{next}
@@ -30,6 +31,12 @@ all_push a b c xs x events further (goes s mid last numbered others first rest b
     let P : List Event → Type 0 = λ every. HappensAll s (numbered ∷ (others ++ x ∷ [])) c every in
     subst P (sym (append_assoc first rest further))
     (goes s mid c numbered (others ++ x ∷ []) first (rest ++ further) before (all_push mid last c others x rest further all one))
+
+-- a front of commands with one more
+pub front_more : (commands : List NumberedCommand) (i : ℕ) (numbered : NumberedCommand) → i < length commands → numbered ≡ get_or commands i numbered
+    → take (i + 1) commands ≡ take i commands ++ numbered ∷ []
+front_more commands i numbered below is = ap (λ (n : ℕ). take n commands) (add-one i) ∙ take-suc commands i numbered below
+    ∙ ap (λ (one : NumberedCommand). take i commands ++ one ∷ []) (sym is)
 
 module _ {O : Type 0} (sees : O → Event → O → Type 0) where
   -- a step
@@ -107,9 +114,8 @@ module _ {O : Type 0} (sees : O → Event → O → Type 0) where
 
   -- all of them
   pub all_seen : (script : Script) (commands : List NumberedCommand) (old new : O) (last : System) → commands ≡ script.commands.items
-      → HasSeen (opening script.config) commands old last new → ObservesRun sees script old new
+      → HasSeen (opening script.config) commands old last new → ObservesRun sees script last old new
   all_seen script commands old new last are seen = record {
-    last = last;
     events = seen.events;
     happen = subst (λ (all : List NumberedCommand). HappensAll (opening script.config) all last seen.events) are seen.happen;
     observes = seen.observes;

@@ -1,7 +1,6 @@
 -- The steps that complete a call, taken and seen one after another.
-use Rattle.std.proofs.Common.{ℕ, ◌≡◌, ◌+◌, ◌≤◌, true, List, [], ◌∷◌, ◌++◌, length, refl, sym, ap, ◌∙◌, subst, arith, append_assoc, append-nil, length-append}
+use Rattle.std.proofs.Common.{ℕ, ◌≡◌, ◌+◌, ◌≤◌, true, List, [], ◌∷◌, ◌++◌, length, refl, sym, ap, ◌∙◌, subst, arith, append_assoc, length-append}
 use Rattle.world_settle.specs.Refusing.{MaySettle}
-use Rattle.world_settle.specs.SettleAnswers.{TakesAll}
 use Rattle.world_settle.specs.Settling.{AreSettleSteps, candidates, counted_at, round}
 use Rattle.world_settle.specs.Settling.AreSettleSteps.{answers, asks}
 use Rattle.world_settle.proofs.Forward.{Going, going_none, going_on, going_taken}

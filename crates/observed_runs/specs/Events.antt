@@ -1,5 +1,6 @@
 -- What happens in a run of a script: the steps that are tried, each in its system, and what there
--- is to say of commands that take several. A step that is refused is tried, too, and changes nothing.
+-- is to say of commands that take several. A step that is refused is tried, too, and changes
+-- nothing.
 use Rattle.std.specs.Prelude.{ℕ, zero, suc, List, [], ◌∷◌, ◌++◌, length}
 use Rattle.random_steps.specs.Choices.{draw, generator_of, step_of}
 use Rattle.world_settle.specs.Refusing.{IsUnsettled, MaySettle}
@@ -67,4 +68,5 @@ pub data HappensAll : System → List NumberedCommand → System → List Event 
   done : (s : System) → HappensAll s [] s []
   goes : (s mid last : System) (numbered : NumberedCommand) (others : List NumberedCommand)
       (events further : List Event) → Happens numbered.line s numbered.command mid events
-      → HappensAll mid others last further → HappensAll s (numbered ∷ others) last (events ++ further)
+      → HappensAll mid others last further
+      → HappensAll s (numbered ∷ others) last (events ++ further)

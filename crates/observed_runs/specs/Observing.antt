@@ -12,9 +12,8 @@ module _ {O : Type 0} (sees : O → Event → O → Type 0) where
     first : (old mid new : O) (event : Event) (events : List Event) → sees old event mid
         → Observes mid events new → Observes old (event ∷ events) new
 
-  -- it sees all that happens in a run of the script
-  pub record ObservesRun (script : Script) (old new : O) : Type 0 where
-    pub last : System
+  -- it sees all that happens in a run of the script, which leaves that system
+  pub record ObservesRun (script : Script) (last : System) (old new : O) : Type 0 where
     pub events : List Event
     pub happen : HappensAll (opening script.config) script.commands.items last events
     pub observes : Observes old events new

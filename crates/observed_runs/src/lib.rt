@@ -2,7 +2,7 @@
 //!
 //! An observer is given each step that the run tries, in the world that the steps before it left,
 //! and takes it there. It is told where a command of several steps begins, and what came of it. So
-//! what is said or drawn of a run is said of its very steps, and its world isn't kept.
+//! what is said or drawn of a run is said of its very steps. Only the world at the end is kept.
 #![tactic(auto)]
 
 mod finishing;

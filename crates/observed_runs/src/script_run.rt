@@ -1,6 +1,5 @@
 //! The run of a script, observed.
-ghost use Rattle.std.specs.Prelude.{OnOk};
-ghost use Rattle.world_steps.specs.Systems.{opening};
+ghost use Rattle.std.specs.Prelude.{◌≡◌, IfOk, OnOk};
 ghost use Rattle.fault_script.specs.declared.command.Command.{Command};
 ghost use Rattle.observed_runs.specs.Observing.{ObservesRun};
 ghost use Rattle.observed_runs.specs.Running.{ObservesOn};
@@ -13,21 +12,19 @@ use std::alloc::Global;
 use tag::Memory;
 use world_steps::{Step, World};
 
-/// Runs the command of that line which is one step.
+/// Runs the command, which is that step.
 fn take<O: Observer>(
     observer: &mut O,
     world: &mut World,
-    line: u64,
-    step: Step,
+    numbered: &NumberedCommand,
+    step: &Step,
 ) -> Result<(), Memory>
-    ensures { OnOk result (ObservesOn O.sees observer.old world.old line
-        (Command.Step step) observer.new world.new) }
+    requires { numbered.now.command ≡ Command.Step step.now }
+    ensures { OnOk result (ObservesOn O.sees observer.old world.old numbered.now.line
+        numbered.now.command observer.new world.new) }
 {
-    let command = NumberedCommand {
-        line,
-        command: Command::Step(step.copy()?),
-    };
-    observer.step(world, &command, step)?;
+    let copy = step.copy()?;
+    observer.step(world, numbered, copy)?;
     Ok(())
 }
 
@@ -36,30 +33,34 @@ fn run<O: Observer>(
     alloc: Global,
     observer: &mut O,
     world: &mut World,
-    numbered: NumberedCommand,
+    numbered: &NumberedCommand,
 ) -> Result<(), Memory>
-    ensures { OnOk result (ObservesOn O.sees observer.old world.old numbered.line
-        numbered.command observer.new world.new) }
+    ensures { OnOk result (ObservesOn O.sees observer.old world.old numbered.now.line
+        numbered.now.command observer.new world.new) }
 {
-    let NumberedCommand { line, command } = numbered;
-    match command {
-        Command::Step(step) => take(observer, world, line, step),
-        Command::Finish(client) => finish(observer, world, line, client),
-        Command::Random { seed, count } => randomize(alloc, observer, world, line, seed, count),
+    let line = numbered.line;
+    match &numbered.command {
+        Command::Step(step) => take(observer, world, numbered, step),
+        Command::Finish(client) => finish(observer, world, line, *client),
+        Command::Random { seed, count } => randomize(alloc, observer, world, line, *seed, *count),
     }
 }
 
-/// Runs the script, and has the observer see all that happens.
+/// Runs the script, has the observer see all that happens, and answers the world at the end.
 ///
 /// The steps are those that `simulate` takes. `Memory` comes only where an allocation was refused,
 /// or from the observer.
-pub fn observe<O: Observer>(alloc: Global, observer: &mut O, script: Script) -> Result<(), Memory>
-    ensures { OnOk result (ObservesRun O.sees script observer.old observer.new) }
+pub fn observe<O: Observer>(
+    alloc: Global,
+    observer: &mut O,
+    script: &Script,
+) -> Result<World, Memory>
+    ensures { IfOk result (λ world.
+        ObservesRun O.sees script.now world observer.old observer.new) }
 {
-    let Script { config, commands } = script;
-    let mut world = World::new(alloc, config)?;
-    for numbered in commands {
+    let mut world = World::new(alloc, script.config)?;
+    for numbered in &script.commands {
         run(alloc, observer, &mut world, numbered)?;
     }
-    Ok(())
+    Ok(world)
 }

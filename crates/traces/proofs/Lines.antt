@@ -3,6 +3,7 @@ use Rattle.std.proofs.Common.{Vec, Global, Result, Ok, Err, ℕ, ◌≡◌, List
 use Rattle.std.specs.Prelude.{IfOk}
 use Rattle.std.proofs.lemmas.List.{flat_map_more}
 use Rattle.std.proofs.lemmas.List.Concat.{flat_map_single}
+use Rattle.world_steps.specs.declared.system.System.{System}
 use Rattle.fault_script.specs.declared.command.Script.{Script}
 use Rattle.observed_runs.specs.Events.{Event}
 use Rattle.observed_runs.specs.Observing.{ObservesRun}
@@ -27,11 +28,11 @@ module _ (old new : Telling) (line : List ℕ) (on : GoesOn old.quota new.quota)
       one_omitted (IsText old) (IsText new) old.quota new.quota line on most lines told full (λ shown is. text ∙ is)
 
 -- the telling of a script
-pub script_told : (script : Script) (most : ℕ) (old new : Telling) → IsTold most [] old → ObservesRun TellsOn script old new
-    → IsTellingOf script most new
-script_told script most old new none run = record {
+pub script_told : (script : Script) (most : ℕ) (last : System) (old new : Telling) → IsTold most [] old
+    → ObservesRun TellsOn script last old new → IsTellingOf script most new
+script_told script most last old new none run = record {
   lines = flat_map (λ (event : Event). event_line event ∷ []) run.events;
-  trace = record { last = run.last; events = run.events; happen = run.happen; told = flat_map_single event_line run.events };
+  trace = record { last = last; events = run.events; happen = run.happen; told = flat_map_single event_line run.events };
   told = all_added IsTold (λ (event : Event). event_line event ∷ []) old new run.events run.observes most [] none;
 }
 

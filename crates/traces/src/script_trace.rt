@@ -14,7 +14,7 @@ fn tell_script(alloc: Global, script: Script, most: u32) -> Result<Telling, Memo
     ensures { IfOk result (λ telling. IsTellingOf script most telling) }
 {
     let mut telling = Telling::new(alloc, most);
-    observe(alloc, &mut telling, script)?;
+    observe(alloc, &mut telling, &script)?;
     Ok(telling)
 }
 

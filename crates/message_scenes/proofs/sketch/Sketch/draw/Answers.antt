@@ -1,13 +1,21 @@
-use Rattle.std.proofs.Common.{sym}
+use Rattle.std.proofs.Common.{refl}
 use Rattle.std.proofs.lemmas.Result.{on_ok_weaker}
-use Rattle.message_scenes.proofs.More.{drawn_shown}
+use Rattle.message_scenes.specs.declared.sketch.Sketch.{Sketch}
+use Rattle.message_scenes.specs.Taken.{taken_step}
+use Rattle.message_scenes.proofs.Drawing.{step_drawn, step_omitted}
 use Rattle.message_scenes.proofs.sketch.Sketch.draw.Goals as goal
 
-pub returns-then-is_shown-clause-drawn : goal.returns-then-is_shown-clause-drawn
-returns-then-is_shown-clause-drawn c =
+pub returns-then-admits-clause-drawn : goal.returns-then-admits-clause-drawn
+returns-then-admits-clause-drawn c =
+    let new : Sketch = record { scene = c.add.new.self; quota = c.admits.new.self } in
     let h = c.in_ok-add.ensures in
-    drawn_shown c.args.self.now c.is_shown.new.self c.add.new.self _ (c.is_shown.ensures.shown c.if-is_shown.true _) c.is_shown.ensures.scene
-    h.shapes h.omitted
+    step_drawn c.args.self.now new (taken_step c.args.command.now c.args.world.now c.args.step) c.admits.ensures.after
+    (λ most count after. c.admits.ensures.shown most count after c.if-admits.true) h.shapes h.replicas
 
 pub returns-clause-drawn : goal.returns-clause-drawn
-returns-clause-drawn c = on_ok_weaker c.take.result (λ h. sym (c.is_shown.ensures.omitted c.if-is_shown.false _)) c.take.ensures
+returns-clause-drawn c =
+    let old = c.args.self.now in
+    let new : Sketch = record { scene = old.scene; quota = c.admits.new.self } in
+    on_ok_weaker c.take.result
+    (λ h. step_omitted old new (taken_step c.args.command.now c.args.world.now c.args.step) c.admits.ensures.after
+    (λ most count after. c.admits.ensures.omitted most count after c.if-admits.false) refl) c.take.ensures

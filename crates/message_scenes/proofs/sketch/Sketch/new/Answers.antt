@@ -1,0 +1,8 @@
+use Rattle.observed_runs.proofs.Quotas.{none_shown}
+use Rattle.message_scenes.specs.Sketches.{IsDrawing}
+use Rattle.message_scenes.proofs.sketch.Sketch.new.Goals as goal
+
+pub returns : goal.returns
+returns c =
+    none_shown (IsDrawing c.args.replicas c.new.result) c.args.most c.new-2.result
+    (record { count = c.new.ensures.replicas; shapes = c.new.ensures.shapes }) c.new-2.ensures
