@@ -1,0 +1,7 @@
+pub mod Texts
+pub mod Cuts
+pub mod Labels
+pub mod Places
+pub mod Images
+pub mod Samples
+pub mod Each

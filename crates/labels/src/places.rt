@@ -1,0 +1,25 @@
+//! Where things stand, in pixels.
+ghost use Rattle.std.specs.Prelude.{◌≡◌};
+ghost use Rattle.labels.specs.Places.{IsNear, pixels};
+
+use crate::style::FARTHEST;
+
+/// Where something with four sides stands.
+#[derive(Clone, Copy)]
+pub struct Frame {
+    pub left: u64,
+    pub right: u64,
+    pub top: u64,
+    pub bottom: u64,
+}
+
+/// So many steps beyond a start; but nothing stands farther than 10^18 pixels.
+pub fn pixels(start: u64, count: usize, step: u64) -> u64
+    ensures pixels { result ≡ pixels start count step }
+    ensures near { IsNear result }
+{
+    (count as u64)
+        .saturating_mul(step)
+        .saturating_add(start)
+        .min(FARTHEST)
+}
