@@ -1,5 +1,4 @@
 pub mod Counts
 pub mod Finding
 pub mod Rendering
-pub mod Fitting
 pub mod Rows

@@ -9,14 +9,9 @@ use Rattle.std.proofs.lemmas.Option.{same_Some, slice_get_within, get_or_from_sl
 use Rattle.tag.proofs.Options.{none_some}
 use Rattle.scenes.specs.declared.scene.Dot.{Dot}
 use Rattle.scenes.specs.declared.scene.Scene.{Scene}
+use Rattle.labels.proofs.Counts.{below, not_below}
 use Rattle.pictures.specs.Layout.{HasRowsInOrder, IsInOrder, row_of_dot, row_of_place}
 use Rattle.pictures.proofs.Counts.{mapped_not_falling}
-
-below : (m n : ℕ) → m < n → nat_lt m n ≡ true
-below m n less = grind (arith, nat_tests)
-
-not_below : (m n : ℕ) → n ≤ m → nat_lt m n ≡ false
-not_below m n le = grind (arith, nat_tests)
 
 up_to : (m n : ℕ) → m ≤ n → nat_le m n ≡ true
 up_to m n le = grind (arith, nat_tests)

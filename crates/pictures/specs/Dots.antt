@@ -4,12 +4,12 @@ use Rattle.std.specs.Prelude.{Option, Some, None}
 use Rattle.markup.specs.Markup.{Markup, empty, both, all_tenths_text}
 use Rattle.markup.specs.declared.names.AttributeName.TheVariants as name
 use Rattle.markup.specs.declared.names.Element.TheVariants as tag
+use Rattle.labels.specs.Labels.{label_markup, number_of, words_of}
 use Rattle.scenes.specs.declared.scene.Bar.{Bar}
 use Rattle.scenes.specs.declared.scene.Dot.{Dot}
 use Rattle.scenes.specs.declared.scene.Scene.{Scene}
 use Rattle.pictures.specs.declared.style.TheConstants.{DOT, DOT_LEFT, DOT_RADIUS, LINE_LETTERS}
 use Rattle.pictures.specs.declared.style.TheConstants.{MIDDLE, NUMBER, NUMBER_LEFT, PATH, TEXT_BASE}
-use Rattle.pictures.specs.Labels.{label_markup, number_of, words_of}
 use Rattle.pictures.specs.Layout.{across, down, row_of_dot}
 
 -- the lane of that bar; the first if there is none

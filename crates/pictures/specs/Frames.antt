@@ -1,22 +1,15 @@
 -- The shapes of bars: four sides, or, of a pending call, three.
-use Rattle.std.specs.Prelude.{ℕ, ◌+◌, ◌-◌, ◌*◌, ◌≤◌, List, [], ◌∷◌, Option, Some, None}
+use Rattle.std.specs.Prelude.{ℕ, ◌+◌, ◌-◌, ◌*◌, List, [], ◌∷◌, Option, Some, None}
 use Rattle.markup.specs.Markup.{Markup, all_tenths_text, empty}
 use Rattle.markup.specs.declared.names.AttributeName.TheVariants as name
 use Rattle.markup.specs.declared.names.Element.TheVariants as tag
 use Rattle.scenes.specs.declared.scene.Bar.{Bar}
 use Rattle.scenes.specs.declared.scene.Scene.{Scene}
-use Rattle.pictures.specs.declared.frames.Frame.{Frame}
+use Rattle.labels.specs.declared.places.Frame.{Frame}
+use Rattle.labels.specs.Labels.{number_of, words_of}
 use Rattle.pictures.specs.declared.style.TheConstants.{BAR_FOOT, BAR_LEFT, BAR_MARGINS, BAR_TOP}
-use Rattle.pictures.specs.declared.style.TheConstants.{FARTHEST, FLOOR, OPEN}
-use Rattle.pictures.specs.Labels.{number_of, words_of}
+use Rattle.pictures.specs.declared.style.TheConstants.{FLOOR, OPEN}
 use Rattle.pictures.specs.Layout.{across, column_width, down, row_of_place, rows_of}
-
--- no side stands farther than FARTHEST
-pub record IsNear (frame : Frame) : Type 0 where
-  pub left : frame.left ≤ FARTHEST
-  pub right : frame.right ≤ FARTHEST
-  pub top : frame.top ≤ FARTHEST
-  pub bottom : frame.bottom ≤ FARTHEST
 
 -- the shape of an answered call, with so round corners
 abbrev pub shut_shape : Frame → ℕ → Markup

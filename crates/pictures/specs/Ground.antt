@@ -1,21 +1,14 @@
 -- What bars stand on: a column for each lane, and a row for each tick.
-use Rattle.std.specs.Prelude.{ℕ, ◌+◌, ◌/◌, List, [], ◌∷◌, ◌++◌, decimal, length}
-use Rattle.markup.specs.Markup.{Markup, nothing, empty, both}
-use Rattle.markup.specs.declared.names.AttributeName.TheVariants as name
-use Rattle.markup.specs.declared.names.Element.TheVariants as tag
+use Rattle.std.specs.Prelude.{ℕ, ◌+◌, ◌/◌, ◌++◌, decimal, length}
+use Rattle.markup.specs.Markup.{Markup, both}
+use Rattle.labels.specs.Labels.{label_markup, line_markup}
 use Rattle.explanations.specs.Sentences.{line_at}
 use Rattle.explanations.specs.declared.hall_rows.HallRows.{HallRows}
 use Rattle.scenes.specs.declared.scene.Scene.{Scene}
 use Rattle.pictures.specs.declared.style.TheConstants.{CLIENT, CLIENT_WORD, COLUMN_LEFT, FLOOR}
 use Rattle.pictures.specs.declared.style.TheConstants.{LANE, LINE, LINE_LETTERS, LINE_RIGHT}
 use Rattle.pictures.specs.declared.style.TheConstants.{LINE_WORD, MIDDLE, ROW_TOP, TEXT_BASE, TICK}
-use Rattle.pictures.specs.Labels.{label_markup, number_of, words_of}
 use Rattle.pictures.specs.Layout.{across, column_width, down, room_of, row_of_place, rows_of}
-
--- what is made of each item of a list and its index, counted from a number on
-abbrev pub each_from : {X : Type 0} → (ℕ → X → Markup) → ℕ → List X → Markup
-each_from f k [] = nothing
-each_from f k (x ∷ xs) = both (f k x) (each_from f (k + 1) xs)
 
 module _ (scene : Scene) where
   -- the middle of a lane's column
@@ -24,9 +17,12 @@ module _ (scene : Scene) where
 
   -- the line in the middle of a lane, from the first row to the floor
   abbrev pub guide : ℕ → Markup
-  guide lane = empty tag.Line (words_of name.Class LANE.now ∷ number_of name.X1 (middle_of lane)
-      ∷ number_of name.Y1 ROW_TOP ∷ number_of name.X2 (middle_of lane)
-      ∷ number_of name.Y2 (down FLOOR (rows_of scene)) ∷ [])
+  guide lane = line_markup LANE.now (record {
+    x1 = middle_of lane;
+    y1 = ROW_TOP;
+    x2 = middle_of lane;
+    y2 = down FLOOR (rows_of scene);
+  })
 
   -- the same, of the lane of that client
   abbrev pub lane_markup : ℕ → ℕ → Markup
@@ -39,10 +35,12 @@ module _ (scene : Scene) where
 
   -- a line over all columns, at that height
   abbrev pub tick_line : ℕ → Markup
-  tick_line y = empty tag.Line (words_of name.Class TICK.now ∷ number_of name.X1 COLUMN_LEFT
-      ∷ number_of name.Y1 y
-      ∷ number_of name.X2 (across scene COLUMN_LEFT (length scene.lanes.items))
-      ∷ number_of name.Y2 y ∷ [])
+  tick_line y = line_markup TICK.now (record {
+    x1 = COLUMN_LEFT;
+    y1 = y;
+    x2 = across scene COLUMN_LEFT (length scene.lanes.items);
+    y2 = y;
+  })
 
   -- the tick of a place: a line in its row, and the line of the history file at the left
   abbrev pub tick_markup : HallRows → ℕ → Markup

@@ -1,16 +1,13 @@
 -- Where a picture shows what, in pixels. Time goes down: each tick and each dot of the scene has a
 -- row of its own, and each lane a column.
-use Rattle.std.specs.Prelude.{ℕ, ◌≡◌, ◌+◌, ◌-◌, ◌*◌, ◌/◌, ◌<◌, ◌≤◌, Bool, nat_le, nat_lt, min, max}
+use Rattle.std.specs.Prelude.{ℕ, ◌≡◌, ◌+◌, ◌-◌, ◌/◌, ◌<◌, ◌≤◌, Bool, nat_le, nat_lt, min, max}
 use Rattle.std.specs.Prelude.{List, Some, length, map, count_by, slice_get}
 use Rattle.std.specs.List.Sorted.{IsNonDecreasing, IsStrictlyIncreasing}
 use Rattle.scenes.specs.declared.scene.Dot.{Dot}
 use Rattle.scenes.specs.declared.scene.Scene.{Scene}
-use Rattle.pictures.specs.declared.style.TheConstants.{COLUMNS, FARTHEST, LETTER, MARGINS}
+use Rattle.labels.specs.Places.{pixels}
+use Rattle.pictures.specs.declared.style.TheConstants.{COLUMNS, LETTER, MARGINS}
 use Rattle.pictures.specs.declared.style.TheConstants.{NARROWEST, ROOMY, ROW, WIDEST}
-
--- so many steps beyond a start; nothing stands farther than FARTHEST
-abbrev pub pixels : ℕ → ℕ → ℕ → ℕ
-pixels start count step = min (start + count * step) FARTHEST
 
 -- so far down in that row: the start is that of the first row
 abbrev pub down : ℕ → ℕ → ℕ

@@ -1,7 +1,5 @@
 pub mod Layout
 pub mod Words
-pub mod Cuts
-pub mod Labels
 pub mod Ground
 pub mod Dots
 pub mod Frames

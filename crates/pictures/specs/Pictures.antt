@@ -1,11 +1,13 @@
 -- The picture of a key's calls: the ground, the line along the order, the bars and the dots.
-use Rattle.std.specs.Prelude.{ℕ, ◌*◌, ◌==◌, Bool, nat_lt, if◌then◌else◌, List, [], ◌∷◌, length}
+use Rattle.std.specs.Prelude.{ℕ, ◌==◌, Bool, nat_lt, if◌then◌else◌, List, [], ◌∷◌, length}
 use Rattle.std.specs.Prelude.{Option, Some, None, slice_get}
 use Rattle.std.specs.List.{find, list_any}
 use Rattle.markup.specs.Markup.{Markup, NamedText, nothing, text, element, both, each}
-use Rattle.markup.specs.Markup.{all_tenths_text}
 use Rattle.markup.specs.declared.names.AttributeName.TheVariants as name
 use Rattle.markup.specs.declared.names.Element.TheVariants as tag
+use Rattle.labels.specs.Each.{each_from}
+use Rattle.labels.specs.Images.{image_attributes}
+use Rattle.labels.specs.Labels.{title, words_of}
 use Rattle.tag.specs.declared.actions.Action.{Action}
 use Rattle.tag.specs.declared.actions.Action.TheVariants.{Read, Write}
 use Rattle.tag.specs.declared.numbers.OpId.{OpId}
@@ -15,13 +17,11 @@ use Rattle.scenes.specs.declared.scene.Bar.{Bar}
 use Rattle.scenes.specs.declared.scene.Scene.{Scene}
 use Rattle.pictures.specs.declared.picture.Picture.{Picture}
 use Rattle.pictures.specs.declared.style.TheConstants.{BOTTOM, FAULTY_READ, FAULTY_WRITE, FOOT_BASE}
-use Rattle.pictures.specs.declared.style.TheConstants.{IMAGE, LONG, NAMES_BASE, PICTURE, READ}
+use Rattle.pictures.specs.declared.style.TheConstants.{LONG, NAMES_BASE, PICTURE, READ}
 use Rattle.pictures.specs.declared.style.TheConstants.{READ_CORNER, RIGHT, TITLE, WRITE}
 use Rattle.pictures.specs.declared.style.TheConstants.{WRITE_CORNER}
-use Rattle.pictures.specs.Labels.{number_of, words_of}
 use Rattle.pictures.specs.Layout.{across, down, rows_of}
-use Rattle.pictures.specs.Words.{text_of}
-use Rattle.pictures.specs.Ground.{client_name, each_from, lane_markup, tick_markup}
+use Rattle.pictures.specs.Ground.{client_name, lane_markup, tick_markup}
 use Rattle.pictures.specs.Dots.{dot_markup, path_markup}
 use Rattle.pictures.specs.Frames.{shape}
 use Rattle.pictures.specs.Texts.{if_any, texts}
@@ -47,10 +47,6 @@ abbrev pub corner_of : Action → ℕ
 corner_of Read = READ_CORNER
 corner_of (Write value) = WRITE_CORNER
 
--- a title
-abbrev pub title : List ℕ → Markup
-title words = element tag.Title [] (text (text_of words))
-
 -- the title of the picture of that key
 abbrev pub picture_title : List ℕ → Markup
 picture_title key = element tag.Title [] (both (text TITLE.now) (text key))
@@ -64,11 +60,8 @@ module _ (scene : Scene) where
 
   -- the size of the picture
   abbrev pub svg_attributes : List NamedText
-  svg_attributes =
-      let width = across scene RIGHT (length scene.lanes.items) in
-      let height = down BOTTOM (rows_of scene) in
-      words_of name.Role IMAGE.now ∷ number_of name.Width width ∷ number_of name.Height height
-      ∷ words_of name.ViewBox (all_tenths_text (0 ∷ 0 ∷ width * 10 ∷ height * 10 ∷ [])) ∷ []
+  svg_attributes = image_attributes (across scene RIGHT (length scene.lanes.items))
+      (down BOTTOM (rows_of scene))
 
 module _ (p : Picture) where
   -- the call shows why the key is refused

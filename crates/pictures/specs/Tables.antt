@@ -3,6 +3,8 @@ use Rattle.std.specs.Prelude.{ℕ, false, List, [], ◌∷◌, Some, decimal}
 use Rattle.markup.specs.Markup.{Markup, text, element, both, each}
 use Rattle.markup.specs.declared.names.AttributeName.TheVariants as name
 use Rattle.markup.specs.declared.names.Element.TheVariants as tag
+use Rattle.labels.specs.Labels.{words_of}
+use Rattle.labels.specs.Texts.{text_of}
 use Rattle.recorder.specs.declared.part.Call.{Call}
 use Rattle.explanations.specs.declared.hall_rows.HallRows.{HallRows}
 use Rattle.scenes.specs.declared.scene.Bar.{Bar}
@@ -11,10 +13,9 @@ use Rattle.pictures.specs.declared.style.TheConstants.{ANSWERED_HEADING, ANSWER_
 use Rattle.pictures.specs.declared.style.TheConstants.{BEGINS_HEADING, CALL_HEADING, CLIENT_HEADING}
 use Rattle.pictures.specs.declared.style.TheConstants.{COLUMN, DOES_HEADING, NOTED_HEADING}
 use Rattle.pictures.specs.declared.style.TheConstants.{NOTE_HEADING, TABLE_TITLE}
-use Rattle.pictures.specs.Labels.{words_of}
 use Rattle.pictures.specs.Pictures.{call_of, class_of, is_faulty}
 use Rattle.pictures.specs.Texts.{if_any}
-use Rattle.pictures.specs.Words.{action_words, line_words, note_words, response_words, text_of}
+use Rattle.pictures.specs.Words.{action_words, line_words, note_words, response_words}
 
 -- a cell with those words
 abbrev pub cell : List ℕ → Markup

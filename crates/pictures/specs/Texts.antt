@@ -1,12 +1,12 @@
 -- What stands in a bar: what its call does, the tag that it noted, and what it answers.
 use Rattle.std.specs.Prelude.{ℕ, List, ◌++◌, Option, Some, None}
 use Rattle.markup.specs.Markup.{Markup, nothing, both}
+use Rattle.labels.specs.Labels.{label_markup}
 use Rattle.recorder.specs.declared.part.Call.{Call}
 use Rattle.scenes.specs.declared.scene.Bar.{Bar}
 use Rattle.scenes.specs.declared.scene.Scene.{Scene}
 use Rattle.pictures.specs.declared.style.TheConstants.{ANSWERS, DOES, NOTED, NOTES, TEXT_BASE}
 use Rattle.pictures.specs.declared.style.TheConstants.{TEXT_LEFT}
-use Rattle.pictures.specs.Labels.{label_markup}
 use Rattle.pictures.specs.Layout.{across, down, is_narrow, room_of, row_of_place}
 use Rattle.pictures.specs.Words.{begin_words, end_words, note_words, unless}
 

@@ -1,7 +1,6 @@
 -- What is said of a call, in few words. A value stands as a JSON text.
 use Rattle.std.specs.Prelude.{ℕ, Bool, true, false, ◌||◌, if◌then◌else◌, List, [], ◌++◌, decimal}
 use Rattle.std.specs.Prelude.{Option, Some, None}
-use Rattle.std.specs.Str.{is_utf8}
 use Rattle.tag.specs.declared.actions.Action.{Action}
 use Rattle.tag.specs.declared.actions.Action.TheVariants.{Read, Write}
 use Rattle.tag.specs.declared.actions.Returned.{Returned}
@@ -14,10 +13,6 @@ use Rattle.explanations.specs.Sentences.{line_at}
 use Rattle.explanations.specs.declared.hall_rows.HallRows.{HallRows}
 use Rattle.pictures.specs.declared.style.TheConstants.{ANSWER, BLANK, CALL_SIGN, DONE, NOT_ANSWERED}
 use Rattle.pictures.specs.declared.style.TheConstants.{READS, WRITES}
-
--- words as a text: UTF-8, as names and values are
-abbrev pub text_of : List ℕ → List ℕ
-text_of words = if is_utf8 words then words else []
 
 -- words that are left out where there is little room
 abbrev pub unless : Bool → List ℕ → List ℕ

@@ -1,21 +1,27 @@
 //! Bars, one for each call.
 ghost use Rattle.std.specs.Prelude.{◌≡◌, ◌++◌, OnOk};
-ghost use Rattle.markup.specs.Markup.{each, rendered};
+ghost use Rattle.markup.specs.Markup.{rendered};
 ghost use Rattle.pictures.specs.Layout.{IsInOrder};
 ghost use Rattle.pictures.specs.Pictures.{bar_markup, call_bar, class_of, corner_of, in_bar};
-ghost use Rattle.pictures.specs.Pictures.{sentence, title};
+ghost use Rattle.pictures.specs.Pictures.{sentence};
 
 use crate::frames::append_shape;
 use crate::picture::Picture;
 use crate::style::{FAULTY_READ, FAULTY_WRITE, READ, READ_CORNER, WRITE, WRITE_CORNER};
 use crate::texts::append_texts;
-use crate::words::text_of;
 use explanations::append_call;
-use markup::{Attribute, AttributeName, Element, append_closing, append_opening, append_text};
+use labels::{Shape, append_title};
+use markup::{Attribute, AttributeName, Element, append_closing, append_opening};
 use recorder::Call;
 use scenes::Bar;
 use std::alloc::Global;
 use tag::{Action, Memory};
+
+/// The bars of a picture, each if the part has its call.
+#[derive(Clone, Copy)]
+pub(crate) struct Bars<'a> {
+    pub(crate) picture: &'a Picture<'a>,
+}
 
 /// The class of a bar of that action.
 pub(crate) fn class_of(action: &Action, is_faulty: bool) -> &'static str
@@ -35,16 +41,6 @@ fn corner_of(action: &Action) -> u8
         Action::Read => READ_CORNER,
         Action::Write(_) => WRITE_CORNER,
     }
-}
-
-/// Adds a title.
-#[tactic(auto, unfolding(markup::specs::Markup::rendered))]
-fn append_title(page: &mut Vec<u8>, words: &[u8]) -> Result<(), Memory>
-    ensures { OnOk result (page.new.items ≡ page.old.items ++ rendered (title words.now)) }
-{
-    append_opening(page, Element::Title, &[])?;
-    append_text(page, text_of(words))?;
-    append_closing(page, Element::Title)
 }
 
 /// Adds the call's sentence as a title.
@@ -103,36 +99,18 @@ fn append_call_bar(
     append_closing(page, Element::G)
 }
 
-/// Adds the bar, if the part has its call.
-#[tactic(auto, unfolding(markup::specs::Markup::rendered))]
-fn append_bar(
-    alloc: Global,
-    page: &mut Vec<u8>,
-    picture: &Picture<'_>,
-    bar: &Bar,
-) -> Result<(), Memory>
-    requires { IsInOrder picture.now.scene.now }
-    ensures { OnOk result
-        (page.new.items ≡ page.old.items ++ rendered (bar_markup picture.now bar.now)) }
-{
-    match picture.call_of(bar.call) {
-        Some(call) => append_call_bar(alloc, page, picture, bar, call),
-        None => Ok(()),
-    }
-}
+impl Shape for Bars<'_> {
+    type Item = Bar;
 
-/// Adds the bars.
-pub(crate) fn append_bars(
-    alloc: Global,
-    page: &mut Vec<u8>,
-    picture: &Picture<'_>,
-) -> Result<(), Memory>
-    requires { IsInOrder picture.now.scene.now }
-    ensures { OnOk result (page.new.items ≡ page.old.items
-        ++ rendered (each (bar_markup picture.now) picture.now.scene.now.bars.items)) }
-{
-    for bar in &picture.scene.bars {
-        append_bar(alloc, page, picture, bar)?;
+    ghost can_append = { λ bars. IsInOrder bars.picture.now.scene.now };
+
+    ghost shape = { λ bars. bar_markup bars.picture.now };
+
+    #[tactic(auto, unfolding(markup::specs::Markup::rendered))]
+    fn append(&self, alloc: Global, page: &mut Vec<u8>, item: &Bar) -> Result<(), Memory> {
+        match self.picture.call_of(item.call) {
+            Some(call) => append_call_bar(alloc, page, self.picture, item, call),
+            None => Ok(()),
+        }
     }
-    Ok(())
 }

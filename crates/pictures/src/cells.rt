@@ -5,8 +5,9 @@ ghost use Rattle.pictures.specs.Tables.{cell, heading};
 ghost use Rattle.pictures.specs.Words.{action_words, line_words, note_words, response_words};
 
 use crate::style::COLUMN;
-use crate::words::{say_action, say_line, say_note, say_number, say_response, text_of};
+use crate::words::{say_action, say_line, say_note, say_number, say_response};
 use explanations::HallRows;
+use labels::text_of;
 use markup::{Attribute, AttributeName, Element, append_closing, append_opening, append_text};
 use recorder::Response;
 use std::alloc::Global;

@@ -1,29 +1,23 @@
 //! The shapes of bars.
 ghost use Rattle.std.specs.Prelude.{◌≡◌, ◌++◌, OnOk};
 ghost use Rattle.markup.specs.Markup.{rendered};
+ghost use Rattle.labels.specs.Places.{IsNear, IsNearFrame};
 ghost use Rattle.pictures.specs.Layout.{IsInOrder};
-ghost use Rattle.pictures.specs.Frames.{IsNear, bottom_of, frame_of, open_corners, open_shape};
+ghost use Rattle.pictures.specs.Frames.{bottom_of, frame_of, open_corners, open_shape};
 ghost use Rattle.pictures.specs.Frames.{shape, shut_shape};
 
 use crate::layout::{across, column_width, down, row_of_place, rows_of};
 use crate::style::{BAR_FOOT, BAR_LEFT, BAR_MARGINS, BAR_TOP, FLOOR, OPEN};
+use labels::Frame;
 use markup::{Attribute, AttributeName, Element, append_empty};
 use scenes::{Bar, Scene};
 use tag::Memory;
 
-/// Where a bar stands.
-#[derive(Clone, Copy)]
-pub(crate) struct Frame {
-    pub(crate) left: u64,
-    pub(crate) right: u64,
-    pub(crate) top: u64,
-    pub(crate) bottom: u64,
-}
-
 /// The bottom of a bar with that end.
 fn bottom_of(scene: &Scene, ends: Option<usize>) -> u64
     requires { IsInOrder scene.now }
-    ensures { result ≡ bottom_of scene.now ends }
+    ensures bottom { result ≡ bottom_of scene.now ends }
+    ensures near { IsNear result }
 {
     match ends {
         Some(place) => down(BAR_FOOT, row_of_place(scene, place)),
@@ -35,7 +29,7 @@ fn bottom_of(scene: &Scene, ends: Option<usize>) -> u64
 fn frame_of(scene: &Scene, bar: &Bar) -> Frame
     requires { IsInOrder scene.now }
     ensures frame { result ≡ frame_of scene.now bar.now }
-    ensures near { IsNear result }
+    ensures near { IsNearFrame result }
 {
     let width = column_width(scene) - BAR_MARGINS;
     Frame {
@@ -67,7 +61,7 @@ fn append_shut(page: &mut Vec<u8>, frame: Frame, corner: u8) -> Result<(), Memor
 
 /// The corners of an open shape, in tenths of a pixel: each a distance right, and one down.
 fn open_corners(frame: Frame, corner: u8) -> [u64; 12]
-    requires { IsNear frame }
+    requires { IsNearFrame frame }
     ensures { result ≡ open_corners frame corner }
 {
     let corner = u64::from(corner);
@@ -91,7 +85,7 @@ fn open_corners(frame: Frame, corner: u8) -> [u64; 12]
 /// Adds the shape of a pending call: without a side below.
 #[tactic(auto, unfolding(markup::specs::Markup::rendered))]
 fn append_open(page: &mut Vec<u8>, frame: Frame, corner: u8) -> Result<(), Memory>
-    requires { IsNear frame }
+    requires { IsNearFrame frame }
     ensures { OnOk result
         (page.new.items ≡ page.old.items ++ rendered (open_shape frame corner)) }
 {

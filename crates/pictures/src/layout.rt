@@ -1,26 +1,19 @@
 //! Where a picture shows what, in pixels.
 ghost use Rattle.std.specs.Prelude.{◌≡◌, ◌<◌, ◌≤◌, length, map};
 ghost use Rattle.std.specs.List.Sorted.{IsNonDecreasing, IsStrictlyIncreasing};
+ghost use Rattle.labels.specs.Places.{IsNear};
 ghost use Rattle.pictures.specs.Layout.{IsInOrder, across, column_width, dots_before, down};
-ghost use Rattle.pictures.specs.Layout.{is_narrow, pixels, room_of, row_of_dot, row_of_place};
+ghost use Rattle.pictures.specs.Layout.{is_narrow, room_of, row_of_dot, row_of_place};
 ghost use Rattle.pictures.specs.Layout.{rows_of, ticks_before, ticks_up_to};
 
-use crate::style::{COLUMNS, FARTHEST, LETTER, MARGINS, NARROWEST, ROOMY, ROW, WIDEST};
+use crate::style::{COLUMNS, LETTER, MARGINS, NARROWEST, ROOMY, ROW, WIDEST};
+use labels::pixels;
 use scenes::{Dot, Scene};
-
-/// So many steps beyond a start.
-fn pixels(start: u64, count: usize, step: u64) -> u64
-    ensures { result ≡ pixels start count step }
-{
-    (count as u64)
-        .saturating_mul(step)
-        .saturating_add(start)
-        .min(FARTHEST)
-}
 
 /// So far down in that row, from its first one.
 pub(crate) fn down(start: u64, row: usize) -> u64
-    ensures { result ≡ down start row }
+    ensures down { result ≡ down start row }
+    ensures near { IsNear result }
 {
     pixels(start, row, ROW)
 }
@@ -35,7 +28,8 @@ pub(crate) fn column_width(scene: &Scene) -> u64
 
 /// So far right in that lane's column, from the first one.
 pub(crate) fn across(scene: &Scene, start: u64, lane: usize) -> u64
-    ensures { result ≡ across scene.now start lane }
+    ensures across { result ≡ across scene.now start lane }
+    ensures near { IsNear result }
 {
     pixels(start, lane, column_width(scene))
 }

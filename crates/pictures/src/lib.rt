@@ -10,12 +10,10 @@
 
 mod bars;
 mod cells;
-mod cuts;
 mod dots;
 mod find;
 mod frames;
 mod ground;
-mod labels;
 pub mod laws;
 mod layout;
 mod path;

@@ -7,14 +7,15 @@ ghost use Rattle.pictures.specs.Layout.{IsInOrder};
 ghost use Rattle.pictures.specs.Pictures.{call_of, calls_markup, foot, ground, is_faulty};
 ghost use Rattle.pictures.specs.Pictures.{picture_markup, picture_title, svg, svg_attributes};
 
-use crate::bars::append_bars;
-use crate::dots::append_dots;
+use crate::bars::Bars;
+use crate::dots::Dots;
 use crate::find::find;
-use crate::ground::{append_guides, append_names, append_ticks};
+use crate::ground::{Guides, Names, Ticks};
 use crate::layout::{across, down, rows_of};
 use crate::path::append_path;
-use crate::style::{BOTTOM, FOOT_BASE, IMAGE, LONG, NAMES_BASE, PICTURE, RIGHT, TITLE};
+use crate::style::{BOTTOM, FOOT_BASE, LONG, NAMES_BASE, PICTURE, RIGHT, TITLE};
 use explanations::HallRows;
+use labels::{append_each, append_each_indexed, open_image};
 use markup::{Attribute, AttributeName, Element, append_closing, append_opening, append_text};
 use recorder::{Call, Part};
 use scenes::Scene;
@@ -72,7 +73,8 @@ fn append_foot(alloc: Global, page: &mut Vec<u8>, scene: &Scene) -> Result<(), M
 {
     let rows = rows_of(scene);
     if rows > LONG {
-        append_names(alloc, page, scene, down(FOOT_BASE, rows))
+        let y = down(FOOT_BASE, rows);
+        append_each_indexed(alloc, page, &Names { scene, y }, &scene.lanes)
     } else {
         Ok(())
     }
@@ -84,10 +86,12 @@ fn append_ground(alloc: Global, page: &mut Vec<u8>, picture: &Picture<'_>) -> Re
     requires { IsInOrder picture.now.scene.now }
     ensures { OnOk result (page.new.items ≡ page.old.items ++ rendered (ground picture.now)) }
 {
-    append_names(alloc, page, picture.scene, NAMES_BASE)?;
-    append_foot(alloc, page, picture.scene)?;
-    append_guides(page, picture.scene)?;
-    append_ticks(alloc, page, picture.scene, &picture.hall)
+    let (scene, hall) = (picture.scene, &picture.hall);
+    let y = NAMES_BASE;
+    append_each_indexed(alloc, page, &Names { scene, y }, &scene.lanes)?;
+    append_foot(alloc, page, scene)?;
+    append_each_indexed(alloc, page, &Guides { scene }, &scene.lanes)?;
+    append_each(alloc, page, &Ticks { scene, hall }, &scene.ticks)
 }
 
 /// Adds the line that joins the dots, the bars above it, and the dots above these.
@@ -97,9 +101,10 @@ fn append_calls(alloc: Global, page: &mut Vec<u8>, picture: &Picture<'_>) -> Res
     ensures { OnOk result
         (page.new.items ≡ page.old.items ++ rendered (calls_markup picture.now)) }
 {
-    append_path(alloc, page, picture.scene)?;
-    append_bars(alloc, page, picture)?;
-    append_dots(alloc, page, picture.scene)
+    let scene = picture.scene;
+    append_path(alloc, page, scene)?;
+    append_each(alloc, page, &Bars { picture }, &scene.bars)?;
+    append_each_indexed(alloc, page, &Dots { scene }, &scene.dots)
 }
 
 /// Opens the picture's element.
@@ -108,14 +113,7 @@ fn open_svg(page: &mut Vec<u8>, scene: &Scene) -> Result<(), Memory>
         ≡ page.old.items ++ opening_tag tag.Svg (svg_attributes scene.now)) }
 {
     let width = across(scene, RIGHT, scene.lanes.len());
-    let height = down(BOTTOM, rows_of(scene));
-    let attributes = [
-        Attribute::Words(AttributeName::Role, IMAGE),
-        Attribute::Number(AttributeName::Width, width),
-        Attribute::Number(AttributeName::Height, height),
-        Attribute::AllTenths(AttributeName::ViewBox, &[0, 0, width * 10, height * 10]),
-    ];
-    append_opening(page, Element::Svg, &attributes)
+    open_image(page, width, down(BOTTOM, rows_of(scene)))
 }
 
 /// Adds the picture's element.

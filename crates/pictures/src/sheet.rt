@@ -1,12 +1,13 @@
 //! What a page of pictures has once: its style sheet and its legend.
 ghost use Rattle.std.specs.Prelude.{◌≡◌, ◌++◌, OnOk};
 ghost use Rattle.markup.specs.Markup.{rendered};
-ghost use Rattle.pictures.specs.Sheets.{legend, legend_key, legend_keys, style};
+ghost use Rattle.pictures.specs.Sheets.{legend, legend_keys, style};
 
 use crate::style::{
     FAULTY_KEY, FAULTY_READ, LEGEND, LEGEND_WORDS, OPEN, OPEN_KEY, READ, READ_KEY, SHEET, WRITE,
     WRITE_KEY,
 };
+use labels::append_sample;
 use markup::{Attribute, AttributeName, Element, append_closing, append_opening, append_text};
 use tag::Memory;
 
@@ -21,30 +22,15 @@ pub fn append_style(page: &mut Vec<u8>) -> Result<(), Memory>
     append_closing(page, Element::Style)
 }
 
-/// Adds the words, looking as the bars of that class.
-#[tactic(auto, unfolding(markup::specs::Markup::rendered))]
-fn append_key(page: &mut Vec<u8>, class: &str, words: &str) -> Result<(), Memory>
-    ensures { OnOk result
-        (page.new.items ≡ page.old.items ++ rendered (legend_key class.now words.now)) }
-{
-    append_opening(
-        page,
-        Element::Span,
-        &[Attribute::Words(AttributeName::Class, class)],
-    )?;
-    append_text(page, words)?;
-    append_closing(page, Element::Span)
-}
-
 /// Adds a sample of each kind of bar.
 #[tactic(auto, unfolding(markup::specs::Markup::rendered))]
 fn append_keys(page: &mut Vec<u8>) -> Result<(), Memory>
     ensures { OnOk result (page.new.items ≡ page.old.items ++ rendered legend_keys) }
 {
-    append_key(page, WRITE, WRITE_KEY)?;
-    append_key(page, READ, READ_KEY)?;
-    append_key(page, OPEN, OPEN_KEY)?;
-    append_key(page, FAULTY_READ, FAULTY_KEY)
+    append_sample(page, WRITE, WRITE_KEY)?;
+    append_sample(page, READ, READ_KEY)?;
+    append_sample(page, OPEN, OPEN_KEY)?;
+    append_sample(page, FAULTY_READ, FAULTY_KEY)
 }
 
 /// Adds the legend of the pictures.

@@ -23,9 +23,6 @@ pub(crate) const MARGINS: u64 = 8;
 /// The width of a letter.
 pub(crate) const LETTER: u64 = 6;
 
-/// Nothing stands farther right or down.
-pub(crate) const FARTHEST: u64 = 1_000_000_000_000_000_000;
-
 /// A picture of more rows names its clients below, too.
 pub(crate) const LONG: usize = 40;
 
@@ -132,8 +129,6 @@ pub(crate) const CALLS: &str = "calls";
 
 // ---- words
 
-pub(crate) const IMAGE: &str = "img";
-
 pub(crate) const TITLE: &str = "The calls on ";
 
 pub(crate) const CLIENT_WORD: &str = "client ";
@@ -153,8 +148,6 @@ pub(crate) const NOTES: &str = "notes ";
 pub(crate) const ANSWER: &str = "answers ";
 
 pub(crate) const DONE: &str = "done";
-
-pub(crate) const ELLIPSIS: &str = "\u{2026}";
 
 pub(crate) const TABLE_TITLE: &str = "The calls as a table";
 

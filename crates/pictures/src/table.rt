@@ -1,6 +1,6 @@
 //! The table of the calls of a picture.
 ghost use Rattle.std.specs.Prelude.{◌≡◌, ◌++◌, OnOk};
-ghost use Rattle.markup.specs.Markup.{each, rendered};
+ghost use Rattle.markup.specs.Markup.{rendered};
 ghost use Rattle.pictures.specs.Tables.{call_cells, call_headings, call_row, headings, line_cells};
 ghost use Rattle.pictures.specs.Tables.{line_headings, row_markup, rows_table, summary};
 ghost use Rattle.pictures.specs.Tables.{table_markup};
@@ -15,11 +15,18 @@ use crate::style::{
     DOES_HEADING, NOTE_HEADING, NOTED_HEADING, TABLE_TITLE,
 };
 use explanations::HallRows;
+use labels::{Shape, append_each};
 use markup::{Attribute, AttributeName, Element, append_closing, append_opening, append_text};
 use recorder::Call;
 use scenes::Bar;
 use std::alloc::Global;
 use tag::Memory;
+
+/// The rows of a picture's table, each if the part has its call.
+#[derive(Clone, Copy)]
+struct Rows<'a> {
+    picture: &'a Picture<'a>,
+}
 
 /// Adds the headings of the columns that say what a call does.
 #[tactic(auto, unfolding(markup::specs::Markup::rendered))]
@@ -106,32 +113,20 @@ fn append_call_row(
     append_closing(page, Element::Tr)
 }
 
-/// Adds the row of the bar, if the part has its call.
-#[tactic(auto, unfolding(markup::specs::Markup::rendered))]
-fn append_row(
-    alloc: Global,
-    page: &mut Vec<u8>,
-    picture: &Picture<'_>,
-    bar: &Bar,
-) -> Result<(), Memory>
-    ensures { OnOk result
-        (page.new.items ≡ page.old.items ++ rendered (row_markup picture.now bar.now)) }
-{
-    match picture.call_of(bar.call) {
-        Some(call) => append_call_row(alloc, page, picture, bar, call),
-        None => Ok(()),
-    }
-}
+impl Shape for Rows<'_> {
+    type Item = Bar;
 
-/// Adds the rows.
-fn append_rows(alloc: Global, page: &mut Vec<u8>, picture: &Picture<'_>) -> Result<(), Memory>
-    ensures { OnOk result (page.new.items ≡ page.old.items
-        ++ rendered (each (row_markup picture.now) picture.now.scene.now.bars.items)) }
-{
-    for bar in &picture.scene.bars {
-        append_row(alloc, page, picture, bar)?;
+    ghost can_append = { λ rows. Unit {0} };
+
+    ghost shape = { λ rows. row_markup rows.picture.now };
+
+    #[tactic(auto, unfolding(markup::specs::Markup::rendered))]
+    fn append(&self, alloc: Global, page: &mut Vec<u8>, item: &Bar) -> Result<(), Memory> {
+        match self.picture.call_of(item.call) {
+            Some(call) => append_call_row(alloc, page, self.picture, item, call),
+            None => Ok(()),
+        }
     }
-    Ok(())
 }
 
 /// Adds the table's body and its headings.
@@ -141,7 +136,12 @@ fn append_table(alloc: Global, page: &mut Vec<u8>, picture: &Picture<'_>) -> Res
 {
     append_opening(page, Element::Table, &[])?;
     append_headings(page)?;
-    append_rows(alloc, page, picture)?;
+    append_each(
+        alloc,
+        page,
+        &Rows { picture: &*picture },
+        &picture.scene.bars,
+    )?;
     append_closing(page, Element::Table)
 }
 

@@ -4,10 +4,10 @@ ghost use Rattle.markup.specs.Markup.{rendered};
 ghost use Rattle.pictures.specs.Layout.{IsInOrder, across, down, room_of, row_of_place};
 ghost use Rattle.pictures.specs.Texts.{answer_at, begin, if_any, note_at, texts};
 
-use crate::labels::{Spot, append_label};
 use crate::layout::{across, down, is_narrow, room_of, row_of_place};
 use crate::style::{ANSWERS, DOES, NOTED, NOTES, TEXT_BASE, TEXT_LEFT};
 use crate::words::{say_begin, say_end, say_note, say_unless};
+use labels::{Spot, append_label};
 use recorder::Call;
 use scenes::{Bar, Scene};
 use std::alloc::Global;

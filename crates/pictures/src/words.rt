@@ -2,7 +2,7 @@
 ghost use Rattle.std.specs.Prelude.{◌≡◌, ◌++◌, decimal, OnOk};
 ghost use Rattle.pictures.specs.Words.{action_words, begin_words, end_words, is_written};
 ghost use Rattle.pictures.specs.Words.{line_words, note_words, response_words, returned_words};
-ghost use Rattle.pictures.specs.Words.{text_of, unless};
+ghost use Rattle.pictures.specs.Words.{unless};
 
 use crate::style::{ANSWER, BLANK, CALL_SIGN, DONE, NOT_ANSWERED, READS, WRITES};
 use explanations::HallRows;
@@ -25,16 +25,6 @@ pub(crate) fn say_number(words: &mut Vec<u8>, number: u64) -> Result<(), Memory>
 {
     let mut digits = Buffer::new();
     say(words, digits.format(number))
-}
-
-/// The words as a text, if they are one.
-pub(crate) fn text_of(words: &[u8]) -> &str
-    ensures { result.now ≡ text_of words.now }
-{
-    match str::from_utf8(words) {
-        Ok(text) => text,
-        Err(_) => "",
-    }
 }
 
 /// Adds the words where there is room for them.

@@ -1,14 +1,10 @@
 use Rattle.std.proofs.Common.{ℕ, nat_lt, rules}
-use Rattle.std.proofs.lemmas.List.Sorted.{IsPartitionedBy-ltb, IsPartitionPoint-from_clause}
-use Rattle.pictures.proofs.Counts.{count_partition, rising_not_falling}
+use Rattle.std.proofs.lemmas.List.Sorted.{IsPartitionPoint-from_clause}
+use Rattle.labels.proofs.Counts.{count_below, rising_not_falling}
 use Rattle.pictures.proofs.layout.ticks_before.Goals as goal
 
 pub returns-clause-count : goal.returns-clause-count
 returns-clause-count c =
-    let ticks = c.args.ticks.now in
-    let place = c.args.place in
     let found = c.partition_point in
-    let parted = IsPartitionedBy-ltb (λ (x : ℕ). x) ticks place (rising_not_falling ticks c.requires) in
-    let point = IsPartitionPoint-from_clause (λ (x : ℕ). nat_lt x place) ticks found.result found.ensures.partitioned parted
-    (λ a r f called. search rules) in
-    count_partition (λ (x : ℕ). nat_lt x place) ticks 0 found.result found.ensures.bound point
+    count_below (λ (x : ℕ). x) c.args.ticks.now 0 c.args.place found.result (rising_not_falling c.args.ticks.now c.requires) found.ensures.bound
+    (λ parted. IsPartitionPoint-from_clause (λ (x : ℕ). nat_lt x c.args.place) _ _ found.ensures.partitioned parted (λ a r f called. search rules))
