@@ -1,63 +1,7 @@
--- The bytes of what is made of each item of a list, of each item and its index, or of each number.
-use Rattle.std.proofs.Common.{ℕ, suc, ◌≡◌, ◌<◌, ◌≤◌, ◌+◌, List, [], ◌++◌, length, get_or, drop, refl, sym, ap, subst, ◌∙◌, append-nil, append_assoc, arith}
-use Rattle.std.proofs.lemmas.List.{at_drop_more, at_drop_all}
-use Rattle.markup.specs.Markup.{Markup, each, rendered}
+-- The bytes of what is made of each number below a count.
+use Rattle.std.proofs.Common.{ℕ, suc, ◌≡◌, ◌+◌, List, ◌++◌, refl, sym, ap, subst, ◌∙◌, append-nil, append_assoc, arith}
+use Rattle.markup.specs.Markup.{Markup, rendered}
 use Rattle.diagrams.specs.Lifelines.{each_below}
-use Rattle.diagrams.specs.Rows.{each_from}
-
-module _ {X : Type 0} where
-  -- one item on
-  each_more : (f : X → Markup) (xs : List X) (i : ℕ) (d : X) → i < length xs
-      → rendered (each f (drop i xs)) ≡ rendered (f (get_or xs i d)) ++ rendered (each f (drop (i + 1) xs))
-  unfolding rendered
-  each_more f xs i d within = at_drop_more (λ (ys : List X). rendered (each f ys)) xs i d within
-
-  -- at the end
-  each_end : (f : X → Markup) (xs : List X) (i : ℕ) → length xs ≤ i → rendered (each f (drop i xs)) ≡ []
-  unfolding rendered
-  each_end f xs i past = at_drop_all (λ (ys : List X). rendered (each f ys)) xs i past
-
-  -- the same, with indexes
-  each_from_more : (f : ℕ → X → Markup) (xs : List X) (i : ℕ) (d : X) → i < length xs
-      → rendered (each_from f i (drop i xs)) ≡ rendered (f i (get_or xs i d)) ++ rendered (each_from f (i + 1) (drop (i + 1) xs))
-  unfolding rendered
-  each_from_more f xs i d within = at_drop_more (λ (ys : List X). rendered (each_from f i ys)) xs i d within
-
-  each_from_end : (f : ℕ → X → Markup) (xs : List X) (i : ℕ) → length xs ≤ i → rendered (each_from f i (drop i xs)) ≡ []
-  unfolding rendered
-  each_from_end f xs i past = at_drop_all (λ (ys : List X). rendered (each_from f i ys)) xs i past
-
--- a list of bytes that goes on, and what is still to come
-after_one : (page next one rest more all : List ℕ) → rest ≡ one ++ more → page ++ rest ≡ all → next ≡ page ++ one → next ++ more ≡ all
-after_one page next one rest more all is so_far added =
-    ap (λ (s : List ℕ). s ++ more) added ∙ (append_assoc page one more ∙ (ap (λ (s : List ℕ). page ++ s) (sym is) ∙ so_far))
-
-after_all : (page rest all : List ℕ) → rest ≡ [] → page ++ rest ≡ all → page ≡ all
-after_all page rest all none so_far = sym (append-nil page) ∙ (ap (λ (s : List ℕ). page ++ s) (sym none) ∙ so_far)
-
-module _ {X : Type 0} where
-  -- with one item more, and with all
-  pub each_step : (f : X → Markup) (xs : List X) (i : ℕ) (d : X) (page next all : List ℕ) → i < length xs
-      → page ++ rendered (each f (drop i xs)) ≡ all → next ≡ page ++ rendered (f (get_or xs i d))
-      → next ++ rendered (each f (drop (i + 1) xs)) ≡ all
-  each_step f xs i d page next all within so_far added =
-      after_one page next (rendered (f (get_or xs i d))) (rendered (each f (drop i xs))) (rendered (each f (drop (i + 1) xs))) all
-      (each_more f xs i d within) so_far added
-
-  pub each_last : (f : X → Markup) (xs : List X) (i : ℕ) (page all : List ℕ) → length xs ≤ i
-      → page ++ rendered (each f (drop i xs)) ≡ all → page ≡ all
-  each_last f xs i page all past so_far = after_all page (rendered (each f (drop i xs))) all (each_end f xs i past) so_far
-
-  pub each_from_step : (f : ℕ → X → Markup) (xs : List X) (i : ℕ) (d : X) (page next all : List ℕ) → i < length xs
-      → page ++ rendered (each_from f i (drop i xs)) ≡ all → next ≡ page ++ rendered (f i (get_or xs i d))
-      → next ++ rendered (each_from f (i + 1) (drop (i + 1) xs)) ≡ all
-  each_from_step f xs i d page next all within so_far added =
-      after_one page next (rendered (f i (get_or xs i d))) (rendered (each_from f i (drop i xs)))
-      (rendered (each_from f (i + 1) (drop (i + 1) xs))) all (each_from_more f xs i d within) so_far added
-
-  pub each_from_last : (f : ℕ → X → Markup) (xs : List X) (i : ℕ) (page all : List ℕ) → length xs ≤ i
-      → page ++ rendered (each_from f i (drop i xs)) ≡ all → page ≡ all
-  each_from_last f xs i page all past so_far = after_all page (rendered (each_from f i (drop i xs))) all (each_from_end f xs i past) so_far
 
 module _ (f : ℕ → Markup) where
   each_below_more : (n : ℕ) → rendered (each_below f (n + 1)) ≡ rendered (each_below f n) ++ rendered (f n)

@@ -5,6 +5,9 @@ use Rattle.std.specs.Prelude.{List, [], ◌∷◌}
 use Rattle.markup.specs.Markup.{Markup, nothing, element, both}
 use Rattle.markup.specs.declared.names.AttributeName.TheVariants as name
 use Rattle.markup.specs.declared.names.Element.TheVariants as tag
+use Rattle.labels.specs.declared.labels.Way.{Way}
+use Rattle.labels.specs.Labels.{label_markup, line_markup, title, words_of}
+use Rattle.labels.specs.Places.{IsNear}
 use Rattle.replica.specs.declared.requests.Request.{Request}
 use Rattle.replica.specs.declared.replies.Reply.{Reply}
 use Rattle.network.specs.declared.messages.Message.{Message}
@@ -13,13 +16,11 @@ use Rattle.message_scenes.specs.declared.arrows.Arrow.{Arrow}
 use Rattle.message_scenes.specs.declared.arrows.ArrowEnd.{ArrowEnd}
 use Rattle.message_scenes.specs.declared.arrows.ArrowEnd.TheVariants as ending
 use Rattle.message_scenes.specs.declared.scene.MessageScene.{MessageScene}
-use Rattle.diagrams.specs.declared.labels.Way.{Way}
-use Rattle.diagrams.specs.declared.style.TheConstants.{ARM, ARRIVING, CLIENT_EDGE, CROSS, LABEL}
-use Rattle.diagrams.specs.declared.style.TheConstants.{LABEL_BASE, LETTERS, LOST, MOMENT, NEAREST}
-use Rattle.diagrams.specs.declared.style.TheConstants.{REPLICA_EDGE, REPLY, REQUEST, ROW}
-use Rattle.diagrams.specs.declared.style.TheConstants.{UNDER_WAY}
-use Rattle.diagrams.specs.Labels.{label_markup, line_markup, title, words_of}
-use Rattle.diagrams.specs.Layout.{IsNear, client_x, down, replica_x, rows_of}
+use Rattle.diagrams.specs.declared.style.TheConstants.{ARM, ARRIVING, CLIENT_EDGE, CLIENT_WAIT}
+use Rattle.diagrams.specs.declared.style.TheConstants.{CROSS, LABEL, LABEL_BASE, LABEL_LETTERS}
+use Rattle.diagrams.specs.declared.style.TheConstants.{LOST, MOMENT, NEAREST, REPLICA_EDGE}
+use Rattle.diagrams.specs.declared.style.TheConstants.{REPLICA_WAIT, REPLY, REQUEST, ROW, UNDER_WAY}
+use Rattle.diagrams.specs.Layout.{client_x, down, replica_x, rows_of}
 use Rattle.diagrams.specs.Words.{message_words}
 
 -- whether a message is a request, which a client sends to a replica; else it is a reply
@@ -70,7 +71,7 @@ label_x request way =
 -- what an arrow asks or tells, below the row where it begins
 abbrev pub arrow_label : Way → Arrow → Markup
 arrow_label way arrow = label_markup LABEL.now (label_x (is_request arrow.message) way)
-    (down LABEL_BASE arrow.begins) LETTERS (message_words arrow.message)
+    (down LABEL_BASE arrow.begins) LABEL_LETTERS (message_words arrow.message)
 
 -- what stands in the element of an arrow that goes there
 abbrev pub in_arrow : Way → Arrow → Markup
@@ -100,10 +101,17 @@ module _ (scene : MessageScene) where
   abbrev pub halfway : Arrow → ℕ
   halfway arrow = (client_side arrow + replica_side arrow) / 2
 
-  -- it ends at the lifeline of its receiver if it arrives, and else halfway
+  -- a little way from the lifeline of its sender towards the other
+  abbrev pub waiting_x : Arrow → ℕ
+  waiting_x arrow = if is_request arrow.message then client_x scene CLIENT_WAIT arrow.client
+      else replica_x scene REPLICA_WAIT arrow.replica
+
+  -- it ends at the lifeline of its receiver if it arrives, halfway if it is lost, and near its
+  -- sender if it never arrives
   abbrev pub end_x : ArrowEnd → Arrow → ℕ
   end_x (ending.Arrives row) arrow = receiver_x arrow
-  end_x other arrow = halfway arrow
+  end_x (ending.Lost row) arrow = halfway arrow
+  end_x ending.Open arrow = waiting_x arrow
 
   -- it ends in the row in which it arrives or is lost, and else below the last one
   abbrev pub end_y : ArrowEnd → ℕ

@@ -5,6 +5,8 @@ use Rattle.std.specs.Prelude.{ℕ, ◌-◌, ◌*◌, List, [], ◌∷◌, Option
 use Rattle.markup.specs.Markup.{Markup, nothing, empty, element, both, all_tenths_text}
 use Rattle.markup.specs.declared.names.AttributeName.TheVariants as name
 use Rattle.markup.specs.declared.names.Element.TheVariants as tag
+use Rattle.labels.specs.declared.places.Frame.{Frame}
+use Rattle.labels.specs.Labels.{label_markup, line_markup, number_of, title, words_of}
 use Rattle.tag.specs.declared.actions.Action.{Action}
 use Rattle.tag.specs.declared.actions.Action.TheVariants.{Read, Write}
 use Rattle.tag.specs.declared.actions.Returned.{Returned}
@@ -13,26 +15,17 @@ use Rattle.message_scenes.specs.declared.calls.CallEnd.{CallEnd}
 use Rattle.message_scenes.specs.declared.calls.CallEnd.TheVariants as ending
 use Rattle.message_scenes.specs.declared.calls.PlacedNote.{PlacedNote}
 use Rattle.message_scenes.specs.declared.scene.MessageScene.{MessageScene}
-use Rattle.diagrams.specs.declared.bars.Frame.{Frame}
 use Rattle.diagrams.specs.declared.style.TheConstants.{ASKING, BAR_LEFT, BAR_RIGHT, BEGIN, LETTERS}
 use Rattle.diagrams.specs.declared.style.TheConstants.{MOMENT, NOTE, OUTCOME, PUTTING, READING}
 use Rattle.diagrams.specs.declared.style.TheConstants.{STOP, STOPPED, STOP_LEFT, STOP_RIGHT}
 use Rattle.diagrams.specs.declared.style.TheConstants.{TEXT_BASE, TEXT_RIGHT, WRITING}
-use Rattle.diagrams.specs.Labels.{label_markup, line_markup, number_of, title, words_of}
-use Rattle.diagrams.specs.Layout.{IsNear, client_x, down, rows_of}
+use Rattle.diagrams.specs.Layout.{client_x, down, rows_of}
 use Rattle.diagrams.specs.Words.{begin_words, note_words, returned_words}
 
 -- the class of a bar by what its call does
 abbrev pub action_class : Action → List ℕ
 action_class Read = READING.now
 action_class (Write value) = WRITING.now
-
--- no side stands farther than FARTHEST
-pub record IsNearFrame (frame : Frame) : Type 0 where
-  pub left : IsNear frame.left
-  pub right : IsNear frame.right
-  pub top : IsNear frame.top
-  pub bottom : IsNear frame.bottom
 
 -- a part of a bar that has an end: with four sides
 abbrev pub shut_part : List ℕ → Frame → Markup

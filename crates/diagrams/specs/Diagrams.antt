@@ -1,24 +1,25 @@
 -- The diagram of a scene: a tree of elements with one shape for each row, each lifeline, each
 -- arrow, each call, each change and each down time of the scene.
-use Rattle.std.specs.Prelude.{◌*◌, nat_lt, if◌then◌else◌, List, [], ◌∷◌}
+use Rattle.std.specs.Prelude.{nat_lt, if◌then◌else◌, List, [], ◌∷◌}
 use Rattle.markup.specs.Markup.{Markup, NamedText, nothing, text, empty, element, both, each}
-use Rattle.markup.specs.Markup.{all_tenths_text}
 use Rattle.markup.specs.declared.names.AttributeName.TheVariants as name
 use Rattle.markup.specs.declared.names.Element.TheVariants as tag
 use Rattle.sentences.specs.Words.{numbered}
+use Rattle.labels.specs.Each.{each_from}
+use Rattle.labels.specs.Images.{image_attributes}
+use Rattle.labels.specs.Labels.{label_markup, number_of, title, words_of}
 use Rattle.message_scenes.specs.declared.scene.MessageScene.{MessageScene}
 use Rattle.diagrams.specs.declared.style.TheConstants.{AUTO, BOTTOM, COMMAND_LEFT, HEAD, HEAD_BOX}
 use Rattle.diagrams.specs.declared.style.TheConstants.{HEAD_MIDDLE, HEAD_PATH, HEAD_SIZE, HEAD_TIP}
-use Rattle.diagrams.specs.declared.style.TheConstants.{IMAGE, KEY, LEGEND_WORDS, MESSAGES}
-use Rattle.diagrams.specs.declared.style.TheConstants.{MORE, OMITTED, RIGHT, SENTENCE_LETTERS}
-use Rattle.diagrams.specs.declared.style.TheConstants.{SHEET, TEXT_BASE, TITLE}
+use Rattle.diagrams.specs.declared.style.TheConstants.{KEY, LEGEND_WORDS, MESSAGES, MORE, OMITTED}
+use Rattle.diagrams.specs.declared.style.TheConstants.{RIGHT, SENTENCE_LETTERS, SHEET, TEXT_BASE}
+use Rattle.diagrams.specs.declared.style.TheConstants.{TITLE}
 use Rattle.diagrams.specs.Arrows.{arrow_markup}
 use Rattle.diagrams.specs.Calls.{bar_markup, call_texts}
-use Rattle.diagrams.specs.Labels.{label_markup, number_of, title, words_of}
 use Rattle.diagrams.specs.Layout.{down, replica_x, rows_of}
 use Rattle.diagrams.specs.Lifelines.{lifelines}
 use Rattle.diagrams.specs.Replicas.{change_markup, down_markup}
-use Rattle.diagrams.specs.Rows.{each_from, row_markup}
+use Rattle.diagrams.specs.Rows.{row_markup}
 use Rattle.diagrams.specs.Sheets.{arrow_samples, bar_samples}
 
 -- the attributes of the head of arrows
@@ -60,10 +61,7 @@ module _ (scene : MessageScene) where
   -- the size of the diagram
   abbrev pub svg_attributes : List NamedText
   svg_attributes =
-      let width = replica_x scene RIGHT scene.replicas in
-      let height = down BOTTOM (rows_of scene) in
-      words_of name.Role IMAGE.now ∷ number_of name.Width width ∷ number_of name.Height height
-      ∷ words_of name.ViewBox (all_tenths_text (0 ∷ 0 ∷ width * 10 ∷ height * 10 ∷ [])) ∷ []
+      image_attributes (replica_x scene RIGHT scene.replicas) (down BOTTOM (rows_of scene))
 
   -- the diagram's element
   abbrev pub svg : Markup

@@ -1,18 +1,11 @@
 -- Where a diagram shows what, in pixels. Time goes down: each row of the scene has a row of its
 -- own. Each client has a column, in rising order, and after them each replica.
-use Rattle.std.specs.Prelude.{ℕ, ◌≡◌, ◌+◌, ◌*◌, ◌≤◌, nat_lt, min, List, length, count_by}
+use Rattle.std.specs.Prelude.{ℕ, ◌≡◌, ◌+◌, nat_lt, List, length, count_by}
 use Rattle.std.specs.Prelude.{Some, slice_get}
 use Rattle.std.specs.List.Sorted.{IsStrictlyIncreasing}
+use Rattle.labels.specs.Places.{pixels}
 use Rattle.message_scenes.specs.declared.scene.MessageScene.{MessageScene}
-use Rattle.diagrams.specs.declared.style.TheConstants.{COLUMN, FARTHEST, ROW}
-
--- so many steps beyond a start; nothing stands farther than FARTHEST
-abbrev pub pixels : ℕ → ℕ → ℕ → ℕ
-pixels start count step = min (start + count * step) FARTHEST
-
--- a place isn't farther than that
-abbrev pub IsNear : ℕ → Type 0
-IsNear place = place ≤ FARTHEST
+use Rattle.diagrams.specs.declared.style.TheConstants.{COLUMN, ROW}
 
 -- so far down in that row: the start is that of the first row
 abbrev pub down : ℕ → ℕ → ℕ

@@ -1,7 +1,5 @@
 pub mod Layout
 pub mod Words
-pub mod Cuts
-pub mod Labels
 pub mod Lifelines
 pub mod Rows
 pub mod Arrows

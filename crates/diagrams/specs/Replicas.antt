@@ -1,6 +1,8 @@
 -- What a diagram shows of replicas: when they are down, and what they come to hold.
 use Rattle.std.specs.Prelude.{ℕ, List, Option, Some, None}
 use Rattle.markup.specs.Markup.{Markup, both}
+use Rattle.labels.specs.declared.places.Frame.{Frame}
+use Rattle.labels.specs.Labels.{label_markup}
 use Rattle.message_scenes.specs.declared.replicas.Change.{Change}
 use Rattle.message_scenes.specs.declared.replicas.DownTime.{DownTime}
 use Rattle.message_scenes.specs.declared.scene.MessageScene.{MessageScene}
@@ -8,7 +10,6 @@ use Rattle.diagrams.specs.declared.style.TheConstants.{CHANGE_LEFT, DOWN_LEFT, D
 use Rattle.diagrams.specs.declared.style.TheConstants.{DOWN_TIME, DOWN_WORD, HOLDS, LETTERS}
 use Rattle.diagrams.specs.declared.style.TheConstants.{MOMENT, TEXT_BASE}
 use Rattle.diagrams.specs.Calls.{shut_part}
-use Rattle.diagrams.specs.Labels.{label_markup}
 use Rattle.diagrams.specs.Layout.{down, replica_x, rows_of}
 use Rattle.diagrams.specs.Words.{change_words}
 
@@ -23,15 +24,18 @@ module _ (scene : MessageScene) where
   words_beside class replica row words = label_markup class
       (replica_x scene CHANGE_LEFT replica) (down TEXT_BASE row) LETTERS words
 
-  -- a time for which a replica is down: a rectangle on its lifeline, and a word
+  -- where such a time stands: on the replica's lifeline, from the row where it stops
+  abbrev pub frame_of : DownTime → Frame
+  frame_of time = record {
+    left = replica_x scene DOWN_LEFT time.replica;
+    right = replica_x scene DOWN_RIGHT time.replica;
+    top = down MOMENT time.stops;
+    bottom = up_at time.starts;
+  }
+
+  -- a time for which a replica is down: a rectangle, and a word
   abbrev pub down_markup : DownTime → Markup
-  down_markup time = both
-      (shut_part DOWN_TIME.now (record {
-        left = replica_x scene DOWN_LEFT time.replica;
-        right = replica_x scene DOWN_RIGHT time.replica;
-        top = down MOMENT time.stops;
-        bottom = up_at time.starts;
-      }))
+  down_markup time = both (shut_part DOWN_TIME.now (frame_of time))
       (words_beside DOWN_TIME.now time.replica time.stops DOWN_WORD.now)
 
   -- what a replica comes to hold, in the row where it does

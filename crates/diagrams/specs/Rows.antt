@@ -1,22 +1,16 @@
 -- The rows of a diagram: each has its line of the script at the left, and a line over all columns.
-use Rattle.std.specs.Prelude.{ℕ, ◌+◌, List, [], ◌∷◌}
-use Rattle.markup.specs.Markup.{Markup, nothing, both}
+use Rattle.std.specs.Prelude.{ℕ}
+use Rattle.markup.specs.Markup.{Markup, both}
 use Rattle.sentences.specs.Words.{numbered}
+use Rattle.labels.specs.Labels.{label_markup, line_markup}
 use Rattle.fault_script.specs.declared.command.Command.{Command}
 use Rattle.fault_script.specs.declared.command.NumberedCommand.{NumberedCommand}
 use Rattle.message_scenes.specs.declared.scene.MessageScene.{MessageScene}
-use Rattle.diagrams.specs.declared.style.TheConstants.{BAR_LEFT, COMMAND, COMMAND_LEFT}
-use Rattle.diagrams.specs.declared.style.TheConstants.{COMMAND_LETTERS, LINE_LETTERS}
-use Rattle.diagrams.specs.declared.style.TheConstants.{LINE_RIGHT, LINE_WORD, MOMENT, RIGHT}
-use Rattle.diagrams.specs.declared.style.TheConstants.{SOURCE, STEP, TEXT_BASE}
-use Rattle.diagrams.specs.Labels.{label_markup, line_markup}
+use Rattle.diagrams.specs.declared.style.TheConstants.{COMMAND, COMMAND_LEFT, COMMAND_LETTERS}
+use Rattle.diagrams.specs.declared.style.TheConstants.{LINE_LETTERS, LINE_RIGHT, LINE_WORD, MOMENT}
+use Rattle.diagrams.specs.declared.style.TheConstants.{RIGHT, SOURCE, STEP, STEP_LEFT, TEXT_BASE}
 use Rattle.diagrams.specs.Layout.{down, replica_x}
 use Rattle.diagrams.specs.Words.{command_words}
-
--- what is made of each item of a list and its index, counted from a number on
-abbrev pub each_from : {X : Type 0} → (ℕ → X → Markup) → ℕ → List X → Markup
-each_from f k [] = nothing
-each_from f k (x ∷ xs) = both (f k x) (each_from f (k + 1) xs)
 
 -- the number of the line of the script that a row's step belongs to, at that height
 abbrev pub source_at : ℕ → ℕ → Markup
@@ -36,7 +30,7 @@ module _ (scene : MessageScene) where
   -- a line over all columns, in the row of that index
   abbrev pub row_line : ℕ → Markup
   row_line index = line_markup STEP.now (record {
-    x1 = BAR_LEFT;
+    x1 = STEP_LEFT;
     y1 = down MOMENT index;
     x2 = replica_x scene RIGHT scene.replicas;
     y2 = down MOMENT index;

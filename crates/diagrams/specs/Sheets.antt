@@ -1,18 +1,11 @@
 -- The samples of shapes that the legend of diagrams has.
-use Rattle.std.specs.Prelude.{ℕ, List, [], ◌∷◌}
-use Rattle.markup.specs.Markup.{Markup, text, element, both}
-use Rattle.markup.specs.declared.names.AttributeName.TheVariants as name
-use Rattle.markup.specs.declared.names.Element.TheVariants as tag
+use Rattle.markup.specs.Markup.{Markup, both}
+use Rattle.labels.specs.Samples.{sample}
 use Rattle.diagrams.specs.declared.style.TheConstants.{ASKING, ASKING_KEY, DOWN_KEY, DOWN_TIME}
 use Rattle.diagrams.specs.declared.style.TheConstants.{LOST, LOST_KEY, PUTTING}
 use Rattle.diagrams.specs.declared.style.TheConstants.{PUTTING_KEY, REPLY, REPLY_KEY, REQUEST}
 use Rattle.diagrams.specs.declared.style.TheConstants.{REQUEST_KEY, UNDER_WAY}
 use Rattle.diagrams.specs.declared.style.TheConstants.{UNDER_WAY_KEY}
-use Rattle.diagrams.specs.Labels.{words_of}
-
--- words that look as the shapes of that class
-abbrev pub sample : List ℕ → List ℕ → Markup
-sample class words = element tag.Span (words_of name.Class class ∷ []) (text words)
 
 -- a sample of each kind of arrow
 abbrev pub arrow_samples : Markup

@@ -1,7 +1,5 @@
 -- What is said in a diagram, in few words. A value stands as a JSON text.
-use Rattle.std.specs.Prelude.{ℕ, List, [], ◌++◌, if◌then◌else◌}
-use Rattle.std.specs.Prelude.{Option, Some}
-use Rattle.std.specs.Str.{is_utf8}
+use Rattle.std.specs.Prelude.{ℕ, List, ◌++◌, Option, Some}
 use Rattle.tag.specs.Tags.{Tag}
 use Rattle.tag.specs.declared.actions.Action.{Action}
 use Rattle.tag.specs.declared.actions.Action.TheVariants.{Read, Write}
@@ -25,10 +23,6 @@ use Rattle.diagrams.specs.declared.style.TheConstants.{DONE, FINISH, HELD, HOLDS
 use Rattle.diagrams.specs.declared.style.TheConstants.{JOIN, KEPT, LOSE, NOTES, PUTS, RANDOM}
 use Rattle.diagrams.specs.declared.style.TheConstants.{READS, REPEAT, RESPOND, SEND, START_REPLICA}
 use Rattle.diagrams.specs.declared.style.TheConstants.{STOP_CLIENT, STOP_REPLICA, WRITES}
-
--- words as a text: UTF-8, as keys and values are
-abbrev pub text_of : List ℕ → List ℕ
-text_of words = if is_utf8 words then words else []
 
 -- ---- commands
 

@@ -1,25 +1,32 @@
 //! The arrows of a diagram, one for each copy of a message.
 ghost use Rattle.std.specs.Prelude.{◌≡◌, ◌++◌, OnOk};
-ghost use Rattle.markup.specs.Markup.{each, rendered};
+ghost use Rattle.markup.specs.Markup.{rendered};
+ghost use Rattle.labels.specs.Places.{IsNear};
 ghost use Rattle.diagrams.specs.Arrows.{IsNearWay, arrow_label, arrow_markup, client_side, cross};
 ghost use Rattle.diagrams.specs.Arrows.{cross_of, direction_class, end_class, end_x, end_y};
 ghost use Rattle.diagrams.specs.Arrows.{halfway, in_arrow, is_request, label_distance, label_x};
-ghost use Rattle.diagrams.specs.Arrows.{receiver_x, replica_side, sender_x, way_of};
-ghost use Rattle.diagrams.specs.Layout.{HasClientsInOrder, IsNear};
+ghost use Rattle.diagrams.specs.Arrows.{receiver_x, replica_side, sender_x, waiting_x, way_of};
+ghost use Rattle.diagrams.specs.Layout.{HasClientsInOrder};
 ghost use Rattle.diagrams.specs.Words.{message_words};
 
-use crate::labels::{Spot, Way, append_label, append_line, append_title};
 use crate::layout::{client_x, down, replica_x, rows_of};
 use crate::style::{
-    ARM, ARRIVING, CLIENT_EDGE, CROSS, LABEL, LABEL_BASE, LETTERS, LOST, MOMENT, NEAREST,
-    REPLICA_EDGE, REPLY, REQUEST, ROW, UNDER_WAY,
+    ARM, ARRIVING, CLIENT_EDGE, CLIENT_WAIT, CROSS, LABEL, LABEL_BASE, LABEL_LETTERS, LOST, MOMENT,
+    NEAREST, REPLICA_EDGE, REPLICA_WAIT, REPLY, REQUEST, ROW, UNDER_WAY,
 };
 use crate::words::say_message;
+use labels::{Shape, Spot, Way, append_label, append_line, append_title};
 use markup::{Attribute, AttributeName, Element, append_closing, append_opening};
 use message_scenes::{Arrow, ArrowEnd, MessageScene};
 use network::Message;
 use std::alloc::Global;
 use tag::Memory;
+
+/// The arrows of a scene.
+#[derive(Clone, Copy)]
+pub(crate) struct Arrows<'a> {
+    pub(crate) scene: &'a MessageScene,
+}
 
 /// Whether the message is a request.
 fn is_request(message: &Message) -> bool
@@ -101,6 +108,19 @@ fn halfway(scene: &MessageScene, arrow: &Arrow) -> u64
     (client_side(scene, arrow) + replica_side(scene, arrow)) / 2
 }
 
+/// A little way from the lifeline of its sender.
+fn waiting_x(scene: &MessageScene, arrow: &Arrow) -> u64
+    requires { HasClientsInOrder scene.now }
+    ensures waits { result ≡ waiting_x scene.now arrow.now }
+    ensures near { IsNear result }
+{
+    if is_request(&arrow.message) {
+        client_x(scene, CLIENT_WAIT, arrow.client)
+    } else {
+        replica_x(scene, REPLICA_WAIT, arrow.replica.get())
+    }
+}
+
 /// Where it ends, across.
 fn end_x(scene: &MessageScene, arrow: &Arrow) -> u64
     requires { HasClientsInOrder scene.now }
@@ -109,7 +129,8 @@ fn end_x(scene: &MessageScene, arrow: &Arrow) -> u64
 {
     match arrow.end {
         ArrowEnd::Arrives(_) => receiver_x(scene, arrow),
-        _ => halfway(scene, arrow),
+        ArrowEnd::Lost(_) => halfway(scene, arrow),
+        ArrowEnd::Open => waiting_x(scene, arrow),
     }
 }
 
@@ -216,7 +237,7 @@ fn append_arrow_label(
         class: LABEL,
         x: label_x(is_request(&arrow.message), way),
         y: down(LABEL_BASE, arrow.begins),
-        room: LETTERS,
+        room: LABEL_LETTERS,
     };
     append_label(alloc, page, &spot, words)
 }
@@ -235,40 +256,22 @@ fn append_in_arrow(alloc: Global, page: &mut Vec<u8>, way: Way, arrow: &Arrow) -
     append_arrow_label(alloc, page, way, arrow, &words)
 }
 
-/// Adds the arrow.
-#[tactic(auto, unfolding(markup::specs::Markup::rendered))]
-fn append_arrow(
-    alloc: Global,
-    page: &mut Vec<u8>,
-    scene: &MessageScene,
-    arrow: &Arrow,
-) -> Result<(), Memory>
-    requires { HasClientsInOrder scene.now }
-    ensures { OnOk result
-        (page.new.items ≡ page.old.items ++ rendered (arrow_markup scene.now arrow.now)) }
-{
-    let class = direction_class(is_request(&arrow.message));
-    append_opening(
-        page,
-        Element::G,
-        &[Attribute::Words(AttributeName::Class, class)],
-    )?;
-    append_in_arrow(alloc, page, way_of(scene, arrow), arrow)?;
-    append_closing(page, Element::G)
-}
+impl Shape for Arrows<'_> {
+    type Item = Arrow;
 
-/// Adds the arrows.
-pub(crate) fn append_arrows(
-    alloc: Global,
-    page: &mut Vec<u8>,
-    scene: &MessageScene,
-) -> Result<(), Memory>
-    requires { HasClientsInOrder scene.now }
-    ensures { OnOk result (page.new.items ≡ page.old.items
-        ++ rendered (each (arrow_markup scene.now) scene.now.arrows.items)) }
-{
-    for arrow in &scene.arrows {
-        append_arrow(alloc, page, scene, arrow)?;
+    ghost can_append = { λ arrows. HasClientsInOrder arrows.scene.now };
+
+    ghost shape = { λ arrows. arrow_markup arrows.scene.now };
+
+    #[tactic(auto, unfolding(markup::specs::Markup::rendered))]
+    fn append(&self, alloc: Global, page: &mut Vec<u8>, item: &Arrow) -> Result<(), Memory> {
+        let class = direction_class(is_request(&item.message));
+        append_opening(
+            page,
+            Element::G,
+            &[Attribute::Words(AttributeName::Class, class)],
+        )?;
+        append_in_arrow(alloc, page, way_of(self.scene, item), item)?;
+        append_closing(page, Element::G)
     }
-    Ok(())
 }

@@ -1,31 +1,29 @@
 //! The bars of a diagram, one for each call on its client's lifeline.
 ghost use Rattle.std.specs.Prelude.{◌≡◌, ◌++◌, OnOk};
-ghost use Rattle.markup.specs.Markup.{each, rendered};
-ghost use Rattle.diagrams.specs.Calls.{IsNearFrame, action_class, bar_markup, bottom_of};
+ghost use Rattle.markup.specs.Markup.{rendered};
+ghost use Rattle.labels.specs.Labels.{title};
+ghost use Rattle.labels.specs.Places.{IsNear, IsNearFrame};
+ghost use Rattle.diagrams.specs.Calls.{action_class, bar_markup, bottom_of};
 ghost use Rattle.diagrams.specs.Calls.{last_part, open_corners, open_part, parts, piece};
 ghost use Rattle.diagrams.specs.Calls.{shut_part, stop_line, stop_of};
-ghost use Rattle.diagrams.specs.Labels.{title};
-ghost use Rattle.diagrams.specs.Layout.{HasClientsInOrder, IsNear};
+ghost use Rattle.diagrams.specs.Layout.{HasClientsInOrder};
 ghost use Rattle.diagrams.specs.Words.{begin_words};
 
-use crate::labels::{Way, append_line, append_title};
 use crate::layout::{client_x, down, rows_of};
 use crate::style::{
     ASKING, BAR_LEFT, BAR_RIGHT, MOMENT, PUTTING, READING, STOP, STOP_LEFT, STOP_RIGHT, WRITING,
 };
 use crate::words::say_begin;
+use labels::{Frame, Shape, Way, append_line, append_title};
 use markup::{Attribute, AttributeName, Element, append_closing, append_empty, append_opening};
 use message_scenes::{CallBar, CallEnd, MessageScene, PlacedNote};
 use std::alloc::Global;
 use tag::{Action, ClientId, Memory};
 
-/// Where a part of a bar stands.
+/// The bars of a scene.
 #[derive(Clone, Copy)]
-pub(crate) struct Frame {
-    pub(crate) left: u64,
-    pub(crate) right: u64,
-    pub(crate) top: u64,
-    pub(crate) bottom: u64,
+pub(crate) struct Bars<'a> {
+    pub(crate) scene: &'a MessageScene,
 }
 
 /// The class of the bar of such a call.
@@ -208,41 +206,24 @@ fn append_call_title(alloc: Global, page: &mut Vec<u8>, bar: &CallBar) -> Result
     append_title(page, &words)
 }
 
-/// Adds the bar of the call.
-#[tactic(auto, unfolding(markup::specs::Markup::rendered))]
-fn append_bar(
-    alloc: Global,
-    page: &mut Vec<u8>,
-    scene: &MessageScene,
-    bar: &CallBar,
-) -> Result<(), Memory>
-    requires { HasClientsInOrder scene.now }
-    ensures { OnOk result
-        (page.new.items ≡ page.old.items ++ rendered (bar_markup scene.now bar.now)) }
-{
-    append_opening(
-        page,
-        Element::G,
-        &[Attribute::Words(AttributeName::Class, action_class(&bar.action))],
-    )?;
-    append_call_title(alloc, page, bar)?;
-    append_parts(page, scene, bar)?;
-    append_stop_of(page, scene, bar.client, &bar.end)?;
-    append_closing(page, Element::G)
-}
+impl Shape for Bars<'_> {
+    type Item = CallBar;
 
-/// Adds the bars of the calls.
-pub(crate) fn append_bars(
-    alloc: Global,
-    page: &mut Vec<u8>,
-    scene: &MessageScene,
-) -> Result<(), Memory>
-    requires { HasClientsInOrder scene.now }
-    ensures { OnOk result (page.new.items ≡ page.old.items
-        ++ rendered (each (bar_markup scene.now) scene.now.calls.items)) }
-{
-    for bar in &scene.calls {
-        append_bar(alloc, page, scene, bar)?;
+    ghost can_append = { λ bars. HasClientsInOrder bars.scene.now };
+
+    ghost shape = { λ bars. bar_markup bars.scene.now };
+
+    #[tactic(auto, unfolding(markup::specs::Markup::rendered))]
+    fn append(&self, alloc: Global, page: &mut Vec<u8>, item: &CallBar) -> Result<(), Memory> {
+        let class = action_class(&item.action);
+        append_opening(
+            page,
+            Element::G,
+            &[Attribute::Words(AttributeName::Class, class)],
+        )?;
+        append_call_title(alloc, page, item)?;
+        append_parts(page, self.scene, item)?;
+        append_stop_of(page, self.scene, item.client, &item.end)?;
+        append_closing(page, Element::G)
     }
-    Ok(())
 }

@@ -6,18 +6,18 @@ ghost use Rattle.diagrams.specs.Diagrams.{diagram, head, omitted_text, plane, pr
 ghost use Rattle.diagrams.specs.Diagrams.{svg, svg_attributes};
 ghost use Rattle.diagrams.specs.Layout.{HasClientsInOrder};
 
-use crate::arrows::append_arrows;
-use crate::bars::append_bars;
-use crate::labels::{Spot, append_numbered, append_title};
+use crate::arrows::Arrows;
+use crate::bars::Bars;
 use crate::layout::{down, replica_x, rows_of};
 use crate::lifelines::append_lifelines;
-use crate::replicas::{append_changes, append_downs};
-use crate::rows::append_rows;
+use crate::replicas::{Changes, Downs};
+use crate::rows::Rows;
 use crate::style::{
-    AUTO, BOTTOM, COMMAND_LEFT, HEAD, HEAD_BOX, HEAD_MIDDLE, HEAD_PATH, HEAD_SIZE, HEAD_TIP, IMAGE,
+    AUTO, BOTTOM, COMMAND_LEFT, HEAD, HEAD_BOX, HEAD_MIDDLE, HEAD_PATH, HEAD_SIZE, HEAD_TIP,
     MESSAGES, MORE, OMITTED, RIGHT, SENTENCE_LETTERS, TEXT_BASE, TITLE,
 };
-use crate::texts::append_texts;
+use crate::texts::CallTexts;
+use labels::{Spot, append_each, append_each_indexed, append_numbered, append_title, open_image};
 use markup::{Attribute, AttributeName, Element, append_closing, append_empty, append_opening};
 use message_scenes::MessageScene;
 use std::alloc::Global;
@@ -81,9 +81,9 @@ fn append_plane(alloc: Global, page: &mut Vec<u8>, scene: &MessageScene) -> Resu
     requires { HasClientsInOrder scene.now }
     ensures { OnOk result (page.new.items ≡ page.old.items ++ rendered (plane scene.now)) }
 {
-    append_rows(alloc, page, scene)?;
+    append_each_indexed(alloc, page, &Rows { scene }, &scene.rows)?;
     append_lifelines(alloc, page, scene)?;
-    append_downs(alloc, page, scene)
+    append_each(alloc, page, &Downs { scene }, &scene.downs)
 }
 
 /// Adds the bars of the calls, the arrows above them, and above these the texts.
@@ -92,10 +92,10 @@ fn append_shapes(alloc: Global, page: &mut Vec<u8>, scene: &MessageScene) -> Res
     requires { HasClientsInOrder scene.now }
     ensures { OnOk result (page.new.items ≡ page.old.items ++ rendered (shapes scene.now)) }
 {
-    append_bars(alloc, page, scene)?;
-    append_arrows(alloc, page, scene)?;
-    append_texts(alloc, page, scene)?;
-    append_changes(alloc, page, scene)
+    append_each(alloc, page, &Bars { scene }, &scene.calls)?;
+    append_each(alloc, page, &Arrows { scene }, &scene.arrows)?;
+    append_each(alloc, page, &CallTexts { scene }, &scene.calls)?;
+    append_each(alloc, page, &Changes { scene }, &scene.changes)
 }
 
 /// Opens the diagram's element.
@@ -104,14 +104,7 @@ fn open_svg(page: &mut Vec<u8>, scene: &MessageScene) -> Result<(), Memory>
         ≡ page.old.items ++ opening_tag tag.Svg (svg_attributes scene.now)) }
 {
     let width = replica_x(scene, RIGHT, scene.replicas);
-    let height = down(BOTTOM, rows_of(scene));
-    let attributes = [
-        Attribute::Words(AttributeName::Role, IMAGE),
-        Attribute::Number(AttributeName::Width, width),
-        Attribute::Number(AttributeName::Height, height),
-        Attribute::AllTenths(AttributeName::ViewBox, &[0, 0, width * 10, height * 10]),
-    ];
-    append_opening(page, Element::Svg, &attributes)
+    open_image(page, width, down(BOTTOM, rows_of(scene)))
 }
 
 /// Adds the diagram's element.

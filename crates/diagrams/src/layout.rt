@@ -1,23 +1,14 @@
 //! Where a diagram shows what, in pixels.
 ghost use Rattle.std.specs.Prelude.{◌≡◌, ◌≤◌, length};
 ghost use Rattle.std.specs.List.Sorted.{IsStrictlyIncreasing};
-ghost use Rattle.diagrams.specs.Layout.{HasClientsInOrder, IsNear, across, client_x, down};
-ghost use Rattle.diagrams.specs.Layout.{names_below, pixels, replica_x, rows_of};
+ghost use Rattle.labels.specs.Places.{IsNear};
+ghost use Rattle.diagrams.specs.Layout.{HasClientsInOrder, across, client_x, down};
+ghost use Rattle.diagrams.specs.Layout.{names_below, replica_x, rows_of};
 
-use crate::style::{COLUMN, FARTHEST, ROW};
+use crate::style::{COLUMN, ROW};
+use labels::pixels;
 use message_scenes::MessageScene;
 use tag::ClientId;
-
-/// So many steps beyond a start.
-fn pixels(start: u64, count: usize, step: u64) -> u64
-    ensures pixels { result ≡ pixels start count step }
-    ensures near { IsNear result }
-{
-    (count as u64)
-        .saturating_mul(step)
-        .saturating_add(start)
-        .min(FARTHEST)
-}
 
 /// So far down in that row, from its first one.
 pub(crate) fn down(start: u64, row: usize) -> u64

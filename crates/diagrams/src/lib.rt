@@ -10,9 +10,7 @@
 
 mod arrows;
 mod bars;
-mod cuts;
 mod diagram;
-mod labels;
 pub mod laws;
 mod layout;
 mod lifelines;

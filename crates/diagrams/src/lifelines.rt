@@ -1,20 +1,26 @@
 //! The lifelines of a diagram: one for each client, and one for each replica.
 ghost use Rattle.std.specs.Prelude.{◌≡◌, ◌++◌, OnOk};
-ghost use Rattle.markup.specs.Markup.{each, rendered};
+ghost use Rattle.markup.specs.Markup.{rendered};
 ghost use Rattle.sentences.specs.Words.{numbered};
 ghost use Rattle.diagrams.specs.Layout.{HasClientsInOrder};
 ghost use Rattle.diagrams.specs.Lifelines.{client_lifeline, each_below, lifeline, lifelines};
 ghost use Rattle.diagrams.specs.Lifelines.{name_above, name_below, replica_lifeline};
 
-use crate::labels::{Spot, Way, append_line, append_numbered};
 use crate::layout::{client_x, down, replica_x, rows_of};
 use crate::style::{
     CLIENT, CLIENT_WORD, FOOT_BASE, LETTERS, LIFELINE, LONG, MOMENT, NAMES_BASE, REPLICA,
     REPLICA_WORD, TOP, WHO,
 };
+use labels::{Shape, Spot, Way, append_each, append_line, append_numbered};
 use message_scenes::MessageScene;
 use std::alloc::Global;
 use tag::{ClientId, Memory};
+
+/// The lifelines of a scene's clients.
+#[derive(Clone, Copy)]
+struct Clients<'a> {
+    scene: &'a MessageScene,
+}
 
 /// Whose lifeline it is, and where.
 #[derive(Clone, Copy)]
@@ -85,25 +91,6 @@ fn append_lifeline(
     append_below(alloc, page, scene, owner)
 }
 
-/// Adds the lifeline of the client.
-fn append_client(
-    alloc: Global,
-    page: &mut Vec<u8>,
-    scene: &MessageScene,
-    name: ClientId,
-) -> Result<(), Memory>
-    requires { HasClientsInOrder scene.now }
-    ensures { OnOk result
-        (page.new.items ≡ page.old.items ++ rendered (client_lifeline scene.now name)) }
-{
-    let owner = Owner {
-        x: client_x(scene, CLIENT, name),
-        word: CLIENT_WORD,
-        number: u64::from(name.get()),
-    };
-    append_lifeline(alloc, page, scene, owner)
-}
-
 /// Adds the lifeline of the replica of that number.
 fn append_replica(
     alloc: Global,
@@ -122,16 +109,21 @@ fn append_replica(
     append_lifeline(alloc, page, scene, owner)
 }
 
-/// Adds the lifelines of the clients.
-fn append_clients(alloc: Global, page: &mut Vec<u8>, scene: &MessageScene) -> Result<(), Memory>
-    requires { HasClientsInOrder scene.now }
-    ensures { OnOk result (page.new.items ≡ page.old.items
-        ++ rendered (each (client_lifeline scene.now) scene.now.clients.items)) }
-{
-    for name in &scene.clients {
-        append_client(alloc, page, scene, *name)?;
+impl Shape for Clients<'_> {
+    type Item = ClientId;
+
+    ghost can_append = { λ clients. HasClientsInOrder clients.scene.now };
+
+    ghost shape = { λ clients. client_lifeline clients.scene.now };
+
+    fn append(&self, alloc: Global, page: &mut Vec<u8>, item: &ClientId) -> Result<(), Memory> {
+        let owner = Owner {
+            x: client_x(self.scene, CLIENT, *item),
+            word: CLIENT_WORD,
+            number: u64::from(item.get()),
+        };
+        append_lifeline(alloc, page, self.scene, owner)
     }
-    Ok(())
 }
 
 /// Adds the lifelines of the replicas.
@@ -155,6 +147,6 @@ pub(crate) fn append_lifelines(
     requires { HasClientsInOrder scene.now }
     ensures { OnOk result (page.new.items ≡ page.old.items ++ rendered (lifelines scene.now)) }
 {
-    append_clients(alloc, page, scene)?;
+    append_each(alloc, page, &Clients { scene }, &scene.clients)?;
     append_replicas(alloc, page, scene)
 }

@@ -1,18 +1,30 @@
 //! What a diagram shows of replicas: when they are down, and what they come to hold.
-ghost use Rattle.std.specs.Prelude.{◌≡◌, ◌++◌, OnOk};
-ghost use Rattle.markup.specs.Markup.{each, rendered};
-ghost use Rattle.diagrams.specs.Replicas.{change_markup, down_markup, up_at, words_beside};
+ghost use Rattle.std.specs.Prelude.{◌≡◌};
+ghost use Rattle.diagrams.specs.Layout.{down, replica_x};
+ghost use Rattle.diagrams.specs.Replicas.{change_markup, down_markup, frame_of, up_at};
 
-use crate::bars::{Frame, append_shut};
-use crate::labels::{Spot, append_label};
+use crate::bars::append_shut;
 use crate::layout::{down, replica_x, rows_of};
 use crate::style::{
     CHANGE_LEFT, DOWN_LEFT, DOWN_RIGHT, DOWN_TIME, DOWN_WORD, HOLDS, LETTERS, MOMENT, TEXT_BASE,
 };
 use crate::words::say_change;
+use labels::{Frame, Shape, Spot, append_label};
 use message_scenes::{Change, DownTime, MessageScene};
 use std::alloc::Global;
 use tag::{Memory, ReplicaId};
+
+/// The down times of a scene.
+#[derive(Clone, Copy)]
+pub(crate) struct Downs<'a> {
+    pub(crate) scene: &'a MessageScene,
+}
+
+/// What a scene's replicas come to hold.
+#[derive(Clone, Copy)]
+pub(crate) struct Changes<'a> {
+    pub(crate) scene: &'a MessageScene,
+}
 
 /// Where a down time that so ends ends, down.
 fn up_at(scene: &MessageScene, starts: Option<usize>) -> u64
@@ -24,107 +36,59 @@ fn up_at(scene: &MessageScene, starts: Option<usize>) -> u64
     }
 }
 
-/// Adds the words right of the replica's lifeline, in that row.
-fn append_beside(
-    alloc: Global,
-    page: &mut Vec<u8>,
-    scene: &MessageScene,
-    class: &'static str,
-    replica: ReplicaId,
-    row: usize,
-    words: &[u8],
-) -> Result<(), Memory>
-    ensures { OnOk result (page.new.items ≡ page.old.items
-        ++ rendered (words_beside scene.now class.now replica row words.now)) }
+/// Where a text of that class stands: right of the replica's lifeline, in that row.
+fn spot_beside(scene: &MessageScene, class: &'static str, replica: ReplicaId, row: usize) -> Spot
+    ensures class { result.class.now ≡ class.now }
+    ensures x { result.x ≡ replica_x scene.now CHANGE_LEFT replica }
+    ensures y { result.y ≡ down TEXT_BASE row }
+    ensures room { result.room ≡ LETTERS }
 {
-    let spot = Spot {
+    Spot {
         class,
         x: replica_x(scene, CHANGE_LEFT, replica.get()),
         y: down(TEXT_BASE, row),
         room: LETTERS,
-    };
-    append_label(alloc, page, &spot, words)
+    }
 }
 
-/// Adds the down time.
-#[tactic(auto, unfolding(markup::specs::Markup::rendered))]
-fn append_down(
-    alloc: Global,
-    page: &mut Vec<u8>,
-    scene: &MessageScene,
-    time: &DownTime,
-) -> Result<(), Memory>
-    ensures { OnOk result
-        (page.new.items ≡ page.old.items ++ rendered (down_markup scene.now time.now)) }
+/// Where the down time stands.
+fn frame_of(scene: &MessageScene, time: &DownTime) -> Frame
+    ensures { result ≡ frame_of scene.now time.now }
 {
-    let frame = Frame {
+    Frame {
         left: replica_x(scene, DOWN_LEFT, time.replica.get()),
         right: replica_x(scene, DOWN_RIGHT, time.replica.get()),
         top: down(MOMENT, time.stops),
         bottom: up_at(scene, time.starts),
-    };
-    append_shut(page, DOWN_TIME, frame)?;
-    let words = DOWN_WORD.as_bytes();
-    append_beside(
-        alloc,
-        page,
-        scene,
-        DOWN_TIME,
-        time.replica,
-        time.stops,
-        words,
-    )
-}
-
-/// Adds the down times.
-pub(crate) fn append_downs(
-    alloc: Global,
-    page: &mut Vec<u8>,
-    scene: &MessageScene,
-) -> Result<(), Memory>
-    ensures { OnOk result (page.new.items ≡ page.old.items
-        ++ rendered (each (down_markup scene.now) scene.now.downs.items)) }
-{
-    for time in &scene.downs {
-        append_down(alloc, page, scene, time)?;
     }
-    Ok(())
 }
 
-/// Adds what a replica comes to hold.
-fn append_change(
-    alloc: Global,
-    page: &mut Vec<u8>,
-    scene: &MessageScene,
-    change: &Change,
-) -> Result<(), Memory>
-    ensures { OnOk result
-        (page.new.items ≡ page.old.items ++ rendered (change_markup scene.now change.now)) }
-{
-    let mut words = Vec::new(alloc);
-    say_change(&mut words, change)?;
-    append_beside(
-        alloc,
-        page,
-        scene,
-        HOLDS,
-        change.replica,
-        change.row,
-        &words,
-    )
-}
+impl Shape for Downs<'_> {
+    type Item = DownTime;
 
-/// Adds what the replicas come to hold.
-pub(crate) fn append_changes(
-    alloc: Global,
-    page: &mut Vec<u8>,
-    scene: &MessageScene,
-) -> Result<(), Memory>
-    ensures { OnOk result (page.new.items ≡ page.old.items
-        ++ rendered (each (change_markup scene.now) scene.now.changes.items)) }
-{
-    for change in &scene.changes {
-        append_change(alloc, page, scene, change)?;
+    ghost can_append = { λ downs. Unit {0} };
+
+    ghost shape = { λ downs. down_markup downs.scene.now };
+
+    #[tactic(auto, unfolding(markup::specs::Markup::rendered))]
+    fn append(&self, alloc: Global, page: &mut Vec<u8>, item: &DownTime) -> Result<(), Memory> {
+        append_shut(page, DOWN_TIME, frame_of(self.scene, item))?;
+        let spot = spot_beside(self.scene, DOWN_TIME, item.replica, item.stops);
+        append_label(alloc, page, &spot, DOWN_WORD.as_bytes())
     }
-    Ok(())
+}
+
+impl Shape for Changes<'_> {
+    type Item = Change;
+
+    ghost can_append = { λ changes. Unit {0} };
+
+    ghost shape = { λ changes. change_markup changes.scene.now };
+
+    fn append(&self, alloc: Global, page: &mut Vec<u8>, item: &Change) -> Result<(), Memory> {
+        let spot = spot_beside(self.scene, HOLDS, item.replica, item.row);
+        let mut words = Vec::new(alloc);
+        say_change(&mut words, item)?;
+        append_label(alloc, page, &spot, &words)
+    }
 }

@@ -1,19 +1,25 @@
 //! The rows of a diagram: each has its line of the script at the left, and a line over all columns.
 ghost use Rattle.std.specs.Prelude.{◌≡◌, ◌++◌, OnOk};
 ghost use Rattle.markup.specs.Markup.{rendered};
-ghost use Rattle.diagrams.specs.Rows.{command_at, each_from, row_line, row_markup, row_words};
+ghost use Rattle.diagrams.specs.Rows.{command_at, row_line, row_markup, row_words};
 
-use crate::labels::{Spot, Way, append_label, append_line, append_numbered};
 use crate::layout::{down, replica_x};
 use crate::style::{
-    BAR_LEFT, COMMAND, COMMAND_LEFT, COMMAND_LETTERS, LINE_LETTERS, LINE_RIGHT, LINE_WORD, MOMENT,
-    RIGHT, SOURCE, STEP, TEXT_BASE,
+    COMMAND, COMMAND_LEFT, COMMAND_LETTERS, LINE_LETTERS, LINE_RIGHT, LINE_WORD, MOMENT, RIGHT,
+    SOURCE, STEP, STEP_LEFT, TEXT_BASE,
 };
 use crate::words::say_command;
 use fault_script::{Command, NumberedCommand};
+use labels::{IndexedShape, Spot, Way, append_label, append_line, append_numbered};
 use message_scenes::MessageScene;
 use std::alloc::Global;
 use tag::Memory;
+
+/// The rows of a scene.
+#[derive(Clone, Copy)]
+pub(crate) struct Rows<'a> {
+    pub(crate) scene: &'a MessageScene,
+}
 
 /// Adds the line over all columns in the row of that index.
 fn append_row_line(page: &mut Vec<u8>, scene: &MessageScene, index: usize) -> Result<(), Memory>
@@ -21,7 +27,7 @@ fn append_row_line(page: &mut Vec<u8>, scene: &MessageScene, index: usize) -> Re
 {
     let y = down(MOMENT, index);
     let way = Way {
-        x1: BAR_LEFT,
+        x1: STEP_LEFT,
         y1: y,
         x2: replica_x(scene, RIGHT, scene.replicas),
         y2: y,
@@ -72,33 +78,22 @@ fn append_row_words(
     append_command(alloc, page, y, &source.command)
 }
 
-/// Adds the row of that index.
-#[tactic(auto, unfolding(markup::specs::Markup::rendered))]
-fn append_row(
-    alloc: Global,
-    page: &mut Vec<u8>,
-    scene: &MessageScene,
-    index: usize,
-    source: &NumberedCommand,
-) -> Result<(), Memory>
-    ensures { OnOk result
-        (page.new.items ≡ page.old.items ++ rendered (row_markup scene.now index source.now)) }
-{
-    append_row_line(page, scene, index)?;
-    append_row_words(alloc, page, index, source)
-}
+impl IndexedShape for Rows<'_> {
+    type Item = NumberedCommand;
 
-/// Adds the rows.
-pub(crate) fn append_rows(
-    alloc: Global,
-    page: &mut Vec<u8>,
-    scene: &MessageScene,
-) -> Result<(), Memory>
-    ensures { OnOk result (page.new.items ≡ page.old.items
-        ++ rendered (each_from (row_markup scene.now) 0 scene.now.rows.items)) }
-{
-    for (index, source) in scene.rows.iter().enumerate() {
-        append_row(alloc, page, scene, index, source)?;
+    ghost can_append = { λ rows index. Unit {0} };
+
+    ghost shape = { λ rows. row_markup rows.scene.now };
+
+    #[tactic(auto, unfolding(markup::specs::Markup::rendered))]
+    fn append(
+        &self,
+        alloc: Global,
+        page: &mut Vec<u8>,
+        index: usize,
+        item: &NumberedCommand,
+    ) -> Result<(), Memory> {
+        append_row_line(page, self.scene, index)?;
+        append_row_words(alloc, page, index, item)
     }
-    Ok(())
 }

@@ -2,12 +2,13 @@
 ghost use Rattle.std.specs.Prelude.{◌≡◌, ◌++◌, OnOk};
 ghost use Rattle.markup.specs.Markup.{rendered};
 ghost use Rattle.diagrams.specs.Diagrams.{diagram_legend, diagram_style};
-ghost use Rattle.diagrams.specs.Sheets.{arrow_samples, bar_samples, sample};
+ghost use Rattle.diagrams.specs.Sheets.{arrow_samples, bar_samples};
 
 use crate::style::{
     ASKING, ASKING_KEY, DOWN_KEY, DOWN_TIME, KEY, LEGEND_WORDS, LOST, LOST_KEY, PUTTING,
     PUTTING_KEY, REPLY, REPLY_KEY, REQUEST, REQUEST_KEY, SHEET, UNDER_WAY, UNDER_WAY_KEY,
 };
+use labels::append_sample;
 use markup::{Attribute, AttributeName, Element, append_closing, append_opening, append_text};
 use tag::Memory;
 
@@ -20,21 +21,6 @@ pub fn append_diagram_style(page: &mut Vec<u8>) -> Result<(), Memory>
     append_opening(page, Element::Style, &[])?;
     append_text(page, SHEET)?;
     append_closing(page, Element::Style)
-}
-
-/// Adds the words, looking as the shapes of that class.
-#[tactic(auto, unfolding(markup::specs::Markup::rendered))]
-fn append_sample(page: &mut Vec<u8>, class: &str, words: &str) -> Result<(), Memory>
-    ensures { OnOk result
-        (page.new.items ≡ page.old.items ++ rendered (sample class.now words.now)) }
-{
-    append_opening(
-        page,
-        Element::Span,
-        &[Attribute::Words(AttributeName::Class, class)],
-    )?;
-    append_text(page, words)?;
-    append_closing(page, Element::Span)
 }
 
 /// Adds a sample of each kind of arrow.

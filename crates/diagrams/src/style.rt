@@ -8,11 +8,11 @@ pub(crate) const ROW: u64 = 24;
 /// The width of a column.
 pub(crate) const COLUMN: u64 = 120;
 
-/// Nothing stands farther right or down.
-pub(crate) const FARTHEST: u64 = 1_000_000_000_000_000_000;
-
 /// A diagram of more rows names its clients and replicas below, too.
 pub(crate) const LONG: usize = 30;
+
+/// Where the line over all columns of a row begins.
+pub(crate) const STEP_LEFT: u64 = 170;
 
 /// Where the line of a row, which is said at the left, ends.
 pub(crate) const LINE_RIGHT: u64 = 58;
@@ -26,8 +26,11 @@ pub(crate) const LINE_LETTERS: u64 = 12;
 /// The letters of a row's command.
 pub(crate) const COMMAND_LETTERS: u64 = 16;
 
-/// The letters of a name, a text beside a lifeline, and a message.
+/// The letters of a name and of a text beside a lifeline, which a column holds.
 pub(crate) const LETTERS: u64 = 16;
+
+/// The letters of what an arrow asks or tells.
+pub(crate) const LABEL_LETTERS: u64 = 20;
 
 /// The letters of a sentence over all columns.
 pub(crate) const SENTENCE_LETTERS: u64 = 60;
@@ -51,11 +54,17 @@ pub(crate) const TEXT_RIGHT: u64 = 274;
 /// Where arrows begin and end there.
 pub(crate) const CLIENT_EDGE: u64 = 294;
 
+/// Where requests end that never arrive.
+pub(crate) const CLIENT_WAIT: u64 = 322;
+
 /// In the first column, if there were no client, the lifeline of the first replica.
 pub(crate) const REPLICA: u64 = 326;
 
 /// Where arrows begin and end there.
 pub(crate) const REPLICA_EDGE: u64 = 325;
+
+/// Where replies end that never arrive.
+pub(crate) const REPLICA_WAIT: u64 = 297;
 
 /// The left and right side of a down time there.
 pub(crate) const DOWN_LEFT: u64 = 320;
@@ -81,7 +90,7 @@ pub(crate) const MOMENT: u64 = 42;
 pub(crate) const TEXT_BASE: u64 = 45;
 
 /// The base of what an arrow asks or tells that begins in the first row.
-pub(crate) const LABEL_BASE: u64 = 51;
+pub(crate) const LABEL_BASE: u64 = 50;
 
 /// In the row after the last: the base of the names.
 pub(crate) const FOOT_BASE: u64 = 58;
@@ -90,7 +99,7 @@ pub(crate) const FOOT_BASE: u64 = 58;
 pub(crate) const BOTTOM: u64 = 68;
 
 /// At least so far from its begin stands the middle of what an arrow asks or tells.
-pub(crate) const NEAREST: u64 = 56;
+pub(crate) const NEAREST: u64 = 66;
 
 /// Half the width and half the height of a cross.
 pub(crate) const ARM: u64 = 5;
@@ -151,8 +160,6 @@ pub(crate) const MORE: &str = "more";
 pub(crate) const HEAD: &str = "message-head";
 
 // ---- words
-
-pub(crate) const IMAGE: &str = "img";
 
 pub(crate) const TITLE: &str = "The messages of the run";
 
@@ -229,8 +236,6 @@ pub(crate) const HEAD_MIDDLE: u64 = 4;
 
 pub(crate) const OMITTED: &str = "Steps after these that are not shown: ";
 
-pub(crate) const ELLIPSIS: &str = "\u{2026}";
-
 pub(crate) const REQUEST_KEY: &str = "\u{2192} asks or puts";
 
 pub(crate) const REPLY_KEY: &str = "\u{2190} holds or kept";
@@ -268,7 +273,7 @@ h1,h2,p{margin:.5rem 0;overflow-wrap:anywhere}\
 .messages{overflow-x:auto;margin:.5rem 0}\
 .messages svg{display:block;font:10px ui-monospace,monospace}\
 .messages text{fill:var(--ink)}\
-.lifeline{stroke:var(--soft);stroke-width:1}\
+.lifeline{stroke:var(--soft);stroke-width:1;stroke-opacity:.6}\
 .step{stroke:var(--faint);stroke-width:1;stroke-dasharray:1 3}\
 .messages .who{font-weight:bold;text-anchor:middle}\
 .messages .source{fill:var(--soft);text-anchor:end}\

@@ -1,17 +1,23 @@
 //! The texts of the calls of a diagram, at their bars.
 ghost use Rattle.std.specs.Prelude.{◌≡◌, ◌++◌, OnOk};
-ghost use Rattle.markup.specs.Markup.{each, rendered};
+ghost use Rattle.markup.specs.Markup.{rendered};
 ghost use Rattle.diagrams.specs.Calls.{answer_text, begin_text, call_texts, note_text};
 ghost use Rattle.diagrams.specs.Calls.{outcome_text, stopped_text};
 ghost use Rattle.diagrams.specs.Layout.{HasClientsInOrder, client_x, down};
 
-use crate::labels::{Spot, append_label};
 use crate::layout::{client_x, down};
 use crate::style::{BEGIN, LETTERS, NOTE, OUTCOME, STOPPED, TEXT_BASE, TEXT_RIGHT};
 use crate::words::{say_begin, say_note, say_returned};
+use labels::{Shape, Spot, append_label};
 use message_scenes::{CallBar, CallEnd, MessageScene, PlacedNote};
 use std::alloc::Global;
 use tag::{ClientId, Memory, Returned};
+
+/// The texts of a scene's calls.
+#[derive(Clone, Copy)]
+pub(crate) struct CallTexts<'a> {
+    pub(crate) scene: &'a MessageScene,
+}
 
 /// Where a text of that class stands: left of the client's lifeline, in that row.
 fn spot_at(scene: &MessageScene, class: &'static str, client: ClientId, row: usize) -> Spot
@@ -127,35 +133,17 @@ fn append_outcome(
     }
 }
 
-/// Adds the texts of the call.
-#[tactic(auto, unfolding(markup::specs::Markup::rendered))]
-fn append_call_texts(
-    alloc: Global,
-    page: &mut Vec<u8>,
-    scene: &MessageScene,
-    bar: &CallBar,
-) -> Result<(), Memory>
-    requires { HasClientsInOrder scene.now }
-    ensures { OnOk result
-        (page.new.items ≡ page.old.items ++ rendered (call_texts scene.now bar.now)) }
-{
-    append_begin(alloc, page, scene, bar)?;
-    append_note(alloc, page, scene, bar.client, bar.note)?;
-    append_outcome(alloc, page, scene, bar.client, &bar.end)
-}
+impl Shape for CallTexts<'_> {
+    type Item = CallBar;
 
-/// Adds the texts of the calls.
-pub(crate) fn append_texts(
-    alloc: Global,
-    page: &mut Vec<u8>,
-    scene: &MessageScene,
-) -> Result<(), Memory>
-    requires { HasClientsInOrder scene.now }
-    ensures { OnOk result (page.new.items ≡ page.old.items
-        ++ rendered (each (call_texts scene.now) scene.now.calls.items)) }
-{
-    for bar in &scene.calls {
-        append_call_texts(alloc, page, scene, bar)?;
+    ghost can_append = { λ texts. HasClientsInOrder texts.scene.now };
+
+    ghost shape = { λ texts. call_texts texts.scene.now };
+
+    #[tactic(auto, unfolding(markup::specs::Markup::rendered))]
+    fn append(&self, alloc: Global, page: &mut Vec<u8>, item: &CallBar) -> Result<(), Memory> {
+        append_begin(alloc, page, self.scene, item)?;
+        append_note(alloc, page, self.scene, item.client, item.note)?;
+        append_outcome(alloc, page, self.scene, item.client, &item.end)
     }
-    Ok(())
 }

@@ -2,7 +2,7 @@
 ghost use Rattle.std.specs.Prelude.{◌≡◌, ◌++◌, option_copied, OnOk};
 ghost use Rattle.diagrams.specs.Words.{action_words, begin_words, change_words, command_words};
 ghost use Rattle.diagrams.specs.Words.{message_words, note_words, pair_words, reply_words};
-ghost use Rattle.diagrams.specs.Words.{request_words, returned_words, step_words, text_of};
+ghost use Rattle.diagrams.specs.Words.{request_words, returned_words, step_words};
 
 use crate::style::{
     ANSWERS, ASKS, BLANK, CALL_SIGN, DELIVER, DONE, FINISH, HELD, HOLDS_SIGN, INVOKE, JOIN, KEPT,
@@ -16,16 +16,6 @@ use replica::{Reply, Request};
 use sentences::{append, append_number, append_tag, append_value};
 use tag::{Action, Key, Memory, Returned, Tag, Value};
 use world_steps::Step;
-
-/// The words as a text, if they are one.
-pub(crate) fn text_of(words: &[u8]) -> &str
-    ensures { result.now ≡ text_of words.now }
-{
-    match str::from_utf8(words) {
-        Ok(text) => text,
-        Err(_) => "",
-    }
-}
 
 /// Adds the first words of a step.
 #[tactic(auto, unfolding(crate::specs::Words::step_words))]
