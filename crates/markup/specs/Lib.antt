@@ -2,3 +2,4 @@ pub mod Escapes
 pub mod Names
 pub mod Markup
 pub mod PageTags
+pub mod Texts

@@ -40,7 +40,7 @@ impl Attribute<'_> {
 }
 
 /// Adds the number, which no escape changes.
-fn append_decimal(page: &mut Vec<u8>, number: u64) -> Result<(), Memory>
+pub(crate) fn append_decimal(page: &mut Vec<u8>, number: u64) -> Result<(), Memory>
     ensures { OnOk result (page.new.items ≡ page.old.items ++ escaped (decimal number)) }
 {
     append_number(page, "", number)

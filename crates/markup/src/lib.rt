@@ -28,6 +28,7 @@ mod escapes;
 pub mod laws;
 mod names;
 mod page_tags;
+mod texts;
 
 pub use attributes::Attribute;
 pub use escapes::append_text;
@@ -35,3 +36,4 @@ pub use names::{AttributeName, Element};
 pub use page_tags::{
     append_closing, append_doctype, append_empty, append_line_end, append_opening,
 };
+pub use texts::{append_number, append_plain, append_worded};
