@@ -3,8 +3,9 @@
 Reads pages of `abd draw` as XML, and compares what they show with the history, read here by other means. The histories are those of COUNT
 random scripts (100 if not given), drawn by their tags and by their orders, and one with values that look like markup.
 
-Of each key it compares the calls, their columns, the rows where they begin and end, and the points of a `yes`. A text stays a text, no element
-is a script, and each link has its place on the page.
+Of each key it compares the calls, their clients and columns, the rows where they begin and end, and the points of a `yes`; so it does on the
+page of a script, whose messages it compares with the trace. A text stays a text, no element is a script, each link has its place on the page,
+and a page has one title and leaves out no level of headings.
 """
 
 import json
@@ -66,8 +67,14 @@ def corners(bar):
     return min(points[::2]), max(points[::2]), min(points[1::2]), None
 
 
+def named(bar):
+    """The call and the client in a bar's title."""
+    return [int(it) for it in re.match(r"call (\d+), client (\d+), ", bar.find("title").text).groups()]
+
+
 def check_bar(bar, call, client_at, row_of):
     left, right, top, bottom = corners(bar)
+    expect(named(bar)[1] == call["client"], "client of", call)
     expect(left < client_at[call["client"]] < right, "column of", call)
     expect(top + EDGE == row_of.get(call["begins"]), "begin of", call)
     expect((bottom is None) == (call["ends"] is None), "end of", call)
@@ -90,7 +97,7 @@ def check_key(section, calls, orders):
     picture = next(section.iter("svg"))
     shown, total = [int(it) for it in elements(section, "p", "shown")[0].text.split(": ")[1].split(" of ")]
     own = {op: call for op, call in calls.items() if call["key"] == key}
-    bars = {int(it.find("title").text.split(",")[0][5:]): it for it in picture.iter("g")}
+    bars = {named(it)[0]: it for it in picture.iter("g")}
     expect(total == len(own) and shown == len(bars) and shown == len(elements(picture, "g")), "calls of", key)
     expect(set(bars) <= set(own) and (shown == 200 or set(bars) == set(own)), "calls shown of", key)
     client_at = {int(it.text[7:]): number(it, "x") for it in elements(picture, "text", "client")}
@@ -102,6 +109,12 @@ def check_key(section, calls, orders):
     if verdict == "yes":
         check_points(picture, bars, orders[key])
     return key
+
+
+def check_headings(root):
+    levels = [int(it.tag[1]) for it in root.iter() if re.fullmatch("h[1-6]", it.tag)]
+    expect(levels.count(1) == 1 and levels[0] == 1, "title among", levels)
+    expect(all(below <= above + 1 for above, below in zip(levels, levels[1:])), "headings", levels)
 
 
 def read_page(text):
@@ -117,6 +130,7 @@ def read_page(text):
     expect(len(places) == len(set(places)), "places", places)
     for it in root.iter("a"):
         expect(it.get("href")[1:] in places, "link", it.get("href"))
+    check_headings(root)
     return root
 
 
@@ -145,6 +159,7 @@ def check_history(abd, place, history):
     orders = orders_of(order_file)
     for words in ([], [order_file]):
         check_page(run(abd, "draw", history, *words)[1], history, orders)
+    return orders
 
 
 def check_unruly(abd, place):
@@ -165,9 +180,12 @@ def count(trace, pattern):
     return len(re.findall(pattern, trace, re.M))
 
 
-def check_trace(abd, script):
-    """The messages of a trace's page are those of the trace in words."""
-    root = read_page(run(abd, "trace", script, "--draw", "--most", "10000")[1])
+def check_trace(abd, script, history, orders):
+    """The messages of a trace's page are those of the trace in words, and the pictures those of the history."""
+    page = run(abd, "trace", script, "--draw", "--most", "10000")[1]
+    check_page(page, history, orders)
+    root = read_page(page)
+    expect(len(next(root.iter("main")).findall("h2")) == 1, "heading of the history of", script)
     trace = run(abd, "trace", script)[1]
     expect("".join(next(root.iter("pre")).itertext()) == trace, "trace of", script)
     if "lines left out" in trace:
@@ -191,8 +209,7 @@ def check_script(abd, place, seed):
     if status == 0:
         with open(history, "w", encoding="utf-8") as file:
             file.write(text)
-        check_history(abd, place, history)
-        check_trace(abd, script)
+        check_trace(abd, script, history, check_history(abd, place, history))
     return status == 0
 
 

@@ -15,7 +15,7 @@ use Rattle.scenes.proofs.RunningPoints.{apart}
 use Rattle.draw_command.specs.Findings.{AreJudged, IsFinding, Judgement, is_no, refused_first}
 use Rattle.draw_command.specs.Judging.{IsDrawable, judgement_of}
 use Rattle.draw_command.specs.declared.finding.JudgedKey.{JudgedKey}
-use Rattle.draw_command.specs.declared.judged.Judged.{Judged}
+use Rattle.explain_command.specs.declared.judged.Judged.{Judged}
 
 nothing_apart : AreApart []
 nothing_apart = λ a b response first second is same. contains_nothing a first

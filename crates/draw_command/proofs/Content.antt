@@ -5,7 +5,7 @@ use Rattle.history_file.specs.declared.numbered_format.NumberedHistories.{Number
 use Rattle.draw_command.specs.Findings.{Judgement, misses_key, refused_count, refused_first}
 use Rattle.draw_command.specs.Pages.{IsContentOf}
 use Rattle.draw_command.specs.declared.drawn.Drawn.{Drawn}
-use Rattle.draw_command.specs.declared.judged.Judged.{Judged}
+use Rattle.explain_command.specs.declared.judged.Judged.{Judged}
 
 -- it is the same of what was put in order, was counted and is missing
 pub content_of_judged : (judged : Judged) (numbered : NumberedHistories) (drawn : Drawn) (all ordered : List Judgement) (refused : ℕ) (missing : Bool) (content : Markup)

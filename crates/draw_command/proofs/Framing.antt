@@ -1,8 +1,11 @@
--- The first of judged keys, and the page from its beginning on.
-use Rattle.std.proofs.Common.{ℕ, ◌≡◌, List, [], ◌++◌, codes, length, map, min, take, sym, ap, ◌∙◌}
+-- The first of judged keys, a page's content, and the page around it.
+use Rattle.std.proofs.Common.{ℕ, ◌≡◌, List, [], ◌++◌, append_assoc, codes, length, map, min, take, refl, sym, ap, ◌∙◌}
 use Rattle.std.proofs.lemmas.List.{take-map, take_min}
 use Rattle.std.proofs.Math.Nat.{min_comm}
-use Rattle.markup.specs.Markup.{Markup, both, page_text, rendered}
+use Rattle.markup.specs.Markup.{Markup, both, closing_tag, opening_tag, page_text, rendered}
+use Rattle.markup.specs.Texts.{plain}
+use Rattle.markup.specs.declared.names.Element.TheVariants as tag
+use Rattle.draw_command.specs.Frames.{above_content, above_styles, below_content, language, metas_markup, page_frame}
 use Rattle.draw_command.specs.Making.{Adds}
 use Rattle.draw_command.specs.Pages.{IsFramed}
 use Rattle.draw_command.proofs.Adding.{adds_after, adds_both}
@@ -11,10 +14,31 @@ use Rattle.draw_command.proofs.Adding.{adds_after, adds_both}
 pub first_ones : {X Y : Type 0} (f : X → Y) (xs first : List X) (n : ℕ) → first ≡ take (min (length xs) n) xs → map f first ≡ take n (map f xs)
 first_ones f xs first n is = ap (map f) (is ∙ ap (λ (k : ℕ). take k xs) (min_comm (length xs) n) ∙ take_min n xs) ∙ sym (take-map f n xs)
 
--- a page from its beginning on
-pub page_begun : (Is : Markup → Type 0) (a new : List ℕ) → a ≡ [] ++ codes "<!DOCTYPE html>\n" → Adds Is a new → (page : Markup) × Is page × (new ≡ page_text page)
-unfolding page_text
-page_begun Is a new begun added = (added.0, added.1, added.2 ∙ ap (λ (l : List ℕ). l ++ rendered added.0) begun)
+regroup : (first html head metas name styles head_end body main title content main_end body_end html_end : List ℕ)
+    → (((([] ++ (first ++ html ++ head ++ metas ++ name)) ++ styles) ++ (head_end ++ body ++ main ++ title)) ++ content) ++ (main_end ++ body_end ++ html_end)
+    ≡ first ++ (html ++ ((head ++ (metas ++ (name ++ styles)) ++ head_end) ++ (body ++ (main ++ (title ++ content) ++ main_end) ++ body_end)) ++ html_end)
+regroup first html head metas name styles head_end body main title content main_end body_end html_end = simp append_assoc
+
+-- the pieces of a page's frame stand around its styles and its content
+framed_text : (title : List ℕ) (styles content : Markup)
+    → (((([] ++ above_styles title) ++ rendered styles) ++ above_content title) ++ rendered content) ++ below_content ≡ page_text (page_frame title styles content)
+unfolding page_text rendered
+framed_text title styles content =
+    regroup (codes "<!DOCTYPE html>\n") (opening_tag tag.Html language) (opening_tag tag.Head []) (rendered metas_markup) (rendered (plain tag.Title title)) (rendered styles) (closing_tag tag.Head)
+    (opening_tag tag.Body []) (opening_tag tag.Main []) (rendered (plain tag.H1 title)) (rendered content) (closing_tag tag.Main) (closing_tag tag.Body) (closing_tag tag.Html)
+
+-- the page around what was added between them
+pub page_framed : (title : List ℕ) (styles : Markup) (Is : Markup → Type 0) (none begun styled opened said whole : List ℕ) → none ≡ [] → begun ≡ none ++ above_styles title → styled ≡ begun ++ rendered styles
+    → opened ≡ styled ++ above_content title → Adds Is opened said → whole ≡ said ++ below_content → (page : Markup) × IsFramed (page_frame title styles) Is page × (whole ≡ page_text page)
+page_framed title styles Is none begun styled opened said whole empty first styles_added second added last = (
+  page_frame title styles added.0,
+  (added.0, added.1, refl),
+  last ∙ ap (λ (l : List ℕ). l ++ below_content)
+      (added.2 ∙ ap (λ (l : List ℕ). l ++ rendered added.0)
+      (second ∙ ap (λ (l : List ℕ). l ++ above_content title)
+      (styles_added ∙ ap (λ (l : List ℕ). l ++ rendered styles) (first ∙ ap (λ (l : List ℕ). l ++ above_styles title) empty))))
+      ∙ framed_text title styles added.0,
+)
 
 -- a page's content: what stands above a table, the table, what stands below it, and sections
 pub content_added : (front below : Markup) (IsTable IsSections : Markup → Type 0) (old a b d new : List ℕ) → a ≡ old ++ rendered front → Adds IsTable a b → d ≡ b ++ rendered below → Adds IsSections d new

@@ -7,7 +7,7 @@ use Rattle.explain_command.proofs.Selecting.{map-filter}
 use Rattle.draw_command.specs.Findings.{AreJudged, IsFinding, Judgement, is_no, refused_count, refused_first}
 use Rattle.draw_command.specs.Judging.{judgement_of}
 use Rattle.draw_command.specs.declared.finding.JudgedKey.{JudgedKey}
-use Rattle.draw_command.specs.declared.judged.Judged.{Judged}
+use Rattle.explain_command.specs.declared.judged.Judged.{Judged}
 
 -- one key more
 pub judged_more : (judged : Judged) (keys more : List CheckedKey) (js now : List Judgement) (j : Judgement) → more ≡ keys ++ j.one ∷ [] → now ≡ js ++ j ∷ []

@@ -13,7 +13,7 @@ use Rattle.explain_command.specs.KeyExplanations.{is_selected, selected_keys}
 use Rattle.draw_command.specs.Findings.{AreJudged, IsFinding, IsTagFinding, Judgement, is_no, refused_count}
 use Rattle.draw_command.specs.declared.finding.Finding.{Finding}
 use Rattle.draw_command.specs.declared.finding.Finding.TheVariants as finding
-use Rattle.draw_command.specs.declared.judged.Judged.TheVariants as judged
+use Rattle.explain_command.specs.declared.judged.Judged.TheVariants as judged
 
 -- keys with sound tags, judged by them
 none_refused : (js : List Judgement) → All (λ j. IsFinding judged.Tags j.one j.finding) js → All (λ (one : CheckedKey). TagSound one.part) (map (λ j. j.one) js) → refused_count js ≡ 0

@@ -15,7 +15,7 @@ use Rattle.draw_command.specs.Findings.{Judgement}
 use Rattle.draw_command.specs.declared.drawn.Drawn.{Drawn}
 use Rattle.draw_command.specs.declared.finding.Finding.{Finding}
 use Rattle.draw_command.specs.declared.finding.Finding.TheVariants.{Yes, OrderFault, TagFault}
-use Rattle.draw_command.specs.declared.judged.Judged.{Judged}
+use Rattle.explain_command.specs.declared.judged.Judged.{Judged}
 
 -- no call has no points
 no_points : (part : List Call) → ArePoints part [] []

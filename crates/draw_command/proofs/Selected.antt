@@ -1,10 +1,8 @@
--- The selected keys, and the page of those.
+-- The selected keys.
 use Rattle.std.proofs.Common.{ℕ, ◌≡◌, Bool, List, Option, All, filter, length, map, option_map, ap, ap₂, subst, sym, ◌∙◌}
 use Rattle.std.specs.Borrow.{Bor}
 use Rattle.std.proofs.lemmas.List.{length-map}
 use Rattle.std.proofs.lemmas.List.Elements.{All-filter, All-same}
-use Rattle.markup.specs.Markup.{Markup}
-use Rattle.history_file.specs.declared.numbered_format.NumberedHistories.{NumberedHistories}
 use Rattle.parallel_keys.specs.CheckedKeys.{CheckedKey}
 use Rattle.parallel_keys.specs.KeysToCheck.{what_of}
 use Rattle.parallel_keys.specs.declared.collect_keys.KeyToCheck.{KeyToCheck}
@@ -13,10 +11,9 @@ use Rattle.explain_command.specs.Explanations.{is_missing, named_key as name_in}
 use Rattle.explain_command.specs.KeyExplanations.{is_selected, selected_keys}
 use Rattle.explain_command.specs.declared.selection.Selection.{Selection}
 use Rattle.explain_command.proofs.Selecting.{selected_what}
-use Rattle.draw_command.specs.Findings.{AreJudged, Judgement, misses_key, named_key, refused_count, refused_first}
-use Rattle.draw_command.specs.Pages.{IsContentOf, IsFramed, IsPageOf, page_markup}
+use Rattle.draw_command.specs.Findings.{AreJudged, Judgement, misses_key, named_key}
 use Rattle.draw_command.specs.declared.drawn.Drawn.{Drawn}
-use Rattle.draw_command.specs.declared.judged.Judged.{Judged}
+use Rattle.explain_command.specs.declared.judged.Judged.{Judged}
 
 module _ (drawn : Drawn) (selection : Selection) (same_key : selection.key ≡ drawn.key) where
   name_is : name_in selection ≡ named_key drawn
@@ -41,15 +38,3 @@ module _ (drawn : Drawn) (selection : Selection) (same_key : selection.key ≡ d
       missing_is missing count counted is =
           let as_many : count ≡ length all = counted ∙ sym (length-map few what_of) ∙ sym (ap length are.each_key) ∙ length-map all (λ (j : Judgement). j.one) in
           is ∙ ap₂ is_missing name_is as_many
-
--- the page of keys that were judged
-pub page_of_judged : (judged : Judged) (numbered : NumberedHistories) (drawn : Drawn) (all ordered : List Judgement) (refused : ℕ) (missing : Bool) (page : Markup)
-    → ordered ≡ refused_first all → refused ≡ refused_count all → missing ≡ misses_key drawn all → IsFramed page_markup (IsContentOf judged numbered drawn ordered refused missing) page
-    → IsPageOf judged numbered drawn all page
-page_of_judged judged numbered drawn all ordered refused missing page in_order counted missed is = (
-  is.0,
-  subst (λ (b : Bool). IsContentOf judged numbered drawn (refused_first all) (refused_count all) b is.0) missed
-      (subst (λ (n : ℕ). IsContentOf judged numbered drawn (refused_first all) n missing is.0) counted
-      (subst (λ (js : List Judgement). IsContentOf judged numbered drawn js refused missing is.0) in_order is.1)),
-  is.2,
-)

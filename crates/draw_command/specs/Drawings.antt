@@ -23,8 +23,8 @@ use Rattle.draw_command.specs.Findings.{Judgement}
 use Rattle.draw_command.specs.declared.drawn.Drawn.{Drawn}
 use Rattle.draw_command.specs.declared.finding.Finding.{Finding}
 use Rattle.draw_command.specs.declared.finding.Finding.TheVariants as finding
-use Rattle.draw_command.specs.declared.judged.Judged.{Judged}
-use Rattle.draw_command.specs.declared.judged.Judged.TheVariants as judged
+use Rattle.explain_command.specs.declared.judged.Judged.{Judged}
+use Rattle.explain_command.specs.declared.judged.Judged.TheVariants as judged
 
 -- ---- why a key is refused
 

@@ -11,8 +11,8 @@ use Rattle.explain_command.specs.KeyExplanations.{tag_line}
 use Rattle.draw_command.specs.declared.drawn.Drawn.{Drawn}
 use Rattle.draw_command.specs.declared.finding.Finding.{Finding}
 use Rattle.draw_command.specs.declared.finding.Finding.TheVariants as finding
-use Rattle.draw_command.specs.declared.judged.Judged.{Judged}
-use Rattle.draw_command.specs.declared.judged.Judged.TheVariants as judged
+use Rattle.explain_command.specs.declared.judged.Judged.{Judged}
+use Rattle.explain_command.specs.declared.judged.Judged.TheVariants as judged
 
 -- the finding on a key whose order is judged: the verdict on it
 abbrev pub IsOrderFinding : CheckedKey → Finding → Type 0

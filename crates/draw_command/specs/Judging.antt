@@ -7,7 +7,7 @@ use Rattle.draw_command.specs.Findings.{AreJudged, IsFinding, Judgement, refused
 use Rattle.draw_command.specs.Findings.{refused_first}
 use Rattle.draw_command.specs.declared.finding.Findings.{Findings}
 use Rattle.draw_command.specs.declared.finding.JudgedKey.{JudgedKey}
-use Rattle.draw_command.specs.declared.judged.Judged.{Judged}
+use Rattle.explain_command.specs.declared.judged.Judged.{Judged}
 
 -- what is judged of a key, and what was found
 abbrev pub judgement_of : JudgedKey → Judgement

@@ -2,6 +2,7 @@ pub mod Findings
 pub mod Judging
 pub mod Counts
 pub mod Drawings
+pub mod Frames
 pub mod Pages
-pub mod Making
 pub mod HistoryPictures
+pub mod Making

@@ -3,9 +3,9 @@ use Rattle.std.specs.Prelude.{ℕ, zero, suc, ◌≡◌, ◌+◌, ◌-◌, Bool,
 use Rattle.std.specs.Prelude.{cond, decimal, length, nat_lt, take}
 use Rattle.std.specs.Str.Lines.{lines}
 use Rattle.std.specs.Str.Lossy.{utf8_lossy}
-use Rattle.markup.specs.Markup.{Markup, nothing, text, empty, element, both, each}
+use Rattle.markup.specs.Markup.{Markup, nothing, text, element, both, each}
+use Rattle.markup.specs.Texts.{of_class, plain, worded}
 use Rattle.markup.specs.declared.names.AttributeName.TheVariants as name
-use Rattle.markup.specs.declared.names.Element.{Element}
 use Rattle.markup.specs.declared.names.Element.TheVariants as tag
 use Rattle.history_file.specs.declared.numbered_format.NumberedHistories.{NumberedHistories}
 use Rattle.pictures.specs.Pictures.{picture_markup}
@@ -15,23 +15,15 @@ use Rattle.pictures.specs.declared.picture.Picture.{Picture}
 use Rattle.explain_command.specs.KeyExplanations.{IsHallOfKey}
 use Rattle.draw_command.specs.Counts.{AreCountsOf}
 use Rattle.draw_command.specs.Drawings.{IsKeyScene, IsWhy}
-use Rattle.draw_command.specs.Findings.{Judgement, finding_line, is_no, misses_key}
-use Rattle.draw_command.specs.Findings.{refused_count, refused_first}
+use Rattle.draw_command.specs.Findings.{Judgement, finding_line, is_no}
+use Rattle.draw_command.specs.Frames.{page_frame}
 use Rattle.draw_command.specs.declared.counts.KeyCounts.{KeyCounts}
 use Rattle.draw_command.specs.declared.drawn.Drawn.{Drawn}
 use Rattle.draw_command.specs.declared.finding.Finding.{Finding}
-use Rattle.draw_command.specs.declared.judged.Judged.{Judged}
+use Rattle.explain_command.specs.declared.judged.Judged.{Judged}
 use Rattle.draw_command.specs.declared.words.TheConstants as word
 
 -- ---- pieces
-
--- an element around a text
-abbrev pub plain : Element → List ℕ → Markup
-plain e words = element e [] (text words)
-
--- an element of that class around a text
-abbrev pub worded : Element → List ℕ → List ℕ → Markup
-worded e class words = element e (record { name = name.Class; value = class } ∷ []) (text words)
 
 -- words, a number, more words and a number
 abbrev pub numbers : List ℕ → ℕ → List ℕ → ℕ → Markup
@@ -40,8 +32,7 @@ numbers before n between m =
 
 -- a paragraph of that class with these
 abbrev pub counted : List ℕ → List ℕ → ℕ → List ℕ → ℕ → Markup
-counted class before n between m =
-    element tag.P (record { name = name.Class; value = class } ∷ []) (numbers before n between m)
+counted class before n between m = element tag.P (of_class class) (numbers before n between m)
 
 -- what bytes say, without the ends of lines
 abbrev pub said : List ℕ → Markup
@@ -82,8 +73,7 @@ count_cells counts = both (count_cell counts.calls) (both (count_cell counts.cli
 
 -- the row of the key that has that number in the table
 abbrev pub row_markup : ℕ → ℕ → Judgement → KeyCounts → Markup
-row_markup drawn n key counts =
-    element tag.Tr (record { name = name.Class; value = verdict_class key.finding } ∷ [])
+row_markup drawn n key counts = element tag.Tr (of_class (verdict_class key.finding))
     (both (finding_cell drawn n key) (count_cells counts))
 
 -- the head of a column
@@ -104,8 +94,8 @@ table_front = both (plain tag.Caption word.CAPTION.now)
 
 -- the table with those rows
 abbrev pub table_markup : Markup → Markup
-table_markup rows = element tag.Table (record { name = name.Class; value = word.KEYS.now } ∷ [])
-    (both table_front (element tag.Tbody [] rows))
+table_markup rows =
+    element tag.Table (of_class word.KEYS.now) (both table_front (element tag.Tbody [] rows))
 
 -- how many keys a table has at most
 abbrev pub table_size : ℕ
@@ -155,41 +145,24 @@ section_markup n key why picture =
 
 -- ---- the page
 
--- what a browser has to know
-abbrev pub metas_markup : Markup
-metas_markup = both (empty tag.Meta (record { name = name.Charset; value = word.CHARSET.now } ∷ []))
-    (empty tag.Meta (record { name = name.Name; value = word.VIEWPORT_NAME.now }
-    ∷ record { name = name.Content; value = word.VIEWPORT.now } ∷ []))
-
 -- the styles: that of pictures, and that of what stands around them
 abbrev pub styles_markup : Markup
 styles_markup = both style (plain tag.Style word.STYLE.now)
-
--- the head: what a browser has to know, the title, and the styles
-abbrev pub head_markup : Markup
-head_markup = element tag.Head [] (both metas_markup (both (plain tag.Title word.TITLE.now)
-    styles_markup))
 
 -- the line that says that no key has the name
 abbrev pub missing_line : Bool → Markup
 missing_line missing = cond missing (worded tag.P word.MISSING.now word.NO_SUCH_KEY.now) nothing
 
--- what stands above the table: the title, how many keys were judged and refused, and whether the
--- key that was named is missing
+-- what stands above the table: how many keys were judged and refused, and whether the key that was
+-- named is missing
 abbrev pub front_markup : ℕ → ℕ → Bool → Markup
-front_markup count refused missing = both (plain tag.H1 word.TITLE.now)
-    (both (counted word.SUM.now word.KEYS_JUDGED.now count word.REFUSED.now refused)
-    (missing_line missing))
+front_markup count refused missing = both
+    (counted word.SUM.now word.KEYS_JUDGED.now count word.REFUSED.now refused)
+    (missing_line missing)
 
--- the body around what the page says and shows
-abbrev pub body_markup : Markup → Markup
-body_markup content = element tag.Body [] (element tag.Main [] content)
-
--- the page around that
+-- the page around what it says and shows of keys
 abbrev pub page_markup : Markup → Markup
-page_markup content =
-    element tag.Html (record { name = name.Lang; value = word.LANGUAGE.now } ∷ [])
-    (both head_markup (body_markup content))
+page_markup content = page_frame word.TITLE.now styles_markup content
 
 -- what the frame makes of something of which that holds
 abbrev pub IsFramed : (Markup → Markup) → (Markup → Type 0) → Markup → Type 0
@@ -236,8 +209,3 @@ module _ (judged : Judged) (numbered : NumberedHistories) (drawn : Drawn) where
     pub pictured : IsEach IsSectionOf 0 (take drawn.most keys) sections
     pub is : content ≡ both (front_markup (length keys) refused missing) (both table
         (both (below_table (length keys) refused) sections))
-
-  -- the page of judged keys, those first that are refused
-  abbrev pub IsPageOf : List Judgement → Markup → Type 0
-  IsPageOf keys page = IsFramed page_markup
-      (IsContentOf (refused_first keys) (refused_count keys) (misses_key drawn keys)) page

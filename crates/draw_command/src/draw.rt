@@ -1,61 +1,44 @@
 //! `abd draw`: the keys of a history, and pictures of their calls.
-ghost use Rattle.std.specs.Prelude.{◌≡◌, List, All, IfOk, IfErr, map};
-ghost use Rattle.parallel_keys.specs.CheckedKeys.{AreDistinct, CheckedKey};
-ghost use Rattle.parallel_keys.specs.KeysToCheck.{what_of};
-ghost use Rattle.scenes.specs.Points.{AreApart};
+ghost use Rattle.std.specs.Prelude.{◌≡◌, IfOk, IfErr};
 ghost use Rattle.cli.specs.Devices.{file_states, writer_states};
 ghost use Rattle.cli.specs.declared.status.Failure.TheVariants as failure;
-ghost use Rattle.explain_command.specs.Files.{EndsOnBoth, EndsOnHistory, HaveKeys};
-ghost use Rattle.explain_command.specs.KeyExplanations.{HasLinesOfEach};
-ghost use Rattle.draw_command.specs.Making.{DrawsFiles, IsMadeOf};
+ghost use Rattle.explain_command.specs.Files.{AreInFiles, CanBeJudged, EndsOnBoth, EndsOnHistory};
+ghost use Rattle.draw_command.specs.Making.{DrawsFiles};
 
 use crate::drawn::Drawn;
-use crate::finding::find_each;
-use crate::judged::Judged;
-use crate::page::page_of;
+use crate::frame::{append_styles, begin_content, begin_page, end_page};
+use crate::history_pictures::add_histories;
 use crate::section::Task;
+use crate::words;
 use cli::{Failure, Outcome, Source, Status, conclude};
 use counted_devices::{CountedRead, CountedWrite};
-use explain_command::{files_in, history_in, is_good};
-use parallel_keys::{KeyToCheck, hall_parts, keys_to_check};
-use recorder::{KeyOrder, Part};
+use explain_command::{Files, Judged, files_in, history_in};
 use std::alloc::Global;
 use std::thread::Threads;
-use tag::Memory;
 
-/// Judges the selected keys, and makes their page.
-fn draw_keys(alloc: Global, task: &Task<'_>, keys: &[KeyToCheck<'_>]) -> Result<Outcome, Memory>
-    requires lines { HasLinesOfEach task.now.numbered.now }
-    requires apart { All (λ one. AreApart one.part) (map what_of keys.now) }
-    ensures { IfOk result (IsMadeOf task.now.judged task.now.numbered.now task.now.drawn
-        (map what_of keys.now)) }
-{
-    let selection = task.drawn.selection();
-    let few = selection.select(alloc, keys)?;
-    let missing = selection.misses(few.len());
-    let findings = find_each(alloc, task.judged, few.as_slice())?;
-    let text = page_of(alloc, task, &findings, missing)?;
-    let good = is_good(findings.refused, missing);
-    Ok(Outcome::of_text(alloc, text, good))
-}
-
-/// The same, of the keys of the histories, and of those that only the orders have.
+/// Makes the page of the selected keys of the files that were read.
 fn draw_files(
     alloc: Global,
-    task: &Task<'_>,
-    orders: &[KeyOrder],
+    judged: Judged,
+    files: &Files,
+    drawn: Drawn<'_>,
 ) -> Result<Outcome, Failure<'static>>
-    requires lines { HasLinesOfEach task.now.numbered.now }
-    requires distinct { AreDistinct orders.now }
-    ensures made { IfOk result (λ outcome. (keys : List CheckedKey)
-        × HaveKeys task.now.numbered.now.histories orders.now keys
-        × IsMadeOf task.now.judged task.now.numbered.now task.now.drawn keys outcome) }
+    requires { CanBeJudged files.now }
+    ensures made { IfOk result (DrawsFiles judged drawn.entry (AreInFiles files.now)) }
     ensures stops { IfErr result (λ why. why ≡ failure.Memory) }
 {
-    let parts = hall_parts(alloc, task.numbered.histories.halls())?;
-    let nothing = Part::empty(alloc);
-    let keys = keys_to_check(alloc, parts.as_slice(), orders, &nothing)?;
-    Ok(draw_keys(alloc, task, keys.as_slice())?)
+    let task = Task {
+        judged,
+        numbered: &files.numbered,
+        drawn,
+    };
+    let mut page = Vec::new(alloc);
+    begin_page(&mut page, words::TITLE)?;
+    append_styles(&mut page)?;
+    begin_content(&mut page, words::TITLE)?;
+    let good = add_histories(alloc, &mut page, &task, files.orders.as_slice())?;
+    end_page(&mut page)?;
+    Ok(Outcome::of_text(alloc, page, good))
 }
 
 /// Reads the history, of version 1 or 2, and then the orders, judges the keys by their orders, and
@@ -86,16 +69,8 @@ pub fn draw_orders_command<'a, H: CountedRead, O: CountedRead, W: CountedWrite, 
 {
     match files_in(rt, alloc, history, orders) {
         Ok(files) => {
-            let task = Task {
-                judged: Judged::Orders,
-                numbered: &files.numbered,
-                drawn,
-            };
-            conclude(
-                draw_files(alloc, &task, files.orders.as_slice()),
-                out,
-                errors,
-            )
+            let made = draw_files(alloc, Judged::Orders, &files, drawn);
+            conclude(made, out, errors)
         }
         Err(failure) => failure.report(errors),
     }
@@ -125,16 +100,8 @@ pub fn draw_tags_command<'a, H: CountedRead, W: CountedWrite, E: CountedWrite>(
 {
     match history_in(rt, alloc, history) {
         Ok(files) => {
-            let task = Task {
-                judged: Judged::Tags,
-                numbered: &files.numbered,
-                drawn,
-            };
-            conclude(
-                draw_files(alloc, &task, files.orders.as_slice()),
-                out,
-                errors,
-            )
+            let made = draw_files(alloc, Judged::Tags, &files, drawn);
+            conclude(made, out, errors)
         }
         Err(failure) => failure.report(errors),
     }

@@ -2,17 +2,15 @@
 ghost use Rattle.std.specs.Prelude.{◌≡◌, ◌++◌, IfOk, OnOk, filter, map, not};
 ghost use Rattle.parallel_keys.specs.KeysToCheck.{what_of};
 ghost use Rattle.draw_command.specs.Findings.{AreJudged, IsFinding, IsOrderFinding, IsTagFinding};
-ghost use Rattle.explain_command.specs.KeyExplanations.{tag_line};
 ghost use Rattle.draw_command.specs.Findings.{finding_line, is_no};
 ghost use Rattle.draw_command.specs.Judging.{AreFindingsOf, HasRefusedFirst, judgement_of};
 
-use crate::judged::Judged;
 use certificate_check::{Fault, Verdict, check_part};
-use cli::{append, append_line};
-use explanations::append_rule;
+use cli::append_line;
+use explain_command::{Judged, append_tag_line};
 use parallel_keys::KeyToCheck;
 use std::alloc::Global;
-use tag::{Key, Memory};
+use tag::Memory;
 use tag_check::{BrokenRule, check_tags};
 
 /// What was found of a key.
@@ -43,17 +41,6 @@ impl Finding {
 pub(crate) struct JudgedKey<'a> {
     pub(crate) one: KeyToCheck<'a>,
     pub(crate) finding: Finding,
-}
-
-/// Adds the line that says that the key's tags break the rule.
-#[tactic(auto, unfolding(explain_command::specs::KeyExplanations::tag_line))]
-fn append_tag_line(text: &mut Vec<u8>, key: &Key, rule: BrokenRule) -> Result<(), Memory>
-    ensures { OnOk result (text.new.items ≡ text.old.items ++ tag_line key.now rule) }
-{
-    append(text, key.as_str())?;
-    append(text, ": no tags ")?;
-    append_rule(text, rule)?;
-    append(text, "\n")
 }
 
 impl JudgedKey<'_> {

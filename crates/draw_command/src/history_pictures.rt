@@ -1,39 +1,62 @@
-//! What a page of another command shows of histories.
-ghost use Rattle.std.specs.Prelude.{All, OnOk, map};
+//! What a page says and shows of histories, also that of another command.
+ghost use Rattle.std.specs.Prelude.{All, IfOk, List, OnOk, map};
+ghost use Rattle.parallel_keys.specs.CheckedKeys.{AreDistinct, CheckedKey};
 ghost use Rattle.parallel_keys.specs.KeysToCheck.{what_of};
 ghost use Rattle.scenes.specs.Points.{AreApart};
+ghost use Rattle.explain_command.specs.Files.{HaveKeys};
 ghost use Rattle.explain_command.specs.KeyExplanations.{HasLinesOfEach};
-ghost use Rattle.draw_command.specs.HistoryPictures.{IsContentOfKeys, IsContentOfTags};
+ghost use Rattle.draw_command.specs.HistoryPictures.{IsContentOfTags, IsJudgedContent};
 ghost use Rattle.draw_command.specs.Making.{Adds};
 
 use crate::drawn::Drawn;
 use crate::finding::find_each;
-use crate::judged::Judged;
 use crate::page::add_content;
 use crate::section::Task;
+use explain_command::{Judged, is_good};
 use history_file::NumberedHistories;
 use parallel_keys::{KeyToCheck, hall_parts, keys_to_check};
-use recorder::Part;
+use recorder::{KeyOrder, Part};
 use std::alloc::Global;
 use tag::Memory;
 
-/// Judges the selected keys, and adds what a page says and shows of them.
+/// Judges the selected keys, and adds what a page says and shows of them. Whether that is good.
 fn add_keys(
     alloc: Global,
     page: &mut Vec<u8>,
     task: &Task<'_>,
     keys: &[KeyToCheck<'_>],
-) -> Result<(), Memory>
+) -> Result<bool, Memory>
     requires lines { HasLinesOfEach task.now.numbered.now }
     requires apart { All (λ one. AreApart one.part) (map what_of keys.now) }
-    ensures { OnOk result (Adds (IsContentOfKeys task.now.numbered.now task.now.drawn
-        task.now.judged (map what_of keys.now)) page.old.items page.new.items) }
+    ensures { IfOk result (λ good. Adds (IsJudgedContent task.now.numbered.now task.now.drawn
+        task.now.judged (map what_of keys.now) good) page.old.items page.new.items) }
 {
     let selection = task.drawn.selection();
     let few = selection.select(alloc, keys)?;
     let missing = selection.misses(few.len());
     let findings = find_each(alloc, task.judged, few.as_slice())?;
-    add_content(alloc, page, task, &findings, missing)
+    add_content(alloc, page, task, &findings, missing)?;
+    Ok(is_good(findings.refused, missing))
+}
+
+/// The same, of the keys of the histories, and of those that only the orders have.
+pub(crate) fn add_histories(
+    alloc: Global,
+    page: &mut Vec<u8>,
+    task: &Task<'_>,
+    orders: &[KeyOrder],
+) -> Result<bool, Memory>
+    requires lines { HasLinesOfEach task.now.numbered.now }
+    requires distinct { AreDistinct orders.now }
+    ensures { IfOk result (λ good. (keys : List CheckedKey)
+        × HaveKeys task.now.numbered.now.histories orders.now keys
+        × Adds (IsJudgedContent task.now.numbered.now task.now.drawn task.now.judged keys good)
+        page.old.items page.new.items) }
+{
+    let parts = hall_parts(alloc, task.numbered.histories.halls())?;
+    let nothing = Part::empty(alloc);
+    let keys = keys_to_check(alloc, parts.as_slice(), orders, &nothing)?;
+    add_keys(alloc, page, task, keys.as_slice())
 }
 
 /// Judges the keys of the histories by the tags of their calls, and adds what the page of
@@ -55,8 +78,6 @@ pub fn add_history_pictures(
         numbered,
         drawn,
     };
-    let parts = hall_parts(alloc, numbered.histories.halls())?;
-    let nothing = Part::empty(alloc);
-    let keys = keys_to_check(alloc, parts.as_slice(), &[], &nothing)?;
-    add_keys(alloc, page, &task, keys.as_slice())
+    add_histories(alloc, page, &task, &[])?;
+    Ok(())
 }

@@ -11,7 +11,7 @@ ghost use Rattle.draw_command.specs.Judging.{IsDrawable, judgement_of};
 
 use crate::drawn::Drawn;
 use crate::finding::{Finding, JudgedKey};
-use crate::judged::Judged;
+use explain_command::Judged;
 use explanations::HallRows;
 use parallel_keys::KeyToCheck;
 use recorder::{Order, Part};

@@ -9,9 +9,9 @@ mod counts;
 mod draw;
 mod drawn;
 mod finding;
-mod head;
+mod frame;
+mod front;
 mod history_pictures;
-mod judged;
 mod key_scene;
 mod page;
 mod section;
@@ -22,5 +22,5 @@ mod words;
 
 pub use draw::{draw_orders_command, draw_tags_command};
 pub use drawn::Drawn;
-pub use head::{append_metas, append_styles};
+pub use frame::{append_styles, begin_content, begin_page, end_page};
 pub use history_pictures::add_history_pictures;

@@ -6,20 +6,18 @@ ghost use Rattle.explain_command.specs.KeyExplanations.{HasLinesOfEach};
 ghost use Rattle.draw_command.specs.Judging.{IsDrawable, judgement_of};
 ghost use Rattle.draw_command.specs.Making.{Adds};
 ghost use Rattle.draw_command.specs.Pages.{IsEach, IsPictureOf, IsSectionOf, saying_markup};
-ghost use Rattle.draw_command.specs.Pages.{section_markup, showing_markup, shown_line};
-ghost use Rattle.draw_command.specs.Pages.{why_lines, why_markup};
+ghost use Rattle.draw_command.specs.Pages.{showing_markup, shown_line, why_lines, why_markup};
 
 use crate::drawn::Drawn;
 use crate::finding::JudgedKey;
-use crate::judged::Judged;
 use crate::key_scene::scene_of_key;
 use crate::table::verdict_class;
-use crate::texts::{append_counted, append_finding, append_worded};
+use crate::texts::{append_counted, append_finding};
 use crate::why::why_of;
 use crate::words;
-use explain_command::hall_of;
+use explain_command::{Judged, hall_of};
 use history_file::NumberedHistories;
-use markup::{Attribute, AttributeName, Element, append_closing, append_opening};
+use markup::{Attribute, AttributeName, Element, append_closing, append_opening, append_worded};
 use pictures::{Picture, append_call_table, append_picture};
 use std::alloc::Global;
 use tag::Memory;
@@ -95,28 +93,7 @@ fn append_showing(alloc: Global, page: &mut Vec<u8>, picture: &Picture<'_>) -> R
     append_call_table(alloc, page, picture)
 }
 
-/// Adds the section of the key that has that number in the table.
-fn append_section(
-    alloc: Global,
-    page: &mut Vec<u8>,
-    n: usize,
-    key: &JudgedKey<'_>,
-    text: &[u8],
-    picture: &Picture<'_>,
-) -> Result<(), Memory>
-    requires { IsInOrder picture.now.scene.now }
-    ensures { OnOk result (page.new.items ≡ page.old.items
-        ++ rendered (section_markup n (judgement_of key.now) text.now picture.now)) }
-{
-    let id = Attribute::Numbered(AttributeName::Id, words::KEY_ID, n as u64);
-    let class = Attribute::Words(AttributeName::Class, verdict_class(key.finding));
-    append_opening(page, Element::Section, &[id, class])?;
-    append_saying(alloc, page, key, text)?;
-    append_showing(alloc, page, picture)?;
-    append_closing(page, Element::Section)
-}
-
-/// Adds the section of that picture.
+/// Adds the section of that picture, of the key that has that number in the table.
 fn add_picture(
     alloc: Global,
     page: &mut Vec<u8>,
@@ -132,7 +109,12 @@ fn add_picture(
         (Adds (IsSectionOf task.now.judged task.now.numbered.now task.now.drawn n
         (judgement_of key.now)) page.old.items page.new.items) }
 {
-    append_section(alloc, page, n, key, text, picture)
+    let id = Attribute::Numbered(AttributeName::Id, words::KEY_ID, n as u64);
+    let class = Attribute::Words(AttributeName::Class, verdict_class(key.finding));
+    append_opening(page, Element::Section, &[id, class])?;
+    append_saying(alloc, page, key, text)?;
+    append_showing(alloc, page, picture)?;
+    append_closing(page, Element::Section)
 }
 
 /// Draws the key, and adds its section.

@@ -10,10 +10,13 @@ ghost use Rattle.draw_command.specs.Pages.{verdict_class};
 
 use crate::counts::{KeyCounts, counts_of};
 use crate::finding::{Finding, JudgedKey};
-use crate::texts::{append_counted, append_finding, append_plain, append_worded};
+use crate::texts::{append_counted, append_finding};
 use crate::words;
 use itoa::Buffer;
-use markup::{Attribute, AttributeName, Element, append_closing, append_opening, append_text};
+use markup::{
+    Attribute, AttributeName, Element, append_closing, append_opening, append_plain, append_text,
+    append_worded,
+};
 use pictures::append_legend;
 use std::alloc::Global;
 use tag::Memory;

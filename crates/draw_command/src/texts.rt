@@ -1,55 +1,16 @@
-//! Texts of a page, and elements around texts.
-ghost use Rattle.std.specs.Prelude.{◌≡◌, ◌++◌, decimal, OnOk};
+//! Texts of a page.
+ghost use Rattle.std.specs.Prelude.{◌≡◌, ◌++◌, OnOk};
 ghost use Rattle.std.specs.Str.Lines.{lines};
 ghost use Rattle.markup.specs.Markup.{each, rendered, text};
 ghost use Rattle.draw_command.specs.Judging.{judgement_of};
-ghost use Rattle.draw_command.specs.Pages.{counted, finding_said, numbers, plain, said, worded};
+ghost use Rattle.draw_command.specs.Pages.{counted, finding_said, numbers, said};
 
 use crate::finding::JudgedKey;
-use itoa::Buffer;
-use markup::{Attribute, AttributeName, Element, append_closing, append_opening, append_text};
+use markup::{
+    Attribute, AttributeName, Element, append_closing, append_number, append_opening, append_text,
+};
 use std::alloc::Global;
 use tag::Memory;
-
-/// Adds an element of that class around the text.
-#[tactic(auto, unfolding(markup::specs::Markup::rendered))]
-pub(crate) fn append_worded(
-    page: &mut Vec<u8>,
-    element: Element,
-    class: &str,
-    words: &str,
-) -> Result<(), Memory>
-    ensures { OnOk result (page.new.items
-        ≡ page.old.items ++ rendered (worded element class.now words.now)) }
-{
-    append_opening(
-        page,
-        element,
-        &[Attribute::Words(AttributeName::Class, class)],
-    )?;
-    append_text(page, words)?;
-    append_closing(page, element)
-}
-
-/// Adds an element around the text.
-#[tactic(auto, unfolding(markup::specs::Markup::rendered))]
-pub(crate) fn append_plain(page: &mut Vec<u8>, element: Element, words: &str) -> Result<(), Memory>
-    ensures { OnOk result (page.new.items
-        ≡ page.old.items ++ rendered (plain element words.now)) }
-{
-    append_opening(page, element, &[])?;
-    append_text(page, words)?;
-    append_closing(page, element)
-}
-
-/// Adds the number.
-#[tactic(auto, unfolding(markup::specs::Markup::rendered))]
-fn append_number(page: &mut Vec<u8>, number: u64) -> Result<(), Memory>
-    ensures { OnOk result (page.new.items ≡ page.old.items ++ rendered (text (decimal number))) }
-{
-    let mut digits = Buffer::new();
-    append_text(page, digits.format(number))
-}
 
 /// Adds words, a number, more words and a number.
 #[tactic(auto, unfolding(markup::specs::Markup::rendered))]

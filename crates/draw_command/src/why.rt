@@ -8,8 +8,8 @@ ghost use Rattle.draw_command.specs.Findings.{IsFinding};
 ghost use Rattle.draw_command.specs.declared.finding.Finding.TheVariants as finding;
 
 use crate::finding::{Finding, JudgedKey};
-use crate::judged::Judged;
 use certificate_check::Fault;
+use explain_command::Judged;
 use explanations::{HallRows, append_order_reason, append_tag_reason};
 use parallel_keys::KeyToCheck;
 use reasons::{OrderReason, TagReason, order_reason, tag_reason};

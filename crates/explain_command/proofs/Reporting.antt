@@ -13,7 +13,7 @@ use Rattle.reasons.specs.TagReasons.{IsTagReason}
 use Rattle.reasons.specs.declared.order_reasons.OrderReason.{OrderReason}
 use Rattle.reasons.specs.declared.tag_reasons.TagReason.{TagReason}
 use Rattle.explanations.specs.declared.hall_rows.HallRows.{HallRows}
-use Rattle.explanations.specs.Sentences.{order_reason_text, rule_text, tag_reason_text}
+use Rattle.explanations.specs.Sentences.{order_reason_text, tag_reason_text}
 use Rattle.cli.specs.VerdictLines.{line_text}
 use Rattle.cli.specs.Justifications.{KeyPart}
 use Rattle.explain_command.specs.KeyExplanations.{ExplainsOrder, ExplainsTags, IsHallOfKey, RefusesOrder, RefusesTags, tag_line}
@@ -155,12 +155,3 @@ left_out_said old before new left (suc count) is some said ended =
   where
     regroup : (old p q r : List ℕ) → old ++ p ++ q ++ r ≡ old ++ (p ++ q ++ r)
     regroup old p q r = simp append_assoc
-
--- the line of a key whose tags break a rule
-pub rule_said : (old a b c d key : List ℕ) (rule : BrokenRule) → a ≡ old ++ key → b ≡ a ++ codes ": no tags " → c ≡ b ++ rule_text rule → d ≡ c ++ codes "\n" → d ≡ old ++ tag_line key rule
-unfolding tag_line
-rule_said old a b c d key rule first second third fourth =
-    fourth ∙ ap (λ (x : List ℕ). x ++ codes "\n") (third ∙ ap (λ (x : List ℕ). x ++ rule_text rule) (second ∙ ap (λ (x : List ℕ). x ++ codes ": no tags ") first)) ∙ regroup old key (codes ": no tags ") (rule_text rule) (codes "\n")
-  where
-    regroup : (old p q r s : List ℕ) → old ++ p ++ q ++ r ++ s ≡ old ++ (p ++ q ++ r ++ s)
-    regroup old p q r s = simp append_assoc

@@ -2,7 +2,7 @@
 
 /// What keys are judged by.
 #[derive(Clone, Copy, Debug)]
-pub(crate) enum Judged {
+pub enum Judged {
     /// Their orders.
     Orders,
     /// The tags of their calls.

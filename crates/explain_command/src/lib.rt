@@ -18,5 +18,6 @@ mod selection;
 pub use explain::{explain_orders_command, explain_tags_command};
 pub use files::{Files, files_in, history_in};
 pub use find_hall::hall_of;
-pub use report::is_good;
+pub use judged::Judged;
+pub use report::{append_tag_line, is_good};
 pub use selection::Selection;

@@ -20,6 +20,18 @@ use std::alloc::Global;
 use tag::{Key, Memory};
 use tag_check::{BrokenRule, check_tags};
 
+/// Adds the line that says that the key's tags break the rule. Without memory a beginning of it may
+/// have been added.
+#[tactic(auto, unfolding(crate::specs::KeyExplanations::tag_line))]
+pub fn append_tag_line(text: &mut Vec<u8>, key: &Key, rule: BrokenRule) -> Result<(), Memory>
+    ensures { OnOk result (text.new.items ≡ text.old.items ++ tag_line key.now rule) }
+{
+    append(text, key.as_str())?;
+    append(text, ": no tags ")?;
+    append_rule(text, rule)?;
+    append(text, "\n")
+}
+
 /// What is said of the keys so far.
 #[derive(Debug, Drop)]
 pub(crate) struct Report {
@@ -101,19 +113,6 @@ impl Report {
         }
     }
 
-    /// Says on a line that the key's tags break the rule.
-    fn say_rule(&mut self, key: &Key, rule: BrokenRule) -> Result<(), Memory>
-        ensures text { OnOk result
-            (self.new.text.items ≡ self.old.text.items ++ tag_line key.now rule) }
-        ensures refused { self.new.refused ≡ self.old.refused }
-        ensures most { self.new.most ≡ self.old.most }
-    {
-        append(&mut self.text, key.as_str())?;
-        append(&mut self.text, ": no tags ")?;
-        append_rule(&mut self.text, rule)?;
-        append(&mut self.text, "\n")
-    }
-
     /// Says that the key's tags break the rule, and why.
     fn refuse_tags(
         &mut self,
@@ -127,7 +126,7 @@ impl Report {
         ensures { OnOk result
             (AddsOf (ExplainsTags numbered.now (one.now.key.now, one.now.part.now)) self.old self.new) }
     {
-        self.say_rule(one.key, rule)?;
+        append_tag_line(&mut self.text, one.key, rule)?;
         let reason = tag_reason(one.part, rule);
         let hall = hall_of(numbered, one.key);
         if !self.count_refused() {

@@ -1,3 +1,1 @@
-mod Ending
 mod Numbering
-mod PageEnding

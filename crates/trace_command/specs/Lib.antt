@@ -1,3 +1,2 @@
-pub mod TraceEndings
 pub mod TracePages
-pub mod PageEndings
+pub mod Endings

@@ -4,8 +4,8 @@ use Rattle.std.specs.Prelude.{ℕ, zero, suc, ◌≡◌, List, [], ◌∷◌, No
 use Rattle.std.specs.Str.Lines.{lines}
 use Rattle.std.specs.Str.Lossy.{utf8_lossy}
 use Rattle.recorder.specs.Histories.{Recorded}
-use Rattle.markup.specs.Markup.{Markup, NamedText, nothing, text, line_end, element, both, each}
-use Rattle.markup.specs.declared.names.AttributeName.TheVariants as name
+use Rattle.markup.specs.Markup.{Markup, nothing, text, line_end, element, both, each}
+use Rattle.markup.specs.Texts.{of_class, plain}
 use Rattle.markup.specs.declared.names.Element.TheVariants as tag
 use Rattle.file_format.specs.Texts.{rows_from}
 use Rattle.history_file.specs.NumberedRows.{lines_of}
@@ -15,27 +15,19 @@ use Rattle.traces.specs.Traces.{IsTraceText}
 use Rattle.message_scenes.specs.Scenes.{IsRecordedScene}
 use Rattle.message_scenes.specs.declared.scene.MessageScene.{MessageScene}
 use Rattle.diagrams.specs.Diagrams.{diagram, diagram_legend, diagram_style}
+use Rattle.draw_command.specs.Frames.{page_frame}
 use Rattle.draw_command.specs.HistoryPictures.{IsContentOfTags}
-use Rattle.draw_command.specs.Pages.{IsFramed, body_markup, metas_markup, plain, styles_markup}
+use Rattle.draw_command.specs.Pages.{IsFramed, styles_markup}
 use Rattle.draw_command.specs.declared.drawn.Drawn.{Drawn}
 use Rattle.trace_command.specs.declared.words.TheConstants as word
 
--- ---- the head
+-- ---- the styles
 
 -- the styles: those of a page of `abd draw`, that of diagrams, and that of what stands around them
 abbrev pub all_styles : Markup
 all_styles = both styles_markup (both diagram_style (plain tag.Style word.STYLE.now))
 
--- the head: what a browser has to know, the title, and the styles
-abbrev pub head_markup : Markup
-head_markup = element tag.Head [] (both metas_markup (both (plain tag.Title word.TITLE.now)
-    all_styles))
-
 -- ---- the run
-
--- the class of an element
-abbrev pub of_class : List ℕ → List NamedText
-of_class words = record { name = name.Class; value = words } ∷ []
 
 -- how many steps the diagram leaves out, if it leaves some out
 abbrev pub left_out : ℕ → Markup
@@ -64,18 +56,16 @@ abbrev pub trace_markup : List ℕ → Markup
 trace_markup trace = element tag.Details (of_class word.TOLD.now)
     (both (plain tag.Summary word.EACH_STEP.now) (element tag.Pre [] (told_lines trace)))
 
--- what is said and shown of the run
+-- what is said and shown of the run, and the heading of its history
 abbrev pub run_markup : MessageScene → List ℕ → Markup
-run_markup scene trace = both (plain tag.H1 word.TITLE.now)
-    (both (steps_line scene) (both (messages_markup scene) (trace_markup trace)))
+run_markup scene trace = both (steps_line scene) (both (messages_markup scene)
+    (both (trace_markup trace) (plain tag.H2 word.HISTORY.now)))
 
 -- ---- the page
 
 -- the page around its content
 abbrev pub page_markup : Markup → Markup
-page_markup content =
-    element tag.Html (record { name = name.Lang; value = word.LANGUAGE.now } ∷ [])
-    (both head_markup (body_markup content))
+page_markup content = page_frame word.TITLE.now all_styles content
 
 -- the page of that scene and trace, and of the pictures of that history
 abbrev pub IsPageOf : MessageScene → List ℕ → NumberedHistories → Drawn → Markup → Type 0

@@ -1,22 +1,22 @@
 //! The page of a script's run.
 ghost use Rattle.std.specs.Prelude.{◌≡◌, ◌++◌, IfOk, OnOk};
-ghost use Rattle.markup.specs.Markup.{Markup, both, page_text, rendered};
+ghost use Rattle.markup.specs.Markup.{Markup, page_text, rendered};
 ghost use Rattle.diagrams.specs.Layout.{HasClientsInOrder};
 ghost use Rattle.explain_command.specs.KeyExplanations.{HasLinesOfEach};
-ghost use Rattle.draw_command.specs.HistoryPictures.{IsContentOfTags};
-ghost use Rattle.draw_command.specs.Making.{Adds};
-ghost use Rattle.draw_command.specs.Pages.{IsFramed, body_markup};
-ghost use Rattle.trace_command.specs.TracePages.{IsPageOf, all_styles, head_markup, left_out};
+ghost use Rattle.trace_command.specs.TracePages.{IsPageOf, all_styles, left_out};
 ghost use Rattle.trace_command.specs.TracePages.{messages_markup, run_markup, steps_line};
 ghost use Rattle.trace_command.specs.TracePages.{trace_markup};
 
-use crate::texts::{append_number, append_plain, append_told};
+use crate::texts::append_told;
 use crate::words;
 use diagrams::{append_diagram, append_diagram_legend, append_diagram_style};
-use draw_command::{Drawn, add_history_pictures, append_metas, append_styles};
+use draw_command::{
+    Drawn, add_history_pictures, append_styles, begin_content, begin_page, end_page,
+};
 use history_file::NumberedHistories;
 use markup::{
-    Attribute, AttributeName, Element, append_closing, append_doctype, append_opening, append_text,
+    Attribute, AttributeName, Element, append_closing, append_number, append_opening, append_plain,
+    append_text,
 };
 use message_scenes::MessageScene;
 use std::alloc::Global;
@@ -39,18 +39,6 @@ fn append_all_styles(page: &mut Vec<u8>) -> Result<(), Memory>
     append_styles(page)?;
     append_diagram_style(page)?;
     append_plain(page, Element::Style, words::STYLE)
-}
-
-/// Adds the head.
-#[tactic(auto, unfolding(markup::specs::Markup::rendered))]
-fn append_head(page: &mut Vec<u8>) -> Result<(), Memory>
-    ensures { OnOk result (page.new.items ≡ page.old.items ++ rendered head_markup) }
-{
-    append_opening(page, Element::Head, &[])?;
-    append_metas(page)?;
-    append_plain(page, Element::Title, words::TITLE)?;
-    append_all_styles(page)?;
-    append_closing(page, Element::Head)
 }
 
 /// Says how many steps are left out, if any are.
@@ -103,7 +91,7 @@ fn append_trace(alloc: Global, page: &mut Vec<u8>, trace: &[u8]) -> Result<(), M
     append_closing(page, Element::Details)
 }
 
-/// Adds what is said and shown of the run.
+/// Adds what is said and shown of the run, and the heading of its history.
 #[tactic(auto, unfolding(markup::specs::Markup::rendered))]
 fn append_run(
     alloc: Global,
@@ -115,27 +103,10 @@ fn append_run(
     ensures { OnOk result (page.new.items
         ≡ page.old.items ++ rendered (run_markup scene.now trace.now)) }
 {
-    append_plain(page, Element::H1, words::TITLE)?;
     append_steps(page, scene)?;
     append_messages(alloc, page, scene)?;
-    append_trace(alloc, page, trace)
-}
-
-/// Adds the page's body.
-fn add_body(alloc: Global, page: &mut Vec<u8>, shown: &RunShown<'_>) -> Result<(), Memory>
-    requires clients { HasClientsInOrder shown.now.scene.now }
-    requires lines { HasLinesOfEach shown.now.numbered.now }
-    ensures { OnOk result (Adds (IsFramed body_markup
-        (IsFramed (both (run_markup shown.now.scene.now shown.now.trace.now))
-        (IsContentOfTags shown.now.numbered.now shown.now.drawn)))
-        page.old.items page.new.items) }
-{
-    append_opening(page, Element::Body, &[])?;
-    append_opening(page, Element::Main, &[])?;
-    append_run(alloc, page, shown.scene, shown.trace)?;
-    add_history_pictures(alloc, page, shown.numbered, shown.drawn)?;
-    append_closing(page, Element::Main)?;
-    append_closing(page, Element::Body)
+    append_trace(alloc, page, trace)?;
+    append_plain(page, Element::H2, words::HISTORY)
 }
 
 /// The page of the run.
@@ -147,11 +118,11 @@ pub(crate) fn page_of(alloc: Global, shown: &RunShown<'_>) -> Result<Vec<u8>, Me
         × (page.items ≡ page_text markup)) }
 {
     let mut page = Vec::new(alloc);
-    append_doctype(&mut page)?;
-    let language = Attribute::Words(AttributeName::Lang, words::LANGUAGE);
-    append_opening(&mut page, Element::Html, &[language])?;
-    append_head(&mut page)?;
-    add_body(alloc, &mut page, shown)?;
-    append_closing(&mut page, Element::Html)?;
+    begin_page(&mut page, words::TITLE)?;
+    append_all_styles(&mut page)?;
+    begin_content(&mut page, words::TITLE)?;
+    append_run(alloc, &mut page, shown.scene, shown.trace)?;
+    add_history_pictures(alloc, &mut page, shown.numbered, shown.drawn)?;
+    end_page(&mut page)?;
     Ok(page)
 }

@@ -1,15 +1,14 @@
 //! `abd trace`: the trace of a script.
-ghost use Rattle.std.specs.Prelude.{◌≡◌, ◌⊎◌, IfOk, IfErr};
-ghost use Rattle.counted_devices.specs.Counts.{IsOneMore};
+ghost use Rattle.std.specs.Prelude.{IfOk, IfErr};
 ghost use Rattle.counted_devices.specs.Deliveries.{ReadsFrom};
 ghost use Rattle.counted_devices.specs.DeviceStates.{states};
 ghost use Rattle.fault_script.specs.Scripts.{IsScript};
-ghost use Rattle.cli.specs.Devices.{file_states};
-ghost use Rattle.cli.specs.Reports.{IsScriptFault, ReportsEnd};
-ghost use Rattle.cli.specs.Statuses.{status_of};
-ghost use Rattle.trace_command.specs.TraceEndings.{EndsTrace, EndsUnread, IsOfTrace};
+ghost use Rattle.traces.specs.Traces.{IsTraceText};
+ghost use Rattle.cli.specs.Devices.{file_states, writer_states};
+ghost use Rattle.cli.specs.Reports.{IsScriptFault};
+ghost use Rattle.trace_command.specs.Endings.{EndsOnScript, MakesOfScript, StopsScript};
 
-use cli::{Failure, Source, Status, send};
+use cli::{Failure, Outcome, Source, Status, conclude};
 use counted_devices::{CountedRead, CountedWrite};
 use fault_script::{Script, parse};
 use std::alloc::Global;
@@ -22,9 +21,7 @@ pub(crate) fn script_in<'a, R: CountedRead>(
 ) -> Result<Script, Failure<'a>>
     ensures read { IfOk result (ReadsFrom IsScript
         (states R.remaining R.failures source.old.reader source.new.reader)) }
-    ensures fault { IfErr result (λ failure. EndsUnread
-        (states R.remaining R.failures source.old.reader source.new.reader) (status_of failure)) }
-    ensures told { IfErr result (IsScriptFault
+    ensures stops { IfErr result (IsScriptFault
         (file_states R.remaining R.failures source.old source.new)) }
 {
     match parse(alloc, &mut source.reader) {
@@ -34,6 +31,22 @@ pub(crate) fn script_in<'a, R: CountedRead>(
             error,
         }),
     }
+}
+
+/// Reads the script, runs it, and makes its trace.
+fn trace_of<'a, S: CountedRead>(
+    alloc: Global,
+    script: &mut Source<'a, S>,
+    most: u32,
+) -> Result<Outcome, Failure<'a>>
+    ensures made { IfOk result (MakesOfScript (λ read text. IsTraceText read most text)
+        (states S.remaining S.failures script.old.reader script.new.reader)) }
+    ensures stops { IfErr result (StopsScript
+        (file_states S.remaining S.failures script.old script.new)) }
+{
+    let script = script_in(alloc, script)?;
+    let text = trace_text(alloc, script, most)?;
+    Ok(Outcome::of_text(alloc, text, true))
 }
 
 /// Reads the script, runs it, and prints its trace: a line for each step of its run, in the order of
@@ -50,26 +63,12 @@ pub fn trace_command<'a, S: CountedRead, W: CountedWrite, E: CountedWrite>(
     out: &mut W,
     errors: &mut E,
 ) -> Status
-    ensures ends { EndsTrace most
-        (states S.remaining S.failures script.old.reader script.new.reader)
-        (states W.contents W.failures out.old out.new)
-        result }
-    ensures faulty { result ≡ Status.Format → out.new ≡ out.old }
-    ensures failed { result ≡ Status.Failed
-        → (out.new ≡ out.old) ⊎ IsOneMore (W.failures out.old) (W.failures out.new) }
-    ensures said { ReportsEnd (errors.new ≡ errors.old) ⊥
-        (IsOfTrace
+    ensures { EndsOnScript (λ read text. IsTraceText read most text)
         (file_states S.remaining S.failures script.old script.new)
-        (states W.contents W.failures out.old out.new))
-        (states E.contents E.failures errors.old errors.new)
+        (writer_states W.contents W.failures out.old out.new)
+        (writer_states E.contents E.failures errors.old errors.new)
         result }
 {
-    let script = match script_in(alloc, script) {
-        Ok(script) => script,
-        Err(failure) => return failure.report(errors),
-    };
-    match trace_text(alloc, script, most) {
-        Ok(text) => send(text.as_slice(), out, errors),
-        Err(_) => Failure::Memory.report(errors),
-    }
+    let made = trace_of(alloc, script, most);
+    conclude(made, out, errors)
 }

@@ -1,18 +1,14 @@
 //! `abd trace --draw`: the page of a script.
-ghost use Rattle.std.specs.Prelude.{◌≡◌, ◌⊎◌, IfOk};
-ghost use Rattle.counted_devices.specs.Counts.{IsOneMore};
+ghost use Rattle.std.specs.Prelude.{IfOk, IfErr};
 ghost use Rattle.counted_devices.specs.DeviceStates.{states};
-ghost use Rattle.markup.specs.Markup.{Markup, page_text};
-ghost use Rattle.cli.specs.Devices.{file_states};
-ghost use Rattle.cli.specs.Reports.{ReportsEnd};
-ghost use Rattle.trace_command.specs.PageEndings.{EndsTracePage};
-ghost use Rattle.trace_command.specs.TraceEndings.{IsOfTrace};
-ghost use Rattle.trace_command.specs.TracePages.{IsTracePage};
+ghost use Rattle.cli.specs.Devices.{file_states, writer_states};
+ghost use Rattle.trace_command.specs.Endings.{EndsOnScript, IsTracePageText, MakesOfScript};
+ghost use Rattle.trace_command.specs.Endings.{StopsScript};
 
 use crate::numbered::numbered_of;
 use crate::page::{RunShown, page_of};
 use crate::trace::script_in;
-use cli::{Failure, Source, Status, send};
+use cli::{Failure, Outcome, Source, Status, conclude};
 use counted_devices::{CountedRead, CountedWrite};
 use draw_command::Drawn;
 use fault_script::Script;
@@ -28,8 +24,7 @@ fn page_of_script(
     most: u32,
     drawn: Drawn<'_>,
 ) -> Result<Vec<u8>, Memory>
-    ensures { IfOk result (λ page. (markup : Markup)
-        × IsTracePage script most drawn.entry markup × (page.items ≡ page_text markup)) }
+    ensures { IfOk result (λ page. IsTracePageText most drawn.entry script page.items) }
 {
     let RecordedScene { scene, history } = recorded_scene(alloc, &script, most)?;
     let trace = trace_text(alloc, script, most)?;
@@ -41,6 +36,23 @@ fn page_of_script(
         drawn,
     };
     page_of(alloc, &shown)
+}
+
+/// Reads the script, runs it, and makes its page.
+fn page_in<'a, S: CountedRead>(
+    alloc: Global,
+    script: &mut Source<'a, S>,
+    most: u32,
+    drawn: Drawn<'_>,
+) -> Result<Outcome, Failure<'a>>
+    ensures made { IfOk result (MakesOfScript (IsTracePageText most drawn.entry)
+        (states S.remaining S.failures script.old.reader script.new.reader)) }
+    ensures stops { IfErr result (StopsScript
+        (file_states S.remaining S.failures script.old script.new)) }
+{
+    let script = script_in(alloc, script)?;
+    let page = page_of_script(alloc, script, most, drawn)?;
+    Ok(Outcome::of_text(alloc, page, true))
 }
 
 /// Reads the script, runs it, and writes its page: a diagram of the messages of the run, with `most`
@@ -59,26 +71,12 @@ pub fn trace_page_command<'a, S: CountedRead, W: CountedWrite, E: CountedWrite>(
     out: &mut W,
     errors: &mut E,
 ) -> Status
-    ensures ends { EndsTracePage most drawn.entry
-        (states S.remaining S.failures script.old.reader script.new.reader)
-        (states W.contents W.failures out.old out.new)
-        result }
-    ensures faulty { result ≡ Status.Format → out.new ≡ out.old }
-    ensures failed { result ≡ Status.Failed
-        → (out.new ≡ out.old) ⊎ IsOneMore (W.failures out.old) (W.failures out.new) }
-    ensures said { ReportsEnd (errors.new ≡ errors.old) ⊥
-        (IsOfTrace
+    ensures { EndsOnScript (IsTracePageText most drawn.entry)
         (file_states S.remaining S.failures script.old script.new)
-        (states W.contents W.failures out.old out.new))
-        (states E.contents E.failures errors.old errors.new)
+        (writer_states W.contents W.failures out.old out.new)
+        (writer_states E.contents E.failures errors.old errors.new)
         result }
 {
-    let script = match script_in(alloc, script) {
-        Ok(script) => script,
-        Err(failure) => return failure.report(errors),
-    };
-    match page_of_script(alloc, script, most, drawn) {
-        Ok(page) => send(page.as_slice(), out, errors),
-        Err(_) => Failure::Memory.report(errors),
-    }
+    let made = page_in(alloc, script, most, drawn);
+    conclude(made, out, errors)
 }

@@ -9,8 +9,6 @@ pub(crate) const TOLD: &str = "told";
 
 // ---- words
 
-pub(crate) const LANGUAGE: &str = "en";
-
 pub(crate) const TITLE: &str = "abd trace";
 
 pub(crate) const STEPS_SHOWN: &str = "Steps shown: ";
@@ -19,9 +17,12 @@ pub(crate) const LEFT_OUT: &str = ", left out: ";
 
 pub(crate) const EACH_STEP: &str = "The steps in words";
 
+pub(crate) const HISTORY: &str = "The history that the run records";
+
 // ---- styles
 
 /// Beside those of diagrams and pictures: without quotation marks and other marks of HTML, so that
 /// it stands as it is.
 pub(crate) const STYLE: &str = ".told summary{cursor:pointer;color:var(--soft)}\
-.told pre{overflow-x:auto;margin:.5rem 0 2rem;font-family:ui-monospace,monospace;font-size:13px}";
+.told pre{overflow-x:auto;margin:.5rem 0 2rem;font-family:ui-monospace,monospace;font-size:13px}\
+.told+h2{border-top:1px solid var(--faint);margin-top:2rem;padding-top:.5rem}";

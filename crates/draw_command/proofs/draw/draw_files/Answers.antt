@@ -1,29 +1,25 @@
-use Rattle.std.proofs.Common.{List, map, subst, ap, refl, ◌∙◌}
-use Rattle.std.proofs.lemmas.List.Elements.{All-same}
-use Rattle.recorder.specs.Histories.{Recorded}
-use Rattle.recorder.specs.Records.{KeyedParts}
-use Rattle.parallel_keys.specs.CheckedKeys.{CheckedKey, all_parts, checked_keys}
-use Rattle.parallel_keys.specs.Histories.{AreHallParts}
-use Rattle.parallel_keys.specs.KeysToCheck.{what_of}
-use Rattle.scenes.specs.Points.{AreApart}
-use Rattle.draw_command.specs.Making.{IsMadeOf}
-use Rattle.draw_command.proofs.Apart.{checked_apart}
+-- The page is that of the keys of the files.
+use Rattle.std.proofs.Common.{List, refl, subst, sym}
+use Rattle.recorder.specs.declared.order.KeyOrder.{KeyOrder}
+use Rattle.parallel_keys.specs.CheckedKeys.{AreDistinct}
+use Rattle.draw_command.specs.HistoryPictures.{IsJudgedContent}
+use Rattle.draw_command.specs.Pages.{styles_markup}
+use Rattle.draw_command.specs.declared.words.TheConstants.{TITLE}
+use Rattle.draw_command.proofs.Framing.{page_framed}
 use Rattle.draw_command.proofs.draw.draw_files.Goals as goal
 
-pub draw_keys-requires-clause-apart : goal.draw_keys-requires-clause-apart
-draw_keys-requires-clause-apart c =
-    let parts = map (λ (p : KeyedParts). p.entries) c.in_ok-parts.parts.items in
-    let halls = c.args.task.now.numbered.now.histories.halls in
-    let which = ap (map what_of) c.as_slice-2.ensures.value ∙ (rw c.as_slice.ensures.value at c.in_ok-keys.ensures) in
-    All-same (λ (one : CheckedKey). AreApart one.part) _ (checked_keys (all_parts parts) c.args.orders.now) which
-    (checked_apart halls parts c.args.orders.now (subst (λ (hs : List Recorded). AreHallParts hs parts) c.halls.ensures.halls c.in_ok-parts.ensures))
+pub add_histories-requires-clause-distinct : goal.add_histories-requires-clause-distinct
+add_histories-requires-clause-distinct c = subst (λ (orders : List KeyOrder). AreDistinct orders) (sym c.as_slice.ensures.value) c.requires.distinct
 
 pub returns-clause-made : goal.returns-clause-made
 returns-clause-made c =
-    let task = c.args.task.now in
-    let parts = map (λ (p : KeyedParts). p.entries) c.in_ok-parts.parts.items in
-    let which = ap (map what_of) c.as_slice-2.ensures.value ∙ (rw c.as_slice.ensures.value at c.in_ok-keys.ensures) in (
-      checked_keys (all_parts parts) c.args.orders.now,
-      record { lawful = c.halls.ensures.lawful; parts = parts; recorded = subst (λ (hs : List Recorded). AreHallParts hs parts) c.halls.ensures.halls c.in_ok-parts.ensures; are = refl },
-      subst (λ (ks : List CheckedKey). IsMadeOf task.judged task.numbered.now task.drawn ks c.in_ok-draw_keys.field-0) which c.in_ok-draw_keys.ensures,
-    )
+    let numbered = c.args.files.now.numbered in
+    let added = rw c.as_slice.ensures.value at c.in_ok-good.ensures in
+    let page = page_framed TITLE.now styles_markup (IsJudgedContent numbered c.args.drawn c.args.judged added.0 c.in_ok-good.good) _ c.begin_page.new.page.items c.append_styles.new.page.items
+    c.begin_content.new.page.items c.add_histories.new.page.items c.end_page.new.page.items c.new-page.ensures.items c.in_ok-begin_page.ensures c.in_ok-append_styles.ensures c.in_ok-begin_content.ensures added.2 c.in_ok-end_page.ensures in
+    record {
+      numbered = numbered;
+      keys = added.0;
+      read = record { same = refl; keys_are = added.1 };
+      made = record { page = page.0; page_is = rw c.of_text.ensures.good page.1; text = rw c.of_text.ensures.text page.2; quiet = c.of_text.ensures.notes };
+    }

@@ -1,7 +1,7 @@
 -- The selected keys are judged, and that is what is said and shown of them.
-use Rattle.std.proofs.Common.{◌≡◌, length, map, arith}
-use Rattle.std.proofs.lemmas.Result.{on_ok_weaker}
+use Rattle.std.proofs.Common.{◌≡◌, ◌∙◌, ap₂, length, map, arith}
 use Rattle.parallel_keys.specs.KeysToCheck.{what_of}
+use Rattle.explain_command.specs.Explanations.{is_good}
 use Rattle.draw_command.specs.Judging.{judgement_of}
 use Rattle.draw_command.proofs.Apart.{drawable}
 use Rattle.draw_command.proofs.Content.{content_of_judged}
@@ -25,13 +25,16 @@ returns c =
     let found = rw c.as_slice.ensures.value at c.in_ok-findings.ensures in
     let counted : c.len.result ≡ length few = omega (arith, c.len.ensures, c.in_ok-few.few.ok.0) in
     let missing = missing_is task.drawn selection c.selection-selection.ensures keys few c.in_ok-few.ensures task.judged found.all found.judged_are c.misses-missing.result c.len.result counted c.misses-missing.ensures in
-    on_ok_weaker c.add_content.result (λ added. (
+    let added = c.in_ok-add_content.ensures in (
       added.0,
       record {
-        keys = found.all;
-        keys_are = few_judged task.drawn selection c.selection-selection.ensures keys few c.in_ok-few.ensures task.judged found.all found.judged_are;
-        content_is = content_of_judged task.judged task.numbered.now task.drawn found.all (map judgement_of c.in_ok-findings.findings.keys.items) c.in_ok-findings.findings.refused c.misses-missing.result added.0
-            found.ordered.in_order found.ordered.refused missing added.1;
+        shown = record {
+          keys = found.all;
+          keys_are = few_judged task.drawn selection c.selection-selection.ensures keys few c.in_ok-few.ensures task.judged found.all found.judged_are;
+          content_is = content_of_judged task.judged task.numbered.now task.drawn found.all (map judgement_of c.in_ok-findings.findings.keys.items) c.in_ok-findings.findings.refused c.misses-missing.result added.0
+              found.ordered.in_order found.ordered.refused missing added.1;
+        };
+        is = c.is_good.ensures ∙ ap₂ is_good found.ordered.refused missing;
       },
       added.2,
-    )) c.add_content.ensures
+    )

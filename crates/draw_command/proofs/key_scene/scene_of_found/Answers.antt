@@ -3,7 +3,7 @@ use Rattle.std.proofs.lemmas.Result.{IfOk-weaker}
 use Rattle.parallel_keys.specs.KeysToCheck.{what_of}
 use Rattle.draw_command.specs.Drawings.{AreDrawnPoints}
 use Rattle.draw_command.specs.declared.finding.Finding.TheVariants.{Yes}
-use Rattle.draw_command.specs.declared.judged.Judged.{Judged}
+use Rattle.explain_command.specs.declared.judged.Judged.{Judged}
 use Rattle.draw_command.proofs.key_scene.scene_of_found.Goals as goal
 
 pub returns-in-Orders : goal.returns-in-Orders

@@ -2,8 +2,8 @@ use Rattle.std.proofs.Common.{List, ℕ, ◌++◌, ap, ◌∙◌}
 use Rattle.std.proofs.lemmas.Iterator.Splits.{YieldsList-from_lines}
 use Rattle.std.proofs.lemmas.Iterator.Consumers.{YieldsList-end}
 use Rattle.markup.specs.Markup.{each, rendered}
+use Rattle.markup.specs.Texts.{worded}
 use Rattle.markup.specs.declared.names.Element.TheVariants as tag
-use Rattle.draw_command.specs.Pages.{worded}
 use Rattle.draw_command.specs.declared.words.TheConstants.{WHY}
 use Rattle.draw_command.proofs.Adding.{each_next, each_none}
 use Rattle.draw_command.proofs.section.append_lines.Goals as goal

@@ -1,8 +1,8 @@
 use Rattle.std.proofs.Common.{◌≡◌, ◌++◌, List, ℕ, map}
 use Rattle.std.specs.Borrow.{Bor}
 use Rattle.markup.specs.Markup.{each, rendered}
+use Rattle.markup.specs.Texts.{worded}
 use Rattle.markup.specs.declared.names.Element.TheVariants as tag
-use Rattle.draw_command.specs.Pages.{worded}
 use Rattle.draw_command.specs.declared.words.TheConstants.{WHY}
 use Rattle.draw_command.proofs.section.append_lines.Given as goal
 

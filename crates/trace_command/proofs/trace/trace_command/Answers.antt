@@ -1,30 +1,7 @@
--- The script was read: the text of its trace went out, or a beginning of it.
-use Rattle.std.proofs.Common.{inr}
-use Rattle.counted_devices.specs.DeviceStates.{states}
-use Rattle.cli.specs.Devices.{file_states}
-use Rattle.cli.proofs.Reported.{weaker_end}
-use Rattle.cli.proofs.Sends.{failed_at, no_fault}
-use Rattle.trace_command.proofs.Ending.{of_output, sent}
+-- The trace was sent, or why there is none is said.
+use Rattle.cli.proofs.Endings.{concluded}
 use Rattle.trace_command.proofs.trace.trace_command.Goals as goal
 
-pub returns-in-Ok-trace_text-clause-ends : goal.returns-in-Ok-trace_text-clause-ends
-returns-in-Ok-trace_text-clause-ends g c =
-    let file = states g.S.Read.remaining g.S.Counted.failures c.args.script.now.reader c.script_in.new.source.reader in
-    let out = states g.W.Write.contents g.W.Counted.failures c.args.out.now c.send.new.out in
-    sent c.args.most file out c.in-Ok.script c.in-Ok.ensures.read c.in-Ok-trace_text.text.items c.in-Ok-trace_text.ensures
-    c.send.result (rw c.as_slice.ensures.value at c.send.ensures.ends)
-
-pub returns-in-Ok-trace_text-clause-faulty : goal.returns-in-Ok-trace_text-clause-faulty
-returns-in-Ok-trace_text-clause-faulty g c = λ is.
-    absurd (no_fault _ (states g.W.Write.contents g.W.Counted.failures c.args.out.now c.send.new.out) c.send.result c.send.ensures.ends is)
-
-pub returns-in-Ok-trace_text-clause-failed : goal.returns-in-Ok-trace_text-clause-failed
-returns-in-Ok-trace_text-clause-failed g c = λ is.
-    inr (failed_at _ (states g.W.Write.contents g.W.Counted.failures c.args.out.now c.send.new.out) c.send.result c.send.ensures.ends is)
-
-pub returns-in-Ok-trace_text-clause-said : goal.returns-in-Ok-trace_text-clause-said
-returns-in-Ok-trace_text-clause-said g c =
-    let file = file_states g.S.Read.remaining g.S.Counted.failures c.args.script.now c.script_in.new.source in
-    let out = states g.W.Write.contents g.W.Counted.failures c.args.out.now c.send.new.out in
-    let errors = states g.E.Write.contents g.E.Counted.failures c.args.errors.now c.send.new.errors in
-    weaker_end _ _ errors _ _ (of_output file out) c.send.result c.send.ensures.said
+pub returns : goal.returns
+returns g c =
+    concluded _ _ _ _ _ _ c.trace_of-made.result c.trace_of-made.ensures.made c.trace_of-made.ensures.stops (λ outcome made. made) (λ why stops. stops) c.conclude.result c.conclude.ensures

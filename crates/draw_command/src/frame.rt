@@ -1,0 +1,77 @@
+//! What stands around what a page says and shows, on a page of any command.
+ghost use Rattle.std.specs.Prelude.{◌≡◌, ◌++◌, OnOk};
+ghost use Rattle.markup.specs.Markup.{rendered};
+ghost use Rattle.draw_command.specs.Frames.{above_content, above_styles, below_content};
+ghost use Rattle.draw_command.specs.Frames.{metas_markup};
+ghost use Rattle.draw_command.specs.Pages.{styles_markup};
+
+use crate::words;
+use markup::{
+    Attribute, AttributeName, Element, append_closing, append_doctype, append_empty,
+    append_opening, append_plain,
+};
+use pictures::append_style;
+use tag::Memory;
+
+/// Adds what a browser has to know.
+#[tactic(auto, unfolding(markup::specs::Markup::rendered))]
+fn append_metas(page: &mut Vec<u8>) -> Result<(), Memory>
+    ensures { OnOk result (page.new.items ≡ page.old.items ++ rendered metas_markup) }
+{
+    append_empty(
+        page,
+        Element::Meta,
+        &[Attribute::Words(AttributeName::Charset, words::CHARSET)],
+    )?;
+    append_empty(
+        page,
+        Element::Meta,
+        &[
+            Attribute::Words(AttributeName::Name, words::VIEWPORT_NAME),
+            Attribute::Words(AttributeName::Content, words::VIEWPORT),
+        ],
+    )
+}
+
+/// Begins a page of that title, down to its styles. They are to be added next, then what
+/// `begin_content` adds, then the page's content, and then what `end_page` adds.
+///
+/// If it fails, a beginning of that may have been added; so it is with each function here.
+pub fn begin_page(page: &mut Vec<u8>, title: &str) -> Result<(), Memory>
+    ensures { OnOk result (page.new.items ≡ page.old.items ++ above_styles title.now) }
+{
+    append_doctype(page)?;
+    let language = Attribute::Words(AttributeName::Lang, words::LANGUAGE);
+    append_opening(page, Element::Html, &[language])?;
+    append_opening(page, Element::Head, &[])?;
+    append_metas(page)?;
+    append_plain(page, Element::Title, title)
+}
+
+/// Adds the style of pictures, and that of what stands around them.
+#[tactic(auto, unfolding(markup::specs::Markup::rendered))]
+pub fn append_styles(page: &mut Vec<u8>) -> Result<(), Memory>
+    ensures { OnOk result (page.new.items ≡ page.old.items ++ rendered styles_markup) }
+{
+    append_style(page)?;
+    append_plain(page, Element::Style, words::STYLE)
+}
+
+/// Goes on from a page's styles to its content, above which the title stands.
+pub fn begin_content(page: &mut Vec<u8>, title: &str) -> Result<(), Memory>
+    ensures { OnOk result (page.new.items ≡ page.old.items ++ above_content title.now) }
+{
+    append_closing(page, Element::Head)?;
+    append_opening(page, Element::Body, &[])?;
+    append_opening(page, Element::Main, &[])?;
+    append_plain(page, Element::H1, title)
+}
+
+/// Ends a page after its content.
+pub fn end_page(page: &mut Vec<u8>) -> Result<(), Memory>
+    ensures { OnOk result (page.new.items ≡ page.old.items ++ below_content) }
+{
+    append_closing(page, Element::Main)?;
+    append_closing(page, Element::Body)?;
+    append_closing(page, Element::Html)
+}
