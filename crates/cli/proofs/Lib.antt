@@ -12,7 +12,6 @@ mod Escapes
 mod Justified
 pub mod ShownNames
 pub mod Reported
-pub mod Sends
 pub mod Noted
 pub mod Prefixes
 pub mod Reading

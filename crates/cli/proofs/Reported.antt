@@ -10,14 +10,14 @@ use Rattle.counted_devices.specs.declared.read_fault.FaultKind.TheVariants as ki
 use Rattle.cli.specs.FailureLines.{failure_line}
 use Rattle.cli.specs.Justifications.{refusal_text, status_of_refusal}
 use Rattle.cli.specs.Devices.{FailsOnce, FileStates, Receives, ReceivesOrFails, ReceivesPrefix}
-use Rattle.cli.specs.Reports.{IsOfScript, ReportsEnd, ReportsSimulation}
+use Rattle.cli.specs.Reports.{IsOfScript, ReportsSimulation}
 use Rattle.cli.specs.Statuses.{status_of, status_of_kind}
 use Rattle.cli.specs.declared.noted_orders.Unjustified.{Unjustified}
 use Rattle.cli.specs.declared.noted_orders.Unjustified.TheVariants as unjustified
 use Rattle.cli.specs.declared.status.Failure.{Failure}
 use Rattle.cli.specs.declared.status.Failure.TheVariants as failure
 use Rattle.cli.specs.declared.status.Status.{Status}
-use Rattle.cli.specs.declared.status.Status.TheVariants.{Good, Refused, Usage, Format, Failed}
+use Rattle.cli.specs.declared.status.Status.TheVariants.{Format, Failed}
 
 kind_ends : {L : Type 0} (k : FaultKind L) → (status_of_kind k ≡ Format) ⊎ (status_of_kind k ≡ Failed)
 kind_ends (kind.Line fault) = inl refl
@@ -32,14 +32,6 @@ failure_ends (failure.Script name error) = kind_ends error.kind
 failure_ends failure.Output = inr refl
 failure_ends failure.Memory = inr refl
 failure_ends failure.Thread = inr refl
-
--- something weaker holds of the failure that was told
-pub weaker_end : (good refused : Type 0) (errors : DeviceStates) (P Q : Failure → Type 0) → ((why : Failure) → P why → Q why) → (s : Status) → ReportsEnd good refused P errors s → ReportsEnd good refused Q errors s
-weaker_end good refused errors P Q more Good h = h
-weaker_end good refused errors P Q more Refused h = h
-weaker_end good refused errors P Q more Usage h = h
-weaker_end good refused errors P Q more Format h = record { failure = h.failure; ends = h.ends; holds = more h.failure h.holds; told = h.told }
-weaker_end good refused errors P Q more Failed h = record { failure = h.failure; ends = h.ends; holds = more h.failure h.holds; told = h.told }
 
 -- the failure's line was told of a simulation
 pub told_simulation : (file : FileStates) (out errors : DeviceStates) (why : Failure) (s : Status) → s ≡ status_of why → IsOfScript file why → ReceivesOrFails errors (failure_line why) → ReportsSimulation file out errors s

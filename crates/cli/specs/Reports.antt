@@ -8,7 +8,7 @@ use Rattle.file_format.specs.HistoriesFormat.{histories_format}
 use Rattle.file_format.specs.OrderFormat.{order_format}
 use Rattle.fault_script.specs.Feeds.{script_faults}
 use Rattle.fault_script.specs.Simulations.{Simulates}
-use Rattle.cli.specs.Devices.{FailsOnce, FileStates, IsUntouched, Receives, ReceivesOrFails}
+use Rattle.cli.specs.Devices.{FailsOnce, FileStates, Receives, ReceivesOrFails}
 use Rattle.cli.specs.Devices.{ReceivesPrefix, device_since, device_until}
 use Rattle.cli.specs.FailureLines.{failure_line}
 use Rattle.cli.specs.Readings.{IsHistoryRead, StopsFile}
@@ -27,26 +27,11 @@ pub record ReportsFailure (Holds : Failure → Type 0) (errors : DeviceStates) (
     pub holds : Holds failure
     pub told : ReceivesOrFails errors (failure_line failure)
 
--- what a status says of standard error: the one if all is well, the other if a key is refused, and
--- else the report of a failure of which that holds
-abbrev pub ReportsEnd : Type 0 → Type 0 → (Failure → Type 0) → DeviceStates → Status → Type 0
-ReportsEnd good refused Holds errors status.Good = good
-ReportsEnd good refused Holds errors status.Refused = refused
-ReportsEnd good refused Holds errors status.Usage = ⊥
-ReportsEnd good refused Holds errors status.Format = ReportsFailure Holds errors status.Format
-ReportsEnd good refused Holds errors status.Failed = ReportsFailure Holds errors status.Failed
-
 -- the failure is the fault of that file at which its reading stopped
 abbrev pub IsFaultOf : {Header Item : Type 0} → Format Header Item → FileStates → Failure → Type 0
 IsFaultOf format file (failure.File name fault) =
     (name.now ≡ file.name) × StopsFile format file.reader fault
 IsFaultOf format file why = ⊥
-
--- the output failed once more; or memory was wanted, and the output is as it was
-abbrev pub IsOfOutput : DeviceStates → Failure → Type 0
-IsOfOutput out failure.Output = FailsOnce out
-IsOfOutput out failure.Memory = IsUntouched out
-IsOfOutput out why = ⊥
 
 -- the failure is a fault of the history, or one of the orders once the history was read
 abbrev pub StopsReading : FileStates → FileStates → Failure → Type 0
