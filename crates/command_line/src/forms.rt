@@ -1,6 +1,6 @@
 //! The commands of `abd`, as clap takes them.
 ghost use Rattle.std.specs.Prelude.{◌≡◌, false, codes, IfOk};
-ghost use Rattle.clap.specs.Words.{app_of, new_rule, rule_of, with_subcommand};
+ghost use Rattle.clap.specs.Words.{App, app_of, new_rule, rule_of, with_subcommand};
 ghost use Rattle.clap.specs.declared.builder.command.Command.TheViews.{out-Command as fields_of};
 ghost use Rattle.command_line.specs.Forms.{abd_app, bare_app, check_app, draw_app, explain_app, file_app};
 ghost use Rattle.command_line.specs.Forms.{flag, justify_app, keys_app, number_option, required_argument};
@@ -199,24 +199,27 @@ fn bare_words<'a>(alloc: Global) -> Command<'a>
         .subcommand_required(true)
 }
 
-/// The words with one command more.
-fn with_command<'a>(words: Command<'a>, command: Command<'a>) -> Result<Command<'a>, AllocError>
-    requires { (fields_of command).has_globals ≡ false }
-    ensures { IfOk result (λ more.
-        app_of more ≡ with_subcommand (app_of words.entry) (app_of command.entry).top) }
+/// The words with the command that was made.
+fn with_made<'a>(
+    words: Command<'a>,
+    made: Result<Command<'a>, AllocError>,
+) -> Result<Command<'a>, AllocError>
+    requires { IfOk made (λ command. (fields_of command).has_globals ≡ false) }
+    ensures { (app : App) → IfOk made.entry (λ command. app_of command ≡ app)
+        → IfOk result (λ more. app_of more ≡ with_subcommand (app_of words.entry) app.top) }
 {
-    words.subcommand(command)
+    words.subcommand(made?)
 }
 
 /// `abd` with its commands.
 pub(crate) fn abd_words<'a>(alloc: Global) -> Result<Command<'a>, AllocError>
     ensures { IfOk result (λ words. app_of words ≡ abd_app) }
 {
-    let words = with_command(bare_words(alloc), check_words(alloc)?)?;
-    let words = with_command(words, draw_words(alloc)?)?;
-    let words = with_command(words, explain_words(alloc)?)?;
-    let words = with_command(words, justify_words(alloc)?)?;
-    let words = with_command(words, simulate_words(alloc)?)?;
-    let words = with_command(words, trace_words(alloc)?)?;
-    with_command(words, run_words(alloc)?)
+    let words = with_made(bare_words(alloc), check_words(alloc))?;
+    let words = with_made(words, draw_words(alloc))?;
+    let words = with_made(words, explain_words(alloc))?;
+    let words = with_made(words, justify_words(alloc))?;
+    let words = with_made(words, simulate_words(alloc))?;
+    let words = with_made(words, trace_words(alloc))?;
+    with_made(words, run_words(alloc))
 }
