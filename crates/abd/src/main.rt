@@ -101,7 +101,22 @@ fn open_both<'a>(
     }
 }
 
-/// Opens both files before either is read, and checks.
+/// Opens both files before either is read, and runs the command on them.
+fn on_both<F>(rt: &HostRuntime, history: &str, orders: &str, run: F) -> Status
+where
+    F: for<'a> FnOnce(&mut Source<'a, Counting<File>>, &mut Source<'a, Counting<File>>) -> Status,
+    requires { F.IsAlwaysCallable run }
+{
+    let (Ok(history), Ok(orders)) = (FileName::new(rt, history), FileName::new(rt, orders)) else {
+        return fail(rt, Failure::Memory);
+    };
+    match open_both(rt, &history, &orders) {
+        Ok((mut history, mut orders)) => run(&mut history, &mut orders),
+        Err(status) => status,
+    }
+}
+
+/// Checks the orders.
 fn check(
     rt: &HostRuntime,
     threads: &(impl Threads + Wait + Sync),
@@ -110,28 +125,23 @@ fn check(
     workers: Workers,
     form: Lines,
 ) -> Status {
-    let (Ok(history), Ok(orders)) = (FileName::new(rt, history), FileName::new(rt, orders)) else {
-        return fail(rt, Failure::Memory);
-    };
-    let (mut history, mut orders) = match open_both(rt, &history, &orders) {
-        Ok(files) => files,
-        Err(status) => return status,
-    };
-    let mut out = Counting::new(rt.stdout());
-    let mut errors = Counting::new(rt.stderr());
-    check_command(
-        threads,
-        rt.alloc(),
-        &mut history,
-        &mut orders,
-        workers,
-        form,
-        &mut out,
-        &mut errors,
-    )
+    on_both(rt, history, orders, |history, orders| {
+        let (mut out, mut errors) = (Counting::new(rt.stdout()), Counting::new(rt.stderr()));
+        let alloc = rt.alloc();
+        check_command(
+            threads,
+            alloc,
+            history,
+            orders,
+            workers,
+            form,
+            &mut out,
+            &mut errors,
+        )
+    })
 }
 
-/// Opens both files before either is read, and explains the orders.
+/// Explains the orders.
 fn explain_orders(
     rt: &HostRuntime,
     threads: &(impl Threads + Sync),
@@ -139,24 +149,19 @@ fn explain_orders(
     orders: &str,
     selection: Selection<'_>,
 ) -> Status {
-    let (Ok(history), Ok(orders)) = (FileName::new(rt, history), FileName::new(rt, orders)) else {
-        return fail(rt, Failure::Memory);
-    };
-    let (mut history, mut orders) = match open_both(rt, &history, &orders) {
-        Ok(files) => files,
-        Err(status) => return status,
-    };
-    let mut out = Counting::new(rt.stdout());
-    let mut errors = Counting::new(rt.stderr());
-    explain_orders_command(
-        threads,
-        rt.alloc(),
-        &mut history,
-        &mut orders,
-        selection,
-        &mut out,
-        &mut errors,
-    )
+    on_both(rt, history, orders, |history, orders| {
+        let (mut out, mut errors) = (Counting::new(rt.stdout()), Counting::new(rt.stderr()));
+        let alloc = rt.alloc();
+        explain_orders_command(
+            threads,
+            alloc,
+            history,
+            orders,
+            selection,
+            &mut out,
+            &mut errors,
+        )
+    })
 }
 
 /// Explains the tags of the history's calls.
@@ -195,7 +200,7 @@ fn explain(rt: &HostRuntime, threads: &(impl Threads + Sync), asked: &ExplainAsk
     status
 }
 
-/// Opens both files before either is read, and draws the history's calls, with the points of the orders.
+/// Draws the history's calls, with the points of the orders.
 fn draw_orders(
     rt: &HostRuntime,
     threads: &(impl Threads + Sync),
@@ -203,24 +208,19 @@ fn draw_orders(
     orders: &str,
     drawn: Drawn<'_>,
 ) -> Status {
-    let (Ok(history), Ok(orders)) = (FileName::new(rt, history), FileName::new(rt, orders)) else {
-        return fail(rt, Failure::Memory);
-    };
-    let (mut history, mut orders) = match open_both(rt, &history, &orders) {
-        Ok(files) => files,
-        Err(status) => return status,
-    };
-    let mut out = Counting::new(rt.stdout());
-    let mut errors = Counting::new(rt.stderr());
-    draw_orders_command(
-        threads,
-        rt.alloc(),
-        &mut history,
-        &mut orders,
-        drawn,
-        &mut out,
-        &mut errors,
-    )
+    on_both(rt, history, orders, |history, orders| {
+        let (mut out, mut errors) = (Counting::new(rt.stdout()), Counting::new(rt.stderr()));
+        let alloc = rt.alloc();
+        draw_orders_command(
+            threads,
+            alloc,
+            history,
+            orders,
+            drawn,
+            &mut out,
+            &mut errors,
+        )
+    })
 }
 
 /// Draws the history's calls, with the points of the orders that its tags make.
