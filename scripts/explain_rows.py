@@ -2,7 +2,7 @@
 
 Goes over the worked rows of crates/test_commands/data/explain.rows: runs `abd explain` on the history of each, and its orders if it has some, and
 compares its status and what it prints with what the row expects. What the program says below the line of a fault is left out: those rows are
-`test_faults`.
+why_histories.rows and its siblings.
 """
 
 import os

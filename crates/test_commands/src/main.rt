@@ -17,6 +17,7 @@ mod notation;
 mod readings;
 mod running;
 mod saying;
+mod whys;
 mod wording;
 
 use asked::Asked;
@@ -30,6 +31,7 @@ use std::process::ExitCode;
 use std::sync::Wait;
 use std::thread::Threads;
 use test_rows::{Answer, run_rows};
+use whys::{say_history_why, say_orders_why, say_script_why};
 use wording::{say_first_lines, say_words};
 
 /// What comes of rows that read files.
@@ -44,6 +46,9 @@ fn say_file_row(rt: &(impl Threads + Wait + Sync), out: &mut Answer, asked: Aske
         "key-orders" => say_orders_row(rt, out, asked.lines),
         "writers" => say_writers_row(rt, out, asked.lines),
         "cuts" => say_cuts(rt, out, asked),
+        "why-history" => say_history_why(rt, out, asked),
+        "why-orders" => say_orders_why(rt, out, asked),
+        "why-script" => say_script_why(out, asked),
         _ => out.push("NO SUCH KIND OF ROW\n"),
     }
 }

@@ -1,18 +1,13 @@
-//! Runs the worked rows of faults of files, and says what came out of each: see the heads of the files
-//! in data/.
-//!
-//! Its words name the files. It ends well where each row is as expected.
-#![tactic(auto)]
-
+//! Rows of faults of files, and why.
+use crate::asked::Asked;
 use counted_devices::Counting;
 use fault_details::{explain_history_fault, explain_orders_fault, explain_script_fault};
 use fault_script::parse;
 use history_file::{read_numbered_histories, read_orders};
-use std::process::ExitCode;
 use std::str;
 use std::thread::Threads;
 use tag::Memory;
-use test_rows::{Answer, Pieces, run_rows};
+use test_rows::{Answer, Pieces};
 
 /// Says why a file has its fault.
 fn say_why(out: &mut Answer, why: Result<Vec<u8>, Memory>) {
@@ -22,9 +17,18 @@ fn say_why(out: &mut Answer, why: Result<Vec<u8>, Memory>) {
     }
 }
 
-/// What comes of a history file.
-fn say_history(rt: &(impl Threads + Sync), out: &mut Answer, bytes: &[u8]) {
-    let alloc = out.alloc();
+/// The file that the row's lines are: with `cut` its last line has no end.
+fn file_of(asked: Asked<'_>) -> &[u8] {
+    if asked.has("cut") {
+        asked.lines.trim_end().as_bytes()
+    } else {
+        asked.lines.as_bytes()
+    }
+}
+
+/// The first fault of a history file, and why it is one.
+pub fn say_history_why(rt: &(impl Threads + Sync), out: &mut Answer, asked: Asked<'_>) {
+    let (alloc, bytes) = (out.alloc(), file_of(asked));
     let mut first = Counting::new(Pieces::whole(bytes));
     match read_numbered_histories(rt, alloc, &mut first) {
         Ok(_) => out.push("no fault\n"),
@@ -37,9 +41,9 @@ fn say_history(rt: &(impl Threads + Sync), out: &mut Answer, bytes: &[u8]) {
     }
 }
 
-/// What comes of an order file.
-fn say_orders(rt: &(impl Threads + Sync), out: &mut Answer, bytes: &[u8]) {
-    let alloc = out.alloc();
+/// The first fault of an order file, and why it is one.
+pub fn say_orders_why(rt: &(impl Threads + Sync), out: &mut Answer, asked: Asked<'_>) {
+    let (alloc, bytes) = (out.alloc(), file_of(asked));
     let mut first = Counting::new(Pieces::whole(bytes));
     match read_orders(rt, alloc, &mut first) {
         Ok(_) => out.push("no fault\n"),
@@ -51,9 +55,9 @@ fn say_orders(rt: &(impl Threads + Sync), out: &mut Answer, bytes: &[u8]) {
     }
 }
 
-/// What comes of a script.
-fn say_script(out: &mut Answer, bytes: &[u8]) {
-    let alloc = out.alloc();
+/// The first fault of a script, and why it is one.
+pub fn say_script_why(out: &mut Answer, asked: Asked<'_>) {
+    let (alloc, bytes) = (out.alloc(), file_of(asked));
     match parse(alloc, &mut Counting::new(Pieces::whole(bytes))) {
         Ok(_) => out.push("no fault\n"),
         Err(fault) => {
@@ -62,30 +66,4 @@ fn say_script(out: &mut Answer, bytes: &[u8]) {
             say_why(out, why);
         }
     }
-}
-
-/// What comes of a row.
-fn say_row(rt: &(impl Threads + Sync), out: &mut Answer, input: &str) {
-    let (kind, lines) = input.split_once('\n').unwrap_or((input, ""));
-    let bytes = match kind {
-        "history-cut" | "orders-cut" => lines.trim_end().as_bytes(),
-        _ => lines.as_bytes(),
-    };
-    match kind {
-        "history" | "history-cut" => say_history(rt, out, bytes),
-        "orders" | "orders-cut" => say_orders(rt, out, bytes),
-        "script" => say_script(out, bytes),
-        _ => out.push("NO SUCH KIND OF ROW\n"),
-    }
-}
-
-fn main(rt: HostRuntime) -> ExitCode {
-    run_rows(
-        &rt,
-        &|input: &str| {
-            let mut answer = Answer::new(rt.alloc());
-            say_row(&rt, &mut answer, input);
-            answer.text()
-        },
-    )
 }
