@@ -3,9 +3,9 @@
 Reads pages of `abd draw` as XML, and compares what they show with the history, read here by other means. The histories are those of COUNT
 random scripts (100 if not given), drawn by their tags and by their orders, and one with values that look like markup.
 
-Of each key it compares the calls, their clients and columns, the rows where they begin and end, and the points of a `yes`; so it does on the
-page of a script, whose messages it compares with the trace. A text stays a text, no element is a script, each link has its place on the page,
-and a page has one title and leaves out no level of headings.
+Of each key it compares the calls, their clients and columns, the rows where they begin and end, and the points of a `yes`; so it does on
+the page of a script, whose messages it compares with the trace. A text stays a text, no element is a script, each link has its place on
+the page, and a page has one title and leaves out no level of headings.
 """
 
 import json
