@@ -1,5 +1,5 @@
 -- What one row more changes for a call that it isn't about.
-use Rattle.std.proofs.Common.{ℕ, ◌≡◌, ◌↔◌, List, [], ◌∷◌, ◌++◌}
+use Rattle.std.proofs.Common.{ℕ, ◌≡◌, ◌↔◌, List, [], ◌∷◌, ◌++◌, Option, Some}
 use Rattle.std.specs.List.{Contains}
 use Rattle.std.proofs.lemmas.List.Elements.{Contains-append_left}
 use Rattle.tag.specs.declared.actions.Action.{Action}
@@ -62,4 +62,15 @@ module _ (rows : List Row) (row : Row) (op : OpId) where
     invoked = Contains-append_left rows (row ∷ []) (Invoke op state.client d.key d.action) d.invoked;
     noted = λ tag. let same = noted_same notes tag in (λ e. same.0 ((d.noted tag).0 e), λ h. (d.noted tag).1 (same.1 h));
     answered = λ place. let same = answered_same answers place in (λ e. same.0 ((d.answered place).0 e), λ h. (d.answered place).1 (same.1 h));
+  }
+
+  -- a state of its call after the row, with that note and that response
+  pub Describes-more : (state : CallState) (note : Option Tag) (response : Option ℕ) → Describes rows op state → ((tag : Tag) → (note ≡ Some tag) ↔ Contains (rows ++ row ∷ []) (Note op tag)) → ((place : ℕ) → (response ≡ Some place) ↔ RespondsAt (rows ++ row ∷ []) op place) → Describes (rows ++ row ∷ []) op (record state { note = note; response = response })
+  Describes-more state note response d noted answered = record {
+    key = d.key;
+    action = d.action;
+    kind = d.kind;
+    invoked = Contains-append_left rows (row ∷ []) (Invoke op state.client d.key d.action) d.invoked;
+    noted = noted;
+    answered = answered;
   }

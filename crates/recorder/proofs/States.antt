@@ -1,8 +1,8 @@
 -- The states beside the rows, with one row more.
-use Rattle.std.proofs.Common.{ℕ, ◌≡◌, ◌⊎◌, inl, inr, List, [], ◌∷◌, ◌++◌, Option, Some, None, IsSome, length, set, sym, ◌∙◌, ap, subst, refl, arith, length-append, length-set}
+use Rattle.std.proofs.Common.{ℕ, ◌≡◌, ◌⊎◌, inl, inr, List, [], ◌∷◌, ◌++◌, Option, Some, None, IsSome, length, get_or, set, sym, ◌∙◌, ap, subst, refl, arith, length-append, length-set}
 use Rattle.std.specs.List.{slice_get, Contains}
-use Rattle.std.proofs.lemmas.Option.{slice_get_within}
-use Rattle.std.proofs.lemmas.List.Elements.{Contains-append_left, Contains-push, Contains-push_cases}
+use Rattle.std.proofs.lemmas.Option.{slice_get_within, get_or_from_slice_get}
+use Rattle.std.proofs.lemmas.List.Elements.{Contains-push, Contains-push_cases}
 use Rattle.tag.specs.declared.actions.Action.{Action}
 use Rattle.tag.specs.declared.actions.Returned.{Returned}
 use Rattle.tag.specs.declared.numbers.OpId.{OpId}
@@ -15,7 +15,7 @@ use Rattle.recorder.specs.States.{Describes, AreStates, is_write}
 use Rattle.tag.proofs.SameTags.{same_op}
 use Rattle.tag.proofs.Lists.{place_of, get_at, push_cases, slice_get-set, slice_get-push_last, Contains-slice_get}
 use Rattle.recorder.proofs.Numbers.{count_push, number_below, no_note, no_response}
-use Rattle.recorder.proofs.OneMore.{Describes-push, noted_same, answered_same}
+use Rattle.recorder.proofs.OneMore.{Describes-more, Describes-push, noted_same, answered_same}
 
 -- what a state says of its call
 module _ (rows : List Row) (op : OpId) (state : CallState) (d : Describes rows op state) where
@@ -58,19 +58,21 @@ not_pending rows states formed are op done pending =
     let s = get_at states op.0 (omega (arith, below, are.all)) in
     p.unanswered (has_response rows op s.0 (are.each op s.0 s.1) (done s.0 s.1))
 
+-- the state of a pending call, as it was found
+pub waits_from : {rows : List Row} {states : List CallState} → AreStates rows states → (op : OpId) (state : CallState) → (slice_get states op.0 ≡ Some state) × (state.response ≡ None) → Describes rows op state × (state.response ≡ None)
+waits_from are op state found = (are.each op state found.0, found.1)
+
+-- the state that stands there is the one that was found
+pub state_there : (states : List CallState) (k : ℕ) (state here : CallState) → slice_get states k ≡ Some state → here ≡ get_or states k here → here ≡ state
+state_there states k state here found is = is ∙ get_or_from_slice_get states k state here found
+
 -- one note more
 module _ (rows : List Row) (op : OpId) (tag : Tag) where
   pub Describes-noted : (state : CallState) → state.note ≡ None → Describes rows op state → Describes (rows ++ Note op tag ∷ []) op (record state { note = Some tag })
   Describes-noted state none d =
       let same = answered_same rows (Note op tag) op (λ r e. cc) in
-      record {
-        key = d.key;
-        action = d.action;
-        kind = d.kind;
-        invoked = Contains-append_left rows (Note op tag ∷ []) (Invoke op state.client d.key d.action) d.invoked;
-        noted = λ t. (λ e. let here : tag ≡ t = cc in subst (λ (x : Tag). Contains (rows ++ Note op tag ∷ []) (Note op x)) here (Contains-push rows (Note op tag)), λ h. by t (Contains-push_cases rows (Note op tag) (Note op t) h));
-        answered = λ place. (λ e. (same place).0 ((d.answered place).0 e), λ h. (d.answered place).1 ((same place).1 h));
-      }
+      Describes-more rows (Note op tag) op state (Some tag) state.response d (λ t. (λ e. let here : tag ≡ t = cc in subst (λ (x : Tag). Contains (rows ++ Note op tag ∷ []) (Note op x)) here (Contains-push rows (Note op tag)), λ h. by t (Contains-push_cases rows (Note op tag) (Note op t) h)))
+      (λ place. (λ e. (same place).0 ((d.answered place).0 e), λ h. (d.answered place).1 ((same place).1 h)))
     where
       by : (t : Tag) → Contains rows (Note op t) ⊎ (Note op tag ≡ Note op t) → Some tag ≡ Some t
       by t (inl h) = absurd (not_noted rows op state d none (t, h))
@@ -94,14 +96,8 @@ module _ (rows : List Row) (op : OpId) (returned : Returned) where
   pub Describes-answered : (state : CallState) → state.response ≡ None → Describes rows op state → Describes (rows ++ Respond op returned ∷ []) op (record state { response = Some (length rows) })
   Describes-answered state none d =
       let same = noted_same rows (Respond op returned) op (λ t e. cc) in
-      record {
-        key = d.key;
-        action = d.action;
-        kind = d.kind;
-        invoked = Contains-append_left rows (Respond op returned ∷ []) (Invoke op state.client d.key d.action) d.invoked;
-        noted = λ t. (λ e. (same t).0 ((d.noted t).0 e), λ h. (d.noted t).1 ((same t).1 h));
-        answered = λ place. (λ e. let here : length rows ≡ place = cc in (returned, subst (λ (k : ℕ). slice_get (rows ++ Respond op returned ∷ []) k ≡ Some (Respond op returned)) here (slice_get-push_last rows (Respond op returned))), λ h. by place h.0 (push_cases rows (Respond op returned) place (Respond op h.0) h.1));
-      }
+      Describes-more rows (Respond op returned) op state state.note (Some (length rows)) d (λ t. (λ e. (same t).0 ((d.noted t).0 e), λ h. (d.noted t).1 ((same t).1 h)))
+      (λ place. (λ e. let here : length rows ≡ place = cc in (returned, subst (λ (k : ℕ). slice_get (rows ++ Respond op returned ∷ []) k ≡ Some (Respond op returned)) here (slice_get-push_last rows (Respond op returned))), λ h. by place h.0 (push_cases rows (Respond op returned) place (Respond op h.0) h.1)))
     where
       by : (place : ℕ) (r : Returned) → (slice_get rows place ≡ Some (Respond op r)) ⊎ ((place ≡ length rows) × (Respond op returned ≡ Respond op r)) → Some (length rows) ≡ Some place
       by place r (inl h) = absurd (not_answered rows op state d none (r, Contains-slice_get rows place (Respond op r) h))

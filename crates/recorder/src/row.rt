@@ -3,7 +3,7 @@ ghost use Rattle.std.specs.Prelude.{◌≡◌, IfOk};
 ghost use Rattle.recorder.specs.declared.row.RowRefusal.{RowRefusal};
 ghost use Rattle.recorder.specs.Numbers.{row_refusal_number};
 
-use std::alloc::{AllocError, AllocFailed};
+use std::alloc::AllocFailed;
 use tag::{Action, ClientId, Key, Memory, OpId, Returned, Tag};
 use thiserror::Error;
 
@@ -85,14 +85,6 @@ impl From<Memory> for RowRefusal {
     ghost from_gives = { λ _ e. e ≡ RowRefusal.Memory };
 
     fn from(_: Memory) -> RowRefusal {
-        RowRefusal::Memory
-    }
-}
-
-impl From<AllocError> for RowRefusal {
-    ghost from_gives = { λ _ e. e ≡ RowRefusal.Memory };
-
-    fn from(_: AllocError) -> RowRefusal {
         RowRefusal::Memory
     }
 }
