@@ -14,7 +14,9 @@ use Rattle.recorder.specs.Parts.{IsSequence}
 use Rattle.tag_check.proofs.ByTag.{write_there}
 use Rattle.tag_check.proofs.Calls.{first_here, all_more}
 use Rattle.tag.proofs.Lists.{place_of, Contains-slice_get}
-use Rattle.tag_check.specs.Rules.{IsWriteOf, IsWriteWith, IsValueOf, AnswersNoWrite, AnswersRight, AllAnswerRight, AnswersOther, AnswersAnother, IsOtherValue}
+use Rattle.tag_check.specs.declared.notes.Answer.TheVariants.{Right, Other}
+use Rattle.tag_check.specs.Answers.{IsAnswer}
+use Rattle.tag_check.specs.Rules.{IsAnsweredRead, IsWriteOf, IsWriteWith, IsValueOf, AnswersNoWrite, AnswersRight, AllAnswerRight, AnswersOther, AnswersAnother, IsOtherValue}
 use Rattle.tag_check.specs.Writes.{HasWriteAt, HaveOwnTags}
 
 -- a tag that no index has has no write
@@ -79,6 +81,27 @@ pub stands_not_without : (calls : List Call) (call : Call) (tag : Tag) (write : 
     → IsValueOf calls tag write value → AnswersNoWrite calls call → ⊥
 stands_not_without calls call tag write value noted stands h =
     has_write calls tag h.tag (same_Some tag h.tag (sym noted ∙ h.answered.2)) write value stands h.other h.unwritten
+
+-- a read whose tag stands for something answers that, or another value
+module _ (calls : List Call) (call : Call) (response : Response) (tag : Tag) (write : Option OpId) (value : Option (List ℕ)) (read : IsAnsweredRead call tag)
+    (responds : call.response ≡ Some response) (stands : IsValueOf calls tag write value) where
+  pub is_right : HaveOwnTags calls → response.returned ≡ Value value → IsAnswer calls call Right
+  is_right own right = (right_here calls own call response tag write value read.2 responds stands right, stands_not_without calls call tag write value read.2 stands)
+
+  pub is_other : (response.returned ≡ Value value → ⊥) → IsAnswer calls call (Other write)
+  is_other other = (
+    record {
+      tag = tag;
+      value = value;
+      response = response;
+      reads = read.0;
+      noted = read.2;
+      responds = responds;
+      stands = stands;
+      other = other;
+    },
+    stands_not_without calls call tag write value read.2 stands,
+  )
 
 -- of the calls below index i the first that answers another value, with its write
 abbrev pub IsFirstOther : List Call → ℕ → Option (OpId × Option OpId) → Type 0

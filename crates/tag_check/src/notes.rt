@@ -325,11 +325,9 @@ impl<'a> Notes<'a> {
         ensures { IsIndexOf self.now.calls.now tag result }
     {
         let place = first_place(writes, tag, near);
-        if place >= writes.len() {
-            return None;
-        }
-        if is_same(writes[place].0, tag) {
-            Some(writes[place].1)
+        let (noted, index) = *writes.get(place)?;
+        if is_same(noted, tag) {
+            Some(index)
         } else {
             None
         }

@@ -1,8 +1,7 @@
 use Rattle.std.proofs.Common.{Some, None, refl, sym, ◌∙◌}
 use Rattle.std.proofs.lemmas.Bool.{false≢true}
 use Rattle.std.proofs.lemmas.Option.{none-some}
-use Rattle.tag_check.specs.Rules.{IsValueOf}
-use Rattle.tag_check.proofs.Values.{right_here, stands_not_without}
+use Rattle.tag_check.proofs.Values.{is_other, is_right}
 use Rattle.tag_check.proofs.notes.Notes.answer.Goals as goal
 
 pub returns-in_default : goal.returns-in_default
@@ -19,31 +18,15 @@ returns-in_default-read_tag c = (
 
 pub returns-then-answers : goal.returns-then-answers
 returns-then-answers c =
-    let calls = c.args.self.now.calls.now in
     let tag = c.in-Some-read_tag.tag in
-    let answered = (c.read_tag.ensures tag).0 c.in-Some-read_tag.is in
-    let least = c.is_least.ensures.0 c.if-is_least.true in (
-      right_here calls c.requires.own c.args.call.now c.in-Some.response tag None None answered.2 c.in-Some.is (least, refl) (c.answers.ensures.0 c.if-answers.true),
-      stands_not_without calls c.args.call.now tag None None answered.2 (least, refl),
-    )
+    is_right c.args.self.now.calls.now c.args.call.now c.in-Some.response tag None None ((c.read_tag.ensures tag).0 c.in-Some-read_tag.is) c.in-Some.is
+    (c.is_least.ensures.0 c.if-is_least.true, refl) c.requires.own (c.answers.ensures.0 c.if-answers.true)
 
 pub returns-else-answers : goal.returns-else-answers
 returns-else-answers c =
     let tag = c.in-Some-read_tag.tag in
-    let answered = (c.read_tag.ensures tag).0 c.in-Some-read_tag.is in
-    let least = c.is_least.ensures.0 c.if-is_least.true in (
-      record {
-        tag = tag;
-        value = None;
-        response = c.in-Some.response;
-        reads = answered.0;
-        noted = answered.2;
-        responds = c.in-Some.is;
-        stands = (least, refl);
-        other = λ h. false≢true (sym c.if-answers.false ∙ c.answers.ensures.1 h);
-      },
-      stands_not_without c.args.self.now.calls.now c.args.call.now tag None None answered.2 (least, refl),
-    )
+    is_other c.args.self.now.calls.now c.args.call.now c.in-Some.response tag None None ((c.read_tag.ensures tag).0 c.in-Some-read_tag.is) c.in-Some.is
+    (c.is_least.ensures.0 c.if-is_least.true, refl) (λ h. false≢true (sym c.if-answers.false ∙ c.answers.ensures.1 h))
 
 pub returns-in_default-write_of : goal.returns-in_default-write_of
 returns-in_default-write_of c =
@@ -57,33 +40,14 @@ returns-in_default-write_of c =
 
 pub returns-then-answers-2 : goal.returns-then-answers-2
 returns-then-answers-2 c =
-    let calls = c.args.self.now.calls.now in
     let tag = c.in-Some-read_tag.tag in
-    let write = c.in-Some-write_of.write in
-    let text = c.in-Some-write_of.value.now in
-    let answered = (c.read_tag.ensures tag).0 c.in-Some-read_tag.is in
-    let stands : IsValueOf calls tag (Some write) (Some text) = (λ e. false≢true (sym c.if-is_least.false ∙ c.is_least.ensures.1 e), text, c.in-Some-write_of.ensures, refl) in (
-      right_here calls c.requires.own c.args.call.now c.in-Some.response tag (Some write) (Some text) answered.2 c.in-Some.is stands (c.answers-2.ensures.0 c.if-answers-2.true),
-      stands_not_without calls c.args.call.now tag (Some write) (Some text) answered.2 stands,
-    )
+    is_right c.args.self.now.calls.now c.args.call.now c.in-Some.response tag (Some c.in-Some-write_of.write) (Some c.in-Some-write_of.value.now)
+    ((c.read_tag.ensures tag).0 c.in-Some-read_tag.is) c.in-Some.is
+    (λ e. false≢true (sym c.if-is_least.false ∙ c.is_least.ensures.1 e), c.in-Some-write_of.value.now, c.in-Some-write_of.ensures, refl) c.requires.own (c.answers-2.ensures.0 c.if-answers-2.true)
 
 pub returns-else-answers-2 : goal.returns-else-answers-2
 returns-else-answers-2 c =
-    let calls = c.args.self.now.calls.now in
     let tag = c.in-Some-read_tag.tag in
-    let write = c.in-Some-write_of.write in
-    let text = c.in-Some-write_of.value.now in
-    let answered = (c.read_tag.ensures tag).0 c.in-Some-read_tag.is in
-    let stands : IsValueOf calls tag (Some write) (Some text) = (λ e. false≢true (sym c.if-is_least.false ∙ c.is_least.ensures.1 e), text, c.in-Some-write_of.ensures, refl) in (
-      record {
-        tag = tag;
-        value = Some text;
-        response = c.in-Some.response;
-        reads = answered.0;
-        noted = answered.2;
-        responds = c.in-Some.is;
-        stands = stands;
-        other = λ h. false≢true (sym c.if-answers-2.false ∙ c.answers-2.ensures.1 h);
-      },
-      stands_not_without calls c.args.call.now tag (Some write) (Some text) answered.2 stands,
-    )
+    is_other c.args.self.now.calls.now c.args.call.now c.in-Some.response tag (Some c.in-Some-write_of.write) (Some c.in-Some-write_of.value.now)
+    ((c.read_tag.ensures tag).0 c.in-Some-read_tag.is) c.in-Some.is
+    (λ e. false≢true (sym c.if-is_least.false ∙ c.is_least.ensures.1 e), c.in-Some-write_of.value.now, c.in-Some-write_of.ensures, refl) (λ h. false≢true (sym c.if-answers-2.false ∙ c.answers-2.ensures.1 h))
