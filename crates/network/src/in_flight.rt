@@ -35,11 +35,7 @@ fn is_same(a: Option<&Flight>, b: Option<&Flight>) -> bool
     ensures { result ≡ ⟦<Option<Flight> as PartialEq>⟧.eq (option_copied a.entry)
         (option_copied b.entry) }
 {
-    match (a, b) {
-        (Some(a), Some(b)) => a == b,
-        (None, None) => true,
-        _ => false,
-    }
+    a == b
 }
 
 impl InFlight {
