@@ -48,20 +48,7 @@ impl PartialEq for Chosen {
     ghost laws = { and_per (on_per (λ c. c.call) call.laws-law) (on_per (λ c. c.pair) pair.laws-law) };
 
     fn eq(&self, other: &Chosen) -> bool {
-        self.call == other.call
-            && (self.tag == other.tag && has_same_value(self.value(), other.value()))
-    }
-}
-
-/// Whether both values are equal, or both are absent.
-fn has_same_value(a: Option<&Value>, b: Option<&Value>) -> bool
-    ensures { result ≡ ⟦<Option<Value> as PartialEq>⟧.eq (option_copied a.entry)
-        (option_copied b.entry) }
-{
-    match (a, b) {
-        (Some(a), Some(b)) => a == b,
-        (None, None) => true,
-        _ => false,
+        self.call == other.call && (self.tag == other.tag && self.value() == other.value())
     }
 }
 

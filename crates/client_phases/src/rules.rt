@@ -1,4 +1,4 @@
-//! What a client keeps for good.
+//! What a client goes by: its name, the quorums, and whether a read may leave out its write-back.
 ghost use Rattle.std.specs.Prelude.{◌≡◌, Option, List, ℕ};
 ghost use Rattle.client_phases.specs.Asking.{LeavesRoom, counts, asking_from, is_agreed};
 ghost use Rattle.client_phases.specs.States.{asking_outcome};
@@ -40,6 +40,7 @@ impl Rules {
         op == call.op && !counted.contains(replica) && replica.get() < self.quorums.replicas()
     }
 
+    /// Whether a read puts nothing: it reads short, and a put quorum holds the pair already.
     fn is_agreed(&self, call: &Call, tally: &Tally) -> bool
         ensures { (found : Option (List ℕ))
             → result ≡ is_agreed self.now (asking_from call.now tally.now found) }
