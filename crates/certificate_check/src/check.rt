@@ -12,7 +12,7 @@ use tag::{Memory, OpId};
 /// part is atomic.
 ///
 /// `Yes` exactly where the list is an order of the part, and else the lowest fault. It takes time
-/// in proportion to the calls and the logarithm of their count, and answers `Memory` only where a
+/// in proportion to the calls and the logarithm of their count, and answers `Memory` only where an
 /// allocation was refused.
 pub fn check_part(alloc: Global, part: &Part, order: &[OpId]) -> Result<Verdict, Memory>
     ensures { IfOk result (λ verdict. IsVerdict part.now order.now verdict) }

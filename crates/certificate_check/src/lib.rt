@@ -10,4 +10,5 @@ mod listing;
 mod verdict;
 
 pub use check::check_part;
+pub use listing::find_call;
 pub use verdict::{Fault, Verdict};

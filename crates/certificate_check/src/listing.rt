@@ -1,4 +1,4 @@
-//! An order with the calls that stand in it.
+//! An order with the calls that stand in it, and the lowest fault of it.
 ghost use Rattle.std.specs.Prelude.{◌≡◌, ℕ, ◌<◌, IfSome, IfNone, IfOk, MatchResult, MatchOption};
 ghost use Rattle.std.specs.Prelude.{Contains, slice_get, length, IsTrue, ◌↔◌, Option};
 ghost use Rattle.std.specs.Option.{option_copied};
@@ -11,8 +11,9 @@ use recorder::Call;
 use std::alloc::Global;
 use tag::{Action, Memory, OpId, Returned, Value};
 
-/// The index of the call of that number.
-fn find(calls: &[Call], op: OpId) -> Option<usize>
+/// The index of the call of that number, if there is one, in steps that grow with the logarithm of
+/// the count of calls.
+pub fn find_call(calls: &[Call], op: OpId) -> Option<usize>
     requires { IsSequence calls.now }
     ensures found { IfSome result (λ k. HasOpAt calls.now k op) }
     ensures none { IfNone result ((call : Call) → Contains calls.now call → call.op ≡ op → ⊥) }
@@ -28,7 +29,7 @@ fn find_near(calls: &[Call], near: usize, op: OpId) -> Option<usize>
 {
     match calls.get(near) {
         Some(call) if call.op == op => Some(near),
-        _ => find(calls, op),
+        _ => find_call(calls, op),
     }
 }
 

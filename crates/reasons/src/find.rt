@@ -4,6 +4,7 @@ ghost use Rattle.recorder.specs.declared.part.Call.{Call};
 ghost use Rattle.recorder.specs.Parts.{IsSequence};
 ghost use Rattle.reasons.specs.Calls.{IsCallOf};
 
+use certificate_check::find_call;
 use recorder::Call;
 use tag::OpId;
 
@@ -13,9 +14,9 @@ pub(crate) fn find<'a>(calls: &'a [Call], op: OpId) -> Option<&'a Call>
     ensures found { IfSome result (λ call. IsCallOf calls.now op call.now) }
     ensures none { IfNone result ((call : Call) → IsCallOf calls.now op call → ⊥) }
 {
-    match calls.binary_search_by_key(&op.0, |call| call.op.0) {
-        Ok(k) => Some(&calls[k]),
-        Err(_) => None,
+    match find_call(calls, op) {
+        Some(k) => Some(&calls[k]),
+        None => None,
     }
 }
 

@@ -7,7 +7,7 @@ ghost use Rattle.certificate_check.specs.Places.{HasOpAt};
 ghost use Rattle.scenes.specs.Scenes.{IsRisingListOf, IsSelection};
 ghost use Rattle.scenes.specs.Windows.{IsInWindow, IsToShow, IsWindowAround};
 
-use crate::find::find;
+use certificate_check::find_call;
 use recorder::{Call, Part};
 use std::alloc::Global;
 use tag::{Memory, OpId};
@@ -50,7 +50,7 @@ fn index_of(calls: &[Call], op: Option<OpId>) -> Option<usize>
     ensures none { IfNone result ((o : OpId) (k : ℕ) → op ≡ Some o → HasOpAt calls.now k o → ⊥) }
 {
     match op {
-        Some(op) => find(calls, op),
+        Some(op) => find_call(calls, op),
         None => None,
     }
 }
@@ -89,7 +89,7 @@ fn indexes_of(
 {
     let mut indexes = indexes_in(alloc, calls.len(), window)?;
     for op in kept {
-        if let Some(k) = find(calls, *op) {
+        if let Some(k) = find_call(calls, *op) {
             indexes.push(k)?;
         }
     }

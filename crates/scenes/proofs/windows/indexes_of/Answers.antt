@@ -19,7 +19,7 @@ loop-op-preserved c =
     let k = c.loop-op.op-index in
     let start = c.loop-op.indexes.items in
     let at = slice_get-get_or kept k (record { 0 = 0 }) c.loop-op-test.true in
-    elim c.match-find.branch [
+    elim c.match-find_call.branch [
       | in-Some+in_ok-push w ↦ rw w.indexes-is
           (kept_more calls window c.requires kept k w.in-Some.k _ start _ at w.in-Some.ensures.found w.in_ok-push.ensures.items
           c.loop-op.invariant)

@@ -1,7 +1,7 @@
 use Rattle.std.proofs.Common.{rules}
 use Rattle.std.proofs.lemmas.List.Sorted.{answers_always}
 use Rattle.certificate_check.proofs.Stands.{searched, found_or_none}
-use Rattle.scenes.proofs.find.find.Goals as goal
+use Rattle.certificate_check.proofs.listing.find_call.Goals as goal
 
 pub returns : goal.returns
 returns c =
