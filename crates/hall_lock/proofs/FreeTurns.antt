@@ -1,5 +1,5 @@
 -- What a turn of a pass without a client leaves.
-use Rattle.std.proofs.Common.{◌≡◌, ℕ, [], Option, Some, None, option_map, Result, refl, sym, ap, ◌∙◌, subst}
+use Rattle.std.proofs.Common.{◌≡◌, ℕ, List, [], Option, Some, None, option_map, Result, refl, sym, ap, ◌∙◌, subst}
 use Rattle.std.specs.FinMap as finite
 use Rattle.std.specs.Ordering.{nat_cmp}
 use Rattle.tag.proofs.Options.{none_some}
@@ -7,17 +7,18 @@ use Rattle.client_phases.specs.Clients.{phase_of}
 use Rattle.network.specs.declared.messages.Message.{Message}
 use Rattle.network.specs.declared.messages.Message.TheVariants.{ToReplica, ToClient}
 use Rattle.recorder.specs.Histories.{Recorded}
+use Rattle.recorder.specs.declared.row.Row.{Row}
 use Rattle.world_steps.specs.Configs.{Config, config_of}
 use Rattle.world_steps.specs.Lasting.{Grows, HasJoined, HasStopped, receiver}
 use Rattle.world_steps.specs.Refusals.{is_stopped}
-use Rattle.world_steps.specs.SoundSystems.{IsSound}
 use Rattle.world_steps.specs.Systems.{opening}
 use Rattle.world_steps.specs.declared.effect.Effect.{Effect}
 use Rattle.world_steps.specs.declared.refusal.Refusal.{Refusal}
 use Rattle.world_steps.specs.declared.step.Step.{Step}
-use Rattle.hall_journal.specs.Halls.{Hall, IsReplay, opening_hall}
+use Rattle.world_steps.specs.declared.system.System.{System}
+use Rattle.hall_journal.specs.Halls.{Hall, opening_hall}
 use Rattle.hall_lock.specs.declared.rule.View.{View}
-use Rattle.hall_lock.specs.Turns.{AreRecorded, DeliversFlight, IsCopied, IsToReplica, MayReturn, Receives, Returns, ServesFlight}
+use Rattle.hall_lock.specs.Turns.{AreRecorded, DeliversFlight, IsCopied, IsTold, IsToReplica, MayReturn, Receives, Returns, ServesFlight}
 use Rattle.hall_lock.specs.Turns.{ServesStep, Turns, guest, maker, view_at_rest}
 use Rattle.hall_lock.proofs.Rows.{none_stopped, grown_not}
 use Rattle.hall_lock.proofs.OneTurn.{rested}
@@ -73,13 +74,14 @@ grown_by v w z old new received returned same =
     (λ (h : Hall). h.world.history.rows) same in
     subst (Grows v.rows) (sym rows) received.knows.seen
 
-pub copied : (v w : View) (hall : Hall) (history : Recorded) → Receives v hall w → IsReplay hall → IsSound hall.world
-    → history ≡ hall.world.history → IsCopied v.rows history
-copied v w hall history received replay sound is = record {
-  hall = hall;
-  replay = replay;
-  sound = sound;
-  grown = subst (λ (h : Recorded). Grows v.rows h.rows) (sym is) received.knows.seen;
+-- a copy of the record that was told of
+pub copied : {seen : List Row} {Told : System → Type 0} {history : Recorded} → (told : IsTold seen Told) → history ≡ told.hall.world.history
+    → IsCopied seen history
+copied {seen} {Told} {history} told is = record {
+  hall = told.hall;
+  replay = told.replay;
+  sound = told.sound;
+  grown = subst (λ (h : Recorded). Grows seen h.rows) (sym is) told.grown;
   is = is;
 }
 

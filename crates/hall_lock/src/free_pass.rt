@@ -95,10 +95,12 @@ impl FreePass {
         ensures copied { IfOk result (λ history. IsCopied self.old history) }
         ensures seen { Grows self.old self.new }
     {
-        let hall = self.door.receive(rt);
-        let copy = hall.world().history().copy();
-        self.door.give_back(rt, hall);
-        copy
+        self.look(
+            rt,
+            |world| -> Result<History, Memory>
+                ensures { IfOk result (λ history. history ≡ world.now.history) }
+            { world.history().copy() },
+        )
     }
 
     /// One turn, in which `look` is lent the hall's world; the hall waits for it.

@@ -1,5 +1,4 @@
 use Rattle.std.proofs.Common.{◌≡◌, sym, subst}
-use Rattle.crossbeam_channel.specs.Claims.{view}
 use Rattle.crossbeam_channel.specs.Ends.{ruled_capacity, sends_on}
 use Rattle.crossbeam_channel.specs.Fifo.{Learns, Pushes}
 use Rattle.hall_journal.specs.Halls.{Hall}
