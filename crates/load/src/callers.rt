@@ -1,5 +1,5 @@
 //! Callers, each with a seat and a thread of its own.
-ghost use Rattle.std.specs.Prelude.{◌≡◌, ◌⊎◌, Err, map, IfErr, IfOk, OnErr, OnOk};
+ghost use Rattle.std.specs.Prelude.{◌≡◌, ◌++◌, ◌∷◌, [], ◌⊎◌, Err, map, IfErr, IfOk, OnErr, OnOk};
 ghost use Rattle.load.specs.Callers.{AreKeys, AreNew, AreOfSeats, AreSeated, IsCalled};
 ghost use Rattle.load.specs.Callers.{IsFreshSeat, LeavesCall, MakesCall, RefusesTurn, work_of};
 
@@ -10,7 +10,7 @@ use std::alloc::Global;
 use std::sync::Wait;
 use std::thread;
 use std::thread::{Promise, PromisedHandle, Scope, Threads, join_promised};
-use tag::ClientId;
+use tag::{ClientId, Memory};
 
 /// A caller whose thread has ended.
 #[derive(Drop)]
@@ -36,6 +36,14 @@ impl Promise<Called> for Work {
     ghost use Rattle.load.specs.Callers.{IsCalled};
 
     ghost kept_by = { IsCalled };
+}
+
+/// Adds an item at the end of a list.
+pub(crate) fn add<T: Drop>(list: &mut Vec<T>, item: T) -> Result<(), Memory>
+    ensures { OnOk result (list.new.items ≡ list.old.items ++ item ∷ []) }
+{
+    list.push(item)?;
+    Ok(())
 }
 
 /// Makes the call of the turn.
@@ -138,7 +146,7 @@ fn start_all<'s, 'e: 's, R: Wait + Sync, G: Gate + Send + Sync>(
             calls,
             caller,
         };
-        started.push(start(rt, scope, alloc, store, seat, work)?)?;
+        add(&mut started, start(rt, scope, alloc, store, seat, work)?)?;
     }
     Ok(started)
 }
@@ -171,7 +179,10 @@ where
                 (error ≡ LoadError.Thread) ⊎ (error ≡ LoadError.Memory)) }
         {
             let started = start_all(rt, scope, alloc, store, seats, keys, calls)?;
-            Ok(join_promised(rt, started)?)
+            match join_promised(rt, started) {
+                Ok(callers) => Ok(callers),
+                Err(_) => Err(LoadError::Memory),
+            }
         },
     )
 }
@@ -192,7 +203,7 @@ pub(crate) fn join_all<R: Wait, G: Gate>(
         let Ok(client) = ClientId::new(u32::from(number) + 1) else {
             unreachable!()
         };
-        seats.push(store.join(rt, alloc, client)?)?;
+        add(&mut seats, store.join(rt, alloc, client)?)?;
     }
     Ok(seats)
 }

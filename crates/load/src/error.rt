@@ -4,7 +4,6 @@ ghost use Rattle.load.specs.LoadErrors.{error_of_join, error_of_start};
 ghost use Rattle.load.specs.declared.error.LoadError.{LoadError};
 
 use node_threads::{JoinError, StartError};
-use std::alloc::{AllocError, AllocFailed};
 use tag::Memory;
 use thiserror::Error;
 
@@ -48,22 +47,6 @@ impl From<Memory> for LoadError {
     ghost from_gives = { λ _ e. e ≡ LoadError.Memory };
 
     fn from(_: Memory) -> LoadError {
-        LoadError::Memory
-    }
-}
-
-impl From<AllocError> for LoadError {
-    ghost from_gives = { λ _ e. e ≡ LoadError.Memory };
-
-    fn from(_: AllocError) -> LoadError {
-        LoadError::Memory
-    }
-}
-
-impl<T: Drop> From<AllocFailed<T>> for LoadError {
-    ghost from_gives = { λ _ e. e ≡ LoadError.Memory };
-
-    fn from(_: AllocFailed<T>) -> LoadError {
         LoadError::Memory
     }
 }

@@ -3,7 +3,7 @@ ghost use Rattle.std.specs.Prelude.{◌≡◌, ◌++◌, map, IfOk, OnOk};
 ghost use Rattle.load.specs.Loads.{IsLoaded, gate_of, refusals_of, refused_of, store_of, world_of};
 ghost use Rattle.run_options.specs.Loads.{IsWithinLimits};
 
-use crate::callers::{Called, call_together, join_all};
+use crate::callers::{Called, add, call_together, join_all};
 use crate::error::LoadError;
 use crate::gate::{CountingGate, Watch};
 use node_threads::{CallError, CloseError, Closed, Seat, Store, StoreConfig};
@@ -87,8 +87,7 @@ fn add_refusal(
     let Some(error) = refusal else {
         return Ok(());
     };
-    refusals.push(Refused { caller, error })?;
-    Ok(())
+    add(refusals, Refused { caller, error })
 }
 
 /// The callers' seats, and those whose calls were refused.

@@ -6,8 +6,8 @@ pub loop-number-preserved : goal.loop-number-preserved
 loop-number-preserved g c =
     let seat = c.in_ok-join.field-0 in
     let name : c.in-Ok.client ≡ c.loop-number.number + 1 = search rules in (
-      seated_more c.loop-number.number c.loop-number.seats.items c.push.new.self.items seat c.loop-number.invariant.0
+      seated_more c.loop-number.number c.loop-number.seats.items c.add.new.list.items seat c.loop-number.invariant.0
           (record { client = c.in_ok-join.ensures.client ∙ name; log = c.in_ok-join.ensures.log })
-          c.in_ok-push.ensures.items,
+          c.in_ok-add.ensures,
       (let test = c.loop-number-test.true in omega (arith, test)),
     )

@@ -10,8 +10,8 @@ loop-seat-preserved g c =
     let rest = l.seat-iterator.rest.items in
     let left = c.next.new.self.rest.items in
     let step = c.in-Some.ensures.steps.0 in (
-      more (λ h. h.promise) (λ s. work_of c.args.keys c.args.calls s.client) l.started.items c.push.new.self.items c.in_ok-start.field-0
-          c.in-Some.seat rest left _ l.invariant.0 step c.in_ok-push.ensures.items
+      more (λ h. h.promise) (λ s. work_of c.args.keys c.args.calls s.client) l.started.items c.add.new.list.items c.in_ok-start.field-0
+          c.in-Some.seat rest left _ l.invariant.0 step c.in_ok-add.ensures
           (c.in_ok-start.ensures.started ∙ ap (work_of c.args.keys c.args.calls) (c.get-caller.ensures.name ∙ c.client.ensures)),
       new_left rest left c.in-Some.seat l.invariant.1 step,
     )
