@@ -99,10 +99,7 @@ pub(crate) fn tell_check<E: CountedWrite>(error: CheckError, errors: &mut E) -> 
     ensures status { result ≡ Status.Failed }
     ensures told { ReceivesOrFails (states E.contents E.failures errors.old errors.new) (check_line error) }
 {
-    match error {
-        CheckError::Memory => Failure::Memory.report(errors),
-        CheckError::Thread => Failure::Thread.report(errors),
-    }
+    Failure::from(error).report(errors)
 }
 
 /// Says why there is no text to write. The status.
