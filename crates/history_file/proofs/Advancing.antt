@@ -1,28 +1,26 @@
--- Lines that are judged ahead of where they are read.
-use Rattle.std.proofs.Common.{ℕ, Bor, map, take, slice_index, ◌≡◌, ◌≢◌, ◌<◌, ◌≤◌, ◌+◌, List, [], ◌∷◌, ◌++◌, length, nat_lt, Ok, Err, None, refl, sym, ap, ◌∙◌, append_assoc, append-nil, length-append, arith, subst}
+-- Lines that are judged, and read after that.
+use Rattle.std.proofs.Common.{ℕ, zero, suc, Bor, map, take, slice_index, ◌≡◌, ◌≢◌, ◌<◌, ◌≤◌, ◌+◌, List, [], ◌∷◌, ◌++◌, length, nat_lt, Ok, refl, sym, ap, ◌∙◌, append_assoc, append-nil, arith, subst}
 use Rattle.std.specs.List.{AllZip, flat_map}
 use Rattle.std.proofs.lemmas.Slice.Zip.{AllZip-long}
-use Rattle.std.proofs.lemmas.List.Elements.{All-nil}
+use Rattle.std.proofs.lemmas.List.Elements.{All-append}
 use Rattle.std.proofs.lemmas.Bool.{lt-ltb}
 use Rattle.file_format.specs.declared.fault.LineFault.TheVariants.{TooLong}
-use Rattle.file_format.specs.Faults.{FileFault, FaultKind}
+use Rattle.file_format.specs.Faults.{FaultKind}
 use Rattle.counted_devices.specs.declared.read_fault.FaultKind.TheVariants as kind
 use Rattle.history_file.specs.declared.progress.Progress.{Progress}
 use Rattle.file_format.specs.declared.judge_lines.Judgement.{Judgement}
-use Rattle.history_file.specs.declared.feed.Feed.{Feed}
-use Rattle.history_file.specs.declared.ahead.Ahead.{Ahead}
 use Rattle.history_file.specs.declared.judge_blocks.JudgedLines.{JudgedLines}
 use Rattle.counted_devices.specs.Cuts.{with_end, Splits, Divides, HasNoEnd}
 use Rattle.file_format.specs.Lines.{ShowsItem, ShowChunks}
 use Rattle.file_format.specs.Formats.{Format}
 use Rattle.history_file.specs.FileFaults.{IsFirstOfKind, FirstFaultSoFar, file_faults}
-use Rattle.history_file.specs.LinesRead.{HasRead, ReadsShown}
+use Rattle.history_file.specs.LinesRead.{HasReadLines, ReadsShown, AreRead, HasReadFront}
 use Rattle.counted_devices.specs.FirstFaults.{FaultSoFar}
-use Rattle.history_file.specs.Feeds.{StandsForLines}
-use Rattle.history_file.specs.Ahead.{IsJudged, IsAhead, StandsAhead, FaultStays}
-use Rattle.history_file.proofs.LineByLine.{IsFirstFault-more, nothing_read}
-use Rattle.history_file.proofs.FeedLemmas.{with_more, long_first}
+use Rattle.history_file.specs.Ahead.{IsJudged, AreReadOrJudged}
+use Rattle.history_file.proofs.LineByLine.{IsFirstFault-more}
+use Rattle.history_file.proofs.FeedLemmas.{with_more, long_first, line_ended}
 use Rattle.counted_devices.proofs.CutLemmas.{Splits-join, Splits-room, Splits-none, Splits-rest, behind, cut_at, cut_of}
+use Rattle.counted_devices.proofs.CutOnce.{splits_once}
 
 module _ {Header Item Contents : Type 0} (format : Format Header Item) (Makes : Header → List Item → Contents → Type 0) where
   -- a fault among the whole lines
@@ -36,127 +34,97 @@ module _ {Header Item Contents : Type 0} (format : Format Header Item) (Makes : 
   so_far bytes lines rest number kind.Device s h = h
   so_far bytes lines rest number kind.Memory s h = tt
 
-  none_shown : (header : Header) (lines : List (List ℕ)) → AllZip (ShowsItem (format.meaning header)) lines [] → lines ≡ []
-  none_shown header [] h = refl
-  none_shown header (line ∷ lines) h = absurd h
-
-  -- nothing waits: all lines were read
-  all_read : (bytes : List ℕ) (ahead : Ahead Contents Item) (a : IsAhead format Makes bytes ahead) → ahead.judged.judgements ≡ [] → Splits bytes a.read ahead.judged.rest.items
-  all_read bytes ahead a none =
-      let A : List (Judgement Item) → Type 0 = λ js. AllZip (ShowsItem (format.meaning a.header)) a.waiting js in
-      let nothing : a.waiting ≡ [] = none_shown a.header a.waiting (subst A none a.shown) in
-      let P : List (List ℕ) → Type 0 = λ ls. Splits bytes ls ahead.judged.rest.items in
-      subst P (ap (λ (ls : List (List ℕ)). a.read ++ ls) nothing ∙ append-nil a.read) a.splits
-
-  pub settled : (bytes : List ℕ) (ahead : Ahead Contents Item) (feed : Feed Contents) → IsAhead format Makes bytes ahead → length ahead.judged.rest.items ≤ 65536 → ahead.judged.judgements ≡ [] → feed.progress ≡ ahead.progress → feed.rest.items ≡ ahead.judged.rest.items → feed.fed ≡ ahead.fed → feed.fault ≡ None → StandsForLines format Makes bytes feed
-  settled bytes ahead feed a short none p r f sound =
-      let Q : List ℕ → Type 0 = λ xs. Splits bytes a.read xs in
-      let R : Progress Contents → Type 0 = λ x. HasRead format Makes a.read a.header x in
-      record {
-        lines = a.read;
-        splits = subst Q (sym r) (all_read bytes ahead a none);
-        at = (a.header, subst R (sym p) a.at);
-        short = omega (arith, ap length r, short);
-        fed = f ∙ a.fed;
-        sound = sound;
-      }
-
-  -- no byte yet
-  pub opening_stands : (ahead : Ahead Contents Item) (header : Header) → format.Admits header [] → ahead.progress.lines ≡ 0 → ahead.judged.judgements ≡ [] → ahead.judged.rest.items ≡ [] → ahead.fed ≡ 0 → StandsAhead format Makes [] ahead
-  opening_stands ahead header fits lines none r f =
-      let Q : List ℕ → Type 0 = λ xs. Splits [] [] xs in
-      let A : List (Judgement Item) → Type 0 = λ js. AllZip (ShowsItem (format.meaning header)) [] js in (
-        record {
-          read = [];
-          waiting = [];
-          header = header;
-          splits = subst Q (sym r) (Splits-none [] (All-nil (λ (b : ℕ). b ≢ 10)));
-          at = nothing_read format Makes header ahead.progress fits lines;
-          shown = subst A (sym none) tt;
-          fed = f;
-        },
-        omega (arith, ap length r),
-      )
-
-  -- what stands for the bytes, with nothing that waits
-  pub nothing_waits : (bytes : List ℕ) (feed : Feed Contents) (ahead : Ahead Contents Item) → StandsForLines format Makes bytes feed → ahead.progress ≡ feed.progress → ahead.judged.judgements ≡ [] → ahead.judged.rest.items ≡ feed.rest.items → ahead.fed ≡ feed.fed → StandsAhead format Makes bytes ahead
-  nothing_waits bytes feed ahead s p none r f =
-      let P : List (List ℕ) → Type 0 = λ ls. Splits bytes ls feed.rest.items in
-      let Q : List ℕ → Type 0 = λ xs. Splits bytes (s.lines ++ []) xs in
-      let R : Progress Contents → Type 0 = λ x. HasRead format Makes s.lines s.at.0 x in
-      let A : List (Judgement Item) → Type 0 = λ js. AllZip (ShowsItem (format.meaning s.at.0)) [] js in (
-        record {
-          read = s.lines;
-          waiting = [];
-          header = s.at.0;
-          splits = subst Q (sym r) (subst P (sym (append-nil s.lines)) s.splits);
-          at = subst R (sym p) s.at.1;
-          shown = subst A (sym none) tt;
-          fed = f ∙ s.fed;
-        },
-        omega (arith, ap length r, s.short),
-      )
-
-  some_read : (bytes : List ℕ) (old : Ahead Contents Item) (a : IsAhead format Makes bytes old) → 0 < old.progress.lines → 0 < length a.read
-  some_read bytes old a some = omega (arith, a.at.counted, some)
-
-  -- a fault among the lines that waited, whatever follows
-  fault_behind : (bytes more : List ℕ) (old : Ahead Contents Item) (fault : FileFault) (a : IsAhead format Makes bytes old) → 0 < length a.read → ReadsShown format Makes old.progress old.judged.judgements (Err fault) (λ (new : Progress Contents). new) → FaultSoFar (file_faults format) (bytes ++ more) fault.line fault.kind
-  fault_behind bytes more old fault a some records =
-      let lines = a.read ++ a.waiting in
-      let rest = old.judged.rest.items in
+  -- it stays the first, whatever follows
+  pub stays : (bytes : List ℕ) (lines : List (List ℕ)) (rest : List ℕ) (number : ℕ) (k : FaultKind) → Splits bytes lines rest → IsFirstOfKind format lines number k → (more : List ℕ) → FaultSoFar (file_faults format) (bytes ++ more) number k
+  stays bytes lines rest number k s h more =
       let cut = cut_of (rest ++ more) in
-      so_far (bytes ++ more) (lines ++ cut.lines) cut.rest fault.line fault.kind (Splits-join bytes more lines cut.lines rest cut.rest a.splits cut.splits) (IsFirstFault-more format Makes lines cut.lines fault.line fault.kind (records a.header a.waiting a.shown a.read a.at some))
-
-  pub caught_fault : (bytes : List ℕ) (old : Ahead Contents Item) (fault : FileFault) → IsAhead format Makes bytes old → 0 < old.progress.lines → ReadsShown format Makes old.progress old.judged.judgements (Err fault) (λ (new : Progress Contents). new) → FaultStays format bytes fault
-  caught_fault bytes old fault a some records = λ more. fault_behind bytes more old fault a (some_read bytes old a some) records
-
-  -- a fault that stays is one already
-  pub stays_now : (bytes : List ℕ) (fault : FileFault) → FaultStays format bytes fault → FaultSoFar (file_faults format) bytes fault.line fault.kind
-  stays_now bytes fault stays = let P : List ℕ → Type 0 = λ xs. FaultSoFar (file_faults format) xs fault.line fault.kind in subst P (append-nil bytes) (stays [])
-
-  pub caught_up : (bytes : List ℕ) (old new : Ahead Contents Item) → IsAhead format Makes bytes old → 0 < old.progress.lines → ReadsShown format Makes old.progress old.judged.judgements (Ok new.progress) (λ (new : Progress Contents). new) → new.judged.judgements ≡ [] → new.judged.rest.items ≡ old.judged.rest.items → new.fed ≡ old.fed → IsAhead format Makes bytes new
-  caught_up bytes old new a some records none r f =
-      let lines = a.read ++ a.waiting in
-      let P : List (List ℕ) → Type 0 = λ ls. Splits bytes ls old.judged.rest.items in
-      let Q : List ℕ → Type 0 = λ xs. Splits bytes (lines ++ []) xs in
-      let A : List (Judgement Item) → Type 0 = λ js. AllZip (ShowsItem (format.meaning a.header)) [] js in
-      record {
-        read = lines;
-        waiting = [];
-        header = a.header;
-        splits = subst Q (sym r) (subst P (sym (append-nil lines)) a.splits);
-        at = records a.header a.waiting a.shown a.read a.at (some_read bytes old a some);
-        shown = subst A (sym none) tt;
-        fed = f ∙ a.fed;
-      }
-
-  pub advance_fault : (bytes block : List ℕ) (old : Ahead Contents Item) (fault : FileFault) → IsAhead format Makes bytes old → 0 < old.progress.lines → ReadsShown format Makes old.progress old.judged.judgements (Err fault) (λ (new : Progress Contents). new) → FaultSoFar (file_faults format) (bytes ++ block) fault.line fault.kind
-  advance_fault bytes block old fault a some records = fault_behind bytes block old fault a (some_read bytes old a some) records
-
-  pub advanced : (bytes block : List ℕ) (old new : Ahead Contents Item) (a : IsAhead format Makes bytes old) → 0 < old.progress.lines → ReadsShown format Makes old.progress old.judged.judgements (Ok new.progress) (λ (new : Progress Contents). new) → IsJudged format a.header (old.judged.rest.items ++ block) new.judged → new.fed ≡ old.fed + length block → IsAhead format Makes (bytes ++ block) new
-  advanced bytes block old new a some records j f =
-      let lines = a.read ++ a.waiting in
-      record {
-        read = lines;
-        waiting = j.lines;
-        header = a.header;
-        splits = Splits-join bytes block lines j.lines old.judged.rest.items new.judged.rest.items a.splits j.splits;
-        at = records a.header a.waiting a.shown a.read a.at (some_read bytes old a some);
-        shown = j.shown;
-        fed = omega (arith, f, a.fed, length-append bytes block);
-      }
+      so_far (bytes ++ more) (lines ++ cut.lines) cut.rest number k (Splits-join bytes more lines cut.lines rest cut.rest s cut.splits) (IsFirstFault-more format Makes lines cut.lines number k h)
 
   -- a line under way that is too long already
-  pub too_long : (bytes : List ℕ) (ahead : Ahead Contents Item) (number : ℕ) → IsAhead format Makes bytes ahead → ahead.judged.judgements ≡ [] → 65536 < length ahead.judged.rest.items → number ≡ ahead.progress.lines + 1 → FirstFaultSoFar format bytes number TooLong
-  too_long bytes ahead number a none long counted =
-      let rest = ahead.judged.rest.items in
+  pub too_long : (bytes rest : List ℕ) (progress : Progress Contents) (number : ℕ) → AreRead format Makes bytes progress rest → 65536 < length rest → number ≡ progress.lines + 1 → FirstFaultSoFar format bytes number TooLong
+  too_long bytes rest progress number r long counted = record {
+    lines = r.lines;
+    rest = rest;
+    splits = r.splits;
+    first = long_first format Makes (nat_lt 65536 (length rest)) r.lines rest r.at.0 r.at.1.items number (lt-ltb 65536 (length rest) long) long r.at.1.sound (omega (arith, counted, r.at.1.counted));
+  }
+
+  -- the lines that were judged are read
+  abbrev pub all_read : (bytes : List ℕ) (old new : Progress Contents) (judged : JudgedLines Item) → AreReadOrJudged format Makes bytes old judged → ReadsShown format Makes old judged.judgements (Ok new) (λ (new : Progress Contents). new) → AreRead format Makes bytes new judged.rest.items
+  all_read bytes old new judged a records = record {
+    lines = a.read ++ a.waiting;
+    splits = a.splits;
+    at = (a.header, records a.header a.waiting a.shown a.read a.at a.begun);
+  }
+
+  -- no line waits
+  pub nothing_waits : (bytes : List ℕ) (progress : Progress Contents) (judged : JudgedLines Item) → AreRead format Makes bytes progress judged.rest.items → judged.judgements ≡ [] → AreReadOrJudged format Makes bytes progress judged
+  nothing_waits bytes progress judged r none =
+      let P : List (List ℕ) → Type 0 = λ ls. Splits bytes ls judged.rest.items in
+      let A : List (Judgement Item) → Type 0 = λ js. AllZip (ShowsItem (format.meaning r.at.0)) [] js in
       record {
-        lines = a.read;
-        rest = rest;
-        splits = all_read bytes ahead a none;
-        first = long_first format Makes (nat_lt 65536 (length rest)) a.read rest a.header a.at.items number (lt-ltb 65536 (length rest) long) long a.at.sound (omega (arith, counted, a.at.counted));
+        read = r.lines;
+        waiting = [];
+        header = r.at.0;
+        splits = subst P (sym (append-nil r.lines)) r.splits;
+        at = r.at.1;
+        shown = subst A (sym none) tt;
+        begun = λ some. absurd (omega (arith, some));
       }
+
+  -- lines show the same after the same header, and without a line any header will do
+  shown_after : (h k : Header) (lines : List (List ℕ)) (js : List (Judgement Item)) → (0 < length lines → h ≡ k) → AllZip (ShowsItem (format.meaning h)) lines js → AllZip (ShowsItem (format.meaning k)) lines js
+  shown_after h k [] [] known s = tt
+  shown_after h k [] (j ∷ js) known s = absurd s
+  shown_after h k (line ∷ lines) js known s =
+      let P : Header → Type 0 = λ x. AllZip (ShowsItem (format.meaning x)) (line ∷ lines) js in
+      subst P (known (omega arith)) s
+
+  -- the lines of a block more are judged
+  pub judged_more : (bytes block rest : List ℕ) (progress : Progress Contents) (header : Header) (judged : JudgedLines Item) (r : AreRead format Makes bytes progress rest) (j : IsJudged format header (rest ++ block) judged) → (0 < length j.lines → 0 < progress.lines) → (0 < progress.lines → header ≡ r.at.0) → AreReadOrJudged format Makes (bytes ++ block) progress judged
+  judged_more bytes block rest progress header judged r j begun known = record {
+    read = r.lines;
+    waiting = j.lines;
+    header = r.at.0;
+    splits = Splits-join bytes block r.lines j.lines rest judged.rest.items r.splits j.splits;
+    at = r.at.1;
+    shown = shown_after header r.at.0 j.lines judged.judgements (λ some. known (begun some)) j.shown;
+    begun = λ some. omega (arith, r.at.1.counted, begun some);
+  }
+
+  -- before the header a block ends no line
+  pub some_begun : (lines : ℕ) (block rest : List ℕ) (ended : List (List ℕ)) (left : List ℕ) → (lines ≡ 0 → HasNoEnd block) → HasNoEnd rest → Splits (rest ++ block) ended left → 0 < length ended → 0 < lines
+  some_begun zero block rest ended left none partial s some =
+      let whole = rest ++ block in
+      let same : ended ≡ [] = (splits_once whole ended [] left whole s (Splits-none whole (All-append (λ (b : ℕ). b ≢ 10) rest block partial (none refl)))).0 in
+      absurd (omega (arith, ap length same, some))
+  some_begun (suc n) block rest ended left none partial s some = omega arith
+
+  -- the block ends the line that the rest began
+  module _ (bytes block rest line : List ℕ) (end : ℕ) (inside : end < length block) (none : HasNoEnd (take end block)) (ten : slice_index block end ≡ 10) (same : line ≡ rest ++ take end block) (old : Progress Contents) (r : AreRead format Makes bytes old rest) where
+    ended : Splits (bytes ++ (take end block ++ 10 ∷ [])) (r.lines ++ line ∷ []) []
+    ended =
+        let P : List ℕ → Type 0 = λ xs. Splits (bytes ++ (take end block ++ 10 ∷ [])) (r.lines ++ xs ∷ []) [] in
+        subst P (sym same) (line_ended bytes rest (take end block) r.lines r.splits none)
+
+    whole : (bytes ++ (take end block ++ 10 ∷ [])) ++ behind block end ≡ bytes ++ block
+    whole =
+        append_assoc bytes (take end block ++ 10 ∷ []) (behind block end)
+        ∙ ap (λ (xs : List ℕ). bytes ++ xs) (append_assoc (take end block) (10 ∷ []) (behind block end) ∙ sym (cut_at block end inside ten))
+
+    pub header_ended : (new : Progress Contents) (left : List ℕ) → left ≡ [] → HasReadLines format Makes (r.lines ++ line ∷ []) new → HasReadFront format Makes (bytes ++ block) (behind block end) new left
+    header_ended new left empty at =
+        let P : List ℕ → Type 0 = λ xs. Splits (bytes ++ (take end block ++ 10 ∷ [])) (r.lines ++ line ∷ []) xs in
+        record {
+          read = bytes ++ (take end block ++ 10 ∷ []);
+          whole = whole;
+          at = record { lines = r.lines ++ line ∷ []; splits = subst P (sym empty) ended; at = at };
+        }
+
+    pub header_stops : (number : ℕ) (k : FaultKind) → IsFirstOfKind format (r.lines ++ line ∷ []) number k → FaultSoFar (file_faults format) (bytes ++ block) number k
+    header_stops number k h =
+        let P : List ℕ → Type 0 = λ xs. FaultSoFar (file_faults format) xs number k in
+        subst P whole (stays (bytes ++ (take end block ++ 10 ∷ [])) (r.lines ++ line ∷ []) [] number k ended h (behind block end))
 
   -- bytes without an end have no whole line
   pub judged_none : (header : Header) (bytes : List ℕ) (judged : JudgedLines Item) → HasNoEnd bytes → judged.judgements ≡ [] → judged.rest.items ≡ bytes → IsJudged format header bytes judged

@@ -13,7 +13,6 @@ use Rattle.history_file.specs.declared.feed.Feed.{Feed}
 use Rattle.history_file.specs.FileFaults.{file_faults}
 use Rattle.history_file.specs.Feeds.{StandsForLines}
 use Rattle.history_file.specs.Ahead.{BecomesFeed}
-use Rattle.history_file.proofs.Advancing.{stays_now}
 
 module _ {Header Item Contents : Type 0} (format : Format Header Item) (Makes : Header → List Item → Contents → Type 0) where
   -- the reader failed at the line under way
@@ -40,4 +39,4 @@ module _ {Header Item Contents : Type 0} (format : Format Header Item) (Makes : 
     -- a fault of a line that had waited
     pub settled_fault : (r : Result (Feed Contents) FileFault) → Delivers reader.old reader.new P → ((bytes : List ℕ) → P bytes → BecomesFeed format Makes bytes r) → IfErr r (λ fault. StopsFrom (file_faults format) reader fault × FailsFrom reader fault)
     settled_fault (Ok feed) h becomes = tt
-    settled_fault (Err fault) h becomes = stops_late (file_faults format) reader fault P h (λ bytes p. stays_now format Makes bytes fault (becomes bytes p))
+    settled_fault (Err fault) h becomes = stops_late (file_faults format) reader fault P h becomes

@@ -1,7 +1,6 @@
 pub mod SideBySide
 pub mod LineByLine
 pub mod FeedLemmas
-pub mod Passing
 pub mod Advancing
 pub mod Consuming
 pub mod Filling

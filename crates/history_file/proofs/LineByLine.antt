@@ -1,9 +1,8 @@
 -- Lines that are read one after another.
-use Rattle.std.proofs.Common.{ℕ, ◌≡◌, ◌<◌, ◌+◌, List, [], ◌∷◌, ◌++◌, length, Result, Ok, Err, refl, sym, ap, ◌∙◌, append_assoc, append-nil, length-append, arith, subst, inl, inr}
+use Rattle.std.proofs.Common.{ℕ, ◌≡◌, ◌<◌, ◌+◌, List, [], ◌∷◌, ◌++◌, length, Ok, Err, refl, sym, ap, ◌∙◌, append_assoc, append-nil, length-append, arith, subst, inl, inr}
 use Rattle.std.specs.List.{AllZip}
 use Rattle.std.proofs.lemmas.List.{nil_from_length}
 use Rattle.std.proofs.lemmas.Slice.Zip.{AllZip-long}
-use Rattle.std.specs.Prelude.{MatchResult}
 use Rattle.file_format.specs.declared.judge_lines.Judgement.{Judgement}
 use Rattle.file_format.specs.declared.fault.LineFault.{LineFault}
 use Rattle.file_format.specs.Faults.{FileFault, FaultKind}
@@ -114,12 +113,6 @@ module _ {Header Item Contents : Type 0} (format : Format Header Item) (Makes : 
       let Q : List (List ℕ) → Type 0 = λ ls. AreLinesOf format ls at.0 at.1.items in
       subst P (sym empty) (first_stopped at.0 at.1.items line fault (subst Q empty at.1.sound) h)
 
-  -- one line after the header, said without it
-  pub line_read : (before : List (List ℕ)) (header : Header) (line : List ℕ) (result : Result (Unit {0}) FileFault) (new : Progress Contents) → MatchResult result (λ done. HasRead format Makes (before ++ line ∷ []) header new) (λ fault. IsFirstOfKind format (before ++ line ∷ []) fault.line fault.kind)
-      → MatchResult result (λ done. HasReadLines format Makes (before ++ line ∷ []) new) (λ fault. IsFirstOfKind format (before ++ line ∷ []) fault.line fault.kind)
-  line_read before header line (Ok done) new at = (header, at)
-  line_read before header line (Err fault) new first = first
-
   -- lines after the first fault change nothing
   pub IsFirstFault-more : (lines more : List (List ℕ)) (number : ℕ) (k : FaultKind) → IsFirstOfKind format lines number k → IsFirstOfKind format (lines ++ more) number k
   IsFirstFault-more lines more number (kind.Line fault) h = record {
@@ -145,7 +138,7 @@ module _ {Header Item Contents : Type 0} (format : Format Header Item) (Makes : 
     pub shown : AllZip (ShowsItem (format.meaning header)) rest judgements
 
   pub record Goes (header : Header) (lines : List (List ℕ)) (old new : Progress Contents) (judgements : List (Judgement Item)) : Type 0 where
-    pub each : (before : List (List ℕ)) → HasRead format Makes before header old → 0 < length before → Half before header lines new judgements
+    pub each : (before : List (List ℕ)) → HasRead format Makes before header old → (0 < length lines → 0 < length before) → Half before header lines new judgements
 
   pub Goes-start : (header : Header) (lines : List (List ℕ)) (old : Progress Contents) (judgements : List (Judgement Item)) → AllZip (ShowsItem (format.meaning header)) lines judgements → Goes header lines old old judgements
   Goes-start header lines old judgements shown = record {
@@ -158,16 +151,19 @@ module _ {Header Item Contents : Type 0} (format : Format Header Item) (Makes : 
     };
   }
 
-  some_more : (before done : List (List ℕ)) → 0 < length before → 0 < length (before ++ done)
-  some_more before done some = omega (arith, length-append before done)
+  -- the header stands before a line that is left
+  some_more : (before lines done rest : List (List ℕ)) → (0 < length lines → 0 < length before) → lines ≡ done ++ rest → 0 < length rest → 0 < length (before ++ done)
+  some_more before lines done rest some whole left =
+      let one : 0 < length before = some (omega (arith, ap length whole, length-append done rest)) in
+      omega (arith, length-append before done)
 
-  half_step : (header : Header) (before lines done rest : List (List ℕ)) (mid new : Progress Contents) (j : Judgement Item) (js : List (Judgement Item)) → 0 < length before → lines ≡ done ++ rest → HasRead format Makes (before ++ done) header mid → AllZip (ShowsItem (format.meaning header)) rest (j ∷ js) → ReadsJudged format Makes mid j (Ok tt) (λ (done : Unit {0}). new) → Half before header lines new js
+  half_step : (header : Header) (before lines done rest : List (List ℕ)) (mid new : Progress Contents) (j : Judgement Item) (js : List (Judgement Item)) → (0 < length lines → 0 < length before) → lines ≡ done ++ rest → HasRead format Makes (before ++ done) header mid → AllZip (ShowsItem (format.meaning header)) rest (j ∷ js) → ReadsJudged format Makes mid j (Ok tt) (λ (done : Unit {0}). new) → Half before header lines new js
   half_step header before lines done [] mid new j js some whole at shown takes = absurd shown
   half_step header before lines done (line ∷ rest) mid new j js some whole at shown takes = record {
     done = done ++ line ∷ [];
     rest = rest;
     whole = whole ∙ sym (append_assoc done (line ∷ []) rest);
-    at = let P : List (List ℕ) → Type 0 = λ ls. HasRead format Makes ls header new in subst P (append_assoc before done (line ∷ [])) (takes header line shown.0 (before ++ done) at (some_more before done some));
+    at = let P : List (List ℕ) → Type 0 = λ ls. HasRead format Makes ls header new in subst P (append_assoc before done (line ∷ [])) (takes header line shown.0 (before ++ done) at (λ one. some_more before lines done (line ∷ rest) some whole (omega arith)));
     shown = shown.1;
   }
 
@@ -176,16 +172,16 @@ module _ {Header Item Contents : Type 0} (format : Format Header Item) (Makes : 
     each = λ before at some. let h = goes.each before at some in half_step header before lines h.done h.rest mid new j js some h.whole h.at h.shown takes;
   }
 
-  half_stop : (header : Header) (before lines done rest : List (List ℕ)) (mid new : Progress Contents) (j : Judgement Item) (js : List (Judgement Item)) (fault : FileFault) → 0 < length before → lines ≡ done ++ rest → HasRead format Makes (before ++ done) header mid → AllZip (ShowsItem (format.meaning header)) rest (j ∷ js) → ReadsJudged format Makes mid j (Err fault) (λ (done : Unit {0}). new) → IsFirstOfKind format (before ++ lines) fault.line fault.kind
+  half_stop : (header : Header) (before lines done rest : List (List ℕ)) (mid new : Progress Contents) (j : Judgement Item) (js : List (Judgement Item)) (fault : FileFault) → (0 < length lines → 0 < length before) → lines ≡ done ++ rest → HasRead format Makes (before ++ done) header mid → AllZip (ShowsItem (format.meaning header)) rest (j ∷ js) → ReadsJudged format Makes mid j (Err fault) (λ (done : Unit {0}). new) → IsFirstOfKind format (before ++ lines) fault.line fault.kind
   half_stop header before lines done [] mid new j js fault some whole at shown takes = absurd shown
   half_stop header before lines done (line ∷ rest) mid new j js fault some whole at shown takes =
       let P : List (List ℕ) → Type 0 = λ ls. IsFirstOfKind format ls fault.line fault.kind in
-      let one = takes header line shown.0 (before ++ done) at (some_more before done some) in
+      let one = takes header line shown.0 (before ++ done) at (λ one. some_more before lines done (line ∷ rest) some whole (omega arith)) in
       let same : ((before ++ done) ++ line ∷ []) ++ rest ≡ before ++ lines =
       append_assoc (before ++ done) (line ∷ []) rest ∙ append_assoc before done (line ∷ rest) ∙ ap (λ (ls : List (List ℕ)). before ++ ls) (sym whole) in
       subst P same (IsFirstFault-more ((before ++ done) ++ line ∷ []) rest fault.line fault.kind one)
 
-  pub Goes-stop : (header : Header) (lines : List (List ℕ)) (old mid new : Progress Contents) (j : Judgement Item) (js : List (Judgement Item)) (fault : FileFault) → Goes header lines old mid (j ∷ js) → ReadsJudged format Makes mid j (Err fault) (λ (done : Unit {0}). new) → (before : List (List ℕ)) → HasRead format Makes before header old → 0 < length before → IsFirstOfKind format (before ++ lines) fault.line fault.kind
+  pub Goes-stop : (header : Header) (lines : List (List ℕ)) (old mid new : Progress Contents) (j : Judgement Item) (js : List (Judgement Item)) (fault : FileFault) → Goes header lines old mid (j ∷ js) → ReadsJudged format Makes mid j (Err fault) (λ (done : Unit {0}). new) → (before : List (List ℕ)) → HasRead format Makes before header old → (0 < length lines → 0 < length before) → IsFirstOfKind format (before ++ lines) fault.line fault.kind
   Goes-stop header lines old mid new j js fault goes takes before at some =
       let h = goes.each before at some in half_stop header before lines h.done h.rest mid new j js fault some h.whole h.at h.shown takes
 
@@ -200,16 +196,16 @@ module _ {Header Item Contents : Type 0} (format : Format Header Item) (Makes : 
           done = h.done ++ p.front;
           rest = p.back;
           whole = h.whole ∙ ap (λ (ls : List (List ℕ)). h.done ++ ls) p.whole ∙ sym (append_assoc h.done p.front p.back);
-          at = subst P (append_assoc before h.done p.front) (takes header p.front p.first (before ++ h.done) h.at (some_more before h.done some));
+          at = subst P (append_assoc before h.done p.front) (takes header p.front p.first (before ++ h.done) h.at (λ front. some_more before lines h.done h.rest some h.whole (omega (arith, ap length p.whole, length-append p.front p.back))));
           shown = p.second;
         };
   }
 
-  pub Goes-run_stop : (header : Header) (lines : List (List ℕ)) (old mid new : Progress Contents) (js more : List (Judgement Item)) (fault : FileFault) → Goes header lines old mid (js ++ more) → ReadsShown format Makes mid js (Err fault) (λ (done : Unit {0}). new) → (before : List (List ℕ)) → HasRead format Makes before header old → 0 < length before → IsFirstOfKind format (before ++ lines) fault.line fault.kind
+  pub Goes-run_stop : (header : Header) (lines : List (List ℕ)) (old mid new : Progress Contents) (js more : List (Judgement Item)) (fault : FileFault) → Goes header lines old mid (js ++ more) → ReadsShown format Makes mid js (Err fault) (λ (done : Unit {0}). new) → (before : List (List ℕ)) → HasRead format Makes before header old → (0 < length lines → 0 < length before) → IsFirstOfKind format (before ++ lines) fault.line fault.kind
   Goes-run_stop header lines old mid new js more fault goes takes before at some =
       let h = goes.each before at some in
       let p = front_and_back (ShowsItem (format.meaning header)) h.rest js more h.shown in
-      let one = takes header p.front p.first (before ++ h.done) h.at (some_more before h.done some) in
+      let one = takes header p.front p.first (before ++ h.done) h.at (λ front. some_more before lines h.done h.rest some h.whole (omega (arith, ap length p.whole, length-append p.front p.back))) in
       let P : List (List ℕ) → Type 0 = λ ls. IsFirstOfKind format ls fault.line fault.kind in
       let same : ((before ++ h.done) ++ p.front) ++ p.back ≡ before ++ lines =
       append_assoc (before ++ h.done) p.front p.back ∙ append_assoc before h.done (p.front ++ p.back) ∙ ap (λ (ls : List (List ℕ)). before ++ (h.done ++ ls)) (sym p.whole) ∙ ap (λ (ls : List (List ℕ)). before ++ ls) (sym h.whole) in
@@ -219,5 +215,5 @@ module _ {Header Item Contents : Type 0} (format : Format Header Item) (Makes : 
   half_end header before lines done [] new whole at shown = let P : List (List ℕ) → Type 0 = λ ls. HasRead format Makes (before ++ ls) header new in subst P (sym (append-nil done) ∙ sym whole) at
   half_end header before lines done (line ∷ rest) new whole at shown = absurd shown
 
-  pub Goes-end : (header : Header) (lines : List (List ℕ)) (old new : Progress Contents) → Goes header lines old new [] → (before : List (List ℕ)) → HasRead format Makes before header old → 0 < length before → HasRead format Makes (before ++ lines) header new
+  pub Goes-end : (header : Header) (lines : List (List ℕ)) (old new : Progress Contents) → Goes header lines old new [] → (before : List (List ℕ)) → HasRead format Makes before header old → (0 < length lines → 0 < length before) → HasRead format Makes (before ++ lines) header new
   Goes-end header lines old new goes before at some = let h = goes.each before at some in half_end header before lines h.done h.rest new h.whole h.at h.shown

@@ -1,5 +1,5 @@
 -- Lines that are judged ahead of where they are read.
-use Rattle.std.specs.Prelude.{ℕ, ◌≡◌, ◌≤◌, List, ◌++◌, length, Result, MatchResult}
+use Rattle.std.specs.Prelude.{ℕ, ◌≡◌, ◌<◌, ◌≤◌, List, ◌++◌, length, Result, MatchResult}
 use Rattle.std.specs.List.{AllZip}
 use Rattle.counted_devices.specs.Cuts.{Splits, longest_line}
 use Rattle.counted_devices.specs.FirstFaults.{FaultSoFar}
@@ -12,6 +12,7 @@ use Rattle.history_file.specs.Feeds.{StandsForLines}
 use Rattle.history_file.specs.declared.ahead.Ahead.{Ahead}
 use Rattle.history_file.specs.declared.feed.Feed.{Feed}
 use Rattle.history_file.specs.declared.judge_blocks.JudgedLines.{JudgedLines}
+use Rattle.history_file.specs.declared.progress.Progress.{Progress}
 
 -- after that header the bytes' lines show that, and that rest is left
 pub record IsJudged {Header Item : Type 0} (format : Format Header Item) (header : Header)
@@ -27,14 +28,21 @@ FaultStays format bytes fault =
 
 module _ {Header Item Contents : Type 0} (format : Format Header Item)
     (Makes : Header → List Item → Contents → Type 0) where
-  -- of the whole lines so far some were read, and the others were judged
-  pub record IsAhead (bytes : List ℕ) (ahead : Ahead Contents Item) : Type 0 where
+  -- of the whole lines of the bytes the first were read, and those after them were judged, none
+  -- before the header
+  pub record AreReadOrJudged (bytes : List ℕ) (progress : Progress Contents)
+      (judged : JudgedLines Item) : Type 0 where
     pub read : List (List ℕ)
     pub waiting : List (List ℕ)
     pub header : Header
-    pub splits : Splits bytes (read ++ waiting) ahead.judged.rest.items
-    pub at : HasRead format Makes read header ahead.progress
-    pub shown : AllZip (ShowsItem (format.meaning header)) waiting ahead.judged.judgements
+    pub splits : Splits bytes (read ++ waiting) judged.rest.items
+    pub at : HasRead format Makes read header progress
+    pub shown : AllZip (ShowsItem (format.meaning header)) waiting judged.judgements
+    pub begun : 0 < length waiting → 0 < length read
+
+  -- of the whole lines so far some were read, and the others were judged
+  pub record IsAhead (bytes : List ℕ) (ahead : Ahead Contents Item) : Type 0 where
+    pub at : AreReadOrJudged bytes ahead.progress ahead.judged
     pub fed : ahead.fed ≡ length bytes
 
   -- and the line under way isn't too long
@@ -47,12 +55,7 @@ module _ {Header Item Contents : Type 0} (format : Format Header Item)
   GoesAhead bytes result = MatchResult result (λ new. StandsAhead bytes new)
       (λ fault. FaultSoFar (file_faults format) bytes fault.line fault.kind)
 
-  -- the lines that waited are read, or the first fault is answered, whatever follows
-  abbrev pub CatchesUp : List ℕ → Result (Ahead Contents Item) FileFault → Type 0
-  CatchesUp bytes result =
-      MatchResult result (λ new. IsAhead bytes new) (λ fault. FaultStays format bytes fault)
-
-  -- the feed stands for all the lines, or the first fault is answered, whatever follows
+  -- the feed stands for all the lines, or the first fault is answered
   abbrev pub BecomesFeed : List ℕ → Result (Feed Contents) FileFault → Type 0
   BecomesFeed bytes result = MatchResult result (λ feed. StandsForLines format Makes bytes feed)
-      (λ fault. FaultStays format bytes fault)
+      (λ fault. FaultSoFar (file_faults format) bytes fault.line fault.kind)

@@ -1,5 +1,6 @@
 //! A file whose lines are judged ahead of where they are read.
-ghost use Rattle.std.specs.Prelude.{ℕ, ◌≡◌, ◌≤◌, ◌<◌, ◌+◌, ◌^◌, ◌++◌, List, [], None, length, IfOk, MatchResult};
+ghost use Rattle.std.specs.Prelude.{ℕ, ◌≡◌, ◌≤◌, ◌<◌, ◌+◌, ◌^◌, ◌++◌, List, None, length};
+ghost use Rattle.std.specs.Prelude.{IfOk, IfErr, MatchResult};
 ghost use Rattle.std.specs.Thread.{IsSync};
 ghost use Rattle.counted_devices.specs.Cuts.{HasNoEnd};
 
@@ -8,8 +9,7 @@ use crate::format::Contents;
 use crate::judge_blocks::{JudgedLines, judge_block};
 use crate::judgements::Judgements;
 use crate::progress::Progress;
-use file_format::{FaultKind, FileFault, LONGEST, LineFault, Stop, ToolSets};
-use std::alloc::Global;
+use file_format::{FileFault, LONGEST, Stop, ToolSets};
 use std::thread::{Threads, join};
 use tag::Memory;
 
@@ -25,90 +25,21 @@ pub struct Ahead<C, T> {
     pub fed: u64,
     ghost few: { fed ≤ 2 ^ 62 },
     ghost room: { progress.lines + length judged.judgements + length judged.rest.items ≤ fed },
-    ghost begun: { progress.lines ≡ 0 → judged.judgements ≡ [] },
 }
 
 impl<C: Contents> Ahead<C, C::Item> {
-    ghost use Rattle.history_file.specs.Ahead.{IsJudged, IsAhead, StandsAhead, GoesAhead, CatchesUp, BecomesFeed};
+    ghost use Rattle.history_file.specs.Ahead.{IsJudged, IsAhead, StandsAhead, GoesAhead};
+    ghost use Rattle.history_file.specs.Ahead.{BecomesFeed, FaultStays};
+    ghost use Rattle.history_file.specs.Feeds.{StandsForLines};
     ghost use Rattle.history_file.specs.LinesRead.{ReadsShown};
 
-    /// No byte yet.
-    pub(crate) fn new(alloc: Global) -> Ahead<C, C::Item>
-        ensures opening { StandsAhead C.format C.Makes [] result }
-        ensures fed { result.fed ≡ 0 }
+    /// What the feed stands for: no line waits.
+    pub(crate) fn of(feed: Feed<C>) -> Ahead<C, C::Item>
+        requires { feed.fault ≡ None }
+        ensures stands { (bytes : List ℕ) → StandsForLines C.format C.Makes bytes feed
+            → StandsAhead C.format C.Makes bytes result }
+        ensures fed { result.fed ≡ feed.fed }
     {
-        Ahead {
-            progress: Progress {
-                contents: C::opening(alloc),
-                lines: 0,
-            },
-            judged: JudgedLines {
-                judgements: Judgements::new(alloc),
-                rest: Vec::new(alloc),
-            },
-            fed: 0,
-        }
-    }
-
-    /// Adds the lines that were judged.
-    fn catch_up(self) -> Result<Ahead<C, C::Item>, FileFault>
-        ensures goes { (bytes : List ℕ) → IsAhead C.format C.Makes bytes self
-            → CatchesUp C.format C.Makes bytes result }
-        ensures same { IfOk result (λ new. (new.fed ≡ self.fed)
-            × (new.judged.rest ≡ self.judged.rest)) }
-        ensures none { IfOk result (λ new. new.judged.judgements ≡ []) }
-    {
-        if self.progress.lines == 0 {
-            return Ok(self);
-        }
-        let Ahead {
-            progress,
-            judged,
-            fed,
-        } = self;
-        let JudgedLines { judgements, rest } = judged;
-        let progress = progress.record_owned(judgements)?;
-        let judgements = Judgements::new(*rest.allocator());
-        Ok(Ahead {
-            progress,
-            judged: JudgedLines { judgements, rest },
-            fed,
-        })
-    }
-
-    /// The feed that stands for all bytes so far.
-    pub(crate) fn into_feed(self) -> Result<Feed<C>, FileFault>
-        ensures becomes { (bytes : List ℕ) → StandsAhead C.format C.Makes bytes self
-            → BecomesFeed C.format C.Makes bytes result }
-        ensures fed { IfOk result (λ feed. (feed.fed ≡ self.fed) × (feed.fault ≡ None)) }
-    {
-        let Ahead {
-            progress,
-            judged,
-            fed,
-        } = self.catch_up()?;
-        Ok(Feed {
-            progress,
-            rest: judged.rest,
-            fed,
-            fault: None,
-        })
-    }
-
-    /// Reads a block at once.
-    fn read_at_once(
-        self,
-        rt: &(impl Threads + Sync),
-        tools: &ToolSets,
-        block: &[u8],
-    ) -> Result<Ahead<C, C::Item>, FileFault>
-        requires { self.fed + length block.now ≤ 2 ^ 62 }
-        ensures goes { (bytes : List ℕ) → StandsAhead C.format C.Makes bytes self
-            → GoesAhead C.format C.Makes (bytes ++ block.now) result }
-        ensures count { IfOk result (λ new. new.fed ≡ self.fed + length block.now) }
-    {
-        let mut feed = self.into_feed()?;
-        feed.feed(rt, tools, block)?;
         let Feed {
             progress,
             rest,
@@ -116,10 +47,32 @@ impl<C: Contents> Ahead<C, C::Item> {
             ..
         } = feed;
         let judgements = Judgements::new(*rest.allocator());
-        Ok(Ahead {
+        Ahead {
             progress,
             judged: JudgedLines { judgements, rest },
             fed,
+        }
+    }
+
+    /// The feed that stands for all bytes so far: the lines that waited are read.
+    pub(crate) fn into_feed(self) -> Result<Feed<C>, FileFault>
+        ensures becomes { (bytes : List ℕ) → IsAhead C.format C.Makes bytes self
+            → BecomesFeed C.format C.Makes bytes result }
+        ensures stays { (bytes : List ℕ) → StandsAhead C.format C.Makes bytes self
+            → IfErr result (λ fault. FaultStays C.format bytes fault) }
+        ensures fed { IfOk result (λ feed. (feed.fed ≡ self.fed) × (feed.fault ≡ None)) }
+    {
+        let Ahead {
+            mut progress,
+            judged,
+            fed,
+        } = self;
+        let rest = progress.catch_up(judged)?;
+        Ok(Feed {
+            progress,
+            rest,
+            fed,
+            fault: None,
         })
     }
 
@@ -132,11 +85,7 @@ impl<C: Contents> Ahead<C, C::Item> {
         if self.judged.rest.len() <= LONGEST {
             return Ok(self);
         }
-        let ahead = self.catch_up()?;
-        Err(FileFault {
-            line: ahead.progress.lines + 1,
-            kind: FaultKind::Line(LineFault::TooLong),
-        })
+        Ok(Ahead::of(self.into_feed()?))
     }
 
     /// Judges the next block while the lines before it are read. A block that isn't worth a
@@ -153,14 +102,15 @@ impl<C: Contents> Ahead<C, C::Item> {
         ensures count { IfOk result (λ new. new.fed ≡ self.fed + length block.now) }
     {
         if self.progress.lines == 0 || block.len() < LEAST {
-            return self.read_at_once(rt, tools, block);
+            let mut feed = self.into_feed()?;
+            feed.feed(rt, tools, block)?;
+            return Ok(Ahead::of(feed));
         }
         let Ahead {
             progress,
             judged: JudgedLines { judgements, rest },
             fed,
         } = self;
-        let alloc = *rest.allocator();
         let header = progress.contents.header();
         let (read, next) = join(
             rt,
@@ -176,7 +126,7 @@ impl<C: Contents> Ahead<C, C::Item> {
                     → IsJudged C.format header (rest.items ++ block.entry.now) judged) }
                 ensures room { IfOk result (λ judged. length judged.judgements
                     + length judged.rest.items ≤ length rest.items + length block.entry.now) }
-            { judge_block::<C, R>(rt, alloc, header, tools, rest.as_slice(), block) },
+            { judge_block::<C, R>(rt, header, tools, rest, block) },
         );
         let progress = read?;
         let Ok(judged) = next else {

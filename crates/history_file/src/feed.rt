@@ -2,11 +2,11 @@
 ghost use Rattle.std.specs.Prelude.{ℕ, ◌≡◌, ◌≤◌, ◌+◌, ◌^◌, ◌++◌, List, [], Some, None, length};
 ghost use Rattle.std.specs.Prelude.{IfOk, IfErr, MatchResult};
 
-use crate::blocks::read_block;
 use crate::format::Contents;
 use crate::progress::Progress;
 use file_format::{FaultKind, FileFault, LineFault, ToolSets};
 use std::alloc::Global;
+use std::mem;
 use std::thread::Threads;
 
 /// What the whole lines so far made, and what came of the next line.
@@ -67,8 +67,11 @@ impl<C: Contents> Feed<C> {
         if let Some(fault) = self.fault {
             return Err(fault);
         }
-        match read_block(rt, tools, &mut self.progress, &mut self.rest, block) {
-            Ok(()) => {
+        let alloc = *self.rest.allocator();
+        let rest = mem::replace(&mut self.rest, Vec::new(alloc));
+        match self.progress.read_block(rt, tools, rest, block) {
+            Ok(rest) => {
+                self.rest = rest;
                 self.fed += block.len() as u64;
                 Ok(())
             }
@@ -79,7 +82,7 @@ impl<C: Contents> Feed<C> {
         }
     }
 
-    /// Ends the file.
+    /// Ends the file, and its last line if that has no end.
     pub(crate) fn finish(self, rt: &(impl Threads + Sync), tools: &ToolSets) -> Result<C, FileFault>
         ensures ends { (bytes : List ℕ) → StandsForLines C.format C.Makes bytes self
             → FileAnswers (file_faults C.format) (Reads C.format C.Makes) bytes result }
@@ -95,7 +98,7 @@ impl<C: Contents> Feed<C> {
             return Err(fault);
         }
         if !rest.is_empty() {
-            progress.read_line(rt, *rest.allocator(), tools, rest.as_slice())?;
+            progress.read_block(rt, tools, rest, b"\n")?;
         }
         if progress.lines == 0 {
             return Err(FileFault {

@@ -8,7 +8,6 @@ use crate::judgements::Judgements;
 use crate::side_by_side::judge_chunks;
 use counted_devices::{cut_chunks, first_end};
 use file_format::{LineItem, ToolSets};
-use std::alloc::Global;
 use std::thread::Threads;
 use tag::Memory;
 
@@ -24,18 +23,18 @@ pub struct JudgedLines<T> {
 /// The block's first line is put after the rest; the others are judged where they lie.
 pub(crate) fn judge_block<C: Contents, R: Threads + Sync>(
     rt: &R,
-    alloc: Global,
     header: <C::Item as LineItem>::Header,
     tools: &ToolSets,
-    rest: &[u8],
+    rest: Vec<u8>,
     block: &[u8],
 ) -> Result<JudgedLines<C::Item>, Memory>
-    ensures judged { IfOk result (λ judged. HasNoEnd rest.now
-        → IsJudged C.format header (rest.now ++ block.now) judged) }
+    ensures judged { IfOk result (λ judged. HasNoEnd rest.items
+        → IsJudged C.format header (rest.items ++ block.now) judged) }
     ensures room { IfOk result (λ judged. length judged.judgements + length judged.rest.items
-        ≤ length rest.now + length block.now) }
+        ≤ length rest.items + length block.now) }
 {
-    let mut first = Vec::from_slice(alloc, rest)?;
+    let alloc = *rest.allocator();
+    let mut first = rest;
     let Some(end) = first_end(block) else {
         first.extend_from_slice(block)?;
         return Ok(JudgedLines {

@@ -9,7 +9,6 @@
 
 mod ahead;
 mod batches;
-mod blocks;
 mod feed;
 mod file_feed;
 mod format;

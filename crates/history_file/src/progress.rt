@@ -1,13 +1,18 @@
 //! How far the lines of a file were read.
-ghost use Rattle.std.specs.Prelude.{ℕ, ◌≡◌, ◌<◌, ◌≤◌, ◌+◌, ◌^◌, List, [], ◌∷◌, length, map, IfOk, OnOk};
-ghost use Rattle.std.specs.List.{flat_map};
-ghost use Rattle.counted_devices.specs.Cuts.{HasNoEnd, with_end};
-ghost use Rattle.history_file.specs.LinesRead.{ReadsChunks, ReadsJudged, ReadsLine, ReadsShown};
+ghost use Rattle.std.specs.Prelude.{ℕ, ◌≡◌, ◌<◌, ◌≤◌, ◌+◌, ◌^◌, ◌++◌, List, length};
+ghost use Rattle.std.specs.Prelude.{IfOk, IfErr, OnOk, MatchResult};
+ghost use Rattle.counted_devices.specs.Cuts.{HasNoEnd, longest_line};
+ghost use Rattle.counted_devices.specs.FirstFaults.{FaultSoFar};
+ghost use Rattle.history_file.specs.Ahead.{AreReadOrJudged, FaultStays};
+ghost use Rattle.history_file.specs.FileFaults.{file_faults};
+ghost use Rattle.history_file.specs.LinesRead.{ReadsJudged, ReadsLine, ReadsShown};
+ghost use Rattle.history_file.specs.LinesRead.{AreRead, HasReadFront, ReadsBytes};
 
 use crate::format::Contents;
+use crate::judge_blocks::{JudgedLines, judge_block};
 use crate::judgements::Judgements;
-use crate::side_by_side::judge_chunks;
-use file_format::{FileFault, Judgement, Stop, ToolSets};
+use counted_devices::first_end;
+use file_format::{FileFault, Judgement, LONGEST, LineFault, Stop, ToolSets};
 use std::alloc::Global;
 use std::thread::Threads;
 
@@ -91,45 +96,70 @@ impl<C: Contents> Progress<C> {
         Ok(self)
     }
 
-    /// Reads the lines of chunks that stand after the header.
-    pub(crate) fn read_chunks(
-        &mut self,
-        rt: &(impl Threads + Sync),
-        alloc: Global,
-        tools: &ToolSets,
-        chunks: &[&[u8]],
-    ) -> Result<(), FileFault>
-        requires { self.old.lines + length
-            (flat_map with_end (map (λ chunk. chunk.now) chunks.now)) < 2 ^ 63 }
-        ensures read { ReadsChunks C.format C.Makes self.old
-            (map (λ chunk. chunk.now) chunks.now) result (λ _. self.new) }
-        ensures more { OnOk result (self.old.lines ≤ self.new.lines) }
-        ensures lines { OnOk result (self.new.lines ≤ self.old.lines + length
-            (flat_map with_end (map (λ chunk. chunk.now) chunks.now))) }
+    /// Adds what judged lines show, and gives the line under way after them, which must not be too
+    /// long.
+    pub(crate) fn catch_up(&mut self, judged: JudgedLines<C::Item>) -> Result<Vec<u8>, FileFault>
+        requires { self.old.lines + length judged.judgements < 2 ^ 63 }
+        ensures reads { (bytes : List ℕ) → AreReadOrJudged C.format C.Makes bytes self.old judged
+            → ReadsBytes C.format C.Makes bytes result self.new }
+        ensures stays { (bytes : List ℕ) → AreReadOrJudged C.format C.Makes bytes self.old judged
+            → length judged.rest.items ≤ longest_line
+            → IfErr result (λ fault. FaultStays C.format bytes fault) }
+        ensures lines { IfOk result (λ rest. self.new.lines + length rest.items
+            ≡ self.old.lines + length judged.judgements + length judged.rest.items) }
     {
-        match judge_chunks::<C, _>(rt, alloc, self.contents.header(), tools, chunks) {
-            Ok(judgements) => self.record(judgements),
-            Err(_) => Err(FileFault::at(self.lines + 1, Stop::Memory)),
+        self.record(judged.judgements)?;
+        if judged.rest.len() > LONGEST {
+            return Err(FileFault::at(self.lines + 1, Stop::Fault(LineFault::TooLong)));
         }
+        Ok(judged.rest)
     }
 
-    /// Reads a line.
-    pub(crate) fn read_line(
+    /// Reads the file's first line where none was read yet and the block ends it, and gives what of
+    /// the block stands after it.
+    fn begin<'a>(&mut self, rest: &mut Vec<u8>, block: &'a [u8]) -> Result<&'a [u8], FileFault>
+        ensures reads { (bytes : List ℕ) → AreRead C.format C.Makes bytes self.old rest.old.items
+            → MatchResult result (λ left. HasReadFront C.format C.Makes (bytes ++ block.now)
+            left.now self.new rest.new.items)
+            (λ fault. FaultSoFar (file_faults C.format) (bytes ++ block.now)
+            fault.line fault.kind) }
+        ensures begun { IfOk result (λ left. self.new.lines ≡ 0 → HasNoEnd left.now) }
+        ensures room { IfOk result (λ left. self.new.lines + length rest.new.items + length left.now
+            ≤ self.old.lines + length rest.old.items + length block.now) }
+    {
+        if self.lines > 0 {
+            return Ok(block);
+        }
+        let Some(end) = first_end(block) else {
+            return Ok(block);
+        };
+        let Ok(()) = rest.extend_from_slice(&block[..end]) else {
+            return Err(FileFault::at(1, Stop::Memory));
+        };
+        self.read_header(*rest.allocator(), rest.as_slice())?;
+        rest.clear();
+        Ok(&block[end + 1..])
+    }
+
+    /// Reads the whole lines of the rest and the block after it, and gives what is left.
+    pub(crate) fn read_block(
         &mut self,
         rt: &(impl Threads + Sync),
-        alloc: Global,
         tools: &ToolSets,
-        line: &[u8],
-    ) -> Result<(), FileFault>
-        requires { self.old.lines + length line.now + 1 < 2 ^ 63 }
-        ensures read { HasNoEnd line.now
-            → ReadsLine C.format C.Makes self.old line.now result (λ _. self.new) }
-        ensures some { OnOk result (0 < self.new.lines) }
-        ensures lines { OnOk result (self.new.lines ≤ self.old.lines + length line.now + 1) }
+        mut rest: Vec<u8>,
+        block: &[u8],
+    ) -> Result<Vec<u8>, FileFault>
+        requires { self.old.lines + length rest.items + length block.now < 2 ^ 63 }
+        ensures reads { (bytes : List ℕ) → AreRead C.format C.Makes bytes self.old rest.items
+            → ReadsBytes C.format C.Makes (bytes ++ block.now) result self.new }
+        ensures lines { IfOk result (λ left. self.new.lines + length left.items
+            ≤ self.old.lines + length rest.items + length block.now) }
     {
-        if self.lines == 0 {
-            return self.read_header(alloc, line);
+        let block = self.begin(&mut rest, block)?;
+        let header = self.contents.header();
+        match judge_block::<C, _>(rt, header, tools, rest, block) {
+            Ok(judged) => self.catch_up(judged),
+            Err(_) => Err(FileFault::at(self.lines + 1, Stop::Memory)),
         }
-        self.read_chunks(rt, alloc, tools, &[line])
     }
 }

@@ -94,7 +94,7 @@ fn feed_in_blocks<C: Contents, R: CountedRead, T: Threads + Sync>(
         StopsFrom (file_faults C.format) (states R.remaining R.failures reader.old reader.new) fault
         × FailsFrom (states R.remaining R.failures reader.old reader.new) fault) }
 {
-    let mut ahead = Ahead::<C, C::Item>::new(alloc);
+    let mut ahead = Ahead::of(Feed::<C>::new(alloc));
     'reads: loop {
         let (next, more) = read_next(rt, tools, ahead, reader, room)?;
         if !more {

@@ -5,7 +5,6 @@ use Rattle.counted_devices.proofs.Delivering.{Delivers-more, stops_late, stops_n
 use Rattle.history_file.specs.Ahead.{StandsAhead}
 use Rattle.history_file.specs.Batches.{IsBehind}
 use Rattle.history_file.specs.FileFaults.{file_faults}
-use Rattle.history_file.proofs.Advancing.{stays_now}
 use Rattle.history_file.proofs.Consuming.{Holds-device}
 use Rattle.history_file.proofs.reading.read_next.Goals as goal
 
@@ -37,7 +36,7 @@ returns-in_err-feed-in-Failure-clause-goes g c = λ start holds.
     let P : List ℕ → Type 0 = λ bytes. StandsAhead g.C.Contents.format g.C.Contents.Makes bytes c.args.ahead in
     let Q : List ℕ → Type 0 = λ bytes. StandsAhead g.C.Contents.format g.C.Contents.Makes bytes c.in_ok-next.next in
     let after = Delivers-more P Q start (g.R.Read.remaining c.args.reader.now) (g.R.Read.remaining c.read_batch-batch.new.reader) (take c.read_batch-batch.result.count c.read_batch-batch.new.room) holds c.read_batch-batch.ensures.bytes c.in_ok-next.ensures.goes in
-    rw (p.1, p.2) (stops_late (file_faults g.C.Contents.format) reader fault Q after (λ bytes s. stays_now g.C.Contents.format g.C.Contents.Makes bytes fault (c.in_err-feed-in-Failure.ensures.becomes bytes s)))
+    rw (p.1, p.2) (stops_late (file_faults g.C.Contents.format) reader fault Q after (λ bytes s. c.in_err-feed-in-Failure.ensures.becomes bytes s.0))
 
 pub returns-in_ok-feed-in-Failure-clause-goes : goal.returns-in_ok-feed-in-Failure-clause-goes
 returns-in_ok-feed-in-Failure-clause-goes g c = λ start holds.
@@ -46,7 +45,7 @@ returns-in_ok-feed-in-Failure-clause-goes g c = λ start holds.
     let P : List ℕ → Type 0 = λ bytes. StandsAhead g.C.Contents.format g.C.Contents.Makes bytes c.args.ahead in
     let Q : List ℕ → Type 0 = λ bytes. StandsAhead g.C.Contents.format g.C.Contents.Makes bytes c.in_ok-next.next in
     let after = Delivers-more P Q start (g.R.Read.remaining c.args.reader.now) left (take c.read_batch-batch.result.count c.read_batch-batch.new.room) holds c.read_batch-batch.ensures.bytes c.in_ok-next.ensures.goes in (
-      Holds-device g.C.Contents.format g.C.Contents.Makes start left feed c.line.result (record { bytes = after.bytes; given = after.given; fact = c.in_ok-feed-in-Failure.ensures.becomes after.bytes after.fact }) c.line.ensures,
+      Holds-device g.C.Contents.format g.C.Contents.Makes start left feed c.line.result (record { bytes = after.bytes; given = after.given; fact = c.in_ok-feed-in-Failure.ensures.becomes after.bytes after.fact.0 }) c.line.ensures,
       subst (λ b. IsBehind c.read_batch-batch.result.count b left (g.R.Counted.failures c.args.reader.now) (g.R.Counted.failures c.read_batch-batch.new.reader)) c.in-Failure.is c.read_batch-batch.ensures.behind,
     )
 
