@@ -117,7 +117,11 @@ impl<C: Contents> Progress<C> {
 
     /// Reads the file's first line where none was read yet and the block ends it, and gives what of
     /// the block stands after it.
-    fn begin<'a>(&mut self, rest: &mut Vec<u8>, block: &'a [u8]) -> Result<&'a [u8], FileFault>
+    fn take_header<'a>(
+        &mut self,
+        rest: &mut Vec<u8>,
+        block: &'a [u8],
+    ) -> Result<&'a [u8], FileFault>
         ensures reads { (bytes : List ℕ) → AreRead C.format C.Makes bytes self.old rest.old.items
             → MatchResult result (λ left. HasReadFront C.format C.Makes (bytes ++ block.now)
             left.now self.new rest.new.items)
@@ -155,7 +159,7 @@ impl<C: Contents> Progress<C> {
         ensures lines { IfOk result (λ left. self.new.lines + length left.items
             ≤ self.old.lines + length rest.items + length block.now) }
     {
-        let block = self.begin(&mut rest, block)?;
+        let block = self.take_header(&mut rest, block)?;
         let header = self.contents.header();
         match judge_block::<C, _>(rt, header, tools, rest, block) {
             Ok(judged) => self.catch_up(judged),

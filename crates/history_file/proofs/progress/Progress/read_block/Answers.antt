@@ -12,8 +12,8 @@ returns-in_err-block-clause-reads g c = λ bytes r.
 pub returns-in-Ok-clause-reads : goal.returns-in-Ok-clause-reads
 returns-in-Ok-clause-reads g c = λ bytes r.
     let left = c.in_ok-block.block.now in
-    let progress = c.begin.new.self in
-    let rest = c.begin.new.rest.items in
+    let progress = c.take_header.new.self in
+    let rest = c.take_header.new.rest.items in
     let front = c.in_ok-block.ensures.reads bytes r in
     let j = c.in-Ok.ensures.judged front.at.splits.partial in
     let begun : 0 < length j.lines → 0 < progress.lines = some_begun g.C.Contents.format g.C.Contents.Makes progress.lines left rest j.lines c.in-Ok.judged.rest.items c.in_ok-block.ensures.begun front.at.splits.partial j.splits in

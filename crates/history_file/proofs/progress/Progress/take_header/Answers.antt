@@ -1,7 +1,7 @@
 use Rattle.std.proofs.Common.{◌≡◌, ◌++◌, take, refl, ◌∙◌}
 use Rattle.std.proofs.lemmas.Result.{err_from_is_err_and}
 use Rattle.history_file.proofs.Advancing.{header_ended, header_stops}
-use Rattle.history_file.proofs.progress.Progress.begin.Goals as goal
+use Rattle.history_file.proofs.progress.Progress.take_header.Goals as goal
 
 pub returns-then-self-gt0-clause-reads : goal.returns-then-self-gt0-clause-reads
 returns-then-self-gt0-clause-reads g c = λ bytes r. record { read = bytes; whole = refl; at = r }
