@@ -34,6 +34,6 @@ pub use attributes::Attribute;
 pub use escapes::append_text;
 pub use names::{AttributeName, Element};
 pub use page_tags::{
-    append_closing, append_doctype, append_empty, append_line_end, append_opening,
+    append_closing, append_doctype, append_empty, append_line_end, append_opening, open_of_class,
 };
 pub use texts::{append_number, append_plain, append_worded};

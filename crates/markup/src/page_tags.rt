@@ -1,9 +1,10 @@
 //! Tags, and what stands between them.
 ghost use Rattle.std.specs.Prelude.{◌≡◌, ◌++◌, codes, map, OnOk};
 ghost use Rattle.markup.specs.Markup.{attribute_of, closing_tag, lone_tag, opening_tag, element_tag};
+ghost use Rattle.markup.specs.Texts.{of_class};
 
 use crate::attributes::{Attribute, append_attributes};
-use crate::names::Element;
+use crate::names::{AttributeName, Element};
 use sentences::append;
 use tag::Memory;
 
@@ -35,6 +36,15 @@ pub fn append_opening(
     append(page, "<")?;
     append_tag(page, element, attributes)?;
     append(page, ">")
+}
+
+/// Adds the tag that opens an element of that class.
+pub fn open_of_class(page: &mut Vec<u8>, element: Element, class: &str) -> Result<(), Memory>
+    ensures { OnOk result (page.new.items
+        ≡ page.old.items ++ opening_tag element (of_class class.now)) }
+{
+    let attribute = Attribute::Words(AttributeName::Class, class);
+    append_opening(page, element, &[attribute])
 }
 
 /// Adds the tag that closes the element.

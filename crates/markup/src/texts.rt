@@ -3,10 +3,10 @@ ghost use Rattle.std.specs.Prelude.{◌≡◌, ◌++◌, decimal, OnOk};
 ghost use Rattle.markup.specs.Markup.{rendered, text};
 ghost use Rattle.markup.specs.Texts.{plain, worded};
 
-use crate::attributes::{Attribute, append_decimal};
+use crate::attributes::append_decimal;
 use crate::escapes::append_text;
-use crate::names::{AttributeName, Element};
-use crate::page_tags::{append_closing, append_opening};
+use crate::names::Element;
+use crate::page_tags::{append_closing, append_opening, open_of_class};
 use tag::Memory;
 
 /// Adds an element around the text. If it fails, a beginning of that may have been added; so it is
@@ -32,11 +32,7 @@ pub fn append_worded(
     ensures { OnOk result (page.new.items
         ≡ page.old.items ++ rendered (worded element class.now words.now)) }
 {
-    append_opening(
-        page,
-        element,
-        &[Attribute::Words(AttributeName::Class, class)],
-    )?;
+    open_of_class(page, element, class)?;
     append_text(page, words)?;
     append_closing(page, element)
 }
