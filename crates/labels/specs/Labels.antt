@@ -1,6 +1,6 @@
 -- Texts, lines and titles, each at its place.
 use Rattle.std.specs.Prelude.{ℕ, List, [], ◌∷◌, decimal}
-use Rattle.markup.specs.Markup.{Markup, NamedText, element, empty, text}
+use Rattle.markup.specs.Markup.{Markup, NamedText, all_tenths_text, element, empty, text}
 use Rattle.markup.specs.declared.names.AttributeName.{AttributeName}
 use Rattle.markup.specs.declared.names.AttributeName.TheVariants as name
 use Rattle.markup.specs.declared.names.Element.TheVariants as tag
@@ -35,3 +35,8 @@ title words = element tag.Title [] (text (text_of words))
 abbrev pub line_markup : List ℕ → Way → Markup
 line_markup class way = empty tag.Line (words_of name.Class class ∷ number_of name.X1 way.x1
     ∷ number_of name.Y1 way.y1 ∷ number_of name.X2 way.x2 ∷ number_of name.Y2 way.y2 ∷ [])
+
+-- the line of that class that joins these corners, in tenths of a pixel
+abbrev pub polyline : List ℕ → List ℕ → Markup
+polyline class corners = empty tag.Polyline
+    (words_of name.Class class ∷ words_of name.Points (all_tenths_text corners) ∷ [])

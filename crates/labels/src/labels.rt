@@ -2,12 +2,12 @@
 ghost use Rattle.std.specs.Prelude.{◌≡◌, ◌++◌, OnOk};
 ghost use Rattle.markup.specs.Markup.{rendered};
 ghost use Rattle.sentences.specs.Words.{numbered};
-ghost use Rattle.labels.specs.Labels.{line_markup, title, words_at};
+ghost use Rattle.labels.specs.Labels.{line_markup, polyline, title, words_at};
 
 use crate::cuts::append_cut;
 use crate::texts::text_of;
 use markup::{
-    Attribute, AttributeName, Element, append_closing, append_empty, append_opening, append_text,
+    Attribute, AttributeName, Element, append_closing, append_empty, append_opening, append_plain,
 };
 use sentences::append_number;
 use std::alloc::Global;
@@ -22,6 +22,18 @@ pub struct Spot {
     pub room: u64,
 }
 
+impl Spot {
+    /// The spot at that place, for a text of that class with so much room.
+    pub fn new(class: &'static str, x: u64, y: u64, room: u64) -> Spot
+        ensures class { result.class.now ≡ class.now }
+        ensures x { result.x ≡ x }
+        ensures y { result.y ≡ y }
+        ensures room { result.room ≡ room }
+    {
+        Spot { class, x, y, room }
+    }
+}
+
 /// From where to where a line goes.
 #[derive(Clone, Copy)]
 pub struct Way {
@@ -29,6 +41,32 @@ pub struct Way {
     pub y1: u64,
     pub x2: u64,
     pub y2: u64,
+}
+
+impl Way {
+    /// From left to right, at that height.
+    pub fn level(y: u64, x1: u64, x2: u64) -> Way
+        ensures { result ≡ record { x1 = x1; y1 = y; x2 = x2; y2 = y } }
+    {
+        Way {
+            x1,
+            y1: y,
+            x2,
+            y2: y,
+        }
+    }
+
+    /// Straight down, so far right.
+    pub fn upright(x: u64, y1: u64, y2: u64) -> Way
+        ensures { result ≡ record { x1 = x; y1 = y1; x2 = x; y2 = y2 } }
+    {
+        Way {
+            x1: x,
+            y1,
+            x2: x,
+            y2,
+        }
+    }
 }
 
 /// Adds the words there.
@@ -70,13 +108,10 @@ pub fn append_numbered(
 }
 
 /// Adds a title.
-#[tactic(auto, unfolding(markup::specs::Markup::rendered))]
 pub fn append_title(page: &mut Vec<u8>, words: &[u8]) -> Result<(), Memory>
     ensures { OnOk result (page.new.items ≡ page.old.items ++ rendered (title words.now)) }
 {
-    append_opening(page, Element::Title, &[])?;
-    append_text(page, text_of(words))?;
-    append_closing(page, Element::Title)
+    append_plain(page, Element::Title, text_of(words))
 }
 
 /// Adds a line of that class.
@@ -93,4 +128,18 @@ pub fn append_line(page: &mut Vec<u8>, class: &str, way: Way) -> Result<(), Memo
         Attribute::Number(AttributeName::Y2, way.y2),
     ];
     append_empty(page, Element::Line, &attributes)
+}
+
+/// Adds the line of that class that joins these corners: of each how far right it stands, and how
+/// far down, in tenths of a pixel.
+#[tactic(auto, unfolding(markup::specs::Markup::rendered))]
+pub fn append_polyline(page: &mut Vec<u8>, class: &str, corners: &[u64]) -> Result<(), Memory>
+    ensures { OnOk result
+        (page.new.items ≡ page.old.items ++ rendered (polyline class.now corners.now)) }
+{
+    let attributes = [
+        Attribute::Words(AttributeName::Class, class),
+        Attribute::AllTenths(AttributeName::Points, corners),
+    ];
+    append_empty(page, Element::Polyline, &attributes)
 }

@@ -33,7 +33,9 @@ mod style;
 mod texts;
 
 pub use images::open_image;
-pub use labels::{Spot, Way, append_label, append_line, append_numbered, append_title};
+pub use labels::{
+    Spot, Way, append_label, append_line, append_numbered, append_polyline, append_title,
+};
 pub use places::{Frame, pixels};
 pub use samples::append_sample;
 pub use shapes::{IndexedShape, Shape, append_each, append_each_indexed};

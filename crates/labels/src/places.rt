@@ -1,5 +1,5 @@
 //! Where things stand, in pixels.
-ghost use Rattle.std.specs.Prelude.{◌≡◌};
+ghost use Rattle.std.specs.Prelude.{◌≡◌, ◌-◌};
 ghost use Rattle.labels.specs.Places.{IsNear, pixels};
 
 use crate::style::FARTHEST;
@@ -11,6 +11,22 @@ pub struct Frame {
     pub right: u64,
     pub top: u64,
     pub bottom: u64,
+}
+
+impl Frame {
+    /// How wide it is.
+    pub fn width(self) -> u64
+        ensures { result ≡ self.right - self.left }
+    {
+        self.right.saturating_sub(self.left)
+    }
+
+    /// How high it is.
+    pub fn height(self) -> u64
+        ensures { result ≡ self.bottom - self.top }
+    {
+        self.bottom.saturating_sub(self.top)
+    }
 }
 
 /// So many steps beyond a start; but nothing stands farther than 10^18 pixels.
