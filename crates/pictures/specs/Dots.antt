@@ -1,10 +1,10 @@
 -- Linearization points: a dot for each, in the column of its bar, and a line that joins them.
 use Rattle.std.specs.Prelude.{ℕ, ◌+◌, ◌*◌, List, [], ◌∷◌, ◌++◌, decimal, slice_get}
 use Rattle.std.specs.Prelude.{Option, Some, None}
-use Rattle.markup.specs.Markup.{Markup, empty, both, all_tenths_text}
+use Rattle.markup.specs.Markup.{Markup, empty, both}
 use Rattle.markup.specs.declared.names.AttributeName.TheVariants as name
 use Rattle.markup.specs.declared.names.Element.TheVariants as tag
-use Rattle.labels.specs.Labels.{label_markup, number_of, words_of}
+use Rattle.labels.specs.Labels.{label_markup, number_of, polyline, words_of}
 use Rattle.scenes.specs.declared.scene.Bar.{Bar}
 use Rattle.scenes.specs.declared.scene.Dot.{Dot}
 use Rattle.scenes.specs.declared.scene.Scene.{Scene}
@@ -52,5 +52,4 @@ module _ (scene : Scene) where
 
   -- the line that joins the dots along the order
   abbrev pub path_markup : Markup
-  path_markup = empty tag.Polyline (words_of name.Class PATH.now
-      ∷ words_of name.Points (all_tenths_text (corners 0 scene.dots.items)) ∷ [])
+  path_markup = polyline PATH.now (corners 0 scene.dots.items)

@@ -1,12 +1,12 @@
 -- The shapes of bars: four sides, or, of a pending call, three.
 use Rattle.std.specs.Prelude.{ℕ, ◌+◌, ◌-◌, ◌*◌, List, [], ◌∷◌, Option, Some, None}
-use Rattle.markup.specs.Markup.{Markup, all_tenths_text, empty}
+use Rattle.markup.specs.Markup.{Markup, empty}
 use Rattle.markup.specs.declared.names.AttributeName.TheVariants as name
 use Rattle.markup.specs.declared.names.Element.TheVariants as tag
 use Rattle.scenes.specs.declared.scene.Bar.{Bar}
 use Rattle.scenes.specs.declared.scene.Scene.{Scene}
 use Rattle.labels.specs.declared.places.Frame.{Frame}
-use Rattle.labels.specs.Labels.{number_of, words_of}
+use Rattle.labels.specs.Labels.{number_of, polyline}
 use Rattle.pictures.specs.declared.style.TheConstants.{BAR_FOOT, BAR_LEFT, BAR_MARGINS, BAR_TOP}
 use Rattle.pictures.specs.declared.style.TheConstants.{FLOOR, OPEN}
 use Rattle.pictures.specs.Layout.{across, column_width, down, row_of_place, rows_of}
@@ -29,8 +29,7 @@ open_corners frame corner =
 
 -- the shape of a pending call: without a side below
 abbrev pub open_shape : Frame → ℕ → Markup
-open_shape frame corner = empty tag.Polyline (words_of name.Class OPEN.now
-    ∷ words_of name.Points (all_tenths_text (open_corners frame corner)) ∷ [])
+open_shape frame corner = polyline OPEN.now (open_corners frame corner)
 
 -- the shape of a bar with that end
 abbrev pub shape_of : Option ℕ → Frame → ℕ → Markup

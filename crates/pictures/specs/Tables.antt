@@ -8,6 +8,8 @@ use Rattle.labels.specs.Texts.{text_of}
 use Rattle.recorder.specs.declared.part.Call.{Call}
 use Rattle.explanations.specs.declared.hall_rows.HallRows.{HallRows}
 use Rattle.scenes.specs.declared.scene.Bar.{Bar}
+use Rattle.pictures.specs.declared.cells.Content.{Content}
+use Rattle.pictures.specs.declared.cells.Content.TheVariants as content
 use Rattle.pictures.specs.declared.picture.Picture.{Picture}
 use Rattle.pictures.specs.declared.style.TheConstants.{ANSWERED_HEADING, ANSWER_HEADING, CALLS}
 use Rattle.pictures.specs.declared.style.TheConstants.{BEGINS_HEADING, CALL_HEADING, CLIENT_HEADING}
@@ -20,6 +22,12 @@ use Rattle.pictures.specs.Words.{action_words, line_words, note_words, response_
 -- a cell with those words
 abbrev pub cell : List ℕ → Markup
 cell words = element tag.Td [] (text (text_of words))
+
+-- what a cell with that content says
+abbrev pub content_words : Content → List ℕ
+content_words (content.Number number) = decimal number
+content_words (content.Does action) = action_words false action.now
+content_words (content.Answers response) = response_words response.now
 
 -- the heading of a column
 abbrev pub heading : List ℕ → Markup

@@ -1,5 +1,5 @@
 -- What stands in a bar: what its call does, the tag that it noted, and what it answers.
-use Rattle.std.specs.Prelude.{ℕ, List, ◌++◌, Option, Some, None}
+use Rattle.std.specs.Prelude.{ℕ, Bool, List, ◌++◌, Option, Some, None}
 use Rattle.markup.specs.Markup.{Markup, nothing, both}
 use Rattle.labels.specs.Labels.{label_markup}
 use Rattle.recorder.specs.declared.part.Call.{Call}
@@ -7,6 +7,8 @@ use Rattle.scenes.specs.declared.scene.Bar.{Bar}
 use Rattle.scenes.specs.declared.scene.Scene.{Scene}
 use Rattle.pictures.specs.declared.style.TheConstants.{ANSWERS, DOES, NOTED, NOTES, TEXT_BASE}
 use Rattle.pictures.specs.declared.style.TheConstants.{TEXT_LEFT}
+use Rattle.pictures.specs.declared.texts.BarText.{BarText}
+use Rattle.pictures.specs.declared.texts.BarText.TheVariants as bar_text
 use Rattle.pictures.specs.Layout.{across, down, is_narrow, room_of, row_of_place}
 use Rattle.pictures.specs.Words.{begin_words, end_words, note_words, unless}
 
@@ -15,28 +17,27 @@ abbrev pub if_any : {X : Type 0} → (X → Markup) → Option X → Markup
 if_any f None = nothing
 if_any f (Some x) = f x
 
+-- the class of a text of a bar
+abbrev pub text_class : BarText → List ℕ
+text_class bar_text.Begin = DOES.now
+text_class bar_text.Note = NOTED.now
+text_class bar_text.Answer = ANSWERS.now
+
+-- what it says of the bar's call: its number and what it does, its tag, or what it answers
+abbrev pub text_words : BarText → Bool → Call → List ℕ
+text_words bar_text.Begin briefly call = begin_words briefly call
+text_words bar_text.Note briefly call = unless briefly NOTES.now ++ note_words call.note
+text_words bar_text.Answer briefly call = end_words briefly call.response
+
 module _ (scene : Scene) where
-  -- words of that class in a lane's column, in the row of a place
-  abbrev pub text_at : List ℕ → ℕ → ℕ → List ℕ → Markup
-  text_at class lane place words = label_markup class (across scene TEXT_LEFT lane)
-      (down TEXT_BASE (row_of_place scene place)) (room_of scene) words
+  -- such a text in a lane's column, in the row of a place
+  abbrev pub text_at : BarText → ℕ → Call → ℕ → Markup
+  text_at text lane call place = label_markup (text_class text) (across scene TEXT_LEFT lane)
+      (down TEXT_BASE (row_of_place scene place)) (room_of scene)
+      (text_words text (is_narrow scene) call)
 
-  -- the call's number and what it does, where it begins
-  abbrev pub begin : Bar → Call → Markup
-  begin bar call =
-      text_at DOES.now bar.lane bar.begins (begin_words (is_narrow scene) call)
-
-  -- the call's tag at that place
-  abbrev pub note_at : ℕ → Call → ℕ → Markup
-  note_at lane call place = text_at NOTED.now lane place
-      (unless (is_narrow scene) NOTES.now ++ note_words call.note)
-
-  -- what the call answers at that place
-  abbrev pub answer_at : ℕ → Call → ℕ → Markup
-  answer_at lane call place =
-      text_at ANSWERS.now lane place (end_words (is_narrow scene) call.response)
-
-  -- the texts of a bar: each in the row of its place
+  -- the texts of a bar: where its call begins, and where it notes and answers, if it does
   abbrev pub texts : Bar → Call → Markup
-  texts bar call = both (begin bar call) (both (if_any (note_at bar.lane call) bar.note)
-      (if_any (answer_at bar.lane call) bar.ends))
+  texts bar call = both (text_at bar_text.Begin bar.lane call bar.begins)
+      (both (if_any (text_at bar_text.Note bar.lane call) bar.note)
+      (if_any (text_at bar_text.Answer bar.lane call) bar.ends))

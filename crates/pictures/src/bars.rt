@@ -2,16 +2,15 @@
 ghost use Rattle.std.specs.Prelude.{◌≡◌, ◌++◌, OnOk};
 ghost use Rattle.markup.specs.Markup.{rendered};
 ghost use Rattle.pictures.specs.Layout.{IsInOrder};
-ghost use Rattle.pictures.specs.Pictures.{bar_markup, call_bar, class_of, corner_of, in_bar};
-ghost use Rattle.pictures.specs.Pictures.{sentence};
+ghost use Rattle.pictures.specs.Pictures.{bar_markup, corner_of, sentence};
 
 use crate::frames::append_shape;
 use crate::picture::Picture;
-use crate::style::{FAULTY_READ, FAULTY_WRITE, READ, READ_CORNER, WRITE, WRITE_CORNER};
+use crate::style::{READ_CORNER, WRITE_CORNER};
 use crate::texts::append_texts;
 use explanations::append_call;
 use labels::{Shape, append_title};
-use markup::{Attribute, AttributeName, Element, append_closing, append_opening};
+use markup::{Element, append_closing, open_of_class};
 use recorder::Call;
 use scenes::Bar;
 use std::alloc::Global;
@@ -21,16 +20,6 @@ use tag::{Action, Memory};
 #[derive(Clone, Copy)]
 pub(crate) struct Bars<'a> {
     pub(crate) picture: &'a Picture<'a>,
-}
-
-/// The class of a bar of that action.
-pub(crate) fn class_of(action: &Action, is_faulty: bool) -> &'static str
-    ensures { result.now ≡ class_of action.now is_faulty }
-{
-    match action {
-        Action::Read => if is_faulty { FAULTY_READ } else { READ },
-        Action::Write(_) => if is_faulty { FAULTY_WRITE } else { WRITE },
-    }
 }
 
 /// How round the corners are of a bar of that action.
@@ -58,47 +47,6 @@ fn append_sentence(
     append_title(page, &words)
 }
 
-/// Adds what stands in the element of the call's bar.
-#[tactic(auto, unfolding(markup::specs::Markup::rendered))]
-fn append_in_bar(
-    alloc: Global,
-    page: &mut Vec<u8>,
-    picture: &Picture<'_>,
-    bar: &Bar,
-    call: &Call,
-) -> Result<(), Memory>
-    requires { IsInOrder picture.now.scene.now }
-    ensures { OnOk result
-        (page.new.items ≡ page.old.items ++ rendered (in_bar picture.now bar.now call.now)) }
-{
-    append_sentence(alloc, page, picture, call)?;
-    append_shape(page, picture.scene, bar, corner_of(&call.action))?;
-    append_texts(alloc, page, picture.scene, bar, call)
-}
-
-/// Adds the call's bar.
-#[tactic(auto, unfolding(markup::specs::Markup::rendered))]
-fn append_call_bar(
-    alloc: Global,
-    page: &mut Vec<u8>,
-    picture: &Picture<'_>,
-    bar: &Bar,
-    call: &Call,
-) -> Result<(), Memory>
-    requires { IsInOrder picture.now.scene.now }
-    ensures { OnOk result
-        (page.new.items ≡ page.old.items ++ rendered (call_bar picture.now bar.now call.now)) }
-{
-    let class = class_of(&call.action, picture.is_faulty(call.op));
-    append_opening(
-        page,
-        Element::G,
-        &[Attribute::Words(AttributeName::Class, class)],
-    )?;
-    append_in_bar(alloc, page, picture, bar, call)?;
-    append_closing(page, Element::G)
-}
-
 impl Shape for Bars<'_> {
     type Item = Bar;
 
@@ -106,11 +54,14 @@ impl Shape for Bars<'_> {
 
     ghost shape = { λ bars. bar_markup bars.picture.now };
 
-    #[tactic(auto, unfolding(markup::specs::Markup::rendered))]
     fn append(&self, alloc: Global, page: &mut Vec<u8>, item: &Bar) -> Result<(), Memory> {
-        match self.picture.call_of(item.call) {
-            Some(call) => append_call_bar(alloc, page, self.picture, item, call),
-            None => Ok(()),
-        }
+        let Some(call) = self.picture.call_of(item.call) else {
+            return Ok(());
+        };
+        open_of_class(page, Element::G, self.picture.class_of(call))?;
+        append_sentence(alloc, page, self.picture, call)?;
+        append_shape(page, self.picture.scene, item, corner_of(&call.action))?;
+        append_texts(alloc, page, self.picture.scene, item, call)?;
+        append_closing(page, Element::G)
     }
 }

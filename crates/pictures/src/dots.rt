@@ -31,7 +31,6 @@ pub(crate) fn lane_of(scene: &Scene, dot: &Dot) -> usize
 }
 
 /// Adds a circle at that place.
-#[tactic(auto, unfolding(markup::specs::Markup::rendered))]
 fn append_circle(page: &mut Vec<u8>, x: u64, y: u64) -> Result<(), Memory>
     ensures { OnOk result (page.new.items ≡ page.old.items ++ rendered (circle x y)) }
 {
@@ -52,7 +51,6 @@ impl IndexedShape for Dots<'_> {
 
     ghost shape = { λ dots. dot_markup dots.scene.now };
 
-    #[tactic(auto, unfolding(markup::specs::Markup::rendered))]
     fn append(
         &self,
         alloc: Global,
@@ -62,14 +60,9 @@ impl IndexedShape for Dots<'_> {
     ) -> Result<(), Memory> {
         let row = row_of_dot(self.scene, index, item.place);
         let lane = lane_of(self.scene, item);
-        let x = across(self.scene, DOT_LEFT, lane);
-        append_circle(page, x, down(MIDDLE, row))?;
-        let spot = Spot {
-            class: NUMBER,
-            x: across(self.scene, NUMBER_LEFT, lane),
-            y: down(TEXT_BASE, row),
-            room: LINE_LETTERS,
-        };
+        append_circle(page, across(self.scene, DOT_LEFT, lane), down(MIDDLE, row))?;
+        let x = across(self.scene, NUMBER_LEFT, lane);
+        let spot = Spot::new(NUMBER, x, down(TEXT_BASE, row), LINE_LETTERS);
         append_numbered(alloc, page, &spot, "", item.number as u64)
     }
 }

@@ -3,12 +3,11 @@ ghost use Rattle.std.specs.Prelude.{◌≡◌, ◌++◌, OnOk};
 ghost use Rattle.markup.specs.Markup.{rendered};
 ghost use Rattle.labels.specs.Places.{IsNear, IsNearFrame};
 ghost use Rattle.pictures.specs.Layout.{IsInOrder};
-ghost use Rattle.pictures.specs.Frames.{bottom_of, frame_of, open_corners, open_shape};
-ghost use Rattle.pictures.specs.Frames.{shape, shut_shape};
+ghost use Rattle.pictures.specs.Frames.{bottom_of, frame_of, open_corners, shape, shut_shape};
 
 use crate::layout::{across, column_width, down, row_of_place, rows_of};
 use crate::style::{BAR_FOOT, BAR_LEFT, BAR_MARGINS, BAR_TOP, FLOOR, OPEN};
-use labels::Frame;
+use labels::{Frame, append_polyline};
 use markup::{Attribute, AttributeName, Element, append_empty};
 use scenes::{Bar, Scene};
 use tag::Memory;
@@ -41,7 +40,6 @@ fn frame_of(scene: &Scene, bar: &Bar) -> Frame
 }
 
 /// Adds the shape of an answered call.
-#[tactic(auto, unfolding(markup::specs::Markup::rendered))]
 fn append_shut(page: &mut Vec<u8>, frame: Frame, corner: u8) -> Result<(), Memory>
     ensures { OnOk result
         (page.new.items ≡ page.old.items ++ rendered (shut_shape frame corner)) }
@@ -49,11 +47,8 @@ fn append_shut(page: &mut Vec<u8>, frame: Frame, corner: u8) -> Result<(), Memor
     let attributes = [
         Attribute::Number(AttributeName::X, frame.left),
         Attribute::Number(AttributeName::Y, frame.top),
-        Attribute::Number(AttributeName::Width, frame.right.saturating_sub(frame.left)),
-        Attribute::Number(
-            AttributeName::Height,
-            frame.bottom.saturating_sub(frame.top),
-        ),
+        Attribute::Number(AttributeName::Width, frame.width()),
+        Attribute::Number(AttributeName::Height, frame.height()),
         Attribute::Number(AttributeName::Rx, u64::from(corner)),
     ];
     append_empty(page, Element::Rect, &attributes)
@@ -82,21 +77,6 @@ fn open_corners(frame: Frame, corner: u8) -> [u64; 12]
     ]
 }
 
-/// Adds the shape of a pending call: without a side below.
-#[tactic(auto, unfolding(markup::specs::Markup::rendered))]
-fn append_open(page: &mut Vec<u8>, frame: Frame, corner: u8) -> Result<(), Memory>
-    requires { IsNearFrame frame }
-    ensures { OnOk result
-        (page.new.items ≡ page.old.items ++ rendered (open_shape frame corner)) }
-{
-    let corners = open_corners(frame, corner);
-    let attributes = [
-        Attribute::Words(AttributeName::Class, OPEN),
-        Attribute::AllTenths(AttributeName::Points, &corners),
-    ];
-    append_empty(page, Element::Polyline, &attributes)
-}
-
 /// Adds the shape of the bar: with four sides, or of a pending call with an open end.
 pub(crate) fn append_shape(
     page: &mut Vec<u8>,
@@ -111,6 +91,6 @@ pub(crate) fn append_shape(
     let frame = frame_of(scene, bar);
     match bar.ends {
         Some(_) => append_shut(page, frame, corner),
-        None => append_open(page, frame, corner),
+        None => append_polyline(page, OPEN, &open_corners(frame, corner)),
     }
 }

@@ -2,8 +2,7 @@
 ghost use Rattle.std.specs.Prelude.{◌≡◌, ◌++◌, OnOk};
 ghost use Rattle.markup.specs.Markup.{rendered};
 ghost use Rattle.pictures.specs.Layout.{IsInOrder};
-ghost use Rattle.pictures.specs.Ground.{client_name, lane_markup, middle_of, tick_line};
-ghost use Rattle.pictures.specs.Ground.{tick_markup};
+ghost use Rattle.pictures.specs.Ground.{lane_shape, middle_of, tick_line, tick_markup};
 
 use crate::layout::{across, column_width, down, room_of, row_of_place, rows_of};
 use crate::style::{
@@ -16,17 +15,20 @@ use scenes::Scene;
 use std::alloc::Global;
 use tag::{ClientId, Memory};
 
-/// The names of a scene's clients, at that height.
+/// What is drawn of a lane.
 #[derive(Clone, Copy)]
-pub(crate) struct Names<'a> {
-    pub(crate) scene: &'a Scene,
-    pub(crate) y: u64,
+pub(crate) enum Drawn {
+    /// The name of its client, at that height.
+    Name(u64),
+    /// The line in its middle.
+    Guide,
 }
 
-/// The lines in the middle of a scene's lanes.
+/// The lanes of a scene, and what is drawn of each.
 #[derive(Clone, Copy)]
-pub(crate) struct Guides<'a> {
+pub(crate) struct Lanes<'a> {
     pub(crate) scene: &'a Scene,
+    pub(crate) drawn: Drawn,
 }
 
 /// The ticks of a scene: a line in the row of each, and the line of the history file.
@@ -43,12 +45,12 @@ fn middle_of(scene: &Scene, lane: usize) -> u64
     across(scene, COLUMN_LEFT + column_width(scene) / 2, lane)
 }
 
-impl IndexedShape for Names<'_> {
+impl IndexedShape for Lanes<'_> {
     type Item = ClientId;
 
-    ghost can_append = { λ names lane. Unit {0} };
+    ghost can_append = { λ lanes index. Unit {0} };
 
-    ghost shape = { λ names. client_name names.scene.now names.y };
+    ghost shape = { λ lanes. lane_shape lanes.scene.now lanes.drawn };
 
     fn append(
         &self,
@@ -57,38 +59,17 @@ impl IndexedShape for Names<'_> {
         index: usize,
         item: &ClientId,
     ) -> Result<(), Memory> {
-        let spot = Spot {
-            class: CLIENT,
-            x: middle_of(self.scene, index),
-            y: self.y,
-            room: room_of(self.scene),
-        };
-        append_numbered(alloc, page, &spot, CLIENT_WORD, u64::from(item.get()))
-    }
-}
-
-impl IndexedShape for Guides<'_> {
-    type Item = ClientId;
-
-    ghost can_append = { λ guides lane. Unit {0} };
-
-    ghost shape = { λ guides. lane_markup guides.scene.now };
-
-    fn append(
-        &self,
-        _alloc: Global,
-        page: &mut Vec<u8>,
-        index: usize,
-        _item: &ClientId,
-    ) -> Result<(), Memory> {
         let x = middle_of(self.scene, index);
-        let way = Way {
-            x1: x,
-            y1: ROW_TOP,
-            x2: x,
-            y2: down(FLOOR, rows_of(self.scene)),
-        };
-        append_line(page, LANE, way)
+        match self.drawn {
+            Drawn::Name(y) => {
+                let spot = Spot::new(CLIENT, x, y, room_of(self.scene));
+                append_numbered(alloc, page, &spot, CLIENT_WORD, u64::from(item.get()))
+            }
+            Drawn::Guide => {
+                let bottom = down(FLOOR, rows_of(self.scene));
+                append_line(page, LANE, Way::upright(x, ROW_TOP, bottom))
+            }
+        }
     }
 }
 
@@ -96,13 +77,8 @@ impl IndexedShape for Guides<'_> {
 fn append_tick_line(page: &mut Vec<u8>, scene: &Scene, y: u64) -> Result<(), Memory>
     ensures { OnOk result (page.new.items ≡ page.old.items ++ rendered (tick_line scene.now y)) }
 {
-    let way = Way {
-        x1: COLUMN_LEFT,
-        y1: y,
-        x2: across(scene, COLUMN_LEFT, scene.lanes.len()),
-        y2: y,
-    };
-    append_line(page, TICK, way)
+    let right = across(scene, COLUMN_LEFT, scene.lanes.len());
+    append_line(page, TICK, Way::level(y, COLUMN_LEFT, right))
 }
 
 impl Shape for Ticks<'_> {
@@ -112,16 +88,10 @@ impl Shape for Ticks<'_> {
 
     ghost shape = { λ ticks. tick_markup ticks.scene.now ticks.hall.now };
 
-    #[tactic(auto, unfolding(markup::specs::Markup::rendered))]
     fn append(&self, alloc: Global, page: &mut Vec<u8>, item: &usize) -> Result<(), Memory> {
         let row = row_of_place(self.scene, *item);
         append_tick_line(page, self.scene, down(MIDDLE, row))?;
-        let spot = Spot {
-            class: LINE,
-            x: LINE_RIGHT,
-            y: down(TEXT_BASE, row),
-            room: LINE_LETTERS,
-        };
+        let spot = Spot::new(LINE, LINE_RIGHT, down(TEXT_BASE, row), LINE_LETTERS);
         append_numbered(alloc, page, &spot, LINE_WORD, self.hall.line_at(*item))
     }
 }

@@ -6,7 +6,7 @@
 //! elements that a definition makes of the scene and the calls. Colours and words of a page are of
 //! no contract; they stand in `style.rt`. A picture takes time in proportion to what it shows,
 //! times the logarithm of that and of the key's calls.
-#![tactic(auto)]
+#![tactic(auto, unfolding(markup::specs::Markup::rendered))]
 
 mod bars;
 mod cells;

@@ -7,7 +7,7 @@ ghost use Rattle.pictures.specs.Dots.{corner, corners, path_markup};
 use crate::dots::lane_of;
 use crate::layout::{across, down, row_of_dot};
 use crate::style::{DOT_LEFT, MIDDLE, PATH};
-use markup::{Attribute, AttributeName, Element, append_empty};
+use labels::append_polyline;
 use scenes::{Dot, Scene};
 use std::alloc::Global;
 use tag::Memory;
@@ -37,15 +37,10 @@ fn corners_of(alloc: Global, scene: &Scene) -> Result<Vec<u64>, Memory>
 }
 
 /// Adds the line that joins the dots.
-#[tactic(auto, unfolding(markup::specs::Markup::rendered))]
 pub(crate) fn append_path(alloc: Global, page: &mut Vec<u8>, scene: &Scene) -> Result<(), Memory>
     requires { IsInOrder scene.now }
     ensures { OnOk result (page.new.items ≡ page.old.items ++ rendered (path_markup scene.now)) }
 {
     let all = corners_of(alloc, scene)?;
-    let attributes = [
-        Attribute::Words(AttributeName::Class, PATH),
-        Attribute::AllTenths(AttributeName::Points, &all),
-    ];
-    append_empty(page, Element::Polyline, &attributes)
+    append_polyline(page, PATH, &all)
 }

@@ -4,23 +4,26 @@ ghost use Rattle.std.specs.Option.{option_copied};
 ghost use Rattle.markup.specs.Markup.{opening_tag, rendered};
 ghost use Rattle.markup.specs.declared.names.Element.TheVariants as tag;
 ghost use Rattle.pictures.specs.Layout.{IsInOrder};
-ghost use Rattle.pictures.specs.Pictures.{call_of, calls_markup, foot, ground, is_faulty};
-ghost use Rattle.pictures.specs.Pictures.{picture_markup, picture_title, svg, svg_attributes};
+ghost use Rattle.pictures.specs.Pictures.{call_of, calls_markup, class_of, foot, ground, is_faulty};
+ghost use Rattle.pictures.specs.Pictures.{picture_markup, picture_title, svg_attributes};
 
 use crate::bars::Bars;
 use crate::dots::Dots;
 use crate::find::find;
-use crate::ground::{Guides, Names, Ticks};
+use crate::ground::{Drawn, Lanes, Ticks};
 use crate::layout::{across, down, rows_of};
 use crate::path::append_path;
-use crate::style::{BOTTOM, FOOT_BASE, LONG, NAMES_BASE, PICTURE, RIGHT, TITLE};
+use crate::style::{
+    BOTTOM, FAULTY_READ, FAULTY_WRITE, FOOT_BASE, LONG, NAMES_BASE, PICTURE, READ, RIGHT, TITLE,
+    WRITE,
+};
 use explanations::HallRows;
 use labels::{append_each, append_each_indexed, open_image};
-use markup::{Attribute, AttributeName, Element, append_closing, append_opening, append_text};
+use markup::{Element, append_closing, append_opening, append_text, open_of_class};
 use recorder::{Call, Part};
 use scenes::Scene;
 use std::alloc::Global;
-use tag::{Key, Memory, OpId};
+use tag::{Action, Key, Memory, OpId};
 
 /// What a picture shows: the calls of a key, as a scene of them has them.
 #[derive(Clone, Copy)]
@@ -43,6 +46,17 @@ impl<'a> Picture<'a> {
         self.faulty.iter().any(|other| other.0 == op.0)
     }
 
+    /// The class of what is drawn of the call.
+    pub(crate) fn class_of(&self, call: &Call) -> &'static str
+        ensures { result.now ≡ class_of call.now.action (is_faulty self.now call.now.op) }
+    {
+        let is_faulty = self.is_faulty(call.op);
+        match &call.action {
+            Action::Read => if is_faulty { FAULTY_READ } else { READ },
+            Action::Write(_) => if is_faulty { FAULTY_WRITE } else { WRITE },
+        }
+    }
+
     /// The call of that number, if the part has it.
     pub(crate) fn call_of(&self, op: OpId) -> Option<&'a Call>
         ensures { option_copied result ≡ call_of self.now.part.now op }
@@ -56,7 +70,6 @@ impl<'a> Picture<'a> {
 }
 
 /// Adds the picture's title.
-#[tactic(auto, unfolding(markup::specs::Markup::rendered))]
 fn append_name(page: &mut Vec<u8>, key: &Key) -> Result<(), Memory>
     ensures { OnOk result (page.new.items ≡ page.old.items ++ rendered (picture_title key.now)) }
 {
@@ -67,35 +80,33 @@ fn append_name(page: &mut Vec<u8>, key: &Key) -> Result<(), Memory>
 }
 
 /// Adds the names of the clients below the rows, if the picture is long.
-#[tactic(auto, unfolding(markup::specs::Markup::rendered))]
 fn append_foot(alloc: Global, page: &mut Vec<u8>, scene: &Scene) -> Result<(), Memory>
     ensures { OnOk result (page.new.items ≡ page.old.items ++ rendered (foot scene.now)) }
 {
     let rows = rows_of(scene);
     if rows > LONG {
-        let y = down(FOOT_BASE, rows);
-        append_each_indexed(alloc, page, &Names { scene, y }, &scene.lanes)
+        let drawn = Drawn::Name(down(FOOT_BASE, rows));
+        append_each_indexed(alloc, page, &Lanes { scene, drawn }, &scene.lanes)
     } else {
         Ok(())
     }
 }
 
 /// Adds the names of the clients, the lines of the lanes, and the ticks.
-#[tactic(auto, unfolding(markup::specs::Markup::rendered))]
 fn append_ground(alloc: Global, page: &mut Vec<u8>, picture: &Picture<'_>) -> Result<(), Memory>
     requires { IsInOrder picture.now.scene.now }
     ensures { OnOk result (page.new.items ≡ page.old.items ++ rendered (ground picture.now)) }
 {
     let (scene, hall) = (picture.scene, &picture.hall);
-    let y = NAMES_BASE;
-    append_each_indexed(alloc, page, &Names { scene, y }, &scene.lanes)?;
+    let drawn = Drawn::Name(NAMES_BASE);
+    append_each_indexed(alloc, page, &Lanes { scene, drawn }, &scene.lanes)?;
     append_foot(alloc, page, scene)?;
-    append_each_indexed(alloc, page, &Guides { scene }, &scene.lanes)?;
+    let drawn = Drawn::Guide;
+    append_each_indexed(alloc, page, &Lanes { scene, drawn }, &scene.lanes)?;
     append_each(alloc, page, &Ticks { scene, hall }, &scene.ticks)
 }
 
 /// Adds the line that joins the dots, the bars above it, and the dots above these.
-#[tactic(auto, unfolding(markup::specs::Markup::rendered))]
 fn append_calls(alloc: Global, page: &mut Vec<u8>, picture: &Picture<'_>) -> Result<(), Memory>
     requires { IsInOrder picture.now.scene.now }
     ensures { OnOk result
@@ -116,24 +127,10 @@ fn open_svg(page: &mut Vec<u8>, scene: &Scene) -> Result<(), Memory>
     open_image(page, width, down(BOTTOM, rows_of(scene)))
 }
 
-/// Adds the picture's element.
-#[tactic(auto, unfolding(markup::specs::Markup::rendered))]
-fn append_svg(alloc: Global, page: &mut Vec<u8>, picture: &Picture<'_>) -> Result<(), Memory>
-    requires { IsInOrder picture.now.scene.now }
-    ensures { OnOk result (page.new.items ≡ page.old.items ++ rendered (svg picture.now)) }
-{
-    open_svg(page, picture.scene)?;
-    append_name(page, picture.key)?;
-    append_ground(alloc, page, picture)?;
-    append_calls(alloc, page, picture)?;
-    append_closing(page, Element::Svg)
-}
-
 /// Adds the picture: each bar with its call's sentence as its title, each dot and each tick. It
 /// scrolls where the window is too narrow.
 ///
 /// If it fails, a beginning of that may have been added; so it is with each function here.
-#[tactic(auto, unfolding(markup::specs::Markup::rendered))]
 pub fn append_picture(
     alloc: Global,
     page: &mut Vec<u8>,
@@ -143,11 +140,11 @@ pub fn append_picture(
     ensures { OnOk result
         (page.new.items ≡ page.old.items ++ rendered (picture_markup picture.now)) }
 {
-    append_opening(
-        page,
-        Element::Div,
-        &[Attribute::Words(AttributeName::Class, PICTURE)],
-    )?;
-    append_svg(alloc, page, picture)?;
+    open_of_class(page, Element::Div, PICTURE)?;
+    open_svg(page, picture.scene)?;
+    append_name(page, picture.key)?;
+    append_ground(alloc, page, picture)?;
+    append_calls(alloc, page, picture)?;
+    append_closing(page, Element::Svg)?;
     append_closing(page, Element::Div)
 }

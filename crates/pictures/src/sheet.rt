@@ -8,22 +8,18 @@ use crate::style::{
     WRITE_KEY,
 };
 use labels::append_sample;
-use markup::{Attribute, AttributeName, Element, append_closing, append_opening, append_text};
+use markup::{Element, append_closing, append_plain, append_text, open_of_class};
 use tag::Memory;
 
 /// Adds the style sheet, which belongs into the page's `head`: for light and dark windows, and for
 /// paper. Beside pictures and tables it has colours for the classes `yes` and `no`.
-#[tactic(auto, unfolding(markup::specs::Markup::rendered))]
 pub fn append_style(page: &mut Vec<u8>) -> Result<(), Memory>
     ensures { OnOk result (page.new.items ≡ page.old.items ++ rendered style) }
 {
-    append_opening(page, Element::Style, &[])?;
-    append_text(page, SHEET)?;
-    append_closing(page, Element::Style)
+    append_plain(page, Element::Style, SHEET)
 }
 
 /// Adds a sample of each kind of bar.
-#[tactic(auto, unfolding(markup::specs::Markup::rendered))]
 fn append_keys(page: &mut Vec<u8>) -> Result<(), Memory>
     ensures { OnOk result (page.new.items ≡ page.old.items ++ rendered legend_keys) }
 {
@@ -34,15 +30,10 @@ fn append_keys(page: &mut Vec<u8>) -> Result<(), Memory>
 }
 
 /// Adds the legend of the pictures.
-#[tactic(auto, unfolding(markup::specs::Markup::rendered))]
 pub fn append_legend(page: &mut Vec<u8>) -> Result<(), Memory>
     ensures { OnOk result (page.new.items ≡ page.old.items ++ rendered legend) }
 {
-    append_opening(
-        page,
-        Element::P,
-        &[Attribute::Words(AttributeName::Class, LEGEND)],
-    )?;
+    open_of_class(page, Element::P, LEGEND)?;
     append_keys(page)?;
     append_text(page, LEGEND_WORDS)?;
     append_closing(page, Element::P)

@@ -1,37 +1,20 @@
 //! What is said of a call, in few words.
-ghost use Rattle.std.specs.Prelude.{◌≡◌, ◌++◌, decimal, OnOk};
+ghost use Rattle.std.specs.Prelude.{◌≡◌, ◌++◌, OnOk};
 ghost use Rattle.pictures.specs.Words.{action_words, begin_words, end_words, is_written};
 ghost use Rattle.pictures.specs.Words.{line_words, note_words, response_words, returned_words};
 ghost use Rattle.pictures.specs.Words.{unless};
 
 use crate::style::{ANSWER, BLANK, CALL_SIGN, DONE, NOT_ANSWERED, READS, WRITES};
 use explanations::HallRows;
-use itoa::Buffer;
 use recorder::{Call, Response};
-use sentences::{append_tag, append_value};
+use sentences::{append, append_number, append_tag, append_value};
 use tag::{Action, Memory, Returned, Tag};
-
-/// Adds the words.
-pub(crate) fn say(words: &mut Vec<u8>, more: &str) -> Result<(), Memory>
-    ensures { OnOk result (words.new.items ≡ words.old.items ++ more.now) }
-{
-    words.extend_from_slice(more.as_bytes())?;
-    Ok(())
-}
-
-/// Adds the number.
-pub(crate) fn say_number(words: &mut Vec<u8>, number: u64) -> Result<(), Memory>
-    ensures { OnOk result (words.new.items ≡ words.old.items ++ decimal number) }
-{
-    let mut digits = Buffer::new();
-    say(words, digits.format(number))
-}
 
 /// Adds the words where there is room for them.
 pub(crate) fn say_unless(words: &mut Vec<u8>, briefly: bool, more: &str) -> Result<(), Memory>
     ensures { OnOk result (words.new.items ≡ words.old.items ++ unless briefly more.now) }
 {
-    if briefly { Ok(()) } else { say(words, more) }
+    if briefly { Ok(()) } else { append(words, more) }
 }
 
 /// Adds what a call of that action does.
@@ -39,7 +22,7 @@ pub(crate) fn say_action(words: &mut Vec<u8>, action: &Action, briefly: bool) ->
     ensures { OnOk result (words.new.items ≡ words.old.items ++ action_words briefly action.now) }
 {
     match action {
-        Action::Read => say(words, READS),
+        Action::Read => append(words, READS),
         Action::Write(value) => {
             say_unless(words, briefly, WRITES)?;
             append_value(words, Some(value))
@@ -51,9 +34,8 @@ pub(crate) fn say_action(words: &mut Vec<u8>, action: &Action, briefly: bool) ->
 pub(crate) fn say_begin(words: &mut Vec<u8>, call: &Call, briefly: bool) -> Result<(), Memory>
     ensures { OnOk result (words.new.items ≡ words.old.items ++ begin_words briefly call.now) }
 {
-    say(words, CALL_SIGN)?;
-    say_number(words, u64::from(call.op.0))?;
-    say(words, BLANK)?;
+    append_number(words, CALL_SIGN, u64::from(call.op.0))?;
+    append(words, BLANK)?;
     say_action(words, &call.action, briefly)
 }
 
@@ -62,7 +44,7 @@ fn say_returned(words: &mut Vec<u8>, returned: &Returned) -> Result<(), Memory>
     ensures { OnOk result (words.new.items ≡ words.old.items ++ returned_words returned.now) }
 {
     match returned {
-        Returned::Written => say(words, DONE),
+        Returned::Written => append(words, DONE),
         Returned::Value(value) => append_value(words, value.as_ref()),
     }
 }
@@ -82,7 +64,7 @@ pub(crate) fn say_response(words: &mut Vec<u8>, response: &Option<Response>) -> 
     ensures { OnOk result (words.new.items ≡ words.old.items ++ response_words response.now) }
 {
     match response {
-        None => say(words, NOT_ANSWERED),
+        None => append(words, NOT_ANSWERED),
         Some(response) => say_returned(words, &response.returned),
     }
 }
@@ -119,6 +101,6 @@ pub(crate) fn say_line(
 {
     match place {
         None => Ok(()),
-        Some(place) => say_number(words, hall.line_at(place)),
+        Some(place) => append_number(words, "", hall.line_at(place)),
     }
 }
