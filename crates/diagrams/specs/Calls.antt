@@ -2,11 +2,12 @@
 -- the row of its response, or to the row where its client stopped. It asks until its tag is fixed,
 -- and then it puts.
 use Rattle.std.specs.Prelude.{ℕ, ◌-◌, ◌*◌, List, [], ◌∷◌, Option, Some, None}
-use Rattle.markup.specs.Markup.{Markup, nothing, empty, element, both, all_tenths_text}
+use Rattle.markup.specs.Markup.{Markup, nothing, empty, element, both}
 use Rattle.markup.specs.declared.names.AttributeName.TheVariants as name
 use Rattle.markup.specs.declared.names.Element.TheVariants as tag
 use Rattle.labels.specs.declared.places.Frame.{Frame}
-use Rattle.labels.specs.Labels.{label_markup, line_markup, number_of, title, words_of}
+use Rattle.labels.specs.Labels.{label_markup, line_markup, number_of, polyline, title}
+use Rattle.labels.specs.Labels.{words_of}
 use Rattle.tag.specs.declared.actions.Action.{Action}
 use Rattle.tag.specs.declared.actions.Action.TheVariants.{Read, Write}
 use Rattle.tag.specs.declared.actions.Returned.{Returned}
@@ -40,8 +41,7 @@ open_corners frame = frame.left * 10 ∷ frame.bottom * 10 ∷ frame.left * 10 �
 
 -- a part that has none: without a side below
 abbrev pub open_part : List ℕ → Frame → Markup
-open_part class frame = empty tag.Polyline (words_of name.Class class
-    ∷ words_of name.Points (all_tenths_text (open_corners frame)) ∷ [])
+open_part class frame = polyline class (open_corners frame)
 
 -- the last part of a bar
 abbrev pub last_part : CallEnd → List ℕ → Frame → Markup

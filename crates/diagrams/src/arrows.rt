@@ -16,7 +16,7 @@ use crate::style::{
 };
 use crate::words::say_message;
 use labels::{Shape, Spot, Way, append_label, append_line, append_title};
-use markup::{Attribute, AttributeName, Element, append_closing, append_opening};
+use markup::{Element, append_closing, open_of_class};
 use message_scenes::{Arrow, ArrowEnd, MessageScene};
 use network::Message;
 use std::alloc::Global;
@@ -73,29 +73,19 @@ fn replica_side(scene: &MessageScene, arrow: &Arrow) -> u64
     replica_x(scene, REPLICA_EDGE, arrow.replica.get())
 }
 
-/// Where the arrow begins, across.
-fn sender_x(scene: &MessageScene, arrow: &Arrow) -> u64
+/// The lifelines of its sender and of its receiver.
+fn sides(scene: &MessageScene, arrow: &Arrow) -> (u64, u64)
     requires { HasClientsInOrder scene.now }
-    ensures begins { result ≡ sender_x scene.now arrow.now }
-    ensures near { IsNear result }
+    ensures sender { result.0 ≡ sender_x scene.now arrow.now }
+    ensures receiver { result.1 ≡ receiver_x scene.now arrow.now }
+    ensures sender_near { IsNear result.0 }
+    ensures receiver_near { IsNear result.1 }
 {
+    let (client, replica) = (client_side(scene, arrow), replica_side(scene, arrow));
     if is_request(&arrow.message) {
-        client_side(scene, arrow)
+        (client, replica)
     } else {
-        replica_side(scene, arrow)
-    }
-}
-
-/// The lifeline of its receiver.
-fn receiver_x(scene: &MessageScene, arrow: &Arrow) -> u64
-    requires { HasClientsInOrder scene.now }
-    ensures ends { result ≡ receiver_x scene.now arrow.now }
-    ensures near { IsNear result }
-{
-    if is_request(&arrow.message) {
-        replica_side(scene, arrow)
-    } else {
-        client_side(scene, arrow)
+        (replica, client)
     }
 }
 
@@ -128,7 +118,7 @@ fn end_x(scene: &MessageScene, arrow: &Arrow) -> u64
     ensures near { IsNear result }
 {
     match arrow.end {
-        ArrowEnd::Arrives(_) => receiver_x(scene, arrow),
+        ArrowEnd::Arrives(_) => sides(scene, arrow).1,
         ArrowEnd::Lost(_) => halfway(scene, arrow),
         ArrowEnd::Open => waiting_x(scene, arrow),
     }
@@ -153,7 +143,7 @@ fn way_of(scene: &MessageScene, arrow: &Arrow) -> Way
     ensures near { IsNearWay result }
 {
     Way {
-        x1: sender_x(scene, arrow),
+        x1: sides(scene, arrow).0,
         y1: down(MOMENT, arrow.begins),
         x2: end_x(scene, arrow),
         y2: end_y(scene, arrow.end),
@@ -161,7 +151,6 @@ fn way_of(scene: &MessageScene, arrow: &Arrow) -> Way
 }
 
 /// Adds a cross at the end of the line.
-#[tactic(auto, unfolding(markup::specs::Markup::rendered))]
 fn append_cross(page: &mut Vec<u8>, way: Way) -> Result<(), Memory>
     requires { IsNearWay way }
     ensures { OnOk result (page.new.items ≡ page.old.items ++ rendered (cross way.x2 way.y2)) }
@@ -185,7 +174,6 @@ fn append_cross(page: &mut Vec<u8>, way: Way) -> Result<(), Memory>
 }
 
 /// Adds a cross at the end of the line, if the copy is lost.
-#[tactic(auto, unfolding(markup::specs::Markup::rendered))]
 fn append_cross_of(page: &mut Vec<u8>, end: ArrowEnd, way: Way) -> Result<(), Memory>
     requires { IsNearWay way }
     ensures { OnOk result (page.new.items ≡ page.old.items ++ rendered (cross_of end way)) }
@@ -233,17 +221,12 @@ fn append_arrow_label(
     ensures { OnOk result
         (page.new.items ≡ page.old.items ++ rendered (arrow_label way arrow.now)) }
 {
-    let spot = Spot {
-        class: LABEL,
-        x: label_x(is_request(&arrow.message), way),
-        y: down(LABEL_BASE, arrow.begins),
-        room: LABEL_LETTERS,
-    };
+    let x = label_x(is_request(&arrow.message), way);
+    let spot = Spot::new(LABEL, x, down(LABEL_BASE, arrow.begins), LABEL_LETTERS);
     append_label(alloc, page, &spot, words)
 }
 
 /// Adds what stands in the element of the arrow.
-#[tactic(auto, unfolding(markup::specs::Markup::rendered))]
 fn append_in_arrow(alloc: Global, page: &mut Vec<u8>, way: Way, arrow: &Arrow) -> Result<(), Memory>
     requires { IsNearWay way }
     ensures { OnOk result (page.new.items ≡ page.old.items ++ rendered (in_arrow way arrow.now)) }
@@ -263,14 +246,9 @@ impl Shape for Arrows<'_> {
 
     ghost shape = { λ arrows. arrow_markup arrows.scene.now };
 
-    #[tactic(auto, unfolding(markup::specs::Markup::rendered))]
     fn append(&self, alloc: Global, page: &mut Vec<u8>, item: &Arrow) -> Result<(), Memory> {
         let class = direction_class(is_request(&item.message));
-        append_opening(
-            page,
-            Element::G,
-            &[Attribute::Words(AttributeName::Class, class)],
-        )?;
+        open_of_class(page, Element::G, class)?;
         append_in_arrow(alloc, page, way_of(self.scene, item), item)?;
         append_closing(page, Element::G)
     }

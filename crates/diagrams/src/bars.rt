@@ -4,8 +4,7 @@ ghost use Rattle.markup.specs.Markup.{rendered};
 ghost use Rattle.labels.specs.Labels.{title};
 ghost use Rattle.labels.specs.Places.{IsNear, IsNearFrame};
 ghost use Rattle.diagrams.specs.Calls.{action_class, bar_markup, bottom_of};
-ghost use Rattle.diagrams.specs.Calls.{last_part, open_corners, open_part, parts, piece};
-ghost use Rattle.diagrams.specs.Calls.{shut_part, stop_line, stop_of};
+ghost use Rattle.diagrams.specs.Calls.{last_part, open_corners, parts, piece, shut_part, stop_of};
 ghost use Rattle.diagrams.specs.Layout.{HasClientsInOrder};
 ghost use Rattle.diagrams.specs.Words.{begin_words};
 
@@ -14,8 +13,8 @@ use crate::style::{
     ASKING, BAR_LEFT, BAR_RIGHT, MOMENT, PUTTING, READING, STOP, STOP_LEFT, STOP_RIGHT, WRITING,
 };
 use crate::words::say_begin;
-use labels::{Frame, Shape, Way, append_line, append_title};
-use markup::{Attribute, AttributeName, Element, append_closing, append_empty, append_opening};
+use labels::{Frame, Shape, Way, append_line, append_polyline, append_title};
+use markup::{Attribute, AttributeName, Element, append_closing, append_empty, open_of_class};
 use message_scenes::{CallBar, CallEnd, MessageScene, PlacedNote};
 use std::alloc::Global;
 use tag::{Action, ClientId, Memory};
@@ -37,7 +36,6 @@ fn action_class(action: &Action) -> &'static str
 }
 
 /// Adds a part with four sides.
-#[tactic(auto, unfolding(markup::specs::Markup::rendered))]
 pub(crate) fn append_shut(page: &mut Vec<u8>, class: &str, frame: Frame) -> Result<(), Memory>
     ensures { OnOk result
         (page.new.items ≡ page.old.items ++ rendered (shut_part class.now frame)) }
@@ -46,11 +44,8 @@ pub(crate) fn append_shut(page: &mut Vec<u8>, class: &str, frame: Frame) -> Resu
         Attribute::Words(AttributeName::Class, class),
         Attribute::Number(AttributeName::X, frame.left),
         Attribute::Number(AttributeName::Y, frame.top),
-        Attribute::Number(AttributeName::Width, frame.right.saturating_sub(frame.left)),
-        Attribute::Number(
-            AttributeName::Height,
-            frame.bottom.saturating_sub(frame.top),
-        ),
+        Attribute::Number(AttributeName::Width, frame.width()),
+        Attribute::Number(AttributeName::Height, frame.height()),
     ];
     append_empty(page, Element::Rect, &attributes)
 }
@@ -74,21 +69,6 @@ fn open_corners(frame: Frame) -> [u64; 8]
     ]
 }
 
-/// Adds a part without a side below.
-#[tactic(auto, unfolding(markup::specs::Markup::rendered))]
-fn append_open(page: &mut Vec<u8>, class: &str, frame: Frame) -> Result<(), Memory>
-    requires { IsNearFrame frame }
-    ensures { OnOk result
-        (page.new.items ≡ page.old.items ++ rendered (open_part class.now frame)) }
-{
-    let corners = open_corners(frame);
-    let attributes = [
-        Attribute::Words(AttributeName::Class, class),
-        Attribute::AllTenths(AttributeName::Points, &corners),
-    ];
-    append_empty(page, Element::Polyline, &attributes)
-}
-
 /// Adds the last part of a bar that so ends.
 fn append_last(page: &mut Vec<u8>, end: &CallEnd, class: &str, frame: Frame) -> Result<(), Memory>
     requires { IsNearFrame frame }
@@ -96,7 +76,7 @@ fn append_last(page: &mut Vec<u8>, end: &CallEnd, class: &str, frame: Frame) -> 
         (page.new.items ≡ page.old.items ++ rendered (last_part end.now class.now frame)) }
 {
     match end {
-        CallEnd::Open => append_open(page, class, frame),
+        CallEnd::Open => append_polyline(page, class, &open_corners(frame)),
         _ => append_shut(page, class, frame),
     }
 }
@@ -130,68 +110,35 @@ fn piece(scene: &MessageScene, client: ClientId, top: u64, bottom: u64) -> Frame
 }
 
 /// Adds the parts of the bar: where its call asks, and where it puts.
-#[tactic(auto, unfolding(markup::specs::Markup::rendered))]
 fn append_parts(page: &mut Vec<u8>, scene: &MessageScene, bar: &CallBar) -> Result<(), Memory>
     requires { HasClientsInOrder scene.now }
     ensures { OnOk result (page.new.items
         ≡ page.old.items ++ rendered (parts scene.now bar.now.note bar.now)) }
 {
-    let top = down(MOMENT, bar.begins);
-    let bottom = bottom_of(scene, &bar.end);
+    let end = &bar.end;
+    let (top, bottom) = (down(MOMENT, bar.begins), bottom_of(scene, end));
     match bar.note {
-        None => append_last(
-            page,
-            &bar.end,
-            ASKING,
-            piece(scene, bar.client, top, bottom),
-        ),
+        None => append_last(page, end, ASKING, piece(scene, bar.client, top, bottom)),
         Some(PlacedNote { row, .. }) => {
             let middle = down(MOMENT, row);
             append_shut(page, ASKING, piece(scene, bar.client, top, middle))?;
-            append_last(
-                page,
-                &bar.end,
-                PUTTING,
-                piece(scene, bar.client, middle, bottom),
-            )
+            append_last(page, end, PUTTING, piece(scene, bar.client, middle, bottom))
         }
     }
 }
 
-/// Adds a line across the client's lifeline at that height.
-fn append_stop(
-    page: &mut Vec<u8>,
-    scene: &MessageScene,
-    client: ClientId,
-    y: u64,
-) -> Result<(), Memory>
+/// Adds a line across the client's lifeline where the client stopped, if the call ends so.
+fn append_stop(page: &mut Vec<u8>, scene: &MessageScene, bar: &CallBar) -> Result<(), Memory>
     requires { HasClientsInOrder scene.now }
-    ensures { OnOk result
-        (page.new.items ≡ page.old.items ++ rendered (stop_line scene.now client y)) }
+    ensures { OnOk result (page.new.items ≡ page.old.items
+        ++ rendered (stop_of scene.now bar.now.client bar.now.end)) }
 {
-    let way = Way {
-        x1: client_x(scene, STOP_LEFT, client),
-        y1: y,
-        x2: client_x(scene, STOP_RIGHT, client),
-        y2: y,
-    };
-    append_line(page, STOP, way)
-}
-
-/// Adds such a line where the client stopped, if its call ends so.
-#[tactic(auto, unfolding(markup::specs::Markup::rendered))]
-fn append_stop_of(
-    page: &mut Vec<u8>,
-    scene: &MessageScene,
-    client: ClientId,
-    end: &CallEnd,
-) -> Result<(), Memory>
-    requires { HasClientsInOrder scene.now }
-    ensures { OnOk result
-        (page.new.items ≡ page.old.items ++ rendered (stop_of scene.now client end.now)) }
-{
-    match end {
-        CallEnd::Stopped(row) => append_stop(page, scene, client, down(MOMENT, *row)),
+    match &bar.end {
+        CallEnd::Stopped(row) => {
+            let left = client_x(scene, STOP_LEFT, bar.client);
+            let right = client_x(scene, STOP_RIGHT, bar.client);
+            append_line(page, STOP, Way::level(down(MOMENT, *row), left, right))
+        }
         _ => Ok(()),
     }
 }
@@ -213,17 +160,11 @@ impl Shape for Bars<'_> {
 
     ghost shape = { λ bars. bar_markup bars.scene.now };
 
-    #[tactic(auto, unfolding(markup::specs::Markup::rendered))]
     fn append(&self, alloc: Global, page: &mut Vec<u8>, item: &CallBar) -> Result<(), Memory> {
-        let class = action_class(&item.action);
-        append_opening(
-            page,
-            Element::G,
-            &[Attribute::Words(AttributeName::Class, class)],
-        )?;
+        open_of_class(page, Element::G, action_class(&item.action))?;
         append_call_title(alloc, page, item)?;
         append_parts(page, self.scene, item)?;
-        append_stop_of(page, self.scene, item.client, &item.end)?;
+        append_stop(page, self.scene, item)?;
         append_closing(page, Element::G)
     }
 }

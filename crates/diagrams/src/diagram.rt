@@ -18,13 +18,14 @@ use crate::style::{
 };
 use crate::texts::CallTexts;
 use labels::{Spot, append_each, append_each_indexed, append_numbered, append_title, open_image};
-use markup::{Attribute, AttributeName, Element, append_closing, append_empty, append_opening};
+use markup::{
+    Attribute, AttributeName, Element, append_closing, append_empty, append_opening, open_of_class,
+};
 use message_scenes::MessageScene;
 use std::alloc::Global;
 use tag::Memory;
 
 /// Adds the head of arrows.
-#[tactic(auto, unfolding(markup::specs::Markup::rendered))]
 fn append_head(page: &mut Vec<u8>) -> Result<(), Memory>
     ensures { OnOk result (page.new.items ≡ page.old.items ++ rendered head) }
 {
@@ -47,7 +48,6 @@ fn append_head(page: &mut Vec<u8>) -> Result<(), Memory>
 }
 
 /// Adds the diagram's title, and the head of its arrows.
-#[tactic(auto, unfolding(markup::specs::Markup::rendered))]
 fn append_prologue(page: &mut Vec<u8>) -> Result<(), Memory>
     ensures { OnOk result (page.new.items ≡ page.old.items ++ rendered prologue) }
 {
@@ -58,17 +58,12 @@ fn append_prologue(page: &mut Vec<u8>) -> Result<(), Memory>
 }
 
 /// Adds how many further steps there were, if there were any.
-#[tactic(auto, unfolding(markup::specs::Markup::rendered))]
 fn append_omitted(alloc: Global, page: &mut Vec<u8>, scene: &MessageScene) -> Result<(), Memory>
     ensures { OnOk result (page.new.items ≡ page.old.items ++ rendered (omitted_text scene.now)) }
 {
     if scene.omitted > 0 {
-        let spot = Spot {
-            class: MORE,
-            x: COMMAND_LEFT,
-            y: down(TEXT_BASE, rows_of(scene)),
-            room: SENTENCE_LETTERS,
-        };
+        let y = down(TEXT_BASE, rows_of(scene));
+        let spot = Spot::new(MORE, COMMAND_LEFT, y, SENTENCE_LETTERS);
         append_numbered(alloc, page, &spot, OMITTED, scene.omitted)
     } else {
         Ok(())
@@ -76,7 +71,6 @@ fn append_omitted(alloc: Global, page: &mut Vec<u8>, scene: &MessageScene) -> Re
 }
 
 /// Adds what arrows and calls stand on.
-#[tactic(auto, unfolding(markup::specs::Markup::rendered))]
 fn append_plane(alloc: Global, page: &mut Vec<u8>, scene: &MessageScene) -> Result<(), Memory>
     requires { HasClientsInOrder scene.now }
     ensures { OnOk result (page.new.items ≡ page.old.items ++ rendered (plane scene.now)) }
@@ -87,7 +81,6 @@ fn append_plane(alloc: Global, page: &mut Vec<u8>, scene: &MessageScene) -> Resu
 }
 
 /// Adds the bars of the calls, the arrows above them, and above these the texts.
-#[tactic(auto, unfolding(markup::specs::Markup::rendered))]
 fn append_shapes(alloc: Global, page: &mut Vec<u8>, scene: &MessageScene) -> Result<(), Memory>
     requires { HasClientsInOrder scene.now }
     ensures { OnOk result (page.new.items ≡ page.old.items ++ rendered (shapes scene.now)) }
@@ -108,7 +101,6 @@ fn open_svg(page: &mut Vec<u8>, scene: &MessageScene) -> Result<(), Memory>
 }
 
 /// Adds the diagram's element.
-#[tactic(auto, unfolding(markup::specs::Markup::rendered))]
 fn append_svg(alloc: Global, page: &mut Vec<u8>, scene: &MessageScene) -> Result<(), Memory>
     requires { HasClientsInOrder scene.now }
     ensures { OnOk result (page.new.items ≡ page.old.items ++ rendered (svg scene.now)) }
@@ -125,16 +117,11 @@ fn append_svg(alloc: Global, page: &mut Vec<u8>, scene: &MessageScene) -> Result
 /// of the scene. It scrolls where the window is too narrow.
 ///
 /// If it fails, a beginning of that may have been added; so it is with each function here.
-#[tactic(auto, unfolding(markup::specs::Markup::rendered))]
 pub fn append_diagram(alloc: Global, page: &mut Vec<u8>, scene: &MessageScene) -> Result<(), Memory>
     requires { HasClientsInOrder scene.now }
     ensures { OnOk result (page.new.items ≡ page.old.items ++ rendered (diagram scene.now)) }
 {
-    append_opening(
-        page,
-        Element::Div,
-        &[Attribute::Words(AttributeName::Class, MESSAGES)],
-    )?;
+    open_of_class(page, Element::Div, MESSAGES)?;
     append_svg(alloc, page, scene)?;
     append_closing(page, Element::Div)
 }

@@ -6,7 +6,7 @@
 //! ends; since each step begins at most one, no two words of messages stand over one another.
 //! Colours and words are of no contract; they stand in `style.rt`. A diagram takes time in
 //! proportion to what it shows, times the logarithm of the number of clients.
-#![tactic(auto)]
+#![tactic(auto, unfolding(markup::specs::Markup::rendered))]
 
 mod arrows;
 mod bars;

@@ -1,6 +1,5 @@
 //! What a diagram shows of replicas: when they are down, and what they come to hold.
 ghost use Rattle.std.specs.Prelude.{◌≡◌};
-ghost use Rattle.diagrams.specs.Layout.{down, replica_x};
 ghost use Rattle.diagrams.specs.Replicas.{change_markup, down_markup, frame_of, up_at};
 
 use crate::bars::append_shut;
@@ -12,7 +11,7 @@ use crate::words::say_change;
 use labels::{Frame, Shape, Spot, append_label};
 use message_scenes::{Change, DownTime, MessageScene};
 use std::alloc::Global;
-use tag::{Memory, ReplicaId};
+use tag::Memory;
 
 /// The down times of a scene.
 #[derive(Clone, Copy)]
@@ -36,21 +35,6 @@ fn up_at(scene: &MessageScene, starts: Option<usize>) -> u64
     }
 }
 
-/// Where a text of that class stands: right of the replica's lifeline, in that row.
-fn spot_beside(scene: &MessageScene, class: &'static str, replica: ReplicaId, row: usize) -> Spot
-    ensures class { result.class.now ≡ class.now }
-    ensures x { result.x ≡ replica_x scene.now CHANGE_LEFT replica }
-    ensures y { result.y ≡ down TEXT_BASE row }
-    ensures room { result.room ≡ LETTERS }
-{
-    Spot {
-        class,
-        x: replica_x(scene, CHANGE_LEFT, replica.get()),
-        y: down(TEXT_BASE, row),
-        room: LETTERS,
-    }
-}
-
 /// Where the down time stands.
 fn frame_of(scene: &MessageScene, time: &DownTime) -> Frame
     ensures { result ≡ frame_of scene.now time.now }
@@ -70,10 +54,10 @@ impl Shape for Downs<'_> {
 
     ghost shape = { λ downs. down_markup downs.scene.now };
 
-    #[tactic(auto, unfolding(markup::specs::Markup::rendered))]
     fn append(&self, alloc: Global, page: &mut Vec<u8>, item: &DownTime) -> Result<(), Memory> {
         append_shut(page, DOWN_TIME, frame_of(self.scene, item))?;
-        let spot = spot_beside(self.scene, DOWN_TIME, item.replica, item.stops);
+        let x = replica_x(self.scene, CHANGE_LEFT, item.replica.get());
+        let spot = Spot::new(DOWN_TIME, x, down(TEXT_BASE, item.stops), LETTERS);
         append_label(alloc, page, &spot, DOWN_WORD.as_bytes())
     }
 }
@@ -86,7 +70,8 @@ impl Shape for Changes<'_> {
     ghost shape = { λ changes. change_markup changes.scene.now };
 
     fn append(&self, alloc: Global, page: &mut Vec<u8>, item: &Change) -> Result<(), Memory> {
-        let spot = spot_beside(self.scene, HOLDS, item.replica, item.row);
+        let x = replica_x(self.scene, CHANGE_LEFT, item.replica.get());
+        let spot = Spot::new(HOLDS, x, down(TEXT_BASE, item.row), LETTERS);
         let mut words = Vec::new(alloc);
         say_change(&mut words, item)?;
         append_label(alloc, page, &spot, &words)

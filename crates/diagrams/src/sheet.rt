@@ -9,22 +9,18 @@ use crate::style::{
     PUTTING_KEY, REPLY, REPLY_KEY, REQUEST, REQUEST_KEY, SHEET, UNDER_WAY, UNDER_WAY_KEY,
 };
 use labels::append_sample;
-use markup::{Attribute, AttributeName, Element, append_closing, append_opening, append_text};
+use markup::{Element, append_closing, append_plain, append_text, open_of_class};
 use tag::Memory;
 
 /// Adds the style sheet, which belongs into the page's `head`: for light and dark windows, and for
 /// paper.
-#[tactic(auto, unfolding(markup::specs::Markup::rendered))]
 pub fn append_diagram_style(page: &mut Vec<u8>) -> Result<(), Memory>
     ensures { OnOk result (page.new.items ≡ page.old.items ++ rendered diagram_style) }
 {
-    append_opening(page, Element::Style, &[])?;
-    append_text(page, SHEET)?;
-    append_closing(page, Element::Style)
+    append_plain(page, Element::Style, SHEET)
 }
 
 /// Adds a sample of each kind of arrow.
-#[tactic(auto, unfolding(markup::specs::Markup::rendered))]
 fn append_arrow_samples(page: &mut Vec<u8>) -> Result<(), Memory>
     ensures { OnOk result (page.new.items ≡ page.old.items ++ rendered arrow_samples) }
 {
@@ -35,7 +31,6 @@ fn append_arrow_samples(page: &mut Vec<u8>) -> Result<(), Memory>
 }
 
 /// Adds a sample of each part of a bar, and of a down time.
-#[tactic(auto, unfolding(markup::specs::Markup::rendered))]
 fn append_bar_samples(page: &mut Vec<u8>) -> Result<(), Memory>
     ensures { OnOk result (page.new.items ≡ page.old.items ++ rendered bar_samples) }
 {
@@ -45,15 +40,10 @@ fn append_bar_samples(page: &mut Vec<u8>) -> Result<(), Memory>
 }
 
 /// Adds the legend of diagrams.
-#[tactic(auto, unfolding(markup::specs::Markup::rendered))]
 pub fn append_diagram_legend(page: &mut Vec<u8>) -> Result<(), Memory>
     ensures { OnOk result (page.new.items ≡ page.old.items ++ rendered diagram_legend) }
 {
-    append_opening(
-        page,
-        Element::P,
-        &[Attribute::Words(AttributeName::Class, KEY)],
-    )?;
+    open_of_class(page, Element::P, KEY)?;
     append_arrow_samples(page)?;
     append_bar_samples(page)?;
     append_text(page, LEGEND_WORDS)?;
