@@ -143,15 +143,18 @@ one_err least most ws e h = elim (err_after (one_number ws) (within least most) 
   | inr k ↦ out_of_range e (OneValue ws) (within_err least most k.0 e k.2) (one_value ws k.0 k.1)
 ]
 
+one_read : (ws : List (List ℕ)) (n : ℕ) (one : One IsNumeralOf ws n) → one_number ws ≡ Ok (u64_of (decimal_value one.word))
+unfolding one_number nothing_more
+one_read ws n one =
+    ap one_number one.all
+    ∙ ap (λ r. r >>= (λ (number : Found). nothing_more number.1 >>= (λ nothing. done number.0)))
+    (number_first one.word [] (u64_of (decimal_value one.word)) (number_at one.word n one.is))
+
 one_known : (least most : ℕ) (ws : List (List ℕ)) (n : ℕ) → One IsNumeralOf ws n → (one_number ws >>= within least most)
     ≡ Err UnknownCommand → ⊥
-unfolding one_number nothing_more
 one_known least most ws n one h =
     let o = u64_of (decimal_value one.word) in
-    let read : one_number ws ≡ Ok o = ap one_number one.all
-    ∙ ap (λ r. r >>= (λ (number : Found). nothing_more number.1 >>= (λ nothing. done number.0)))
-    (number_first one.word [] o (number_at one.word n one.is)) in
-    let e : within least most o ≡ Err UnknownCommand = sym (ap (λ r. r >>= within least most) read) ∙ h in
+    let e : within least most o ≡ Err UnknownCommand = sym (ap (λ r. r >>= within least most) (one_read ws n one)) ∙ h in
     let clash : UnknownCommand ≡ Range = within_err least most o UnknownCommand e in
     absurd (cc)
 
@@ -160,53 +163,47 @@ TwoValues ws = (m : ℕ) × (n : ℕ) × Two IsNumeralOf IsNumeralOf ws m n
 
 two_err : {X : Type 0} (l m l' m' : ℕ) (f : ℕ → ℕ → X) (ws : List (List ℕ)) (e : LineFault) → two_read l m l' m' f ws ≡ Err e
     → Either e (TwoValues ws)
-unfolding two_read TwoValues
+unfolding two_read OneValue TwoValues
 two_err l m l' m' f ws e h = elim (err_after (needed_number ws) _ e h) [
   | inl k ↦ unknown e _ (number_err ws e k)
-  | inr a ↦ elim (err_after (needed_number a.0.1) _ e a.2) [
-    | inl k ↦ unknown e _ (number_err a.0.1 e k)
-    | inr b ↦ elim (err_after (nothing_more b.0.1) _ e b.2) [
-      | inl k ↦ unknown e _ (nothing_err b.0.1 e k)
-      | inr c ↦
-          let v = number_next ws a.0 a.1 in
-          let w = number_next a.0.1 b.0 b.1 in
-          let none = nothing_back b.0.1 c.0 c.1 in
-          let form : TwoValues ws = (
-            decimal_value v.0,
-            decimal_value w.0,
-            record {
-              first = v.0;
-              second = w.0;
-              all = v.1 ∙ ap (λ (l : List (List ℕ)). v.0 ∷ l) (w.1 ∙ ap (λ (l : List (List ℕ)). w.0 ∷ l) none);
-              is = value_of_word v.0 a.0.0 v.2;
-              are = value_of_word w.0 b.0.0 w.2;
-            },
-          ) in
-          elim (err_after (within l m a.0.0) _ e c.2) [
-            | inl k ↦ out_of_range e _ (within_err l m a.0.0 e k) form
-            | inr x ↦ elim (err_after (within l' m' b.0.0) _ e x.2) [
-              | inl k ↦ out_of_range e _ (within_err l' m' b.0.0 e k) form
-              | inr y ↦ let g = y.2 in absurd (cc)
-            ]
+  | inr a ↦ elim (err_after (one_number a.0.1) _ e a.2) [
+    | inl k ↦ unknown e _ (one_number_err a.0.1 e k)
+    | inr b ↦
+        let v = number_next ws a.0 a.1 in
+        let last = one_value a.0.1 b.0 b.1 in
+        let form : TwoValues ws = (
+          decimal_value v.0,
+          last.0,
+          record {
+            first = v.0;
+            second = last.1.word;
+            all = v.1 ∙ ap (λ (l : List (List ℕ)). v.0 ∷ l) last.1.all;
+            is = value_of_word v.0 a.0.0 v.2;
+            are = last.1.is;
+          },
+        ) in
+        elim (err_after (within l m a.0.0) _ e b.2) [
+          | inl k ↦ out_of_range e _ (within_err l m a.0.0 e k) form
+          | inr x ↦ elim (err_after (within l' m' b.0) _ e x.2) [
+            | inl k ↦ out_of_range e _ (within_err l' m' b.0 e k) form
+            | inr y ↦ let g = y.2 in absurd (cc)
           ]
-    ]
+        ]
   ]
 ]
 
 two_known : {X : Type 0} (l m l' m' : ℕ) (f : ℕ → ℕ → X) (ws : List (List ℕ)) (x y : ℕ) → Two IsNumeralOf IsNumeralOf ws x y
     → two_read l m l' m' f ws ≡ Err UnknownCommand → ⊥
-unfolding two_read nothing_more
+unfolding two_read
 two_known l m l' m' f ws x y two h =
     let o = u64_of (decimal_value two.first) in
     let p = u64_of (decimal_value two.second) in
     let read : two_read l m l' m' f ws ≡ (within l m o >>= (λ x. within l' m' p >>= (λ y. done (f x y)))) =
     ap (two_read l m l' m' f) two.all
-    ∙ ap (λ r. r >>= (λ (a : Found).
-    needed_number a.1 >>= (λ (b : Found).
-    nothing_more b.1 >>= (λ nothing. within l m a.0 >>= (λ x. within l' m' b.0 >>= (λ y. done (f x y)))))))
+    ∙ ap (λ r. r >>= (λ (a : Found). one_number a.1 >>= (λ n. within l m a.0 >>= (λ x. within l' m' n >>= (λ y. done (f x y))))))
     (number_first two.first (two.second ∷ []) o (number_at two.first x two.is))
-    ∙ ap (λ r. r >>= (λ (b : Found). nothing_more b.1 >>= (λ nothing. within l m o >>= (λ x. within l' m' b.0 >>= (λ y. done (f x y))))))
-    (number_first two.second [] p (number_at two.second y two.are)) in
+    ∙ ap (λ r. r >>= (λ (n : Option ℕ). within l m o >>= (λ x. within l' m' n >>= (λ y. done (f x y)))))
+    (one_read (two.second ∷ []) y (record { word = two.second; all = refl; is = two.are })) in
     elim (err_after (within l m o) _ UnknownCommand (sym read ∙ h)) [
       | inl k ↦ let clash : UnknownCommand ≡ Range = within_err l m o UnknownCommand k in absurd (cc)
       | inr a ↦ elim (err_after (within l' m' p) _ UnknownCommand a.2) [

@@ -1,5 +1,5 @@
 -- Which command the words of a line say: the tests that find it, turned round.
-use Rattle.std.proofs.Common.{ℕ, ◌≡◌, ◌<◌, ◌^◌, inl, inr, List, [], ◌∷◌, true, Some, Result, Ok}
+use Rattle.std.proofs.Common.{ℕ, ◌≡◌, ◌<◌, ◌^◌, inl, inr, List, [], ◌∷◌, true, Option, Some, Result, Ok}
 use Rattle.std.proofs.Common.{Err, codes, bytes_eq, refl, sym, ap, ◌∙◌, subst, arith}
 use Rattle.tag.specs.declared.actions.Action.{Action}
 use Rattle.tag.specs.declared.actions.Action.TheVariants.{Read, Write}
@@ -63,45 +63,39 @@ flight_there ws n h = ap (λ r. r >>= within 0 4294967295) (one_there 0 42949672
 -- two numbers
 unfoldable pub two_read : {X : Type 0} → ℕ → ℕ → ℕ → ℕ → (ℕ → ℕ → X) → List (List ℕ) → Result X LineFault
 two_read l m l' m' f ws = needed_number ws >>=
-    (λ a. needed_number a.1 >>= (λ b.
-    nothing_more b.1 >>= (λ nothing. within l m a.0 >>= (λ x. within l' m' b.0 >>= (λ y. done (f x y))))))
+    (λ a. one_number a.1 >>= (λ n. within l m a.0 >>= (λ x. within l' m' n >>= (λ y. done (f x y)))))
 
 two_back : {X : Type 0} (l m l' m' : ℕ) (f : ℕ → ℕ → X) (ws : List (List ℕ)) (z : X) → two_read l m l' m' f ws ≡ Ok z → (x : ℕ) × (y : ℕ)
     × Two (IsNumber l m) (IsNumber l' m') ws x y × (f x y ≡ z)
 unfolding two_read
 two_back l m l' m' f ws z e =
     let a = after (needed_number ws) _ z e in
-    let b = after (needed_number a.0.1) _ z a.2 in
-    let c = after (nothing_more b.0.1) _ z b.2 in
-    let x = after (within l m a.0.0) _ z c.2 in
-    let y = after (within l' m' b.0.0) _ z x.2 in
+    let b = after (one_number a.0.1) _ z a.2 in
+    let x = after (within l m a.0.0) _ z b.2 in
+    let y = after (within l' m' b.0) _ z x.2 in
     let v = number_next ws a.0 a.1 in
-    let w = number_next a.0.1 b.0 b.1 in
-    let none = nothing_back b.0.1 c.0 c.1 in (
+    let last = one_back l' m' a.0.1 b.0 y.0 b.1 y.1 in (
       x.0,
       y.0,
       record {
         first = v.0;
-        second = w.0;
-        all = v.1 ∙ ap (λ (l : List (List ℕ)). v.0 ∷ l) (w.1 ∙ ap (λ (l : List (List ℕ)). w.0 ∷ l) none);
+        second = last.word;
+        all = v.1 ∙ ap (λ (l : List (List ℕ)). v.0 ∷ l) last.all;
         is = number_back l m v.0 a.0.0 x.0 v.2 x.1;
-        are = number_back l' m' w.0 b.0.0 y.0 w.2 y.1;
+        are = last.is;
       },
       inside (f x.0 y.0) z y.2,
     )
 
 two_there : {X : Type 0} (l m l' m' : ℕ) (f : ℕ → ℕ → X) (ws : List (List ℕ)) (x y : ℕ) → m < 2 ^ 64 → m' < 2 ^ 64
     → Two (IsNumber l m) (IsNumber l' m') ws x y → two_read l m l' m' f ws ≡ Ok (f x y)
-unfolding two_read nothing_more
+unfolding two_read
 two_there l m l' m' f ws x y fits fits' h =
     ap (two_read l m l' m' f) h.all
-    ∙ ap (λ r. r >>= (λ (a : Found).
-    needed_number a.1 >>= (λ (b : Found).
-    nothing_more b.1 >>= (λ nothing. within l m a.0 >>= (λ x. within l' m' b.0 >>= (λ y. done (f x y)))))))
+    ∙ ap (λ r. r >>= (λ (a : Found). one_number a.1 >>= (λ n. within l m a.0 >>= (λ x. within l' m' n >>= (λ y. done (f x y))))))
     (number_first h.first (h.second ∷ []) (Some x) (number_there l m h.first x fits h.is))
-    ∙ ap (λ r. r >>= (λ (b : Found).
-    nothing_more b.1 >>= (λ nothing. within l m (Some x) >>= (λ x. within l' m' b.0 >>= (λ y. done (f x y))))))
-    (number_first h.second [] (Some y) (number_there l' m' h.second y fits' h.are))
+    ∙ ap (λ r. r >>= (λ (n : Option ℕ). within l m (Some x) >>= (λ x. within l' m' n >>= (λ y. done (f x y)))))
+    (one_there l' m' (h.second ∷ []) y fits' (record { word = h.second; all = refl; is = h.are }))
     ∙ ap (λ r. r >>= (λ x. within l' m' (Some y) >>= (λ y. done (f x y)))) (number_in_range l m h.first x h.is)
     ∙ ap (λ r. r >>= (λ y. done (f x y))) (number_in_range l' m' h.second y h.are)
 

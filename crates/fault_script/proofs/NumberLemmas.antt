@@ -1,11 +1,20 @@
 -- Numbers that grow by a digit.
-use Rattle.std.proofs.Common.{ℕ, zero, suc, ◌≡◌, ◌<◌, ◌≤◌, ◌+◌, ◌*◌, ◌-◌, ◌^◌, ◌&&◌, inl, inr, List}
-use Rattle.std.proofs.Common.{[], ◌∷◌, length, get_or, take, Option, Some, None, Bool, true, false}
-use Rattle.std.proofs.Common.{cond, fold, nat_le, nat_lt, refl, ap, arith}
+use Rattle.std.proofs.Common.{ℕ, zero, suc, ◌≡◌, ◌↔◌, ◌⊎◌, ◌<◌, ◌≤◌, ◌+◌, ◌*◌, ◌-◌, ◌^◌, ◌&&◌, inl, inr, List}
+use Rattle.std.proofs.Common.{[], ◌∷◌, length, get_or, take, Option, Some, None, Result, Ok, Err, Bool, true, false}
+use Rattle.std.proofs.Common.{cond, fold, nat_le, nat_lt, refl, sym, ap, ◌∙◌, subst, arith}
+use Rattle.std.specs.Prelude.{IfOk, IfErr}
 use Rattle.std.proofs.lemmas.List.Sums.{fold_more}
 use Rattle.std.specs.Bool.{Decides}
 use Rattle.std.proofs.lemmas.Bool.{cases_lt, le-leb, leb-true, lt-ltb, le-ltb, ltb-true}
 use Rattle.std.proofs.lemmas.Bool.Decides.{Decides-and}
+use Rattle.tag.specs.declared.names.NameError.{NameError}
+use Rattle.tag.specs.declared.names.NameError.TheVariants as reason
+use Rattle.counted_devices.specs.Answers.{Gives}
+use Rattle.counted_devices.specs.declared.read_fault.Stop.{Stop}
+use Rattle.counted_devices.specs.declared.read_fault.Stop.TheVariants as stop
+use Rattle.fault_script.specs.declared.fault.LineFault.{LineFault}
+use Rattle.fault_script.specs.declared.fault.LineFault.TheVariants.{Range}
+use Rattle.fault_script.specs.Says.{in_range, named}
 use Rattle.fault_script.specs.Words.{u64_of, decimal_value}
 
 -- the test of a range says what the range says
@@ -14,6 +23,23 @@ range_decides least most n = Decides-and (nat_le least n) (nat_le n most) (leb-t
   leb-true n most,
   le-leb n most,
 )
+
+module _ (bad : NameError) (text : List ℕ) (fits : Bool) where
+  abbrev IsSaid : Result (List ℕ) (Stop LineFault) → Type 0
+  IsSaid answer = Gives (λ (name : List ℕ). name) answer (in_range fits text)
+
+  -- the name that was made of a word is what is said of the word
+  pub named_gives : (made : Result (List ℕ) NameError) (answer : Result (List ℕ) (Stop LineFault)) → answer ≡ named made
+      → named {X = List ℕ} (Err bad) ≡ Err (stop.Fault Range) → IfOk made (λ name. (name ≡ text) × (fits ≡ true))
+      → ((made ≡ Err bad) ↔ (fits ≡ false)) → IfErr made (λ why. (why ≡ bad) ⊎ (why ≡ reason.Memory)) → IsSaid answer
+  named_gives (Ok name) answer is fault value refused only =
+      subst IsSaid (sym is) (ap (λ (b : Bool). in_range b text) value.1 ∙ ap (λ (t : List ℕ). Ok t) (sym value.0))
+  named_gives (Err why) answer is fault value refused only =
+      let by = λ (x : NameError). named {X = List ℕ} (Err x) in
+      elim only [
+        | inl e ↦ subst IsSaid (sym (is ∙ ap by e ∙ fault)) (ap (λ (b : Bool). in_range b text) (refused.0 (ap (λ (x : NameError). Err x) e)))
+        | inr e ↦ subst IsSaid (sym (is ∙ ap by e)) tt
+      ]
 
 pub u64_of-small : (n : ℕ) → n < 2 ^ 64 → u64_of n ≡ Some n
 u64_of-small n lt = ap (λ (b : Bool). cond b (Some n) None) (lt-ltb n (2 ^ 64) lt)

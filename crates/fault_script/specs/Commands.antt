@@ -58,10 +58,9 @@ invoke_in args = do
 unfoldable pub send_in : List (List ℕ) → Result Step LineFault
 send_in words = do
   client ← needed_number words
-  replica ← needed_number client.1
-  nothing ← nothing_more replica.1
+  replica ← one_number client.1
   name ← client_of client.0
-  number ← replica_of replica.0
+  number ← replica_of replica
   Ok (step.Send name number)
 
 -- the step that one number says, of a client, a replica or a message
@@ -103,10 +102,9 @@ random_step_limit = 1000000
 unfoldable pub random_in : List (List ℕ) → Result Command LineFault
 random_in words = do
   seed ← needed_number words
-  count ← needed_number seed.1
-  nothing ← nothing_more count.1
+  count ← one_number seed.1
   first ← within 0 last_seed seed.0
-  steps ← within 0 random_step_limit count.0
+  steps ← within 0 random_step_limit count
   Ok (command.Random first steps)
 
 -- a step of a client

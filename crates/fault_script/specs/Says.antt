@@ -3,7 +3,11 @@ use Rattle.std.specs.Prelude.{ℕ, ◌&&◌, List, [], ◌∷◌, Bool, Option, 
 use Rattle.std.specs.Prelude.{nat_le, bytes_eq, if◌then◌else◌}
 use Rattle.tag.specs.Limits.{client_limit}
 use Rattle.tag.specs.Names.{is_key, is_value}
+use Rattle.tag.specs.declared.names.NameError.{NameError}
+use Rattle.tag.specs.declared.names.NameError.TheVariants as reason
 use Rattle.counted_devices.specs.Answers.{◌>>=◌}
+use Rattle.counted_devices.specs.declared.read_fault.Stop.{Stop}
+use Rattle.counted_devices.specs.declared.read_fault.Stop.TheVariants as stop
 use Rattle.fault_script.specs.declared.fault.LineFault.{LineFault}
 use Rattle.fault_script.specs.declared.fault.LineFault.TheVariants.{UnknownCommand, Range}
 use Rattle.fault_script.specs.Words.{number_of}
@@ -71,6 +75,12 @@ replica_of number = within 0 last_replica number
 -- a message's number, in its range
 abbrev pub flight_of : Option ℕ → Result ℕ LineFault
 flight_of number = within 0 last_flight number
+
+-- a name that was made of a word; a word of which none can be made is outside its range
+abbrev pub named : {X : Type 0} → Result X NameError → Result X (Stop LineFault)
+named (Ok name) = Ok name
+named (Err reason.Memory) = Err stop.Memory
+named (Err other) = Err (stop.Fault Range)
 
 -- a key, in its range
 abbrev pub key_of : List ℕ → Result (List ℕ) LineFault

@@ -5,7 +5,7 @@ ghost use Rattle.std.specs.Char.{is_ascii_digit};
 ghost use Rattle.fault_script.specs.Words.{is_numeral, u64_of, decimal_value, behind_word, number_of, words};
 ghost use Rattle.counted_devices.specs.Answers.{Gives};
 ghost use Rattle.fault_script.specs.Says.{needed_number, number_or, one_number, within};
-ghost use Rattle.fault_script.specs.Says.{client_of, replica_of, flight_of, key_of, value_of};
+ghost use Rattle.fault_script.specs.Says.{client_of, replica_of, flight_of, named, key_of, value_of};
 
 use crate::LineFault;
 use crate::fault::Stop;
@@ -107,20 +107,14 @@ pub(crate) fn client_of(number: Option<u64>) -> Result<ClientId, Stop>
     ensures { Gives (λ client. client) result (client_of number) }
 {
     let number = within(1, 65535, number)?;
-    match ClientId::new(number as u32) {
-        Ok(client) => Ok(client),
-        Err(_) => Err(Stop::Fault(LineFault::Range)),
-    }
+    Ok(ClientId::new(number as u32).unwrap())
 }
 
 pub(crate) fn replica_of(number: Option<u64>) -> Result<ReplicaId, Stop>
     ensures { Gives (λ replica. replica) result (replica_of number) }
 {
     let number = within(0, 14, number)?;
-    match ReplicaId::new(number as u8) {
-        Some(replica) => Ok(replica),
-        None => Err(Stop::Fault(LineFault::Range)),
-    }
+    Ok(ReplicaId::new(number as u8).unwrap())
 }
 
 pub(crate) fn flight_of(number: Option<u64>) -> Result<u32, Stop>
@@ -130,22 +124,25 @@ pub(crate) fn flight_of(number: Option<u64>) -> Result<u32, Stop>
     Ok(number as u32)
 }
 
+/// A name that was made of a word. A word of which none can be made is outside its range.
+fn named<T>(made: Result<T, NameError>) -> Result<T, Stop>
+    ensures { result ≡ named made }
+{
+    match made {
+        Ok(name) => Ok(name),
+        Err(NameError::Memory) => Err(Stop::Memory),
+        Err(_) => Err(Stop::Fault(LineFault::Range)),
+    }
+}
+
 pub(crate) fn key_of(alloc: Global, word: &str) -> Result<Key, Stop>
     ensures { Gives (λ key. key) result (key_of word.now) }
 {
-    match Key::new(alloc, word) {
-        Ok(key) => Ok(key),
-        Err(NameError::BadKey) => Err(Stop::Fault(LineFault::Range)),
-        Err(_) => Err(Stop::Memory),
-    }
+    named(Key::new(alloc, word))
 }
 
 pub(crate) fn value_of(alloc: Global, text: &str) -> Result<Value, Stop>
     ensures { Gives (λ value. value) result (value_of text.now) }
 {
-    match Value::new(alloc, text) {
-        Ok(value) => Ok(value),
-        Err(NameError::BadValue) => Err(Stop::Fault(LineFault::Range)),
-        Err(_) => Err(Stop::Memory),
-    }
+    named(Value::new(alloc, text))
 }

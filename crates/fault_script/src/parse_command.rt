@@ -79,8 +79,7 @@ fn send_in(args: &str) -> Result<Step, Stop>
     ensures { Gives (λ step. step) result (send_in (words args.now)) }
 {
     let (client, behind) = needed_number(args)?;
-    let (replica, behind) = needed_number(behind)?;
-    nothing_more(behind)?;
+    let replica = one_number(behind)?;
     let client = client_of(client)?;
     let replica = replica_of(replica)?;
     Ok(Step::Send { client, replica })
@@ -123,8 +122,7 @@ fn random_in(args: &str) -> Result<Command, Stop>
     ensures { Gives (λ command. command) result (random_in (words args.now)) }
 {
     let (seed, behind) = needed_number(args)?;
-    let (count, behind) = needed_number(behind)?;
-    nothing_more(behind)?;
+    let count = one_number(behind)?;
     let seed = within(0, u64::MAX, seed)?;
     let count = within(0, 1_000_000, count)?;
     Ok(Command::Random {
