@@ -13,7 +13,7 @@ mod SaidBack
 mod FormFaults
 mod LineFaults
 mod ReadOnce
-mod RunSteps
+pub mod RunSteps
 pub mod Walking
 mod RunsOfSteps
 mod RunTexts

@@ -16,7 +16,8 @@ use Rattle.fault_script.specs.declared.command.NumberedCommand.{NumberedCommand}
 use Rattle.fault_script.specs.declared.script_run.ScriptRun.{ScriptRun}
 use Rattle.fault_script.specs.MessageTexts.{random_message, refused_message, unfinished_message}
 use Rattle.fault_script.specs.Running.{IsRunSoFar, RunsOn, Walks}
-use Rattle.fault_script.specs.ScriptRuns.{random_walk, Runs, takes, refuses, finishes, stays, randomly, RunsAll, done, goes}
+use Rattle.fault_script.specs.ScriptRuns.{random_walk, Runs, takes, refuses, finishes, stays, randomly, InTurn, RunsAll}
+use Rattle.fault_script.specs.ScriptRuns.InTurn.{done, goes}
 
 -- a step that was taken
 pub step_taken : (line : ℕ) (s new : System) (step : Step) (effect : Effect) → Steps s step (Ok effect) new
@@ -54,16 +55,17 @@ call_stays line s new name settle.Room (holds, same) fine =
     subst P (sym same) (stays s name settle.Room holds)
 call_stays line s new name (settle.Memory steps) fails fine = absurd (fine steps refl)
 
--- one command more
-pub RunsAll_push : (a b c : System) (xs : List NumberedCommand) (x : NumberedCommand) (said message : List ℕ) → RunsAll a xs b said
-    → Runs x.line b x.command c message → RunsAll a (xs ++ x ∷ []) c (said ++ message)
-RunsAll_push a b c xs x said message (done s) r =
-    let P : List ℕ → Type 0 = λ messages. RunsAll s (x ∷ []) c messages in
-    subst P (append-nil message) (goes s c c x [] message [] r (done c))
-RunsAll_push a b c xs x said message (goes s mid last numbered others first rest one all) r =
-    let P : List ℕ → Type 0 = λ messages. RunsAll s (numbered ∷ (others ++ x ∷ [])) c messages in
-    subst P (sym (append_assoc first rest message))
-    (goes s mid c numbered (others ++ x ∷ []) first (rest ++ message) one (RunsAll_push mid last c others x rest message all r))
+module _ {X : Type 0} (Makes : ℕ → System → Command → System → List X → Type 0) where
+  -- one command more
+  pub one_in_turn : (a b c : System) (xs : List NumberedCommand) (x : NumberedCommand) (items more : List X) → InTurn Makes a xs b items
+      → Makes x.line b x.command c more → InTurn Makes a (xs ++ x ∷ []) c (items ++ more)
+  one_in_turn a b c xs x items more (done s) one =
+      let P : List X → Type 0 = λ all. InTurn Makes s (x ∷ []) c all in
+      subst P (append-nil more) (goes s c c x [] more [] one (done c))
+  one_in_turn a b c xs x items more (goes s mid last numbered others first rest before all) one =
+      let P : List X → Type 0 = λ every. InTurn Makes s (numbered ∷ (others ++ x ∷ [])) c every in
+      subst P (sym (append_assoc first rest more))
+      (goes s mid c numbered (others ++ x ∷ []) first (rest ++ more) before (one_in_turn mid last c others x rest more all one))
 
 -- no command yet
 pub run_begun : (first : System) (run : ScriptRun) → run.world ≡ first → run.messages.items ≡ [] → IsRunSoFar first [] run
@@ -77,7 +79,7 @@ pub run_on : (first : System) (commands : List NumberedCommand) (numbered : Numb
     → IsRunSoFar first commands old → RunsOn old numbered.line numbered.command new → IsRunSoFar first (commands ++ numbered ∷ []) new
 run_on first commands numbered old new so_far on =
     let P : List ℕ → Type 0 = λ n. RunsAll first (commands ++ numbered ∷ []) new.world n in
-    subst P (sym on.said) (RunsAll_push first old.world new.world commands numbered old.messages.items on.message so_far on.runs)
+    subst P (sym on.said) (one_in_turn Runs first old.world new.world commands numbered old.messages.items on.message so_far on.runs)
 
 -- random steps
 pub walked_on : (old new : ScriptRun) (line seed count taken : ℕ) → Walks old.world seed count new.world taken → new.messages.items

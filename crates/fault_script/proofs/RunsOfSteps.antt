@@ -18,7 +18,8 @@ use Rattle.fault_script.specs.declared.command.Command.{Command}
 use Rattle.fault_script.specs.declared.command.NumberedCommand.{NumberedCommand}
 use Rattle.fault_script.specs.declared.command.Script.{Script}
 use Rattle.fault_script.specs.ScriptRuns.{Walk, stride, walk_after, Runs, takes, refuses, finishes}
-use Rattle.fault_script.specs.ScriptRuns.{stays, randomly, RunsAll, done, goes, IsRunOf}
+use Rattle.fault_script.specs.ScriptRuns.{stays, randomly, RunsAll, IsRunOf}
+use Rattle.fault_script.specs.ScriptRuns.InTurn.{done, goes}
 
 -- a step that isn't refused is the next one
 next_moved : (s : System) (step : Step) (found : Option Refusal) → refusal_of s step ≡ found → found ≡ None → system_after s step

@@ -15,7 +15,8 @@ use Rattle.fault_script.specs.declared.command.Command.{Command}
 use Rattle.fault_script.specs.declared.command.NumberedCommand.{NumberedCommand}
 use Rattle.fault_script.specs.declared.command.Script.{Script}
 use Rattle.fault_script.specs.MessageTexts.{refused_message, unfinished_message}
-use Rattle.fault_script.specs.ScriptRuns.{Runs, takes, refuses, finishes, stays, randomly, RunsAll, done, goes, IsRunOf}
+use Rattle.fault_script.specs.ScriptRuns.{Runs, takes, refuses, finishes, stays, randomly, RunsAll, IsRunOf}
+use Rattle.fault_script.specs.ScriptRuns.InTurn.{done, goes}
 
 -- a call is pending, or it isn't
 never_both : (found : Option OpId) → IsSome found → found ≡ None → ⊥

@@ -62,12 +62,18 @@ pub data Runs (line : ℕ) : System → Command → System → List ℕ → Type
       → Runs line s (command.Random seed count) (random_walk s seed count).system
       (random_message line (random_walk s seed count).taken count)
 
+-- what the command of a line makes of a system, and the items that come of it
+module _ {X : Type 0} (Makes : ℕ → System → Command → System → List X → Type 0) where
+  -- the commands one after another, and the items that come of them
+  pub data InTurn : System → List NumberedCommand → System → List X → Type 0 where
+    done : (s : System) → InTurn s [] s []
+    goes : (s mid last : System) (numbered : NumberedCommand) (others : List NumberedCommand)
+        (items further : List X) → Makes numbered.line s numbered.command mid items
+        → InTurn mid others last further → InTurn s (numbered ∷ others) last (items ++ further)
+
 -- the commands one after another, and what is said of them
-pub data RunsAll : System → List NumberedCommand → System → List ℕ → Type 0 where
-  done : (s : System) → RunsAll s [] s []
-  goes : (s mid last : System) (numbered : NumberedCommand) (others : List NumberedCommand)
-      (message messages : List ℕ) → Runs numbered.line s numbered.command mid message
-      → RunsAll mid others last messages → RunsAll s (numbered ∷ others) last (message ++ messages)
+abbrev pub RunsAll : System → List NumberedCommand → System → List ℕ → Type 0
+RunsAll = InTurn Runs
 
 -- a run of the script has those rows in its record, and says those messages
 pub record IsRunOf (script : Script) (rows : List Row) (messages : List ℕ) : Type 0 where

@@ -4,6 +4,7 @@ use Rattle.random_steps.specs.Choices.{draw, step_of}
 use Rattle.world_steps.specs.Runs.{after_from, next}
 use Rattle.world_steps.specs.declared.step.Step.{Step}
 use Rattle.world_steps.specs.declared.system.System.{System}
+use Rattle.fault_script.specs.ScriptRuns.InTurn.{done, goes}
 use Rattle.fault_script.specs.ScriptRuns.{Walk, random_walk, stride, walk_after}
 use Rattle.fault_script.specs.declared.command.Command.{Command}
 use Rattle.fault_script.specs.declared.command.Command.TheVariants as command
@@ -12,7 +13,6 @@ use Rattle.observed_runs.specs.Chains.{AreInOrder}
 use Rattle.observed_runs.specs.Chains.AreInOrder.{over, then_notice, then_step}
 use Rattle.observed_runs.specs.Events.{Event, Happens, HappensAll, at_line, notices, stride_tried, tried, tries, walk_from, walk_tried}
 use Rattle.observed_runs.specs.Events.Happens.{steps, finishes, stays, randomly}
-use Rattle.observed_runs.specs.Events.HappensAll.{done, goes}
 use Rattle.observed_runs.specs.declared.notice.Notice.{Notice}
 use Rattle.observed_runs.specs.declared.notice.Notice.TheVariants as notice
 

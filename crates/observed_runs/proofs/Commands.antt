@@ -1,5 +1,5 @@
 -- What the commands of a script make of an observer.
-use Rattle.std.proofs.Common.{ℕ, ◌≡◌, ◌<◌, ◌+◌, List, [], ◌∷◌, ◌++◌, add-one, get_or, length, take, sym, ap, ◌∙◌, subst, append_assoc, append-nil}
+use Rattle.std.proofs.Common.{ℕ, ◌≡◌, ◌<◌, ◌+◌, List, [], ◌∷◌, ◌++◌, add-one, get_or, length, take, sym, ap, ◌∙◌, subst}
 use Rattle.std.proofs.Math.Seq.{take-suc}
 use Rattle.world_settle.specs.Refusing.{IsUnsettled, MaySettle}
 use Rattle.world_settle.specs.declared.errors.SettleError.{SettleError}
@@ -9,28 +9,18 @@ use Rattle.world_steps.specs.declared.step.Step.{Step}
 use Rattle.world_steps.specs.declared.system.System.{System}
 use Rattle.fault_script.specs.Running.{Walks}
 use Rattle.fault_script.specs.ScriptRuns.{random_walk}
+use Rattle.fault_script.specs.ScriptRuns.InTurn.{done}
 use Rattle.fault_script.specs.declared.command.Command.TheVariants as command
 use Rattle.fault_script.specs.declared.command.NumberedCommand.{NumberedCommand}
 use Rattle.fault_script.specs.declared.command.Script.{Script}
+use Rattle.fault_script.proofs.RunSteps.{one_in_turn}
 use Rattle.observed_runs.specs.Events.{Event, Happens, HappensAll, at_line, notices, tried, tries, walk_from, walk_tried}
 use Rattle.observed_runs.specs.Events.Happens.{steps, finishes, stays, randomly}
-use Rattle.observed_runs.specs.Events.HappensAll.{done, goes}
 use Rattle.observed_runs.specs.Observing.{Observes, ObservesRun}
 use Rattle.observed_runs.specs.Observing.Observes.{nothing}
 use Rattle.observed_runs.specs.Running.{ObservesOn, ObservesSettling}
 use Rattle.observed_runs.specs.declared.notice.Notice.TheVariants as notice
 use Rattle.observed_runs.proofs.Observing.{between, more_seen, one_seen}
-
--- one command more
-all_push : (a b c : System) (xs : List NumberedCommand) (x : NumberedCommand) (events further : List Event) → HappensAll a xs b events
-    → Happens x.line b x.command c further → HappensAll a (xs ++ x ∷ []) c (events ++ further)
-all_push a b c xs x events further (done s) one =
-    let P : List Event → Type 0 = λ all. HappensAll s (x ∷ []) c all in
-    subst P (append-nil further) (goes s c c x [] further [] one (done c))
-all_push a b c xs x events further (goes s mid last numbered others first rest before all) one =
-    let P : List Event → Type 0 = λ every. HappensAll s (numbered ∷ (others ++ x ∷ [])) c every in
-    subst P (sym (append_assoc first rest further))
-    (goes s mid c numbered (others ++ x ∷ []) first (rest ++ further) before (all_push mid last c others x rest further all one))
 
 -- a front of commands with one more
 pub front_more : (commands : List NumberedCommand) (i : ℕ) (numbered : NumberedCommand) → i < length commands → numbered ≡ get_or commands i numbered
@@ -108,7 +98,7 @@ module _ {O : Type 0} (sees : O → Event → O → Type 0) where
       → HasSeen start (commands ++ numbered ∷ []) old after new
   one_more start commands old now new s after numbered so_far on = record {
     events = so_far.events ++ on.events;
-    happen = all_push start s after commands numbered so_far.events on.events so_far.happen on.happens;
+    happen = one_in_turn Happens start s after commands numbered so_far.events on.events so_far.happen on.happens;
     observes = more_seen sees old now new so_far.events on.events so_far.observes on.observes;
   }
 

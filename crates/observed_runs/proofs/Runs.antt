@@ -9,14 +9,14 @@ use Rattle.world_steps.specs.declared.system.System.{System}
 use Rattle.world_steps.proofs.StepAnswers.{next_moved}
 use Rattle.fault_script.specs.ScriptRuns.{Runs, RunsAll, random_walk}
 use Rattle.fault_script.specs.ScriptRuns.{takes, refuses, finishes as run_finishes, stays as run_stays}
-use Rattle.fault_script.specs.ScriptRuns.{randomly as run_randomly, done as run_done, goes as run_goes}
+use Rattle.fault_script.specs.ScriptRuns.{randomly as run_randomly}
+use Rattle.fault_script.specs.ScriptRuns.InTurn.{done, goes}
 use Rattle.fault_script.specs.MessageTexts.{random_message, refused_message, unfinished_message}
 use Rattle.fault_script.specs.declared.command.Command.{Command}
 use Rattle.fault_script.specs.declared.command.Command.TheVariants as command
 use Rattle.fault_script.specs.declared.command.NumberedCommand.{NumberedCommand}
 use Rattle.observed_runs.specs.Events.{Event, Happens, HappensAll}
 use Rattle.observed_runs.specs.Events.Happens.{steps, finishes, stays, randomly}
-use Rattle.observed_runs.specs.Events.HappensAll.{done, goes}
 
 -- what a step leaves is what a run leaves
 step_runs : (number : ℕ) (s : System) (step : Step) (found : Option Refusal) → refusal_of s step ≡ found
@@ -38,8 +38,8 @@ one_runs number a b c events (randomly s seed count) = (random_message number (r
 
 pub all_run : (a b : System) (commands : List NumberedCommand) (events : List Event) → HappensAll a commands b events
     → (messages : List ℕ) × RunsAll a commands b messages
-all_run a b commands events (done s) = ([], run_done s)
+all_run a b commands events (done s) = ([], done s)
 all_run a b commands events (goes s mid last numbered others first further one all) =
     let (message, now) = one_runs numbered.line s mid numbered.command first one in
     let (messages, later) = all_run mid last others further all in
-    (message ++ messages, run_goes s mid last numbered others message messages now later)
+    (message ++ messages, goes s mid last numbered others message messages now later)

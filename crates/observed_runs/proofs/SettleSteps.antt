@@ -1,5 +1,5 @@
 -- The steps that complete a call, taken and seen one after another.
-use Rattle.std.proofs.Common.{ℕ, ◌≡◌, ◌+◌, ◌≤◌, true, List, [], ◌∷◌, ◌++◌, length, refl, sym, ap, ◌∙◌, subst, arith, append_assoc, length-append}
+use Rattle.std.proofs.Common.{ℕ, ◌≡◌, ◌+◌, true, List, [], ◌∷◌, ◌++◌, length, refl, sym, ap, ◌∙◌, subst, arith, append_assoc, length-append}
 use Rattle.world_settle.specs.Refusing.{MaySettle}
 use Rattle.world_settle.specs.Settling.{AreSettleSteps, candidates, counted_at, round}
 use Rattle.world_settle.specs.Settling.AreSettleSteps.{answers, asks}
@@ -61,10 +61,6 @@ module _ {O : Type 0} (sees : O → Event → O → Type 0) (command : NumberedC
 
     leads : (steps : List Step) → after_from current steps ≡ after_from old (u.taken ++ steps)
     leads steps = ap (λ (s : System). after_from s steps) u.there ∙ sym (after_append old u.taken steps)
-
-    -- there are fewer than 100 steps
-    pub few_steps : count ≤ 91
-    few_steps = let few = u.going.few in let counted = u.going.counted in omega (arith, few, counted)
 
     module _ (replica : ℕ) (others : List ℕ) (requests : has_request (phase_at current name) ≡ true) (found : candidates current (counted_at current name) ≡ replica ∷ others) where
       -- the steps of a round aren't refused

@@ -9,7 +9,7 @@ use Rattle.world_settle.specs.declared.errors.SettleError.{SettleError}
 use Rattle.world_steps.specs.Runs.{after_from, next}
 use Rattle.world_steps.specs.declared.step.Step.{Step}
 use Rattle.world_steps.specs.declared.system.System.{System}
-use Rattle.fault_script.specs.ScriptRuns.{Walk, random_walk, walk_after}
+use Rattle.fault_script.specs.ScriptRuns.{InTurn, Walk, random_walk, walk_after}
 use Rattle.fault_script.specs.declared.command.Command.{Command}
 use Rattle.fault_script.specs.declared.command.Command.TheVariants as command
 use Rattle.fault_script.specs.declared.command.NumberedCommand.{NumberedCommand}
@@ -64,9 +64,5 @@ pub data Happens (line : ℕ) : System → Command → System → List Event →
       ++ notices line (notice.Randomized (random_walk s seed count).taken count) ∷ [])
 
 -- the commands one after another, and what happens
-pub data HappensAll : System → List NumberedCommand → System → List Event → Type 0 where
-  done : (s : System) → HappensAll s [] s []
-  goes : (s mid last : System) (numbered : NumberedCommand) (others : List NumberedCommand)
-      (events further : List Event) → Happens numbered.line s numbered.command mid events
-      → HappensAll mid others last further
-      → HappensAll s (numbered ∷ others) last (events ++ further)
+abbrev pub HappensAll : System → List NumberedCommand → System → List Event → Type 0
+HappensAll = InTurn Happens

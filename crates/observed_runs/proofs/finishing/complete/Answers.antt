@@ -1,5 +1,5 @@
 use Rattle.std.proofs.Common.{arith}
-use Rattle.observed_runs.proofs.SettleSteps.{all_seen, begun, few_steps, round_seen, round_taken}
+use Rattle.observed_runs.proofs.SettleSteps.{all_seen, begun, round_seen, round_taken}
 use Rattle.observed_runs.proofs.finishing.complete.Goals as goal
 
 pub loop-replica-init : goal.loop-replica-init
@@ -14,18 +14,10 @@ round-requires g c =
     c.in-Some.replica c.in-Some.ensures.1 c.in-Some.ensures.0 c.in-Some.ensures.2
 
 pub overflow_add-count : goal.overflow_add-count
-overflow_add-count g c =
-    let l = c.loop-replica in
-    let few = few_steps g.O.Observer.sees c.args.command.now c.args.world.now c.args.client c.args.observer.now l.world l.count l.observer
-    l.invariant in
-    omega (arith, few)
+overflow_add-count g c = let going = c.loop-replica.invariant.going in omega (arith, going.few, going.counted)
 
 pub loop-replica-smaller : goal.loop-replica-smaller
-loop-replica-smaller g c =
-    let l = c.loop-replica in
-    let few = few_steps g.O.Observer.sees c.args.command.now c.args.world.now c.args.client c.args.observer.now l.world l.count l.observer
-    l.invariant in
-    omega (arith, few)
+loop-replica-smaller g c = let going = c.loop-replica.invariant.going in omega (arith, going.few, going.counted)
 
 pub loop-replica-preserved : goal.loop-replica-preserved
 loop-replica-preserved g c =
