@@ -42,19 +42,26 @@ fn is_gone(line: &FoundLine, fault: LineFault) -> bool {
     fault == LineFault::NotJson && line.bytes.is_empty() && !line.has_end
 }
 
-/// The line of the fault, where it came again, and what is wrong with it.
+/// A line that came again, and what is wrong with it.
+#[derive(Drop)]
+struct Found {
+    line: FoundLine,
+    fault: LineFault,
+}
+
+/// The line of the fault, where it came again.
 fn find_fault<R: Read>(
     alloc: Global,
     reader: &mut R,
     fault: FileFault,
-) -> Result<Option<(FoundLine, LineFault)>, Memory>
-    ensures { IfOk result (λ found. IfSome found (λ line. fault.kind ≡ Line line.1)) }
+) -> Result<Option<Found>, Memory>
+    ensures { IfOk result (λ found. IfSome found (λ found. fault.kind ≡ Line found.fault)) }
 {
     let FaultKind::Line(kind) = fault.kind else {
         return Ok(None);
     };
     match find_line(alloc, reader, fault.line)? {
-        Some(line) if !is_gone(&line, kind) => Ok(Some((line, kind))),
+        Some(line) if !is_gone(&line, kind) => Ok(Some(Found { line, fault: kind })),
         _ => Ok(None),
     }
 }
@@ -94,15 +101,10 @@ fn append_hall_of(text: &mut Vec<u8>, count: u8, key: &str) -> Result<(), Memory
 }
 
 /// Says which of so many halls is that of the key of the line.
-fn append_hall_of_line(
-    alloc: Global,
-    text: &mut Vec<u8>,
-    line: &FoundLine,
-    halls: u8,
-) -> Result<(), Memory>
+fn append_hall_of_line(text: &mut Vec<u8>, line: &FoundLine, halls: u8) -> Result<(), Memory>
     ensures { OnOk result (AddsHall text.old.items text.new.items) }
 {
-    let Parsed::Json(value) = parse(alloc, line.bytes.as_slice())? else {
+    let Parsed::Json(value) = parse(*text.allocator(), line.bytes.as_slice())? else {
         return Ok(());
     };
     match text_of(&value, "key") {
@@ -121,20 +123,18 @@ fn faulty_line(line: &FoundLine, first: LineKind, other: LineKind) -> FaultyLine
 }
 
 /// Says why the line of a history file has a fault that needs no earlier row.
-fn append_history_line(
-    alloc: Global,
-    text: &mut Vec<u8>,
-    line: &FoundLine,
-    halls: Option<u8>,
-    fault: LineFault,
-) -> Result<(), Memory>
-    ensures { OnOk result (AddsHistory fault text.old.items text.new.items) }
+fn append_history_line(text: &mut Vec<u8>, found: &Found, halls: Option<u8>) -> Result<(), Memory>
+    ensures { OnOk result (AddsHistory found.now.fault text.old.items text.new.items) }
 {
-    if let (LineFault::KeyInAnotherHall, Some(halls)) = (fault, halls) {
-        return append_hall_of_line(alloc, text, line, halls);
+    if let (LineFault::KeyInAnotherHall, Some(halls)) = (found.fault, halls) {
+        return append_hall_of_line(text, &found.line, halls);
     }
-    let faulty = faulty_line(line, LineKind::HistoryHeader, LineKind::Row { halls });
-    append_line_details(alloc, text, &faulty, fault)
+    let faulty = faulty_line(
+        &found.line,
+        LineKind::HistoryHeader,
+        LineKind::Row { halls },
+    );
+    append_line_details(*text.allocator(), text, &faulty, found.fault)
 }
 
 /// Says why the line's row may not stand after the earlier rows.
@@ -168,21 +168,20 @@ fn append_row(
 /// Reads the earlier rows again, and says why the line's row may not stand after them.
 fn append_after_rows<R: Read + Drop>(
     rt: &(impl Threads + Sync),
-    alloc: Global,
     text: &mut Vec<u8>,
-    line: &FoundLine,
+    found: &Found,
     is_of_halls: bool,
     again: R,
-    fault: LineFault,
 ) -> Result<(), Memory>
-    ensures { OnOk result (AddsOfRows fault text.old.items text.new.items) }
+    ensures { OnOk result (AddsOfRows found.now.fault text.old.items text.new.items) }
 {
-    let mut earlier = Counting::new(again.take(line.begins));
-    let Parsed::Json(value) = parse(alloc, line.bytes.as_slice())? else {
+    let alloc = *text.allocator();
+    let mut earlier = Counting::new(again.take(found.line.begins));
+    let Parsed::Json(value) = parse(alloc, found.line.bytes.as_slice())? else {
         return Ok(());
     };
     match read_numbered_histories(rt, alloc, &mut earlier) {
-        Ok(numbered) => append_row(text, &value, &numbered, is_of_halls, fault),
+        Ok(numbered) => append_row(text, &value, &numbered, is_of_halls, found.fault),
         Err(fault) if fault.kind == FaultKind::Memory => Err(Memory),
         Err(_) => Ok(()),
     }
@@ -191,19 +190,17 @@ fn append_after_rows<R: Read + Drop>(
 /// Says why the line has the fault, by the earlier rows where it depends on them.
 fn append_history<S: Read + Drop>(
     rt: &(impl Threads + Sync),
-    alloc: Global,
     text: &mut Vec<u8>,
-    line: &FoundLine,
+    found: &Found,
     again: S,
-    fault: LineFault,
 ) -> Result<(), Memory>
-    ensures { OnOk result (AddsHistory fault text.old.items text.new.items) }
+    ensures { OnOk result (AddsHistory found.now.fault text.old.items text.new.items) }
 {
-    let halls = told_halls(alloc, line.first.as_slice())?;
-    if needs_earlier_rows(fault) {
-        append_after_rows(rt, alloc, text, line, halls.is_some(), again, fault)
+    let halls = told_halls(*text.allocator(), found.line.first.as_slice())?;
+    if needs_earlier_rows(found.fault) {
+        append_after_rows(rt, text, found, halls.is_some(), again)
     } else {
-        append_history_line(alloc, text, line, halls, fault)
+        append_history_line(text, found, halls)
     }
 }
 
@@ -225,23 +222,18 @@ pub fn explain_history_fault<R: Read, S: Read + Drop>(
     ensures { IfOk result (λ text. Explains AddsHistory fault.kind text.items) }
 {
     let mut text = Vec::new(alloc);
-    if let Some((line, kind)) = find_fault(alloc, reader, fault)? {
-        append_history(rt, alloc, &mut text, &line, again, kind)?;
+    if let Some(found) = find_fault(alloc, reader, fault)? {
+        append_history(rt, &mut text, &found, again)?;
     }
     Ok(text)
 }
 
 /// Says why the line of an order file has the fault.
-fn append_orders_line(
-    alloc: Global,
-    text: &mut Vec<u8>,
-    line: &FoundLine,
-    fault: LineFault,
-) -> Result<(), Memory>
-    ensures { OnOk result (AddsOrders fault text.old.items text.new.items) }
+fn append_orders_line(text: &mut Vec<u8>, found: &Found) -> Result<(), Memory>
+    ensures { OnOk result (AddsOrders found.now.fault text.old.items text.new.items) }
 {
-    let faulty = faulty_line(line, LineKind::OrderHeader, LineKind::Piece);
-    append_line_details(alloc, text, &faulty, fault)
+    let faulty = faulty_line(&found.line, LineKind::OrderHeader, LineKind::Piece);
+    append_line_details(*text.allocator(), text, &faulty, found.fault)
 }
 
 /// Why an order file has its first fault, in lines of their own, each after two blanks; nothing where
@@ -255,8 +247,8 @@ pub fn explain_orders_fault<R: Read>(
     ensures { IfOk result (λ text. Explains AddsOrders fault.kind text.items) }
 {
     let mut text = Vec::new(alloc);
-    if let Some((line, kind)) = find_fault(alloc, reader, fault)? {
-        append_orders_line(alloc, &mut text, &line, kind)?;
+    if let Some(found) = find_fault(alloc, reader, fault)? {
+        append_orders_line(&mut text, &found)?;
     }
     Ok(text)
 }

@@ -1,11 +1,11 @@
 //! Why a line by itself has its fault.
 ghost use Rattle.std.specs.Prelude.{◌≡◌, ◌++◌, option_map, IfOk, OnOk};
 ghost use Rattle.serde_json.specs.View.{view};
-ghost use Rattle.fault_details.specs.LineDetails.{demand_line, header_line, AddsDemand, AddsMember};
+ghost use Rattle.fault_details.specs.LineDetails.{demand_line, header_line, AddsMember};
 ghost use Rattle.fault_details.specs.LineDetails.{AddsBroken, AddsLine, AddsWrongMember, is_text};
-ghost use Rattle.fault_details.specs.LineDetails.{limit_text, should_text, Stands};
+ghost use Rattle.fault_details.specs.LineDetails.{limit_text, Stands};
 
-use crate::demand::{Allowed, Demand, Name, Test, append_allowed, first_failing};
+use crate::demand::{Demand, Name, Test, append_allowed, first_failing};
 use crate::demands::{LineKind, needed};
 use crate::json_line::{Parsed, append_broken, append_cut, parse};
 use crate::shown::append_shown;
@@ -50,35 +50,14 @@ fn append_is(text: &mut Vec<u8>, name: Name, stands: &[u8]) -> Result<(), Memory
     Ok(())
 }
 
-/// Adds what the member should be.
-#[tactic(auto, unfolding(crate::specs::LineDetails::should_text))]
-fn append_should(text: &mut Vec<u8>, allowed: Allowed) -> Result<(), Memory>
-    ensures { OnOk result (text.new.items ≡ text.old.items ++ should_text allowed) }
-{
-    append(text, ": it should be ")?;
-    append_allowed(text, allowed)?;
-    append(text, "\n")
-}
-
-/// Adds that the member is that, and should be other.
+/// Adds that the member is that, and what it should be.
 fn append_demand_line(text: &mut Vec<u8>, demand: Demand, stands: &[u8]) -> Result<(), Memory>
     ensures { OnOk result (text.new.items ≡ text.old.items ++ demand_line demand stands.now) }
 {
     append_is(text, demand.name, stands)?;
-    append_should(text, demand.allowed)
-}
-
-/// Adds a line on that demand.
-fn append_demand(
-    alloc: Global,
-    text: &mut Vec<u8>,
-    demand: Demand,
-    value: &Value,
-) -> Result<(), Memory>
-    ensures { OnOk result (AddsDemand (view value.now) demand text.old.items text.new.items) }
-{
-    let stands = standing(alloc, value.get(demand.name.text()))?;
-    append_demand_line(text, demand, stands.as_slice())
+    append(text, ": it should be ")?;
+    append_allowed(text, demand.allowed)?;
+    append(text, "\n")
 }
 
 /// Adds a line on the first member, in the order of the format, that doesn't pass the test.
@@ -96,7 +75,10 @@ fn append_member(
     }
     let demands = needed(alloc, kind, value)?;
     match first_failing(alloc, test, value, demands.as_slice())? {
-        Some(demand) => append_demand(alloc, text, demand, value),
+        Some(demand) => {
+            let stands = standing(alloc, value.get(demand.name.text()))?;
+            append_demand_line(text, demand, stands.as_slice())
+        }
         None => Ok(()),
     }
 }

@@ -6,5 +6,5 @@ pub returns : goal.returns
 returns c =
     let old = c.args.text.now.items in
     let new = c.append_line_details.new.text.items in
-    on_ok_weaker c.append_line_details.result (history_added c.faulty_line-faulty.result c.args.fault old new)
+    on_ok_weaker c.append_line_details.result (history_added c.faulty_line-faulty.result c.args.found.now.fault old new)
     c.append_line_details.ensures
