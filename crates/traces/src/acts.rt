@@ -1,14 +1,14 @@
 //! Who takes a step, and what it does: what is told of a step before its effect.
-ghost use Rattle.std.specs.Prelude.{◌≡◌, ◌++◌, codes, option_and_then, option_copied, IfOk, OnOk};
+ghost use Rattle.std.specs.Prelude.{◌≡◌, ◌++◌, codes, option_and_then, option_copied, OnOk};
 ghost use Rattle.sentences.specs.Words.{numbered, tag_text};
 ghost use Rattle.client_phases.specs.Clients.{answer_of, request_of};
 ghost use Rattle.traces.specs.StepLines.{act_text, answer_text, arrival_text, begun_text};
-ghost use Rattle.traces.specs.StepLines.{client_at, handled_text, key_of, message_text, pair_at};
+ghost use Rattle.traces.specs.StepLines.{handled_text, key_of, message_text, pair_at};
 ghost use Rattle.traces.specs.StepLines.{reply_text, request_text, sent_text};
-ghost use Rattle.traces.specs.Words.{pair_text};
 
 use crate::step_words::{append_client, append_flight, append_replica};
-use crate::words::{append_key, append_pair};
+use crate::words::{append_key, append_pair, append_pair_of};
+use client_phases::Client;
 use network::Message;
 use replica::{Reply, Request};
 use sentences::{append, append_tag, append_value};
@@ -50,57 +50,40 @@ fn append_request(text: &mut Vec<u8>, replica: ReplicaId, request: &Request) -> 
             value,
             ..
         } => {
-            append(text, " puts ")?;
-            append_pair(text, *tag, value.as_ref())?;
-            append_key(text, " for ", key)?;
+            append_pair_of(text, " puts ", *tag, value.as_ref(), key)?;
             append_replica(text, " at replica ", replica)
         }
     }
 }
 
-/// Adds that a client sends what it has to send.
+/// Adds that a client, if there is one, sends what it has to send.
 fn append_sent(
     text: &mut Vec<u8>,
     replica: ReplicaId,
-    request: Option<&Request>,
+    client: Option<&Client>,
 ) -> Result<(), Memory>
-    ensures { OnOk result
-        (text.new.items ≡ text.old.items ++ sent_text replica (option_copied request.entry)) }
+    ensures { OnOk result (text.new.items ≡ text.old.items
+        ++ sent_text replica (option_and_then request_of (option_copied client.entry))) }
 {
-    match request {
+    let Some(client) = client else {
+        return Ok(());
+    };
+    match client.request()? {
         None => Ok(()),
-        Some(request) => append_request(text, replica, request),
+        Some(request) => append_request(text, replica, &request),
     }
 }
 
-/// What the client sends to replicas; nothing if nobody of that name joined.
-fn request_of(world: &World, client: ClientId) -> Result<Option<Request>, Memory>
-    ensures { IfOk result (λ request.
-        request ≡ option_and_then request_of (client_at world.now client)) }
-{
-    match world.client(client) {
-        Some(client) => client.request(),
-        None => Ok(None),
-    }
-}
-
-/// The client's answer; none if nobody of that name joined.
-fn answer_of(world: &World, client: ClientId) -> Result<Option<Returned>, Memory>
-    ensures { IfOk result (λ answer.
-        answer ≡ option_and_then answer_of (client_at world.now client)) }
-{
-    match world.client(client) {
-        Some(client) => client.answer(),
-        None => Ok(None),
-    }
-}
-
-/// Adds that a client answers its call.
+/// Adds that a client, if there is one, answers its call.
 #[tactic(auto, unfolding(crate::specs::StepLines::answer_text))]
-fn append_answer(text: &mut Vec<u8>, answer: &Option<Returned>) -> Result<(), Memory>
-    ensures { OnOk result (text.new.items ≡ text.old.items ++ answer_text answer.now) }
+fn append_answer(text: &mut Vec<u8>, client: Option<&Client>) -> Result<(), Memory>
+    ensures { OnOk result (text.new.items ≡ text.old.items
+        ++ answer_text (option_and_then answer_of (option_copied client.entry))) }
 {
-    match answer {
+    let Some(client) = client else {
+        return Ok(());
+    };
+    match client.answer()? {
         None => Ok(()),
         Some(Returned::Written) => append(text, " answers that its write is done"),
         Some(Returned::Value(value)) => {
@@ -130,22 +113,6 @@ fn key_of(request: &Request) -> &Key
     }
 }
 
-/// Adds that a replica takes the pair for the key.
-fn append_taken_pair(
-    text: &mut Vec<u8>,
-    tag: Tag,
-    value: Option<&Value>,
-    key: &Key,
-) -> Result<(), Memory>
-    ensures { OnOk result (text.new.items ≡ text.old.items
-        ++ codes " takes " ++ pair_text tag (option_copied value.entry)
-        ++ codes " for " ++ key.now) }
-{
-    append(text, " takes ")?;
-    append_pair(text, tag, value)?;
-    append_key(text, " for ", key)
-}
-
 /// Adds that a replica keeps its own pair of the key, which has that tag.
 fn append_kept_pair(text: &mut Vec<u8>, own: Tag, key: &Key) -> Result<(), Memory>
     ensures { OnOk result (text.new.items ≡ text.old.items
@@ -171,11 +138,7 @@ fn append_handled(
         ≡ text.old.items ++ handled_text own (option_copied value.entry) request.now) }
 {
     match request {
-        Request::Query { key, .. } => {
-            append(text, " holds ")?;
-            append_pair(text, own, value)?;
-            append_key(text, " for ", key)
-        }
+        Request::Query { key, .. } => append_pair_of(text, " holds ", own, value, key),
         Request::Put {
             key,
             tag,
@@ -183,7 +146,7 @@ fn append_handled(
             ..
         } => {
             if own < *tag {
-                append_taken_pair(text, *tag, value.as_ref(), key)
+                append_pair_of(text, " takes ", *tag, value.as_ref(), key)
             } else {
                 append_kept_pair(text, own, key)
             }
@@ -214,21 +177,6 @@ fn append_reply(text: &mut Vec<u8>, reply: &Reply) -> Result<(), Memory>
     }
 }
 
-/// Adds that a request arrives, and what the replica makes of it.
-fn append_request_arrival(
-    text: &mut Vec<u8>,
-    world: &World,
-    number: ReplicaId,
-    request: &Request,
-) -> Result<(), Memory>
-    ensures { OnOk result (text.new.items ≡ text.old.items
-        ++ message_text world.now (Message.ToReplica number request.now)) }
-{
-    let (own, value) = held_at(world, number, key_of(request));
-    append_replica(text, " arrives: replica ", number)?;
-    append_handled(text, own, value, request)
-}
-
 /// Adds that the message arrives, and what its receiver makes of it.
 #[tactic(auto, unfolding(crate::specs::StepLines::message_text))]
 fn append_message(text: &mut Vec<u8>, world: &World, message: &Message) -> Result<(), Memory>
@@ -237,7 +185,9 @@ fn append_message(text: &mut Vec<u8>, world: &World, message: &Message) -> Resul
 {
     match message {
         Message::ToReplica(number, request) => {
-            append_request_arrival(text, world, *number, request)
+            let (own, value) = held_at(world, *number, key_of(request));
+            append_replica(text, " arrives: replica ", *number)?;
+            append_handled(text, own, value, request)
         }
         Message::ToClient(client, reply) => {
             append_client(text, " arrives: client ", *client)?;
@@ -264,7 +214,7 @@ fn append_arrival(
 /// Adds the client, and what it does.
 fn append_client_act(text: &mut Vec<u8>, client: ClientId, act: &str) -> Result<(), Memory>
     ensures { OnOk result
-        (text.new.items ≡ text.old.items ++ numbered (codes "client ") client ++ act.now) }
+        (text.new.items ≡ text.old.items ++ (numbered (codes "client ") client ++ act.now)) }
 {
     append_client(text, "client ", client)?;
     append(text, act)
@@ -273,35 +223,19 @@ fn append_client_act(text: &mut Vec<u8>, client: ClientId, act: &str) -> Result<
 /// Adds the replica, and what it does.
 fn append_replica_act(text: &mut Vec<u8>, replica: ReplicaId, act: &str) -> Result<(), Memory>
     ensures { OnOk result
-        (text.new.items ≡ text.old.items ++ numbered (codes "replica ") replica ++ act.now) }
+        (text.new.items ≡ text.old.items ++ (numbered (codes "replica ") replica ++ act.now)) }
 {
     append_replica(text, "replica ", replica)?;
     append(text, act)
 }
 
-/// Adds that the client sends its request to the replica.
-fn append_send(
-    text: &mut Vec<u8>,
-    world: &World,
-    client: ClientId,
-    replica: ReplicaId,
-) -> Result<(), Memory>
-    ensures { OnOk result (text.new.items ≡ text.old.items ++ numbered (codes "client ") client
-        ++ sent_text replica (option_and_then request_of (client_at world.now client))) }
+/// Adds the words and the message's number, and what becomes of the message.
+fn append_flight_act(text: &mut Vec<u8>, words: &str, flight: u32, act: &str) -> Result<(), Memory>
+    ensures { OnOk result
+        (text.new.items ≡ text.old.items ++ (numbered words.now flight ++ act.now)) }
 {
-    let request = request_of(world, client)?;
-    append_client(text, "client ", client)?;
-    append_sent(text, replica, request.as_ref())
-}
-
-/// Adds that the client answers its call.
-fn append_response(text: &mut Vec<u8>, world: &World, client: ClientId) -> Result<(), Memory>
-    ensures { OnOk result (text.new.items ≡ text.old.items ++ numbered (codes "client ") client
-        ++ answer_text (option_and_then answer_of (client_at world.now client))) }
-{
-    let answer = answer_of(world, client)?;
-    append_client(text, "client ", client)?;
-    append_answer(text, &answer)
+    append_flight(text, words, flight)?;
+    append(text, act)
 }
 
 /// Adds who takes the step, and what it does.
@@ -319,20 +253,22 @@ pub(crate) fn append_act(text: &mut Vec<u8>, world: &World, step: &Step) -> Resu
             append_client(text, "client ", *client)?;
             append_begun(text, key, action)
         }
-        Step::Send { client, replica } => append_send(text, world, *client, *replica),
+        Step::Send { client, replica } => {
+            append_client(text, "client ", *client)?;
+            append_sent(text, *replica, world.client(*client))
+        }
         Step::Deliver { flight } => {
             append_flight(text, "message ", *flight)?;
             append_arrival(text, world, world.pool().look(*flight))
         }
-        Step::Lose { flight } => {
-            append_flight(text, "a copy of message ", *flight)?;
-            append(text, " is lost")
-        }
+        Step::Lose { flight } => append_flight_act(text, "a copy of message ", *flight, " is lost"),
         Step::Repeat { flight } => {
-            append_flight(text, "message ", *flight)?;
-            append(text, " gets one more copy")
+            append_flight_act(text, "message ", *flight, " gets one more copy")
         }
-        Step::Respond { client } => append_response(text, world, *client),
+        Step::Respond { client } => {
+            append_client(text, "client ", *client)?;
+            append_answer(text, world.client(*client))
+        }
         Step::StopClient { client } => append_client_act(text, *client, " stops for good"),
         Step::StopReplica { replica } => {
             append_replica_act(text, *replica, " goes down, and keeps what it stored")

@@ -31,14 +31,12 @@ fn append_members(text: &mut Vec<u8>, set: ReplicaSet) -> Result<(), Memory>
 fn append_counted(text: &mut Vec<u8>, count: &Option<Count>) -> Result<(), Memory>
     ensures { OnOk result (text.new.items ≡ text.old.items ++ counted_text count.now) }
 {
-    match count {
-        None => Ok(()),
-        Some(count) => {
-            append(text, "; it has counted ")?;
-            append_members(text, count.earlier)?;
-            append_number(text, "", u64::from(count.replica.get()))
-        }
-    }
+    let Some(count) = count else {
+        return Ok(());
+    };
+    append(text, "; it has counted ")?;
+    append_members(text, count.earlier)?;
+    append_number(text, "", u64::from(count.replica.get()))
 }
 
 /// Adds how many votes a client has counted, of those that it needs.
@@ -46,14 +44,12 @@ fn append_counted(text: &mut Vec<u8>, count: &Option<Count>) -> Result<(), Memor
 fn append_votes(text: &mut Vec<u8>, count: &Option<Count>) -> Result<(), Memory>
     ensures { OnOk result (text.new.items ≡ text.old.items ++ votes_text count.now) }
 {
-    match count {
-        None => Ok(()),
-        Some(count) => {
-            append_number(text, ": ", u64::from(count.votes))?;
-            append_number(text, " of ", u64::from(count.needed))?;
-            append(text, " votes")
-        }
-    }
+    let Some(count) = count else {
+        return Ok(());
+    };
+    append_number(text, ": ", u64::from(count.votes))?;
+    append_number(text, " of ", u64::from(count.needed))?;
+    append(text, " votes")
 }
 
 /// Adds what a client makes of a reply.

@@ -1,9 +1,8 @@
 //! Lines that are told while there is room for them, and then counted.
 ghost use Rattle.std.specs.Prelude.{◌≡◌, ◌++◌, [], IfOk, OnOk};
 ghost use Rattle.traces.specs.Running.{IsTold, TellsOn};
-ghost use Rattle.traces.specs.Traces.{finish_line, finish_words, finished_line, notice_line};
-ghost use Rattle.traces.specs.Traces.{omitted_line, own_line, random_line, unfinished_line};
-ghost use Rattle.traces.specs.Traces.{walked_line};
+ghost use Rattle.traces.specs.Traces.{finish_words, finished_line, notice_line, omitted_line};
+ghost use Rattle.traces.specs.Traces.{own_line, random_line, walked_line};
 
 use crate::step_words::{append_client, append_unsettled};
 use crate::steps::{append_head, take_untold, tell_step};
@@ -12,7 +11,6 @@ use observed_runs::{Notice, Observer, Quota};
 use sentences::{append, append_number};
 use std::alloc::Global;
 use tag::{ClientId, Memory};
-use world_settle::SettleError;
 use world_steps::{Step, World};
 
 /// The text of the lines that are told.
@@ -31,15 +29,6 @@ fn append_finish(text: &mut Vec<u8>, number: u64, client: ClientId) -> Result<()
     append_client(text, "finish ", client)
 }
 
-/// Adds the line above the steps that complete a client's call.
-#[tactic(auto, unfolding(crate::specs::Traces::finish_line))]
-fn append_finish_line(text: &mut Vec<u8>, number: u64, client: ClientId) -> Result<(), Memory>
-    ensures { OnOk result (text.new.items ≡ text.old.items ++ finish_line number client) }
-{
-    append_finish(text, number, client)?;
-    append(text, ":\n")
-}
-
 /// Adds the line below the steps that completed a client's call.
 #[tactic(auto, unfolding(crate::specs::Traces::finished_line))]
 fn append_finished(text: &mut Vec<u8>, count: u32) -> Result<(), Memory>
@@ -47,22 +36,6 @@ fn append_finished(text: &mut Vec<u8>, count: u32) -> Result<(), Memory>
 {
     append_number(text, "  took ", u64::from(count))?;
     append(text, " steps\n")
-}
-
-/// Adds the line of a call that can't be completed.
-#[tactic(auto, unfolding(crate::specs::Traces::unfinished_line))]
-fn append_unfinished(
-    text: &mut Vec<u8>,
-    number: u64,
-    client: ClientId,
-    why: SettleError,
-) -> Result<(), Memory>
-    ensures { OnOk result
-        (text.new.items ≡ text.old.items ++ unfinished_line number client why) }
-{
-    append_finish(text, number, client)?;
-    append_unsettled(text, why)?;
-    append(text, "\n")
 }
 
 /// Adds the line above random steps.
@@ -99,13 +72,21 @@ fn append_omitted(text: &mut Vec<u8>, count: u64) -> Result<(), Memory>
 }
 
 /// Adds the line of what there is to say of the command of that line.
+#[tactic(auto, unfolding(crate::specs::Traces::finish_line, crate::specs::Traces::unfinished_line))]
 fn append_notice(text: &mut Vec<u8>, number: u64, notice: Notice) -> Result<(), Memory>
     ensures { OnOk result (text.new.items ≡ text.old.items ++ notice_line number notice) }
 {
     match notice {
-        Notice::Finishes(client) => append_finish_line(text, number, client),
+        Notice::Finishes(client) => {
+            append_finish(text, number, client)?;
+            append(text, ":\n")
+        }
         Notice::Finished(count) => append_finished(text, count),
-        Notice::Unfinished(client, why) => append_unfinished(text, number, client, why),
+        Notice::Unfinished(client, why) => {
+            append_finish(text, number, client)?;
+            append_unsettled(text, why)?;
+            append(text, "\n")
+        }
         Notice::Randomizes { seed, count } => append_random(text, number, seed, count),
         Notice::Randomized { taken, count } => append_walked(text, taken, count),
     }

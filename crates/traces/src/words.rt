@@ -1,5 +1,5 @@
 //! What lines are made of: keys, pairs, tags among words, and reasons.
-ghost use Rattle.std.specs.Prelude.{◌≡◌, ◌++◌, option_copied, OnOk};
+ghost use Rattle.std.specs.Prelude.{◌≡◌, ◌++◌, codes, option_copied, OnOk};
 ghost use Rattle.sentences.specs.Words.{tag_text};
 ghost use Rattle.traces.specs.Words.{pair_text, reason_text};
 
@@ -38,6 +38,22 @@ pub(crate) fn append_pair(text: &mut Vec<u8>, tag: Tag, value: Option<&Value>) -
     append_tag(text, tag)?;
     append(text, " ")?;
     append_value(text, value)
+}
+
+/// Adds the words, the pair, and the key that the pair is of.
+pub(crate) fn append_pair_of(
+    text: &mut Vec<u8>,
+    words: &str,
+    tag: Tag,
+    value: Option<&Value>,
+    key: &Key,
+) -> Result<(), Memory>
+    ensures { OnOk result (text.new.items ≡ text.old.items
+        ++ (words.now ++ pair_text tag (option_copied value.entry) ++ codes " for " ++ key.now)) }
+{
+    append(text, words)?;
+    append_pair(text, tag, value)?;
+    append_key(text, " for ", key)
 }
 
 /// Adds that something is refused, and the reason's number, name and sentence.
