@@ -1,19 +1,26 @@
 -- The first item that passes a test, found by its place and changed.
 use Rattle.std.proofs.Common.{ℕ, zero, suc, ◌≡◌, ◌+◌, ◌<◌, ◌≤◌, Bool, true, false, not, cond, ltb, List, [], ◌∷◌, length, Option, None, Some, get_or, set}
 use Rattle.std.proofs.Common.{refl, sym, ap, ◌∙◌, inl, inr, arith}
-use Rattle.std.specs.List.{find, position, position_or_len}
+use Rattle.std.specs.List.{find, position, position_or_len, slice_get}
 use Rattle.std.specs.Prelude.{IfSome}
 use Rattle.std.proofs.lemmas.Bool.{cases_Bool, ltb-false}
+use Rattle.std.proofs.lemmas.List.Folds.{find_at}
 use Rattle.std.proofs.lemmas.List.Quantifiers.{position-Some}
+use Rattle.std.proofs.lemmas.Option.{slice_get-get_or, slice_get_past}
 use Rattle.message_scenes.specs.Lists.{change_first}
 
 none_of : (b : Bool) (n : ℕ) → cond b (Some n) None ≡ None → b ≡ false
 none_of true n e = absurd cc
 none_of false n e = refl
 
+-- where no place was found
+past_all : {A : Type 0} (test : A → Bool) (xs : List A) → position test xs ≡ None → length xs ≤ position_or_len test xs
+past_all test xs is =
+    ltb-false (position_or_len test xs) (length xs) (none_of (ltb (position_or_len test xs) (length xs)) (position_or_len test xs) is)
+
 module _ {A : Type 0} (test : A → Bool) (f : A → A) where
   -- the first item, by whether it passes
-  heads : (x : A) (xs : List A) (b : Bool) → test x ≡ b → change_first test f (x ∷ xs) ≡ cond b (f x ∷ xs) (x ∷ change_first test f xs)
+  pub heads : (x : A) (xs : List A) (b : Bool) → test x ≡ b → change_first test f (x ∷ xs) ≡ cond b (f x ∷ xs) (x ∷ change_first test f xs)
   heads x xs b e = ap (λ (t : Bool). cond t (f x ∷ xs) (x ∷ change_first test f xs)) e
 
   -- at a place before which none passes
@@ -46,10 +53,7 @@ module _ {A : Type 0} (test : A → Bool) (f : A → A) where
 
   -- nothing changes where none was found
   pub unchanged : (xs : List A) → position test xs ≡ None → xs ≡ change_first test f xs
-  unchanged xs is =
-      let past : length xs ≤ position_or_len test xs =
-      ltb-false (position_or_len test xs) (length xs) (none_of (ltb (position_or_len test xs) (length xs)) (position_or_len test xs) is) in
-      sym (nowhere xs past)
+  unchanged xs is = sym (nowhere xs (past_all test xs is))
 
 -- the place that was found is one of the list
 pub found_bound : {A : Type 0} (test : A → Bool) (xs : List A) (place : Option ℕ) → place ≡ position test xs → IfSome place (λ k. k < length xs)
@@ -57,35 +61,18 @@ found_bound test xs None is = tt
 found_bound test [] (Some k) is = absurd (let e : Some k ≡ None = is in cc)
 found_bound test (x ∷ xs) (Some k) is = (position-Some test (x ∷ xs) k x (sym is)).0
 
-module _ {A : Type 0} (test : A → Bool) where
-  -- the first item that passes, at a place before which none does
-  find_at_place : (xs : List A) (k : ℕ) (d : A) → k < length xs → test (get_or xs k d) ≡ true
-      → ((j : ℕ) → j < k → test (get_or xs j d) ≡ false) → find test xs ≡ Some (get_or xs k d)
-  find_at_place [] k d inside passes before = absurd (omega (arith, inside))
-  find_at_place (x ∷ xs) zero d inside passes before = ap (λ (b : Bool). cond b (Some x) (find test xs)) passes
-  find_at_place (x ∷ xs) (suc k) d inside passes before =
-      ap (λ (b : Bool). cond b (Some x) (find test xs)) (before 0 (omega arith))
-      ∙ find_at_place xs k d (omega (arith, inside)) passes (λ j below. before (suc j) (omega (arith, below)))
+-- and it is that of the first item that passes
+first_place : (b : Bool) (n k : ℕ) → cond {A = Option ℕ} b (Some n) None ≡ Some k → n ≡ k
+first_place true n k e = cc
+first_place false n k e = absurd cc
 
+module _ {A : Type 0} (test : A → Bool) where
+  -- the item at the place that was found is the first that passes
   pub find_here : (xs : List A) (k : ℕ) (d : A) → position test xs ≡ Some k → find test xs ≡ Some (get_or xs k d)
   find_here xs k d is =
-      let (inside, passes, before) = position-Some test xs k d is in
-      find_at_place xs k d inside passes before
+      find_at test xs ∙ ap (slice_get xs) (first_place (ltb (position_or_len test xs) (length xs)) (position_or_len test xs) k is)
+      ∙ slice_get-get_or xs k d (position-Some test xs k d is).0
 
-  -- no item passes
-  find_nowhere : (xs : List A) → length xs ≤ position_or_len test xs → find test xs ≡ None
-  find_nowhere [] past = refl
-  find_nowhere (x ∷ xs) past = elim (cases_Bool (test x)) [
-    | inl hit ↦
-        let first : position_or_len test (x ∷ xs) ≡ 0 = ap (λ (b : Bool). cond (not b) (1 + position_or_len test xs) 0) hit in
-        absurd (omega (arith, past, first))
-    | inr miss ↦
-        let rest : position_or_len test (x ∷ xs) ≡ 1 + position_or_len test xs =
-        ap (λ (b : Bool). cond (not b) (1 + position_or_len test xs) 0) miss in
-        ap (λ (b : Bool). cond b (Some x) (find test xs)) miss ∙ find_nowhere xs (omega (arith, past, rest))
-  ]
-
+  -- no item passes where none was found
   pub find_none : (xs : List A) → position test xs ≡ None → find test xs ≡ None
-  find_none xs is =
-      find_nowhere xs
-      (ltb-false (position_or_len test xs) (length xs) (none_of (ltb (position_or_len test xs) (length xs)) (position_or_len test xs) is))
+  find_none xs is = find_at test xs ∙ slice_get_past xs (position_or_len test xs) (past_all test xs is)

@@ -1,5 +1,5 @@
 -- The bars of a scene show the calls of its run.
-use Rattle.std.proofs.Common.{ℕ, ◌≡◌, ◌⊎◌, Bool, true, false, cond, List, [], ◌∷◌, ◌++◌, map, length, Option, None, Some}
+use Rattle.std.proofs.Common.{ℕ, ◌≡◌, ◌⊎◌, Bool, true, false, List, [], ◌∷◌, ◌++◌, map, length, Option, None, Some}
 use Rattle.std.proofs.Common.{refl, sym, ap, ◌∙◌, subst, inl, inr, append-nil, arith}
 use Rattle.std.specs.FinMap as finite
 use Rattle.std.specs.List.{filter, slice_get}
@@ -39,22 +39,19 @@ use Rattle.message_scenes.specs.Shapes.{Shapes, no_shapes, with_step, with_steps
 use Rattle.message_scenes.specs.Taken.{TakenStep, TakesAll, taken_step}
 use Rattle.message_scenes.specs.declared.calls.CallBar.{CallBar}
 use Rattle.message_scenes.specs.declared.calls.CallEnd.TheVariants as ending
+use Rattle.message_scenes.proofs.Changed.{heads}
 use Rattle.message_scenes.proofs.Chain.{AreChained, chain_all, chain_first}
 use Rattle.message_scenes.proofs.Chain.AreChained.{begins, ends}
 
 -- ---- a bar that is changed shows the same call
 module _ (test : CallBar → Bool) (f : CallBar → CallBar) (same : (bar : CallBar) → invocation_of (f bar) ≡ invocation_of bar) where
-  first_by : (bar : CallBar) (bars : List CallBar) (b : Bool) → test bar ≡ b
-      → change_first test f (bar ∷ bars) ≡ cond b (f bar ∷ bars) (bar ∷ change_first test f bars)
-  first_by bar bars b e = ap (λ (t : Bool). cond t (f bar ∷ bars) (bar ∷ change_first test f bars)) e
-
   calls_kept : (bars : List CallBar) → map invocation_of (change_first test f bars) ≡ map invocation_of bars
   calls_kept [] = refl
   calls_kept (bar ∷ bars) = elim (cases_Bool (test bar)) [
     | inl hit ↦
-        ap (map invocation_of) (first_by bar bars true hit) ∙ ap (λ (row : Row). row ∷ map invocation_of bars) (same bar)
+        ap (map invocation_of) (heads test f bar bars true hit) ∙ ap (λ (row : Row). row ∷ map invocation_of bars) (same bar)
     | inr miss ↦
-        ap (map invocation_of) (first_by bar bars false miss) ∙ ap (λ (rows : List Row). invocation_of bar ∷ rows) (calls_kept bars)
+        ap (map invocation_of) (heads test f bar bars false miss) ∙ ap (λ (rows : List Row). invocation_of bar ∷ rows) (calls_kept bars)
   ]
 
 -- ---- one row more of the record

@@ -1,10 +1,10 @@
 //! Arrows: each copy of a message has one.
-ghost use Rattle.std.specs.Prelude.{◌≡◌, ◌<◌, ◌++◌, IfOk, IfSome, OnOk, length, option_copied};
-ghost use Rattle.std.specs.Prelude.{option_to_list};
-ghost use Rattle.std.specs.List.{find, position};
-ghost use Rattle.message_scenes.specs.Arrows.{arrows_by, copy_arrow, end_flight, is_open};
-ghost use Rattle.message_scenes.specs.Arrows.{is_under_way, replier, reply_arrow, request_arrow};
+ghost use Rattle.std.specs.Prelude.{◌≡◌, ◌++◌, IfOk, OnOk, option_copied, option_to_list};
+ghost use Rattle.std.specs.List.{find};
+ghost use Rattle.message_scenes.specs.Arrows.{arrows_by, copy_arrow, is_open, is_under_way};
+ghost use Rattle.message_scenes.specs.Arrows.{replier, reply_arrow, request_arrow};
 
+use crate::lists::{end_first, first_of};
 use network::Message;
 use replica::Reply;
 use tag::{ClientId, Memory, ReplicaId};
@@ -40,40 +40,6 @@ impl ArrowEnd {
         ensures { result ≡ is_open self.now }
     {
         matches!(self, ArrowEnd::Open)
-    }
-}
-
-impl Arrow {
-    /// Whether it is that of a copy of the flight that is under way.
-    fn is_under_way(&self, flight: u32) -> bool
-        ensures { result ≡ is_under_way flight self.now }
-    {
-        self.flight == flight && self.end.is_open()
-    }
-}
-
-/// The place of the arrow of the flight that was sent first, of those under way.
-fn position_of(arrows: &[Arrow], flight: u32) -> Option<usize>
-    ensures { result ≡ position (is_under_way flight) arrows.now }
-{
-    arrows.iter().position(|arrow| arrow.is_under_way(flight))
-}
-
-/// The same, which is a place of the list.
-fn first_of(arrows: &[Arrow], flight: u32) -> Option<usize>
-    ensures place { result ≡ position (is_under_way flight) arrows.now }
-    ensures bound { IfSome result (λ k. k < length arrows.now) }
-{
-    position_of(arrows, flight)
-}
-
-/// Ends the arrow of the flight that was sent first, of those under way.
-fn end_flight(arrows: &mut [Arrow], flight: u32, end: ArrowEnd)
-    ensures { arrows.new ≡ end_flight flight end arrows.old }
-{
-    match first_of(arrows, flight) {
-        Some(k) => arrows[k].end = end,
-        None => {}
     }
 }
 
@@ -186,11 +152,11 @@ pub(crate) fn add_arrows(
             add_request(arrows, row, *client, *replica, flight, sent)
         }
         Step::Deliver { flight: number } => {
-            end_flight(arrows, *number, ArrowEnd::Arrives(row));
+            end_first(arrows, *number, ArrowEnd::Arrives(row));
             add_reply(arrows, row, flight, sent)
         }
         Step::Lose { flight: number } => {
-            end_flight(arrows, *number, ArrowEnd::Lost(row));
+            end_first(arrows, *number, ArrowEnd::Lost(row));
             Ok(())
         }
         Step::Repeat { flight: number } => add_copy(arrows, row, *number),

@@ -1,10 +1,9 @@
 //! Calls: each is a bar on its client's lifeline.
-ghost use Rattle.std.specs.Prelude.{◌≡◌, ◌<◌, IfSome, OnOk, Some, length, option_copied};
-ghost use Rattle.std.specs.List.{position};
-ghost use Rattle.message_scenes.specs.Calls.{calls_by, calls_with, closed, is_of_call};
-ghost use Rattle.message_scenes.specs.Calls.{is_pending, is_pending_of, noted};
+ghost use Rattle.std.specs.Prelude.{◌≡◌, OnOk, Some, option_copied};
+ghost use Rattle.message_scenes.specs.Calls.{calls_by, calls_with, is_of_call, is_pending, noted};
 ghost use Rattle.message_scenes.specs.Lists.{change_first};
 
+use crate::lists::{end_first, first_of};
 use recorder::Row;
 use tag::{Action, ClientId, Key, Memory, OpId, Returned, Tag};
 use world_steps::Step;
@@ -49,22 +48,6 @@ impl CallEnd {
     }
 }
 
-impl CallBar {
-    /// Whether it is that of the call.
-    fn is_of(&self, op: OpId) -> bool
-        ensures { result ≡ is_of_call op self.now }
-    {
-        self.call.0 == op.0
-    }
-
-    /// Whether it is that of a pending call of the client.
-    fn is_pending_of(&self, client: ClientId) -> bool
-        ensures { result ≡ is_pending_of client self.now }
-    {
-        self.client == client && self.end.is_open()
-    }
-}
-
 /// Adds the bar of a call that begins.
 fn begin(
     bars: &mut Vec<CallBar>,
@@ -89,63 +72,12 @@ fn begin(
     Ok(())
 }
 
-/// The place of the call's bar.
-fn position_of(bars: &[CallBar], op: OpId) -> Option<usize>
-    ensures { result ≡ position (is_of_call op) bars.now }
-{
-    bars.iter().position(|bar| bar.is_of(op))
-}
-
-/// The same, which is a place of the list.
-fn place_of(bars: &[CallBar], op: OpId) -> Option<usize>
-    ensures place { result ≡ position (is_of_call op) bars.now }
-    ensures bound { IfSome result (λ k. k < length bars.now) }
-{
-    position_of(bars, op)
-}
-
-/// The place of the bar of the client's pending call.
-fn pending_position(bars: &[CallBar], client: ClientId) -> Option<usize>
-    ensures { result ≡ position (is_pending_of client) bars.now }
-{
-    bars.iter().position(|bar| bar.is_pending_of(client))
-}
-
-/// The same, which is a place of the list.
-fn pending_place(bars: &[CallBar], client: ClientId) -> Option<usize>
-    ensures place { result ≡ position (is_pending_of client) bars.now }
-    ensures bound { IfSome result (λ k. k < length bars.now) }
-{
-    pending_position(bars, client)
-}
-
 /// Notes the call.
 fn note(bars: &mut [CallBar], row: usize, op: OpId, tag: Tag)
     ensures { bars.new ≡ change_first (is_of_call op) (noted row tag) bars.old }
 {
-    match place_of(bars, op) {
+    match first_of(bars, op) {
         Some(k) => bars[k].note = Some(PlacedNote { row, tag }),
-        None => {}
-    }
-}
-
-/// Ends the bar of the call.
-fn close(bars: &mut [CallBar], op: OpId, end: CallEnd)
-    ensures { bars.new ≡ change_first (is_of_call op) (closed end) bars.old }
-{
-    match place_of(bars, op) {
-        Some(k) => bars[k].end = end,
-        None => {}
-    }
-}
-
-/// Ends the bar of the client's pending call, if it has one.
-fn stop(bars: &mut [CallBar], row: usize, client: ClientId)
-    ensures { bars.new
-        ≡ change_first (is_pending_of client) (closed (CallEnd.Stopped row)) bars.old }
-{
-    match pending_place(bars, client) {
-        Some(k) => bars[k].end = CallEnd::Stopped(row),
         None => {}
     }
 }
@@ -171,7 +103,7 @@ fn record_row(bars: &mut Vec<CallBar>, row: usize, recorded: Option<&Row>) -> Re
         }
         Some(Row::Respond { op, returned }) => {
             let returned = returned.copy()?;
-            close(bars, *op, CallEnd::Answered { row, returned });
+            end_first(bars, *op, CallEnd::Answered { row, returned });
             Ok(())
         }
     }
@@ -189,7 +121,7 @@ pub(crate) fn add_calls(
 {
     match step {
         Step::StopClient { client } => {
-            stop(bars, row, *client);
+            end_first(bars, *client, CallEnd::Stopped(row));
             Ok(())
         }
         _ => record_row(bars, row, recorded),

@@ -10,6 +10,7 @@
 mod arrows;
 mod calls;
 pub mod laws;
+mod lists;
 mod replicas;
 mod scene;
 mod script_scene;

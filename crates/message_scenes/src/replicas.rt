@@ -1,10 +1,8 @@
 //! Replicas: where what they hold changes, and when they are down.
-ghost use Rattle.std.specs.Prelude.{◌≡◌, ◌<◌, IfOk, IfSome, OnOk, length, slice_get};
-ghost use Rattle.std.specs.List.{position};
-ghost use Rattle.message_scenes.specs.Lists.{change_first};
+ghost use Rattle.std.specs.Prelude.{◌≡◌, IfOk, OnOk, slice_get};
 ghost use Rattle.message_scenes.specs.Replicas.{change_by, change_of, downs_after};
-ghost use Rattle.message_scenes.specs.Replicas.{is_down_time_of, over};
 
+use crate::lists::end_first;
 use network::Message;
 use replica::Request;
 use tag::{Key, Memory, ReplicaId, Tag, Value};
@@ -28,15 +26,6 @@ pub struct DownTime {
     pub stops: usize,
     /// The row of the step by which it goes up again; `None` if it is down after the last row.
     pub starts: Option<usize>,
-}
-
-impl DownTime {
-    /// Whether it is the replica's, and isn't over.
-    fn is_of(&self, replica: ReplicaId) -> bool
-        ensures { result ≡ is_down_time_of replica self.now }
-    {
-        self.replica == replica && self.starts.is_none()
-    }
 }
 
 /// What the replica of that number comes to hold by the request.
@@ -87,31 +76,6 @@ pub(crate) fn change_of(world: &World, row: usize, step: &Step) -> Result<Option
     }
 }
 
-/// The place of the time for which the replica is down.
-fn position_of(downs: &[DownTime], replica: ReplicaId) -> Option<usize>
-    ensures { result ≡ position (is_down_time_of replica) downs.now }
-{
-    downs.iter().position(|time| time.is_of(replica))
-}
-
-/// The same, which is a place of the list.
-fn place_of(downs: &[DownTime], replica: ReplicaId) -> Option<usize>
-    ensures place { result ≡ position (is_down_time_of replica) downs.now }
-    ensures bound { IfSome result (λ k. k < length downs.now) }
-{
-    position_of(downs, replica)
-}
-
-/// Ends the time for which the replica is down.
-fn start(downs: &mut [DownTime], row: usize, replica: ReplicaId)
-    ensures { downs.new ≡ change_first (is_down_time_of replica) (over row) downs.old }
-{
-    match place_of(downs, replica) {
-        Some(k) => downs[k].starts = Some(row),
-        None => {}
-    }
-}
-
 /// Begins or ends a time for which a replica is down, by the step of the row.
 #[tactic(auto, unfolding(crate::specs::Replicas::downs_after))]
 pub(crate) fn add_downs(downs: &mut Vec<DownTime>, row: usize, step: &Step) -> Result<(), Memory>
@@ -125,7 +89,7 @@ pub(crate) fn add_downs(downs: &mut Vec<DownTime>, row: usize, step: &Step) -> R
                 starts: None,
             })?;
         }
-        Step::StartReplica { replica } => start(downs, row, *replica),
+        Step::StartReplica { replica } => end_first(downs, *replica, row),
         _ => {}
     }
     Ok(())

@@ -1,9 +1,6 @@
 //! Scenes under way: the first steps are drawn, and those after them are counted.
-ghost use Rattle.std.specs.Prelude.{◌≡◌, [], OnOk, None};
-ghost use Rattle.world_steps.specs.Refusals.{refusal_of};
-ghost use Rattle.world_steps.specs.Systems.{system_after};
-ghost use Rattle.message_scenes.specs.Sketches.{Draws, DrawsOn, IsSketched};
-ghost use Rattle.message_scenes.specs.Taken.{taken_step};
+ghost use Rattle.std.specs.Prelude.{[]};
+ghost use Rattle.message_scenes.specs.Sketches.{DrawsOn, IsSketched};
 
 use crate::MessageScene;
 use crate::scene::take;
@@ -30,25 +27,6 @@ impl Sketch {
             quota: Quota::new(most),
         }
     }
-
-    /// Takes a step that isn't refused, and draws it or counts it.
-    fn draw(
-        &mut self,
-        world: &mut World,
-        command: &NumberedCommand,
-        step: Step,
-    ) -> Result<(), Memory>
-        requires { refusal_of world.old step ≡ None }
-        ensures drawn { OnOk result
-            (Draws self.old (taken_step command.now world.old step) self.new) }
-        ensures system { OnOk result (world.new ≡ system_after world.old step) }
-    {
-        if self.quota.admits() {
-            self.scene.add(world, command, step)?;
-            return Ok(());
-        }
-        take(world, step)
-    }
 }
 
 impl Observer for Sketch {
@@ -63,7 +41,11 @@ impl Observer for Sketch {
         if world.refusal(&step).is_some() {
             return Ok(false);
         }
-        self.draw(world, command, step)?;
+        if self.quota.admits() {
+            self.scene.add(world, command, step)?;
+            return Ok(true);
+        }
+        take(world, step)?;
         Ok(true)
     }
 

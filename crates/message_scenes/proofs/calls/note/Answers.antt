@@ -6,8 +6,8 @@ use Rattle.std.proofs.Common.{sym, ◌∙◌}
 pub returns-in-Some : goal.returns-in-Some
 returns-in-Some c =
     changed_here (is_of_call c.args.op) (noted c.args.row c.args.tag) c.args.bars.now c.in-Some.k c.index-bars-k.result
-    (sym c.place_of.ensures.place ∙ c.in-Some.is)
+    (sym c.first_of.ensures.place ∙ c.in-Some.is)
 
 pub returns-in-None : goal.returns-in-None
 returns-in-None c =
-    unchanged (is_of_call c.args.op) (noted c.args.row c.args.tag) c.args.bars.now (sym c.place_of.ensures.place ∙ c.in-None.is)
+    unchanged (is_of_call c.args.op) (noted c.args.row c.args.tag) c.args.bars.now (sym c.first_of.ensures.place ∙ c.in-None.is)
