@@ -1,12 +1,13 @@
 -- A line, piece by piece.
-use Rattle.std.proofs.Common.{ℕ, ◌≡◌, List, ◌++◌, codes, decimal, ap, refl, ◌∙◌, append_assoc}
+use Rattle.std.proofs.Common.{ℕ, ◌≡◌, List, ◌++◌, codes, decimal, ap, refl, sym, ◌∙◌, append_assoc}
 use Rattle.std.specs.Borrow.{Bor}
 use Rattle.tag.specs.declared.numbers.OpId.{OpId}
 use Rattle.certificate_check.specs.declared.verdict.Fault.{Fault}
 use Rattle.certificate_check.specs.declared.verdict.Verdict.{Verdict}
+use Rattle.certificate_check.specs.declared.verdict.Verdict.TheVariants.{Yes, No}
 use Rattle.cli.specs.Justifications.{no_note_text, refusal_text}
 use Rattle.cli.specs.JsonLines.{json_line, verdict_members}
-use Rattle.cli.specs.VerdictLines.{fault_text, line_text, verdict_text}
+use Rattle.cli.specs.VerdictLines.{fault_text, line_text}
 use Rattle.cli.specs.declared.noted_orders.Unjustified.TheVariants as unjustified
 
 regroup : (old p q r s : List ℕ) → (((old ++ p) ++ q) ++ r) ++ s ≡ old ++ (p ++ q ++ r ++ s)
@@ -16,13 +17,21 @@ four : (old p q r s a b c d : List ℕ) → a ≡ old ++ p → b ≡ a ++ q → 
 four old p q r s a b c d first second third fourth =
     fourth ∙ ap (λ (x : List ℕ). x ++ s) (third ∙ ap (λ (x : List ℕ). x ++ r) (second ∙ ap (λ (x : List ℕ). x ++ q) first)) ∙ regroup old p q r s
 
--- a text and a number after it
-pub joined : (old p q new : List ℕ) → new ≡ old ++ p ++ q → new ≡ old ++ (p ++ q)
-joined old p q new added = added ∙ append_assoc old p q
+regroup_no : (key p q r s : List ℕ) → key ++ (p ++ q) ++ r ++ s ≡ key ++ p ++ (q ++ r) ++ s
+regroup_no key p q r s = simp append_assoc
 
-pub line_said : (old a b c d key : List ℕ) (verdict : Verdict) → a ≡ old ++ key → b ≡ a ++ codes ": " → c ≡ b ++ verdict_text verdict → d ≡ c ++ codes "\n" → d ≡ old ++ line_text key verdict
+-- the line of a key, of a yes and of a no
+pub yes_said : (old a b key : List ℕ) → a ≡ old ++ key → b ≡ a ++ codes ": yes\n" → b ≡ old ++ line_text key Yes
 unfolding line_text
-line_said old a b c d key verdict = four old key (codes ": ") (verdict_text verdict) (codes "\n") a b c d
+yes_said old a b key named said =
+    said ∙ ap (λ (x : List ℕ). x ++ codes ": yes\n") named ∙ append_assoc old key (codes ": yes\n")
+    ∙ ap (λ (x : List ℕ). old ++ x) (sym (append_assoc (key ++ codes ": ") (codes "yes") (codes "\n") ∙ append_assoc key (codes ": ") (codes "yes" ++ codes "\n")))
+
+pub no_said : (old a b c d key : List ℕ) (fault : Fault) → a ≡ old ++ key → b ≡ a ++ codes ": no " → c ≡ b ++ fault_text fault → d ≡ c ++ codes "\n" → d ≡ old ++ line_text key (No fault)
+unfolding line_text
+no_said old a b c d key fault named begun told ended =
+    four old key (codes ": no ") (fault_text fault) (codes "\n") a b c d named begun told ended
+    ∙ ap (λ (x : List ℕ). old ++ x) (regroup_no key (codes ": ") (codes "no ") (fault_text fault) (codes "\n"))
 
 regroup_five : (old p q r s t : List ℕ) → ((((old ++ p) ++ q) ++ r) ++ s) ++ t ≡ old ++ (p ++ q ++ r ++ s ++ t)
 regroup_five old p q r s t = simp append_assoc
@@ -39,10 +48,11 @@ json_said old a b c d e key verdict = five old (codes "{\"key\":\"") key (codes 
 
 -- why a key has no order
 module _ (old a b : List ℕ) (key : Bor (List ℕ)) (begun : a ≡ old ++ codes "abd: key ") (named : b ≡ a ++ key.now) where
-  pub no_note_said : (c d : List ℕ) (op : OpId) (n : ℕ) → n ≡ op.0 → c ≡ b ++ codes ": no note for call " ++ decimal n → d ≡ c ++ codes "\n" → d ≡ old ++ refusal_text (unjustified.NoNote key op)
+  pub no_note_said : (c d : List ℕ) (op : OpId) (n : ℕ) → n ≡ op.0 → c ≡ b ++ (codes ": no note for call " ++ decimal n) → d ≡ c ++ codes "\n" → d ≡ old ++ refusal_text (unjustified.NoNote key op)
   unfolding no_note_text refusal_text
   no_note_said c d op n is told ended =
-      let counted : c ≡ b ++ codes ": no note for call " ++ decimal op.0 = told ∙ ap (λ (m : ℕ). b ++ codes ": no note for call " ++ decimal m) is in
+      let counted : c ≡ b ++ codes ": no note for call " ++ decimal op.0 =
+      told ∙ sym (append_assoc b (codes ": no note for call ") (decimal n)) ∙ ap (λ (m : ℕ). b ++ codes ": no note for call " ++ decimal m) is in
       let whole : d ≡ b ++ codes ": no note for call " ++ decimal op.0 ++ codes "\n" = ended ∙ ap (λ (x : List ℕ). x ++ codes "\n") counted in
       whole ∙ ap (λ (x : List ℕ). x ++ codes ": no note for call " ++ decimal op.0 ++ codes "\n") (named ∙ ap (λ (x : List ℕ). x ++ key.now) begun)
       ∙ regroup_five old (codes "abd: key ") key.now (codes ": no note for call ") (decimal op.0) (codes "\n")

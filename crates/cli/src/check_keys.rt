@@ -8,8 +8,7 @@ ghost use Rattle.cli.specs.VerdictLines.{lines_text};
 ghost use Rattle.cli.specs.VerdictStatuses.{SaysAll};
 
 use crate::json_lines::append_line_in;
-use crate::outcome::Outcome;
-use crate::status::Failure;
+use crate::outcome::{Made, Outcome};
 use certificate_check::Verdict;
 use command_line::Lines;
 use parallel_keys::{NoGate, Workers, check_histories};
@@ -51,7 +50,7 @@ pub(crate) fn check_keys<R: Threads + Wait>(
     orders: &[KeyOrder],
     workers: Workers,
     form: Lines,
-) -> Result<Outcome, Failure<'static>>
+) -> Made<'static>
     requires { AreDistinct orders.now }
     ensures made { IfOk result (MakesCheck form histories.now orders.now) }
     ensures stops { IfErr result (StopsKeys workers) }

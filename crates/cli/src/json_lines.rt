@@ -4,9 +4,10 @@ ghost use Rattle.cli.specs.JsonLines.{fault_members, json_line, place_members};
 ghost use Rattle.cli.specs.JsonLines.{verdict_members};
 ghost use Rattle.cli.specs.VerdictLines.{line_in};
 
-use crate::verdict_lines::{append, append_line, append_number};
+use crate::verdict_lines::append_line;
 use certificate_check::{Fault, Verdict};
 use command_line::Lines;
+use sentences::{append, append_number};
 use tag::{Key, Memory};
 
 /// Says where an order is wrong, as members of an object.

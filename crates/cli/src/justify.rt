@@ -6,9 +6,9 @@ ghost use Rattle.cli.specs.Justifications.{EndsOfFile, Justifies, OfHalls};
 ghost use Rattle.cli.specs.declared.status.Failure.TheVariants as failure;
 
 use crate::noted_orders::checked_orders;
-use crate::outcome::{Outcome, conclude};
+use crate::outcome::{Made, Outcome, conclude};
 use crate::sources::{Source, histories_in};
-use crate::status::{Failure, Status};
+use crate::status::Status;
 use counted_devices::{CountedRead, CountedWrite, Counting};
 use file_format::write_orders;
 use parallel_keys::hall_parts;
@@ -30,7 +30,7 @@ pub(crate) fn order_file(alloc: Global, orders: &[KeyOrder]) -> Result<Vec<u8>, 
 }
 
 /// Makes each key's order from the notes of its part, checks it, and makes the order file.
-fn justified(alloc: Global, histories: &Histories) -> Result<Outcome, Failure<'static>>
+fn justified(alloc: Global, histories: &Histories) -> Made<'static>
     ensures made { IfOk result (OfHalls Justifies histories.now.halls) }
     ensures stops { IfErr result (λ why. why ≡ failure.Memory) }
 {

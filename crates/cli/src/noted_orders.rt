@@ -10,10 +10,11 @@ ghost use Rattle.cli.specs.Devices.{ReceivesOrFails};
 
 use crate::outcome::Outcome;
 use crate::status::{Failure, Status};
-use crate::verdict_lines::{append, append_fault, append_number};
+use crate::verdict_lines::append_fault;
 use certificate_check::{Fault, Verdict, check_part};
 use counted_devices::{CountedWrite, write_text};
 use recorder::{KeyOrder, Part, Parts};
+use sentences::{append, append_number};
 use std::alloc::{AllocFailed, Global};
 use tag::{Key, Memory, OpId};
 use witness_order::{WitnessError, order_of};

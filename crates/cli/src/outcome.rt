@@ -20,6 +20,9 @@ pub struct Outcome {
     pub good: bool,
 }
 
+/// What a command made of its files, or why it made nothing.
+pub type Made<'a> = Result<Outcome, Failure<'a>>;
+
 /// Writes the text, if it isn't empty.
 fn put<W: CountedWrite>(text: &[u8], out: &mut W) -> Result<(), WriteFault>
     ensures sent { OnOk result
@@ -78,7 +81,7 @@ impl Outcome {
 /// Nothing goes to `out` if nothing was made; after a failure of `out` a beginning of the text may have gone
 /// out, and the failure is said on `errors`.
 pub fn conclude<W: CountedWrite, E: CountedWrite>(
-    made: Result<Outcome, Failure<'_>>,
+    made: Made<'_>,
     out: &mut W,
     errors: &mut E,
 ) -> Status

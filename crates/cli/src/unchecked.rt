@@ -6,9 +6,9 @@ ghost use Rattle.cli.specs.TagOrders.{OrdersKeys};
 ghost use Rattle.cli.specs.declared.status.Failure.TheVariants as failure;
 
 use crate::justify::order_file;
-use crate::outcome::{Outcome, conclude};
+use crate::outcome::{Made, Outcome, conclude};
 use crate::sources::{Source, histories_in};
-use crate::status::{Failure, Status};
+use crate::status::Status;
 use crate::tag_orders::{TagOrders, tag_orders};
 use counted_devices::{CountedRead, CountedWrite};
 use parallel_keys::hall_parts;
@@ -17,7 +17,7 @@ use std::alloc::Global;
 use std::thread::Threads;
 
 /// Makes each key's order from the notes of its part, and the order file.
-fn ordered(alloc: Global, histories: &Histories) -> Result<Outcome, Failure<'static>>
+fn ordered(alloc: Global, histories: &Histories) -> Made<'static>
     ensures made { IfOk result (OfHalls OrdersKeys histories.now.halls) }
     ensures stops { IfErr result (λ why. why ≡ failure.Memory) }
 {

@@ -121,8 +121,8 @@ pub const TRACE: &str =
     "Prints one line a step: the script's line, who took the step, and what came of it, or why it was refused. The \
 steps are those of `abd simulate`, whose help says the commands of a script; those of `finish` and `random` stand \
 below the line of their command, and a line says how many were taken. A last line says how many lines were left out, \
-if some were.\n\nWith --draw it writes one page of HTML, for any browser: time goes down, a row a step, with a line for \
-each client and each replica, an arrow for each message, and what each replica comes to hold; below stand those \
+if some were.\n\nWith --draw it writes one page of HTML, for any browser: time goes down, a row a step, with a line \
+for each client and each replica, an arrow for each message, and what each replica comes to hold; below stand those \
 lines, and the pictures of the history of the run, as `abd draw` makes them without ORDERS. SCRIPT may be \
 /dev/stdin, for what is piped in.\nExit status: 0 told, 2 usage, 3 the script can't be opened or has a fault, 4 \
 memory or a device.\n\n\
