@@ -1,5 +1,6 @@
 -- What was read, and what is made of it.
-use Rattle.std.proofs.Common.{◌≡◌, List, [], sym, subst, ◌∙◌}
+use Rattle.std.proofs.Common.{◌≡◌, List, [], Result, Ok, Err, sym, subst, ◌∙◌}
+use Rattle.std.specs.Prelude.{IfOk, IfErr}
 use Rattle.recorder.specs.declared.order.KeyOrder.{KeyOrder}
 use Rattle.counted_devices.specs.DeviceStates.{DeviceStates}
 use Rattle.file_format.specs.declared.file_header.FileHeader.{FileHeader}
@@ -7,8 +8,14 @@ use Rattle.file_format.specs.declared.hall_row.HallRow.{HallRow}
 use Rattle.history_file.specs.NumberedRows.{MakesNumbered}
 use Rattle.history_file.specs.declared.numbered_format.NumberedHistories.{NumberedHistories}
 use Rattle.parallel_keys.specs.CheckedKeys.{CheckedKey}
+use Rattle.cli.specs.Devices.{WriterStates}
+use Rattle.cli.specs.Outcomes.{Ends}
 use Rattle.cli.specs.Readings.{IsHistoryRead, ReadsOrders}
 use Rattle.cli.specs.declared.outcome.Outcome.{Outcome}
+use Rattle.cli.specs.declared.status.Failure.{Failure}
+use Rattle.cli.specs.declared.status.Failure.TheVariants as failure
+use Rattle.cli.specs.declared.status.Status.{Status}
+use Rattle.cli.proofs.Endings.{concluded}
 use Rattle.cli.proofs.Reading.{pieces_read}
 use Rattle.explain_command.specs.Endings.{ExplainsFiles}
 use Rattle.explain_command.specs.Files.{AreInFiles, HaveKeys, ReadsKeys, ReadsKeysAndOrders, ReadsNumbered}
@@ -63,3 +70,22 @@ read_so judged selection Reads Also more outcome e = record {
   text = e.text;
   quiet = e.quiet;
 }
+
+-- what was made of files that were read was sent, or wasn't made
+module _ {W E : Type 0} (out : WriterStates W) (errors : WriterStates E) (Makes : (NumberedHistories → List CheckedKey → Type 0) → Outcome → Type 0)
+    (so : (Reads Also : NumberedHistories → List CheckedKey → Type 0) → ((numbered : NumberedHistories) (keys : List CheckedKey) → Reads numbered keys → Also numbered keys) → (outcome : Outcome) → Makes Reads outcome → Makes Also outcome)
+    (Stops : Failure → Type 0) (memory : (why : Failure) → why ≡ failure.Memory → Stops why)
+    (files : Files) (made : Result Outcome Failure) (makes : IfOk made (Makes (AreInFiles files))) (stops : IfErr made (λ why. why ≡ failure.Memory))
+    (s : Status) (ends : Ends (λ outcome. made ≡ Ok outcome) (λ why. made ≡ Err why) out errors s)
+    (history : DeviceStates) (read : ReadsNumbered history files.numbered) where
+  -- of both files
+  pub of_both : (orders : DeviceStates) → ReadsOrders orders files.orders.items → Ends (Makes (ReadsKeysAndOrders history orders)) Stops out errors s
+  of_both orders orders_read =
+      concluded out errors (Makes (AreInFiles files)) (Makes (ReadsKeysAndOrders history orders)) (λ why. why ≡ failure.Memory) Stops made makes stops
+      (so (AreInFiles files) (ReadsKeysAndOrders history orders) (λ numbered keys are. with_orders history files read numbered keys are orders orders_read)) memory s ends
+
+  -- of the history alone
+  pub of_history : files.orders.items ≡ [] → Ends (Makes (ReadsKeys history)) Stops out errors s
+  of_history none =
+      concluded out errors (Makes (AreInFiles files)) (Makes (ReadsKeys history)) (λ why. why ≡ failure.Memory) Stops made makes stops
+      (so (AreInFiles files) (ReadsKeys history) (λ numbered keys are. without_orders history files read numbered keys are none)) memory s ends

@@ -16,9 +16,11 @@ use Rattle.explanations.specs.declared.hall_rows.HallRows.{HallRows}
 use Rattle.explanations.specs.Sentences.{order_reason_text, tag_reason_text}
 use Rattle.cli.specs.VerdictLines.{line_text}
 use Rattle.cli.specs.Justifications.{KeyPart}
-use Rattle.explain_command.specs.KeyExplanations.{ExplainsOrder, ExplainsTags, IsHallOfKey, RefusesOrder, RefusesTags, tag_line}
-use Rattle.explain_command.specs.Explanations.{Yes, No, explanations_text, is_missing, left_out_line, lines_text, missing_line, named_key, no_count}
-use Rattle.explain_command.specs.Reports.{Adds, AddsOf, Explains, IsReportOf, IsWholeReport}
+use Rattle.cli.specs.declared.outcome.Outcome.{Outcome}
+use Rattle.explain_command.specs.Endings.{ExplainsFiles}
+use Rattle.explain_command.specs.KeyExplanations.{ExplainsOrder, ExplainsTags, IsHallOfKey, RefusesOrder, RefusesTags, selected_keys, tag_line}
+use Rattle.explain_command.specs.Explanations.{Yes, No, explanations_text, is_good, is_missing, left_out_line, lines_text, missing_line, named_key, no_count}
+use Rattle.explain_command.specs.Reports.{Adds, AddsOf, Explains, IsReportOf}
 use Rattle.explain_command.specs.declared.judged.Judged.{Judged}
 use Rattle.explain_command.specs.declared.report.Report.{Report}
 use Rattle.explain_command.specs.declared.selection.Selection.{Selection}
@@ -82,24 +84,25 @@ module _ (judged : Judged) (numbered : NumberedHistories) where
       let all = length-explained (Explains judged numbered) keys are.explanations are.explained in
       omega (arith, are.refused)
 
-  -- with its last lines a report is whole
-  pub whole : (keys : List CheckedKey) (selection : Selection) (first second last : Report) (count : ℕ) → IsReportOf judged numbered keys selection.most first → count ≡ length keys
-      → second.text.items ≡ first.text.items ++ missing_line (is_missing (named_key selection) count) → second.refused ≡ first.refused → second.most ≡ first.most
-      → second.missing ≡ is_missing (named_key selection) count → last.text.items ≡ second.text.items ++ left_out_line (second.refused - second.most)
-      → last.refused ≡ second.refused → last.missing ≡ second.missing → IsWholeReport judged numbered keys selection last
+  -- with its last lines a report is an explanation
+  pub whole : (all : List CheckedKey) (selection : Selection) (first second last : Report) (count : ℕ) (outcome : Outcome) → IsReportOf judged numbered (selected_keys (named_key selection) all) selection.most first
+      → count ≡ length (selected_keys (named_key selection) all) → second.text.items ≡ first.text.items ++ missing_line (is_missing (named_key selection) count) → second.refused ≡ first.refused → second.most ≡ first.most
+      → last.text.items ≡ second.text.items ++ left_out_line (second.refused - second.most) → last.refused ≡ second.refused
+      → outcome.text.items ≡ last.text.items → outcome.good ≡ is_good last.refused (is_missing (named_key selection) count) → outcome.notes.items ≡ []
+      → ExplainsFiles judged selection (λ histories keys. (histories ≡ numbered) × (keys ≡ all)) outcome
   unfolding explanations_text
-  whole keys selection first second last count are counted missing same_refused same_most is_named left kept same_missing =
+  whole all selection first second last count outcome are counted missing same_refused same_most left kept same_text good quiet =
       let es = are.explanations in
       let name = named_key selection in
-      let all : count ≡ length es = counted ∙ sym (length-explained (Explains judged numbered) keys es are.explained) in
+      let misses : is_missing name count ≡ is_missing name (length es) = ap (is_missing name) (counted ∙ sym (length-explained (Explains judged numbered) (selected_keys name all) es are.explained)) in
       let refused : second.refused ≡ no_count es = same_refused ∙ are.refused in
       let most : second.most ≡ selection.most = same_most ∙ are.most_is in
       record {
         explanations = es;
-        explained = are.explained;
-        text = left ∙ ap₂ (λ (l : List ℕ) (n : ℕ). l ++ left_out_line n) (missing ∙ ap₂ (λ (l : List ℕ) (n : ℕ). l ++ missing_line (is_missing name n)) are.text all) (ap₂ (λ (n m : ℕ). n - m) refused most);
-        refused = kept ∙ refused;
-        missing = same_missing ∙ is_named ∙ ap (is_missing name) all;
+        are = record { numbered = numbered; keys = all; read = (refl, refl); explained = are.explained };
+        is = good ∙ ap₂ is_good (kept ∙ refused) misses;
+        text = same_text ∙ left ∙ ap₂ (λ (l : List ℕ) (n : ℕ). l ++ left_out_line n) (missing ∙ ap₂ (λ (l : List ℕ) (b : Bool). l ++ missing_line b) are.text misses) (ap₂ (λ (n m : ℕ). n - m) refused most);
+        quiet = quiet;
       }
 
 -- what it means that a reason is said, or isn't
@@ -145,12 +148,12 @@ module _ (numbered : NumberedHistories) (entry : KeyPart) (rule : BrokenRule) (j
       (No (tag_line entry.0 rule) (tag_reason_text entry.0 hall reason), tags_why, refused_unsaid old new (tag_line entry.0 rule) (tag_reason_text entry.0 hall reason) lined none refused most)
 
 -- how many refused keys have no reason
-pub left_out_said : (old before new : List ℕ) (left count : ℕ) → left ≡ count → (left ≡ 0 → ⊥) → before ≡ old ++ codes "refused keys not explained: " ++ decimal left → new ≡ before ++ codes "; --most N says how many are\n" → new ≡ old ++ left_out_line count
+pub left_out_said : (old before new : List ℕ) (left count : ℕ) → left ≡ count → (left ≡ 0 → ⊥) → before ≡ old ++ (codes "refused keys not explained: " ++ decimal left) → new ≡ before ++ codes "; --most N says how many are\n" → new ≡ old ++ left_out_line count
 left_out_said old before new left zero is some said ended = absurd (some is)
 left_out_said old before new left (suc count) is some said ended =
     let words = codes "refused keys not explained: " in
     let last = codes "; --most N says how many are\n" in
-    let counted : before ≡ old ++ words ++ decimal (suc count) = said ∙ ap (λ (n : ℕ). old ++ words ++ decimal n) is in
+    let counted : before ≡ old ++ words ++ decimal (suc count) = said ∙ sym (append_assoc old words (decimal left)) ∙ ap (λ (n : ℕ). old ++ words ++ decimal n) is in
     ended ∙ ap (λ (l : List ℕ). l ++ last) counted ∙ regroup old words (decimal (suc count)) last
   where
     regroup : (old p q r : List ℕ) → old ++ p ++ q ++ r ≡ old ++ (p ++ q ++ r)

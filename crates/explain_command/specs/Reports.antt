@@ -2,13 +2,11 @@
 use Rattle.std.specs.Prelude.{ℕ, ◌≡◌, ◌+◌, ◌-◌, List, [], ◌∷◌, ◌++◌}
 use Rattle.history_file.specs.declared.numbered_format.NumberedHistories.{NumberedHistories}
 use Rattle.parallel_keys.specs.CheckedKeys.{CheckedKey}
-use Rattle.explain_command.specs.Explanations.{Explanation, explanations_text, lines_text}
-use Rattle.explain_command.specs.Explanations.{misses_key, no_count}
+use Rattle.explain_command.specs.Explanations.{Explanation, lines_text, no_count}
 use Rattle.explain_command.specs.KeyExplanations.{AreExplained, ExplainsOrder, ExplainsTags}
 use Rattle.explain_command.specs.declared.judged.Judged.{Judged}
 use Rattle.explain_command.specs.declared.judged.Judged.TheVariants as judged
 use Rattle.explain_command.specs.declared.report.Report.{Report}
-use Rattle.explain_command.specs.declared.selection.Selection.{Selection}
 
 -- the report says one explanation more
 pub record Adds (old : Report) (one : Explanation) (new : Report) : Type 0 where
@@ -34,11 +32,3 @@ module _ (judged : Judged) (numbered : NumberedHistories) (keys : List CheckedKe
     pub text : report.text.items ≡ lines_text explanations most
     pub refused : report.refused ≡ no_count explanations
     pub most_is : report.most ≡ most
-
-  -- it has these and the last lines too
-  pub record IsWholeReport (selection : Selection) (report : Report) : Type 0 where
-    pub explanations : List Explanation
-    pub explained : AreExplained (Explains judged numbered) keys explanations
-    pub text : report.text.items ≡ explanations_text selection explanations
-    pub refused : report.refused ≡ no_count explanations
-    pub missing : report.missing ≡ misses_key selection explanations

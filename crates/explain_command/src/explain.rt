@@ -3,7 +3,6 @@ ghost use Rattle.cli.specs.Devices.{file_states, writer_states};
 ghost use Rattle.explain_command.specs.Endings.{ExplainsFiles};
 ghost use Rattle.explain_command.specs.Files.{EndsOnBoth, EndsOnHistory};
 
-use crate::explain_keys::explain_files;
 use crate::files::{files_in, history_in};
 use crate::judged::Judged;
 use crate::selection::Selection;
@@ -38,10 +37,11 @@ pub fn explain_orders_command<'a, H: CountedRead, O: CountedRead, W: CountedWrit
         result }
 {
     match files_in(rt, alloc, history, orders) {
-        Ok(files) => {
-            let made = explain_files(alloc, Judged::Orders, &files, selection);
-            conclude(made, out, errors)
-        }
+        Ok(files) => conclude(
+            selection.explain(alloc, Judged::Orders, &files),
+            out,
+            errors,
+        ),
         Err(failure) => failure.report(errors),
     }
 }
@@ -69,10 +69,7 @@ pub fn explain_tags_command<'a, H: CountedRead, W: CountedWrite, E: CountedWrite
         result }
 {
     match history_in(rt, alloc, history) {
-        Ok(files) => {
-            let made = explain_files(alloc, Judged::Tags, &files, selection);
-            conclude(made, out, errors)
-        }
+        Ok(files) => conclude(selection.explain(alloc, Judged::Tags, &files), out, errors),
         Err(failure) => failure.report(errors),
     }
 }

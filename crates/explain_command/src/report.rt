@@ -32,6 +32,13 @@ pub fn append_tag_line(text: &mut Vec<u8>, key: &Key, rule: BrokenRule) -> Resul
     append(text, "\n")
 }
 
+/// A key, and the histories that it is of.
+#[derive(Clone, Copy)]
+pub(crate) struct KeyToExplain<'a> {
+    pub(crate) numbered: &'a NumberedHistories,
+    pub(crate) one: &'a KeyToCheck<'a>,
+}
+
 /// What is said of the keys so far.
 #[derive(Debug, Drop)]
 pub(crate) struct Report {
@@ -41,8 +48,6 @@ pub(crate) struct Report {
     pub(crate) refused: usize,
     /// How many of them have their reason said, at most.
     pub(crate) most: u16,
-    /// Whether it says that no key has the name that was given.
-    pub(crate) missing: bool,
 }
 
 impl Report {
@@ -56,7 +61,6 @@ impl Report {
             text: Vec::new(alloc),
             refused: 0,
             most,
-            missing: false,
         }
     }
 
@@ -74,101 +78,63 @@ impl Report {
     }
 
     /// Says that the key's order has that fault, and why.
-    fn refuse_order(
-        &mut self,
-        numbered: &NumberedHistories,
-        one: &KeyToCheck<'_>,
-        fault: Fault,
-    ) -> Result<(), Memory>
-        requires fault { IsFault one.now.part.now one.now.order.now fault }
-        requires lines { HasLinesOfEach numbered.now }
+    fn refuse_order(&mut self, key: &KeyToExplain<'_>, fault: Fault) -> Result<(), Memory>
+        requires fault { IsFault key.now.one.now.part.now key.now.one.now.order.now fault }
+        requires lines { HasLinesOfEach key.now.numbered.now }
         requires room { self.old.refused < usize.MAX }
-        ensures { OnOk result
-            (AddsOf (ExplainsOrder numbered.now (what_of one.now)) self.old self.new) }
+        ensures { OnOk result (AddsOf
+            (ExplainsOrder key.now.numbered.now (what_of key.now.one.now)) self.old self.new) }
     {
+        let one = key.one;
         append_line(&mut self.text, one.key, Verdict::No(fault))?;
         let reason = order_reason(one.part, one.order, fault);
-        let hall = hall_of(numbered, one.key);
+        let hall = hall_of(key.numbered, one.key);
         if !self.count_refused() {
             return Ok(());
         }
         append_order_reason(&mut self.text, one.key, &hall, &reason)
     }
 
-    /// Says the verdict on the key's order, and why it is refused.
-    fn say_order(
-        &mut self,
-        alloc: Global,
-        numbered: &NumberedHistories,
-        one: &KeyToCheck<'_>,
-    ) -> Result<(), Memory>
-        requires lines { HasLinesOfEach numbered.now }
-        requires room { self.old.refused < usize.MAX }
-        ensures { OnOk result
-            (AddsOf (ExplainsOrder numbered.now (what_of one.now)) self.old self.new) }
-    {
-        match check_part(alloc, one.part, one.order)? {
-            Verdict::Yes => append_line(&mut self.text, one.key, Verdict::Yes),
-            Verdict::No(fault) => self.refuse_order(numbered, one, fault),
-        }
-    }
-
     /// Says that the key's tags break the rule, and why.
-    fn refuse_tags(
-        &mut self,
-        numbered: &NumberedHistories,
-        one: &KeyToCheck<'_>,
-        rule: BrokenRule,
-    ) -> Result<(), Memory>
-        requires rule { IsTagVerdict one.now.part.now (Some rule) }
-        requires lines { HasLinesOfEach numbered.now }
+    fn refuse_tags(&mut self, key: &KeyToExplain<'_>, rule: BrokenRule) -> Result<(), Memory>
+        requires rule { IsTagVerdict key.now.one.now.part.now (Some rule) }
+        requires lines { HasLinesOfEach key.now.numbered.now }
         requires room { self.old.refused < usize.MAX }
-        ensures { OnOk result
-            (AddsOf (ExplainsTags numbered.now (one.now.key.now, one.now.part.now)) self.old self.new) }
+        ensures { OnOk result (AddsOf (ExplainsTags key.now.numbered.now
+            (key.now.one.now.key.now, key.now.one.now.part.now)) self.old self.new) }
     {
+        let one = key.one;
         append_tag_line(&mut self.text, one.key, rule)?;
         let reason = tag_reason(one.part, rule);
-        let hall = hall_of(numbered, one.key);
+        let hall = hall_of(key.numbered, one.key);
         if !self.count_refused() {
             return Ok(());
         }
         append_tag_reason(&mut self.text, one.key, &hall, &reason)
     }
 
-    /// Says whether the key's tags are sound, and why they aren't.
-    fn say_tags(
-        &mut self,
-        alloc: Global,
-        numbered: &NumberedHistories,
-        one: &KeyToCheck<'_>,
-    ) -> Result<(), Memory>
-        requires lines { HasLinesOfEach numbered.now }
-        requires room { self.old.refused < usize.MAX }
-        ensures { OnOk result
-            (AddsOf (ExplainsTags numbered.now (one.now.key.now, one.now.part.now)) self.old self.new) }
-    {
-        match check_tags(alloc, one.part)? {
-            None => append_line(&mut self.text, one.key, Verdict::Yes),
-            Some(rule) => self.refuse_tags(numbered, one, rule),
-        }
-    }
-
-    /// Says the line of a key, and why it is refused.
+    /// Says the line of the key, and why it is refused.
     pub(crate) fn say(
         &mut self,
         alloc: Global,
         judged: Judged,
-        numbered: &NumberedHistories,
-        one: &KeyToCheck<'_>,
+        key: &KeyToExplain<'_>,
     ) -> Result<(), Memory>
-        requires lines { HasLinesOfEach numbered.now }
+        requires lines { HasLinesOfEach key.now.numbered.now }
         requires room { self.old.refused < usize.MAX }
-        ensures { OnOk result
-            (AddsOf (Explains judged numbered.now (what_of one.now)) self.old self.new) }
+        ensures { OnOk result (AddsOf
+            (Explains judged key.now.numbered.now (what_of key.now.one.now)) self.old self.new) }
     {
+        let one = key.one;
         match judged {
-            Judged::Orders => self.say_order(alloc, numbered, one),
-            Judged::Tags => self.say_tags(alloc, numbered, one),
+            Judged::Orders => match check_part(alloc, one.part, one.order)? {
+                Verdict::Yes => append_line(&mut self.text, one.key, Verdict::Yes),
+                Verdict::No(fault) => self.refuse_order(key, fault),
+            },
+            Judged::Tags => match check_tags(alloc, one.part)? {
+                None => append_line(&mut self.text, one.key, Verdict::Yes),
+                Some(rule) => self.refuse_tags(key, rule),
+            },
         }
     }
 
@@ -178,9 +144,7 @@ impl Report {
             ≡ self.old.text.items ++ missing_line missing) }
         ensures refused { self.new.refused ≡ self.old.refused }
         ensures most { self.new.most ≡ self.old.most }
-        ensures missing { self.new.missing ≡ missing }
     {
-        self.missing = missing;
         if missing {
             append(&mut self.text, "no such key\n")
         } else {
@@ -193,7 +157,6 @@ impl Report {
         ensures text { OnOk result (self.new.text.items
             ≡ self.old.text.items ++ left_out_line (self.old.refused - self.old.most)) }
         ensures refused { self.new.refused ≡ self.old.refused }
-        ensures missing { self.new.missing ≡ self.old.missing }
     {
         let left = self.refused.saturating_sub(usize::from(self.most));
         if left == 0 {

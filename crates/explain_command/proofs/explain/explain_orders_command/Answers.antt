@@ -1,13 +1,13 @@
 -- Both files were read, and their explanations were sent.
 use Rattle.std.proofs.Common.{inl, inr, refl}
-use Rattle.cli.proofs.Endings.{concluded, stopped}
-use Rattle.explain_command.proofs.Ending.{read_so, with_orders}
+use Rattle.cli.proofs.Endings.{stopped}
+use Rattle.explain_command.specs.Endings.{ExplainsFiles}
+use Rattle.explain_command.specs.declared.judged.Judged.TheVariants.{Orders}
+use Rattle.explain_command.proofs.Ending.{of_both, read_so}
 use Rattle.explain_command.proofs.explain.explain_orders_command.Goals as goal
 
 pub returns-in-Ok : goal.returns-in-Ok
-returns-in-Ok g c =
-    concluded _ _ _ _ _ _ c.explain_files-made.result c.explain_files-made.ensures.made c.explain_files-made.ensures.stops
-    (read_so _ c.args.selection _ _ (λ numbered keys are. with_orders _ c.in-Ok.files c.in-Ok.ensures.read numbered keys are _ c.in-Ok.ensures.orders)) (λ why is. inr is) c.conclude.result c.conclude.ensures
+returns-in-Ok g c = of_both _ _ (ExplainsFiles Orders c.args.selection) (read_so _ _) _ (λ why is. inr is) c.in-Ok.files c.explain.result c.explain.ensures.made c.explain.ensures.stops c.conclude.result c.conclude.ensures _ c.in-Ok.ensures.read _ c.in-Ok.ensures.orders
 
 pub returns-in-Err : goal.returns-in-Err
 returns-in-Err g c = stopped _ _ _ _ c.in-Err.failure (inl c.in-Err.ensures.stops) refl c.report.result c.report.ensures.status c.report.ensures.told
