@@ -1,4 +1,4 @@
--- The first of judged keys, a page's content, and the page around it.
+-- The first of judged keys, a section, a page's content, and the page around it.
 use Rattle.std.proofs.Common.{ℕ, ◌≡◌, List, [], ◌++◌, append_assoc, codes, length, map, min, take, refl, sym, ap, ◌∙◌}
 use Rattle.std.proofs.lemmas.List.{take-map, take_min}
 use Rattle.std.proofs.Math.Nat.{min_comm}
@@ -6,8 +6,13 @@ use Rattle.markup.specs.Markup.{Markup, both, closing_tag, opening_tag, page_tex
 use Rattle.markup.specs.Texts.{plain}
 use Rattle.markup.specs.declared.names.Element.TheVariants as tag
 use Rattle.draw_command.specs.Frames.{above_content, above_styles, below_content, language, metas_markup, page_frame}
+use Rattle.history_file.specs.declared.numbered_format.NumberedHistories.{NumberedHistories}
+use Rattle.pictures.specs.declared.picture.Picture.{Picture}
+use Rattle.explain_command.specs.declared.judged.Judged.{Judged}
+use Rattle.draw_command.specs.Findings.{Judgement}
 use Rattle.draw_command.specs.Making.{Adds}
-use Rattle.draw_command.specs.Pages.{IsFramed}
+use Rattle.draw_command.specs.Pages.{IsFramed, IsPictureOf, IsSectionOf, section_markup}
+use Rattle.draw_command.specs.declared.drawn.Drawn.{Drawn}
 use Rattle.draw_command.proofs.Adding.{adds_after, adds_both}
 
 -- what a function makes of the first so many, or of as many as there are
@@ -49,3 +54,8 @@ content_added front below IsTable IsSections old a b d new first tabled under dr
     let all = adds_after _ front old a new first table in
     let t = all.1.1 in
     (all.0, (t.0, t.3.0, t.2, t.3.1, all.1.2 ∙ ap (λ (m : Markup). both front m) (t.4 ∙ ap (λ (m : Markup). both t.0 m) t.3.2)), all.2)
+
+-- the section of a picture
+pub section_added : (judged : Judged) (numbered : NumberedHistories) (drawn : Drawn) (n : ℕ) (key : Judgement) (words : List ℕ) (picture : Picture) → IsPictureOf judged numbered drawn key words picture
+    → (old new : List ℕ) → new ≡ old ++ rendered (section_markup n key words picture) → Adds (IsSectionOf judged numbered drawn n key) old new
+section_added judged numbered drawn n key words picture is old new added = (section_markup n key words picture, (words, picture, is, refl), added)

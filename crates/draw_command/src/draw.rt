@@ -10,35 +10,32 @@ use crate::frame::{append_styles, begin_content, begin_page, end_page};
 use crate::history_pictures::add_histories;
 use crate::section::Task;
 use crate::words;
-use cli::{Failure, Outcome, Source, Status, conclude};
+use cli::{Made, Outcome, Source, Status, conclude};
 use counted_devices::{CountedRead, CountedWrite};
 use explain_command::{Files, Judged, files_in, history_in};
 use std::alloc::Global;
 use std::thread::Threads;
 
-/// Makes the page of the selected keys of the files that were read.
-fn draw_files(
-    alloc: Global,
-    judged: Judged,
-    files: &Files,
-    drawn: Drawn<'_>,
-) -> Result<Outcome, Failure<'static>>
-    requires { CanBeJudged files.now }
-    ensures made { IfOk result (DrawsFiles judged drawn.entry (AreInFiles files.now)) }
-    ensures stops { IfErr result (λ why. why ≡ failure.Memory) }
-{
-    let task = Task {
-        judged,
-        numbered: &files.numbered,
-        drawn,
-    };
-    let mut page = Vec::new(alloc);
-    begin_page(&mut page, words::TITLE)?;
-    append_styles(&mut page)?;
-    begin_content(&mut page, words::TITLE)?;
-    let good = add_histories(alloc, &mut page, &task, files.orders.as_slice())?;
-    end_page(&mut page)?;
-    Ok(Outcome::of_text(alloc, page, good))
+impl Drawn<'_> {
+    /// Makes the page of the selected keys of the files that were read.
+    fn draw(&self, alloc: Global, judged: Judged, files: &Files) -> Made<'static>
+        requires { CanBeJudged files.now }
+        ensures made { IfOk result (DrawsFiles judged self.now (AreInFiles files.now)) }
+        ensures stops { IfErr result (λ why. why ≡ failure.Memory) }
+    {
+        let task = Task {
+            judged,
+            numbered: &files.numbered,
+            drawn: *self,
+        };
+        let mut page = Vec::new(alloc);
+        begin_page(&mut page, words::TITLE)?;
+        append_styles(&mut page)?;
+        begin_content(&mut page, words::TITLE)?;
+        let good = add_histories(alloc, &mut page, &task, files.orders.as_slice())?;
+        end_page(&mut page)?;
+        Ok(Outcome::of_text(alloc, page, good))
+    }
 }
 
 /// Reads the history, of version 1 or 2, and then the orders, judges the keys by their orders, and
@@ -68,10 +65,7 @@ pub fn draw_orders_command<'a, H: CountedRead, O: CountedRead, W: CountedWrite, 
         result }
 {
     match files_in(rt, alloc, history, orders) {
-        Ok(files) => {
-            let made = draw_files(alloc, Judged::Orders, &files, drawn);
-            conclude(made, out, errors)
-        }
+        Ok(files) => conclude(drawn.draw(alloc, Judged::Orders, &files), out, errors),
         Err(failure) => failure.report(errors),
     }
 }
@@ -99,10 +93,7 @@ pub fn draw_tags_command<'a, H: CountedRead, W: CountedWrite, E: CountedWrite>(
         result }
 {
     match history_in(rt, alloc, history) {
-        Ok(files) => {
-            let made = draw_files(alloc, Judged::Tags, &files, drawn);
-            conclude(made, out, errors)
-        }
+        Ok(files) => conclude(drawn.draw(alloc, Judged::Tags, &files), out, errors),
         Err(failure) => failure.report(errors),
     }
 }

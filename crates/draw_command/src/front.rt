@@ -1,8 +1,9 @@
 //! What stands above a page's table: its sums.
-ghost use Rattle.std.specs.Prelude.{◌≡◌, ◌++◌, OnOk};
+ghost use Rattle.std.specs.Prelude.{◌≡◌, ◌++◌, length, OnOk};
 ghost use Rattle.markup.specs.Markup.{rendered};
 ghost use Rattle.draw_command.specs.Pages.{front_markup, missing_line};
 
+use crate::finding::Findings;
 use crate::texts::append_counted;
 use crate::words;
 use markup::{Element, append_worded};
@@ -25,20 +26,14 @@ fn append_missing(page: &mut Vec<u8>, missing: bool) -> Result<(), Memory>
 #[tactic(auto, unfolding(markup::specs::Markup::rendered))]
 pub(crate) fn append_front(
     page: &mut Vec<u8>,
-    count: usize,
-    refused: usize,
+    findings: &Findings<'_>,
     missing: bool,
 ) -> Result<(), Memory>
-    ensures { OnOk result (page.new.items
-        ≡ page.old.items ++ rendered (front_markup count refused missing)) }
+    ensures { OnOk result (page.new.items ≡ page.old.items
+        ++ rendered (front_markup (length findings.now.keys.items) findings.now.refused missing)) }
 {
-    append_counted(
-        page,
-        words::SUM,
-        words::KEYS_JUDGED,
-        count as u64,
-        words::REFUSED,
-        refused as u64,
-    )?;
+    let judged = (words::KEYS_JUDGED, findings.keys.as_slice().len() as u64);
+    let refused = (words::REFUSED, findings.refused as u64);
+    append_counted(page, words::SUM, judged, refused)?;
     append_missing(page, missing)
 }

@@ -29,7 +29,7 @@ pub(crate) fn add_content(
 {
     let keys = findings.keys.as_slice();
     let pictured = &keys[..keys.len().min(usize::from(task.drawn.most))];
-    append_front(page, keys.len(), findings.refused, missing)?;
+    append_front(page, findings, missing)?;
     add_table(alloc, page, task.drawn.most, keys)?;
     append_below(page, keys.len(), findings.refused)?;
     add_sections(alloc, page, task, pictured)

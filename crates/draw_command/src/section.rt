@@ -5,7 +5,7 @@ ghost use Rattle.pictures.specs.Layout.{IsInOrder};
 ghost use Rattle.explain_command.specs.KeyExplanations.{HasLinesOfEach};
 ghost use Rattle.draw_command.specs.Judging.{IsDrawable, judgement_of};
 ghost use Rattle.draw_command.specs.Making.{Adds};
-ghost use Rattle.draw_command.specs.Pages.{IsEach, IsPictureOf, IsSectionOf, saying_markup};
+ghost use Rattle.draw_command.specs.Pages.{IsEach, IsSectionOf, saying_markup, section_markup};
 ghost use Rattle.draw_command.specs.Pages.{showing_markup, shown_line, why_lines, why_markup};
 
 use crate::drawn::Drawn;
@@ -70,16 +70,9 @@ fn append_shown(page: &mut Vec<u8>, picture: &Picture<'_>) -> Result<(), Memory>
     ensures { OnOk result (page.new.items
         ≡ page.old.items ++ rendered (shown_line picture.now)) }
 {
-    let shown = picture.scene.bars.len() as u64;
-    let all = picture.part.calls().len() as u64;
-    append_counted(
-        page,
-        words::SHOWN,
-        words::CALLS_SHOWN,
-        shown,
-        words::OF,
-        all,
-    )
+    let shown = (words::CALLS_SHOWN, picture.scene.bars.len() as u64);
+    let all = (words::OF, picture.part.calls().len() as u64);
+    append_counted(page, words::SHOWN, shown, all)
 }
 
 /// Adds that, the picture, and the calls as a table.
@@ -93,21 +86,19 @@ fn append_showing(alloc: Global, page: &mut Vec<u8>, picture: &Picture<'_>) -> R
     append_call_table(alloc, page, picture)
 }
 
-/// Adds the section of that picture, of the key that has that number in the table.
-fn add_picture(
+/// Adds the section of that picture and of these sentences, of the key that has that number in the
+/// table.
+fn append_section(
     alloc: Global,
     page: &mut Vec<u8>,
-    task: &Task<'_>,
     n: usize,
     key: &JudgedKey<'_>,
     text: &[u8],
     picture: &Picture<'_>,
 ) -> Result<(), Memory>
-    requires { IsPictureOf task.now.judged task.now.numbered.now task.now.drawn
-        (judgement_of key.now) text.now picture.now }
-    ensures { OnOk result
-        (Adds (IsSectionOf task.now.judged task.now.numbered.now task.now.drawn n
-        (judgement_of key.now)) page.old.items page.new.items) }
+    requires { IsInOrder picture.now.scene.now }
+    ensures { OnOk result (page.new.items ≡ page.old.items
+        ++ rendered (section_markup n (judgement_of key.now) text.now picture.now)) }
 {
     let id = Attribute::Numbered(AttributeName::Id, words::KEY_ID, n as u64);
     let class = Attribute::Words(AttributeName::Class, verdict_class(key.finding));
@@ -142,7 +133,7 @@ fn add_section(
         scene: &scene,
         faulty,
     };
-    add_picture(alloc, page, task, n, key, why.text.as_slice(), &picture)
+    append_section(alloc, page, n, key, why.text.as_slice(), &picture)
 }
 
 /// Draws the keys, and adds a section for each.

@@ -3,7 +3,7 @@ ghost use Rattle.std.specs.Prelude.{◌≡◌, ◌++◌, map, OnOk};
 ghost use Rattle.markup.specs.Markup.{rendered};
 ghost use Rattle.draw_command.specs.Judging.{judgement_of};
 ghost use Rattle.draw_command.specs.Making.{Adds};
-ghost use Rattle.draw_command.specs.Pages.{IsEach, IsRowOf, IsTableOf, column_head, columns_markup};
+ghost use Rattle.draw_command.specs.Pages.{IsRowOf, IsTableOf, column_head, columns_markup};
 ghost use Rattle.draw_command.specs.Pages.{count_cell, count_cells, finding_cell, finding_link};
 ghost use Rattle.draw_command.specs.Pages.{below_table, rest_line, row_markup, table_front};
 ghost use Rattle.draw_command.specs.Pages.{verdict_class};
@@ -35,45 +35,6 @@ pub(crate) fn verdict_class(finding: Finding) -> &'static str
     }
 }
 
-/// Adds what was found of the key; it leads to its picture, if it has one.
-#[tactic(auto, unfolding(markup::specs::Markup::rendered))]
-fn append_link(
-    alloc: Global,
-    page: &mut Vec<u8>,
-    drawn: u16,
-    n: usize,
-    key: &JudgedKey<'_>,
-) -> Result<(), Memory>
-    ensures { OnOk result (page.new.items
-        ≡ page.old.items ++ rendered (finding_link drawn n (judgement_of key.now))) }
-{
-    if n >= usize::from(drawn) {
-        return append_finding(alloc, page, key);
-    }
-    let target = Attribute::Numbered(AttributeName::Href, words::TO_KEY, n as u64);
-    append_opening(page, Element::A, &[target])?;
-    append_finding(alloc, page, key)?;
-    append_closing(page, Element::A)
-}
-
-/// Adds the first cell of a key's row.
-#[tactic(auto, unfolding(markup::specs::Markup::rendered))]
-fn append_cell(
-    alloc: Global,
-    page: &mut Vec<u8>,
-    drawn: u16,
-    n: usize,
-    key: &JudgedKey<'_>,
-) -> Result<(), Memory>
-    ensures { OnOk result (page.new.items
-        ≡ page.old.items ++ rendered (finding_cell drawn n (judgement_of key.now))) }
-{
-    let scope = Attribute::Words(AttributeName::Scope, words::ROW_SCOPE);
-    append_opening(page, Element::Th, &[scope])?;
-    append_link(alloc, page, drawn, n, key)?;
-    append_closing(page, Element::Th)
-}
-
 /// Adds a cell with that number.
 fn append_count(page: &mut Vec<u8>, count: usize) -> Result<(), Memory>
     ensures { OnOk result (page.new.items ≡ page.old.items ++ rendered (count_cell count)) }
@@ -93,55 +54,67 @@ fn append_counts(page: &mut Vec<u8>, counts: KeyCounts) -> Result<(), Memory>
     append_count(page, counts.at_once)
 }
 
-/// Adds the row of the key that has that number in the table.
-#[tactic(auto, unfolding(markup::specs::Markup::rendered))]
-fn append_row(
-    alloc: Global,
-    page: &mut Vec<u8>,
+/// The row of a key in the table.
+#[derive(Clone, Copy)]
+struct Row<'a> {
+    /// How many of the first keys have pictures.
     drawn: u16,
+    /// The key's number in the table.
     n: usize,
-    key: &JudgedKey<'_>,
-    counts: KeyCounts,
-) -> Result<(), Memory>
-    ensures { OnOk result (page.new.items ≡ page.old.items
-        ++ rendered (row_markup drawn n (judgement_of key.now) counts)) }
-{
-    let class = Attribute::Words(AttributeName::Class, verdict_class(key.finding));
-    append_opening(page, Element::Tr, &[class])?;
-    append_cell(alloc, page, drawn, n, key)?;
-    append_counts(page, counts)?;
-    append_closing(page, Element::Tr)
+    key: &'a JudgedKey<'a>,
 }
 
-/// Counts the key's calls, and adds its row.
-fn add_row(
-    alloc: Global,
-    page: &mut Vec<u8>,
-    drawn: u16,
-    n: usize,
-    key: &JudgedKey<'_>,
-) -> Result<(), Memory>
-    ensures { OnOk result
-        (Adds (IsRowOf drawn n (judgement_of key.now)) page.old.items page.new.items) }
-{
-    let counts = counts_of(alloc, key.one.part)?;
-    append_row(alloc, page, drawn, n, key, counts)
-}
-
-/// Adds a row for each of these keys.
-fn add_rows(
-    alloc: Global,
-    page: &mut Vec<u8>,
-    drawn: u16,
-    keys: &[JudgedKey<'_>],
-) -> Result<(), Memory>
-    ensures { OnOk result (Adds (IsEach (IsRowOf drawn) 0 (map judgement_of keys.now))
-        page.old.items page.new.items) }
-{
-    for (n, key) in keys.iter().enumerate() {
-        add_row(alloc, page, drawn, n, key)?;
+impl Row<'_> {
+    /// Adds what was found of the key; it leads to its picture, if it has one.
+    #[tactic(auto, unfolding(markup::specs::Markup::rendered))]
+    fn append_link(&self, alloc: Global, page: &mut Vec<u8>) -> Result<(), Memory>
+        ensures { OnOk result (page.new.items ≡ page.old.items
+            ++ rendered (finding_link self.now.drawn self.now.n (judgement_of self.now.key.now))) }
+    {
+        if self.n >= usize::from(self.drawn) {
+            return append_finding(alloc, page, self.key);
+        }
+        let target = Attribute::Numbered(AttributeName::Href, words::TO_KEY, self.n as u64);
+        append_opening(page, Element::A, &[target])?;
+        append_finding(alloc, page, self.key)?;
+        append_closing(page, Element::A)
     }
-    Ok(())
+
+    /// Adds the first cell.
+    #[tactic(auto, unfolding(markup::specs::Markup::rendered))]
+    fn append_cell(&self, alloc: Global, page: &mut Vec<u8>) -> Result<(), Memory>
+        ensures { OnOk result (page.new.items ≡ page.old.items
+            ++ rendered (finding_cell self.now.drawn self.now.n (judgement_of self.now.key.now))) }
+    {
+        let scope = Attribute::Words(AttributeName::Scope, words::ROW_SCOPE);
+        append_opening(page, Element::Th, &[scope])?;
+        self.append_link(alloc, page)?;
+        append_closing(page, Element::Th)
+    }
+
+    /// Adds the row with those counts of the key's calls.
+    #[tactic(auto, unfolding(markup::specs::Markup::rendered))]
+    fn append(&self, alloc: Global, page: &mut Vec<u8>, counts: KeyCounts) -> Result<(), Memory>
+        ensures { OnOk result (page.new.items ≡ page.old.items ++ rendered
+            (row_markup self.now.drawn self.now.n (judgement_of self.now.key.now) counts)) }
+    {
+        let class = Attribute::Words(AttributeName::Class, verdict_class(self.key.finding));
+        append_opening(page, Element::Tr, &[class])?;
+        self.append_cell(alloc, page)?;
+        append_counts(page, counts)?;
+        append_closing(page, Element::Tr)
+    }
+
+    /// Counts the key's calls, and adds the row.
+    fn add(&self, alloc: Global, page: &mut Vec<u8>) -> Result<(), Memory>
+        ensures { OnOk result
+            (Adds (IsRowOf self.now.drawn self.now.n (judgement_of self.now.key.now))
+            page.old.items page.new.items) }
+    {
+        let key = self.key;
+        let counts = counts_of(alloc, key.one.part)?;
+        self.append(alloc, page, counts)
+    }
 }
 
 /// Adds the head of a column.
@@ -195,7 +168,10 @@ pub(crate) fn add_table(
     append_opening(page, Element::Table, &[class])?;
     append_table_front(page)?;
     append_opening(page, Element::Tbody, &[])?;
-    add_rows(alloc, page, drawn, first)?;
+    for (n, key) in first.iter().enumerate() {
+        let row = Row { drawn, n, key };
+        row.add(alloc, page)?;
+    }
     append_closing(page, Element::Tbody)?;
     append_closing(page, Element::Table)
 }
@@ -209,13 +185,12 @@ fn append_rest(page: &mut Vec<u8>, count: usize, refused: usize) -> Result<(), M
     if count == 0 {
         return Ok(());
     }
+    let more = (words::MORE, count as u64);
     append_counted(
         page,
         words::REST,
-        words::MORE,
-        count as u64,
-        words::MORE_REFUSED,
-        refused as u64,
+        more,
+        (words::MORE_REFUSED, refused as u64),
     )
 }
 

@@ -3,7 +3,7 @@ ghost use Rattle.std.specs.Prelude.{◌≡◌, ◌++◌, OnOk};
 ghost use Rattle.std.specs.Str.Lines.{lines};
 ghost use Rattle.markup.specs.Markup.{each, rendered, text};
 ghost use Rattle.draw_command.specs.Judging.{judgement_of};
-ghost use Rattle.draw_command.specs.Pages.{counted, finding_said, numbers, said};
+ghost use Rattle.draw_command.specs.Pages.{counted, finding_said, said};
 
 use crate::finding::JudgedKey;
 use markup::{
@@ -12,43 +12,24 @@ use markup::{
 use std::alloc::Global;
 use tag::Memory;
 
-/// Adds words, a number, more words and a number.
-#[tactic(auto, unfolding(markup::specs::Markup::rendered))]
-fn append_numbers(
-    page: &mut Vec<u8>,
-    before: &str,
-    n: u64,
-    between: &str,
-    m: u64,
-) -> Result<(), Memory>
-    ensures { OnOk result (page.new.items
-        ≡ page.old.items ++ rendered (numbers before.now n between.now m)) }
-{
-    append_text(page, before)?;
-    append_number(page, n)?;
-    append_text(page, between)?;
-    append_number(page, m)
-}
-
-/// Adds a paragraph of that class with these.
+/// Adds a paragraph of that class: words and a number, and once more words and a number.
 #[tactic(auto, unfolding(markup::specs::Markup::rendered))]
 pub(crate) fn append_counted(
     page: &mut Vec<u8>,
     class: &str,
-    before: &str,
-    n: u64,
-    between: &str,
-    m: u64,
+    first: (&str, u64),
+    second: (&str, u64),
 ) -> Result<(), Memory>
     ensures { OnOk result (page.new.items ≡ page.old.items
-        ++ rendered (counted class.now before.now n between.now m)) }
+        ++ rendered (counted class.now first.entry.0.now first.entry.1 second.entry.0.now
+        second.entry.1)) }
 {
-    append_opening(
-        page,
-        Element::P,
-        &[Attribute::Words(AttributeName::Class, class)],
-    )?;
-    append_numbers(page, before, n, between, m)?;
+    let class = Attribute::Words(AttributeName::Class, class);
+    append_opening(page, Element::P, &[class])?;
+    append_text(page, first.0)?;
+    append_number(page, first.1)?;
+    append_text(page, second.0)?;
+    append_number(page, second.1)?;
     append_closing(page, Element::P)
 }
 

@@ -1,21 +1,15 @@
 //! Why a key is refused.
 ghost use Rattle.std.specs.Prelude.{◌≡◌, IfOk};
-ghost use Rattle.certificate_check.specs.Verdicts.{IsFault};
 ghost use Rattle.parallel_keys.specs.KeysToCheck.{what_of};
-ghost use Rattle.tag_check.specs.Verdicts.{IsBroken};
 ghost use Rattle.draw_command.specs.Drawings.{IsWhy, order_calls, tag_calls};
 ghost use Rattle.draw_command.specs.Findings.{IsFinding};
-ghost use Rattle.draw_command.specs.declared.finding.Finding.TheVariants as finding;
 
 use crate::finding::{Finding, JudgedKey};
-use certificate_check::Fault;
 use explain_command::Judged;
 use explanations::{HallRows, append_order_reason, append_tag_reason};
-use parallel_keys::KeyToCheck;
 use reasons::{OrderReason, TagReason, order_reason, tag_reason};
 use std::alloc::Global;
 use tag::{Memory, OpId};
-use tag_check::BrokenRule;
 
 /// Why a key is refused.
 #[derive(Drop)]
@@ -69,42 +63,6 @@ fn tag_calls(alloc: Global, reason: &TagReason<'_>) -> Result<Vec<OpId>, Memory>
     Ok(calls?)
 }
 
-/// Why the key's order is refused.
-fn why_order(
-    alloc: Global,
-    hall: &HallRows<'_>,
-    one: &KeyToCheck<'_>,
-    fault: Fault,
-) -> Result<Why, Memory>
-    requires { IsFault one.now.part.now one.now.order.now fault }
-    ensures { IfOk result (λ why. IsWhy hall.now (what_of one.now) (finding.OrderFault fault)
-        why.text.items why.faulty.items) }
-{
-    let reason = order_reason(one.part, one.order, fault);
-    let faulty = order_calls(alloc, &reason)?;
-    let mut text = Vec::new(alloc);
-    append_order_reason(&mut text, one.key, hall, &reason)?;
-    Ok(Why { text, faulty })
-}
-
-/// Why the key's tags are refused.
-fn why_tags(
-    alloc: Global,
-    hall: &HallRows<'_>,
-    one: &KeyToCheck<'_>,
-    rule: BrokenRule,
-) -> Result<Why, Memory>
-    requires { IsBroken one.now.part.now rule }
-    ensures { IfOk result (λ why. IsWhy hall.now (what_of one.now) (finding.TagFault rule)
-        why.text.items why.faulty.items) }
-{
-    let reason = tag_reason(one.part, rule);
-    let faulty = tag_calls(alloc, &reason)?;
-    let mut text = Vec::new(alloc);
-    append_tag_reason(&mut text, one.key, hall, &reason)?;
-    Ok(Why { text, faulty })
-}
-
 /// Why the key is refused; nothing if it isn't.
 pub(crate) fn why_of(
     alloc: Global,
@@ -116,12 +74,24 @@ pub(crate) fn why_of(
     ensures { IfOk result (λ why.
         IsWhy hall.now (what_of key.now.one) key.now.finding why.text.items why.faulty.items) }
 {
+    let one = &key.one;
+    let mut text = Vec::new(alloc);
     match key.finding {
-        Finding::Yes => Ok(Why {
-            text: Vec::new(alloc),
-            faulty: Vec::new(alloc),
-        }),
-        Finding::OrderFault(fault) => why_order(alloc, hall, &key.one, fault),
-        Finding::TagFault(rule) => why_tags(alloc, hall, &key.one, rule),
+        Finding::Yes => {
+            let faulty = Vec::new(alloc);
+            Ok(Why { text, faulty })
+        }
+        Finding::OrderFault(fault) => {
+            let reason = order_reason(one.part, one.order, fault);
+            let faulty = order_calls(alloc, &reason)?;
+            append_order_reason(&mut text, one.key, hall, &reason)?;
+            Ok(Why { text, faulty })
+        }
+        Finding::TagFault(rule) => {
+            let reason = tag_reason(one.part, rule);
+            let faulty = tag_calls(alloc, &reason)?;
+            append_tag_reason(&mut text, one.key, hall, &reason)?;
+            Ok(Why { text, faulty })
+        }
     }
 }

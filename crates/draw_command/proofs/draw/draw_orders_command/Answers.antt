@@ -1,14 +1,14 @@
 -- Both files were read, and their page was sent.
 use Rattle.std.proofs.Common.{inl, inr, refl}
-use Rattle.cli.proofs.Endings.{concluded, stopped}
-use Rattle.explain_command.proofs.Ending.{with_orders}
+use Rattle.cli.proofs.Endings.{stopped}
+use Rattle.draw_command.specs.Making.{DrawsFiles}
+use Rattle.explain_command.specs.declared.judged.Judged.TheVariants.{Orders}
+use Rattle.explain_command.proofs.Ending.{of_both}
 use Rattle.draw_command.proofs.Ending.{read_so}
 use Rattle.draw_command.proofs.draw.draw_orders_command.Goals as goal
 
 pub returns-in-Ok : goal.returns-in-Ok
-returns-in-Ok g c =
-    concluded _ _ _ _ _ _ c.draw_files-made.result c.draw_files-made.ensures.made c.draw_files-made.ensures.stops
-    (read_so _ c.args.drawn _ _ (λ numbered keys are. with_orders _ c.in-Ok.files c.in-Ok.ensures.read numbered keys are _ c.in-Ok.ensures.orders)) (λ why is. inr is) c.conclude.result c.conclude.ensures
+returns-in-Ok g c = of_both _ _ (DrawsFiles Orders c.args.drawn) (read_so _ _) _ (λ why is. inr is) c.in-Ok.files c.draw.result c.draw.ensures.made c.draw.ensures.stops c.conclude.result c.conclude.ensures _ c.in-Ok.ensures.read _ c.in-Ok.ensures.orders
 
 pub returns-in-Err : goal.returns-in-Err
 returns-in-Err g c = stopped _ _ _ _ c.in-Err.failure (inl c.in-Err.ensures.stops) refl c.report.result c.report.ensures.status c.report.ensures.told

@@ -40,7 +40,7 @@ returns c =
     let cut = first_ones judgement_of slice _ most (ap (λ (n : ℕ). take n slice) (c.min.ensures ∙ ap (λ (n : ℕ). min (length slice) n) c.from.ensures)) ∙ ap (λ (js : List Judgement). take most js) same in
     on_ok_weaker c.add_sections.result (λ drawn.
     let w = content_added (front_markup (length keys) refused missing) (below_table (length keys) refused) (IsTableOf most keys) (IsEach Sections 0 (take most keys)) old headed tabled under c.add_sections.new.page.items
-    (c.in_ok-append_front.ensures ∙ ap (λ (n : ℕ). old ++ rendered (front_markup n refused missing)) count)
+    (c.in_ok-append_front.ensures ∙ ap (λ (n : ℕ). old ++ rendered (front_markup n refused missing)) (sym (length-map items judgement_of)))
     (subst (λ (js : List Judgement). Adds (IsTableOf most js) headed tabled) same c.in_ok-add_table.ensures)
     (c.in_ok-append_below.ensures ∙ ap (λ (n : ℕ). tabled ++ rendered (below_table n refused)) count)
     (subst (λ (js : List Judgement). Adds (IsEach Sections 0 js) under c.add_sections.new.page.items) cut drawn) in

@@ -6,7 +6,7 @@ use Rattle.draw_command.specs.HistoryPictures.{IsJudgedContent}
 use Rattle.draw_command.specs.Pages.{styles_markup}
 use Rattle.draw_command.specs.declared.words.TheConstants.{TITLE}
 use Rattle.draw_command.proofs.Framing.{page_framed}
-use Rattle.draw_command.proofs.draw.draw_files.Goals as goal
+use Rattle.draw_command.proofs.drawn.Drawn.draw.Goals as goal
 
 pub add_histories-requires-clause-distinct : goal.add_histories-requires-clause-distinct
 add_histories-requires-clause-distinct c = subst (λ (orders : List KeyOrder). AreDistinct orders) (sym c.as_slice.ensures.value) c.requires.distinct
@@ -15,7 +15,7 @@ pub returns-clause-made : goal.returns-clause-made
 returns-clause-made c =
     let numbered = c.args.files.now.numbered in
     let added = rw c.as_slice.ensures.value at c.in_ok-good.ensures in
-    let page = page_framed TITLE.now styles_markup (IsJudgedContent numbered c.args.drawn c.args.judged added.0 c.in_ok-good.good) _ c.begin_page.new.page.items c.append_styles.new.page.items
+    let page = page_framed TITLE.now styles_markup (IsJudgedContent numbered c.args.self.now c.args.judged added.0 c.in_ok-good.good) _ c.begin_page.new.page.items c.append_styles.new.page.items
     c.begin_content.new.page.items c.add_histories.new.page.items c.end_page.new.page.items c.new-page.ensures.items c.in_ok-begin_page.ensures c.in_ok-append_styles.ensures c.in_ok-begin_content.ensures added.2 c.in_ok-end_page.ensures in
     record {
       numbered = numbered;
