@@ -1,1 +1,2 @@
 mod Numbering
+mod Ending

@@ -8,6 +8,7 @@
 pub mod laws;
 mod numbered;
 mod page;
+mod scripts;
 mod texts;
 mod trace;
 mod trace_page;

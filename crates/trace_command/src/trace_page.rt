@@ -1,14 +1,12 @@
 //! `abd trace --draw`: the page of a script.
-ghost use Rattle.std.specs.Prelude.{IfOk, IfErr};
-ghost use Rattle.counted_devices.specs.DeviceStates.{states};
+ghost use Rattle.std.specs.Prelude.{IfOk};
 ghost use Rattle.cli.specs.Devices.{file_states, writer_states};
-ghost use Rattle.trace_command.specs.Endings.{EndsOnScript, IsTracePageText, MakesOfScript};
-ghost use Rattle.trace_command.specs.Endings.{StopsScript};
+ghost use Rattle.trace_command.specs.Endings.{EndsOnScript, IsTracePageText};
 
 use crate::numbered::numbered_of;
 use crate::page::{RunShown, page_of};
-use crate::trace::script_in;
-use cli::{Failure, Outcome, Source, Status, conclude};
+use crate::scripts::{made_of, script_in};
+use cli::{Source, Status, conclude};
 use counted_devices::{CountedRead, CountedWrite};
 use draw_command::Drawn;
 use fault_script::Script;
@@ -38,23 +36,6 @@ fn page_of_script(
     page_of(alloc, &shown)
 }
 
-/// Reads the script, runs it, and makes its page.
-fn page_in<'a, S: CountedRead>(
-    alloc: Global,
-    script: &mut Source<'a, S>,
-    most: u32,
-    drawn: Drawn<'_>,
-) -> Result<Outcome, Failure<'a>>
-    ensures made { IfOk result (MakesOfScript (IsTracePageText most drawn.entry)
-        (states S.remaining S.failures script.old.reader script.new.reader)) }
-    ensures stops { IfErr result (StopsScript
-        (file_states S.remaining S.failures script.old script.new)) }
-{
-    let script = script_in(alloc, script)?;
-    let page = page_of_script(alloc, script, most, drawn)?;
-    Ok(Outcome::of_text(alloc, page, true))
-}
-
 /// Reads the script, runs it, and writes its page: a diagram of the messages of the run, with `most`
 /// steps at most, the trace of `trace_command`, and the pictures of the history that the run records,
 /// as the page of `draw_tags_command` has them.
@@ -77,6 +58,11 @@ pub fn trace_page_command<'a, S: CountedRead, W: CountedWrite, E: CountedWrite>(
         (writer_states E.contents E.failures errors.old errors.new)
         result }
 {
-    let made = page_in(alloc, script, most, drawn);
-    conclude(made, out, errors)
+    match script_in(alloc, script) {
+        Ok(script) => {
+            let page = page_of_script(alloc, script, most, drawn);
+            conclude(made_of(alloc, page), out, errors)
+        }
+        Err(failure) => failure.report(errors),
+    }
 }
