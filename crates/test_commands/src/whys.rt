@@ -29,8 +29,7 @@ fn file_of(asked: Asked<'_>) -> &[u8] {
 /// The first fault of a history file, and why it is one.
 pub fn say_history_why(rt: &(impl Threads + Sync), out: &mut Answer, asked: Asked<'_>) {
     let (alloc, bytes) = (out.alloc(), file_of(asked));
-    let mut first = Counting::new(Pieces::whole(bytes));
-    match read_numbered_histories(rt, alloc, &mut first) {
+    match read_numbered_histories(rt, alloc, &mut Counting::new(Pieces::whole(bytes))) {
         Ok(_) => out.push("no fault\n"),
         Err(fault) => {
             let (mut reader, again) = (Pieces::whole(bytes), Pieces::whole(bytes));
@@ -44,8 +43,7 @@ pub fn say_history_why(rt: &(impl Threads + Sync), out: &mut Answer, asked: Aske
 /// The first fault of an order file, and why it is one.
 pub fn say_orders_why(rt: &(impl Threads + Sync), out: &mut Answer, asked: Asked<'_>) {
     let (alloc, bytes) = (out.alloc(), file_of(asked));
-    let mut first = Counting::new(Pieces::whole(bytes));
-    match read_orders(rt, alloc, &mut first) {
+    match read_orders(rt, alloc, &mut Counting::new(Pieces::whole(bytes))) {
         Ok(_) => out.push("no fault\n"),
         Err(fault) => {
             let why = explain_orders_fault(alloc, &mut Pieces::whole(bytes), fault);
