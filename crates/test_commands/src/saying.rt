@@ -106,8 +106,7 @@ fn say_row(out: &mut Answer, row: &Row) {
     write!(out, "call {op} ");
     match said {
         RowSaid::Invoked(client, key, action) => {
-            let (client, key) = (client.get(), key.as_str());
-            write!(out, "by client {client} on {key}: ");
+            write!(out, "by client {} on {}: ", client.get(), key.as_str());
             say_action(out, action);
         }
         RowSaid::Noted(tag) => {
