@@ -3,6 +3,9 @@
 An edit is a file `crates/NAME/must-fail/EDIT.edit` (the gate tries it) or `crates/NAME/inner-edits/EDIT.edit` (this script
 alone does): a line `file: src/FILE.rt`, and pairs of lines `old: TEXT` and `new: TEXT`, where the old text stands in the file
 once. Each is made in a copy of the crate, over what earlier checks of it kept in out/, and `rt check` has to refuse it.
+
+A function is proved by its own text and the contracts of those that it calls. So edits in the bodies of different functions are
+tried in one check: each has to be refused at a goal of its own function. One that isn't refused so is tried again, alone.
 """
 
 import os
@@ -13,7 +16,12 @@ import sys
 import tempfile
 
 SUITES = ("must-fail", "inner-edits")
-USAGE = "usage: scripts/edits.sh [--since COMMIT] [--gate | --inner] [NAME[/EDIT]..]"
+USAGE = "usage: scripts/edits.sh [--since COMMIT] [--gate | --inner] [--alone] [NAME[/EDIT]..]"
+# How many edits one check tries at most.
+TOGETHER = 6
+FUNCTION = r"(\s*)(pub(\([a-z]+\))? )?(const )?(unsafe )?fn (\w+)"
+# An error of the source: what the edit wrote can't be compiled.
+SPOILT = r"(\./)?src/.*(is not in scope|expected|no field|mismatch)"
 # A proof file that names what the edit took away: its refusal says little of the contract.
 NAMES_ONLY = r"(\./)?proofs/.*(has no field|is not in scope|has no `|was not admitted)"
 
@@ -52,13 +60,64 @@ def edited(folder, edit):
 
 def function_at(lines, at):
     """Returns the first and last line, from 0, of the function that the line stands in, or the line alone."""
-    head = r"(\s*)(pub(\([a-z]+\))? )?(const )?(unsafe )?fn "
     for start in range(at, -1, -1):
-        found = re.match(head, lines[start])
+        found = re.match(FUNCTION, lines[start])
         if found and (start == at or len(found[1]) < len(lines[at]) - len(lines[at].lstrip()) or lines[at].strip() in "{}"):
             ends = (i for i in range(start, len(lines)) if lines[i] in (found[1] + "}", found[1] + "{}"))
             return start, next(ends, len(lines) - 1)
     return at, at
+
+
+def body_of(lines, first, last):
+    """Returns the first line of a function's body."""
+    return next((it for it in range(first, last + 1) if lines[it].strip() == "{" or lines[it].endswith(" {")), last)
+
+
+def functions_of(folder, edit):
+    """Returns the functions that an edit changes, each as (file, name, first line, last line), from 1; none where it changes more
+    than their bodies, and so can be tried with no other."""
+    found = []
+    for file, old, _ in read_edit(edit):
+        with open(f"{folder}/{file}", encoding="utf-8") as source:
+            text = source.read()
+        lines, at = text.split("\n"), text[: text.find(old)].count("\n")
+        first, last = function_at(lines, at)
+        head = re.match(FUNCTION, lines[first])
+        if text.count(old) != 1 or not head or at <= body_of(lines, first, last):
+            return []
+        found.append((file, head[6], first + 1, last + 1))
+    return found
+
+
+def in_groups(folder, edits):
+    """Returns the edits in groups that one check may try: in each, no two change functions of one name."""
+    groups = []
+    for edit in edits:
+        names = {name for _, name, _, _ in functions_of(folder, edit)}
+        free = (it for it in groups if names and it[1] and len(it[0]) < TOGETHER and not names & it[1])
+        group = next(free, None)
+        if group:
+            group[0].append(edit)
+            group[1].update(names)
+        else:
+            groups.append(([edit], names))
+    return [edits for edits, _ in groups]
+
+
+def own_lines(said, functions):
+    """Returns the lines of what a check said that name a goal, or an error, of these functions."""
+    names = {name for _, name, _, _ in functions}
+    found = []
+    for line in said:
+        failed = re.match(r"fn (\S+): no proof: .* did not prove", line)
+        error = re.match(r"(\./)?(\S+?):(\d+):\d+: error", line)
+        if failed and failed[1].split("::")[-1] in names:
+            found.append(line)
+        elif error and any(error[2] == file and first <= int(error[3]) <= last for file, _, first, last in functions):
+            found.append(line)
+        elif error and error[2].startswith("proofs/") and error[2].split("/")[-2] in names:
+            found.append(line)
+    return found
 
 
 def changed_lines(path, commit):
@@ -117,51 +176,102 @@ def copied(name, room):
                 shutil.copytree(f"crates/{crate}/{part}", f"{room}/crates/{crate}/{part}")
 
 
-def refused(folder):
-    """Returns whether the prover refuses the crate there, and what it said first."""
+def checked(folder):
+    """Returns how a check of the crate there ended, and what it said."""
     ran = subprocess.run(["rt", "check", "--jobs", "1"], cwd=folder, stdin=subprocess.DEVNULL, stdout=subprocess.PIPE,
                          stderr=subprocess.STDOUT, text=True, errors="replace")
     if log := os.environ.get("EDITS_LOG"):
         with open(log, "a", encoding="utf-8") as file:
             file.write(f"== {folder}\n{ran.stdout}")
+    return ran
+
+
+def refused(folder):
+    """Returns whether the prover refuses the crate there, and what it said first."""
+    ran = checked(folder)
     told = [it for it in ran.stdout.split("\n") if re.match(r"\S+:\d+:\d+: error|fn \S+: no(t| proof)", it)]
     first = next((it for it in told if not re.match(NAMES_ONLY, it)), "")
     if "logic=not-proved" not in ran.stdout:
         return False, "NOT REFUSED: still proved" if ran.returncode == 0 else f"BAD EDIT: {ran.stdout[-400:]}"
-    if re.match(r"(\./)?src/.*(is not in scope|expected|no field|mismatch)", first):
+    if re.match(SPOILT, first):
         return False, f"BAD EDIT: {first[:200]}"
     return True, f"refused: {first[:200]}" if first else f"refused only for a name that a proof lost: {(told or [''])[0][:160]}"
 
 
-def try_crate(name, edits):
-    """Tries a crate's edits one after another, and returns how many were not refused."""
+class Edited:
+    """A crate's copy with changed texts, until the end of a `with`."""
+
+    def __init__(self, folder, texts):
+        self.folder, self.texts, self.were = folder, texts, {}
+
+    def __enter__(self):
+        for file, text in self.texts.items():
+            with open(f"{self.folder}/{file}", encoding="utf-8") as source:
+                self.were[file] = source.read()
+            with open(f"{self.folder}/{file}", "w", encoding="utf-8") as source:
+                source.write(text)
+
+    def __exit__(self, *_):
+        for file, text in self.were.items():
+            with open(f"{self.folder}/{file}", "w", encoding="utf-8") as source:
+                source.write(text)
+
+
+def try_together(folder, edits):
+    """Tries edits of different functions in one check, and returns by edit what was said first of those that it refused."""
+    texts = {}
+    for edit in edits:
+        for file, old, new in read_edit(edit):
+            if file not in texts:
+                with open(f"{folder}/{file}", encoding="utf-8") as source:
+                    texts[file] = source.read()
+            texts[file] = texts[file].replace(old, new)
+    with Edited(folder, texts):
+        ran = checked(folder)
+    found = {}
+    if "logic=not-proved" in ran.stdout:
+        for edit in edits:
+            told = own_lines(ran.stdout.split("\n"), functions_of(folder, edit))
+            first = next((it for it in told if not re.match(NAMES_ONLY, it)), "")
+            if first and not re.match(SPOILT, first):
+                found[edit] = first
+    return found
+
+
+def try_alone(folder, name, edit):
+    """Tries one edit, and returns whether it was refused, and what was said."""
+    texts, why = edited(f"crates/{name}", edit)
+    if why:
+        return False, f"BAD EDIT: {why}"
+    with Edited(folder, texts):
+        return refused(folder)
+
+
+def try_crate(name, edits, is_alone):
+    """Tries a crate's edits, and returns how many were not refused."""
     failures = 0
     with tempfile.TemporaryDirectory(prefix="edits-") as room:
         copied(name, room)
         folder = f"{room}/crates/{name}"
-        for edit in edits:
-            texts, why = edited(f"crates/{name}", edit)
-            is_refused, said = (False, f"BAD EDIT: {why}") if why else (True, "")
-            if texts:
-                were = {file: open(f"{folder}/{file}", encoding="utf-8").read() for file in texts}
-                for file, text in texts.items():
-                    open(f"{folder}/{file}", "w", encoding="utf-8").write(text)
-                is_refused, said = refused(folder)
-                for file, text in were.items():
-                    open(f"{folder}/{file}", "w", encoding="utf-8").write(text)
-            failures += not is_refused
-            print(f"{edit.removeprefix('crates/')}: {said}", flush=True)
+        for group in [[it] for it in edits] if is_alone else in_groups(f"crates/{name}", edits):
+            found = try_together(folder, group) if len(group) > 1 else {}
+            for edit in group:
+                is_refused, said = (True, f"refused: {found[edit][:200]}") if edit in found else try_alone(folder, name, edit)
+                failures += not is_refused
+                print(f"{edit.removeprefix('crates/')}: {said}", flush=True)
     return failures
 
 
 def main(words):
-    commit, suites, names = None, SUITES, []
+    commit, suites, names, is_alone = None, SUITES, [], False
     while words:
         word = words.pop(0)
         if word == "--since" and words:
             commit = words.pop(0)
         elif word in ("--gate", "--inner"):
             suites = SUITES[:1] if word == "--gate" else SUITES[1:]
+        elif word == "--alone":
+            is_alone = True
         elif word.startswith("-"):
             stop(USAGE)
         else:
@@ -177,7 +287,7 @@ def main(words):
         asked = lambda it: not names or crate in names or f"{crate}/{os.path.basename(it)[:-5]}" in names
         edits = [it for it in found if asked(it) and (not commit or has_changed(f"crates/{crate}", it, commit))]
         if edits:
-            failures += try_crate(crate, edits)
+            failures += try_crate(crate, edits, is_alone)
             tried += len(edits)
     print(f"{tried} edits tried, {failures} not refused")
     return 1 if failures else 0
