@@ -5,7 +5,7 @@ use Rattle.std.specs.List.Sorted.{IsSearchInRange, IsBinarySearchResult, IsNonDe
 use Rattle.std.specs.Ordering.{nat_cmp, ordering_index}
 use Rattle.std.proofs.lemmas.Cmp.{ranked}
 use Rattle.std.proofs.lemmas.Bool.Decides.{nat_tests}
-use Rattle.std.proofs.Common.{Bool, true, false, Result, Ok, Err, IfOk, IfErr, ◌≢◌, [], ◌∷◌, ◌++◌, ◌⊎◌, max, take, set, length-take, length-append, ℕ, ◌≡◌, ◌<◌, ◌≤◌, ◌+◌, List, Some, None, Option, length, get_or, sym, ◌∙◌, ap, arith, refl}
+use Rattle.std.proofs.Common.{Bool, true, false, Result, Ok, Err, IfOk, IfErr, [], ◌∷◌, ◌++◌, max, take, set, length-take, length-append, ℕ, ◌≡◌, ◌<◌, ◌≤◌, ◌+◌, List, Some, None, Option, length, get_or, sym, ◌∙◌, ap, arith, refl}
 use Rattle.std.specs.List.{slice_get, Contains}
 use Rattle.std.proofs.lemmas.Option.{slice_get-get_or, slice_get_within, get_or_from_slice_get}
 use Rattle.std.proofs.lemmas.Bool.{cases_lt}

@@ -1,6 +1,7 @@
 //! What a check answers.
-ghost use Rattle.std.specs.Prelude.{◌≡◌};
+ghost use Rattle.std.specs.Prelude.{◌≡◌, ◌++◌, [], decimal, IfNone, IfSome};
 ghost use Rattle.certificate_check.specs.Numbers.{order_fault_number};
+ghost use Rattle.certificate_check.specs.Texts.{fault_text, rest_text, verdict_word};
 
 use std::fmt;
 use tag::OpId;
@@ -46,29 +47,63 @@ impl Fault {
             Fault::OrderBroken(_, _) => 6,
         }
     }
+
+    /// The words that its text begins with, and the number after them.
+    pub fn beginning(self) -> (&'static str, u64)
+        ensures { fault_text self ≡ result.0.now ++ decimal result.1 ++ rest_text self }
+    {
+        match self {
+            Fault::UnknownCall(i) => ("1 unknown call at ", i as u64),
+            Fault::CallTwice(i) => ("2 call twice at ", i as u64),
+            Fault::MissingCall(op) => ("3 missing call ", u64::from(op.0)),
+            Fault::PendingRead(i) => ("4 pending read at ", i as u64),
+            Fault::WrongAnswer(i) => ("5 wrong answer at ", i as u64),
+            Fault::OrderBroken(i, _) => ("6 order broken at ", i as u64),
+        }
+    }
+
+    /// What its text has after that, if anything: words, and a number after them.
+    pub fn rest(self) -> Option<(&'static str, u64)>
+        ensures some { IfSome result (λ rest. rest_text self ≡ rest.0.now ++ decimal rest.1) }
+        ensures none { IfNone result (rest_text self ≡ []) }
+    {
+        match self {
+            Fault::OrderBroken(_, j) => Some((" and ", j as u64)),
+            _ => None,
+        }
+    }
+}
+
+impl Verdict {
+    /// Its first word; of a no, the fault's text follows.
+    pub fn word(self) -> &'static str
+        ensures { result.now ≡ verdict_word self }
+    {
+        match self {
+            Verdict::Yes => "yes",
+            Verdict::No(_) => "no ",
+        }
+    }
 }
 
 impl fmt::Display for Fault {
     fn fmt<W: fmt::Write>(&self, f: &mut fmt::Formatter<W>) -> fmt::Result {
-        match self {
-            Fault::UnknownCall(i) => write!(f, "1 unknown call at {i}"),
-            Fault::CallTwice(i) => write!(f, "2 call twice at {i}"),
-            Fault::MissingCall(op) => {
-                let call = op.0;
-                write!(f, "3 missing call {call}")
-            }
-            Fault::PendingRead(i) => write!(f, "4 pending read at {i}"),
-            Fault::WrongAnswer(i) => write!(f, "5 wrong answer at {i}"),
-            Fault::OrderBroken(i, j) => write!(f, "6 order broken at {i} and {j}"),
+        let (words, number) = self.beginning();
+        write!(f, "{words}{number}")?;
+        match self.rest() {
+            Some((words, number)) => write!(f, "{words}{number}"),
+            None => Ok(()),
         }
     }
 }
 
 impl fmt::Display for Verdict {
     fn fmt<W: fmt::Write>(&self, f: &mut fmt::Formatter<W>) -> fmt::Result {
+        let word = self.word();
+        write!(f, "{word}")?;
         match self {
-            Verdict::Yes => write!(f, "yes"),
-            Verdict::No(fault) => write!(f, "no {fault}"),
+            Verdict::Yes => Ok(()),
+            Verdict::No(fault) => write!(f, "{fault}"),
         }
     }
 }

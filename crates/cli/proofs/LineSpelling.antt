@@ -4,34 +4,10 @@ use Rattle.std.specs.Borrow.{Bor}
 use Rattle.tag.specs.declared.numbers.OpId.{OpId}
 use Rattle.certificate_check.specs.declared.verdict.Fault.{Fault}
 use Rattle.certificate_check.specs.declared.verdict.Verdict.{Verdict}
-use Rattle.certificate_check.specs.declared.verdict.Verdict.TheVariants.{Yes, No}
 use Rattle.cli.specs.Justifications.{no_note_text, refusal_text}
 use Rattle.cli.specs.JsonLines.{json_line, verdict_members}
-use Rattle.cli.specs.VerdictLines.{fault_text, line_text}
+use Rattle.certificate_check.specs.Texts.{fault_text}
 use Rattle.cli.specs.declared.noted_orders.Unjustified.TheVariants as unjustified
-
-regroup : (old p q r s : List ℕ) → (((old ++ p) ++ q) ++ r) ++ s ≡ old ++ (p ++ q ++ r ++ s)
-regroup old p q r s = simp append_assoc
-
-four : (old p q r s a b c d : List ℕ) → a ≡ old ++ p → b ≡ a ++ q → c ≡ b ++ r → d ≡ c ++ s → d ≡ old ++ (p ++ q ++ r ++ s)
-four old p q r s a b c d first second third fourth =
-    fourth ∙ ap (λ (x : List ℕ). x ++ s) (third ∙ ap (λ (x : List ℕ). x ++ r) (second ∙ ap (λ (x : List ℕ). x ++ q) first)) ∙ regroup old p q r s
-
-regroup_no : (key p q r s : List ℕ) → key ++ (p ++ q) ++ r ++ s ≡ key ++ p ++ (q ++ r) ++ s
-regroup_no key p q r s = simp append_assoc
-
--- the line of a key, of a yes and of a no
-pub yes_said : (old a b key : List ℕ) → a ≡ old ++ key → b ≡ a ++ codes ": yes\n" → b ≡ old ++ line_text key Yes
-unfolding line_text
-yes_said old a b key named said =
-    said ∙ ap (λ (x : List ℕ). x ++ codes ": yes\n") named ∙ append_assoc old key (codes ": yes\n")
-    ∙ ap (λ (x : List ℕ). old ++ x) (sym (append_assoc (key ++ codes ": ") (codes "yes") (codes "\n") ∙ append_assoc key (codes ": ") (codes "yes" ++ codes "\n")))
-
-pub no_said : (old a b c d key : List ℕ) (fault : Fault) → a ≡ old ++ key → b ≡ a ++ codes ": no " → c ≡ b ++ fault_text fault → d ≡ c ++ codes "\n" → d ≡ old ++ line_text key (No fault)
-unfolding line_text
-no_said old a b c d key fault named begun told ended =
-    four old key (codes ": no ") (fault_text fault) (codes "\n") a b c d named begun told ended
-    ∙ ap (λ (x : List ℕ). old ++ x) (regroup_no key (codes ": ") (codes "no ") (fault_text fault) (codes "\n"))
 
 regroup_five : (old p q r s t : List ℕ) → ((((old ++ p) ++ q) ++ r) ++ s) ++ t ≡ old ++ (p ++ q ++ r ++ s ++ t)
 regroup_five old p q r s t = simp append_assoc

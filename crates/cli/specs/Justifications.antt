@@ -22,7 +22,7 @@ use Rattle.cli.specs.Devices.{FileStates, ReceivesOrFails, WriterStates}
 use Rattle.cli.specs.Outcomes.{Ends}
 use Rattle.cli.specs.Readings.{ReadsHistories}
 use Rattle.cli.specs.Reports.{StopsHistory}
-use Rattle.cli.specs.VerdictLines.{fault_text}
+use Rattle.certificate_check.specs.Texts.{fault_text}
 use Rattle.cli.specs.declared.outcome.Outcome.{Outcome}
 
 -- a key with its part

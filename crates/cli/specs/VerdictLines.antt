@@ -1,35 +1,17 @@
 -- The lines that a check prints: one for each key, with the verdict on its order.
-use Rattle.std.specs.Prelude.{ℕ, ◌≡◌, List, [], ◌∷◌, ◌++◌, codes, decimal}
+use Rattle.std.specs.Prelude.{ℕ, ◌≡◌, List, [], ◌∷◌, ◌++◌, codes}
 use Rattle.std.specs.List.{flat_map}
 use Rattle.recorder.specs.declared.order.KeyOrder.{KeyOrder}
 use Rattle.recorder.specs.Histories.{Recorded}
+use Rattle.certificate_check.specs.Texts.{verdict_text}
 use Rattle.certificate_check.specs.Verdicts.{IsVerdict}
 use Rattle.certificate_check.specs.declared.verdict.Verdict.{Verdict}
-use Rattle.certificate_check.specs.declared.verdict.Verdict.TheVariants.{Yes, No}
-use Rattle.certificate_check.specs.declared.verdict.Fault.{Fault}
-use Rattle.certificate_check.specs.declared.verdict.Fault.TheVariants.{UnknownCall, CallTwice}
-use Rattle.certificate_check.specs.declared.verdict.Fault.TheVariants.{MissingCall, PendingRead}
-use Rattle.certificate_check.specs.declared.verdict.Fault.TheVariants.{WrongAnswer, OrderBroken}
 use Rattle.file_format.specs.OrderFormat.{AreJoined}
 use Rattle.parallel_keys.specs.Histories.{AreHallParts, KeyVerdicts}
 use Rattle.parallel_keys.specs.CheckedKeys.{CheckedKey, KeyParts, all_parts, checked_keys}
 use Rattle.cli.specs.JsonLines.{json_line}
 use Rattle.command_line.specs.declared.lines.Lines.{Lines}
 use Rattle.command_line.specs.declared.lines.Lines.TheVariants as form
-
--- what is wrong with an order
-abbrev pub fault_text : Fault → List ℕ
-fault_text (UnknownCall i) = codes "1 unknown call at " ++ decimal i
-fault_text (CallTwice i) = codes "2 call twice at " ++ decimal i
-fault_text (MissingCall op) = codes "3 missing call " ++ decimal op.0
-fault_text (PendingRead i) = codes "4 pending read at " ++ decimal i
-fault_text (WrongAnswer i) = codes "5 wrong answer at " ++ decimal i
-fault_text (OrderBroken i j) = codes "6 order broken at " ++ decimal i ++ codes " and " ++ decimal j
-
--- a verdict, with what is wrong if it is no
-abbrev pub verdict_text : Verdict → List ℕ
-verdict_text Yes = codes "yes"
-verdict_text (No fault) = codes "no " ++ fault_text fault
 
 -- the line of a key with its verdict
 unfoldable pub line_text : List ℕ → Verdict → List ℕ

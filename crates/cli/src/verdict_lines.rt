@@ -1,6 +1,7 @@
 //! Verdicts as texts: a line for each key that is checked.
 ghost use Rattle.std.specs.Prelude.{◌≡◌, ◌++◌, OnOk};
-ghost use Rattle.cli.specs.VerdictLines.{fault_text, line_text};
+ghost use Rattle.certificate_check.specs.Texts.{fault_text, verdict_text};
+ghost use Rattle.cli.specs.VerdictLines.{line_text};
 
 use certificate_check::{Fault, Verdict};
 use sentences::{append, append_number};
@@ -10,30 +11,32 @@ use tag::{Key, Memory};
 pub(crate) fn append_fault(text: &mut Vec<u8>, fault: Fault) -> Result<(), Memory>
     ensures { OnOk result (text.new.items ≡ text.old.items ++ fault_text fault) }
 {
-    match fault {
-        Fault::UnknownCall(i) => append_number(text, "1 unknown call at ", i as u64),
-        Fault::CallTwice(i) => append_number(text, "2 call twice at ", i as u64),
-        Fault::MissingCall(op) => append_number(text, "3 missing call ", u64::from(op.0)),
-        Fault::PendingRead(i) => append_number(text, "4 pending read at ", i as u64),
-        Fault::WrongAnswer(i) => append_number(text, "5 wrong answer at ", i as u64),
-        Fault::OrderBroken(i, j) => {
-            append_number(text, "6 order broken at ", i as u64)?;
-            append_number(text, " and ", j as u64)
-        }
+    let (words, number) = fault.beginning();
+    append_number(text, words, number)?;
+    match fault.rest() {
+        Some((words, number)) => append_number(text, words, number),
+        None => Ok(()),
+    }
+}
+
+/// Says the verdict.
+fn append_verdict(text: &mut Vec<u8>, verdict: Verdict) -> Result<(), Memory>
+    ensures { OnOk result (text.new.items ≡ text.old.items ++ verdict_text verdict) }
+{
+    append(text, verdict.word())?;
+    match verdict {
+        Verdict::Yes => Ok(()),
+        Verdict::No(fault) => append_fault(text, fault),
     }
 }
 
 /// Says the verdict on a key's order, on a line of its own.
+#[tactic(auto, unfolding(crate::specs::VerdictLines::line_text))]
 pub fn append_line(text: &mut Vec<u8>, key: &Key, verdict: Verdict) -> Result<(), Memory>
     ensures { OnOk result (text.new.items ≡ text.old.items ++ line_text key.now verdict) }
 {
     append(text, key.as_str())?;
-    match verdict {
-        Verdict::Yes => append(text, ": yes\n"),
-        Verdict::No(fault) => {
-            append(text, ": no ")?;
-            append_fault(text, fault)?;
-            append(text, "\n")
-        }
-    }
+    append(text, ": ")?;
+    append_verdict(text, verdict)?;
+    append(text, "\n")
 }

@@ -5,7 +5,7 @@ use Rattle.cli.specs.FailureLines.{failure_line}
 use Rattle.cli.specs.Justifications.{Refuses, refusal_text}
 use Rattle.counted_devices.specs.DeviceStates.{DeviceStates}
 use Rattle.cli.specs.Devices.{ReceivesOrFails}
-use Rattle.cli.specs.VerdictLines.{fault_text}
+use Rattle.certificate_check.specs.Texts.{fault_text}
 use Rattle.cli.specs.declared.noted_orders.Unjustified.TheVariants as unjustified
 use Rattle.cli.specs.declared.status.Failure.TheVariants as failure
 use Rattle.cli.specs.declared.status.Status.{Status}

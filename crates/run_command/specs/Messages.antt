@@ -4,7 +4,7 @@ use Rattle.std.specs.Prelude.{decimal}
 use Rattle.counted_devices.specs.DeviceStates.{DeviceStates}
 use Rattle.cli.specs.Devices.{FailsOnce, IsUntouched, ReceivesOrFails, device_since, device_until}
 use Rattle.cli.specs.FailureLines.{failure_line}
-use Rattle.cli.specs.VerdictLines.{fault_text}
+use Rattle.certificate_check.specs.Texts.{fault_text}
 use Rattle.cli.specs.declared.status.Failure.TheVariants as failure
 use Rattle.cli.specs.declared.status.Status.{Status}
 use Rattle.cli.specs.declared.status.Status.TheVariants as status
