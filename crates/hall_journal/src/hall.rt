@@ -145,7 +145,7 @@ impl Hall {
         }
         let kept = step.copy()?;
         make_room(&mut self.journal, self.running, &kept)?;
-        let effect = self.world.step(step)?;
+        let effect = self.world.take(step)?;
         self.running = running_after(self.running, &kept);
         self.journal.push_reserved(kept);
         Ok(effect)

@@ -1,17 +1,21 @@
 -- Each step, and each list of steps, keeps the system sound.
-use Rattle.std.proofs.Common.{◌≡◌, ℕ, ◌≤◌, true, false, cond, is_some, List, [], ◌∷◌, Option, None, Some, refl}
+use Rattle.std.proofs.Common.{◌≡◌, ℕ, ◌≤◌, true, false, cond, is_some, List, [], ◌∷◌, Option, None, Some, Result, Ok, Err, refl}
+use Rattle.std.proofs.Common.{sym, subst}
 use Rattle.std.specs.FinMap as finite
 use Rattle.std.proofs.lemmas.Bool.{not-false}
 use Rattle.tag.specs.declared.actions.Action.{Action}
+use Rattle.tag.specs.declared.memory.Memory.{Memory}
 use Rattle.quorum.specs.Quorums.{IsLawful}
 use Rattle.network.specs.Flights.{message_of}
 use Rattle.network.specs.declared.messages.Message.{Message}
 use Rattle.network.specs.declared.messages.Message.TheVariants.{ToReplica, ToClient}
 use Rattle.world_steps.specs.Configs.{Config}
+use Rattle.world_steps.specs.Moves.{Moves}
 use Rattle.world_steps.specs.Refusals.{refusal_of, no_such_client}
 use Rattle.world_steps.specs.Runs.{next, after_from, after}
 use Rattle.world_steps.specs.SoundSystems.{Flies, IsSound}
 use Rattle.world_steps.specs.Systems.{opening, arrive, deliver, join, invoke, respond, system_after}
+use Rattle.world_steps.specs.declared.effect.Effect.{Effect}
 use Rattle.world_steps.specs.declared.refusal.Refusal.{Refusal}
 use Rattle.world_steps.specs.declared.step.Step.{Step}
 use Rattle.world_steps.specs.declared.step.Step.TheVariants as step
@@ -60,6 +64,12 @@ moved_sound s (step.Respond name) sound none = answered_sound s sound name none
 moved_sound s (step.StopClient name) sound none = stop_sound s sound name
 moved_sound s (step.StopReplica number) sound none = set_up_sound s sound number false
 moved_sound s (step.StartReplica number) sound none = set_up_sound s sound number true
+
+-- so does one that was refused for memory
+pub moves_sound : (s : System) (step : Step) (result : Result Effect Memory) (new : System) → IsSound s → refusal_of s step ≡ None
+    → Moves s step result new → IsSound new
+moves_sound s step (Ok effect) new sound none moved = subst IsSound (sym moved.1) (moved_sound s step sound none)
+moves_sound s step (Err why) new sound none kept = subst IsSound (sym kept.1) sound
 
 -- ---- every step, and every list of steps
 next_by : (s : System) (step : Step) (found : Option Refusal) → IsSound s → refusal_of s step ≡ found → IsSound (cond (is_some found) s (system_after s step))

@@ -1,10 +1,11 @@
 //! Worlds.
-ghost use Rattle.std.specs.Prelude.{◌≡◌, IfOk, List, ℕ, false, option_map, slice_get};
+ghost use Rattle.std.specs.Prelude.{◌≡◌, IfOk, List, None, ℕ, false, option_map, slice_get};
 ghost use Rattle.std.specs.Option.{option_copied, option_map_or};
 ghost use Rattle.std.specs.FinMap as finite;
 ghost use Rattle.recorder.specs.Records.{IsPart};
 ghost use Rattle.recorder.specs.Sound.{TagSound};
 ghost use Rattle.recorder.specs.declared.part.Call.{Call};
+ghost use Rattle.world_steps.specs.Moves.{Moves};
 ghost use Rattle.world_steps.specs.Refusals.{refusal_of};
 ghost use Rattle.world_steps.specs.Runs.{Steps};
 ghost use Rattle.world_steps.specs.SoundSystems.{IsSound};
@@ -78,7 +79,17 @@ impl World {
         if let Some(refusal) = self.system.refusal(&step) {
             return Err(refusal);
         }
-        Ok(self.system.apply(step)?)
+        Ok(self.take(step)?)
+    }
+
+    /// Takes a step that nothing refuses, which `refusal` tells, and answers what it did. After `Memory`
+    /// the world equals what it was.
+    pub fn take(&mut self, step: Step) -> Result<Effect, Memory>
+        requires { refusal_of self.old step ≡ None }
+        ensures moves { Moves self.old step result self.new }
+        ensures sound { IsSound self.new }
+    {
+        self.system.apply(step)
     }
 
     /// Why the step would be refused now, other than for memory.
