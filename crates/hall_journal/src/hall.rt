@@ -1,18 +1,20 @@
 //! Halls.
-ghost use Rattle.std.specs.Prelude.{◌≡◌, ◌≤◌, ◌+◌, IfOk, OnOk, OnErr, vec_capacity, vec_len};
+ghost use Rattle.std.specs.Prelude.{◌≡◌, ◌≤◌, ◌+◌, IfOk, None, Ok, OnOk, OnErr, vec_capacity, vec_len};
 ghost use Rattle.std.specs.Cmp.{and_per, on_per};
 ghost use Rattle.std.specs.Cmp.Lexicographic.{lists_per, pointwise};
 ghost use Rattle.std.specs.Ordering.{eq_of_both, on};
 ghost use Rattle.world_steps.specs.contracts.config.ConfigPartialEq.TheImpl.Laws as config;
 ghost use Rattle.world_steps.specs.contracts.step.StepPartialEq.TheImpl.Laws as step;
 ghost use Rattle.world_steps.specs.contracts.world.WorldPartialEq.TheImpl.Laws as world;
+ghost use Rattle.world_steps.specs.Moves.{IsReady};
+ghost use Rattle.world_steps.specs.Refusals.{refusal_of};
 ghost use Rattle.world_steps.specs.Runs.{join_count, stop_count};
 ghost use Rattle.world_steps.specs.SoundSystems.{IsSound};
 ghost use Rattle.hall_journal.specs.Halls.{IsReplay, MayWantMemory, TakesOrRefuses, most_elements, opening_hall};
 
 use std::alloc::Global;
 use std::marker::Model;
-use tag::Memory;
+use tag::{ClientId, Memory, OpId, Returned};
 use world_steps::{Config, Effect, Refusal, Step, World, laws};
 
 /// A world, and the journal of the steps that it took.
@@ -149,6 +151,27 @@ impl Hall {
         self.running = running_after(self.running, &kept);
         self.journal.push_reserved(kept);
         Ok(effect)
+    }
+
+    /// Has a client answer its call, where the world doesn't refuse that, and adds the step to the journal.
+    /// It answers the call's number, and the answer that the client had; the record has a copy of it. After
+    /// `Memory` the hall equals what it was.
+    pub fn respond(&mut self, client: ClientId) -> Result<(OpId, Returned), Memory>
+        requires { refusal_of self.old.world (Step.Respond client) ≡ None }
+        ensures takes { IfOk result (λ answer. TakesOrRefuses self.old (Step.Respond client)
+            (Ok (Effect.Responded answer.0)) self.new) }
+        ensures ready { IfOk result (λ answer. IsReady self.old.world client answer.0 answer.1) }
+        ensures err { OnErr result (self.new ≡ self.old) }
+        ensures replay { IsReplay self.new }
+        ensures sound { IsSound self.new.world }
+    {
+        laws::a_list_may_have_one_more_step();
+        laws::a_stop_is_of_a_client_that_runs();
+        let step = Step::Respond { client };
+        make_room(&mut self.journal, self.running, &step)?;
+        let answer = self.world.respond(client)?;
+        self.journal.push_reserved(step);
+        Ok(answer)
     }
 }
 

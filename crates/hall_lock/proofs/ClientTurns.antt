@@ -25,6 +25,7 @@ use Rattle.network.specs.declared.messages.Message.TheVariants.{ToReplica, ToCli
 use Rattle.recorder.specs.declared.row.Row.{Row}
 use Rattle.recorder.specs.declared.row.Row.TheVariants.{Invoke, Note, Respond}
 use Rattle.world_steps.specs.Lasting.{Began, HasJoined, HasStopped, IsRowOf, receiver}
+use Rattle.world_steps.specs.Moves.{IsReady}
 use Rattle.world_steps.specs.Sound.{At}
 use Rattle.world_steps.specs.Systems.{answered_op, deliver, effect_of, invoke, system_after, next_call, respond, send, stop, take}
 use Rattle.world_steps.specs.Systems.{with_note}
@@ -42,7 +43,7 @@ use Rattle.hall_lock.specs.declared.client_pass.Delay.TheVariants.{Foreign, Refu
 use Rattle.hall_lock.specs.declared.rule.View.{View}
 use Rattle.hall_lock.specs.Turns.TakesReply.{WithNote, WithoutNote}
 use Rattle.hall_lock.specs.Turns.{AddsNoRow, AddsOwnRows, AddsRow, AreRecorded, ClientView, DeliversFlight, HoldsBack, IsDelayed, IsQuiet}
-use Rattle.hall_lock.specs.Turns.{IsReady, IsToClient, KeepsStopped}
+use Rattle.hall_lock.specs.Turns.{IsToClient, KeepsStopped}
 use Rattle.hall_lock.specs.Turns.{LooksAt, OthersAdd, Receives, Returns, StaysStopped, TakesFlight, TakesReply, TakesTurn, Turns}
 use Rattle.hall_lock.specs.Turns.{is_client_stopped, seat, seat_in, view_at_rest}
 use Rattle.hall_lock.proofs.Running.{delivered_runs, invoked_runs, responded_runs}
@@ -316,28 +317,6 @@ delayed {client} {v} {z} {old} {new} turn step count Foreign replay sound held =
 delayed {client} {v} {z} {old} {new} turn step count (Refused why) replay sound held = (
   subst (λ l. count ≤ length l) (sym (ap (λ (y : View). y.rows) turn.is ∙ ap (λ (h : Hall). h.world.history.rows) held.1.1)) held.0,
   took_turn turn step (Err why) held.1,
-)
-
--- a client that is ready responds with its call's number
-ready_effect : (s : System) (name : ℕ) (op : OpId) (returned : Returned) (rules : Rules) (state : State)
-    → finite.get s.members.clients name ≡ Some (record { rules = rules; state = state })
-    → Some op ≡ pending_of (record { rules = rules; state = state }) → Some returned ≡ answer_of (record { rules = rules; state = state })
-    → effect_of s (step.Respond name) ≡ Some (effect.Responded op)
-ready_effect s name op returned rules Idle there pending answer = none_some (sym answer)
-ready_effect s name op returned rules (Ask asking) there pending answer = none_some (sym answer)
-ready_effect s name op returned rules (Put chosen counted) there pending answer = none_some (sym answer)
-ready_effect s name op returned rules (Ready chosen) there pending answer = rw there
-    (ap (λ o. Some (effect.Responded o)) (sym (same_Some op chosen.call.op pending)))
-ready_effect s name op returned rules Stopped there pending answer = none_some (sym answer)
-
-pub responds : (old new : Hall) (name : ℕ) (op : OpId) (returned : Returned) → refusal_of old.world (step.Respond name) ≡ None
-    → new ≡ with_step old (step.Respond name) → IsReady old.world name op returned
-    → TakesOrRefuses old (step.Respond name) (Ok (effect.Responded op)) new
-responds old new name op returned none same ready = (
-  none,
-  ready_effect old.world name op returned ready.state.rules ready.state.state
-      ready.there ready.pending ready.answer,
-  same,
 )
 
 pub ended : {client : ℕ} {v z : View} {old new : Hall} → ClientTurn client v old new z → (op : OpId) (returned : Returned) (place : ℕ)

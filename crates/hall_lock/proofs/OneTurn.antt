@@ -1,8 +1,11 @@
 -- What one turn with the hall adds, and what it leaves.
 use Rattle.std.proofs.Common.{◌≡◌, ◌≤◌, ℕ, is_some, List, [], ◌∷◌, ◌++◌, Option, Some, None, Result, Ok, Err, length, slice_get, refl}
 use Rattle.std.proofs.Common.{sym, ap, ◌∙◌, subst}
-use Rattle.std.specs.Prelude.{if◌then◌else◌, OnErr, OnOk}
+use Rattle.std.specs.Prelude.{if◌then◌else◌, IfOk, OnErr, OnOk}
 use Rattle.tag.proofs.Options.{none_some}
+use Rattle.tag.specs.declared.actions.Returned.{Returned}
+use Rattle.tag.specs.declared.memory.Memory.{Memory}
+use Rattle.tag.specs.declared.numbers.OpId.{OpId}
 use Rattle.recorder.specs.Histories.{IsWellFormed}
 use Rattle.recorder.specs.declared.row.Row.{Row}
 use Rattle.world_steps.specs.Configs.{Config}
@@ -14,6 +17,7 @@ use Rattle.world_steps.specs.Sound.{At}
 use Rattle.world_steps.specs.SoundSystems.{IsSound}
 use Rattle.world_steps.specs.Systems.{system_after}
 use Rattle.world_steps.specs.declared.effect.Effect.{Effect}
+use Rattle.world_steps.specs.declared.effect.Effect.TheVariants as effect
 use Rattle.world_steps.specs.declared.refusal.Refusal.{Refusal}
 use Rattle.world_steps.specs.declared.step.Step.{Step}
 use Rattle.world_steps.specs.declared.step.Step.TheVariants as step
@@ -146,6 +150,15 @@ takes_add old new step (Ok effect) sound before after_it rows stay stopped took 
     took_adds old new step sound before after_it rows stay stopped took.0 took.2
 takes_add old new step (Err why) sound before after_it rows stay stopped took =
     kept_adds (client_in old.world step) old.world new.world (ap (λ (h : Hall). h.world) took.1)
+
+-- a response that the hall takes adds a row of its client's call alone
+pub response_adds : (old new : Hall) (client : ℕ) (result : Result (OpId × Returned) Memory) → IsSound old.world → IsReplay old
+    → IsReplay new → AddsOfItsClient → StayJoined → StayStopped
+    → IfOk result (λ answer. TakesOrRefuses old (step.Respond client) (Ok (effect.Responded answer.0)) new)
+    → OnOk result (AddsOwnRows (Some client) old.world new.world)
+response_adds old new client (Ok answer) sound before after_it rows stay stopped took =
+    took_adds old new (step.Respond client) sound before after_it rows stay stopped took.0 took.2
+response_adds old new client (Err why) sound before after_it rows stay stopped took = tt
 
 -- whoever owns the rows of the one client owns those of the other
 pub owned : (found client : Option ℕ) (old new : System) → ((name : ℕ) → found ≡ Some name → client ≡ Some name)

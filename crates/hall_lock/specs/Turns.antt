@@ -8,9 +8,8 @@ use mathlib.Core.Option.{some}
 use lib.ListN.{get_elem?}
 use Rattle.tag.specs.declared.actions.Action.{Action}
 use Rattle.tag.specs.Tags.{Tag}
-use Rattle.tag.specs.declared.actions.Returned.{Returned}
 use Rattle.tag.specs.declared.numbers.OpId.{OpId}
-use Rattle.client_phases.specs.Clients.{answer_of, counted_by, pending_of, phase_of}
+use Rattle.client_phases.specs.Clients.{counted_by, phase_of}
 use Rattle.client_phases.specs.declared.clients.Client.{Client}
 use Rattle.client_phases.specs.declared.outcomes.Phase.{Phase}
 use Rattle.quorum.specs.Sets.{Replicas}
@@ -407,10 +406,3 @@ pub record IsTold (seen : List Row) (Told : System → Type 0) : Type 0 where
   pub sound : IsSound hall.world
   pub grown : Grows seen hall.world.history.rows
   pub told : Told hall.world
-
--- the client is ready to answer that call so
-pub record IsReady (s : System) (client : ℕ) (op : OpId) (returned : Returned) : Type 0 where
-  pub state : Client
-  pub there : finite.get s.members.clients client ≡ Some state
-  pub pending : Some op ≡ pending_of state
-  pub answer : Some returned ≡ answer_of state

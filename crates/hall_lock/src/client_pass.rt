@@ -5,18 +5,19 @@ ghost use Rattle.std.specs.Option.{option_copied};
 ghost use Rattle.network.specs.Flights.{message_of};
 ghost use Rattle.recorder.specs.declared.row.Row.TheVariants as row;
 ghost use Rattle.world_steps.specs.Lasting.{HasStopped};
+ghost use Rattle.world_steps.specs.Moves.{IsReady};
 ghost use Rattle.world_steps.specs.Refusals.{refusal_of};
 ghost use Rattle.world_steps.specs.declared.effect.Effect.{Effect};
 ghost use Rattle.world_steps.specs.declared.effect.Effect.TheVariants as effect;
 ghost use Rattle.world_steps.specs.declared.refusal.Refusal.{Refusal};
 ghost use Rattle.world_steps.specs.declared.step.Step.TheVariants as event;
-ghost use Rattle.hall_journal.specs.Halls.{TakesOrRefuses, most_elements, with_step};
+ghost use Rattle.hall_journal.specs.Halls.{TakesOrRefuses, most_elements};
 ghost use Rattle.hall_lock.specs.Turns.{AddsOwnRows, AddsRow, AreRecorded, DeliversFlight, HoldsBack, IsDelayed};
-ghost use Rattle.hall_lock.specs.Turns.{AddsNoRow, IsQuiet, IsReady, IsStepOfClient, IsToClient, LooksAt};
+ghost use Rattle.hall_lock.specs.Turns.{AddsNoRow, IsQuiet, IsStepOfClient, IsToClient, LooksAt};
 ghost use Rattle.hall_lock.specs.Turns.{StandsIn, StaysStopped, TakesFlight, TakesReply, TakesTurn};
 ghost use Rattle.hall_lock.specs.Turns.{seat};
 
-use crate::door::{Door, take_in};
+use crate::door::{Door, answer_in, take_in};
 use client_phases::{Phase, Taken};
 use hall_journal::Hall;
 use network::Message;
@@ -70,9 +71,9 @@ pub struct Ended {
     pub op: OpId,
     /// The place of its response there.
     pub place: usize,
-    /// Its answer.
+    /// Its answer, which the client had.
     pub returned: Returned,
-    /// A copy of its answer.
+    /// A copy of its answer, made before the response was taken: nothing is refused after that.
     pub copy: Returned,
 }
 
@@ -291,8 +292,8 @@ fn is_for(message: Option<&Message>, client: ClientId) -> bool
 
 /// Has the hall take the response, where the client is ready.
 fn respond_in(hall: &mut Hall, client: ClientId) -> Result<Ended, Refusal>
-    ensures ended { IfOk result (λ ended. (refusal_of hall.old.world (event.Respond client) ≡ None)
-        × (hall.new ≡ with_step hall.old (event.Respond client))) }
+    ensures took { IfOk result (λ ended. TakesOrRefuses hall.old (event.Respond client)
+        (Ok (effect.Responded ended.op)) hall.new) }
     ensures why { IfErr result (λ why.
         TakesOrRefuses hall.old (event.Respond client) (Err why) hall.new) }
     ensures answer { IfOk result (λ ended. IsReady hall.old.world client ended.op ended.returned) }
@@ -306,30 +307,28 @@ fn respond_in(hall: &mut Hall, client: ClientId) -> Result<Ended, Refusal>
         return Err(refusal);
     }
     let place = hall.world().history().rows().len();
-    let (op, returned) = answer_in(hall.world(), client)?;
-    let copy = returned.copy()?;
-    match take_in(hall, Step::Respond { client }) {
-        Ok(_) => Ok(Ended {
-            op,
-            place,
-            returned,
-            copy,
-        }),
-        Err(refusal) => Err(refusal),
-    }
+    let copy = copy_in(hall.world(), client)?;
+    let (op, returned) = answer_in(hall, client)?;
+    Ok(Ended {
+        op,
+        place,
+        returned,
+        copy,
+    })
 }
 
-/// The number of the client's call and a copy of its answer: the client is ready.
-fn answer_in(world: &World, client: ClientId) -> Result<(OpId, Returned), Memory>
-    requires ready { refusal_of world.now (event.Respond client) ≡ None }
-    ensures { IfOk result (λ answer. IsReady world.now client answer.0 answer.1) }
+/// A copy of the client's answer: the client is ready.
+fn copy_in(world: &World, client: ClientId) -> Result<Returned, Memory>
+    requires { refusal_of world.now (event.Respond client) ≡ None }
+    ensures { IfOk result (λ copy. (op : OpId) (returned : Returned)
+        → IsReady world.now client op returned → copy ≡ returned) }
 {
     let Some(state) = world.client(client) else {
         unreachable!()
     };
-    match (state.pending(), state.answer()?) {
-        (Some(op), Some(returned)) => Ok((op, returned)),
-        _ => unreachable!(),
+    match state.answer()? {
+        Some(copy) => Ok(copy),
+        None => unreachable!(),
     }
 }
 

@@ -1,5 +1,5 @@
 //! How a thread comes to a hall: the ends of the hall's channel, and a pass of the rule.
-ghost use Rattle.std.specs.Prelude.{◌≡◌, ℕ, None, IfOk, IfSome, IsNone};
+ghost use Rattle.std.specs.Prelude.{◌≡◌, ℕ, None, Ok, OnErr, OnOk, Some, IfOk, IfSome, IsNone};
 ghost use Rattle.crossbeam_channel.specs.Fifo.{Learns, Pushes};
 ghost use Rattle.hall_lock.specs.Turns.{AddsOwnRows, AreRecorded, HasEntered, HasOneHall, IsAtRest};
 ghost use Rattle.hall_lock.specs.Turns.{IsStepOfPass, KeepsStopped, MayReturn, Receives, Returns, Turns};
@@ -7,6 +7,8 @@ ghost use Rattle.hall_lock.specs.Turns.{guest, maker, seat_in};
 ghost use Rattle.recorder.specs.Histories.{IsWellFormed};
 ghost use Rattle.hall_journal.specs.Halls.{IsReplay, TakesOrRefuses};
 ghost use Rattle.world_steps.specs.Lasting.{client_in};
+ghost use Rattle.world_steps.specs.Moves.{IsReady};
+ghost use Rattle.world_steps.specs.Refusals.{refusal_of};
 ghost use Rattle.world_steps.specs.SoundSystems.{IsSound};
 
 use crate::rule::{Enter, Guest, OneHall, Receive, Return, View};
@@ -18,7 +20,7 @@ use std::hint::spin_loop;
 use std::marker::Model;
 use std::sync::Wait;
 use std::thread;
-use tag::{ClientId, Memory};
+use tag::{ClientId, Memory, OpId, Returned};
 use world_steps::{Effect, Refusal, Step, laws};
 
 /// How often a thread tries to receive the hall before it sleeps.
@@ -218,6 +220,22 @@ pub(crate) fn take_in(hall: &mut Hall, step: Step) -> Result<Effect, Refusal>
     laws::a_stop_is_for_good();
     attest(hall);
     hall.take(step)
+}
+
+/// Has a client of the hall answer its call, which adds a row of this call alone.
+pub(crate) fn answer_in(hall: &mut Hall, client: ClientId) -> Result<(OpId, Returned), Memory>
+    requires { refusal_of hall.old.world (Step.Respond client) ≡ None }
+    ensures takes { IfOk result (λ answer. TakesOrRefuses hall.old (Step.Respond client)
+        (Ok (Effect.Responded answer.0)) hall.new) }
+    ensures ready { IfOk result (λ answer. IsReady hall.old.world client answer.0 answer.1) }
+    ensures err { OnErr result (hall.new ≡ hall.old) }
+    ensures adds { OnOk result (AddsOwnRows (Some client) hall.old.world hall.new.world) }
+{
+    laws::a_step_adds_a_row_of_its_client();
+    laws::further_steps_take_nothing_away();
+    laws::a_stop_is_for_good();
+    attest(hall);
+    hall.respond(client)
 }
 
 /// What holds of every hall.

@@ -111,7 +111,7 @@ module _ (s : System) (sound : IsSound s) where
   may_deliver_found flight None is none = absurd cc
   may_deliver_found flight (Some message) is none = record { message = message; is = is; arrives = may_arrive message (flies s flight message is) none }
 
-  may_respond : (name : ℕ) → refusal_of s (step.Respond name) ≡ None → MayRespond s name
+  pub may_respond : (name : ℕ) → refusal_of s (step.Respond name) ≡ None → MayRespond s name
   may_respond name none =
       let (client, chosen, is, ready) = respond_passed s name none in
       record {

@@ -1,10 +1,13 @@
 -- Each step, and each list of steps, keeps the system sound.
 use Rattle.std.proofs.Common.{◌≡◌, ℕ, ◌≤◌, true, false, cond, is_some, List, [], ◌∷◌, Option, None, Some, Result, Ok, Err, refl}
 use Rattle.std.proofs.Common.{sym, subst}
+use Rattle.std.specs.Prelude.{IfOk, OnErr}
 use Rattle.std.specs.FinMap as finite
 use Rattle.std.proofs.lemmas.Bool.{not-false}
 use Rattle.tag.specs.declared.actions.Action.{Action}
+use Rattle.tag.specs.declared.actions.Returned.{Returned}
 use Rattle.tag.specs.declared.memory.Memory.{Memory}
+use Rattle.tag.specs.declared.numbers.OpId.{OpId}
 use Rattle.quorum.specs.Quorums.{IsLawful}
 use Rattle.network.specs.Flights.{message_of}
 use Rattle.network.specs.declared.messages.Message.{Message}
@@ -16,6 +19,7 @@ use Rattle.world_steps.specs.Runs.{next, after_from, after}
 use Rattle.world_steps.specs.SoundSystems.{Flies, IsSound}
 use Rattle.world_steps.specs.Systems.{opening, arrive, deliver, join, invoke, respond, system_after}
 use Rattle.world_steps.specs.declared.effect.Effect.{Effect}
+use Rattle.world_steps.specs.declared.effect.Effect.TheVariants as effect
 use Rattle.world_steps.specs.declared.refusal.Refusal.{Refusal}
 use Rattle.world_steps.specs.declared.step.Step.{Step}
 use Rattle.world_steps.specs.declared.step.Step.TheVariants as step
@@ -70,6 +74,13 @@ pub moves_sound : (s : System) (step : Step) (result : Result Effect Memory) (ne
     → Moves s step result new → IsSound new
 moves_sound s step (Ok effect) new sound none moved = subst IsSound (sym moved.1) (moved_sound s step sound none)
 moves_sound s step (Err why) new sound none kept = subst IsSound (sym kept.1) sound
+
+-- and so does a response
+pub responded_sound : (s : System) (name : ℕ) (result : Result (OpId × Returned) Memory) (new : System) → IsSound s
+    → refusal_of s (step.Respond name) ≡ None
+    → IfOk result (λ answer. Moves s (step.Respond name) (Ok (effect.Responded answer.0)) new) → OnErr result (new ≡ s) → IsSound new
+responded_sound s name (Ok answer) new sound none moved kept = subst IsSound (sym moved.1) (moved_sound s (step.Respond name) sound none)
+responded_sound s name (Err why) new sound none moved kept = subst IsSound (sym kept) sound
 
 -- ---- every step, and every list of steps
 next_by : (s : System) (step : Step) (found : Option Refusal) → IsSound s → refusal_of s step ≡ found → IsSound (cond (is_some found) s (system_after s step))

@@ -8,7 +8,8 @@ use Rattle.tag.specs.declared.numbers.OpId.{OpId}
 use Rattle.replica.specs.declared.requests.Request.{Request}
 use Rattle.replica.specs.declared.replies.Reply.{Reply}
 use Rattle.client_phases.specs.Calls.{Chosen, answer_from}
-use Rattle.client_phases.specs.Clients.{MayReceive, phase_of, request_of, reply_result}
+use Rattle.client_phases.specs.Clients.{MayReceive, answer_of, pending_of, phase_of, request_of}
+use Rattle.client_phases.specs.Clients.{reply_result}
 use Rattle.client_phases.specs.declared.clients.Client.{Client}
 use Rattle.client_phases.specs.declared.outcomes.Phase.TheVariants as phase
 use Rattle.client_phases.specs.declared.outcomes.Taken.{Taken}
@@ -95,6 +96,13 @@ module _ (s : System) where
     pub chosen : Chosen
     pub ready : client.state ≡ Ready chosen
     pub answers : MayAnswer chosen.call.op (answer_from chosen)
+
+  -- the client is ready to answer that call so
+  pub record IsReady (name : ℕ) (op : OpId) (returned : Returned) : Type 0 where
+    pub state : Client
+    pub there : IsClient name state
+    pub pending : Some op ≡ pending_of state
+    pub answer : Some returned ≡ answer_of state
 
   -- a client of that name
   pub record MayStop (name : ℕ) : Type 0 where

@@ -7,7 +7,7 @@ ghost use Rattle.std.specs.Cmp.Lexicographic.{lists_per, pointwise};
 ghost use Rattle.std.specs.Ordering.{eq_of_both, on};
 ghost use Rattle.client_phases.specs.contracts.clients.ClientPartialEq.TheImpl.Laws as client;
 ghost use Rattle.client_phases.specs.Clients.{MayReceive, client_after, client_after_invoke, phase_of};
-ghost use Rattle.client_phases.specs.Clients.{client_after_respond, client_after_stop};
+ghost use Rattle.client_phases.specs.Clients.{answer_of, client_after_respond, client_after_stop};
 ghost use Rattle.client_phases.specs.Clients.{reply_result};
 ghost use Rattle.client_phases.specs.declared.clients.Client.{Client};
 ghost use Rattle.client_phases.specs.declared.outcomes.Phase.{Phase};
@@ -18,7 +18,7 @@ use replica::Reply;
 use std::alloc::Global;
 use std::collections::BTreeMap;
 use std::marker::Model;
-use tag::{Action, ClientId, Key, Memory, OpId};
+use tag::{Action, ClientId, Key, Memory, OpId, Returned};
 
 /// The names in the order in which they joined, and the client of each.
 #[derive(Debug, Drop)]
@@ -121,15 +121,18 @@ impl Members {
         }
     }
 
-    /// Has a client that is ready be idle again.
-    pub(crate) fn respond(&mut self, name: ClientId)
+    /// Has a client that is ready be idle again. Its answer, if there is such a client.
+    pub(crate) fn respond(&mut self, name: ClientId) -> Option<Returned>
         requires { (client : Client) → finite.get self.old.clients name ≡ Some client
             → phase_of client ≡ Phase.Ready }
-        ensures { (client : Client) → finite.get self.old.clients name ≡ Some client
+        ensures after { (client : Client) → finite.get self.old.clients name ≡ Some client
             → self.new ≡ with_client self.old name (client_after_respond client) }
+        ensures answer { (client : Client) → finite.get self.old.clients name ≡ Some client
+            → result ≡ answer_of client }
     {
-        if let Some(client) = self.clients.get_mut(&name.get()) {
-            client.respond();
+        match self.clients.get_mut(&name.get()) {
+            Some(client) => Some(client.respond()),
+            None => None,
         }
     }
 

@@ -8,7 +8,7 @@ ghost use Rattle.recorder.specs.declared.row.Row.{Row};
 ghost use Rattle.client_phases.specs.Clients.{reply_result};
 ghost use Rattle.client_phases.specs.declared.clients.Client.{Client};
 ghost use Rattle.world_steps.specs.Systems.{answered_op, arrive, lose, op_of, with_note};
-ghost use Rattle.world_steps.specs.Moves.{IsClient, MayAnswer, MayDeliver, MayHandle, MayHear};
+ghost use Rattle.world_steps.specs.Moves.{IsClient, IsReady, MayAnswer, MayDeliver, MayHandle, MayHear};
 ghost use Rattle.world_steps.specs.Moves.{MayInvoke, MayMove, MayNote, MayRepeat, MayRespond};
 ghost use Rattle.world_steps.specs.Moves.{MaySend, MayStop, Moves};
 
@@ -209,18 +209,25 @@ impl System {
         let _ = self.pool.lose(flight);
     }
 
-    fn respond(&mut self, name: ClientId) -> Result<Effect, Memory>
+    /// Has a client answer its call. The call's number, and the answer that the client had; the record
+    /// has a copy of it.
+    pub(crate) fn respond(&mut self, name: ClientId) -> Result<(OpId, Returned), Memory>
         requires { MayRespond self.old name }
-        ensures { Moves self.old (Step.Respond name) result self.new }
+        ensures moves { IfOk result (λ answer. Moves self.old (Step.Respond name)
+            (Ok (Effect.Responded answer.0)) self.new) }
+        ensures ready { IfOk result (λ answer. IsReady self.old name answer.0 answer.1) }
+        ensures err { OnErr result (self.new ≡ self.old) }
     {
         let Some(client) = self.members.get(name) else {
             unreachable!()
         };
         match (client.pending(), client.answer()?) {
-            (Some(op), Some(returned)) => {
-                self.answer(op, returned)?;
-                self.members.respond(name);
-                Ok(Effect::Responded(op))
+            (Some(op), Some(copy)) => {
+                self.answer(op, copy)?;
+                match self.members.respond(name) {
+                    Some(returned) => Ok((op, returned)),
+                    None => unreachable!(),
+                }
             }
             _ => unreachable!(),
         }
@@ -277,7 +284,10 @@ impl System {
                 Ok(Effect::Lost)
             }
             Step::Repeat { flight } => Ok(self.repeat(flight)),
-            Step::Respond { client } => self.respond(client),
+            Step::Respond { client } => match self.respond(client) {
+                Ok((op, _)) => Ok(Effect::Responded(op)),
+                Err(memory) => Err(memory),
+            },
             Step::StopClient { client } => Ok(self.stop_client(client)),
             Step::StopReplica { replica } => Ok(self.stop_replica(replica)),
             Step::StartReplica { replica } => Ok(self.start_replica(replica)),

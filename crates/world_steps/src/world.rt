@@ -1,11 +1,11 @@
 //! Worlds.
-ghost use Rattle.std.specs.Prelude.{◌≡◌, IfOk, List, None, ℕ, false, option_map, slice_get};
+ghost use Rattle.std.specs.Prelude.{◌≡◌, IfOk, List, None, Ok, OnErr, ℕ, false, option_map, slice_get};
 ghost use Rattle.std.specs.Option.{option_copied, option_map_or};
 ghost use Rattle.std.specs.FinMap as finite;
 ghost use Rattle.recorder.specs.Records.{IsPart};
 ghost use Rattle.recorder.specs.Sound.{TagSound};
 ghost use Rattle.recorder.specs.declared.part.Call.{Call};
-ghost use Rattle.world_steps.specs.Moves.{Moves};
+ghost use Rattle.world_steps.specs.Moves.{IsReady, Moves};
 ghost use Rattle.world_steps.specs.Refusals.{refusal_of};
 ghost use Rattle.world_steps.specs.Runs.{Steps};
 ghost use Rattle.world_steps.specs.SoundSystems.{IsSound};
@@ -20,7 +20,7 @@ use recorder::History;
 use replica::Replica;
 use std::alloc::Global;
 use std::marker::Model;
-use tag::{ClientId, Memory, ReplicaId};
+use tag::{ClientId, Memory, OpId, ReplicaId, Returned};
 
 /// Clients, replicas, the network between them and the record, as steps from an opening world left
 /// them.
@@ -90,6 +90,20 @@ impl World {
         ensures sound { IsSound self.new }
     {
         self.system.apply(step)
+    }
+
+    /// Has a client answer its call, where nothing refuses that step. It answers the call's number, and
+    /// the answer that the client had; the record has a copy of it. After `Memory` the world equals what it
+    /// was.
+    pub fn respond(&mut self, client: ClientId) -> Result<(OpId, Returned), Memory>
+        requires { refusal_of self.old (Step.Respond client) ≡ None }
+        ensures moves { IfOk result (λ answer. Moves self.old (Step.Respond client)
+            (Ok (Effect.Responded answer.0)) self.new) }
+        ensures ready { IfOk result (λ answer. IsReady self.old client answer.0 answer.1) }
+        ensures err { OnErr result (self.new ≡ self.old) }
+        ensures sound { IsSound self.new }
+    {
+        self.system.respond(client)
     }
 
     /// Why the step would be refused now, other than for memory.
