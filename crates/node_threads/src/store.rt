@@ -20,7 +20,7 @@ use crossbeam_channel::{Receiver, Sender, bounded, unbounded};
 use hall_lock::FreePass;
 use recorder::{Halls, History};
 use seats::seating::{call_on, new_seat};
-use seats::{Answer, CallError, Errand, Gate, Parcel, Seat, serve};
+use seats::{Answer, CallError, Gate, Parcel, Seat, Transport, serve};
 use std::alloc::Global;
 use std::marker::Model;
 use std::sync::{Arc, Mutex, Wait};
@@ -213,8 +213,8 @@ impl<G: Gate> Store<G> {
         }
         let hall = self.config.halls.of(&key);
         let channels = self.channels.as_slice();
-        let mut errand = Errand::new(alloc, &*self.gate, channels, hall, self.config.rounds)?;
-        call_on(seat, rt, &mut errand, key, action)
+        let transport = Transport::new(alloc, &*self.gate, channels, hall, self.config.rounds)?;
+        call_on(seat, rt, &transport, key, action)
     }
 
     /// A copy of a hall's record, in which the seat's calls of that hall are its client's. `None` comes

@@ -1,5 +1,5 @@
 //! One call in progress: what its client sends, and what it hears.
-ghost use Rattle.std.specs.Prelude.{◌≡◌, ◌≤◌, ◌-◌, ◌*◌, ◌^◌, ℕ, min, true, Result, Ok, Err, Some};
+ghost use Rattle.std.specs.Prelude.{◌≡◌, ◌≤◌, ℕ, true, Result, Ok, Err};
 ghost use Rattle.std.specs.Prelude.{IfOk, IfErr, OnOk, OnErr};
 ghost use Rattle.seats.specs.declared.errand.Stall.{Stall};
 ghost use Rattle.hall_lock.specs.Halls.{most_elements};
@@ -16,42 +16,23 @@ use crate::errors::CallError;
 use crate::gate::{Gate, Pass, Place};
 use crate::patience::next_message;
 use crate::replicas::{Parcel, Report};
+use crate::transport::Transport;
 use client_phases::{Phase, Taken};
-use crossbeam_channel::{Receiver, SendError, Sender, bounded};
+use crossbeam_channel::{SendError, Sender};
 use hall_lock::{Begun, ClientPass, Delay, Ended};
 use quorum::ReplicaSet;
-use std::alloc::{AllocError, Global};
+use std::alloc::AllocError;
 use std::sync::Wait;
-use tag::{Action, Key, Memory, OpId, ReplicaId};
+use tag::{Action, Key, OpId, ReplicaId};
 use world_steps::{Effect, Refusal, Step};
 
-/// What a call in progress needs.
+/// A call in progress.
 #[derive(Drop)]
-pub struct Errand<'a, G> {
-    pub gate: &'a G,
-    /// The channels to the replicas, by their numbers.
-    pub replicas: &'a [Sender<Parcel>],
-    pub hall: u8,
-    /// How many rounds a phase makes at most.
-    pub rounds: u16,
-    pub call: OpId,
-    /// Where the replicas report, and where that is heard. It has room for all reports that can be under way.
-    pub reports: Sender<Report>,
-    pub inbox: Receiver<Report>,
+struct Errand<'a, G> {
+    transport: &'a Transport<'a, G>,
+    call: OpId,
     /// How many parcels were sent and not reported on.
-    pub awaited: u64,
-}
-
-/// How many reports of a call can be under way at most, with so many replicas.
-///
-/// A replica reports once on each parcel, also where its reply came twice, and a round sends each replica at
-/// most two parcels. A round begins only when no report is awaited, except the first of the second phase:
-/// reports of the last round of the first phase may then still be under way. So they are at most those of
-/// two rounds. A call has no third phase: replies to the first are stale in the second.
-fn report_room(replicas: usize) -> usize
-    ensures { result ≡ min (4 * replicas) (2 ^ 64 - 1) }
-{
-    replicas.saturating_mul(4)
+    awaited: u64,
 }
 
 /// What became of a call.
@@ -75,34 +56,10 @@ pub(crate) enum Stall {
     Memory,
 }
 
-impl<'a, G: Gate> Errand<'a, G> {
-    /// An errand in that hall, for a call that has no number yet. What is reported to it has its room from now
-    /// on, so no report needs memory, and none waits.
-    pub fn new(
-        alloc: Global,
-        gate: &'a G,
-        replicas: &'a [Sender<Parcel>],
-        hall: u8,
-        rounds: u16,
-    ) -> Result<Errand<'a, G>, Memory>
-        ensures { IfOk result (λ errand. errand.hall ≡ hall) }
-    {
-        let (reports, inbox) = bounded(alloc, report_room(replicas.len()))?;
-        Ok(Errand {
-            gate,
-            replicas,
-            hall,
-            rounds,
-            call: OpId(0),
-            reports,
-            inbox,
-            awaited: 0,
-        })
-    }
-
+impl<'a, G: Gate> Transport<'a, G> {
     /// Makes a call of the pass's client, which has seen so many rows.
-    pub(crate) fn drive<R: Wait>(
-        &mut self,
+    pub(crate) fn make_call<R: Wait>(
+        &self,
         rt: &R,
         pass: &mut ClientPass,
         key: Key,
@@ -116,8 +73,12 @@ impl<'a, G: Gate> Errand<'a, G> {
             Ok(begun) => begun,
             Err(delay) => return Outcome::Refused(told_delay(delay)),
         };
-        self.call = begun.op;
-        match self.finish(rt, pass) {
+        let mut errand = Errand {
+            transport: self,
+            call: begun.op,
+            awaited: 0,
+        };
+        match errand.finish(rt, pass) {
             Ok(ended) => Outcome::Done(begun, ended),
             Err(stall) => {
                 stop(rt, pass);
@@ -125,8 +86,10 @@ impl<'a, G: Gate> Errand<'a, G> {
             }
         }
     }
+}
 
-    /// Carries a call that began to its end.
+impl<'a, G: Gate> Errand<'a, G> {
+    /// Carries the call to its end.
     fn finish<R: Wait>(&mut self, rt: &R, pass: &mut ClientPass) -> Result<Ended, Stall>
         ensures ended { IfOk result (λ ended.
             EndsCall pass.old ended.op ended.returned ended.place pass.new) }
@@ -137,10 +100,10 @@ impl<'a, G: Gate> Errand<'a, G> {
     {
         self.make_ready(rt, pass)?;
         let place = Place::Respond {
-            hall: self.hall,
+            hall: self.transport.hall,
             call: self.call,
         };
-        let _ = self.gate.at(&place);
+        let _ = self.transport.gate.at(&place);
         match pass.respond(rt) {
             Ok(ended) => Ok(ended),
             Err(refusal) => Err(stall_of(refusal)),
@@ -167,7 +130,7 @@ impl<'a, G: Gate> Errand<'a, G> {
         ensures stalled { IfErr result (λ stall. Stalls pass.old stall pass.new) }
     {
         let mut counted = ReplicaSet::empty();
-        for _ in 0..self.rounds {
+        for _ in 0..self.transport.rounds {
             self.send_round(rt, pass, counted)?;
             if let Some(next) = self.hear_round(rt, pass)? {
                 return Ok(next);
@@ -208,7 +171,7 @@ impl<'a, G: Gate> Errand<'a, G> {
         ensures sent { SendsRequest pass.old replica pass.new }
         ensures stalled { IfErr result (λ stall. Stalls pass.old stall pass.new) }
     {
-        let Some(channel) = self.replicas.get(usize::from(replica.get())) else {
+        let Some(channel) = self.transport.replicas.get(usize::from(replica.get())) else {
             return Ok(());
         };
         let flight = match send_flight(rt, pass, replica) {
@@ -216,11 +179,11 @@ impl<'a, G: Gate> Errand<'a, G> {
             Err(refusal) => return Err(stall_of(refusal)),
         };
         let place = Place::Request {
-            hall: self.hall,
+            hall: self.transport.hall,
             call: self.call,
             replica,
         };
-        let parcels = parcels_of(rt, pass, self.gate.at(&place), flight);
+        let parcels = parcels_of(rt, pass, self.transport.gate.at(&place), flight);
         self.post_all(rt, channel, flight, parcels)
     }
 
@@ -245,10 +208,10 @@ impl<'a, G: Gate> Errand<'a, G> {
         ensures { IfErr result IsUnmet }
     {
         let parcel = Parcel {
-            hall: self.hall,
+            hall: self.transport.hall,
             call: self.call,
             flight,
-            reports: self.reports.clone()?,
+            reports: self.transport.reports.clone()?,
         };
         match channel.send(rt, parcel) {
             Ok(()) => {
@@ -267,7 +230,7 @@ impl<'a, G: Gate> Errand<'a, G> {
         ensures stalled { IfErr result (λ stall. Stalls pass.old stall pass.new) }
     {
         for _ in 0..self.awaited {
-            let Some(report) = next_message(rt, &self.inbox) else {
+            let Some(report) = next_message(rt, &self.transport.inbox) else {
                 return Err(Stall::Unavailable);
             };
             self.awaited = u64::saturating_sub(self.awaited, 1);

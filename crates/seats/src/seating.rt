@@ -7,11 +7,12 @@ ghost use Rattle.std.specs.Prelude.{◌≡◌, ◌<◌, [], false, length};
 ghost use Rattle.seats.specs.Answers.{CallLeaves};
 ghost use Rattle.seats.specs.Seats.{AreFresh, value_of};
 
-use crate::errand::{Errand, Outcome};
+use crate::errand::Outcome;
 use crate::errors::CallError;
 use crate::gate::Gate;
 use crate::receipt::Receipt;
 use crate::seat::{Answer, Seat};
+use crate::transport::Transport;
 use hall_lock::{Begun, ClientPass, Ended};
 use recorder::{Entry, Response};
 use std::alloc::Global;
@@ -47,28 +48,28 @@ pub fn new_seat(
     }
 }
 
-/// Makes a call of the seat's client in the errand's hall. It may wait for other threads. If an
+/// Makes a call of the seat's client in the transport's hall. It may wait for other threads. If an
 /// allocation fails before the call began, all is as before; later the call is pending.
 /// A record with fewer rows than the seat has seen gives `Foreign`, unless there was no memory for the call
 /// before its first turn.
 pub fn call_on<R: Wait, G: Gate>(
     seat: &mut Seat,
     rt: &R,
-    errand: &mut Errand<G>,
+    transport: &Transport<G>,
     key: Key,
     action: Action,
 ) -> Result<Answer, CallError>
     requires unspent { seat.old.is_spent ≡ false }
-    requires there { errand.old.hall < length seat.old.passes }
-    ensures { CallLeaves seat.old errand.old.hall key action result seat.new }
+    requires there { transport.now.hall < length seat.old.passes }
+    ensures { CallLeaves seat.old transport.now.hall key action result seat.new }
 {
-    let hall = errand.hall;
+    let hall = transport.hall;
     let at = usize::from(hall);
     let kept_key = key.copy()?;
     let kept_action = action.copy()?;
     seat.log.reserve(1)?;
     let seen = seat.seen[at];
-    match errand.drive(rt, &mut seat.passes[at], key, action, seen) {
+    match transport.make_call(rt, &mut seat.passes[at], key, action, seen) {
         Outcome::Refused(error) => Err(error),
         Outcome::Pending(begun, error) => {
             seat.log

@@ -1,7 +1,7 @@
 use Rattle.std.proofs.Common.{rules}
 use Rattle.seats.proofs.Keeping.{keeps_rowless, keeps_then}
 use Rattle.seats.proofs.Stalling.{stalls_still}
-use Rattle.seats.proofs.errand.Errand.drive.Goals as goal
+use Rattle.seats.proofs.transport.Transport.make_call.Goals as goal
 
 pub returns-in-Err-clause-outcome : goal.returns-in-Err-clause-outcome
 returns-in-Err-clause-outcome g c = (
