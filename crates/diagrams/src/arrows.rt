@@ -25,6 +25,7 @@ use tag::Memory;
 /// The arrows of a scene.
 #[derive(Clone, Copy)]
 pub(crate) struct Arrows<'a> {
+    pub(crate) alloc: Global,
     pub(crate) scene: &'a MessageScene,
 }
 
@@ -246,10 +247,10 @@ impl Shape for Arrows<'_> {
 
     ghost shape = { λ arrows. arrow_markup arrows.scene.now };
 
-    fn append(&self, alloc: Global, page: &mut Vec<u8>, item: &Arrow) -> Result<(), Memory> {
+    fn append(&self, page: &mut Vec<u8>, item: &Arrow) -> Result<(), Memory> {
         let class = direction_class(is_request(&item.message));
         open_of_class(page, Element::G, class)?;
-        append_in_arrow(alloc, page, way_of(self.scene, item), item)?;
+        append_in_arrow(self.alloc, page, way_of(self.scene, item), item)?;
         append_closing(page, Element::G)
     }
 }

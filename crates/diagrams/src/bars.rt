@@ -22,6 +22,7 @@ use tag::{Action, ClientId, Memory};
 /// The bars of a scene.
 #[derive(Clone, Copy)]
 pub(crate) struct Bars<'a> {
+    pub(crate) alloc: Global,
     pub(crate) scene: &'a MessageScene,
 }
 
@@ -160,9 +161,9 @@ impl Shape for Bars<'_> {
 
     ghost shape = { λ bars. bar_markup bars.scene.now };
 
-    fn append(&self, alloc: Global, page: &mut Vec<u8>, item: &CallBar) -> Result<(), Memory> {
+    fn append(&self, page: &mut Vec<u8>, item: &CallBar) -> Result<(), Memory> {
         open_of_class(page, Element::G, action_class(&item.action))?;
-        append_call_title(alloc, page, item)?;
+        append_call_title(self.alloc, page, item)?;
         append_parts(page, self.scene, item)?;
         append_stop(page, self.scene, item)?;
         append_closing(page, Element::G)

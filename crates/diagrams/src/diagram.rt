@@ -75,9 +75,9 @@ fn append_plane(alloc: Global, page: &mut Vec<u8>, scene: &MessageScene) -> Resu
     requires { HasClientsInOrder scene.now }
     ensures { OnOk result (page.new.items ≡ page.old.items ++ rendered (plane scene.now)) }
 {
-    append_each_indexed(alloc, page, &Rows { scene }, &scene.rows)?;
+    append_each_indexed(page, &Rows { alloc, scene }, &scene.rows)?;
     append_lifelines(alloc, page, scene)?;
-    append_each(alloc, page, &Downs { scene }, &scene.downs)
+    append_each(page, &Downs { alloc, scene }, &scene.downs)
 }
 
 /// Adds the bars of the calls, the arrows above them, and above these the texts.
@@ -85,10 +85,10 @@ fn append_shapes(alloc: Global, page: &mut Vec<u8>, scene: &MessageScene) -> Res
     requires { HasClientsInOrder scene.now }
     ensures { OnOk result (page.new.items ≡ page.old.items ++ rendered (shapes scene.now)) }
 {
-    append_each(alloc, page, &Bars { scene }, &scene.calls)?;
-    append_each(alloc, page, &Arrows { scene }, &scene.arrows)?;
-    append_each(alloc, page, &CallTexts { scene }, &scene.calls)?;
-    append_each(alloc, page, &Changes { scene }, &scene.changes)
+    append_each(page, &Bars { alloc, scene }, &scene.calls)?;
+    append_each(page, &Arrows { alloc, scene }, &scene.arrows)?;
+    append_each(page, &CallTexts { alloc, scene }, &scene.calls)?;
+    append_each(page, &Changes { alloc, scene }, &scene.changes)
 }
 
 /// Opens the diagram's element.

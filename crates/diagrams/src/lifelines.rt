@@ -19,39 +19,35 @@ use tag::{ClientId, Memory};
 /// The lifelines of a scene: as shapes of a list, those of its clients.
 #[derive(Clone, Copy)]
 struct Lifelines<'a> {
+    alloc: Global,
     scene: &'a MessageScene,
 }
 
 impl Lifelines<'_> {
     /// Adds the lifeline there, with that name above it and, in a long diagram, below it.
-    fn append_lifeline(
-        &self,
-        alloc: Global,
-        page: &mut Vec<u8>,
-        x: u64,
-        name: &[u8],
-    ) -> Result<(), Memory>
+    fn append_lifeline(&self, page: &mut Vec<u8>, x: u64, name: &[u8]) -> Result<(), Memory>
         ensures { OnOk result (page.new.items
             ≡ page.old.items ++ rendered (lifeline self.now.scene.now x name.now)) }
     {
         let rows = rows_of(self.scene);
         append_line(page, LIFELINE, Way::upright(x, TOP, down(MOMENT, rows)))?;
-        append_label(alloc, page, &Spot::new(WHO, x, NAMES_BASE, LETTERS), name)?;
+        let above = Spot::new(WHO, x, NAMES_BASE, LETTERS);
+        append_label(self.alloc, page, &above, name)?;
         if rows <= LONG {
             return Ok(());
         }
         let below = Spot::new(WHO, x, down(FOOT_BASE, rows), LETTERS);
-        append_label(alloc, page, &below, name)
+        append_label(self.alloc, page, &below, name)
     }
 
     /// Adds the lifeline of the replica of that number.
-    fn append_replica(&self, alloc: Global, page: &mut Vec<u8>, number: u8) -> Result<(), Memory>
+    fn append_replica(&self, page: &mut Vec<u8>, number: u8) -> Result<(), Memory>
         ensures { OnOk result (page.new.items
             ≡ page.old.items ++ rendered (replica_lifeline self.now.scene.now number)) }
     {
-        let mut name = Vec::new(alloc);
+        let mut name = Vec::new(self.alloc);
         append_number(&mut name, REPLICA_WORD, u64::from(number))?;
-        self.append_lifeline(alloc, page, replica_x(self.scene, REPLICA, number), &name)
+        self.append_lifeline(page, replica_x(self.scene, REPLICA, number), &name)
     }
 }
 
@@ -62,10 +58,10 @@ impl Shape for Lifelines<'_> {
 
     ghost shape = { λ lifelines. client_lifeline lifelines.scene.now };
 
-    fn append(&self, alloc: Global, page: &mut Vec<u8>, item: &ClientId) -> Result<(), Memory> {
-        let mut name = Vec::new(alloc);
+    fn append(&self, page: &mut Vec<u8>, item: &ClientId) -> Result<(), Memory> {
+        let mut name = Vec::new(self.alloc);
         append_number(&mut name, CLIENT_WORD, u64::from(item.get()))?;
-        self.append_lifeline(alloc, page, client_x(self.scene, CLIENT, *item), &name)
+        self.append_lifeline(page, client_x(self.scene, CLIENT, *item), &name)
     }
 }
 
@@ -74,9 +70,9 @@ fn append_replicas(alloc: Global, page: &mut Vec<u8>, scene: &MessageScene) -> R
     ensures { OnOk result (page.new.items ≡ page.old.items
         ++ rendered (each_below (replica_lifeline scene.now) scene.now.replicas)) }
 {
-    let lifelines = Lifelines { scene };
+    let lifelines = Lifelines { alloc, scene };
     for number in 0..scene.replicas {
-        lifelines.append_replica(alloc, page, number)?;
+        lifelines.append_replica(page, number)?;
     }
     Ok(())
 }
@@ -90,6 +86,6 @@ pub(crate) fn append_lifelines(
     requires { HasClientsInOrder scene.now }
     ensures { OnOk result (page.new.items ≡ page.old.items ++ rendered (lifelines scene.now)) }
 {
-    append_each(alloc, page, &Lifelines { scene }, &scene.clients)?;
+    append_each(page, &Lifelines { alloc, scene }, &scene.clients)?;
     append_replicas(alloc, page, scene)
 }

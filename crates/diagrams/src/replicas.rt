@@ -16,12 +16,14 @@ use tag::Memory;
 /// The down times of a scene.
 #[derive(Clone, Copy)]
 pub(crate) struct Downs<'a> {
+    pub(crate) alloc: Global,
     pub(crate) scene: &'a MessageScene,
 }
 
 /// What a scene's replicas come to hold.
 #[derive(Clone, Copy)]
 pub(crate) struct Changes<'a> {
+    pub(crate) alloc: Global,
     pub(crate) scene: &'a MessageScene,
 }
 
@@ -54,11 +56,11 @@ impl Shape for Downs<'_> {
 
     ghost shape = { λ downs. down_markup downs.scene.now };
 
-    fn append(&self, alloc: Global, page: &mut Vec<u8>, item: &DownTime) -> Result<(), Memory> {
+    fn append(&self, page: &mut Vec<u8>, item: &DownTime) -> Result<(), Memory> {
         append_shut(page, DOWN_TIME, frame_of(self.scene, item))?;
         let x = replica_x(self.scene, CHANGE_LEFT, item.replica.get());
         let spot = Spot::new(DOWN_TIME, x, down(TEXT_BASE, item.stops), LETTERS);
-        append_label(alloc, page, &spot, DOWN_WORD.as_bytes())
+        append_label(self.alloc, page, &spot, DOWN_WORD.as_bytes())
     }
 }
 
@@ -69,11 +71,11 @@ impl Shape for Changes<'_> {
 
     ghost shape = { λ changes. change_markup changes.scene.now };
 
-    fn append(&self, alloc: Global, page: &mut Vec<u8>, item: &Change) -> Result<(), Memory> {
+    fn append(&self, page: &mut Vec<u8>, item: &Change) -> Result<(), Memory> {
         let x = replica_x(self.scene, CHANGE_LEFT, item.replica.get());
         let spot = Spot::new(HOLDS, x, down(TEXT_BASE, item.row), LETTERS);
-        let mut words = Vec::new(alloc);
+        let mut words = Vec::new(self.alloc);
         say_change(&mut words, item)?;
-        append_label(alloc, page, &spot, &words)
+        append_label(self.alloc, page, &spot, &words)
     }
 }

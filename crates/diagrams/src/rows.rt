@@ -16,6 +16,7 @@ use tag::Memory;
 /// The rows of a scene.
 #[derive(Clone, Copy)]
 pub(crate) struct Rows<'a> {
+    pub(crate) alloc: Global,
     pub(crate) scene: &'a MessageScene,
 }
 
@@ -28,7 +29,6 @@ impl IndexedShape for Rows<'_> {
 
     fn append(
         &self,
-        alloc: Global,
         page: &mut Vec<u8>,
         index: usize,
         item: &NumberedCommand,
@@ -41,10 +41,10 @@ impl IndexedShape for Rows<'_> {
         )?;
         let y = down(TEXT_BASE, index);
         let line = Spot::new(SOURCE, LINE_RIGHT, y, LINE_LETTERS);
-        append_numbered(alloc, page, &line, LINE_WORD, item.line)?;
-        let mut words = Vec::new(alloc);
+        append_numbered(self.alloc, page, &line, LINE_WORD, item.line)?;
+        let mut words = Vec::new(self.alloc);
         say_command(&mut words, &item.command)?;
         let command = Spot::new(COMMAND, COMMAND_LEFT, y, COMMAND_LETTERS);
-        append_label(alloc, page, &command, &words)
+        append_label(self.alloc, page, &command, &words)
     }
 }

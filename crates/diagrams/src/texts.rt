@@ -15,44 +15,42 @@ use tag::{ClientId, Memory};
 /// The texts of a scene's calls.
 #[derive(Clone, Copy)]
 pub(crate) struct CallTexts<'a> {
+    pub(crate) alloc: Global,
     pub(crate) scene: &'a MessageScene,
 }
 
-/// Adds the words, in that class, left of the client's lifeline in that row.
-fn append_text(
-    alloc: Global,
-    page: &mut Vec<u8>,
-    scene: &MessageScene,
-    class: &'static str,
-    client: ClientId,
-    row: usize,
-    words: &[u8],
-) -> Result<(), Memory>
-    requires { HasClientsInOrder scene.now }
-    ensures { OnOk result (page.new.items ≡ page.old.items
-        ++ rendered (text_at scene.now class.now client row words.now)) }
-{
-    let x = client_x(scene, TEXT_RIGHT, client);
-    let spot = Spot::new(class, x, down(TEXT_BASE, row), LETTERS);
-    append_label(alloc, page, &spot, words)
-}
-
 impl CallTexts<'_> {
+    /// Adds the words, in that class, left of the client's lifeline in that row.
+    fn append_text(
+        &self,
+        page: &mut Vec<u8>,
+        class: &'static str,
+        client: ClientId,
+        row: usize,
+        words: &[u8],
+    ) -> Result<(), Memory>
+        requires { HasClientsInOrder self.now.scene.now }
+        ensures { OnOk result (page.new.items ≡ page.old.items
+            ++ rendered (text_at self.now.scene.now class.now client row words.now)) }
+    {
+        let x = client_x(self.scene, TEXT_RIGHT, client);
+        let spot = Spot::new(class, x, down(TEXT_BASE, row), LETTERS);
+        append_label(self.alloc, page, &spot, words)
+    }
+
     /// Adds what the call does, where it begins.
-    fn append_begin(&self, alloc: Global, page: &mut Vec<u8>, bar: &CallBar) -> Result<(), Memory>
+    fn append_begin(&self, page: &mut Vec<u8>, bar: &CallBar) -> Result<(), Memory>
         requires { HasClientsInOrder self.now.scene.now }
         ensures { OnOk result
             (page.new.items ≡ page.old.items ++ rendered (begin_text self.now.scene.now bar.now)) }
     {
-        let mut words = Vec::new(alloc);
+        let mut words = Vec::new(self.alloc);
         say_begin(&mut words, bar)?;
-        append_text(
-            alloc, page, self.scene, BEGIN, bar.client, bar.begins, &words,
-        )
+        self.append_text(page, BEGIN, bar.client, bar.begins, &words)
     }
 
     /// Adds the tag that the call notes, if it does.
-    fn append_note(&self, alloc: Global, page: &mut Vec<u8>, bar: &CallBar) -> Result<(), Memory>
+    fn append_note(&self, page: &mut Vec<u8>, bar: &CallBar) -> Result<(), Memory>
         requires { HasClientsInOrder self.now.scene.now }
         ensures { OnOk result (page.new.items ≡ page.old.items
             ++ rendered (note_text self.now.scene.now bar.now.client bar.now.note)) }
@@ -60,36 +58,27 @@ impl CallTexts<'_> {
         match bar.note {
             None => Ok(()),
             Some(PlacedNote { row, tag }) => {
-                let mut words = Vec::new(alloc);
+                let mut words = Vec::new(self.alloc);
                 say_note(&mut words, tag)?;
-                append_text(alloc, page, self.scene, NOTE, bar.client, row, &words)
+                self.append_text(page, NOTE, bar.client, row, &words)
             }
         }
     }
 
     /// Adds how the call ends.
-    fn append_outcome(&self, alloc: Global, page: &mut Vec<u8>, bar: &CallBar) -> Result<(), Memory>
+    fn append_outcome(&self, page: &mut Vec<u8>, bar: &CallBar) -> Result<(), Memory>
         requires { HasClientsInOrder self.now.scene.now }
         ensures { OnOk result (page.new.items ≡ page.old.items
             ++ rendered (outcome_text self.now.scene.now bar.now.client bar.now.end)) }
     {
-        let (scene, client) = (self.scene, bar.client);
         match &bar.end {
             CallEnd::Answered { row, returned } => {
-                let mut words = Vec::new(alloc);
+                let mut words = Vec::new(self.alloc);
                 say_returned(&mut words, returned)?;
-                append_text(alloc, page, scene, OUTCOME, client, *row, &words)
+                self.append_text(page, OUTCOME, bar.client, *row, &words)
             }
             CallEnd::Stopped(row) => {
-                append_text(
-                    alloc,
-                    page,
-                    scene,
-                    OUTCOME,
-                    client,
-                    *row,
-                    STOPPED.as_bytes(),
-                )
+                self.append_text(page, OUTCOME, bar.client, *row, STOPPED.as_bytes())
             }
             CallEnd::Open => Ok(()),
         }
@@ -103,9 +92,9 @@ impl Shape for CallTexts<'_> {
 
     ghost shape = { λ texts. call_texts texts.scene.now };
 
-    fn append(&self, alloc: Global, page: &mut Vec<u8>, item: &CallBar) -> Result<(), Memory> {
-        self.append_begin(alloc, page, item)?;
-        self.append_note(alloc, page, item)?;
-        self.append_outcome(alloc, page, item)
+    fn append(&self, page: &mut Vec<u8>, item: &CallBar) -> Result<(), Memory> {
+        self.append_begin(page, item)?;
+        self.append_note(page, item)?;
+        self.append_outcome(page, item)
     }
 }

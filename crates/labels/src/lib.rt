@@ -9,17 +9,17 @@
 //! ```text
 //! /// The bars of a scene.
 //! #[derive(Clone, Copy)]
-//! struct Bars<'a> { scene: &'a Scene }
+//! struct Bars<'a> { alloc: Global, scene: &'a Scene }
 //!
 //! impl Shape for Bars<'_> {
 //!     type Item = Bar;
 //!     ghost can_append = { λ bars. IsInOrder bars.scene.now };
 //!     ghost shape = { λ bars. bar_markup bars.scene.now };
-//!     fn append(&self, alloc: Global, page: &mut Vec<u8>, item: &Bar) -> Result<(), Memory> { .. }
+//!     fn append(&self, page: &mut Vec<u8>, item: &Bar) -> Result<(), Memory> { .. }
 //! }
 //!
 //! // adds rendered (each (bar_markup scene.now) scene.now.bars.items)
-//! append_each(alloc, page, &Bars { scene }, &scene.bars)?;
+//! append_each(page, &Bars { alloc, scene }, &scene.bars)?;
 //! ```
 #![tactic(auto)]
 

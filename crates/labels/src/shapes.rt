@@ -3,10 +3,9 @@ ghost use Rattle.std.specs.Prelude.{ℕ, ◌≡◌, ◌<◌, ◌++◌, length, O
 ghost use Rattle.markup.specs.Markup.{Markup, each, rendered};
 ghost use Rattle.labels.specs.Each.{each_from};
 
-use std::alloc::Global;
 use tag::Memory;
 
-/// A kind of shape: what a page has of an item.
+/// A kind of shape: what a page has of an item. It holds what the shapes are drawn with.
 pub trait Shape {
     type Item;
 
@@ -17,7 +16,7 @@ pub trait Shape {
     ghost shape: { Self → Self.Item → Markup };
 
     /// Adds the shape of the item.
-    fn append(&self, alloc: Global, page: &mut Vec<u8>, item: &Self::Item) -> Result<(), Memory>
+    fn append(&self, page: &mut Vec<u8>, item: &Self::Item) -> Result<(), Memory>
         requires { can_append self.now }
         ensures { OnOk result
             (page.new.items ≡ page.old.items ++ rendered (shape self.now item.now)) };
@@ -25,7 +24,6 @@ pub trait Shape {
 
 /// Adds the shape of each item, in the order of the list.
 pub fn append_each<S: Shape>(
-    alloc: Global,
     page: &mut Vec<u8>,
     shapes: &S,
     items: &[S::Item],
@@ -35,7 +33,7 @@ pub fn append_each<S: Shape>(
         (page.new.items ≡ page.old.items ++ rendered (each (S.shape shapes.now) items.now)) }
 {
     for item in items {
-        shapes.append(alloc, page, item)?;
+        shapes.append(page, item)?;
     }
     Ok(())
 }
@@ -51,13 +49,7 @@ pub trait IndexedShape {
     ghost shape: { Self → ℕ → Self.Item → Markup };
 
     /// Adds the shape of the item of that index.
-    fn append(
-        &self,
-        alloc: Global,
-        page: &mut Vec<u8>,
-        index: usize,
-        item: &Self::Item,
-    ) -> Result<(), Memory>
+    fn append(&self, page: &mut Vec<u8>, index: usize, item: &Self::Item) -> Result<(), Memory>
         requires { can_append self.now index }
         ensures { OnOk result
             (page.new.items ≡ page.old.items ++ rendered (shape self.now index item.now)) };
@@ -65,7 +57,6 @@ pub trait IndexedShape {
 
 /// Adds the shape of each item and its index, in the order of the list.
 pub fn append_each_indexed<S: IndexedShape>(
-    alloc: Global,
     page: &mut Vec<u8>,
     shapes: &S,
     items: &[S::Item],
@@ -76,7 +67,7 @@ pub fn append_each_indexed<S: IndexedShape>(
         ≡ page.old.items ++ rendered (each_from (S.shape shapes.now) 0 items.now)) }
 {
     for (index, item) in items.iter().enumerate() {
-        shapes.append(alloc, page, index, item)?;
+        shapes.append(page, index, item)?;
     }
     Ok(())
 }

@@ -5,8 +5,6 @@ use Rattle.labels.specs.Labels.{label_markup, line_markup}
 use Rattle.explanations.specs.Sentences.{line_at}
 use Rattle.explanations.specs.declared.hall_rows.HallRows.{HallRows}
 use Rattle.scenes.specs.declared.scene.Scene.{Scene}
-use Rattle.pictures.specs.declared.ground.Drawn.{Drawn}
-use Rattle.pictures.specs.declared.ground.Drawn.TheVariants as drawn
 use Rattle.pictures.specs.declared.style.TheConstants.{CLIENT, CLIENT_WORD, COLUMN_LEFT, FLOOR}
 use Rattle.pictures.specs.declared.style.TheConstants.{LANE, LINE, LINE_LETTERS, LINE_RIGHT}
 use Rattle.pictures.specs.declared.style.TheConstants.{LINE_WORD, MIDDLE, ROW_TOP, TEXT_BASE, TICK}
@@ -34,11 +32,6 @@ module _ (scene : Scene) where
   abbrev pub client_name : ℕ → ℕ → ℕ → Markup
   client_name y lane client = label_markup CLIENT.now (middle_of lane) y (room_of scene)
       (CLIENT_WORD.now ++ decimal client)
-
-  -- what is drawn of a lane
-  abbrev pub lane_shape : Drawn → ℕ → ℕ → Markup
-  lane_shape (drawn.Name y) = client_name y
-  lane_shape drawn.Guide = lane_markup
 
   -- a line over all columns, at that height
   abbrev pub tick_line : ℕ → Markup

@@ -19,6 +19,7 @@ use tag::{Action, Memory};
 /// The bars of a picture, each if the part has its call.
 #[derive(Clone, Copy)]
 pub(crate) struct Bars<'a> {
+    pub(crate) alloc: Global,
     pub(crate) picture: &'a Picture<'a>,
 }
 
@@ -54,14 +55,14 @@ impl Shape for Bars<'_> {
 
     ghost shape = { λ bars. bar_markup bars.picture.now };
 
-    fn append(&self, alloc: Global, page: &mut Vec<u8>, item: &Bar) -> Result<(), Memory> {
+    fn append(&self, page: &mut Vec<u8>, item: &Bar) -> Result<(), Memory> {
         let Some(call) = self.picture.call_of(item.call) else {
             return Ok(());
         };
         open_of_class(page, Element::G, self.picture.class_of(call))?;
-        append_sentence(alloc, page, self.picture, call)?;
+        append_sentence(self.alloc, page, self.picture, call)?;
         append_shape(page, self.picture.scene, item, corner_of(&call.action))?;
-        append_texts(alloc, page, self.picture.scene, item, call)?;
+        append_texts(self.alloc, page, self.picture.scene, item, call)?;
         append_closing(page, Element::G)
     }
 }

@@ -17,6 +17,7 @@ use tag::Memory;
 /// The dots of a scene, and beside each its place in the order.
 #[derive(Clone, Copy)]
 pub(crate) struct Dots<'a> {
+    pub(crate) alloc: Global,
     pub(crate) scene: &'a Scene,
 }
 
@@ -51,18 +52,12 @@ impl IndexedShape for Dots<'_> {
 
     ghost shape = { λ dots. dot_markup dots.scene.now };
 
-    fn append(
-        &self,
-        alloc: Global,
-        page: &mut Vec<u8>,
-        index: usize,
-        item: &Dot,
-    ) -> Result<(), Memory> {
+    fn append(&self, page: &mut Vec<u8>, index: usize, item: &Dot) -> Result<(), Memory> {
         let row = row_of_dot(self.scene, index, item.place);
         let lane = lane_of(self.scene, item);
         append_circle(page, across(self.scene, DOT_LEFT, lane), down(MIDDLE, row))?;
         let x = across(self.scene, NUMBER_LEFT, lane);
         let spot = Spot::new(NUMBER, x, down(TEXT_BASE, row), LINE_LETTERS);
-        append_numbered(alloc, page, &spot, "", item.number as u64)
+        append_numbered(self.alloc, page, &spot, "", item.number as u64)
     }
 }

@@ -2,7 +2,7 @@
 ghost use Rattle.std.specs.Prelude.{◌≡◌, ◌++◌, OnOk};
 ghost use Rattle.markup.specs.Markup.{rendered};
 ghost use Rattle.pictures.specs.Layout.{IsInOrder};
-ghost use Rattle.pictures.specs.Ground.{lane_shape, middle_of, tick_line, tick_markup};
+ghost use Rattle.pictures.specs.Ground.{client_name, lane_markup, middle_of, tick_line, tick_markup};
 
 use crate::layout::{across, column_width, down, room_of, row_of_place, rows_of};
 use crate::style::{
@@ -15,25 +15,24 @@ use scenes::Scene;
 use std::alloc::Global;
 use tag::{ClientId, Memory};
 
-/// What is drawn of a lane.
+/// The names of the clients of a scene's lanes, at that height.
 #[derive(Clone, Copy)]
-pub(crate) enum Drawn {
-    /// The name of its client, at that height.
-    Name(u64),
-    /// The line in its middle.
-    Guide,
+pub(crate) struct Names<'a> {
+    pub(crate) alloc: Global,
+    pub(crate) scene: &'a Scene,
+    pub(crate) y: u64,
 }
 
-/// The lanes of a scene, and what is drawn of each.
+/// The lines in the middle of a scene's lanes.
 #[derive(Clone, Copy)]
-pub(crate) struct Lanes<'a> {
+pub(crate) struct Guides<'a> {
     pub(crate) scene: &'a Scene,
-    pub(crate) drawn: Drawn,
 }
 
 /// The ticks of a scene: a line in the row of each, and the line of the history file.
 #[derive(Clone, Copy)]
 pub(crate) struct Ticks<'a> {
+    pub(crate) alloc: Global,
     pub(crate) scene: &'a Scene,
     pub(crate) hall: &'a HallRows<'a>,
 }
@@ -45,31 +44,31 @@ fn middle_of(scene: &Scene, lane: usize) -> u64
     across(scene, COLUMN_LEFT + column_width(scene) / 2, lane)
 }
 
-impl IndexedShape for Lanes<'_> {
+impl IndexedShape for Names<'_> {
     type Item = ClientId;
 
-    ghost can_append = { λ lanes index. Unit {0} };
+    ghost can_append = { λ names index. Unit {0} };
 
-    ghost shape = { λ lanes. lane_shape lanes.scene.now lanes.drawn };
+    ghost shape = { λ names. client_name names.scene.now names.y };
 
-    fn append(
-        &self,
-        alloc: Global,
-        page: &mut Vec<u8>,
-        index: usize,
-        item: &ClientId,
-    ) -> Result<(), Memory> {
+    fn append(&self, page: &mut Vec<u8>, index: usize, item: &ClientId) -> Result<(), Memory> {
         let x = middle_of(self.scene, index);
-        match self.drawn {
-            Drawn::Name(y) => {
-                let spot = Spot::new(CLIENT, x, y, room_of(self.scene));
-                append_numbered(alloc, page, &spot, CLIENT_WORD, u64::from(item.get()))
-            }
-            Drawn::Guide => {
-                let bottom = down(FLOOR, rows_of(self.scene));
-                append_line(page, LANE, Way::upright(x, ROW_TOP, bottom))
-            }
-        }
+        let spot = Spot::new(CLIENT, x, self.y, room_of(self.scene));
+        append_numbered(self.alloc, page, &spot, CLIENT_WORD, u64::from(item.get()))
+    }
+}
+
+impl IndexedShape for Guides<'_> {
+    type Item = ClientId;
+
+    ghost can_append = { λ guides index. Unit {0} };
+
+    ghost shape = { λ guides. lane_markup guides.scene.now };
+
+    fn append(&self, page: &mut Vec<u8>, index: usize, _item: &ClientId) -> Result<(), Memory> {
+        let x = middle_of(self.scene, index);
+        let bottom = down(FLOOR, rows_of(self.scene));
+        append_line(page, LANE, Way::upright(x, ROW_TOP, bottom))
     }
 }
 
@@ -88,10 +87,10 @@ impl Shape for Ticks<'_> {
 
     ghost shape = { λ ticks. tick_markup ticks.scene.now ticks.hall.now };
 
-    fn append(&self, alloc: Global, page: &mut Vec<u8>, item: &usize) -> Result<(), Memory> {
+    fn append(&self, page: &mut Vec<u8>, item: &usize) -> Result<(), Memory> {
         let row = row_of_place(self.scene, *item);
         append_tick_line(page, self.scene, down(MIDDLE, row))?;
         let spot = Spot::new(LINE, LINE_RIGHT, down(TEXT_BASE, row), LINE_LETTERS);
-        append_numbered(alloc, page, &spot, LINE_WORD, self.hall.line_at(*item))
+        append_numbered(self.alloc, page, &spot, LINE_WORD, self.hall.line_at(*item))
     }
 }

@@ -10,7 +10,7 @@ ghost use Rattle.pictures.specs.Pictures.{picture_markup, picture_title, svg_att
 use crate::bars::Bars;
 use crate::dots::Dots;
 use crate::find::find;
-use crate::ground::{Drawn, Lanes, Ticks};
+use crate::ground::{Guides, Names, Ticks};
 use crate::layout::{across, down, rows_of};
 use crate::path::append_path;
 use crate::style::{
@@ -85,8 +85,8 @@ fn append_foot(alloc: Global, page: &mut Vec<u8>, scene: &Scene) -> Result<(), M
 {
     let rows = rows_of(scene);
     if rows > LONG {
-        let drawn = Drawn::Name(down(FOOT_BASE, rows));
-        append_each_indexed(alloc, page, &Lanes { scene, drawn }, &scene.lanes)
+        let y = down(FOOT_BASE, rows);
+        append_each_indexed(page, &Names { alloc, scene, y }, &scene.lanes)
     } else {
         Ok(())
     }
@@ -98,12 +98,11 @@ fn append_ground(alloc: Global, page: &mut Vec<u8>, picture: &Picture<'_>) -> Re
     ensures { OnOk result (page.new.items ≡ page.old.items ++ rendered (ground picture.now)) }
 {
     let (scene, hall) = (picture.scene, &picture.hall);
-    let drawn = Drawn::Name(NAMES_BASE);
-    append_each_indexed(alloc, page, &Lanes { scene, drawn }, &scene.lanes)?;
+    let y = NAMES_BASE;
+    append_each_indexed(page, &Names { alloc, scene, y }, &scene.lanes)?;
     append_foot(alloc, page, scene)?;
-    let drawn = Drawn::Guide;
-    append_each_indexed(alloc, page, &Lanes { scene, drawn }, &scene.lanes)?;
-    append_each(alloc, page, &Ticks { scene, hall }, &scene.ticks)
+    append_each_indexed(page, &Guides { scene }, &scene.lanes)?;
+    append_each(page, &Ticks { alloc, scene, hall }, &scene.ticks)
 }
 
 /// Adds the line that joins the dots, the bars above it, and the dots above these.
@@ -114,8 +113,8 @@ fn append_calls(alloc: Global, page: &mut Vec<u8>, picture: &Picture<'_>) -> Res
 {
     let scene = picture.scene;
     append_path(alloc, page, scene)?;
-    append_each(alloc, page, &Bars { picture }, &scene.bars)?;
-    append_each_indexed(alloc, page, &Dots { scene }, &scene.dots)
+    append_each(page, &Bars { alloc, picture }, &scene.bars)?;
+    append_each_indexed(page, &Dots { alloc, scene }, &scene.dots)
 }
 
 /// Opens the picture's element.

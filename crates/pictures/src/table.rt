@@ -22,6 +22,7 @@ use tag::Memory;
 /// The rows of a picture's table, each if the part has its call.
 #[derive(Clone, Copy)]
 struct Rows<'a> {
+    alloc: Global,
     picture: &'a Picture<'a>,
 }
 
@@ -91,13 +92,13 @@ impl Shape for Rows<'_> {
 
     ghost shape = { λ rows. row_markup rows.picture.now };
 
-    fn append(&self, alloc: Global, page: &mut Vec<u8>, item: &Bar) -> Result<(), Memory> {
+    fn append(&self, page: &mut Vec<u8>, item: &Bar) -> Result<(), Memory> {
         let Some(call) = self.picture.call_of(item.call) else {
             return Ok(());
         };
         open_of_class(page, Element::Tr, self.picture.class_of(call))?;
-        append_call_cells(alloc, page, call)?;
-        append_line_cells(alloc, page, &self.picture.hall, item, call)?;
+        append_call_cells(self.alloc, page, call)?;
+        append_line_cells(self.alloc, page, &self.picture.hall, item, call)?;
         append_closing(page, Element::Tr)
     }
 }
@@ -106,14 +107,10 @@ impl Shape for Rows<'_> {
 fn append_table(alloc: Global, page: &mut Vec<u8>, picture: &Picture<'_>) -> Result<(), Memory>
     ensures { OnOk result (page.new.items ≡ page.old.items ++ rendered (rows_table picture.now)) }
 {
+    let scene = picture.scene;
     append_opening(page, Element::Table, &[])?;
     append_headings(page)?;
-    append_each(
-        alloc,
-        page,
-        &Rows { picture: &*picture },
-        &picture.scene.bars,
-    )?;
+    append_each(page, &Rows { alloc, picture }, &scene.bars)?;
     append_closing(page, Element::Table)
 }
 
