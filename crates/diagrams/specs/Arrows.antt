@@ -16,10 +16,11 @@ use Rattle.message_scenes.specs.declared.arrows.Arrow.{Arrow}
 use Rattle.message_scenes.specs.declared.arrows.ArrowEnd.{ArrowEnd}
 use Rattle.message_scenes.specs.declared.arrows.ArrowEnd.TheVariants as ending
 use Rattle.message_scenes.specs.declared.scene.MessageScene.{MessageScene}
-use Rattle.diagrams.specs.declared.style.TheConstants.{ARM, ARRIVING, CLIENT_EDGE, CLIENT_WAIT}
-use Rattle.diagrams.specs.declared.style.TheConstants.{CROSS, LABEL, LABEL_BASE, LABEL_LETTERS}
-use Rattle.diagrams.specs.declared.style.TheConstants.{LOST, MOMENT, NEAREST, REPLICA_EDGE}
-use Rattle.diagrams.specs.declared.style.TheConstants.{REPLICA_WAIT, REPLY, REQUEST, ROW, UNDER_WAY}
+use Rattle.diagrams.specs.declared.sizes.TheConstants.{ARM, CLIENT_EDGE, CLIENT_WAIT, LABEL_BASE}
+use Rattle.diagrams.specs.declared.sizes.TheConstants.{LABEL_LETTERS, MOMENT, NEAREST, REPLICA_EDGE}
+use Rattle.diagrams.specs.declared.sizes.TheConstants.{REPLICA_WAIT, ROW}
+use Rattle.diagrams.specs.declared.style.TheConstants.{ARRIVING, CROSS, LABEL, LOST, REPLY, REQUEST}
+use Rattle.diagrams.specs.declared.style.TheConstants.{UNDER_WAY}
 use Rattle.diagrams.specs.Layout.{client_x, down, replica_x, rows_of}
 use Rattle.diagrams.specs.Words.{message_words}
 

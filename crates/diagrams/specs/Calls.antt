@@ -16,10 +16,10 @@ use Rattle.message_scenes.specs.declared.calls.CallEnd.{CallEnd}
 use Rattle.message_scenes.specs.declared.calls.CallEnd.TheVariants as ending
 use Rattle.message_scenes.specs.declared.calls.PlacedNote.{PlacedNote}
 use Rattle.message_scenes.specs.declared.scene.MessageScene.{MessageScene}
-use Rattle.diagrams.specs.declared.style.TheConstants.{ASKING, BAR_LEFT, BAR_RIGHT, BEGIN, LETTERS}
-use Rattle.diagrams.specs.declared.style.TheConstants.{MOMENT, NOTE, OUTCOME, PUTTING, READING}
-use Rattle.diagrams.specs.declared.style.TheConstants.{STOP, STOPPED, STOP_LEFT, STOP_RIGHT}
-use Rattle.diagrams.specs.declared.style.TheConstants.{TEXT_BASE, TEXT_RIGHT, WRITING}
+use Rattle.diagrams.specs.declared.sizes.TheConstants.{BAR_LEFT, BAR_RIGHT, LETTERS, MOMENT}
+use Rattle.diagrams.specs.declared.sizes.TheConstants.{STOP_LEFT, STOP_RIGHT, TEXT_BASE, TEXT_RIGHT}
+use Rattle.diagrams.specs.declared.style.TheConstants.{ASKING, BEGIN, NOTE, OUTCOME, PUTTING}
+use Rattle.diagrams.specs.declared.style.TheConstants.{READING, STOP, STOPPED, WRITING}
 use Rattle.diagrams.specs.Layout.{client_x, down, rows_of}
 use Rattle.diagrams.specs.Words.{begin_words, note_words, returned_words}
 

@@ -9,11 +9,11 @@ use Rattle.labels.specs.Each.{each_from}
 use Rattle.labels.specs.Images.{image_attributes}
 use Rattle.labels.specs.Labels.{label_markup, number_of, title, words_of}
 use Rattle.message_scenes.specs.declared.scene.MessageScene.{MessageScene}
-use Rattle.diagrams.specs.declared.style.TheConstants.{AUTO, BOTTOM, COMMAND_LEFT, HEAD, HEAD_BOX}
-use Rattle.diagrams.specs.declared.style.TheConstants.{HEAD_MIDDLE, HEAD_PATH, HEAD_SIZE, HEAD_TIP}
-use Rattle.diagrams.specs.declared.style.TheConstants.{KEY, LEGEND_WORDS, MESSAGES, MORE, OMITTED}
-use Rattle.diagrams.specs.declared.style.TheConstants.{RIGHT, SENTENCE_LETTERS, SHEET, TEXT_BASE}
-use Rattle.diagrams.specs.declared.style.TheConstants.{TITLE}
+use Rattle.diagrams.specs.declared.sheet.TheConstants.{LEGEND_WORDS, SHEET}
+use Rattle.diagrams.specs.declared.sizes.TheConstants.{BOTTOM, COMMAND_LEFT, HEAD_MIDDLE, HEAD_SIZE}
+use Rattle.diagrams.specs.declared.sizes.TheConstants.{HEAD_TIP, RIGHT, SENTENCE_LETTERS, TEXT_BASE}
+use Rattle.diagrams.specs.declared.style.TheConstants.{AUTO, HEAD, HEAD_BOX, HEAD_PATH, KEY}
+use Rattle.diagrams.specs.declared.style.TheConstants.{MESSAGES, MORE, OMITTED, TITLE}
 use Rattle.diagrams.specs.Arrows.{arrow_markup}
 use Rattle.diagrams.specs.Calls.{bar_markup, call_texts}
 use Rattle.diagrams.specs.Layout.{down, replica_x, rows_of}

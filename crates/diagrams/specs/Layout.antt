@@ -5,7 +5,7 @@ use Rattle.std.specs.Prelude.{Some, slice_get}
 use Rattle.std.specs.List.Sorted.{IsStrictlyIncreasing}
 use Rattle.labels.specs.Places.{pixels}
 use Rattle.message_scenes.specs.declared.scene.MessageScene.{MessageScene}
-use Rattle.diagrams.specs.declared.style.TheConstants.{COLUMN, ROW}
+use Rattle.diagrams.specs.declared.sizes.TheConstants.{COLUMN, ROW}
 
 -- so far down in that row: the start is that of the first row
 abbrev pub down : ℕ → ℕ → ℕ

@@ -4,9 +4,9 @@ use Rattle.markup.specs.Markup.{Markup, nothing, both, each}
 use Rattle.sentences.specs.Words.{numbered}
 use Rattle.labels.specs.Labels.{label_markup, line_markup}
 use Rattle.message_scenes.specs.declared.scene.MessageScene.{MessageScene}
-use Rattle.diagrams.specs.declared.style.TheConstants.{CLIENT, CLIENT_WORD, FOOT_BASE, LETTERS}
-use Rattle.diagrams.specs.declared.style.TheConstants.{LIFELINE, LONG, MOMENT, NAMES_BASE}
-use Rattle.diagrams.specs.declared.style.TheConstants.{REPLICA, REPLICA_WORD, TOP, WHO}
+use Rattle.diagrams.specs.declared.sizes.TheConstants.{CLIENT, FOOT_BASE, LETTERS, LONG, MOMENT}
+use Rattle.diagrams.specs.declared.sizes.TheConstants.{NAMES_BASE, REPLICA, TOP}
+use Rattle.diagrams.specs.declared.style.TheConstants.{CLIENT_WORD, LIFELINE, REPLICA_WORD, WHO}
 use Rattle.diagrams.specs.Layout.{client_x, down, replica_x, rows_of}
 
 -- what is made of each number below a count, one after another

@@ -6,9 +6,9 @@ use Rattle.labels.specs.Labels.{label_markup}
 use Rattle.message_scenes.specs.declared.replicas.Change.{Change}
 use Rattle.message_scenes.specs.declared.replicas.DownTime.{DownTime}
 use Rattle.message_scenes.specs.declared.scene.MessageScene.{MessageScene}
-use Rattle.diagrams.specs.declared.style.TheConstants.{CHANGE_LEFT, DOWN_LEFT, DOWN_RIGHT}
-use Rattle.diagrams.specs.declared.style.TheConstants.{DOWN_TIME, DOWN_WORD, HOLDS, LETTERS}
-use Rattle.diagrams.specs.declared.style.TheConstants.{MOMENT, TEXT_BASE}
+use Rattle.diagrams.specs.declared.sizes.TheConstants.{CHANGE_LEFT, DOWN_LEFT, DOWN_RIGHT, LETTERS}
+use Rattle.diagrams.specs.declared.sizes.TheConstants.{MOMENT, TEXT_BASE}
+use Rattle.diagrams.specs.declared.style.TheConstants.{DOWN_TIME, DOWN_WORD, HOLDS}
 use Rattle.diagrams.specs.Calls.{shut_part}
 use Rattle.diagrams.specs.Layout.{down, replica_x, rows_of}
 use Rattle.diagrams.specs.Words.{change_words}

@@ -6,9 +6,10 @@ use Rattle.labels.specs.Labels.{label_markup, line_markup}
 use Rattle.fault_script.specs.declared.command.Command.{Command}
 use Rattle.fault_script.specs.declared.command.NumberedCommand.{NumberedCommand}
 use Rattle.message_scenes.specs.declared.scene.MessageScene.{MessageScene}
-use Rattle.diagrams.specs.declared.style.TheConstants.{COMMAND, COMMAND_LEFT, COMMAND_LETTERS}
-use Rattle.diagrams.specs.declared.style.TheConstants.{LINE_LETTERS, LINE_RIGHT, LINE_WORD, MOMENT}
-use Rattle.diagrams.specs.declared.style.TheConstants.{RIGHT, SOURCE, STEP, STEP_LEFT, TEXT_BASE}
+use Rattle.diagrams.specs.declared.sizes.TheConstants.{COMMAND_LEFT, COMMAND_LETTERS, LINE_LETTERS}
+use Rattle.diagrams.specs.declared.sizes.TheConstants.{LINE_RIGHT, MOMENT, RIGHT, STEP_LEFT}
+use Rattle.diagrams.specs.declared.sizes.TheConstants.{TEXT_BASE}
+use Rattle.diagrams.specs.declared.style.TheConstants.{COMMAND, LINE_WORD, SOURCE, STEP}
 use Rattle.diagrams.specs.Layout.{down, replica_x}
 use Rattle.diagrams.specs.Words.{command_words}
 

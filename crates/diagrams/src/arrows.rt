@@ -10,10 +10,11 @@ ghost use Rattle.diagrams.specs.Layout.{HasClientsInOrder};
 ghost use Rattle.diagrams.specs.Words.{message_words};
 
 use crate::layout::{client_x, down, replica_x, rows_of};
-use crate::style::{
-    ARM, ARRIVING, CLIENT_EDGE, CLIENT_WAIT, CROSS, LABEL, LABEL_BASE, LABEL_LETTERS, LOST, MOMENT,
-    NEAREST, REPLICA_EDGE, REPLICA_WAIT, REPLY, REQUEST, ROW, UNDER_WAY,
+use crate::sizes::{
+    ARM, CLIENT_EDGE, CLIENT_WAIT, LABEL_BASE, LABEL_LETTERS, MOMENT, NEAREST, REPLICA_EDGE,
+    REPLICA_WAIT, ROW,
 };
+use crate::style::{ARRIVING, CROSS, LABEL, LOST, REPLY, REQUEST, UNDER_WAY};
 use crate::words::say_message;
 use labels::{Shape, Spot, Way, append_label, append_line, append_title};
 use markup::{Element, append_closing, open_of_class};

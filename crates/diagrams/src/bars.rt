@@ -9,9 +9,8 @@ ghost use Rattle.diagrams.specs.Layout.{HasClientsInOrder};
 ghost use Rattle.diagrams.specs.Words.{begin_words};
 
 use crate::layout::{client_x, down, rows_of};
-use crate::style::{
-    ASKING, BAR_LEFT, BAR_RIGHT, MOMENT, PUTTING, READING, STOP, STOP_LEFT, STOP_RIGHT, WRITING,
-};
+use crate::sizes::{BAR_LEFT, BAR_RIGHT, MOMENT, STOP_LEFT, STOP_RIGHT};
+use crate::style::{ASKING, PUTTING, READING, STOP, WRITING};
 use crate::words::say_begin;
 use labels::{Frame, Shape, Way, append_line, append_polyline, append_title};
 use markup::{Attribute, AttributeName, Element, append_closing, append_empty, open_of_class};

@@ -12,10 +12,10 @@ use crate::layout::{down, replica_x, rows_of};
 use crate::lifelines::append_lifelines;
 use crate::replicas::{Changes, Downs};
 use crate::rows::Rows;
-use crate::style::{
-    AUTO, BOTTOM, COMMAND_LEFT, HEAD, HEAD_BOX, HEAD_MIDDLE, HEAD_PATH, HEAD_SIZE, HEAD_TIP,
-    MESSAGES, MORE, OMITTED, RIGHT, SENTENCE_LETTERS, TEXT_BASE, TITLE,
+use crate::sizes::{
+    BOTTOM, COMMAND_LEFT, HEAD_MIDDLE, HEAD_SIZE, HEAD_TIP, RIGHT, SENTENCE_LETTERS, TEXT_BASE,
 };
+use crate::style::{AUTO, HEAD, HEAD_BOX, HEAD_PATH, MESSAGES, MORE, OMITTED, TITLE};
 use crate::texts::CallTexts;
 use labels::{Spot, append_each, append_each_indexed, append_numbered, append_title, open_image};
 use markup::{

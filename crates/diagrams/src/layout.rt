@@ -5,7 +5,7 @@ ghost use Rattle.labels.specs.Places.{IsNear};
 ghost use Rattle.diagrams.specs.Layout.{HasClientsInOrder, across, client_x, down};
 ghost use Rattle.diagrams.specs.Layout.{names_below, replica_x, rows_of};
 
-use crate::style::{COLUMN, ROW};
+use crate::sizes::{COLUMN, ROW};
 use labels::pixels;
 use message_scenes::MessageScene;
 use tag::ClientId;

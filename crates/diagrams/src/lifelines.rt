@@ -6,10 +6,8 @@ ghost use Rattle.diagrams.specs.Lifelines.{client_lifeline, each_below, lifeline
 ghost use Rattle.diagrams.specs.Lifelines.{replica_lifeline};
 
 use crate::layout::{client_x, down, replica_x, rows_of};
-use crate::style::{
-    CLIENT, CLIENT_WORD, FOOT_BASE, LETTERS, LIFELINE, LONG, MOMENT, NAMES_BASE, REPLICA,
-    REPLICA_WORD, TOP, WHO,
-};
+use crate::sizes::{CLIENT, FOOT_BASE, LETTERS, LONG, MOMENT, NAMES_BASE, REPLICA, TOP};
+use crate::style::{CLIENT_WORD, LIFELINE, REPLICA_WORD, WHO};
 use labels::{Shape, Spot, Way, append_each, append_label, append_line};
 use message_scenes::MessageScene;
 use sentences::append_number;

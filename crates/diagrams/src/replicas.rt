@@ -4,9 +4,8 @@ ghost use Rattle.diagrams.specs.Replicas.{change_markup, down_markup, frame_of, 
 
 use crate::bars::append_shut;
 use crate::layout::{down, replica_x, rows_of};
-use crate::style::{
-    CHANGE_LEFT, DOWN_LEFT, DOWN_RIGHT, DOWN_TIME, DOWN_WORD, HOLDS, LETTERS, MOMENT, TEXT_BASE,
-};
+use crate::sizes::{CHANGE_LEFT, DOWN_LEFT, DOWN_RIGHT, LETTERS, MOMENT, TEXT_BASE};
+use crate::style::{DOWN_TIME, DOWN_WORD, HOLDS};
 use crate::words::say_change;
 use labels::{Frame, Shape, Spot, append_label};
 use message_scenes::{Change, DownTime, MessageScene};

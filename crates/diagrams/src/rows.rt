@@ -2,10 +2,10 @@
 ghost use Rattle.diagrams.specs.Rows.{row_markup};
 
 use crate::layout::{down, replica_x};
-use crate::style::{
-    COMMAND, COMMAND_LEFT, COMMAND_LETTERS, LINE_LETTERS, LINE_RIGHT, LINE_WORD, MOMENT, RIGHT,
-    SOURCE, STEP, STEP_LEFT, TEXT_BASE,
+use crate::sizes::{
+    COMMAND_LEFT, COMMAND_LETTERS, LINE_LETTERS, LINE_RIGHT, MOMENT, RIGHT, STEP_LEFT, TEXT_BASE,
 };
+use crate::style::{COMMAND, LINE_WORD, SOURCE, STEP};
 use crate::words::say_command;
 use fault_script::NumberedCommand;
 use labels::{IndexedShape, Spot, Way, append_label, append_line, append_numbered};

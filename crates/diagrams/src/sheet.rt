@@ -5,12 +5,69 @@ ghost use Rattle.diagrams.specs.Diagrams.{diagram_legend, diagram_style};
 ghost use Rattle.diagrams.specs.Sheets.{arrow_samples, bar_samples};
 
 use crate::style::{
-    ASKING, ASKING_KEY, DOWN_KEY, DOWN_TIME, KEY, LEGEND_WORDS, LOST, LOST_KEY, PUTTING,
-    PUTTING_KEY, REPLY, REPLY_KEY, REQUEST, REQUEST_KEY, SHEET, UNDER_WAY, UNDER_WAY_KEY,
+    ASKING, ASKING_KEY, DOWN_KEY, DOWN_TIME, KEY, LOST, LOST_KEY, PUTTING, PUTTING_KEY, REPLY,
+    REPLY_KEY, REQUEST, REQUEST_KEY, UNDER_WAY, UNDER_WAY_KEY,
 };
 use labels::append_sample;
 use markup::{Element, append_closing, append_plain, append_text, open_of_class};
 use tag::Memory;
+
+/// The colours, and the sizes of texts, for pages of diagrams: without quotation marks and other marks
+/// of HTML, so that it stands as it is.
+pub(crate) const SHEET: &str =
+    ":root{color-scheme:light dark;--ink:#1c2430;--soft:#5b6778;--faint:#d5dae2;--paper:#ffffff;\
+--request:#2f62c9;--reply:#1d8a55;--lost:#c62020;--read-ask:#d9f2e3;--read-put:#86d3a8;\
+--write-ask:#dbe7ff;--write-put:#8fb2f5}\
+@media (prefers-color-scheme:dark){:root{--ink:#e7ebf1;--soft:#a3afc0;--faint:#39424f;\
+--paper:#12161c;--request:#7da6ff;--reply:#4cc98a;--lost:#ff8080;--read-ask:#12402b;\
+--read-put:#1f7a50;--write-ask:#1b3160;--write-put:#31569f}}\
+body{margin:8px;color:var(--ink);background:var(--paper);font:15px/1.5 system-ui,sans-serif}\
+h1,h2,p{margin:.5rem 0;overflow-wrap:anywhere}\
+.messages{overflow-x:auto;margin:.5rem 0}\
+.messages svg{display:block;font:10px ui-monospace,monospace}\
+.messages text{fill:var(--ink)}\
+.lifeline{stroke:var(--soft);stroke-width:1;stroke-opacity:.6}\
+.step{stroke:var(--faint);stroke-width:1;stroke-dasharray:1 3}\
+.messages .who{font-weight:bold;text-anchor:middle}\
+.messages .source{fill:var(--soft);text-anchor:end}\
+.request line{stroke:var(--request);stroke-width:1.4}\
+.reply line{stroke:var(--reply);stroke-width:1.4}\
+.messages .under-way{stroke-dasharray:4 4}\
+.messages .arriving{marker-end:url(#message-head)}\
+.message-head{fill:var(--ink)}\
+.messages .cross{stroke:var(--lost);stroke-width:2.2}\
+.messages .label{text-anchor:middle}\
+.messages .label,.messages .holds,.messages .begin,.messages .note,.messages .outcome,\
+.messages text.down{paint-order:stroke;stroke:var(--paper);stroke-width:3px;stroke-linejoin:round}\
+.reading rect,.reading polyline{fill:var(--read-ask);stroke:var(--reply);stroke-width:1.2}\
+.writing rect,.writing polyline{fill:var(--write-ask);stroke:var(--request);stroke-width:1.2}\
+.messages .reading .putting{fill:var(--read-put)}\
+.messages .writing .putting{fill:var(--write-put)}\
+.messages .stop{stroke:var(--lost);stroke-width:2.5}\
+.messages .begin{font-weight:bold;text-anchor:end}\
+.messages .note,.messages .outcome{text-anchor:end}\
+.messages .holds{font-weight:bold}\
+.messages rect.down{fill:var(--faint);stroke:var(--ink);stroke-dasharray:3 2}\
+.messages .more{fill:var(--soft)}\
+.key{color:var(--soft);max-width:60rem}\
+.key span{display:inline-block;padding:0 .6em;margin-right:.4em;color:var(--ink);\
+border:1.5px solid var(--soft)}\
+.key .request{border-color:var(--request);border-style:none none solid}\
+.key .reply{border-color:var(--reply);border-style:none none solid}\
+.key .lost{border-color:var(--lost);border-style:none none solid}\
+.key .under-way{border-style:none none dashed}\
+.key .asking{background:var(--write-ask);border-color:var(--request)}\
+.key .putting{background:var(--write-put);border-color:var(--request)}\
+.key .down{background:var(--faint);border-style:dashed}\
+@media print{body{margin:0}.messages{overflow:visible}.messages svg{max-width:100%;height:auto}}";
+
+/// What the legend says after its samples.
+pub(crate) const LEGEND_WORDS: &str =
+    " Time goes down: each step that was taken has a row, with its line of the script at the left. \
+An arrow goes from the row where a message is sent to the row where it arrives; one that is lost \
+ends with a cross in its row, and one that never arrives is dashed. A call is a bar on its client\u{2019}s \
+lifeline: it asks until its tag is noted, and then it puts; where its client stopped it ends at a \
+line. Right of a replica\u{2019}s lifeline stands what it comes to hold.";
 
 /// Adds the style sheet, which belongs into the page's `head`: for light and dark windows, and for
 /// paper.

@@ -5,7 +5,8 @@ ghost use Rattle.diagrams.specs.Calls.{begin_text, call_texts, note_text, outcom
 ghost use Rattle.diagrams.specs.Layout.{HasClientsInOrder};
 
 use crate::layout::{client_x, down};
-use crate::style::{BEGIN, LETTERS, NOTE, OUTCOME, STOPPED, TEXT_BASE, TEXT_RIGHT};
+use crate::sizes::{LETTERS, TEXT_BASE, TEXT_RIGHT};
+use crate::style::{BEGIN, NOTE, OUTCOME, STOPPED};
 use crate::words::{say_begin, say_note, say_returned};
 use labels::{Shape, Spot, append_label};
 use message_scenes::{CallBar, CallEnd, MessageScene, PlacedNote};

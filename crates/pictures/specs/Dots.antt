@@ -8,8 +8,9 @@ use Rattle.labels.specs.Labels.{label_markup, number_of, polyline, words_of}
 use Rattle.scenes.specs.declared.scene.Bar.{Bar}
 use Rattle.scenes.specs.declared.scene.Dot.{Dot}
 use Rattle.scenes.specs.declared.scene.Scene.{Scene}
-use Rattle.pictures.specs.declared.style.TheConstants.{DOT, DOT_LEFT, DOT_RADIUS, LINE_LETTERS}
-use Rattle.pictures.specs.declared.style.TheConstants.{MIDDLE, NUMBER, NUMBER_LEFT, PATH, TEXT_BASE}
+use Rattle.pictures.specs.declared.sizes.TheConstants.{DOT_LEFT, DOT_RADIUS, LINE_LETTERS, MIDDLE}
+use Rattle.pictures.specs.declared.sizes.TheConstants.{NUMBER_LEFT, TEXT_BASE}
+use Rattle.pictures.specs.declared.style.TheConstants.{DOT, NUMBER, PATH}
 use Rattle.pictures.specs.Layout.{across, down, row_of_dot}
 
 -- the lane of that bar; the first if there is none

@@ -3,13 +3,21 @@ use Rattle.std.specs.Prelude.{ℕ, ◌+◌, ◌-◌, ◌*◌, List, [], ◌∷�
 use Rattle.markup.specs.Markup.{Markup, empty}
 use Rattle.markup.specs.declared.names.AttributeName.TheVariants as name
 use Rattle.markup.specs.declared.names.Element.TheVariants as tag
+use Rattle.tag.specs.declared.actions.Action.{Action}
+use Rattle.tag.specs.declared.actions.Action.TheVariants.{Read, Write}
 use Rattle.scenes.specs.declared.scene.Bar.{Bar}
 use Rattle.scenes.specs.declared.scene.Scene.{Scene}
 use Rattle.labels.specs.declared.places.Frame.{Frame}
 use Rattle.labels.specs.Labels.{number_of, polyline}
-use Rattle.pictures.specs.declared.style.TheConstants.{BAR_FOOT, BAR_LEFT, BAR_MARGINS, BAR_TOP}
-use Rattle.pictures.specs.declared.style.TheConstants.{FLOOR, OPEN}
+use Rattle.pictures.specs.declared.sizes.TheConstants.{BAR_FOOT, BAR_LEFT, BAR_MARGINS, BAR_TOP}
+use Rattle.pictures.specs.declared.sizes.TheConstants.{FLOOR, READ_CORNER, WRITE_CORNER}
+use Rattle.pictures.specs.declared.style.TheConstants.{OPEN}
 use Rattle.pictures.specs.Layout.{across, column_width, down, row_of_place, rows_of}
+
+-- how round the corners are of a bar of that action
+abbrev pub corner_of : Action → ℕ
+corner_of Read = READ_CORNER
+corner_of (Write value) = WRITE_CORNER
 
 -- the shape of an answered call, with so round corners
 abbrev pub shut_shape : Frame → ℕ → Markup

@@ -5,9 +5,10 @@ use Rattle.labels.specs.Labels.{label_markup, line_markup}
 use Rattle.explanations.specs.Sentences.{line_at}
 use Rattle.explanations.specs.declared.hall_rows.HallRows.{HallRows}
 use Rattle.scenes.specs.declared.scene.Scene.{Scene}
-use Rattle.pictures.specs.declared.style.TheConstants.{CLIENT, CLIENT_WORD, COLUMN_LEFT, FLOOR}
-use Rattle.pictures.specs.declared.style.TheConstants.{LANE, LINE, LINE_LETTERS, LINE_RIGHT}
-use Rattle.pictures.specs.declared.style.TheConstants.{LINE_WORD, MIDDLE, ROW_TOP, TEXT_BASE, TICK}
+use Rattle.pictures.specs.declared.sizes.TheConstants.{COLUMN_LEFT, FLOOR, LINE_LETTERS, LINE_RIGHT}
+use Rattle.pictures.specs.declared.sizes.TheConstants.{MIDDLE, ROW_TOP, TEXT_BASE}
+use Rattle.pictures.specs.declared.style.TheConstants.{CLIENT, CLIENT_WORD, LANE, LINE, LINE_WORD}
+use Rattle.pictures.specs.declared.style.TheConstants.{TICK}
 use Rattle.pictures.specs.Layout.{across, column_width, down, room_of, row_of_place, rows_of}
 
 module _ (scene : Scene) where

@@ -6,8 +6,8 @@ use Rattle.std.specs.List.Sorted.{IsNonDecreasing, IsStrictlyIncreasing}
 use Rattle.scenes.specs.declared.scene.Dot.{Dot}
 use Rattle.scenes.specs.declared.scene.Scene.{Scene}
 use Rattle.labels.specs.Places.{pixels}
-use Rattle.pictures.specs.declared.style.TheConstants.{COLUMNS, LETTER, MARGINS}
-use Rattle.pictures.specs.declared.style.TheConstants.{NARROWEST, ROOMY, ROW, WIDEST}
+use Rattle.pictures.specs.declared.sizes.TheConstants.{COLUMNS, LETTER, MARGINS, NARROWEST, ROOMY}
+use Rattle.pictures.specs.declared.sizes.TheConstants.{ROW, WIDEST}
 
 -- so far down in that row: the start is that of the first row
 abbrev pub down : ℕ → ℕ → ℕ

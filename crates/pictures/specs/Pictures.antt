@@ -16,14 +16,13 @@ use Rattle.explanations.specs.Sentences.{call_text}
 use Rattle.scenes.specs.declared.scene.Bar.{Bar}
 use Rattle.scenes.specs.declared.scene.Scene.{Scene}
 use Rattle.pictures.specs.declared.picture.Picture.{Picture}
-use Rattle.pictures.specs.declared.style.TheConstants.{BOTTOM, FAULTY_READ, FAULTY_WRITE, FOOT_BASE}
-use Rattle.pictures.specs.declared.style.TheConstants.{LONG, NAMES_BASE, PICTURE, READ}
-use Rattle.pictures.specs.declared.style.TheConstants.{READ_CORNER, RIGHT, TITLE, WRITE}
-use Rattle.pictures.specs.declared.style.TheConstants.{WRITE_CORNER}
+use Rattle.pictures.specs.declared.sizes.TheConstants.{BOTTOM, FOOT_BASE, LONG, NAMES_BASE, RIGHT}
+use Rattle.pictures.specs.declared.style.TheConstants.{FAULTY_READ, FAULTY_WRITE, PICTURE, READ}
+use Rattle.pictures.specs.declared.style.TheConstants.{TITLE, WRITE}
 use Rattle.pictures.specs.Layout.{across, down, rows_of}
 use Rattle.pictures.specs.Ground.{client_name, lane_markup, tick_markup}
 use Rattle.pictures.specs.Dots.{dot_markup, path_markup}
-use Rattle.pictures.specs.Frames.{shape}
+use Rattle.pictures.specs.Frames.{corner_of, shape}
 use Rattle.pictures.specs.Texts.{if_any, texts}
 
 -- ---- calls
@@ -41,11 +40,6 @@ call_at calls (Some k) = slice_get calls k
 abbrev pub class_of : Action → Bool → List ℕ
 class_of Read faulty = if faulty then FAULTY_READ.now else READ.now
 class_of (Write value) faulty = if faulty then FAULTY_WRITE.now else WRITE.now
-
--- how round the corners are of a bar of that action
-abbrev pub corner_of : Action → ℕ
-corner_of Read = READ_CORNER
-corner_of (Write value) = WRITE_CORNER
 
 -- the title of the picture of that key
 abbrev pub picture_title : List ℕ → Markup

@@ -5,9 +5,10 @@ use Rattle.markup.specs.declared.names.AttributeName.TheVariants as name
 use Rattle.markup.specs.declared.names.Element.TheVariants as tag
 use Rattle.labels.specs.Labels.{words_of}
 use Rattle.labels.specs.Samples.{sample}
+use Rattle.pictures.specs.declared.sheet.TheConstants.{LEGEND_WORDS, SHEET}
 use Rattle.pictures.specs.declared.style.TheConstants.{FAULTY_KEY, FAULTY_READ, LEGEND}
-use Rattle.pictures.specs.declared.style.TheConstants.{LEGEND_WORDS, OPEN, OPEN_KEY, READ}
-use Rattle.pictures.specs.declared.style.TheConstants.{READ_KEY, SHEET, WRITE, WRITE_KEY}
+use Rattle.pictures.specs.declared.style.TheConstants.{OPEN, OPEN_KEY, READ, READ_KEY, WRITE}
+use Rattle.pictures.specs.declared.style.TheConstants.{WRITE_KEY}
 
 -- the style sheet
 abbrev pub style : Markup

@@ -5,8 +5,8 @@ use Rattle.labels.specs.Labels.{label_markup}
 use Rattle.recorder.specs.declared.part.Call.{Call}
 use Rattle.scenes.specs.declared.scene.Bar.{Bar}
 use Rattle.scenes.specs.declared.scene.Scene.{Scene}
-use Rattle.pictures.specs.declared.style.TheConstants.{ANSWERS, DOES, NOTED, NOTES, TEXT_BASE}
-use Rattle.pictures.specs.declared.style.TheConstants.{TEXT_LEFT}
+use Rattle.pictures.specs.declared.sizes.TheConstants.{TEXT_BASE, TEXT_LEFT}
+use Rattle.pictures.specs.declared.style.TheConstants.{ANSWERS, DOES, NOTED, NOTES}
 use Rattle.pictures.specs.declared.texts.BarText.{BarText}
 use Rattle.pictures.specs.declared.texts.BarText.TheVariants as bar_text
 use Rattle.pictures.specs.Layout.{across, down, is_narrow, room_of, row_of_place}

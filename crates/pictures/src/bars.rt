@@ -2,11 +2,10 @@
 ghost use Rattle.std.specs.Prelude.{◌≡◌, ◌++◌, OnOk};
 ghost use Rattle.markup.specs.Markup.{rendered};
 ghost use Rattle.pictures.specs.Layout.{IsInOrder};
-ghost use Rattle.pictures.specs.Pictures.{bar_markup, corner_of, sentence};
+ghost use Rattle.pictures.specs.Pictures.{bar_markup, sentence};
 
-use crate::frames::append_shape;
+use crate::frames::{append_shape, corner_of};
 use crate::picture::Picture;
-use crate::style::{READ_CORNER, WRITE_CORNER};
 use crate::texts::append_texts;
 use explanations::append_call;
 use labels::{Shape, append_title};
@@ -14,23 +13,13 @@ use markup::{Element, append_closing, open_of_class};
 use recorder::Call;
 use scenes::Bar;
 use std::alloc::Global;
-use tag::{Action, Memory};
+use tag::Memory;
 
 /// The bars of a picture, each if the part has its call.
 #[derive(Clone, Copy)]
 pub(crate) struct Bars<'a> {
     pub(crate) alloc: Global,
     pub(crate) picture: &'a Picture<'a>,
-}
-
-/// How round the corners are of a bar of that action.
-fn corner_of(action: &Action) -> u8
-    ensures { result ≡ corner_of action.now }
-{
-    match action {
-        Action::Read => READ_CORNER,
-        Action::Write(_) => WRITE_CORNER,
-    }
 }
 
 /// Adds the call's sentence as a title.

@@ -5,9 +5,8 @@ ghost use Rattle.pictures.specs.Layout.{IsInOrder};
 ghost use Rattle.pictures.specs.Dots.{circle, dot_markup, lane_of};
 
 use crate::layout::{across, down, row_of_dot};
-use crate::style::{
-    DOT, DOT_LEFT, DOT_RADIUS, LINE_LETTERS, MIDDLE, NUMBER, NUMBER_LEFT, TEXT_BASE,
-};
+use crate::sizes::{DOT_LEFT, DOT_RADIUS, LINE_LETTERS, MIDDLE, NUMBER_LEFT, TEXT_BASE};
+use crate::style::{DOT, NUMBER};
 use labels::{IndexedShape, Spot, append_numbered};
 use markup::{Attribute, AttributeName, Element, append_empty};
 use scenes::{Dot, Scene};

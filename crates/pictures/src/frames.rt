@@ -3,14 +3,15 @@ ghost use Rattle.std.specs.Prelude.{◌≡◌, ◌++◌, OnOk};
 ghost use Rattle.markup.specs.Markup.{rendered};
 ghost use Rattle.labels.specs.Places.{IsNear, IsNearFrame};
 ghost use Rattle.pictures.specs.Layout.{IsInOrder};
-ghost use Rattle.pictures.specs.Frames.{bottom_of, frame_of, open_corners, shape, shut_shape};
+ghost use Rattle.pictures.specs.Frames.{bottom_of, corner_of, frame_of, open_corners, shape, shut_shape};
 
 use crate::layout::{across, column_width, down, row_of_place, rows_of};
-use crate::style::{BAR_FOOT, BAR_LEFT, BAR_MARGINS, BAR_TOP, FLOOR, OPEN};
+use crate::sizes::{BAR_FOOT, BAR_LEFT, BAR_MARGINS, BAR_TOP, FLOOR, READ_CORNER, WRITE_CORNER};
+use crate::style::OPEN;
 use labels::{Frame, append_polyline};
 use markup::{Attribute, AttributeName, Element, append_empty};
 use scenes::{Bar, Scene};
-use tag::Memory;
+use tag::{Action, Memory};
 
 /// The bottom of a bar with that end.
 fn bottom_of(scene: &Scene, ends: Option<usize>) -> u64
@@ -36,6 +37,16 @@ fn frame_of(scene: &Scene, bar: &Bar) -> Frame
         right: across(scene, BAR_LEFT + width, bar.lane),
         top: down(BAR_TOP, row_of_place(scene, bar.begins)),
         bottom: bottom_of(scene, bar.ends),
+    }
+}
+
+/// How round the corners are of a bar of that action.
+pub(crate) fn corner_of(action: &Action) -> u8
+    ensures { result ≡ corner_of action.now }
+{
+    match action {
+        Action::Read => READ_CORNER,
+        Action::Write(_) => WRITE_CORNER,
     }
 }
 

@@ -5,10 +5,8 @@ ghost use Rattle.pictures.specs.Layout.{IsInOrder};
 ghost use Rattle.pictures.specs.Ground.{client_name, lane_markup, middle_of, tick_line, tick_markup};
 
 use crate::layout::{across, column_width, down, room_of, row_of_place, rows_of};
-use crate::style::{
-    CLIENT, CLIENT_WORD, COLUMN_LEFT, FLOOR, LANE, LINE, LINE_LETTERS, LINE_RIGHT, LINE_WORD,
-    MIDDLE, ROW_TOP, TEXT_BASE, TICK,
-};
+use crate::sizes::{COLUMN_LEFT, FLOOR, LINE_LETTERS, LINE_RIGHT, MIDDLE, ROW_TOP, TEXT_BASE};
+use crate::style::{CLIENT, CLIENT_WORD, LANE, LINE, LINE_WORD, TICK};
 use explanations::HallRows;
 use labels::{IndexedShape, Shape, Spot, Way, append_line, append_numbered};
 use scenes::Scene;

@@ -6,7 +6,7 @@ ghost use Rattle.pictures.specs.Layout.{IsInOrder, across, column_width, dots_be
 ghost use Rattle.pictures.specs.Layout.{is_narrow, room_of, row_of_dot, row_of_place};
 ghost use Rattle.pictures.specs.Layout.{rows_of, ticks_before, ticks_up_to};
 
-use crate::style::{COLUMNS, LETTER, MARGINS, NARROWEST, ROOMY, ROW, WIDEST};
+use crate::sizes::{COLUMNS, LETTER, MARGINS, NARROWEST, ROOMY, ROW, WIDEST};
 use labels::pixels;
 use scenes::{Dot, Scene};
 

@@ -6,7 +6,8 @@ ghost use Rattle.pictures.specs.Dots.{corner, corners, path_markup};
 
 use crate::dots::lane_of;
 use crate::layout::{across, down, row_of_dot};
-use crate::style::{DOT_LEFT, MIDDLE, PATH};
+use crate::sizes::{DOT_LEFT, MIDDLE};
+use crate::style::PATH;
 use labels::append_polyline;
 use scenes::{Dot, Scene};
 use std::alloc::Global;

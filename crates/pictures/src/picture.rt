@@ -13,10 +13,8 @@ use crate::find::find;
 use crate::ground::{Guides, Names, Ticks};
 use crate::layout::{across, down, rows_of};
 use crate::path::append_path;
-use crate::style::{
-    BOTTOM, FAULTY_READ, FAULTY_WRITE, FOOT_BASE, LONG, NAMES_BASE, PICTURE, READ, RIGHT, TITLE,
-    WRITE,
-};
+use crate::sizes::{BOTTOM, FOOT_BASE, LONG, NAMES_BASE, RIGHT};
+use crate::style::{FAULTY_READ, FAULTY_WRITE, PICTURE, READ, TITLE, WRITE};
 use explanations::HallRows;
 use labels::{append_each, append_each_indexed, open_image};
 use markup::{Element, append_closing, append_opening, append_text, open_of_class};

@@ -4,12 +4,57 @@ ghost use Rattle.markup.specs.Markup.{rendered};
 ghost use Rattle.pictures.specs.Sheets.{legend, legend_keys, style};
 
 use crate::style::{
-    FAULTY_KEY, FAULTY_READ, LEGEND, LEGEND_WORDS, OPEN, OPEN_KEY, READ, READ_KEY, SHEET, WRITE,
-    WRITE_KEY,
+    FAULTY_KEY, FAULTY_READ, LEGEND, OPEN, OPEN_KEY, READ, READ_KEY, WRITE, WRITE_KEY,
 };
 use labels::append_sample;
 use markup::{Element, append_closing, append_plain, append_text, open_of_class};
 use tag::Memory;
+
+/// The colours, and the sizes of texts, for pages of pictures: without quotation marks and other marks
+/// of HTML, so that it stands as it is.
+pub(crate) const SHEET: &str =
+    ":root{color-scheme:light dark;--ink:#1c2430;--soft:#5b6778;--faint:#d5dae2;--paper:#ffffff;\
+--read:#d9f2e3;--read-edge:#1d8a55;--write:#dbe7ff;--write-edge:#2f62c9;--fault:#ffdcdc;\
+--fault-edge:#c62020;--yes:#14784a;--dot:#1c2430}\
+@media (prefers-color-scheme:dark){:root{--ink:#e7ebf1;--soft:#a3afc0;--faint:#39424f;\
+--paper:#12161c;--read:#12402b;--read-edge:#4cc98a;--write:#1b3160;--write-edge:#7da6ff;\
+--fault:#5a1b1f;--fault-edge:#ff8080;--yes:#5fd39a;--dot:#ffffff}}\
+body{margin:8px;color:var(--ink);background:var(--paper);font:15px/1.5 system-ui,sans-serif}\
+h1,h2,p{margin:.5rem 0;overflow-wrap:anywhere}h2{margin-top:2rem}\
+.yes{color:var(--yes)}.no{color:var(--fault-edge)}.legend{color:var(--soft);max-width:60rem}\
+.legend span{display:inline-block;padding:0 .6em;margin-right:.4em;color:var(--ink);\
+border:1.5px solid}\
+.legend .write{background:var(--write);border-color:var(--write-edge)}\
+.legend .read{background:var(--read);border-color:var(--read-edge);border-radius:.7em}\
+.legend .faulty{background:var(--fault);border-color:var(--fault-edge)}\
+.legend .open{border-style:dashed;border-bottom-style:none}\
+.picture{overflow-x:auto;margin:.5rem 0}\
+.picture svg{display:block;font:10px ui-monospace,monospace}\
+.picture text{fill:var(--ink)}\
+.lane,.tick{stroke:var(--faint);stroke-width:1}.tick{stroke-dasharray:1 3}\
+.picture .client{font-weight:bold;text-anchor:middle}\
+.picture .line{fill:var(--soft);text-anchor:end}\
+.read rect,.read polyline{fill:var(--read);stroke:var(--read-edge);stroke-width:1.5}\
+.write rect,.write polyline{fill:var(--write);stroke:var(--write-edge);stroke-width:1.5}\
+.picture .faulty rect,.picture .faulty polyline{fill:var(--fault);stroke:var(--fault-edge);\
+stroke-width:2.5}\
+.picture .open{stroke-dasharray:5 3}\
+.picture .does{font-weight:bold}.picture .noted{fill:var(--soft)}\
+.path{fill:none;stroke:var(--soft);stroke-width:1.5;stroke-linejoin:round}\
+.dot{fill:var(--dot)}.picture .number{font-weight:bold}\
+summary{cursor:pointer;color:var(--soft)}.calls{overflow-x:auto}\
+table{border-collapse:collapse;margin:.5rem 0;font-size:13px}\
+th,td{border-bottom:1px solid var(--faint);padding:.15rem .7rem .15rem 0;text-align:left;\
+vertical-align:top}td{overflow-wrap:anywhere;min-width:3em}\
+tr.faulty td{color:var(--fault-edge)}\
+@media print{body{margin:0}.picture{overflow:visible}.picture svg{max-width:100%;height:auto}}";
+
+/// What the legend says after its samples.
+pub(crate) const LEGEND_WORDS: &str =
+    " Time goes down; each client has a column, and each call a bar from the line of the history \
+where it begins to the line where it is answered. In a bar stand the tag that the call noted, \
+where it noted it, and at the end what it answers. Numbered dots are moments at which the calls \
+can have taken effect, one after another.";
 
 /// Adds the style sheet, which belongs into the page's `head`: for light and dark windows, and for
 /// paper. Beside pictures and tables it has colours for the classes `yes` and `no`.

@@ -5,7 +5,8 @@ ghost use Rattle.pictures.specs.Layout.{IsInOrder};
 ghost use Rattle.pictures.specs.Texts.{if_any, text_at, text_class, text_words, texts};
 
 use crate::layout::{across, down, is_narrow, room_of, row_of_place};
-use crate::style::{ANSWERS, DOES, NOTED, NOTES, TEXT_BASE, TEXT_LEFT};
+use crate::sizes::{TEXT_BASE, TEXT_LEFT};
+use crate::style::{ANSWERS, DOES, NOTED, NOTES};
 use crate::words::{say_begin, say_end, say_note, say_unless};
 use labels::{Spot, append_label};
 use recorder::Call;

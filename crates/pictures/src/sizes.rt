@@ -1,0 +1,88 @@
+//! The sizes of a picture, in pixels: of no contract, all in this file.
+
+/// The height of a row.
+pub(crate) const ROW: u64 = 20;
+
+/// What all columns together take, if they can.
+pub(crate) const COLUMNS: u64 = 1080;
+
+/// The most that a column is wide.
+pub(crate) const WIDEST: u64 = 120;
+
+/// The least that a column is wide.
+pub(crate) const NARROWEST: u64 = 68;
+
+/// In a narrower column less is said.
+pub(crate) const ROOMY: u64 = 100;
+
+/// What a column leaves free beside a text.
+pub(crate) const MARGINS: u64 = 8;
+
+/// The width of a letter.
+pub(crate) const LETTER: u64 = 6;
+
+/// A picture of more rows names its clients below, too.
+pub(crate) const LONG: usize = 40;
+
+/// Where the first column begins.
+pub(crate) const COLUMN_LEFT: u64 = 76;
+
+/// Where a bar begins in the first column.
+pub(crate) const BAR_LEFT: u64 = 78;
+
+/// What a bar leaves free of its column.
+pub(crate) const BAR_MARGINS: u64 = 4;
+
+/// Where a bar's texts begin in the first column.
+pub(crate) const TEXT_LEFT: u64 = 81;
+
+/// Where the middle of a dot is in the first column.
+pub(crate) const DOT_LEFT: u64 = 87;
+
+/// Where a dot's number begins in the first column.
+pub(crate) const NUMBER_LEFT: u64 = 95;
+
+/// Where the line of a row, which is said at the left, ends.
+pub(crate) const LINE_RIGHT: u64 = 72;
+
+/// The letters of that line.
+pub(crate) const LINE_LETTERS: u64 = 12;
+
+/// In the column after the last: the end of the picture.
+pub(crate) const RIGHT: u64 = 80;
+
+/// Where the first row begins.
+pub(crate) const ROW_TOP: u64 = 26;
+
+/// The top of a bar that begins in the first row.
+pub(crate) const BAR_TOP: u64 = 28;
+
+/// The bottom of a bar that ends in the first row.
+pub(crate) const BAR_FOOT: u64 = 44;
+
+/// The base of a text in the first row.
+pub(crate) const TEXT_BASE: u64 = 40;
+
+/// The middle of the first row.
+pub(crate) const MIDDLE: u64 = 36;
+
+/// The base of the clients' names.
+pub(crate) const NAMES_BASE: u64 = 16;
+
+/// In the row after the last: where open bars stop.
+pub(crate) const FLOOR: u64 = 36;
+
+/// In the row after the last: the base of the clients' names.
+pub(crate) const FOOT_BASE: u64 = 50;
+
+/// In the row after the last: the end of the picture.
+pub(crate) const BOTTOM: u64 = 58;
+
+/// The radius of a dot.
+pub(crate) const DOT_RADIUS: u64 = 4;
+
+/// How round the corners of a read's bar are.
+pub(crate) const READ_CORNER: u8 = 8;
+
+/// How round the corners of a write's bar are: they are square.
+pub(crate) const WRITE_CORNER: u8 = 0;
