@@ -33,19 +33,14 @@ content_words (content.Answers response) = response_words response.now
 abbrev pub heading : List ℕ → Markup
 heading words = element tag.Th (words_of name.Scope COLUMN.now ∷ []) (text words)
 
--- the headings of what a call does
-abbrev pub call_headings : Markup
-call_headings = both (heading CALL_HEADING.now) (both (heading CLIENT_HEADING.now)
-    (both (heading DOES_HEADING.now) (heading ANSWER_HEADING.now)))
-
--- the headings of where it stands in the history
-abbrev pub line_headings : Markup
-line_headings = both (heading NOTE_HEADING.now) (both (heading BEGINS_HEADING.now)
-    (both (heading NOTED_HEADING.now) (heading ANSWERED_HEADING.now)))
+-- the words above the columns: of what a call does, and of where it stands in the history
+abbrev pub columns : List (List ℕ)
+columns = CALL_HEADING.now ∷ CLIENT_HEADING.now ∷ DOES_HEADING.now ∷ ANSWER_HEADING.now
+    ∷ NOTE_HEADING.now ∷ BEGINS_HEADING.now ∷ NOTED_HEADING.now ∷ ANSWERED_HEADING.now ∷ []
 
 -- the row of headings
 abbrev pub headings : Markup
-headings = element tag.Tr [] (both call_headings line_headings)
+headings = element tag.Tr [] (each heading columns)
 
 -- what a call does: its number, its client, its action, and what it answers
 abbrev pub call_cells : Call → Markup

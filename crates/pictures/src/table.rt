@@ -1,8 +1,8 @@
 //! The table of the calls of a picture.
 ghost use Rattle.std.specs.Prelude.{◌≡◌, ◌++◌, OnOk};
-ghost use Rattle.markup.specs.Markup.{rendered};
-ghost use Rattle.pictures.specs.Tables.{call_cells, call_headings, headings, line_cells};
-ghost use Rattle.pictures.specs.Tables.{line_headings, row_markup, rows_table, table_markup};
+ghost use Rattle.markup.specs.Markup.{each, rendered};
+ghost use Rattle.pictures.specs.Tables.{call_cells, heading, headings, line_cells, row_markup};
+ghost use Rattle.pictures.specs.Tables.{rows_table, table_markup};
 
 use crate::cells::{Content, append_cell, append_heading, append_line, append_words};
 use crate::picture::Picture;
@@ -26,33 +26,33 @@ struct Rows<'a> {
     picture: &'a Picture<'a>,
 }
 
-/// Adds the headings of the columns that say what a call does.
-fn append_call_headings(page: &mut Vec<u8>) -> Result<(), Memory>
-    ensures { OnOk result (page.new.items ≡ page.old.items ++ rendered call_headings) }
+/// Adds the headings of the columns, which have these words.
+fn append_columns(page: &mut Vec<u8>, columns: &[&str]) -> Result<(), Memory>
+    ensures { OnOk result (page.new.items ≡ page.old.items
+        ++ rendered (each (λ words. heading words.now) columns.now)) }
 {
-    append_heading(page, CALL_HEADING)?;
-    append_heading(page, CLIENT_HEADING)?;
-    append_heading(page, DOES_HEADING)?;
-    append_heading(page, ANSWER_HEADING)
+    for words in columns {
+        append_heading(page, words)?;
+    }
+    Ok(())
 }
 
-/// Adds the headings of the columns that say where it stands in the history.
-fn append_line_headings(page: &mut Vec<u8>) -> Result<(), Memory>
-    ensures { OnOk result (page.new.items ≡ page.old.items ++ rendered line_headings) }
-{
-    append_heading(page, NOTE_HEADING)?;
-    append_heading(page, BEGINS_HEADING)?;
-    append_heading(page, NOTED_HEADING)?;
-    append_heading(page, ANSWERED_HEADING)
-}
-
-/// Adds the row of headings.
+/// Adds the row of headings: of what a call does, and of where it stands in the history.
 fn append_headings(page: &mut Vec<u8>) -> Result<(), Memory>
     ensures { OnOk result (page.new.items ≡ page.old.items ++ rendered headings) }
 {
+    let columns = [
+        CALL_HEADING,
+        CLIENT_HEADING,
+        DOES_HEADING,
+        ANSWER_HEADING,
+        NOTE_HEADING,
+        BEGINS_HEADING,
+        NOTED_HEADING,
+        ANSWERED_HEADING,
+    ];
     append_opening(page, Element::Tr, &[])?;
-    append_call_headings(page)?;
-    append_line_headings(page)?;
+    append_columns(page, &columns)?;
     append_closing(page, Element::Tr)
 }
 
