@@ -1,13 +1,13 @@
 -- The calls of a diagram: each is a bar on its client's lifeline, from the row of its invocation to
 -- the row of its response, or to the row where its client stopped. It asks until its tag is fixed,
 -- and then it puts.
-use Rattle.std.specs.Prelude.{ℕ, ◌-◌, ◌*◌, List, [], ◌∷◌, Option, Some, None}
-use Rattle.markup.specs.Markup.{Markup, nothing, empty, element, both}
+use Rattle.std.specs.Prelude.{ℕ, ◌*◌, List, [], ◌∷◌, Option, Some, None, map}
+use Rattle.markup.specs.Markup.{Markup, nothing, empty, element, both, attribute_of}
 use Rattle.markup.specs.declared.names.AttributeName.TheVariants as name
 use Rattle.markup.specs.declared.names.Element.TheVariants as tag
 use Rattle.labels.specs.declared.places.Frame.{Frame}
-use Rattle.labels.specs.Labels.{label_markup, line_markup, number_of, polyline, title}
-use Rattle.labels.specs.Labels.{words_of}
+use Rattle.labels.specs.Labels.{label_markup, line_markup, polyline, title, words_of}
+use Rattle.labels.specs.Places.{place_and_size}
 use Rattle.tag.specs.declared.actions.Action.{Action}
 use Rattle.tag.specs.declared.actions.Action.TheVariants.{Read, Write}
 use Rattle.tag.specs.declared.actions.Returned.{Returned}
@@ -30,9 +30,8 @@ action_class (Write value) = WRITING.now
 
 -- a part of a bar that has an end: with four sides
 abbrev pub shut_part : List ℕ → Frame → Markup
-shut_part class frame = empty tag.Rect (words_of name.Class class ∷ number_of name.X frame.left
-    ∷ number_of name.Y frame.top ∷ number_of name.Width (frame.right - frame.left)
-    ∷ number_of name.Height (frame.bottom - frame.top) ∷ [])
+shut_part class frame =
+    empty tag.Rect (words_of name.Class class ∷ map attribute_of (place_and_size frame))
 
 -- the corners of a part that has none, in tenths of a pixel: up the left side, over, and down
 abbrev pub open_corners : Frame → List ℕ

@@ -40,14 +40,9 @@ pub(crate) fn append_shut(page: &mut Vec<u8>, class: &str, frame: Frame) -> Resu
     ensures { OnOk result
         (page.new.items ≡ page.old.items ++ rendered (shut_part class.now frame)) }
 {
-    let attributes = [
-        Attribute::Words(AttributeName::Class, class),
-        Attribute::Number(AttributeName::X, frame.left),
-        Attribute::Number(AttributeName::Y, frame.top),
-        Attribute::Number(AttributeName::Width, frame.width()),
-        Attribute::Number(AttributeName::Height, frame.height()),
-    ];
-    append_empty(page, Element::Rect, &attributes)
+    let class = Attribute::Words(AttributeName::Class, class);
+    let [x, y, width, height] = frame.attributes();
+    append_empty(page, Element::Rect, &[class, x, y, width, height])
 }
 
 /// The corners of a part without a side below, in tenths of a pixel: each a distance right, and one

@@ -1,8 +1,9 @@
 //! Where things stand, in pixels.
 ghost use Rattle.std.specs.Prelude.{◌≡◌, ◌-◌};
-ghost use Rattle.labels.specs.Places.{IsNear, pixels};
+ghost use Rattle.labels.specs.Places.{IsNear, pixels, place_and_size};
 
 use crate::style::FARTHEST;
+use markup::{Attribute, AttributeName};
 
 /// Where something with four sides stands.
 #[derive(Clone, Copy)]
@@ -15,17 +16,29 @@ pub struct Frame {
 
 impl Frame {
     /// How wide it is.
-    pub fn width(self) -> u64
+    fn width(self) -> u64
         ensures { result ≡ self.right - self.left }
     {
         self.right.saturating_sub(self.left)
     }
 
     /// How high it is.
-    pub fn height(self) -> u64
+    fn height(self) -> u64
         ensures { result ≡ self.bottom - self.top }
     {
         self.bottom.saturating_sub(self.top)
+    }
+
+    /// Where it begins, and its size: the attributes of a rectangle.
+    pub fn attributes(self) -> [Attribute<'static>; 4]
+        ensures { result ≡ place_and_size self }
+    {
+        [
+            Attribute::Number(AttributeName::X, self.left),
+            Attribute::Number(AttributeName::Y, self.top),
+            Attribute::Number(AttributeName::Width, self.width()),
+            Attribute::Number(AttributeName::Height, self.height()),
+        ]
     }
 }
 

@@ -1,6 +1,6 @@
 -- The shapes of bars: four sides, or, of a pending call, three.
-use Rattle.std.specs.Prelude.{ℕ, ◌+◌, ◌-◌, ◌*◌, List, [], ◌∷◌, Option, Some, None}
-use Rattle.markup.specs.Markup.{Markup, empty}
+use Rattle.std.specs.Prelude.{ℕ, ◌+◌, ◌-◌, ◌*◌, List, [], ◌∷◌, ◌++◌, Option, Some, None, map}
+use Rattle.markup.specs.Markup.{Markup, empty, attribute_of}
 use Rattle.markup.specs.declared.names.AttributeName.TheVariants as name
 use Rattle.markup.specs.declared.names.Element.TheVariants as tag
 use Rattle.tag.specs.declared.actions.Action.{Action}
@@ -9,6 +9,7 @@ use Rattle.scenes.specs.declared.scene.Bar.{Bar}
 use Rattle.scenes.specs.declared.scene.Scene.{Scene}
 use Rattle.labels.specs.declared.places.Frame.{Frame}
 use Rattle.labels.specs.Labels.{number_of, polyline}
+use Rattle.labels.specs.Places.{place_and_size}
 use Rattle.pictures.specs.declared.sizes.TheConstants.{BAR_FOOT, BAR_LEFT, BAR_MARGINS, BAR_TOP}
 use Rattle.pictures.specs.declared.sizes.TheConstants.{FLOOR, READ_CORNER, WRITE_CORNER}
 use Rattle.pictures.specs.declared.style.TheConstants.{OPEN}
@@ -21,9 +22,8 @@ corner_of (Write value) = WRITE_CORNER
 
 -- the shape of an answered call, with so round corners
 abbrev pub shut_shape : Frame → ℕ → Markup
-shut_shape frame corner = empty tag.Rect (number_of name.X frame.left ∷ number_of name.Y frame.top
-    ∷ number_of name.Width (frame.right - frame.left)
-    ∷ number_of name.Height (frame.bottom - frame.top) ∷ number_of name.Rx corner ∷ [])
+shut_shape frame corner = empty tag.Rect
+    (map attribute_of (place_and_size frame) ++ number_of name.Rx corner ∷ [])
 
 -- the corners of an open shape, in tenths of a pixel: up the left side, over the top, and down
 abbrev pub open_corners : Frame → ℕ → List ℕ

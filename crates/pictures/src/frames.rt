@@ -55,14 +55,9 @@ fn append_shut(page: &mut Vec<u8>, frame: Frame, corner: u8) -> Result<(), Memor
     ensures { OnOk result
         (page.new.items ≡ page.old.items ++ rendered (shut_shape frame corner)) }
 {
-    let attributes = [
-        Attribute::Number(AttributeName::X, frame.left),
-        Attribute::Number(AttributeName::Y, frame.top),
-        Attribute::Number(AttributeName::Width, frame.width()),
-        Attribute::Number(AttributeName::Height, frame.height()),
-        Attribute::Number(AttributeName::Rx, u64::from(corner)),
-    ];
-    append_empty(page, Element::Rect, &attributes)
+    let [x, y, width, height] = frame.attributes();
+    let corner = Attribute::Number(AttributeName::Rx, u64::from(corner));
+    append_empty(page, Element::Rect, &[x, y, width, height, corner])
 }
 
 /// The corners of an open shape, in tenths of a pixel: each a distance right, and one down.
