@@ -1,5 +1,5 @@
 //! Texts, escaped so that they stay texts.
-ghost use Rattle.std.specs.Prelude.{◌≡◌, ◌++◌, OnOk};
+ghost use Rattle.std.specs.Prelude.{◌≡◌, ◌++◌, IfSome, None, OnOk};
 ghost use Rattle.std.specs.List.{list_all};
 ghost use Rattle.markup.specs.Escapes.{escaped, escaped_char, is_hidden, is_plain};
 ghost use Rattle.markup.specs.Escapes.{moves_text, number_escape, shown_char};
@@ -57,17 +57,28 @@ fn append_shown(page: &mut Vec<u8>, c: char) -> Result<(), Memory>
     }
 }
 
+/// The escape of a character that could be part of markup.
+fn escape_of(c: char) -> Option<&'static str>
+    ensures some { IfSome result (λ escape. escape.now ≡ escaped_char c) }
+    ensures none { result ≡ None → escaped_char c ≡ shown_char c }
+{
+    match c {
+        '&' => Some("&amp;"),
+        '<' => Some("&lt;"),
+        '>' => Some("&gt;"),
+        '"' => Some("&quot;"),
+        '\'' => Some("&#39;"),
+        _ => None,
+    }
+}
+
 /// Adds what stands for the character.
 fn append_unplain(page: &mut Vec<u8>, c: char) -> Result<(), Memory>
     ensures { OnOk result (page.new.items ≡ page.old.items ++ escaped_char c) }
 {
-    match c {
-        '&' => append(page, "&amp;"),
-        '<' => append(page, "&lt;"),
-        '>' => append(page, "&gt;"),
-        '"' => append(page, "&quot;"),
-        '\'' => append(page, "&#39;"),
-        _ => append_shown(page, c),
+    match escape_of(c) {
+        Some(escape) => append(page, escape),
+        None => append_shown(page, c),
     }
 }
 
