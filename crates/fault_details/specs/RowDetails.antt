@@ -56,10 +56,9 @@ unfoldable pub next_text : EarlierRows → List ℕ
 next_text earlier = codes "  the next call" ++ hall_text earlier.hall
     ++ codes " is " ++ decimal (call_count earlier.history.now.rows) ++ codes "\n"
 
--- the call, what is said of it, a line, and what is said after that
-unfoldable pub call_line : ℕ → List ℕ → ℕ → List ℕ → List ℕ
-call_line call words line end =
-    codes "  call " ++ decimal call ++ words ++ decimal line ++ end
+-- the call, what is said of it, and a line
+unfoldable pub call_at : ℕ → List ℕ → ℕ → List ℕ
+call_at call words line = codes "  call " ++ decimal call ++ words ++ decimal line
 
 -- the call has not begun
 unfoldable pub unbegun_text : ℕ → List ℕ
@@ -79,10 +78,10 @@ noted_text call number writer line = codes "  call " ++ decimal call ++ codes " 
 -- what the answer to a call of that action has
 abbrev pub kind_text : ℕ → Action → ℕ → List ℕ
 kind_text call Read line =
-    call_line call (codes " is a read, begun at line ") line (codes ": its answer has \"value\"\n")
+    call_at call (codes " is a read, begun at line ") line ++ codes ": its answer has \"value\"\n"
 kind_text call (Write value) line =
-    call_line call (codes " is a write, begun at line ") line
-    (codes ": its answer has no \"value\"\n")
+    call_at call (codes " is a write, begun at line ") line
+    ++ codes ": its answer has no \"value\"\n"
 
 -- a sentence on a row that stands at that line: the call that it begins has no answer yet, or is of
 -- another kind than its answer, or the row notes the call
@@ -111,7 +110,7 @@ module _ (earlier : EarlierRows) where
   abbrev pub unasked_text : ℕ → Option ℕ → List ℕ
   unasked_text call None = unbegun_text call ++ next_text earlier
   unasked_text call (Some place) =
-      call_line call (codes " was answered at line ") (line_at earlier place) (codes "\n")
+      call_at call (codes " was answered at line ") (line_at earlier place) ++ codes "\n"
 
   -- the last place at which such a row stands
   abbrev pub place_of : Sought → Option ℕ

@@ -1,6 +1,6 @@
 //! Why a row may not stand after the earlier rows of its hall.
 ghost use Rattle.std.specs.Prelude.{◌≡◌, ◌++◌, Some, OnOk};
-ghost use Rattle.fault_details.specs.RowDetails.{busy_row, busy_text, call_line, hall_text, kind_row};
+ghost use Rattle.fault_details.specs.RowDetails.{busy_row, busy_text, call_at, hall_text, kind_row};
 ghost use Rattle.fault_details.specs.RowDetails.{kind_text, next_text, noted_row, noted_text};
 ghost use Rattle.fault_details.specs.RowDetails.{place_of, row_text, unasked_text, unbegun_text};
 
@@ -31,21 +31,13 @@ fn append_next(text: &mut Vec<u8>, earlier: &EarlierRows<'_>) -> Result<(), Memo
     append(text, "\n")
 }
 
-/// Adds the call, what is said of it, a line, and what is said after that.
-#[tactic(auto, unfolding(crate::specs::RowDetails::call_line))]
-fn append_call_line(
-    text: &mut Vec<u8>,
-    call: u64,
-    words: &str,
-    line: u64,
-    end: &str,
-) -> Result<(), Memory>
-    ensures { OnOk result
-        (text.new.items ≡ text.old.items ++ call_line call words.now line end.now) }
+/// Adds the call, what is said of it, and a line.
+#[tactic(auto, unfolding(crate::specs::RowDetails::call_at))]
+fn append_call_at(text: &mut Vec<u8>, call: u64, words: &str, line: u64) -> Result<(), Memory>
+    ensures { OnOk result (text.new.items ≡ text.old.items ++ call_at call words.now line) }
 {
     append_number(text, "  call ", call)?;
-    append_number(text, words, line)?;
-    append(text, end)
+    append_number(text, words, line)
 }
 
 /// Says that the call has not begun.
@@ -92,20 +84,14 @@ fn append_kind(text: &mut Vec<u8>, call: u64, action: &Action, line: u64) -> Res
     ensures { OnOk result (text.new.items ≡ text.old.items ++ kind_text call action.now line) }
 {
     match action {
-        Action::Read => append_call_line(
-            text,
-            call,
-            " is a read, begun at line ",
-            line,
-            ": its answer has \"value\"\n",
-        ),
-        Action::Write(_) => append_call_line(
-            text,
-            call,
-            " is a write, begun at line ",
-            line,
-            ": its answer has no \"value\"\n",
-        ),
+        Action::Read => {
+            append_call_at(text, call, " is a read, begun at line ", line)?;
+            append(text, ": its answer has \"value\"\n")
+        }
+        Action::Write(_) => {
+            append_call_at(text, call, " is a write, begun at line ", line)?;
+            append(text, ": its answer has no \"value\"\n")
+        }
     }
 }
 
@@ -154,8 +140,8 @@ fn append_unasked(text: &mut Vec<u8>, earlier: &EarlierRows<'_>, call: u64) -> R
 {
     match earlier.last_place(Sought::Answered(call)) {
         Some(place) => {
-            let line = earlier.line_at(place);
-            append_call_line(text, call, " was answered at line ", line, "\n")
+            append_call_at(text, call, " was answered at line ", earlier.line_at(place))?;
+            append(text, "\n")
         }
         None => {
             append_unbegun(text, call)?;
