@@ -1,6 +1,7 @@
 //! Which call a caller makes at a turn.
-ghost use Rattle.std.specs.Prelude.{◌≡◌, ◌<◌, ◌≤◌, IfOk, length, string_bytes};
+ghost use Rattle.std.specs.Prelude.{◌≡◌, ◌<◌, ◌≤◌, true, IfOk, length, string_bytes};
 ghost use Rattle.tag.specs.Limits.{value_limit};
+ghost use Rattle.tag.specs.Names.{is_key};
 ghost use Rattle.run_options.specs.Loads.{load_limits};
 ghost use Rattle.run_options.specs.Turns.{action_at, key_at, key_number, key_text, value_text, writes};
 
@@ -45,12 +46,13 @@ fn writes(turn: Turn) -> bool
     (round + u64::from(turn.caller)) % 2 == 0
 }
 
-/// The key of that number.
-fn key_of(alloc: Global, number: u8) -> Result<Key, Memory>
+/// The text of the key of that number.
+fn key_text(number: u8) -> &'static str
     requires { number < load_limits.keys }
-    ensures { IfOk result (λ key. key ≡ key_text number) }
+    ensures text { result.now ≡ key_text number }
+    ensures lawful { is_key result.now ≡ true }
 {
-    let text = match number {
+    match number {
         0 => "k0",
         1 => "k1",
         2 => "k2",
@@ -59,8 +61,15 @@ fn key_of(alloc: Global, number: u8) -> Result<Key, Memory>
         5 => "k5",
         6 => "k6",
         _ => "k7",
-    };
-    match Key::new(alloc, text) {
+    }
+}
+
+/// The key of that number.
+fn key_of(alloc: Global, number: u8) -> Result<Key, Memory>
+    requires { number < load_limits.keys }
+    ensures { IfOk result (λ key. key ≡ key_text number) }
+{
+    match Key::new(alloc, key_text(number)) {
         Ok(key) => Ok(key),
         Err(NameError::Memory) => Err(Memory),
         Err(_) => unreachable!(),
