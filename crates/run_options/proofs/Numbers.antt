@@ -13,7 +13,7 @@ same_text rows name a b first second = same_Some a b (sym first ∙ second)
 -- what stands after an option is one number
 pub one_number : (rows : List Row) (name : Text) (a b c d m n : ℕ) → AsksNumber rows name a b m → AsksNumber rows name c d n → m ≡ n
 one_number rows name a b c d m n first second =
-    sym first.value ∙ subst (λ (t : Text). digits_value 10 (without_leading_plus t) ≡ n) (same_text rows name second.text first.text second.given first.given) second.value
+    sym first.is.value ∙ subst (λ (t : Text). digits_value 10 (without_leading_plus t) ≡ n) (same_text rows name second.text first.text second.given first.given) second.is.value
 
 -- an error that is passed on says that nothing is asked for
 pub missed : {X : Type 0} (Q : RunFault → Type 0) (r : Result X RunFault) (Asks : X → Type 0) → IsErrAnd r Q → ((x : X) → Asks x → ⊥) → MatchResult r Asks (IsMissed Asks)

@@ -31,6 +31,13 @@ abbrev pub mode_text : ReadMode → Text
 mode_text Full = codes "full"
 mode_text Short = codes "short"
 
+-- the text is that number, which is within the range
+pub record IsNumberWithin (text : Text) (least most number : ℕ) : Type 0 where
+  pub is_numeral : IsNumeral 10 (without_leading_plus text)
+  pub value : digits_value 10 (without_leading_plus text) ≡ number
+  pub from : least ≤ number
+  pub upto : number ≤ most
+
 -- the text has a digit from 1 to 9 for each of the votes
 pub record AreDigits (text : Text) (votes : List ℕ) : Type 0 where
   pub spelled : text ≡ map (λ v. 48 + v) votes
@@ -52,10 +59,7 @@ module _ (rows : List Row) where
   pub record AsksNumber (name : Text) (least most number : ℕ) : Type 0 where
     pub text : Text
     pub given : first_of name rows ≡ Some text
-    pub is_numeral : IsNumeral 10 (without_leading_plus text)
-    pub value : digits_value 10 (without_leading_plus text) ≡ number
-    pub from : least ≤ number
-    pub upto : number ≤ most
+    pub is : IsNumberWithin text least most number
 
   -- what stands after --reads is the text of that read mode
   abbrev pub AsksReads : ReadMode → Type 0
