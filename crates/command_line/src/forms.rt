@@ -1,12 +1,13 @@
 //! The commands of `abd`, as clap takes them.
 ghost use Rattle.std.specs.Prelude.{◌≡◌, false, codes, IfOk};
-ghost use Rattle.clap.specs.Words.{App, app_of, new_rule, rule_of, with_subcommand};
+ghost use Rattle.clap.specs.Words.{App, app_of, new_app, new_rule, rule_of, with_subcommand};
 ghost use Rattle.clap.specs.declared.builder.command.Command.TheViews.{out-Command as fields_of};
 ghost use Rattle.command_line.specs.Forms.{abd_app, bare_app, check_app, draw_app, explain_app, file_app};
 ghost use Rattle.command_line.specs.Forms.{flag, justify_app, keys_app, number_option, required_argument};
 ghost use Rattle.command_line.specs.Forms.{simulate_app, trace_app, value_option};
 
 use crate::help;
+use crate::help::CommandHelp;
 use clap::builder::ValueParser;
 use clap::{Arg, ArgAction, Command, value_parser};
 use run_options::run_words;
@@ -67,12 +68,21 @@ fn orders_argument<'a>(alloc: Global) -> Arg<'a>
     Arg::new(alloc, "ORDERS").help(help::ORDERS)
 }
 
+/// A command of that name, with what help says of it, and no words yet.
+fn command_of<'a>(alloc: Global, name: &'a str, says: CommandHelp) -> Command<'a>
+    ensures app { app_of result ≡ new_app name.entry.now }
+    ensures local { (fields_of result).has_globals ≡ false }
+{
+    Command::new(alloc, name)
+        .about(says.about)
+        .after_help(says.after)
+}
+
 /// A command that reads one file: `abd NAME FILE`.
 fn file_words<'a>(
     alloc: Global,
     name: &'a str,
-    about: &'a str,
-    after: &'a str,
+    says: CommandHelp,
     file: &'a str,
     told: &'a str,
 ) -> Result<Command<'a>, AllocError>
@@ -80,8 +90,7 @@ fn file_words<'a>(
     ensures local { IfOk result (λ words. (fields_of words).has_globals ≡ false) }
 {
     let argument = required_argument(alloc, file, told);
-    let command = Command::new(alloc, name).about(about).after_help(after);
-    command.arg(argument)
+    command_of(alloc, name, says).arg(argument)
 }
 
 /// `abd check HISTORY ORDERS [--workers N] [--json]`.
@@ -89,8 +98,7 @@ fn check_words<'a>(alloc: Global) -> Result<Command<'a>, AllocError>
     ensures app { IfOk result (λ words. app_of words ≡ check_app) }
     ensures local { IfOk result (λ words. (fields_of words).has_globals ≡ false) }
 {
-    let about = "Check, key by key, whether the orders show that the history is atomic";
-    let check = file_words(alloc, "check", about, help::CHECK, "HISTORY", help::HISTORY)?;
+    let check = file_words(alloc, "check", help::CHECK, "HISTORY", help::HISTORY)?;
     let check = check.arg(required_argument(alloc, "ORDERS", help::ORDERS))?;
     let few = value_parser!(u8).range(1..17);
     let check = check.arg(number_option(alloc, "workers", "1", few, help::WORKERS))?;
@@ -101,15 +109,14 @@ fn check_words<'a>(alloc: Global) -> Result<Command<'a>, AllocError>
 fn keys_words<'a>(
     alloc: Global,
     name: &'a str,
-    about: &'a str,
-    after: &'a str,
+    says: CommandHelp,
     key: &'a str,
     most: &'a str,
 ) -> Result<Command<'a>, AllocError>
     ensures app { IfOk result (λ words. app_of words ≡ keys_app name.entry.now) }
     ensures local { IfOk result (λ words. (fields_of words).has_globals ≡ false) }
 {
-    let words = file_words(alloc, name, about, after, "HISTORY", help::HISTORY)?;
+    let words = file_words(alloc, name, says, "HISTORY", help::HISTORY)?;
     let words = words.arg(orders_argument(alloc))?;
     let words = words.arg(value_option(alloc, "key", "KEY", key))?;
     let few = value_parser!(u16).range(0..10001);
@@ -121,9 +128,7 @@ fn draw_words<'a>(alloc: Global) -> Result<Command<'a>, AllocError>
     ensures app { IfOk result (λ words. app_of words ≡ draw_app) }
     ensures local { IfOk result (λ words. (fields_of words).has_globals ≡ false) }
 {
-    let about = "Draw, key by key, when each call ran, and the order of the calls or what is wrong";
-    let (key, most) = (help::DRAWN_KEY, help::PICTURES);
-    let draw = keys_words(alloc, "draw", about, help::DRAW, key, most)?;
+    let draw = keys_words(alloc, "draw", help::DRAW, help::DRAWN_KEY, help::PICTURES)?;
     let few = value_parser!(u16).range(1..10001);
     let draw = draw.arg(number_option(alloc, "calls", "200", few, help::CALLS))?;
     let call = value_parser!(u32).range(0..4_294_967_296);
@@ -135,15 +140,7 @@ fn explain_words<'a>(alloc: Global) -> Result<Command<'a>, AllocError>
     ensures app { IfOk result (λ words. app_of words ≡ explain_app) }
     ensures local { IfOk result (λ words. (fields_of words).has_globals ≡ false) }
 {
-    let about = "Say, key by key, why orders are refused, or without orders the tags of the calls";
-    keys_words(
-        alloc,
-        "explain",
-        about,
-        help::EXPLAIN,
-        help::KEY,
-        help::MOST,
-    )
+    keys_words(alloc, "explain", help::EXPLAIN, help::KEY, help::MOST)
 }
 
 /// `abd justify HISTORY [--unchecked]`.
@@ -151,9 +148,7 @@ fn justify_words<'a>(alloc: Global) -> Result<Command<'a>, AllocError>
     ensures app { IfOk result (λ words. app_of words ≡ justify_app) }
     ensures local { IfOk result (λ words. (fields_of words).has_globals ≡ false) }
 {
-    let about = "Make from the notes an order of each key's calls, check it, and write the orders";
-    let history = "The recorded calls, with their notes: a history file";
-    let justify = file_words(alloc, "justify", about, help::JUSTIFY, "HISTORY", history)?;
+    let justify = file_words(alloc, "justify", help::JUSTIFY, "HISTORY", help::NOTED)?;
     justify.arg(flag(alloc, "unchecked", help::UNCHECKED))
 }
 
@@ -162,15 +157,7 @@ fn simulate_words<'a>(alloc: Global) -> Result<Command<'a>, AllocError>
     ensures app { IfOk result (λ words. app_of words ≡ simulate_app) }
     ensures local { IfOk result (λ words. (fields_of words).has_globals ≡ false) }
 {
-    let about = "Run a script of calls and faults, and write the history of its run";
-    file_words(
-        alloc,
-        "simulate",
-        about,
-        help::SIMULATE,
-        "SCRIPT",
-        help::SCRIPT,
-    )
+    file_words(alloc, "simulate", help::SIMULATE, "SCRIPT", help::SCRIPT)
 }
 
 /// `abd trace SCRIPT [--most N] [--draw]`.
@@ -178,9 +165,7 @@ fn trace_words<'a>(alloc: Global) -> Result<Command<'a>, AllocError>
     ensures app { IfOk result (λ words. app_of words ≡ trace_app) }
     ensures local { IfOk result (λ words. (fields_of words).has_globals ≡ false) }
 {
-    let about =
-        "Run a script of calls and faults, and tell each step of its run, or draw its messages";
-    let trace = file_words(alloc, "trace", about, help::TRACE, "SCRIPT", help::SCRIPT)?;
+    let trace = file_words(alloc, "trace", help::TRACE, "SCRIPT", help::SCRIPT)?;
     let many = value_parser!(u32).range(0..4_294_967_296);
     let trace = trace.arg(value_option(alloc, "most", "N", help::LINES).value_parser(many))?;
     trace.arg(flag(alloc, "draw", help::MESSAGES))
@@ -190,12 +175,8 @@ fn trace_words<'a>(alloc: Global) -> Result<Command<'a>, AllocError>
 fn bare_words<'a>(alloc: Global) -> Command<'a>
     ensures { app_of result ≡ bare_app }
 {
-    Command::new(alloc, "abd")
+    command_of(alloc, "abd", help::ABD)
         .version(help::VERSION)
-        .about(
-            "Simulates a register store, and makes and checks certificates that its record is atomic",
-        )
-        .after_help(help::ABD)
         .subcommand_required(true)
 }
 

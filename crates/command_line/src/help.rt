@@ -1,18 +1,33 @@
-//! What help says of the commands, after what clap says of their words.
+//! What help says of the commands, beside what clap says of their words.
+
+/// What help says of a command.
+#[derive(Clone, Copy)]
+pub struct CommandHelp {
+    /// Above its words: what it does.
+    pub about: &'static str,
+    /// Below them.
+    pub after: &'static str,
+}
 
 /// The version that `abd --version` says.
 pub const VERSION: &str = "0.2.0";
 
 /// Of `abd`.
-pub const ABD: &str =
-    "A file name may be /dev/stdin, for what is piped in. Files, scripts, messages and \
+pub const ABD: CommandHelp = CommandHelp {
+    about: "Simulates a register store, and makes and checks certificates that its record is atomic",
+    after: "\
+A file name may be /dev/stdin, for what is piped in. Files, scripts, messages and \
 limits: docs/FORMATS.md.\n\nExample:\n  \
 abd simulate examples/new_then_old.script > made.history\n  \
 abd justify made.history > made.orders\n  \
-abd check made.history made.orders";
+abd check made.history made.orders",
+};
 
 /// Of a history file.
 pub const HISTORY: &str = "The recorded calls: a history file";
+
+/// Of a history file whose notes are read.
+pub const NOTED: &str = "The recorded calls, with their notes: a history file";
 
 /// Of an order file.
 pub const ORDERS: &str = "For each key an order of its calls: an order file";
@@ -27,12 +42,15 @@ pub const WORKERS: &str = "How many threads check the orders, 1 to 16; the lines
 pub const JSON: &str = "Print each line as an object of JSON, for programs";
 
 /// Of `abd check`.
-pub const CHECK: &str =
-    "Prints one line a key, `KEY: yes` or `KEY: no` and the fault, keys hall by hall, in each in the \
+pub const CHECK: CommandHelp = CommandHelp {
+    about: "Check, key by key, whether the orders show that the history is atomic",
+    after: "\
+Prints one line a key, `KEY: yes` or `KEY: no` and the fault, keys hall by hall, in each in the \
 order in which the history first sees them, then those that only the orders have. HISTORY is of version 1 or 2. One \
 of the files may be /dev/stdin, for what is piped in.\nExit status: 0 all yes, 1 a key refused, 2 usage, 3 a file \
 can't be opened or read as its format, 4 memory, a device or a thread.\n\n\
-Example: abd check examples/two_calls.history examples/two_calls.orders";
+Example: abd check examples/two_calls.history examples/two_calls.orders",
+};
 
 /// Of the option `--key` of `abd draw`.
 pub const DRAWN_KEY: &str = "The only key to draw";
@@ -48,14 +66,17 @@ pub const CALLS: &str =
 pub const AROUND: &str = "The number of a call: the calls around it are shown";
 
 /// Of `abd draw`.
-pub const DRAW: &str =
-    "Writes one page of HTML, for any browser, with all pictures in it: a table of the keys, refused ones first, and \
+pub const DRAW: CommandHelp = CommandHelp {
+    about: "Draw, key by key, when each call ran, and the order of the calls or what is wrong",
+    after: "\
+Writes one page of HTML, for any browser, with all pictures in it: a table of the keys, refused ones first, and \
 for each key a picture with a lane a client and a bar a call, from its invocation to its response. A `yes` has a point \
 in each bar, in the order that shows it; a `no` has its calls marked, below the sentences of `abd explain`. Without \
 ORDERS the orders that the tags make are drawn. HISTORY is of version 1 or 2. One of the files may be /dev/stdin, for \
 what is piped in.\nExit status: 0 all yes, 1 a key refused or no such key, 2 usage, 3 a file can't be opened or read \
 as its format, 4 memory or a device.\n\n\
-Example: abd draw examples/two_calls.history examples/two_calls.orders > two_calls.html";
+Example: abd draw examples/two_calls.history examples/two_calls.orders > two_calls.html",
+};
 
 /// Of the option `--key` of `abd explain`.
 pub const KEY: &str = "The only key to explain";
@@ -64,31 +85,39 @@ pub const KEY: &str = "The only key to explain";
 pub const MOST: &str = "How many refused keys are explained, 0 to 10,000";
 
 /// Of `abd explain`.
-pub const EXPLAIN: &str =
-    "Prints for each key the line of `abd check`, and under a `no` the reason: each call that matters, with its \
+pub const EXPLAIN: CommandHelp = CommandHelp {
+    about: "Say, key by key, why orders are refused, or without orders the tags of the calls",
+    after: "\
+Prints for each key the line of `abd check`, and under a `no` the reason: each call that matters, with its \
 client, what it did, the lines of HISTORY on which it began, was noted and was answered, its place in the order, and \
 what would have been right. Without ORDERS the tags of the calls are judged: `KEY: yes` where they are sound, and else \
 `KEY: no tags`, the first rule that they break, and a hint at what to look for in a store. HISTORY is of version 1 \
 or 2. One of the files may be /dev/stdin, for what is piped in.\nExit status: 0 all yes, 1 a key refused or no such \
 key, 2 usage, 3 a file can't be opened or read as its format, 4 memory or a device.\n\n\
-Example: abd explain examples/two_calls.history examples/two_calls_refused.orders";
+Example: abd explain examples/two_calls.history examples/two_calls_refused.orders",
+};
 
 /// Of the option `--unchecked`.
 pub const UNCHECKED: &str = "Write the orders that the tags make, without checking them";
 
 /// Of `abd justify`.
-pub const JUSTIFY: &str =
-    "Writes an order file, for `abd check`, keys hall by hall, in each in the order in which the \
+pub const JUSTIFY: CommandHelp = CommandHelp {
+    about: "Make from the notes an order of each key's calls, check it, and write the orders",
+    after: "\
+Writes an order file, for `abd check`, keys hall by hall, in each in the order in which the \
 history first sees them. HISTORY is of version 1 or 2. Where a key has no such order it writes nothing, and says the \
 first such key on standard error. With --unchecked it leaves out only the keys with a completed call that has no \
 note, and says each on standard error; `abd check` and `abd explain` then show what is wrong with the other orders. \
 HISTORY may be /dev/stdin, for what is piped in.\nExit status: 0 written, 1 a key has no order, 2 usage, 3 the file \
 can't be opened or read as its format, 4 memory or a device.\n\n\
-Example: abd justify examples/new_then_old.history";
+Example: abd justify examples/new_then_old.history",
+};
 
 /// Of `abd simulate`.
-pub const SIMULATE: &str =
-    "The commands of a script, one a line (a line that begins with # says nothing):\n  \
+pub const SIMULATE: CommandHelp = CommandHelp {
+    about: "Run a script of calls and faults, and write the history of its run",
+    after: "\
+The commands of a script, one a line (a line that begins with # says nothing):\n  \
 replicas N [CALLS [MESSAGES]]  how many there are; the first command\n  \
 reads full, reads short        whether each read writes back\n  \
 votes V .. ask A put P         quorums by votes; majorities if missing\n  \
@@ -105,7 +134,8 @@ random SEED COUNT              up to COUNT random steps\n\
 SCRIPT may be /dev/stdin, for what is piped in.\n\n\
 Writes a history file, for `abd justify` and `abd check`. A message on standard error says which line was refused and \
 why, and how many random steps were taken.\nExit status: 0 written, 2 usage, 3 the script can't be opened or has a \
-fault, 4 memory or a device.\n\nExample: abd simulate examples/new_then_old.script";
+fault, 4 memory or a device.\n\nExample: abd simulate examples/new_then_old.script",
+};
 
 /// Of the option `--most` of `abd trace`.
 pub const LINES: &str =
@@ -117,8 +147,10 @@ pub const MESSAGES: &str =
     "Write a page of HTML: a diagram of the messages, and the history's pictures";
 
 /// Of `abd trace`.
-pub const TRACE: &str =
-    "Prints one line a step: the script's line, who took the step, and what came of it, or why it was refused. The \
+pub const TRACE: CommandHelp = CommandHelp {
+    about: "Run a script of calls and faults, and tell each step of its run, or draw its messages",
+    after: "\
+Prints one line a step: the script's line, who took the step, and what came of it, or why it was refused. The \
 steps are those of `abd simulate`, whose help says the commands of a script; those of `finish` and `random` stand \
 below the line of their command, and a line says how many were taken. A last line says how many lines were left out, \
 if some were.\n\nWith --draw it writes one page of HTML, for any browser: time goes down, a row a step, with a line \
@@ -126,4 +158,5 @@ for each client and each replica, an arrow for each message, and what each repli
 lines, and the pictures of the history of the run, as `abd draw` makes them without ORDERS. SCRIPT may be \
 /dev/stdin, for what is piped in.\nExit status: 0 told, 2 usage, 3 the script can't be opened or has a fault, 4 \
 memory or a device.\n\n\
-Examples:\n  abd trace examples/new_then_old.script\n  abd trace examples/new_then_old.script --draw > page.html";
+Examples:\n  abd trace examples/new_then_old.script\n  abd trace examples/new_then_old.script --draw > page.html",
+};
