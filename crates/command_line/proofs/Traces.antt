@@ -3,7 +3,7 @@ use Rattle.std.proofs.Common.{ℕ, ◌≡◌, Option, Some, None, is_none, optio
 use Rattle.std.specs.Borrow.{Bor}
 use Rattle.clap.specs.Words.{first_of, Row, Text}
 use Rattle.tag.proofs.Options.{none_some}
-use Rattle.command_line.specs.Forms.{most_told}
+use Rattle.command_line.specs.Forms.{most_asked}
 use Rattle.command_line.specs.Words.{AsksMost, AsksNumber, AsksTrace, AsksTracePage, GivesFlag, Makes, MakesAs}
 use Rattle.command_line.specs.declared.asked.Command.{Command}
 use Rattle.command_line.proofs.CommandNames.{by_name, differ}
@@ -36,7 +36,7 @@ module _ (rows : List Row) where
   no_steps drawn none = not_trace (λ script most asks. asks.told drawn) (λ script most asks. none asks.asked asks.steps)
 
   -- no number is asked for by the option, which is there
-  pub no_most : (default : ℕ) → ((most : ℕ) → AsksNumber rows (codes "most") 0 most_told most → ⊥) → (first_of (codes "most") rows ≡ None → ⊥)
+  pub no_most : (default : ℕ) → ((most : ℕ) → AsksNumber rows (codes "most") 0 most_asked most → ⊥) → (first_of (codes "most") rows ≡ None → ⊥)
       → (most : ℕ) → AsksMost rows default most → ⊥
   no_most default none some most (inl asks) = none most asks
   no_most default none some most (inr missing) = some missing.0

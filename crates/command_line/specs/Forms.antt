@@ -7,17 +7,13 @@ use Rattle.clap.specs.declared.builder.value_parser.ValueParser.TheVariants as p
 use Rattle.parallel_keys.specs.Workers.{worker_limit}
 use Rattle.run_options.specs.Options.{run_app}
 
--- the most keys that may be explained or drawn
-abbrev pub most_explained : ℕ
-most_explained = 10000
+-- the most keys that are explained or drawn, and calls or steps that are drawn
+abbrev pub most_shown : ℕ
+most_shown = 10000
 
--- the most lines of a trace that may be told
-abbrev pub most_told : ℕ
-most_told = 4294967295
-
--- the most steps that a page of a trace draws
-abbrev pub most_drawn : ℕ
-most_drawn = 10000
+-- the greatest number of a call, of lines or of steps that may be asked for
+abbrev pub most_asked : ℕ
+most_asked = 4294967295
 
 -- an argument that has to be there
 abbrev pub required_argument : Text → Rule
@@ -40,6 +36,10 @@ abbrev pub number_option : Text → Text → ValueParser → Rule
 number_option name default numbers =
     record (value_option name) { defaults = default ∷ []; parser = Some numbers }
 
+-- an option --name N without a default, whatever the number
+abbrev pub any_number_option : Text → Rule
+any_number_option name = record (value_option name) { parser = Some (within 0 most_asked) }
+
 -- a command that reads one file: abd NAME FILE
 abbrev pub file_app : Text → Text → App
 file_app name file = with_rule (new_app name) (required_argument file)
@@ -54,25 +54,13 @@ check_app = with_rule (with_rule (with_rule (file_app (codes "check") (codes "HI
 abbrev pub keys_app : Text → App
 keys_app name = with_rule (with_rule (with_rule (file_app name (codes "HISTORY"))
     (new_rule (codes "ORDERS"))) (value_option (codes "key")))
-    (number_option (codes "most") (codes "20") (within 0 most_explained))
-
--- the most calls of a key that may be shown
-abbrev pub most_shown : ℕ
-most_shown = 10000
-
--- the greatest number of a call that may be named
-abbrev pub most_named : ℕ
-most_named = 4294967295
-
--- an option --name CALL, the number of a call
-abbrev call_option : Text → Rule
-call_option name = record (value_option name) { parser = Some (within 0 most_named) }
+    (number_option (codes "most") (codes "20") (within 0 most_shown))
 
 -- abd draw HISTORY [ORDERS] [--key KEY] [--most N] [--calls N] [--around CALL]
 abbrev pub draw_app : App
 draw_app = with_rule (with_rule (keys_app (codes "draw"))
     (number_option (codes "calls") (codes "200") (within 1 most_shown)))
-    (call_option (codes "around"))
+    (any_number_option (codes "around"))
 
 -- abd explain HISTORY [ORDERS] [--key KEY] [--most N]
 abbrev pub explain_app : App
@@ -86,14 +74,10 @@ justify_app = with_rule (file_app (codes "justify") (codes "HISTORY")) (flag (co
 abbrev pub simulate_app : App
 simulate_app = file_app (codes "simulate") (codes "SCRIPT")
 
--- an option --name N, how many lines are told or steps are drawn
-abbrev many_option : Text → Rule
-many_option name = record (value_option name) { parser = Some (within 0 most_told) }
-
 -- abd trace SCRIPT [--most N] [--draw]
 abbrev pub trace_app : App
 trace_app = with_rule (with_rule (file_app (codes "trace") (codes "SCRIPT"))
-    (many_option (codes "most"))) (flag (codes "draw"))
+    (any_number_option (codes "most"))) (flag (codes "draw"))
 
 -- abd by itself, which has a version and needs a command
 abbrev pub bare_app : App

@@ -9,8 +9,7 @@ use Rattle.clap.specs.declared.error.kind.ErrorKind.TheVariants.{DisplayHelp, Di
 use Rattle.clap.specs.declared.error.kind.ErrorKind.TheVariants.{OutOfMemory}
 use Rattle.parallel_keys.specs.Workers.{worker_limit}
 use Rattle.run_options.specs.RunWords.{AsksRun}
-use Rattle.command_line.specs.Forms.{abd_app, most_drawn, most_explained, most_named, most_shown}
-use Rattle.command_line.specs.Forms.{most_told}
+use Rattle.command_line.specs.Forms.{abd_app, most_asked, most_shown}
 use Rattle.command_line.specs.declared.asked.Command.{Command}
 use Rattle.command_line.specs.declared.asked.ExplainAsked.{ExplainAsked}
 use Rattle.command_line.specs.declared.asked.Command.TheVariants.{Check, Draw, Explain, Justify}
@@ -59,12 +58,12 @@ pub record AsksExplanation (rows : List Row) (asked : ExplainAsked) : Type 0 whe
   pub history : first_of (codes "HISTORY") rows ≡ Some asked.history.now
   pub orders : first_of (codes "ORDERS") rows ≡ option_map (λ s. s.now) asked.orders
   pub key : first_of (codes "key") rows ≡ option_map (λ s. s.now) asked.key
-  pub most : AsksNumber rows (codes "most") 0 most_explained asked.most
+  pub most : AsksNumber rows (codes "most") 0 most_shown asked.most
 
 -- the words give a call's number after `--around`, or have no such option
 abbrev pub AsksAround : List Row → Option ℕ → Type 0
 AsksAround rows None = first_of (codes "around") rows ≡ None
-AsksAround rows (Some call) = AsksNumber rows (codes "around") 0 most_named call
+AsksAround rows (Some call) = AsksNumber rows (codes "around") 0 most_asked call
 
 -- the files, the key and how many keys are drawn
 abbrev pub drawn_keys : DrawAsked → ExplainAsked
@@ -84,7 +83,7 @@ pub record AsksDrawing (rows : List Row) (asked : DrawAsked) : Type 0 where
 
 -- the words ask for so many by `--most`, or for so many where they have no such option
 abbrev pub AsksMost : List Row → ℕ → ℕ → Type 0
-AsksMost rows default most = AsksNumber rows (codes "most") 0 most_told most
+AsksMost rows default most = AsksNumber rows (codes "most") 0 most_asked most
     ⊎ ((first_of (codes "most") rows ≡ None) × (most ≡ default))
 
 -- the words after `trace` name the script, and ask for so many lines of it
@@ -100,7 +99,7 @@ pub record AsksTracePage (rows : List Row) (script : Text) (most : ℕ) : Type 0
   pub script_named : first_of (codes "SCRIPT") rows ≡ Some script
   pub asked : ℕ
   pub steps : AsksMost rows 1000 asked
-  pub few : most ≡ min asked most_drawn
+  pub few : most ≡ min asked most_shown
 
 -- the words after the command's name make it that command
 abbrev pub Makes : List Row → Command → Type 0

@@ -2,9 +2,10 @@
 ghost use Rattle.std.specs.Prelude.{◌≡◌, false, codes, IfOk};
 ghost use Rattle.clap.specs.Words.{App, app_of, new_app, new_rule, rule_of, with_subcommand};
 ghost use Rattle.clap.specs.declared.builder.command.Command.TheViews.{out-Command as fields_of};
-ghost use Rattle.command_line.specs.Forms.{abd_app, bare_app, check_app, draw_app, explain_app, file_app};
-ghost use Rattle.command_line.specs.Forms.{flag, justify_app, keys_app, number_option, required_argument};
-ghost use Rattle.command_line.specs.Forms.{simulate_app, trace_app, value_option};
+ghost use Rattle.command_line.specs.Forms.{abd_app, any_number_option, bare_app, check_app, draw_app};
+ghost use Rattle.command_line.specs.Forms.{explain_app, file_app, flag, justify_app, keys_app};
+ghost use Rattle.command_line.specs.Forms.{number_option, required_argument, simulate_app, trace_app};
+ghost use Rattle.command_line.specs.Forms.{value_option};
 
 use crate::help;
 use crate::help::CommandHelp;
@@ -58,6 +59,15 @@ fn number_option<'a>(
     value_option(alloc, name, "N", help)
         .default_value(default)
         .value_parser(numbers)
+}
+
+/// An option whose value is any number of 32 bits, and that has no default.
+fn any_number_option<'a>(alloc: Global, name: &'a str, value: &'a str, help: &'a str) -> Arg<'a>
+    ensures rule { rule_of result ≡ any_number_option name.entry.now }
+    ensures local { result.global ≡ false }
+{
+    let numbers = value_parser!(u32).range(0..4_294_967_296);
+    value_option(alloc, name, value, help).value_parser(numbers)
 }
 
 /// The order file where it may be missing.
@@ -131,8 +141,7 @@ fn draw_words<'a>(alloc: Global) -> Result<Command<'a>, AllocError>
     let draw = keys_words(alloc, "draw", help::DRAW, help::DRAWN_KEY, help::PICTURES)?;
     let few = value_parser!(u16).range(1..10001);
     let draw = draw.arg(number_option(alloc, "calls", "200", few, help::CALLS))?;
-    let call = value_parser!(u32).range(0..4_294_967_296);
-    draw.arg(value_option(alloc, "around", "CALL", help::AROUND).value_parser(call))
+    draw.arg(any_number_option(alloc, "around", "CALL", help::AROUND))
 }
 
 /// `abd explain HISTORY [ORDERS] [--key KEY] [--most N]`.
@@ -166,8 +175,7 @@ fn trace_words<'a>(alloc: Global) -> Result<Command<'a>, AllocError>
     ensures local { IfOk result (λ words. (fields_of words).has_globals ≡ false) }
 {
     let trace = file_words(alloc, "trace", help::TRACE, "SCRIPT", help::SCRIPT)?;
-    let many = value_parser!(u32).range(0..4_294_967_296);
-    let trace = trace.arg(value_option(alloc, "most", "N", help::LINES).value_parser(many))?;
+    let trace = trace.arg(any_number_option(alloc, "most", "N", help::LINES))?;
     trace.arg(flag(alloc, "draw", help::MESSAGES))
 }
 

@@ -3,7 +3,7 @@ use Rattle.std.proofs.Common.{ℕ, ◌≡◌, Option, Some, None, is_none, optio
 use Rattle.std.specs.Borrow.{Bor}
 use Rattle.clap.specs.Words.{Row, Text, first_of, found_of, rows_of}
 use Rattle.clap.proofs.WalkLemmas.{first_value-rows}
-use Rattle.command_line.specs.Forms.{most_named}
+use Rattle.command_line.specs.Forms.{most_asked}
 use Rattle.command_line.specs.Words.{AsksAround, AsksNumber}
 use Rattle.command_line.proofs.words.around_in.Goals as goal
 
@@ -15,7 +15,7 @@ some_there : (o : Option (Bor Text)) → is_none o ≡ false → option_map (λ 
 some_there None is same = cc
 some_there (Some s) is same = cc
 
-no_call : (rows : List Row) → ((call : ℕ) → AsksNumber rows (codes "around") 0 most_named call → ⊥) → (first_of (codes "around") rows ≡ None → ⊥) → (around : Option ℕ) → AsksAround rows around → ⊥
+no_call : (rows : List Row) → ((call : ℕ) → AsksNumber rows (codes "around") 0 most_asked call → ⊥) → (first_of (codes "around") rows ≡ None → ⊥) → (around : Option ℕ) → AsksAround rows around → ⊥
 no_call rows none some None is = some is
 no_call rows none some (Some call) asks = none call asks
 
