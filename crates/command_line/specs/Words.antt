@@ -1,7 +1,7 @@
 -- What the words of a command line ask for, by clap's reading of a simple command.
 use Rattle.std.specs.Prelude.{ℕ, ◌≡◌, ◌≤◌, ◌⊎◌, ◌↔◌, Bool, IsTrue, List, []}
 use Rattle.std.specs.Prelude.{Option, Some, None, codes}
-use Rattle.std.specs.Prelude.{min, option_map}
+use Rattle.std.specs.Prelude.{MatchOption, min, option_map}
 use Rattle.std.specs.Str.Parse.{IsNumeral, digits_value, without_leading_plus}
 use Rattle.clap.specs.Words.{IsAmong, Row, Text, fault_of, first_of, one_of, subcommand_of}
 use Rattle.clap.specs.declared.error.kind.ErrorKind.{ErrorKind}
@@ -19,6 +19,10 @@ use Rattle.command_line.specs.declared.lines.Lines.{Lines}
 use Rattle.command_line.specs.declared.lines.Lines.TheVariants as form
 use Rattle.command_line.specs.declared.asked.Usage.{Usage}
 use Rattle.command_line.specs.declared.asked.Usage.TheVariants as usage
+
+-- the answer is one that fits, or none if none does
+abbrev pub Finds : {X : Type 0} → Option X → (X → Type 0) → Type 0
+Finds {X} found Fits = MatchOption found ((x : X) → Fits x → ⊥) Fits
 
 -- the files that the words after `check` name
 pub record NamesFiles (rows : List Row) (history orders : Text) : Type 0 where

@@ -1,12 +1,11 @@
 //! The words of a command line.
-ghost use Rattle.std.specs.Prelude.{ℕ, ◌≡◌, ◌↔◌, IsTrue, codes, IfOk, IfErr, MatchOption, MatchResult};
-ghost use Rattle.std.specs.Prelude.{Option, map, string_bytes};
-ghost use Rattle.clap.specs.Words.{found_of, kind_of, rows_of, subcommand_rows_of};
-ghost use Rattle.command_line.specs.Words.{Asks, AsksAround, AsksExplanation, AsksForm, AsksNothing};
-ghost use Rattle.command_line.specs.Words.{AsksMost, AsksNumber, GivesFlag, IsUsageOf, MakesAs};
-ghost use Rattle.command_line.specs.Words.{MakesNothing, MakesOf};
+ghost use Rattle.std.specs.Prelude.{◌≡◌, ◌↔◌, IsTrue, codes, IfOk, IfErr, MatchResult};
+ghost use Rattle.std.specs.Prelude.{map, option_map, string_bytes};
+ghost use Rattle.clap.specs.Words.{first_of, found_of, kind_of, rows_of, subcommand_rows_of};
+ghost use Rattle.command_line.specs.Words.{Asks, AsksAround, AsksExplanation, AsksForm, AsksMost};
+ghost use Rattle.command_line.specs.Words.{AsksNothing, AsksNumber, Finds, GivesFlag, IsUsageOf};
+ghost use Rattle.command_line.specs.Words.{MakesAs, MakesNothing, MakesOf};
 ghost use Rattle.command_line.specs.declared.asked.Command.{Command};
-ghost use Rattle.command_line.specs.declared.asked.ExplainAsked.{ExplainAsked};
 
 use crate::asked::{Command, DrawAsked, ExplainAsked, Usage};
 use crate::forms::abd_words;
@@ -50,11 +49,16 @@ fn form_in(matches: &ArgMatches<'_>) -> Lines
     }
 }
 
+/// The text of that name: what stands in an argument's place, or after an option.
+fn text_in<'a>(matches: &ArgMatches<'a>, name: &str) -> Option<&'a str>
+    ensures { option_map (λ text. text.now) result ≡ first_of name.now (rows_of (found_of matches.now)) }
+{
+    matches.get_str(name)
+}
+
 /// The number that the option of that name asks for, where it is within the range.
 fn number_in(matches: &ArgMatches<'_>, name: &str, least: u32, most: u32) -> Option<u32>
-    ensures { MatchOption result
-        ((number : ℕ) → AsksNumber (rows_of (found_of matches.now)) name.now least most number → ⊥)
-        (AsksNumber (rows_of (found_of matches.now)) name.now least most) }
+    ensures { Finds result (AsksNumber (rows_of (found_of matches.now)) name.now least most) }
 {
     let number = matches.get_one::<u32>(name)?;
     if number < least {
@@ -68,12 +72,10 @@ fn number_in(matches: &ArgMatches<'_>, name: &str, least: u32, most: u32) -> Opt
 
 /// `check`, of the words after its name.
 fn check_in<'a>(matches: &ArgMatches<'a>) -> Option<Command<'a>>
-    ensures { MatchOption result
-        ((command : Command) → MakesAs (codes "check") (rows_of (found_of matches.now)) command → ⊥)
-        (MakesAs (codes "check") (rows_of (found_of matches.now))) }
+    ensures { Finds result (MakesAs (codes "check") (rows_of (found_of matches.now))) }
 {
-    let history = matches.get_str("HISTORY")?;
-    let orders = matches.get_str("ORDERS")?;
+    let history = text_in(matches, "HISTORY")?;
+    let orders = text_in(matches, "ORDERS")?;
     let count = number_in(matches, "workers", 1, 16)?;
     let workers = Workers::new(count as u8)?;
     let form = form_in(matches);
@@ -87,11 +89,9 @@ fn check_in<'a>(matches: &ArgMatches<'a>) -> Option<Command<'a>>
 
 /// The number of the call that is named, if one is.
 fn around_in(matches: &ArgMatches<'_>) -> Option<Option<u32>>
-    ensures { MatchOption result
-        ((around : Option ℕ) → AsksAround (rows_of (found_of matches.now)) around → ⊥)
-        (AsksAround (rows_of (found_of matches.now))) }
+    ensures { Finds result (AsksAround (rows_of (found_of matches.now))) }
 {
-    if matches.get_str("around").is_none() {
+    if text_in(matches, "around").is_none() {
         return Some(None);
     }
     let call = number_in(matches, "around", 0, u32::MAX)?;
@@ -100,25 +100,21 @@ fn around_in(matches: &ArgMatches<'_>) -> Option<Option<u32>>
 
 /// The files, the key and how many keys are asked for by `explain` or `draw`.
 fn keys_in<'a>(matches: &ArgMatches<'a>) -> Option<ExplainAsked<'a>>
-    ensures { MatchOption result
-        ((asked : ExplainAsked) → AsksExplanation (rows_of (found_of matches.now)) asked → ⊥)
-        (AsksExplanation (rows_of (found_of matches.now))) }
+    ensures { Finds result (AsksExplanation (rows_of (found_of matches.now))) }
 {
-    let history = matches.get_str("HISTORY")?;
+    let history = text_in(matches, "HISTORY")?;
     let most = number_in(matches, "most", 0, 10000)?;
     Some(ExplainAsked {
         history,
-        orders: matches.get_str("ORDERS"),
-        key: matches.get_str("key"),
+        orders: text_in(matches, "ORDERS"),
+        key: text_in(matches, "key"),
         most: most as u16,
     })
 }
 
 /// `draw`, of the words after its name.
 fn draw_in<'a>(matches: &ArgMatches<'a>) -> Option<Command<'a>>
-    ensures { MatchOption result
-        ((command : Command) → MakesAs (codes "draw") (rows_of (found_of matches.now)) command → ⊥)
-        (MakesAs (codes "draw") (rows_of (found_of matches.now))) }
+    ensures { Finds result (MakesAs (codes "draw") (rows_of (found_of matches.now))) }
 {
     let keys = keys_in(matches)?;
     let calls = number_in(matches, "calls", 1, 10000)?;
@@ -135,10 +131,7 @@ fn draw_in<'a>(matches: &ArgMatches<'a>) -> Option<Command<'a>>
 
 /// `explain`, of the words after its name.
 fn explain_in<'a>(matches: &ArgMatches<'a>) -> Option<Command<'a>>
-    ensures { MatchOption result
-        ((command : Command) → MakesAs (codes "explain") (rows_of (found_of matches.now)) command
-        → ⊥)
-        (MakesAs (codes "explain") (rows_of (found_of matches.now))) }
+    ensures { Finds result (MakesAs (codes "explain") (rows_of (found_of matches.now))) }
 {
     let keys = keys_in(matches)?;
     Some(Command::Explain(keys))
@@ -146,78 +139,44 @@ fn explain_in<'a>(matches: &ArgMatches<'a>) -> Option<Command<'a>>
 
 /// `justify`, of the words after its name.
 fn justify_in<'a>(matches: &ArgMatches<'a>) -> Option<Command<'a>>
-    ensures { MatchOption result
-        ((command : Command) → MakesAs (codes "justify") (rows_of (found_of matches.now)) command
-        → ⊥)
-        (MakesAs (codes "justify") (rows_of (found_of matches.now))) }
+    ensures { Finds result (MakesAs (codes "justify") (rows_of (found_of matches.now))) }
 {
-    let history = matches.get_str("HISTORY")?;
+    let history = text_in(matches, "HISTORY")?;
     let unchecked = has_flag(matches, "unchecked");
     Some(Command::Justify { history, unchecked })
 }
 
 /// `simulate`, of the words after its name.
 fn simulate_in<'a>(matches: &ArgMatches<'a>) -> Option<Command<'a>>
-    ensures { MatchOption result
-        ((command : Command) → MakesAs (codes "simulate") (rows_of (found_of matches.now)) command
-        → ⊥)
-        (MakesAs (codes "simulate") (rows_of (found_of matches.now))) }
+    ensures { Finds result (MakesAs (codes "simulate") (rows_of (found_of matches.now))) }
 {
-    let script = matches.get_str("SCRIPT")?;
+    let script = text_in(matches, "SCRIPT")?;
     Some(Command::Simulate { script })
 }
 
 /// How many lines or steps are asked for; the default where the words don't say it.
 fn most_in(matches: &ArgMatches<'_>, default: u32) -> Option<u32>
-    ensures { MatchOption result
-        ((most : ℕ) → AsksMost (rows_of (found_of matches.now)) default most → ⊥)
-        (AsksMost (rows_of (found_of matches.now)) default) }
+    ensures { Finds result (AsksMost (rows_of (found_of matches.now)) default) }
 {
-    if matches.get_str("most").is_none() {
+    if text_in(matches, "most").is_none() {
         return Some(default);
     }
     let most = number_in(matches, "most", 0, u32::MAX)?;
     Some(most)
 }
 
-/// `trace` without `--draw`, of the words after its name.
-fn told_in<'a>(matches: &ArgMatches<'a>) -> Option<Command<'a>>
-    requires { GivesFlag (codes "draw") (rows_of (found_of matches.now)) → ⊥ }
-    ensures { MatchOption result
-        ((command : Command) → MakesAs (codes "trace") (rows_of (found_of matches.now)) command
-        → ⊥)
-        (MakesAs (codes "trace") (rows_of (found_of matches.now))) }
-{
-    let script = matches.get_str("SCRIPT")?;
-    let most = most_in(matches, 10_000)?;
-    Some(Command::Trace { script, most })
-}
-
-/// `trace` with `--draw`, of the words after its name.
-fn drawn_in<'a>(matches: &ArgMatches<'a>) -> Option<Command<'a>>
-    requires { GivesFlag (codes "draw") (rows_of (found_of matches.now)) }
-    ensures { MatchOption result
-        ((command : Command) → MakesAs (codes "trace") (rows_of (found_of matches.now)) command
-        → ⊥)
-        (MakesAs (codes "trace") (rows_of (found_of matches.now))) }
-{
-    let script = matches.get_str("SCRIPT")?;
-    let asked = most_in(matches, 1000)?;
-    let most = asked.min(10_000);
-    Some(Command::TracePage { script, most })
-}
-
 /// `trace`, of the words after its name.
 fn trace_in<'a>(matches: &ArgMatches<'a>) -> Option<Command<'a>>
-    ensures { MatchOption result
-        ((command : Command) → MakesAs (codes "trace") (rows_of (found_of matches.now)) command
-        → ⊥)
-        (MakesAs (codes "trace") (rows_of (found_of matches.now))) }
+    ensures { Finds result (MakesAs (codes "trace") (rows_of (found_of matches.now))) }
 {
+    let script = text_in(matches, "SCRIPT")?;
     if has_flag(matches, "draw") {
-        drawn_in(matches)
+        let asked = most_in(matches, 1000)?;
+        let most = asked.min(10_000);
+        Some(Command::TracePage { script, most })
     } else {
-        told_in(matches)
+        let most = most_in(matches, 10_000)?;
+        Some(Command::Trace { script, most })
     }
 }
 
@@ -247,9 +206,7 @@ fn fault_of(alloc: Global, fault: RunFault) -> Usage
 /// The command of that name, where it is one that reads files.
 fn made_in<'a>(name: &str, matches: &ArgMatches<'a>) -> Option<Command<'a>>
     requires { name.now ≡ codes "run" → ⊥ }
-    ensures { MatchOption result
-        ((command : Command) → MakesAs name.now (rows_of (found_of matches.now)) command → ⊥)
-        (MakesAs name.now (rows_of (found_of matches.now))) }
+    ensures { Finds result (MakesAs name.now (rows_of (found_of matches.now))) }
 {
     if name == "check" {
         check_in(matches)

@@ -1,7 +1,6 @@
--- The rows of the matches are what `get_str` and `number_in` read.
+-- The rows of the matches are what `text_in` and `number_in` read.
 use Rattle.std.proofs.Common.{ℕ, ◌≡◌, None, codes, List, refl, sym, subst, ◌∙◌}
 use Rattle.clap.specs.Words.{Row, Text, first_of, found_of, rows_of}
-use Rattle.clap.proofs.WalkLemmas.{first_value-rows}
 use Rattle.tag.proofs.Options.{none_some}
 use Rattle.command_line.specs.Words.{AsksWorkers, Makes, MakesAs, NamesFiles}
 use Rattle.command_line.specs.declared.asked.Command.{Command}
@@ -25,14 +24,10 @@ no_workers : (rows : List Row) → ((workers : ℕ) → AsksWorkers rows workers
 no_workers rows none = not_check rows (λ history orders workers named asks. none workers asks)
 
 pub returns-in_err-history : goal.returns-in_err-history
-returns-in_err-history c =
-    let found = found_of c.args.matches.now in
-    rw c.from_residual.ensures (no_history (rows_of found) (sym (first_value-rows found (codes "HISTORY")) ∙ sym c.in_err-history.ensures))
+returns-in_err-history c = rw c.from_residual.ensures (no_history (rows_of (found_of c.args.matches.now)) (sym c.in_err-history.ensures))
 
 pub returns-in_err-orders : goal.returns-in_err-orders
-returns-in_err-orders c =
-    let found = found_of c.args.matches.now in
-    rw c.from_residual-in_err-orders.ensures (no_orders (rows_of found) (sym (first_value-rows found (codes "ORDERS")) ∙ sym c.in_err-orders.ensures))
+returns-in_err-orders c = rw c.from_residual-in_err-orders.ensures (no_orders (rows_of (found_of c.args.matches.now)) (sym c.in_err-orders.ensures))
 
 pub returns-in_err-count : goal.returns-in_err-count
 returns-in_err-count c = rw c.from_residual-in_err-count.ensures (no_workers (rows_of (found_of c.args.matches.now)) c.in_err-count.ensures)
@@ -44,15 +39,11 @@ returns-in_err-workers c =
     let some = c.in_err-workers.ensures.some.1 (record { least = asks.from; most = asks.upto }) in absurd (cc)
 
 pub returns : goal.returns
-returns c =
-    let found = found_of c.args.matches.now in (
-      refl,
-      (
-        record {
-          history_named = sym (first_value-rows found (codes "HISTORY")) ∙ sym c.in_ok-history.ensures;
-          orders_named = sym (first_value-rows found (codes "ORDERS")) ∙ sym c.in_ok-orders.ensures;
-        },
-        subst (λ (n : ℕ). AsksWorkers (rows_of found) n) (sym c.in_ok-workers.ensures.value) c.in_ok-count.ensures,
-        c.form_in-form.ensures,
-      ),
-    )
+returns c = (
+  refl,
+  (
+    record { history_named = sym c.in_ok-history.ensures; orders_named = sym c.in_ok-orders.ensures },
+    subst (λ (n : ℕ). AsksWorkers (rows_of (found_of c.args.matches.now)) n) (sym c.in_ok-workers.ensures.value) c.in_ok-count.ensures,
+    c.form_in-form.ensures,
+  ),
+)

@@ -1,7 +1,6 @@
--- The rows of the matches are what `get_str` and `number_in` read.
+-- The rows of the matches are what `text_in` and `number_in` read.
 use Rattle.std.proofs.Common.{ℕ, ◌≡◌, None, codes, List, sym, ◌∙◌}
 use Rattle.clap.specs.Words.{Row, first_of, found_of, rows_of}
-use Rattle.clap.proofs.WalkLemmas.{first_value-rows}
 use Rattle.tag.proofs.Options.{none_some}
 use Rattle.command_line.specs.Forms.{most_shown}
 use Rattle.command_line.specs.Words.{AsksExplanation, AsksNumber}
@@ -15,19 +14,10 @@ no_most : (rows : List Row) → ((most : ℕ) → AsksNumber rows (codes "most")
 no_most rows none asked asks = none asked.most asks.most
 
 pub returns-in_err-history : goal.returns-in_err-history
-returns-in_err-history c =
-    let found = found_of c.args.matches.now in
-    rw c.from_residual.ensures (no_history (rows_of found) (sym (first_value-rows found (codes "HISTORY")) ∙ sym c.in_err-history.ensures))
+returns-in_err-history c = rw c.from_residual.ensures (no_history (rows_of (found_of c.args.matches.now)) (sym c.in_err-history.ensures))
 
 pub returns-in_err-most : goal.returns-in_err-most
 returns-in_err-most c = rw c.from_residual-in_err-most.ensures (no_most (rows_of (found_of c.args.matches.now)) c.in_err-most.ensures)
 
 pub returns : goal.returns
-returns c =
-    let found = found_of c.args.matches.now in
-    record {
-      history = sym (first_value-rows found (codes "HISTORY")) ∙ sym c.in_ok-history.ensures;
-      orders = sym (first_value-rows found (codes "ORDERS")) ∙ sym c.get_str-2.ensures;
-      key = sym (first_value-rows found (codes "key")) ∙ sym c.get_str-3.ensures;
-      most = c.in_ok-most.ensures;
-    }
+returns c = record { history = sym c.in_ok-history.ensures; orders = sym c.text_in-2.ensures; key = sym c.text_in-3.ensures; most = c.in_ok-most.ensures }
