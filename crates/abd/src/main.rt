@@ -9,13 +9,12 @@ use crate::faults::explain_faults;
 use crate::names::FileName;
 use crate::progress::{Progress, SharedProgress};
 use cli::{
-    Counting, Failure, Lines, Source, Status, check_command, justify_command,
-    justify_unchecked_command, simulate_command,
+    Counting, Failure, Source, Status, check_command, justify_command, justify_unchecked_command,
+    simulate_command,
 };
-use command_line::{Command, DrawAsked, ExplainAsked, Usage, command};
+use command_line::{CheckAsked, Command, DrawAsked, KeysAsked, Usage, command};
 use draw_command::{Drawn, draw_orders_command, draw_tags_command};
 use explain_command::{Selection, explain_orders_command, explain_tags_command};
-use parallel_keys::Workers;
 use run_command::{KeyWatch, NoWatch, Watch, run_command};
 use run_options::RunAsked;
 use std::fs::File;
@@ -120,11 +119,10 @@ where
 fn check(
     rt: &HostRuntime,
     threads: &(impl Threads + Wait + Sync),
-    history: &str,
-    orders: &str,
-    workers: Workers,
-    form: Lines,
+    asked: &CheckAsked<'_>,
 ) -> Status {
+    let (history, orders) = (asked.history, asked.orders);
+    let (workers, form) = (asked.workers, asked.form);
     on_both(rt, history, orders, |history, orders| {
         let (mut out, mut errors) = (Counting::new(rt.stdout()), Counting::new(rt.stderr()));
         let alloc = rt.alloc();
@@ -185,7 +183,7 @@ fn explain_tags(
 }
 
 /// Explains the orders, or without orders the tags; of a faulty file, what is wrong with it.
-fn explain(rt: &HostRuntime, threads: &(impl Threads + Sync), asked: &ExplainAsked<'_>) -> Status {
+fn explain(rt: &HostRuntime, threads: &(impl Threads + Sync), asked: &KeysAsked<'_>) -> Status {
     let selection = Selection {
         key: asked.key,
         most: asked.most,
@@ -238,15 +236,16 @@ fn draw_tags(
 
 /// Draws the history's calls, with orders or without.
 fn draw(rt: &HostRuntime, threads: &(impl Threads + Sync), asked: &DrawAsked<'_>) -> Status {
+    let keys = asked.keys;
     let drawn = Drawn {
-        key: asked.key,
-        most: asked.most,
+        key: keys.key,
+        most: keys.most,
         calls: u32::from(asked.calls),
         around: asked.around.map(u64::from),
     };
-    match asked.orders {
-        Some(orders) => draw_orders(rt, threads, asked.history, orders, drawn),
-        None => draw_tags(rt, threads, asked.history, drawn),
+    match keys.orders {
+        Some(orders) => draw_orders(rt, threads, keys.history, orders, drawn),
+        None => draw_tags(rt, threads, keys.history, drawn),
     }
 }
 
@@ -368,12 +367,7 @@ where
     R: Threads + Wait + Copy + Send + Sync + 'static,
 {
     match asked {
-        Command::Check {
-            history,
-            orders,
-            workers,
-            form,
-        } => check(rt, threads, history, orders, *workers, *form),
+        Command::Check(asked) => check(rt, threads, asked),
         Command::Draw(asked) => draw(rt, threads, asked),
         Command::Explain(asked) => explain(rt, threads, asked),
         Command::Justify { history, unchecked } => justify(rt, threads, history, *unchecked),

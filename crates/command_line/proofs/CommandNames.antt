@@ -1,5 +1,5 @@
 -- Commands by their names.
-use Rattle.std.proofs.Common.{ℕ, ◌≡◌, Bool, eqb, false, ap, codes, refl, slice_index}
+use Rattle.std.proofs.Common.{ℕ, ◌≡◌, Bool, eqb, false, ap, codes, slice_index}
 use Rattle.std.proofs.lemmas.Bool.{eqb-false}
 use Rattle.std.specs.Borrow.{Bor}
 use Rattle.clap.specs.Words.{Text}
@@ -7,9 +7,9 @@ use Rattle.run_options.specs.declared.asked.RunAsked.{RunAsked}
 use Rattle.command_line.specs.Words.{name_of}
 use Rattle.command_line.specs.declared.asked.Command.{Command}
 use Rattle.command_line.specs.declared.asked.Command.TheVariants.{Check, Draw, Explain, Justify, Run, Simulate, Trace, TracePage}
+use Rattle.command_line.specs.declared.asked.CheckAsked.{CheckAsked}
 use Rattle.command_line.specs.declared.asked.DrawAsked.{DrawAsked}
-use Rattle.command_line.specs.declared.asked.ExplainAsked.{ExplainAsked}
-use Rattle.command_line.specs.declared.lines.Lines.{Lines}
+use Rattle.command_line.specs.declared.asked.KeysAsked.{KeysAsked}
 
 -- names that begin with different bytes are different
 pub differ : (a b : Text) → eqb (slice_index a 0) (slice_index b 0) ≡ false → a ≡ b → ⊥
@@ -17,15 +17,15 @@ differ a b other same = eqb-false (slice_index a 0) (slice_index b 0) other (ap 
 
 -- what holds of each command of a name
 module _ (P : Command → Type 0) (name : Text) where
-  pub by_name : ((history orders : Bor Text) (workers : ℕ) (form : Lines) → codes "check" ≡ name → P (Check history orders workers form))
+  pub by_name : ((asked : CheckAsked) → codes "check" ≡ name → P (Check asked))
       → ((asked : DrawAsked) → codes "draw" ≡ name → P (Draw asked))
-      → ((asked : ExplainAsked) → codes "explain" ≡ name → P (Explain asked))
+      → ((asked : KeysAsked) → codes "explain" ≡ name → P (Explain asked))
       → ((history : Bor Text) (unchecked : Bool) → codes "justify" ≡ name → P (Justify history unchecked))
       → ((script : Bor Text) → codes "simulate" ≡ name → P (Simulate script))
       → ((script : Bor Text) (most : ℕ) → codes "trace" ≡ name → P (Trace script most))
       → ((script : Bor Text) (most : ℕ) → codes "trace" ≡ name → P (TracePage script most))
       → ((asked : RunAsked) → codes "run" ≡ name → P (Run asked)) → (command : Command) → name_of command ≡ name → P command
-  by_name check draw explain justify simulate trace page run (Check history orders workers form) is = check history orders workers form is
+  by_name check draw explain justify simulate trace page run (Check asked) is = check asked is
   by_name check draw explain justify simulate trace page run (Draw asked) is = draw asked is
   by_name check draw explain justify simulate trace page run (Explain asked) is = explain asked is
   by_name check draw explain justify simulate trace page run (Justify history unchecked) is = justify history unchecked is

@@ -11,7 +11,7 @@ use Rattle.parallel_keys.specs.Workers.{worker_limit}
 use Rattle.run_options.specs.RunWords.{AsksRun}
 use Rattle.command_line.specs.Forms.{abd_app, most_asked, most_shown}
 use Rattle.command_line.specs.declared.asked.Command.{Command}
-use Rattle.command_line.specs.declared.asked.ExplainAsked.{ExplainAsked}
+use Rattle.command_line.specs.declared.asked.KeysAsked.{KeysAsked}
 use Rattle.command_line.specs.declared.asked.Command.TheVariants.{Check, Draw, Explain, Justify}
 use Rattle.command_line.specs.declared.asked.Command.TheVariants.{Run, Simulate, Trace, TracePage}
 use Rattle.command_line.specs.declared.asked.DrawAsked.{DrawAsked}
@@ -57,8 +57,8 @@ pub record AsksOrders (rows : List Row) (history : Text) (unchecked : Bool) : Ty
   pub history_named : first_of (codes "HISTORY") rows ≡ Some history
   pub way : IsTrue unchecked ↔ GivesFlag (codes "unchecked") rows
 
--- the words after `explain` name the files and the key, and ask for so many keys
-pub record AsksExplanation (rows : List Row) (asked : ExplainAsked) : Type 0 where
+-- the words after `explain` or `draw` name the files and the key, and ask for so many keys
+pub record AsksKeys (rows : List Row) (asked : KeysAsked) : Type 0 where
   pub history : first_of (codes "HISTORY") rows ≡ Some asked.history.now
   pub orders : first_of (codes "ORDERS") rows ≡ option_map (λ s. s.now) asked.orders
   pub key : first_of (codes "key") rows ≡ option_map (λ s. s.now) asked.key
@@ -69,19 +69,10 @@ abbrev pub AsksAround : List Row → Option ℕ → Type 0
 AsksAround rows None = first_of (codes "around") rows ≡ None
 AsksAround rows (Some call) = AsksNumber rows (codes "around") 0 most_asked call
 
--- the files, the key and how many keys are drawn
-abbrev pub drawn_keys : DrawAsked → ExplainAsked
-drawn_keys asked = record {
-  history = asked.history;
-  orders = asked.orders;
-  key = asked.key;
-  most = asked.most;
-}
-
--- the words after `draw` name the files and the key as those after `explain` do, and ask for so
--- many calls, and for those around a call
+-- the words after `draw` ask for keys as those after `explain` do, for so many calls, and for
+-- those around a call
 pub record AsksDrawing (rows : List Row) (asked : DrawAsked) : Type 0 where
-  pub keys : AsksExplanation rows (drawn_keys asked)
+  pub keys : AsksKeys rows asked.keys
   pub calls : AsksNumber rows (codes "calls") 1 most_shown asked.calls
   pub around : AsksAround rows asked.around
 
@@ -107,10 +98,10 @@ pub record AsksTracePage (rows : List Row) (script : Text) (most : ℕ) : Type 0
 
 -- the words after the command's name make it that command
 abbrev pub Makes : List Row → Command → Type 0
-Makes rows (Check history orders workers form) =
-    NamesFiles rows history.now orders.now × AsksWorkers rows workers × AsksForm rows form
+Makes rows (Check asked) = NamesFiles rows asked.history.now asked.orders.now
+    × AsksWorkers rows asked.workers × AsksForm rows asked.form
 Makes rows (Draw asked) = AsksDrawing rows asked
-Makes rows (Explain asked) = AsksExplanation rows asked
+Makes rows (Explain asked) = AsksKeys rows asked
 Makes rows (Justify history unchecked) = AsksOrders rows history.now unchecked
 Makes rows (Simulate script) = first_of (codes "SCRIPT") rows ≡ Some script.now
 Makes rows (Trace script most) = AsksTrace rows script.now most
@@ -119,7 +110,7 @@ Makes rows (Run asked) = AsksRun rows asked
 
 -- the command's name
 abbrev pub name_of : Command → Text
-name_of (Check history orders workers form) = codes "check"
+name_of (Check asked) = codes "check"
 name_of (Draw asked) = codes "draw"
 name_of (Explain asked) = codes "explain"
 name_of (Justify history unchecked) = codes "justify"

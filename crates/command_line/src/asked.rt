@@ -3,28 +3,33 @@ use crate::lines::Lines;
 use parallel_keys::Workers;
 use run_options::RunAsked;
 
-/// What the words of `abd explain` ask for.
+/// What the words of `abd check` ask for.
 #[derive(Clone, Copy, Debug, PartialEq, Eq)]
-pub struct ExplainAsked<'a> {
+pub struct CheckAsked<'a> {
+    pub history: &'a str,
+    pub orders: &'a str,
+    /// How many threads check the orders.
+    pub workers: Workers,
+    /// The form of the lines that are printed.
+    pub form: Lines,
+}
+
+/// The keys that the words of `abd explain` or `abd draw` ask for.
+#[derive(Clone, Copy, Debug, PartialEq, Eq)]
+pub struct KeysAsked<'a> {
     pub history: &'a str,
     /// Without orders the tags of the calls are judged.
     pub orders: Option<&'a str>,
-    /// The key that alone is explained, if one is named.
+    /// The key that alone is explained or drawn, if one is named.
     pub key: Option<&'a str>,
-    /// How many refused keys are explained, 10,000 at most.
+    /// How many refused keys are explained, or how many keys have a picture: 10,000 at most.
     pub most: u16,
 }
 
 /// What the words of `abd draw` ask for.
 #[derive(Clone, Copy, Debug, PartialEq, Eq)]
 pub struct DrawAsked<'a> {
-    pub history: &'a str,
-    /// Without orders those that the tags make are drawn.
-    pub orders: Option<&'a str>,
-    /// The key that alone is drawn, if one is named.
-    pub key: Option<&'a str>,
-    /// How many keys have a picture, 10,000 at most.
-    pub most: u16,
+    pub keys: KeysAsked<'a>,
     /// How many calls of a key are shown, 1 to 10,000.
     pub calls: u16,
     /// The number of the call around which calls are shown, if one is given.
@@ -34,36 +39,20 @@ pub struct DrawAsked<'a> {
 /// What a command line asks for.
 #[derive(Clone, Copy, Debug, PartialEq, Eq)]
 pub enum Command<'a> {
-    /// To check the orders of a history's keys, by so many workers, and print lines in that form.
-    Check {
-        history: &'a str,
-        orders: &'a str,
-        workers: Workers,
-        form: Lines,
-    },
+    /// To check the orders of a history's keys, and print a line for each.
+    Check(CheckAsked<'a>),
     /// To draw the calls of keys, with the points of their orders or of the orders that their tags make.
     Draw(DrawAsked<'a>),
     /// To say why orders, or without them tags, are refused.
-    Explain(ExplainAsked<'a>),
+    Explain(KeysAsked<'a>),
     /// To make the orders of a history's keys from its notes, checked or as the tags make them.
-    Justify {
-        history: &'a str,
-        unchecked: bool,
-    },
+    Justify { history: &'a str, unchecked: bool },
     /// To run a script and write the history of its run.
-    Simulate {
-        script: &'a str,
-    },
+    Simulate { script: &'a str },
     /// To run a script and tell the steps of its run, in so many lines at most.
-    Trace {
-        script: &'a str,
-        most: u32,
-    },
+    Trace { script: &'a str, most: u32 },
     /// To run a script and write a page of its run, with so many steps drawn, 10,000 at most.
-    TracePage {
-        script: &'a str,
-        most: u32,
-    },
+    TracePage { script: &'a str, most: u32 },
     /// To run a store under a load and write its history.
     Run(RunAsked),
 }

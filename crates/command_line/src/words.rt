@@ -2,12 +2,12 @@
 ghost use Rattle.std.specs.Prelude.{◌≡◌, ◌↔◌, IsTrue, codes, IfOk, IfErr, MatchResult};
 ghost use Rattle.std.specs.Prelude.{map, option_map, string_bytes};
 ghost use Rattle.clap.specs.Words.{first_of, found_of, kind_of, rows_of, subcommand_rows_of};
-ghost use Rattle.command_line.specs.Words.{Asks, AsksAround, AsksExplanation, AsksForm, AsksMost};
+ghost use Rattle.command_line.specs.Words.{Asks, AsksAround, AsksForm, AsksKeys, AsksMost};
 ghost use Rattle.command_line.specs.Words.{AsksNothing, AsksNumber, Finds, GivesFlag, IsUsageOf};
 ghost use Rattle.command_line.specs.Words.{MakesAs, MakesNothing, MakesOf};
 ghost use Rattle.command_line.specs.declared.asked.Command.{Command};
 
-use crate::asked::{Command, DrawAsked, ExplainAsked, Usage};
+use crate::asked::{CheckAsked, Command, DrawAsked, KeysAsked, Usage};
 use crate::forms::abd_words;
 use crate::lines::Lines;
 use clap::error::ErrorKind;
@@ -79,12 +79,12 @@ fn check_in<'a>(matches: &ArgMatches<'a>) -> Option<Command<'a>>
     let count = number_in(matches, "workers", 1, 16)?;
     let workers = Workers::new(count as u8)?;
     let form = form_in(matches);
-    Some(Command::Check {
+    Some(Command::Check(CheckAsked {
         history,
         orders,
         workers,
         form,
-    })
+    }))
 }
 
 /// The number of the call that is named, if one is.
@@ -99,12 +99,12 @@ fn around_in(matches: &ArgMatches<'_>) -> Option<Option<u32>>
 }
 
 /// The files, the key and how many keys are asked for by `explain` or `draw`.
-fn keys_in<'a>(matches: &ArgMatches<'a>) -> Option<ExplainAsked<'a>>
-    ensures { Finds result (AsksExplanation (rows_of (found_of matches.now))) }
+fn keys_in<'a>(matches: &ArgMatches<'a>) -> Option<KeysAsked<'a>>
+    ensures { Finds result (AsksKeys (rows_of (found_of matches.now))) }
 {
     let history = text_in(matches, "HISTORY")?;
     let most = number_in(matches, "most", 0, 10000)?;
-    Some(ExplainAsked {
+    Some(KeysAsked {
         history,
         orders: text_in(matches, "ORDERS"),
         key: text_in(matches, "key"),
@@ -120,10 +120,7 @@ fn draw_in<'a>(matches: &ArgMatches<'a>) -> Option<Command<'a>>
     let calls = number_in(matches, "calls", 1, 10000)?;
     let around = around_in(matches)?;
     Some(Command::Draw(DrawAsked {
-        history: keys.history,
-        orders: keys.orders,
-        key: keys.key,
-        most: keys.most,
+        keys,
         calls: calls as u16,
         around,
     }))

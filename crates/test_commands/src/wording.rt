@@ -1,6 +1,6 @@
 //! Rows of command lines.
 use client_phases::ReadMode;
-use command_line::{Command, DrawAsked, ExplainAsked, Lines, Usage, command};
+use command_line::{CheckAsked, Command, DrawAsked, KeysAsked, Lines, Usage, command};
 use run_options::{RunAsked, Shown};
 use std::alloc::{AllocError, Global};
 use test_rows::{Answer, text_said, words_of};
@@ -35,26 +35,35 @@ fn say_run(out: &mut Answer, asked: &RunAsked) {
     }
 }
 
-/// The files that are to be explained, the key alone, and how many refused keys.
-fn say_explained(out: &mut Answer, asked: &ExplainAsked<'_>) {
+/// The files that are to be checked, by how many workers, and the form of the lines.
+fn say_check(out: &mut Answer, asked: &CheckAsked<'_>) {
+    let (history, orders, count) = (asked.history, asked.orders, asked.workers.count());
+    let form = match asked.form {
+        Lines::Plain => "",
+        Lines::Json => ", JSON",
+    };
+    write!(
+        out,
+        "check of [{history}] and [{orders}], workers: {count}{form}\n"
+    )
+}
+
+/// The command of that name, its files, the key alone, and how many keys.
+fn say_keys(out: &mut Answer, name: &str, asked: &KeysAsked<'_>) {
     let (history, most) = (asked.history, asked.most);
     let orders = asked.orders.unwrap_or("");
     let key = asked.key.unwrap_or("");
     write!(
         out,
-        "explain of [{history}] and [{orders}], key [{key}], most {most}\n"
+        "{name} of [{history}] and [{orders}], key [{key}], most {most}"
     )
 }
 
-/// The files that are to be drawn, the key alone, how many keys and calls, and the call among them.
-fn say_drawn(out: &mut Answer, asked: &DrawAsked<'_>) {
-    let (history, most, calls) = (asked.history, asked.most, asked.calls);
-    let orders = asked.orders.unwrap_or("");
-    let key = asked.key.unwrap_or("");
-    write!(
-        out,
-        "draw of [{history}] and [{orders}], key [{key}], most {most}, calls {calls}"
-    );
+/// What is drawn: which keys, how many calls, and the call among them.
+fn say_drawing(out: &mut Answer, asked: &DrawAsked<'_>) {
+    say_keys(out, "draw", &asked.keys);
+    let calls = asked.calls;
+    write!(out, ", calls {calls}");
     if let Some(call) = asked.around {
         write!(out, ", around {call}");
     }
@@ -63,24 +72,12 @@ fn say_drawn(out: &mut Answer, asked: &DrawAsked<'_>) {
 
 fn say_asked(out: &mut Answer, asked: &Command<'_>) {
     match asked {
-        Command::Check {
-            history,
-            orders,
-            workers,
-            form,
-        } => {
-            let count = workers.count();
-            let form = match form {
-                Lines::Plain => "",
-                Lines::Json => ", JSON",
-            };
-            write!(
-                out,
-                "check of [{history}] and [{orders}], workers: {count}{form}\n"
-            )
+        Command::Check(asked) => say_check(out, asked),
+        Command::Draw(asked) => say_drawing(out, asked),
+        Command::Explain(asked) => {
+            say_keys(out, "explain", asked);
+            out.push("\n");
         }
-        Command::Draw(asked) => say_drawn(out, asked),
-        Command::Explain(asked) => say_explained(out, asked),
         Command::Justify { history, unchecked } => {
             let way = if *unchecked { ", unchecked" } else { "" };
             write!(out, "justify of [{history}]{way}\n")

@@ -1,23 +1,23 @@
 -- The rows of the matches are what `keys_in`, `number_in` and `around_in` read.
-use Rattle.std.proofs.Common.{ℕ, ◌≡◌, Option, codes, List, refl}
+use Rattle.std.proofs.Common.{ℕ, Option, codes, List, refl}
 use Rattle.clap.specs.Words.{Row, found_of, rows_of}
 use Rattle.command_line.specs.Forms.{most_shown}
-use Rattle.command_line.specs.Words.{AsksAround, AsksDrawing, AsksExplanation, AsksNumber, Makes, MakesAs, drawn_keys}
+use Rattle.command_line.specs.Words.{AsksAround, AsksDrawing, AsksKeys, AsksNumber, Makes, MakesAs}
 use Rattle.command_line.specs.declared.asked.Command.{Command}
 use Rattle.command_line.specs.declared.asked.DrawAsked.{DrawAsked}
-use Rattle.command_line.specs.declared.asked.ExplainAsked.{ExplainAsked}
+use Rattle.command_line.specs.declared.asked.KeysAsked.{KeysAsked}
 use Rattle.command_line.proofs.CommandNames.{by_name, differ}
 use Rattle.command_line.proofs.words.draw_in.Goals as goal
 
 -- the rows make no `draw`, and so no command of that name
 not_draw : (rows : List Row) → ((asked : DrawAsked) → AsksDrawing rows asked → ⊥) → (command : Command) → MakesAs (codes "draw") rows command → ⊥
 not_draw rows none command makes = by_name (λ c. Makes rows c → ⊥) (codes "draw")
-    (λ h o w f is. absurd (differ _ _ refl is)) (λ asked is makes. none asked makes) (λ a is. absurd (differ _ _ refl is))
+    (λ a is. absurd (differ _ _ refl is)) (λ asked is makes. none asked makes) (λ a is. absurd (differ _ _ refl is))
     (λ h u is. absurd (differ _ _ refl is)) (λ s is. absurd (differ _ _ refl is)) (λ s m is. absurd (differ _ _ refl is)) (λ s m is. absurd (differ _ _ refl is))
     (λ a is. absurd (differ _ _ refl is)) command makes.0 makes.1
 
-no_keys : (rows : List Row) → ((asked : ExplainAsked) → AsksExplanation rows asked → ⊥) → (command : Command) → MakesAs (codes "draw") rows command → ⊥
-no_keys rows none = not_draw rows (λ asked asks. none (drawn_keys asked) asks.keys)
+no_keys : (rows : List Row) → ((asked : KeysAsked) → AsksKeys rows asked → ⊥) → (command : Command) → MakesAs (codes "draw") rows command → ⊥
+no_keys rows none = not_draw rows (λ asked asks. none asked.keys asks.keys)
 
 no_calls : (rows : List Row) → ((calls : ℕ) → AsksNumber rows (codes "calls") 1 most_shown calls → ⊥) → (command : Command) → MakesAs (codes "draw") rows command → ⊥
 no_calls rows none = not_draw rows (λ asked asks. none asked.calls asks.calls)

@@ -3,14 +3,14 @@ use Rattle.std.proofs.Common.{ℕ, ◌≡◌, None, codes, List, sym, ◌∙◌}
 use Rattle.clap.specs.Words.{Row, first_of, found_of, rows_of}
 use Rattle.tag.proofs.Options.{none_some}
 use Rattle.command_line.specs.Forms.{most_shown}
-use Rattle.command_line.specs.Words.{AsksExplanation, AsksNumber}
-use Rattle.command_line.specs.declared.asked.ExplainAsked.{ExplainAsked}
+use Rattle.command_line.specs.Words.{AsksKeys, AsksNumber}
+use Rattle.command_line.specs.declared.asked.KeysAsked.{KeysAsked}
 use Rattle.command_line.proofs.words.keys_in.Goals as goal
 
-no_history : (rows : List Row) → first_of (codes "HISTORY") rows ≡ None → (asked : ExplainAsked) → AsksExplanation rows asked → ⊥
+no_history : (rows : List Row) → first_of (codes "HISTORY") rows ≡ None → (asked : KeysAsked) → AsksKeys rows asked → ⊥
 no_history rows none asked asks = none_some (sym none ∙ asks.history)
 
-no_most : (rows : List Row) → ((most : ℕ) → AsksNumber rows (codes "most") 0 most_shown most → ⊥) → (asked : ExplainAsked) → AsksExplanation rows asked → ⊥
+no_most : (rows : List Row) → ((most : ℕ) → AsksNumber rows (codes "most") 0 most_shown most → ⊥) → (asked : KeysAsked) → AsksKeys rows asked → ⊥
 no_most rows none asked asks = none asked.most asks.most
 
 pub returns-in_err-history : goal.returns-in_err-history
