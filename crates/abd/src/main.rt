@@ -18,7 +18,7 @@ use explain_command::{Selection, explain_orders_command, explain_tags_command};
 use run_command::{KeyWatch, NoWatch, Watch, run_command};
 use run_options::RunAsked;
 use std::fs::File;
-use std::io::{ErrorKind, IsTerminal};
+use std::io::{ErrorKind, IsTerminal, Stderr, Stdout};
 use std::process::ExitCode;
 use std::sync::Wait;
 use std::thread::Threads;
@@ -32,6 +32,15 @@ const RUN_PICTURES: Drawn<'static> = Drawn {
     calls: 200,
     around: None,
 };
+
+/// A file that was opened, whose failures are counted.
+type Opened<'a> = Source<'a, Counting<File>>;
+
+/// Standard output, whose failures are counted.
+type Out = Counting<Stdout>;
+
+/// Standard error, whose failures are counted.
+type Errors = Counting<Stderr>;
 
 /// Says the failure on standard error. Its status.
 fn fail(rt: &HostRuntime, failure: Failure<'_>) -> Status {
@@ -59,27 +68,32 @@ fn refuse(rt: &HostRuntime, usage: Usage) -> Status {
 }
 
 /// Opens the file. If it can't be opened, says so; the status then.
-fn open<'a>(
-    rt: &HostRuntime,
-    name: &'a FileName<'_>,
-) -> Result<Source<'a, Counting<File>>, Status> {
+fn open<'a>(rt: &HostRuntime, name: &'a FileName<'_>) -> Result<Opened<'a>, Status> {
     match fs::open(rt, name.given) {
         Ok(file) => Ok(Source::new(name.told(), Counting::new(file))),
         Err(_) => Err(fail(rt, Failure::Closed { name: name.told() })),
     }
 }
 
+/// Standard output and standard error.
+fn outputs(rt: &HostRuntime) -> (Out, Errors) {
+    (Counting::new(rt.stdout()), Counting::new(rt.stderr()))
+}
+
 /// Opens the file, and runs the command on it.
 fn on_file<F>(rt: &HostRuntime, name: &str, run: F) -> Status
 where
-    F: FnOnce(&mut Source<'_, Counting<File>>) -> Status,
+    F: FnOnce(&mut Opened<'_>, &mut Out, &mut Errors) -> Status,
     requires { F.IsAlwaysCallable run }
 {
     let Ok(name) = FileName::new(rt, name) else {
         return fail(rt, Failure::Memory);
     };
     match open(rt, &name) {
-        Ok(mut file) => run(&mut file),
+        Ok(mut file) => {
+            let (mut out, mut errors) = outputs(rt);
+            run(&mut file, &mut out, &mut errors)
+        }
         Err(status) => status,
     }
 }
@@ -89,7 +103,7 @@ fn open_both<'a>(
     rt: &HostRuntime,
     history: &'a FileName<'_>,
     orders: &'a FileName<'_>,
-) -> Result<(Source<'a, Counting<File>>, Source<'a, Counting<File>>), Status> {
+) -> Result<(Opened<'a>, Opened<'a>), Status> {
     let history = match open(rt, history) {
         Ok(history) => history,
         Err(status) => return Err(status),
@@ -103,14 +117,17 @@ fn open_both<'a>(
 /// Opens both files before either is read, and runs the command on them.
 fn on_both<F>(rt: &HostRuntime, history: &str, orders: &str, run: F) -> Status
 where
-    F: for<'a> FnOnce(&mut Source<'a, Counting<File>>, &mut Source<'a, Counting<File>>) -> Status,
+    F: for<'a> FnOnce(&mut Opened<'a>, &mut Opened<'a>, &mut Out, &mut Errors) -> Status,
     requires { F.IsAlwaysCallable run }
 {
     let (Ok(history), Ok(orders)) = (FileName::new(rt, history), FileName::new(rt, orders)) else {
         return fail(rt, Failure::Memory);
     };
     match open_both(rt, &history, &orders) {
-        Ok((mut history, mut orders)) => run(&mut history, &mut orders),
+        Ok((mut history, mut orders)) => {
+            let (mut out, mut errors) = outputs(rt);
+            run(&mut history, &mut orders, &mut out, &mut errors)
+        }
         Err(status) => status,
     }
 }
@@ -123,62 +140,9 @@ fn check(
 ) -> Status {
     let (history, orders) = (asked.history, asked.orders);
     let (workers, form) = (asked.workers, asked.form);
-    on_both(rt, history, orders, |history, orders| {
-        let (mut out, mut errors) = (Counting::new(rt.stdout()), Counting::new(rt.stderr()));
+    on_both(rt, history, orders, |history, orders, out, errors| {
         let alloc = rt.alloc();
-        check_command(
-            threads,
-            alloc,
-            history,
-            orders,
-            workers,
-            form,
-            &mut out,
-            &mut errors,
-        )
-    })
-}
-
-/// Explains the orders.
-fn explain_orders(
-    rt: &HostRuntime,
-    threads: &(impl Threads + Sync),
-    history: &str,
-    orders: &str,
-    selection: Selection<'_>,
-) -> Status {
-    on_both(rt, history, orders, |history, orders| {
-        let (mut out, mut errors) = (Counting::new(rt.stdout()), Counting::new(rt.stderr()));
-        let alloc = rt.alloc();
-        explain_orders_command(
-            threads,
-            alloc,
-            history,
-            orders,
-            selection,
-            &mut out,
-            &mut errors,
-        )
-    })
-}
-
-/// Explains the tags of the history's calls.
-fn explain_tags(
-    rt: &HostRuntime,
-    threads: &(impl Threads + Sync),
-    history: &str,
-    selection: Selection<'_>,
-) -> Status {
-    on_file(rt, history, |history| {
-        let (mut out, mut errors) = (Counting::new(rt.stdout()), Counting::new(rt.stderr()));
-        explain_tags_command(
-            threads,
-            rt.alloc(),
-            history,
-            selection,
-            &mut out,
-            &mut errors,
-        )
+        check_command(threads, alloc, history, orders, workers, form, out, errors)
     })
 }
 
@@ -189,8 +153,12 @@ fn explain(rt: &HostRuntime, threads: &(impl Threads + Sync), asked: &KeysAsked<
         most: asked.most,
     };
     let status = match asked.orders {
-        Some(orders) => explain_orders(rt, threads, asked.history, orders, selection),
-        None => explain_tags(rt, threads, asked.history, selection),
+        Some(orders) => on_both(rt, asked.history, orders, |history, orders, out, errors| {
+            explain_orders_command(threads, rt.alloc(), history, orders, selection, out, errors)
+        }),
+        None => on_file(rt, asked.history, |history, out, errors| {
+            explain_tags_command(threads, rt.alloc(), history, selection, out, errors)
+        }),
     };
     if status == Status::Format {
         explain_faults(rt, threads, asked.history, asked.orders);
@@ -198,43 +166,7 @@ fn explain(rt: &HostRuntime, threads: &(impl Threads + Sync), asked: &KeysAsked<
     status
 }
 
-/// Draws the history's calls, with the points of the orders.
-fn draw_orders(
-    rt: &HostRuntime,
-    threads: &(impl Threads + Sync),
-    history: &str,
-    orders: &str,
-    drawn: Drawn<'_>,
-) -> Status {
-    on_both(rt, history, orders, |history, orders| {
-        let (mut out, mut errors) = (Counting::new(rt.stdout()), Counting::new(rt.stderr()));
-        let alloc = rt.alloc();
-        draw_orders_command(
-            threads,
-            alloc,
-            history,
-            orders,
-            drawn,
-            &mut out,
-            &mut errors,
-        )
-    })
-}
-
-/// Draws the history's calls, with the points of the orders that its tags make.
-fn draw_tags(
-    rt: &HostRuntime,
-    threads: &(impl Threads + Sync),
-    history: &str,
-    drawn: Drawn<'_>,
-) -> Status {
-    on_file(rt, history, |history| {
-        let (mut out, mut errors) = (Counting::new(rt.stdout()), Counting::new(rt.stderr()));
-        draw_tags_command(threads, rt.alloc(), history, drawn, &mut out, &mut errors)
-    })
-}
-
-/// Draws the history's calls, with orders or without.
+/// Draws the history's calls, with the points of the orders, or without orders of those that the tags make.
 fn draw(rt: &HostRuntime, threads: &(impl Threads + Sync), asked: &DrawAsked<'_>) -> Status {
     let keys = asked.keys;
     let drawn = Drawn {
@@ -244,8 +176,12 @@ fn draw(rt: &HostRuntime, threads: &(impl Threads + Sync), asked: &DrawAsked<'_>
         around: asked.around.map(u64::from),
     };
     match keys.orders {
-        Some(orders) => draw_orders(rt, threads, keys.history, orders, drawn),
-        None => draw_tags(rt, threads, keys.history, drawn),
+        Some(orders) => on_both(rt, keys.history, orders, |history, orders, out, errors| {
+            draw_orders_command(threads, rt.alloc(), history, orders, drawn, out, errors)
+        }),
+        None => on_file(rt, keys.history, |history, out, errors| {
+            draw_tags_command(threads, rt.alloc(), history, drawn, out, errors)
+        }),
     }
 }
 
@@ -256,39 +192,33 @@ fn justify(
     history: &str,
     unchecked: bool,
 ) -> Status {
-    on_file(rt, history, |history| {
-        let (mut out, mut errors) = (Counting::new(rt.stdout()), Counting::new(rt.stderr()));
-        let alloc = rt.alloc();
+    on_file(rt, history, |history, out, errors| {
         if unchecked {
-            justify_unchecked_command(threads, alloc, history, &mut out, &mut errors)
+            justify_unchecked_command(threads, rt.alloc(), history, out, errors)
         } else {
-            justify_command(threads, alloc, history, &mut out, &mut errors)
+            justify_command(threads, rt.alloc(), history, out, errors)
         }
     })
 }
 
 /// Simulates the script.
 fn simulate(rt: &HostRuntime, script: &str) -> Status {
-    on_file(rt, script, |script| {
-        let (mut out, mut errors) = (Counting::new(rt.stdout()), Counting::new(rt.stderr()));
-        simulate_command(rt.alloc(), script, &mut out, &mut errors)
+    on_file(rt, script, |script, out, errors| {
+        simulate_command(rt.alloc(), script, out, errors)
     })
 }
 
 /// Tells the script's run.
 fn trace(rt: &HostRuntime, script: &str, most: u32) -> Status {
-    on_file(rt, script, |script| {
-        let (mut out, mut errors) = (Counting::new(rt.stdout()), Counting::new(rt.stderr()));
-        trace_command(rt.alloc(), script, most, &mut out, &mut errors)
+    on_file(rt, script, |script, out, errors| {
+        trace_command(rt.alloc(), script, most, out, errors)
     })
 }
 
 /// Draws the script's run.
 fn trace_page(rt: &HostRuntime, script: &str, most: u32) -> Status {
-    on_file(rt, script, |script| {
-        let (mut out, mut errors) = (Counting::new(rt.stdout()), Counting::new(rt.stderr()));
-        let alloc = rt.alloc();
-        trace_page_command(alloc, script, most, RUN_PICTURES, &mut out, &mut errors)
+    on_file(rt, script, |script, out, errors| {
+        trace_page_command(rt.alloc(), script, most, RUN_PICTURES, out, errors)
     })
 }
 
@@ -304,8 +234,7 @@ where
     R: Threads + Wait + Copy + Send + Sync + 'static,
     L: Watch + Send + Sync + Drop + 'static,
 {
-    let mut errors = Counting::new(rt.stderr());
-    let mut out = Counting::new(rt.stdout());
+    let (mut out, mut errors) = outputs(rt);
     run_command(
         threads,
         rt.alloc(),
