@@ -8,10 +8,7 @@ mod progress;
 use crate::faults::explain_faults;
 use crate::names::FileName;
 use crate::progress::{Progress, SharedProgress};
-use cli::{
-    Counting, Failure, Source, Status, check_command, justify_command, justify_unchecked_command,
-    simulate_command,
-};
+use cli::{Counting, Failure, Source, Status, check_command, justify_command, simulate_command};
 use command_line::{CheckAsked, Command, DrawAsked, KeysAsked, Usage, command};
 use draw_command::{Drawn, draw_orders_command, draw_tags_command};
 use explain_command::{Selection, explain_orders_command, explain_tags_command};
@@ -193,11 +190,7 @@ fn justify(
     unchecked: bool,
 ) -> Status {
     on_file(rt, history, |history, out, errors| {
-        if unchecked {
-            justify_unchecked_command(threads, rt.alloc(), history, out, errors)
-        } else {
-            justify_command(threads, rt.alloc(), history, out, errors)
-        }
+        justify_command(threads, rt.alloc(), history, unchecked, out, errors)
     })
 }
 

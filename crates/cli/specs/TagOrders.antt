@@ -1,11 +1,11 @@
 -- The orders that the tags of a history make, without a check of them.
-use Rattle.std.specs.Prelude.{ℕ, ◌≡◌, ◌==◌, ◌+◌, Bool, List, [], ◌∷◌, ◌++◌}
+use Rattle.std.specs.Prelude.{ℕ, ◌≡◌, ◌==◌, ◌+◌, Bool, true, false, List, [], ◌∷◌, ◌++◌}
 use Rattle.tag.specs.declared.numbers.OpId.{OpId}
 use Rattle.recorder.specs.declared.order.KeyOrder.{KeyOrder}
 use Rattle.recorder.specs.Sound.{IsByTag}
 use Rattle.witness_order.specs.Notes.{IsLeastUnnoted}
 use Rattle.file_format.specs.Texts.{orders_text}
-use Rattle.cli.specs.Justifications.{KeyPart, no_note_text}
+use Rattle.cli.specs.Justifications.{Justifies, KeyPart, no_note_text}
 use Rattle.cli.specs.declared.tag_orders.TagOrders.{TagOrders}
 
 -- what the tags make of a key: an order; or none, since that call on it has no note
@@ -56,6 +56,12 @@ pub record OrdersKeys (parts : List KeyPart) (good : Bool) (text notes : List �
   pub is : good ≡ (left_out_count tagged == 0)
   pub orders : text ≡ orders_text (orders_of tagged)
   pub lines : notes ≡ left_out_text tagged
+
+-- what `abd justify` makes of keys with these parts: what the tags make, if the orders go unchecked,
+-- and else what a justification makes
+abbrev pub MakesOrders : Bool → List KeyPart → Bool → List ℕ → List ℕ → Type 0
+MakesOrders true = OrdersKeys
+MakesOrders false = Justifies
 
 -- the orders and the lines are what the tags make of the keys with these parts
 pub record AreMade (parts : List KeyPart) (made : TagOrders) : Type 0 where

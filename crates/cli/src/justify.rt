@@ -1,14 +1,16 @@
-//! `abd justify`: an order of each key's calls, made from the notes of its history.
+//! `abd justify`: an order of each key's calls, made from the notes of its history, checked or not.
 ghost use Rattle.std.specs.Prelude.{◌≡◌, IfOk, IfErr};
 ghost use Rattle.file_format.specs.Texts.{orders_text};
 ghost use Rattle.cli.specs.Devices.{file_states, writer_states};
 ghost use Rattle.cli.specs.Justifications.{EndsOfFile, Justifies, OfHalls};
+ghost use Rattle.cli.specs.TagOrders.{MakesOrders};
 ghost use Rattle.cli.specs.declared.status.Failure.TheVariants as failure;
 
 use crate::noted_orders::checked_orders;
 use crate::outcome::{Made, Outcome, conclude};
 use crate::sources::{Source, histories_in};
 use crate::status::Status;
+use crate::unchecked::ordered;
 use counted_devices::{CountedRead, CountedWrite, Counting};
 use file_format::write_orders;
 use parallel_keys::hall_parts;
@@ -44,27 +46,42 @@ fn justified(alloc: Global, histories: &Histories) -> Made<'static>
     }
 }
 
-/// Reads the history, of version 1 or 2, makes each key's order from the notes and checks it, the keys
-/// hall by hall, in each in the order in which it first sees them, and then writes the order file.
+/// Makes the order file of the keys of the histories; unless the orders go unchecked, each was checked.
+fn orders_made(alloc: Global, histories: &Histories, unchecked: bool) -> Made<'static>
+    ensures made { IfOk result (OfHalls (MakesOrders unchecked) histories.now.halls) }
+    ensures stops { IfErr result (λ why. why ≡ failure.Memory) }
+{
+    if unchecked {
+        ordered(alloc, histories)
+    } else {
+        justified(alloc, histories)
+    }
+}
+
+/// Reads the history, of version 1 or 2, makes each key's order from the notes, the keys hall by hall, in
+/// each in the order in which it first sees them, and then writes the order file.
 ///
-/// Nothing goes to `out` before every key has its order and the whole text is made; after a failure of
-/// `out` a beginning of it may have gone out. `Refused` where a key has none: why the first such key
-/// has none is said on `errors`, as is any other failure.
+/// Each order is checked: if a key has none, nothing is written, why the first such key has none is said on
+/// `errors`, and the status is `Refused`. If the orders go `unchecked`, a key with a completed call that has
+/// no note is left out: once the file is written, its least such call is said on `errors`, a line for each
+/// such key, and the status is `Refused`. Nothing goes to `out` before the whole text is made; after a
+/// failure of `out` a beginning of it may have gone out. A failure is said on `errors`.
 pub fn justify_command<'a, H: CountedRead, W: CountedWrite, E: CountedWrite>(
     rt: &(impl Threads + Sync),
     alloc: Global,
     history: &mut Source<'a, H>,
+    unchecked: bool,
     out: &mut W,
     errors: &mut E,
 ) -> Status
-    ensures { EndsOfFile Justifies
+    ensures { EndsOfFile (MakesOrders unchecked)
         (file_states H.remaining H.failures history.old history.new)
         (writer_states W.contents W.failures out.old out.new)
         (writer_states E.contents E.failures errors.old errors.new)
         result }
 {
     match histories_in(rt, alloc, history) {
-        Ok(histories) => conclude(justified(alloc, &histories), out, errors),
+        Ok(histories) => conclude(orders_made(alloc, &histories, unchecked), out, errors),
         Err(failure) => failure.report(errors),
     }
 }

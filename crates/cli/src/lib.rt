@@ -29,5 +29,4 @@ pub use shown_names::{shown_name, shown_names_are_harmless};
 pub use simulate::simulate_command;
 pub use sources::{Source, orders_in};
 pub use status::{Failure, Status, say};
-pub use unchecked::justify_unchecked_command;
 pub use verdict_lines::append_line;

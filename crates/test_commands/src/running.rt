@@ -1,9 +1,6 @@
 //! Runs of single commands.
 use crate::formats::Counting;
-use cli::{
-    Lines, Source, Status, check_command, justify_command, justify_unchecked_command,
-    simulate_command,
-};
+use cli::{Lines, Source, Status, check_command, justify_command, simulate_command};
 use explain_command::{Selection, explain_orders_command, explain_tags_command};
 use parallel_keys::Workers;
 use std::alloc::Global;
@@ -94,10 +91,7 @@ pub fn run(
     let status = match name {
         "simulate" => simulate_command(alloc, &mut first, out, errors),
         "trace" => trace_command(alloc, &mut first, way.most, out, errors),
-        "justify" if way.unchecked => {
-            justify_unchecked_command(rt, alloc, &mut first, out, errors)
-        }
-        "justify" => justify_command(rt, alloc, &mut first, out, errors),
+        "justify" => justify_command(rt, alloc, &mut first, way.unchecked, out, errors),
         "explain" => {
             explain_orders_command(rt, alloc, &mut first, &mut orders, keys, out, errors)
         }

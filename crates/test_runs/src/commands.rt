@@ -49,13 +49,8 @@ fn file_of(left: &[u8]) -> Source<'static, Counting<Pieces<'_>>> {
 pub fn justified(rt: &(impl Threads + Wait + Sync), alloc: Global, history: &[u8]) -> Said<Status> {
     let mut outputs = Outputs::new(alloc, AMPLE, AMPLE);
     let mut history = file_of(history);
-    let status = justify_command(
-        rt,
-        alloc,
-        &mut history,
-        &mut outputs.out,
-        &mut outputs.errors,
-    );
+    let (out, errors) = (&mut outputs.out, &mut outputs.errors);
+    let status = justify_command(rt, alloc, &mut history, false, out, errors);
     outputs.said(status)
 }
 
