@@ -46,45 +46,56 @@ pub fn say_counted_writes(out: &mut Answer, lines: &str) {
     }
 }
 
-/// What is wrong with line 7 of a history or of orders, and with line 7 of a script.
-const FILE_FAULTS: [FaultKind; 14] = [
-    FaultKind::Line(LineFault::NotJson),
-    FaultKind::Line(LineFault::NoHeader),
-    FaultKind::Line(LineFault::Version),
-    FaultKind::Line(LineFault::Member),
-    FaultKind::Line(LineFault::Range),
-    FaultKind::Line(LineFault::CallOutOfTurn),
-    FaultKind::Line(LineFault::ClientBusy),
-    FaultKind::Line(LineFault::CallNotPending),
-    FaultKind::Line(LineFault::WrongKind),
-    FaultKind::Line(LineFault::NoteTwice),
-    FaultKind::Line(LineFault::TooLong),
-    FaultKind::Line(LineFault::TooManyCalls),
-    FaultKind::Device,
-    FaultKind::Memory,
+/// What may be wrong with a line of a history or of orders.
+const LINE_FAULTS: [LineFault; 12] = [
+    LineFault::NotJson,
+    LineFault::NoHeader,
+    LineFault::Version,
+    LineFault::Member,
+    LineFault::Range,
+    LineFault::CallOutOfTurn,
+    LineFault::ClientBusy,
+    LineFault::CallNotPending,
+    LineFault::WrongKind,
+    LineFault::NoteTwice,
+    LineFault::TooLong,
+    LineFault::TooManyCalls,
 ];
 
-const SCRIPT_FAULTS: [ErrorKind; 8] = [
-    ErrorKind::Line(fault_script::LineFault::NotUtf8),
-    ErrorKind::Line(fault_script::LineFault::NoReplicas),
-    ErrorKind::Line(fault_script::LineFault::UnknownCommand),
-    ErrorKind::Line(fault_script::LineFault::Range),
-    ErrorKind::Line(fault_script::LineFault::TooLong),
-    ErrorKind::Line(fault_script::LineFault::TooManyCommands),
-    ErrorKind::Device,
-    ErrorKind::Memory,
+/// What may be wrong with a line of a script.
+const SCRIPT_FAULTS: [fault_script::LineFault; 6] = [
+    fault_script::LineFault::NotUtf8,
+    fault_script::LineFault::NoReplicas,
+    fault_script::LineFault::UnknownCommand,
+    fault_script::LineFault::Range,
+    fault_script::LineFault::TooLong,
+    fault_script::LineFault::TooManyCommands,
 ];
+
+/// What is wrong with line 7 of a history or of orders.
+fn say_file_fault(out: &mut Answer, kind: FaultKind) {
+    write!(out, "{}\n", FileFault { line: 7, kind });
+}
+
+/// What is wrong with line 7 of a script.
+fn say_script_fault(out: &mut Answer, kind: ErrorKind) {
+    write!(out, "{}\n", ScriptError { line: 7, kind });
+}
 
 /// All faults of histories and orders, or of scripts.
 pub fn say_faults(out: &mut Answer, is_script: bool) {
     if is_script {
-        for kind in SCRIPT_FAULTS {
-            write!(out, "{}\n", ScriptError { line: 7, kind });
+        for fault in SCRIPT_FAULTS {
+            say_script_fault(out, ErrorKind::Line(fault));
         }
+        say_script_fault(out, ErrorKind::Device);
+        say_script_fault(out, ErrorKind::Memory);
     } else {
-        for kind in FILE_FAULTS {
-            write!(out, "{}\n", FileFault { line: 7, kind });
+        for fault in LINE_FAULTS {
+            say_file_fault(out, FaultKind::Line(fault));
         }
+        say_file_fault(out, FaultKind::Device);
+        say_file_fault(out, FaultKind::Memory);
     }
 }
 
