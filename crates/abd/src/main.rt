@@ -10,8 +10,8 @@ use crate::names::FileName;
 use crate::progress::{Progress, SharedProgress};
 use cli::{Counting, Failure, Source, Status, check_command, justify_command, simulate_command};
 use command_line::{CheckAsked, Command, DrawAsked, KeysAsked, Usage, command};
-use draw_command::{Drawn, draw_orders_command, draw_tags_command};
-use explain_command::{Selection, explain_orders_command, explain_tags_command};
+use draw_command::Drawn;
+use explain_command::{Presentation, Selection, judge_orders_command, judge_tags_command};
 use run_command::{KeyWatch, NoWatch, Watch, run_command};
 use run_options::RunAsked;
 use std::fs::File;
@@ -143,27 +143,37 @@ fn check(
     })
 }
 
-/// Explains the orders, or without orders the tags; of a faulty file, what is wrong with it.
+/// Judges the history's keys by the orders, or without orders by the tags, and shows them so.
+fn judge(
+    rt: &HostRuntime,
+    threads: &(impl Threads + Sync),
+    keys: &KeysAsked<'_>,
+    shown: &impl Presentation,
+) -> Status {
+    match keys.orders {
+        Some(orders) => on_both(rt, keys.history, orders, |history, orders, out, errors| {
+            judge_orders_command(threads, rt.alloc(), history, orders, shown, out, errors)
+        }),
+        None => on_file(rt, keys.history, |history, out, errors| {
+            judge_tags_command(threads, rt.alloc(), history, shown, out, errors)
+        }),
+    }
+}
+
+/// Explains the history's keys; of a faulty file, what is wrong with it.
 fn explain(rt: &HostRuntime, threads: &(impl Threads + Sync), asked: &KeysAsked<'_>) -> Status {
     let selection = Selection {
         key: asked.key,
         most: asked.most,
     };
-    let status = match asked.orders {
-        Some(orders) => on_both(rt, asked.history, orders, |history, orders, out, errors| {
-            explain_orders_command(threads, rt.alloc(), history, orders, selection, out, errors)
-        }),
-        None => on_file(rt, asked.history, |history, out, errors| {
-            explain_tags_command(threads, rt.alloc(), history, selection, out, errors)
-        }),
-    };
+    let status = judge(rt, threads, asked, &selection);
     if status == Status::Format {
         explain_faults(rt, threads, asked.history, asked.orders);
     }
     status
 }
 
-/// Draws the history's calls, with the points of the orders, or without orders of those that the tags make.
+/// Draws the calls of the history's keys.
 fn draw(rt: &HostRuntime, threads: &(impl Threads + Sync), asked: &DrawAsked<'_>) -> Status {
     let keys = asked.keys;
     let drawn = Drawn {
@@ -172,14 +182,7 @@ fn draw(rt: &HostRuntime, threads: &(impl Threads + Sync), asked: &DrawAsked<'_>
         calls: u32::from(asked.calls),
         around: asked.around.map(u64::from),
     };
-    match keys.orders {
-        Some(orders) => on_both(rt, keys.history, orders, |history, orders, out, errors| {
-            draw_orders_command(threads, rt.alloc(), history, orders, drawn, out, errors)
-        }),
-        None => on_file(rt, keys.history, |history, out, errors| {
-            draw_tags_command(threads, rt.alloc(), history, drawn, out, errors)
-        }),
-    }
+    judge(rt, threads, &keys, &drawn)
 }
 
 /// Justifies the history, or writes the orders that its tags make.

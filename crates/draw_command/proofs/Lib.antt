@@ -4,6 +4,5 @@ pub mod Framing
 mod Apart
 mod SceneOrder
 mod Selected
-mod Ending
 mod Content
 pub mod NoRefusal

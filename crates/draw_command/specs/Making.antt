@@ -21,11 +21,3 @@ module _ (judged : Judged) (drawn : Drawn) where
     pub page_is : IsFramed page_markup (IsJudgedContent numbered drawn judged all outcome.good) page
     pub text : outcome.text.items ≡ page_text page
     pub quiet : outcome.notes.items ≡ []
-
-  -- files were read so, and the page is that of the selected ones of their keys
-  pub record DrawsFiles (Reads : NumberedHistories → List CheckedKey → Type 0) (outcome : Outcome)
-      : Type 0 where
-    pub numbered : NumberedHistories
-    pub keys : List CheckedKey
-    pub read : Reads numbered keys
-    pub made : IsMadeOf numbered keys outcome

@@ -60,7 +60,7 @@ pub(crate) fn add_histories(
 }
 
 /// Judges the keys of the histories by the tags of their calls, and adds what the page of
-/// `draw_tags_command` says and shows of them: a table of the keys, and sections with pictures.
+/// `abd draw` without orders says and shows of them: a table of the keys, and sections with pictures.
 ///
 /// `Memory` comes only where an allocation was refused; something may have been added then.
 pub fn add_history_pictures(

@@ -20,7 +20,6 @@ mod texts;
 mod why;
 mod words;
 
-pub use draw::{draw_orders_command, draw_tags_command};
 pub use drawn::Drawn;
 pub use frame::{append_styles, begin_content, begin_page, end_page};
 pub use history_pictures::add_history_pictures;

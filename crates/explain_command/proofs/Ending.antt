@@ -17,12 +17,9 @@ use Rattle.cli.specs.declared.status.Failure.TheVariants as failure
 use Rattle.cli.specs.declared.status.Status.{Status}
 use Rattle.cli.proofs.Endings.{concluded}
 use Rattle.cli.proofs.Reading.{pieces_read}
-use Rattle.explain_command.specs.Endings.{ExplainsFiles}
-use Rattle.explain_command.specs.Files.{AreInFiles, HaveKeys, ReadsKeys, ReadsKeysAndOrders, ReadsNumbered}
+use Rattle.explain_command.specs.Files.{AreInFiles, HaveKeys, IsOfKeys, ReadsKeys, ReadsKeysAndOrders, ReadsNumbered}
 use Rattle.explain_command.specs.KeyExplanations.{HasLinesOfEach}
 use Rattle.explain_command.specs.declared.files.Files.{Files}
-use Rattle.explain_command.specs.declared.judged.Judged.{Judged}
-use Rattle.explain_command.specs.declared.selection.Selection.{Selection}
 
 -- a history that was read with its lines was read
 pub history_read : (reader : DeviceStates) (numbered : NumberedHistories) → ReadsNumbered reader numbered → IsHistoryRead reader
@@ -61,31 +58,24 @@ module _ (history : DeviceStates) (files : Files) (read : ReadsNumbered history 
   }
 
 -- how the files were read is told otherwise
-pub read_so : (judged : Judged) (selection : Selection) (Reads Also : NumberedHistories → List CheckedKey → Type 0) → ((numbered : NumberedHistories) (keys : List CheckedKey) → Reads numbered keys → Also numbered keys)
-    → (outcome : Outcome) → ExplainsFiles judged selection Reads outcome → ExplainsFiles judged selection Also outcome
-read_so judged selection Reads Also more outcome e = record {
-  explanations = e.explanations;
-  are = record { numbered = e.are.numbered; keys = e.are.keys; read = more e.are.numbered e.are.keys e.are.read; explained = e.are.explained };
-  is = e.is;
-  text = e.text;
-  quiet = e.quiet;
-}
+read_so : (Makes : NumberedHistories → List CheckedKey → Outcome → Type 0) (Reads Also : NumberedHistories → List CheckedKey → Type 0)
+    → ((numbered : NumberedHistories) (keys : List CheckedKey) → Reads numbered keys → Also numbered keys) → (outcome : Outcome) → IsOfKeys Makes Reads outcome → IsOfKeys Makes Also outcome
+read_so Makes Reads Also more outcome of = record { numbered = of.numbered; keys = of.keys; read = more of.numbered of.keys of.read; made = of.made }
 
 -- what was made of files that were read was sent, or wasn't made
-module _ {W E : Type 0} (out : WriterStates W) (errors : WriterStates E) (Makes : (NumberedHistories → List CheckedKey → Type 0) → Outcome → Type 0)
-    (so : (Reads Also : NumberedHistories → List CheckedKey → Type 0) → ((numbered : NumberedHistories) (keys : List CheckedKey) → Reads numbered keys → Also numbered keys) → (outcome : Outcome) → Makes Reads outcome → Makes Also outcome)
+module _ {W E : Type 0} (out : WriterStates W) (errors : WriterStates E) (Makes : NumberedHistories → List CheckedKey → Outcome → Type 0)
     (Stops : Failure → Type 0) (memory : (why : Failure) → why ≡ failure.Memory → Stops why)
-    (files : Files) (made : Result Outcome Failure) (makes : IfOk made (Makes (AreInFiles files))) (stops : IfErr made (λ why. why ≡ failure.Memory))
+    (files : Files) (made : Result Outcome Failure) (makes : IfOk made (IsOfKeys Makes (AreInFiles files))) (stops : IfErr made (λ why. why ≡ failure.Memory))
     (s : Status) (ends : Ends (λ outcome. made ≡ Ok outcome) (λ why. made ≡ Err why) out errors s)
     (history : DeviceStates) (read : ReadsNumbered history files.numbered) where
   -- of both files
-  pub of_both : (orders : DeviceStates) → ReadsOrders orders files.orders.items → Ends (Makes (ReadsKeysAndOrders history orders)) Stops out errors s
+  pub of_both : (orders : DeviceStates) → ReadsOrders orders files.orders.items → Ends (IsOfKeys Makes (ReadsKeysAndOrders history orders)) Stops out errors s
   of_both orders orders_read =
-      concluded out errors (Makes (AreInFiles files)) (Makes (ReadsKeysAndOrders history orders)) (λ why. why ≡ failure.Memory) Stops made makes stops
-      (so (AreInFiles files) (ReadsKeysAndOrders history orders) (λ numbered keys are. with_orders history files read numbered keys are orders orders_read)) memory s ends
+      concluded out errors (IsOfKeys Makes (AreInFiles files)) (IsOfKeys Makes (ReadsKeysAndOrders history orders)) (λ why. why ≡ failure.Memory) Stops made makes stops
+      (read_so Makes (AreInFiles files) (ReadsKeysAndOrders history orders) (λ numbered keys are. with_orders history files read numbered keys are orders orders_read)) memory s ends
 
   -- of the history alone
-  pub of_history : files.orders.items ≡ [] → Ends (Makes (ReadsKeys history)) Stops out errors s
+  pub of_history : files.orders.items ≡ [] → Ends (IsOfKeys Makes (ReadsKeys history)) Stops out errors s
   of_history none =
-      concluded out errors (Makes (AreInFiles files)) (Makes (ReadsKeys history)) (λ why. why ≡ failure.Memory) Stops made makes stops
-      (so (AreInFiles files) (ReadsKeys history) (λ numbered keys are. without_orders history files read numbered keys are none)) memory s ends
+      concluded out errors (IsOfKeys Makes (AreInFiles files)) (IsOfKeys Makes (ReadsKeys history)) (λ why. why ≡ failure.Memory) Stops made makes stops
+      (read_so Makes (AreInFiles files) (ReadsKeys history) (λ numbered keys are. without_orders history files read numbered keys are none)) memory s ends

@@ -17,7 +17,7 @@ use Rattle.explanations.specs.Sentences.{order_reason_text, tag_reason_text}
 use Rattle.cli.specs.VerdictLines.{line_text}
 use Rattle.cli.specs.Justifications.{KeyPart}
 use Rattle.cli.specs.declared.outcome.Outcome.{Outcome}
-use Rattle.explain_command.specs.Endings.{ExplainsFiles}
+use Rattle.explain_command.specs.Endings.{ExplainsKeys}
 use Rattle.explain_command.specs.KeyExplanations.{ExplainsOrder, ExplainsTags, IsHallOfKey, RefusesOrder, RefusesTags, selected_keys, tag_line}
 use Rattle.explain_command.specs.Explanations.{Yes, No, explanations_text, is_good, is_missing, left_out_line, lines_text, missing_line, named_key, no_count}
 use Rattle.explain_command.specs.Reports.{Adds, AddsOf, Explains, IsReportOf}
@@ -89,7 +89,7 @@ module _ (judged : Judged) (numbered : NumberedHistories) where
       → count ≡ length (selected_keys (named_key selection) all) → second.text.items ≡ first.text.items ++ missing_line (is_missing (named_key selection) count) → second.refused ≡ first.refused → second.most ≡ first.most
       → last.text.items ≡ second.text.items ++ left_out_line (second.refused - second.most) → last.refused ≡ second.refused
       → outcome.text.items ≡ last.text.items → outcome.good ≡ is_good last.refused (is_missing (named_key selection) count) → outcome.notes.items ≡ []
-      → ExplainsFiles judged selection (λ histories keys. (histories ≡ numbered) × (keys ≡ all)) outcome
+      → ExplainsKeys judged selection numbered all outcome
   unfolding explanations_text
   whole all selection first second last count outcome are counted missing same_refused same_most left kept same_text good quiet =
       let es = are.explanations in
@@ -99,7 +99,7 @@ module _ (judged : Judged) (numbered : NumberedHistories) where
       let most : second.most ≡ selection.most = same_most ∙ are.most_is in
       record {
         explanations = es;
-        are = record { numbered = numbered; keys = all; read = (refl, refl); explained = are.explained };
+        explained = are.explained;
         is = good ∙ ap₂ is_good (kept ∙ refused) misses;
         text = same_text ∙ left ∙ ap₂ (λ (l : List ℕ) (n : ℕ). l ++ left_out_line n) (missing ∙ ap₂ (λ (l : List ℕ) (b : Bool). l ++ missing_line b) are.text misses) (ap₂ (λ (n m : ℕ). n - m) refused most);
         quiet = quiet;

@@ -13,24 +13,30 @@ use Rattle.explain_command.specs.declared.judged.Judged.{Judged}
 use Rattle.explain_command.specs.declared.judged.Judged.TheVariants as judged
 use Rattle.explain_command.specs.declared.selection.Selection.{Selection}
 
-module _ (judged : Judged) (selection : Selection)
-    (Reads : NumberedHistories → List CheckedKey → Type 0) where
-  -- files were read so, and the selected ones of their keys are explained so, in their order
-  pub record AreOf (explanations : List Explanation) : Type 0 where
-    pub numbered : NumberedHistories
-    pub keys : List CheckedKey
-    pub read : Reads numbered keys
-    pub explained : AreExplained (Explains judged numbered)
-        (selected_keys (named_key selection) keys) explanations
+module _ (judged : Judged) (selection : Selection) where
+  -- the selected ones of the keys are explained so, in their order
+  abbrev pub ExplainsSelected : NumberedHistories → List CheckedKey → List Explanation → Type 0
+  ExplainsSelected numbered keys explanations =
+      AreExplained (Explains judged numbered) (selected_keys (named_key selection) keys)
+      explanations
 
   -- the text is that of their explanations, and good if all say yes and a key has the name that was
   -- given, if one was
-  pub record ExplainsFiles (outcome : Outcome) : Type 0 where
+  pub record ExplainsKeys (numbered : NumberedHistories) (keys : List CheckedKey)
+      (outcome : Outcome) : Type 0 where
     pub explanations : List Explanation
-    pub are : AreOf explanations
+    pub explained : ExplainsSelected numbered keys explanations
     pub is : outcome.good ≡ is_good (no_count explanations) (misses_key selection explanations)
     pub text : outcome.text.items ≡ explanations_text selection explanations
     pub quiet : outcome.notes.items ≡ []
+
+  -- files were read so, and the selected ones of their keys are explained so
+  pub record AreOf (Reads : NumberedHistories → List CheckedKey → Type 0)
+      (explanations : List Explanation) : Type 0 where
+    pub numbered : NumberedHistories
+    pub keys : List CheckedKey
+    pub read : Reads numbered keys
+    pub explained : ExplainsSelected numbered keys explanations
 
 -- both files were read, and the orders of the selected keys are explained so
 abbrev pub AreOfOrders : Selection → DeviceStates → DeviceStates → List Explanation → Type 0

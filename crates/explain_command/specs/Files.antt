@@ -61,16 +61,24 @@ module _ (history : DeviceStates) where
     pub are_joined : AreJoined pieces joined
     pub keys_are : HaveKeys numbered.histories joined keys
 
-module _ {W E : Type 0}
-    (Makes : (NumberedHistories → List CheckedKey → Type 0) → Outcome → Type 0) where
+module _ (Makes : NumberedHistories → List CheckedKey → Outcome → Type 0) where
+  -- files were read so, and that is made of their keys
+  pub record IsOfKeys (Reads : NumberedHistories → List CheckedKey → Type 0) (outcome : Outcome)
+      : Type 0 where
+    pub numbered : NumberedHistories
+    pub keys : List CheckedKey
+    pub read : Reads numbered keys
+    pub made : Makes numbered keys outcome
+
   -- how a command ends that makes that of the keys of both files
-  abbrev pub EndsOnBoth : FileStates → FileStates → WriterStates W → WriterStates E → Status
-      → Type 0
+  abbrev pub EndsOnBoth : {W E : Type 0} → FileStates → FileStates → WriterStates W
+      → WriterStates E → Status → Type 0
   EndsOnBoth history orders out errors s =
-      Ends (Makes (ReadsKeysAndOrders history.reader orders.reader)) (StopsBoth history orders)
-      out errors s
+      Ends (IsOfKeys (ReadsKeysAndOrders history.reader orders.reader))
+      (StopsBoth history orders) out errors s
 
   -- how a command ends that makes that of the keys of a history
-  abbrev pub EndsOnHistory : FileStates → WriterStates W → WriterStates E → Status → Type 0
+  abbrev pub EndsOnHistory : {W E : Type 0} → FileStates → WriterStates W → WriterStates E → Status
+      → Type 0
   EndsOnHistory history out errors s =
-      Ends (Makes (ReadsKeys history.reader)) (StopsHistory history) out errors s
+      Ends (IsOfKeys (ReadsKeys history.reader)) (StopsHistory history) out errors s

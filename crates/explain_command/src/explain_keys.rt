@@ -1,14 +1,13 @@
-//! The report on keys.
-ghost use Rattle.std.specs.Prelude.{◌≡◌, map, IfOk, IfErr};
+//! The explanation of keys: what `abd explain` says of them.
+ghost use Rattle.std.specs.Prelude.{map, IfOk};
 ghost use Rattle.parallel_keys.specs.KeysToCheck.{what_of};
-ghost use Rattle.cli.specs.declared.status.Failure.TheVariants as failure;
-ghost use Rattle.explain_command.specs.Endings.{ExplainsFiles};
-ghost use Rattle.explain_command.specs.Files.{AreInFiles, CanBeJudged};
+ghost use Rattle.explain_command.specs.Endings.{ExplainsKeys};
 ghost use Rattle.explain_command.specs.KeyExplanations.{HasLinesOfEach};
 ghost use Rattle.explain_command.specs.Reports.{IsReportOf};
 
 use crate::files::Files;
 use crate::judged::Judged;
+use crate::presentation::Presentation;
 use crate::report::{KeyToExplain, Report, is_good};
 use crate::selection::Selection;
 use cli::{Made, Outcome};
@@ -46,8 +45,7 @@ impl Selection<'_> {
         keys: &[KeyToCheck<'_>],
     ) -> Result<Outcome, Memory>
         requires { HasLinesOfEach numbered.now }
-        ensures { IfOk result (ExplainsFiles judged self.now
-            (λ histories all. (histories ≡ numbered.now) × (all ≡ map what_of keys.now))) }
+        ensures { IfOk result (ExplainsKeys judged self.now numbered.now (map what_of keys.now)) }
     {
         let few = self.select(alloc, keys)?;
         let missing = self.misses(few.len());
@@ -57,13 +55,17 @@ impl Selection<'_> {
         let good = is_good(report.refused, missing);
         Ok(Outcome::of_text(alloc, report.text, good))
     }
+}
 
-    /// Makes the explanation of the files that were read.
-    pub(crate) fn explain(&self, alloc: Global, judged: Judged, files: &Files) -> Made<'static>
-        requires { CanBeJudged files.now }
-        ensures made { IfOk result (ExplainsFiles judged self.now (AreInFiles files.now)) }
-        ensures stops { IfErr result (λ why. why ≡ failure.Memory) }
-    {
+/// The keys that are selected are explained. Of each stands the line of the verdict, on its order that of
+/// `abd check`, on its tags `KEY: yes` or `KEY: no tags RULE`; below the first refused ones, up to that many,
+/// why: each call that shows the fault or breaks the rule, with the lines of the history on which it stands.
+/// Then it is said that no key has the name that was given, if so, and how many refused keys have no reason
+/// there, if any has none.
+impl Presentation for Selection<'_> {
+    ghost Presents = { ExplainsKeys };
+
+    fn present(&self, alloc: Global, judged: Judged, files: &Files) -> Made<'static> {
         let parts = hall_parts(alloc, files.numbered.histories.halls())?;
         let nothing = Part::empty(alloc);
         let keys = keys_to_check(alloc, parts.as_slice(), files.orders.as_slice(), &nothing)?;

@@ -1,7 +1,7 @@
 //! Runs of single commands.
 use crate::formats::Counting;
 use cli::{Lines, Source, Status, check_command, justify_command, simulate_command};
-use explain_command::{Selection, explain_orders_command, explain_tags_command};
+use explain_command::{Selection, judge_orders_command, judge_tags_command};
 use parallel_keys::Workers;
 use std::alloc::Global;
 use std::io::ErrorKind;
@@ -93,9 +93,9 @@ pub fn run(
         "trace" => trace_command(alloc, &mut first, way.most, out, errors),
         "justify" => justify_command(rt, alloc, &mut first, way.unchecked, out, errors),
         "explain" => {
-            explain_orders_command(rt, alloc, &mut first, &mut orders, keys, out, errors)
+            judge_orders_command(rt, alloc, &mut first, &mut orders, &keys, out, errors)
         }
-        "explain-tags" => explain_tags_command(rt, alloc, &mut first, keys, out, errors),
+        "explain-tags" => judge_tags_command(rt, alloc, &mut first, &keys, out, errors),
         _ => {
             let form = way.form;
             check_command(

@@ -38,7 +38,7 @@ fn page_of_script(
 
 /// Reads the script, runs it, and writes its page: a diagram of the messages of the run, with `most`
 /// steps at most, the trace of `trace_command`, and the pictures of the history that the run records,
-/// as the page of `draw_tags_command` has them.
+/// as the page of `abd draw` without orders has them.
 ///
 /// The steps and the history are those of `simulate_command`; the lines that a picture names are
 /// those of the file that it writes. What goes to `out` is that page, once the whole of it is made, or

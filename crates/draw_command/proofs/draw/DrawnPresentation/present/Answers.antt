@@ -6,7 +6,7 @@ use Rattle.draw_command.specs.HistoryPictures.{IsJudgedContent}
 use Rattle.draw_command.specs.Pages.{styles_markup}
 use Rattle.draw_command.specs.declared.words.TheConstants.{TITLE}
 use Rattle.draw_command.proofs.Framing.{page_framed}
-use Rattle.draw_command.proofs.drawn.Drawn.draw.Goals as goal
+use Rattle.draw_command.proofs.draw.DrawnPresentation.present.Goals as goal
 
 pub add_histories-requires-clause-distinct : goal.add_histories-requires-clause-distinct
 add_histories-requires-clause-distinct c = subst (λ (orders : List KeyOrder). AreDistinct orders) (sym c.as_slice.ensures.value) c.requires.distinct
