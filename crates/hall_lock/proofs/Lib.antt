@@ -1,5 +1,6 @@
 mod Results
 pub mod Rows
+mod RowCounts
 mod Moves
 mod OneTurn
 mod Joining

@@ -1,4 +1,8 @@
 mod Lists
+mod Pairs
+mod Tables
+mod RowCounts
+mod PartLemmas
 mod Entries
 mod Numbers
 mod OneMore
