@@ -1,2 +1,3 @@
 mod Numbering
 mod Ending
+mod RowNumbers
