@@ -1,6 +1,5 @@
 mod Results
 pub mod Rows
-mod RowCounts
 mod Moves
 mod OneTurn
 mod Joining

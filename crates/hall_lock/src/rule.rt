@@ -11,7 +11,7 @@ use world_steps::World;
 /// received. No value of it is made.
 pub struct View {
     pub client: Option<ClientId>,
-    pub rows: LinkedList<Row<'static>>,
+    pub rows: LinkedList<Row>,
     pub is_stopped: bool,
     pub held: Option<World>,
 }

@@ -1,5 +1,5 @@
 -- Whether an answer is of its call's kind.
-use Rattle.std.proofs.Common.{ℕ, ◌≡◌, List, Option, Some, None, IfNone, IfSome, is_some, sym, ◌∙◌, Bool, true, false, not, IsTrue, refl}
+use Rattle.std.proofs.Common.{◌≡◌, List, None, Bool, true, false, not, IsTrue, refl}
 use mathlib.Core.Bool.{beq}
 use Rattle.tag.specs.declared.actions.Action.{Action}
 use Rattle.tag.specs.declared.actions.Action.TheVariants.{Read, Write}
@@ -8,7 +8,7 @@ use Rattle.tag.specs.declared.actions.Returned.{Returned}
 use Rattle.tag.specs.declared.numbers.OpId.{OpId}
 use Rattle.recorder.specs.declared.row.Row.{Row}
 use Rattle.recorder.specs.declared.row.Row.TheVariants.{Respond}
-use Rattle.recorder.specs.declared.record.CallState.{CallState}
+use Rattle.recorder.specs.declared.history.CallState.{CallState}
 use Rattle.recorder.specs.Histories.{FitsAction, MayFollow}
 use Rattle.recorder.specs.States.{Describes, is_write}
 use Rattle.recorder.proofs.States.{pending_from}
@@ -39,10 +39,3 @@ pub may_respond : (rows : List Row) (op : OpId) (state : CallState) → Describe
     → (IsTrue r → returned ≡ Written) × (returned ≡ Written → IsTrue r) → not (beq state.is_write r) ≡ false → MayFollow rows (Respond op returned)
 may_respond rows op state d returned r waits iff same =
     (state.client, d.action, pending_from rows op state d waits, kind_fits d.action returned state.is_write r d.kind iff same)
-
--- whether an answer is a write's
-pub done-kind : (returned : Returned) (value : Option (Option (List ℕ))) (r : Bool) → is_some value ≡ not r → IfNone value (returned ≡ Written) → IfSome value (λ v. returned ≡ Value v) → (IsTrue r → returned ≡ Written) × (returned ≡ Written → IsTrue r)
-done-kind returned None true is none some = (λ t. none, λ e. refl)
-done-kind returned None false is none some = absurd (cc)
-done-kind returned (Some v) true is none some = absurd (cc)
-done-kind returned (Some v) false is none some = (λ t. absurd (cc), λ e. absurd (let differ : Value v ≡ Written = sym some ∙ e in cc))

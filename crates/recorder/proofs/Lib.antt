@@ -1,8 +1,4 @@
 mod Lists
-mod Pairs
-mod Tables
-mod RowCounts
-mod PartLemmas
 mod Entries
 mod Numbers
 mod OneMore

@@ -9,7 +9,7 @@ use Rattle.tag.specs.declared.numbers.OpId.{OpId}
 use Rattle.tag.specs.Tags.{Tag}
 use Rattle.recorder.specs.declared.row.Row.{Row}
 use Rattle.recorder.specs.declared.row.Row.TheVariants.{Invoke, Note, Respond}
-use Rattle.recorder.specs.declared.record.CallState.{CallState}
+use Rattle.recorder.specs.declared.history.CallState.{CallState}
 use Rattle.recorder.specs.Histories.{call_count, HasNote, HasResponse, IsPendingCall, IsPendingOp, IsWellFormed, MayFollow}
 use Rattle.recorder.specs.States.{Describes, AreStates, is_write}
 use Rattle.tag.proofs.SameTags.{same_op}
@@ -45,7 +45,7 @@ module _ (rows : List Row) (op : OpId) (state : CallState) (d : Describes rows o
           (r.0, Contains-slice_get rows place (Respond op r.0) r.1)
 
   pub pending_from : state.response ≡ None → IsPendingCall rows op state.client d.action
-  pending_from waits = record { key = d.key; invoked = Contains-slice_get rows state.invoked (Invoke op state.client d.key d.action) d.invoked; unanswered = not_answered waits }
+  pending_from waits = record { key = d.key; invoked = d.invoked; unanswered = not_answered waits }
 
   pub may_note : (tag : Tag) → state.response ≡ None → state.note ≡ None → MayFollow rows (Note op tag)
   may_note tag waits none = ((state.client, d.action, pending_from waits), not_noted none)
@@ -118,7 +118,7 @@ module _ (rows : List Row) (op : OpId) (returned : Returned) where
 
 -- one invocation more
 module _ (rows : List Row) (formed : IsWellFormed rows) (op : OpId) (client : ℕ) (key : List ℕ) (action : Action) (fresh : op.0 ≡ call_count rows) where
-  pub Describes-begun : Describes (rows ++ Invoke op client key action ∷ []) op (record { client = client; is_write = is_write action; note = None; invoked = length rows; response = None })
+  pub Describes-begun : Describes (rows ++ Invoke op client key action ∷ []) op (record { client = client; is_write = is_write action; note = None; response = None })
   Describes-begun =
       let notes = noted_same rows (Invoke op client key action) op (λ t e. cc) in
       let answers = answered_same rows (Invoke op client key action) op (λ r e. cc) in
@@ -126,19 +126,19 @@ module _ (rows : List Row) (formed : IsWellFormed rows) (op : OpId) (client : �
         key = key;
         action = action;
         kind = refl;
-        invoked = slice_get-push_last rows (Invoke op client key action);
+        invoked = Contains-push rows (Invoke op client key action);
         noted = λ t. (λ e. absurd (cc), λ h. absurd (no_note rows formed op fresh (t, (notes t).1 h)));
         answered = λ place. (λ e. absurd (cc), λ h. let r = (answers place).1 h in absurd (no_response rows formed op fresh (r.0, Contains-slice_get rows place (Respond op r.0) r.1)));
       }
 
-  pub states_invoke : (states : List CallState) (state : CallState) → AreStates rows states → state ≡ record { client = client; is_write = is_write action; note = None; invoked = length rows; response = None } → AreStates (rows ++ Invoke op client key action ∷ []) (states ++ state ∷ [])
+  pub states_invoke : (states : List CallState) (state : CallState) → AreStates rows states → state ≡ record { client = client; is_write = is_write action; note = None; response = None } → AreStates (rows ++ Invoke op client key action ∷ []) (states ++ state ∷ [])
   states_invoke states state are is = record {
     all = simp length-append (omega (arith, count_push rows (Invoke op client key action), are.all));
     each = λ o s there. elim (push_cases states state o.0 s there) [
       | inl w ↦ Describes-push rows (Invoke op client key action) o s (λ t e. cc) (λ r e. cc) (are.each o s w)
       | inr w ↦
           let here : o ≡ op = same_op o op (omega (arith, w.0, are.all, fresh)) in
-          let same : record { client = client; is_write = is_write action; note = None; invoked = length rows; response = None } ≡ s = sym is ∙ w.1 in
+          let same : record { client = client; is_write = is_write action; note = None; response = None } ≡ s = sym is ∙ w.1 in
           subst (λ (x : OpId). Describes (rows ++ Invoke op client key action ∷ []) x s) (sym here) (subst (λ (x : CallState). Describes (rows ++ Invoke op client key action ∷ []) op x) same Describes-begun)
     ];
   }

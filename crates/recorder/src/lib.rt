@@ -14,17 +14,13 @@ mod log_entry;
 mod order;
 mod part;
 mod parts;
-mod record;
-mod refs;
 mod row;
-mod row_table;
 
 pub use halls::Halls;
 pub use histories::Histories;
 pub use history::History;
-pub use log_entry::{Entry, OwnResponse};
+pub use log_entry::Entry;
 pub use order::{KeyOrder, Order};
 pub use part::{Call, Part, Response};
 pub use parts::Parts;
-pub use refs::{ActionRef, KeyRef, ReturnedRef, ValueRef};
 pub use row::{Row, RowRefusal};

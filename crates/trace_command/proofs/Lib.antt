@@ -1,3 +1,2 @@
 mod Numbering
 mod Ending
-mod RowNumbers

@@ -15,14 +15,14 @@ unreachable-requires c =
 pub returns-in-Some-first_invoked_after : goal.returns-in-Some-first_invoked_after
 returns-in-Some-first_invoked_after c =
     let s = c.args.self.now in
-    broken_here s.part.now s.order.now s.sequence _ c.call_at-call.result c.in-Some.response c.loop-j.latest c.call_at-call.ensures c.in-Some.is c.if-response-latest.true c.loop-j.invariant.reached c.loop-j.invariant.kept _ c.in-Some-first_invoked_after.ensures
+    broken_here s.calls.now s.order.now s.sequence _ c.call_at-call.result.now c.in-Some.response c.loop-j.latest c.call_at-call.ensures c.in-Some.is c.if-response-latest.true c.loop-j.invariant.reached c.loop-j.invariant.kept _ c.in-Some-first_invoked_after.ensures
 
 pub loop-j-preserved : goal.loop-j-preserved
 loop-j-preserved c =
     let s = c.args.self.now in
     record {
-      kept = broken_more s.part.now s.order.now s.sequence _ c.call_at-call.result c.loop-j.latest c.call_at-call.ensures c.loop-j.invariant.most
+      kept = broken_more s.calls.now s.order.now s.sequence _ c.call_at-call.result.now c.loop-j.latest c.call_at-call.ensures c.loop-j.invariant.most
           (λ response is. elim c.match-call.branch [ in-Some+else-response-latest w ↦ (let same : response ≡ w.in-Some.response = cc (is, w.in-Some.is) in let places : response.place ≡ w.in-Some.response.place = ap (λ (x : Response). x.place) same in omega (arith, w.if-response-latest.false)) | in_default w ↦ absurd (w.in_default.not-Some response is) ]) c.loop-j.invariant.kept;
-      most = most_more s.part.now s.order.now s.sequence _ c.call_at-call.result c.loop-j.latest _ c.max-latest.ensures c.call_at-call.ensures c.loop-j.invariant.most;
-      reached = reached_more s.part.now s.order.now _ c.call_at-call.result c.loop-j.latest _ c.max-latest.ensures c.call_at-call.ensures c.loop-j.invariant.reached;
+      most = most_more s.calls.now s.order.now s.sequence _ c.call_at-call.result.now c.loop-j.latest _ c.max-latest.ensures c.call_at-call.ensures c.loop-j.invariant.most;
+      reached = reached_more s.calls.now s.order.now _ c.call_at-call.result.now c.loop-j.latest _ c.max-latest.ensures c.call_at-call.ensures c.loop-j.invariant.reached;
     }
