@@ -5,7 +5,7 @@
 #![tactic(auto)]
 
 mod check;
-mod check_outcome;
+mod check_keys;
 mod json_lines;
 mod justify;
 mod noted_orders;

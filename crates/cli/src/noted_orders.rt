@@ -123,11 +123,7 @@ impl<'k, T: Drop> From<AllocFailed<T>> for Unjustified<'k> {
 }
 
 /// The key's tag order, where it is an order of its calls.
-fn checked_order<'k>(
-    alloc: Global,
-    key: &'k Key,
-    part: &Part<'_>,
-) -> Result<KeyOrder, Unjustified<'k>>
+fn checked_order<'k>(alloc: Global, key: &'k Key, part: &Part) -> Result<KeyOrder, Unjustified<'k>>
     ensures order { IfOk result (IsJustifiedOrder (key.now, part.now)) }
     ensures refused { IfErr result (IsUnjustified (key.now, part.now)) }
 {
@@ -149,17 +145,16 @@ fn checked_order<'k>(
 fn add_orders<'k>(
     alloc: Global,
     orders: &mut Vec<KeyOrder>,
-    parts: &'k Parts<'k>,
+    parts: &'k [(Key, Part)],
 ) -> Result<(), Unjustified<'k>>
     ensures orders { OnOk result ((before : List KeyPart) → AreJustified before orders.old.items
-        → AreJustified (before ++ parts.now.entries) orders.new.items) }
+        → AreJustified (before ++ parts.now) orders.new.items) }
     ensures refused { IfErr result (λ refusal. (before behind : List KeyPart)
         → AreJustified before orders.old.items
-        → IsFirstUnjustified (before ++ (parts.now.entries ++ behind)) refusal) }
+        → IsFirstUnjustified (before ++ (parts.now ++ behind)) refusal) }
 {
-    for place in 0..parts.len() {
-        let (key, part) = parts.entry(place);
-        orders.push(checked_order(alloc, key.key(), &part)?)?;
+    for entry in parts {
+        orders.push(checked_order(alloc, &entry.0, &entry.1)?)?;
     }
     Ok(())
 }
@@ -171,7 +166,7 @@ fn add_orders<'k>(
 /// comes only where an allocation was refused.
 pub fn checked_orders<'k>(
     alloc: Global,
-    parts: &'k [Parts<'k>],
+    parts: &'k [Parts],
 ) -> Result<Vec<KeyOrder>, Unjustified<'k>>
     ensures orders { IfOk result (λ orders.
         AreJustified (all_parts (map (λ p. p.entries) parts.now)) orders.items) }
@@ -180,7 +175,7 @@ pub fn checked_orders<'k>(
 {
     let mut orders = Vec::new(alloc);
     for own in parts {
-        add_orders(alloc, &mut orders, own)?;
+        add_orders(alloc, &mut orders, own.entries())?;
     }
     Ok(orders)
 }

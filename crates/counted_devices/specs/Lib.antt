@@ -8,5 +8,4 @@ pub mod Deliveries
 pub mod ReadFaults
 pub mod Answers
 pub mod FirstFaults
-pub mod Judgements
 pub mod Sendings

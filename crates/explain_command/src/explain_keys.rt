@@ -13,6 +13,7 @@ use crate::selection::Selection;
 use cli::{Made, Outcome};
 use history_file::NumberedHistories;
 use parallel_keys::{KeyToCheck, hall_parts, keys_to_check};
+use recorder::Part;
 use std::alloc::Global;
 use tag::Memory;
 
@@ -41,15 +42,14 @@ impl Selection<'_> {
         alloc: Global,
         judged: Judged,
         numbered: &NumberedHistories,
-        mut keys: Vec<KeyToCheck<'_>>,
+        keys: &[KeyToCheck<'_>],
     ) -> Result<Outcome, Memory>
         requires { HasLinesOfEach numbered.now }
-        ensures { IfOk result
-            (ExplainsKeys judged self.now numbered.now (map what_of keys.entry.items)) }
+        ensures { IfOk result (ExplainsKeys judged self.now numbered.now (map what_of keys.now)) }
     {
-        self.select(&mut keys);
-        let missing = self.misses(keys.len());
-        let mut report = say_keys(alloc, judged, numbered, keys.as_slice(), self.most)?;
+        let few = self.select(alloc, keys)?;
+        let missing = self.misses(few.len());
+        let mut report = say_keys(alloc, judged, numbered, few.as_slice(), self.most)?;
         report.say_missing(missing)?;
         report.say_left_out()?;
         let good = is_good(report.refused, missing);
@@ -67,7 +67,8 @@ impl Presentation for Selection<'_> {
 
     fn present(&self, alloc: Global, judged: Judged, files: &Files) -> Made<'static> {
         let parts = hall_parts(alloc, files.numbered.histories.halls())?;
-        let keys = keys_to_check(alloc, parts.as_slice(), files.orders.as_slice())?;
-        Ok(self.explain_keys(alloc, judged, &files.numbered, keys)?)
+        let nothing = Part::empty(alloc);
+        let keys = keys_to_check(alloc, parts.as_slice(), files.orders.as_slice(), &nothing)?;
+        Ok(self.explain_keys(alloc, judged, &files.numbered, keys.as_slice())?)
     }
 }

@@ -6,13 +6,14 @@ ghost use Rattle.explanations.specs.Sentences.{not_above_text, other_value_text,
 
 use crate::hall_rows::HallRows;
 use crate::pieces::{Piece, Subject};
+use crate::words::written_by;
 use reasons::TagReason;
 use recorder::Call;
 use sentences::append;
 use tag::{Key, Memory, Tag};
 
 /// The tag that the call is noted with; the least, if it has no note.
-fn noted_tag(call: &Call<'_>) -> Tag
+fn noted_tag(call: &Call) -> Tag
     ensures { result ≡ unwrap_or call.now.note least }
 {
     match call.note {
@@ -27,8 +28,8 @@ impl Subject<'_, '_> {
     fn say_not_above<'c>(
         &self,
         text: &mut Vec<u8>,
-        earlier: &'c Call<'c>,
-        later: &'c Call<'c>,
+        earlier: &'c Call,
+        later: &'c Call,
     ) -> Result<(), Memory>
         ensures { OnOk result (text.new.items ≡ text.old.items
             ++ not_above_text self.now.key.now self.now.hall earlier.now later.now) }
@@ -51,7 +52,7 @@ impl Subject<'_, '_> {
 
     /// Says that no write has the read's tag.
     #[tactic(auto, unfolding(crate::specs::Sentences::no_write_text))]
-    fn say_no_write(&self, text: &mut Vec<u8>, read: &Call<'_>) -> Result<(), Memory>
+    fn say_no_write(&self, text: &mut Vec<u8>, read: &Call) -> Result<(), Memory>
         ensures { OnOk result (text.new.items
             ≡ text.old.items ++ no_write_text self.now.key.now self.now.hall read.now) }
     {
@@ -70,11 +71,11 @@ impl Subject<'_, '_> {
     fn say_other_value<'c>(
         &self,
         text: &mut Vec<u8>,
-        read: &'c Call<'c>,
-        write: &'c Option<Call<'c>>,
+        read: &'c Call,
+        write: Option<&'c Call>,
     ) -> Result<(), Memory>
         ensures { OnOk result (text.new.items ≡ text.old.items
-            ++ other_value_text self.now.key.now self.now.hall read.now write.now) }
+            ++ other_value_text self.now.key.now self.now.hall read.now write.entry) }
     {
         let read = Piece::Line("  ", read);
         match write {
@@ -84,7 +85,7 @@ impl Subject<'_, '_> {
             }
             Some(write) => {
                 let same = Piece::Words("  the read has the tag of that write\n");
-                let due = Piece::Due(write.action.written());
+                let due = Piece::Due(written_by(&write.action));
                 self.say(text, &[read, Piece::Line("  ", write), same, due])
             }
         }
@@ -114,7 +115,7 @@ impl Subject<'_, '_> {
             }
             TagReason::NotAbove { earlier, later } => self.say_not_above(text, earlier, later),
             TagReason::NoWrite { read } => self.say_no_write(text, read),
-            TagReason::OtherValue { read, write } => self.say_other_value(text, read, write),
+            TagReason::OtherValue { read, write } => self.say_other_value(text, read, *write),
         }
     }
 }

@@ -3,8 +3,9 @@ mod WordLemmas
 mod NumberLemmas
 mod VoteLemmas
 mod VoteRows
-mod ItemLemmas
+mod LineLemmas
 mod DraftLemmas
+mod FeedLemmas
 mod ReadingBack
 mod FormsBack
 mod SettingsBack

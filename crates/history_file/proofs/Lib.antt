@@ -1,2 +1,8 @@
-pub mod Bodies
+pub mod SideBySide
+pub mod LineByLine
+pub mod FeedLemmas
+pub mod Advancing
+pub mod Consuming
+pub mod Filling
+pub mod ByHall
 pub mod NumberedLines

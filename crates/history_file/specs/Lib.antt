@@ -1,6 +1,9 @@
 pub mod KeyedOrders
 pub mod Beginnings
-pub mod BodyLaws
-pub mod Openings
+pub mod FileFaults
+pub mod LinesRead
 pub mod Making
+pub mod Feeds
+pub mod Ahead
+pub mod Batches
 pub mod NumberedRows

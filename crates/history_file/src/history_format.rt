@@ -2,10 +2,9 @@
 ghost use Rattle.std.specs.Prelude.{◌≡◌, [], refl};
 ghost use Rattle.file_format.specs.HistoryFormat.{history_format, MakesHistory};
 ghost use Rattle.file_format.specs.Readings.{Reads};
-ghost use Rattle.history_file.specs.Openings.{history_opens};
 
-use crate::body::Body;
-use file_format::{LineRow, MOST_CALLS, Stop, follow, judge_header};
+use crate::format::Contents;
+use file_format::{FileFault, LineRow, MOST_CALLS, Stop, follow, judge_header};
 use recorder::History;
 use std::alloc::Global;
 use std::marker::Model;
@@ -45,9 +44,7 @@ impl FileHistory {
     }
 }
 
-impl Body for FileHistory {
-    type Header = ();
-
+impl Contents for FileHistory {
     type Item = LineRow;
 
     type Whole = History;
@@ -56,9 +53,11 @@ impl Body for FileHistory {
 
     ghost Makes = { MakesHistory };
 
-    ghost told = { λ history. tt };
-
     ghost ReadsWhole = { Reads history_format MakesHistory };
+
+    fn opening(alloc: Global) -> FileHistory {
+        FileHistory::new(alloc)
+    }
 
     fn begin(alloc: Global, line: &[u8]) -> Result<FileHistory, Stop> {
         judge_header(alloc, "history", line)?;
@@ -71,13 +70,9 @@ impl Body for FileHistory {
         follow(&mut self.history, row)
     }
 
-    fn whole(self) -> History {
-        self.into_history()
+    fn whole(self) -> Result<History, FileFault> {
+        Ok(self.into_history())
     }
 
     ghost says = { λ header. refl };
-
-    ghost opens = { history_opens };
-
-    ghost tells = { λ header rows history made. refl };
 }

@@ -1,12 +1,10 @@
 //! The format of history files of either version, of which the line of each row is kept.
 ghost use Rattle.std.specs.Prelude.{◌≡◌, [], length, refl, All, IfOk};
-ghost use Rattle.file_format.specs.FileHeaders.{header_with};
 ghost use Rattle.file_format.specs.HistoriesFormat.{histories_format};
 ghost use Rattle.file_format.specs.Readings.{Reads};
-ghost use Rattle.history_file.specs.Openings.{histories_open, halls_tell};
 
-use crate::body::Body;
-use file_format::{FileHeader, HallHistories, HallRow, LineFault, Stop};
+use crate::format::Contents;
+use file_format::{FaultKind, FileFault, FileHeader, HallHistories, HallRow, LineFault, Stop};
 use recorder::Histories;
 use row_lines::RowLines;
 use std::alloc::Global;
@@ -20,10 +18,10 @@ pub struct NumberedHistories {
     pub lines: Vec<RowLines>,
 }
 
-/// The same while the lines come.
+/// The same while the lines come: before the header there are no histories and no lists.
 #[derive(Drop)]
 pub struct NumberedHalls {
-    halls: HallHistories,
+    halls: Option<HallHistories>,
     lines: Vec<RowLines>,
 }
 
@@ -39,11 +37,9 @@ fn empty_lists(alloc: Global, count: u8) -> Result<Vec<RowLines>, Memory>
     Ok(lists)
 }
 
-impl Body for NumberedHalls {
+impl Contents for NumberedHalls {
     ghost use Rattle.history_file.specs.Making.{MakesNumberedHalls};
     ghost use Rattle.history_file.specs.NumberedRows.{MakesNumbered};
-
-    type Header = FileHeader;
 
     type Item = HallRow;
 
@@ -53,17 +49,21 @@ impl Body for NumberedHalls {
 
     ghost Makes = { MakesNumberedHalls };
 
-    ghost told = { λ numbered. header_with (length numbered.halls.halls) numbered.halls.quorums };
-
     ghost ReadsWhole = { Reads histories_format MakesNumbered };
 
+    fn opening(alloc: Global) -> NumberedHalls {
+        NumberedHalls {
+            halls: None,
+            lines: Vec::new(alloc),
+        }
+    }
+
     fn begin(alloc: Global, line: &[u8]) -> Result<NumberedHalls, Stop> {
-        let histories = <HallHistories as Body>::begin(alloc, line)?;
-        let lines = empty_lists(alloc, histories.header().halls())?;
-        Ok(NumberedHalls {
-            halls: histories,
-            lines,
-        })
+        let halls = <Option<HallHistories> as Contents>::begin(alloc, line)?;
+        match empty_lists(alloc, halls.header().halls()) {
+            Ok(lines) => Ok(NumberedHalls { halls, lines }),
+            Err(_) => Err(Stop::Memory),
+        }
     }
 
     fn header(&self) -> FileHeader {
@@ -75,22 +75,26 @@ impl Body for NumberedHalls {
         if hall >= self.lines.len() {
             return Err(Stop::Fault(LineFault::Range));
         }
-        self.halls.follow(item)?;
-        self.lines[hall].push(line)?;
-        Ok(())
+        self.halls.follow(line, item)?;
+        match self.lines[hall].push(line) {
+            Ok(()) => Ok(()),
+            Err(_) => Err(Stop::Memory),
+        }
     }
 
-    fn whole(self) -> NumberedHistories {
+    fn whole(self) -> Result<NumberedHistories, FileFault> {
         let NumberedHalls { halls, lines } = self;
-        NumberedHistories {
-            histories: halls.into_histories(),
-            lines,
+        match halls {
+            Some(halls) => Ok(NumberedHistories {
+                histories: halls.into_histories(),
+                lines,
+            }),
+            None => Err(FileFault {
+                line: 1,
+                kind: FaultKind::Line(LineFault::NoHeader),
+            }),
         }
     }
 
     ghost says = { λ header. refl };
-
-    ghost opens = { histories_open };
-
-    ghost tells = { λ header items numbered made. halls_tell header items numbered.halls made.made };
 }

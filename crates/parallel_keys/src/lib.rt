@@ -12,7 +12,6 @@ mod distinct;
 mod error;
 mod gate;
 mod histories;
-mod scoped;
 mod share;
 mod weave_verdicts;
 mod workers;

@@ -11,19 +11,19 @@ use labels::text_of;
 use markup::{
     Attribute, AttributeName, Element, append_closing, append_opening, append_plain, append_text,
 };
-use recorder::{ActionRef, Response};
+use recorder::Response;
 use sentences::append_number;
 use std::alloc::Global;
-use tag::Memory;
+use tag::{Action, Memory};
 
 /// What a cell says of a call.
 #[derive(Clone, Copy)]
 pub(crate) enum Content<'a> {
     Number(u64),
     /// What a call of that action does.
-    Does(&'a ActionRef<'a>),
+    Does(&'a Action),
     /// What that response answers.
-    Answers(&'a Option<Response<'a>>),
+    Answers(&'a Option<Response>),
 }
 
 /// Adds the heading of a column.

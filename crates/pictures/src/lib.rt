@@ -11,6 +11,7 @@
 mod bars;
 mod cells;
 mod dots;
+mod find;
 mod frames;
 mod ground;
 pub mod laws;

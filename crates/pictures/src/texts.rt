@@ -37,12 +37,7 @@ fn text_class(text: BarText) -> &'static str
 }
 
 /// Adds what such a text says of the call.
-fn say_text(
-    words: &mut Vec<u8>,
-    text: BarText,
-    call: &Call<'_>,
-    briefly: bool,
-) -> Result<(), Memory>
+fn say_text(words: &mut Vec<u8>, text: BarText, call: &Call, briefly: bool) -> Result<(), Memory>
     ensures { OnOk result
         (words.new.items ≡ words.old.items ++ text_words text briefly call.now) }
 {
@@ -62,7 +57,7 @@ fn append_text(
     page: &mut Vec<u8>,
     scene: &Scene,
     lane: usize,
-    call: &Call<'_>,
+    call: &Call,
     text: BarText,
     place: Option<usize>,
 ) -> Result<(), Memory>
@@ -87,7 +82,7 @@ pub(crate) fn append_texts(
     page: &mut Vec<u8>,
     scene: &Scene,
     bar: &Bar,
-    call: &Call<'_>,
+    call: &Call,
 ) -> Result<(), Memory>
     requires { IsInOrder scene.now }
     ensures { OnOk result

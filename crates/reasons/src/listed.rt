@@ -5,36 +5,36 @@ ghost use Rattle.recorder.specs.Parts.{IsSequence};
 use crate::find::{call_of, find};
 use crate::{OrderReason, PlacedCall};
 use certificate_check::Fault;
-use recorder::{Call, Part};
-use tag::OpId;
+use recorder::Call;
+use tag::{Action, OpId};
 
 /// A list of numbers beside the calls of a part.
 #[derive(Drop)]
-pub(crate) struct Listed<'a, 'h> {
-    part: &'a Part<'h>,
-    order: &'a [OpId],
-    ghost sequence: { IsSequence part.now },
+pub(crate) struct Listed<'a, 'b> {
+    calls: &'a [Call],
+    order: &'b [OpId],
+    ghost sequence: { IsSequence calls.now },
 }
 
-impl<'a, 'h> Listed<'a, 'h> {
+impl<'a, 'b> Listed<'a, 'b> {
     ghost use Rattle.recorder.specs.Orders.{StandsAt, WritesAt};
     ghost use Rattle.recorder.specs.Sound.{IsWrite};
     ghost use Rattle.certificate_check.specs.Verdicts.{IsFault, IsLeast, IsUnknown};
     ghost use Rattle.reasons.specs.OrderReasons.{IsOrderReason, IsLastWriteBefore, HasNumberOf};
 
-    /// The list beside the part's calls.
-    pub(crate) fn new(part: &'a Part<'h>, order: &'a [OpId]) -> Listed<'a, 'h>
-        ensures part { result.part.now ≡ part.now }
+    /// The list beside these calls.
+    pub(crate) fn new(calls: &'a [Call], order: &'b [OpId]) -> Listed<'a, 'b>
+        requires { IsSequence calls.now }
+        ensures calls { result.calls.now ≡ calls.now }
         ensures order { result.order.now ≡ order.now }
     {
-        let _sequence = part.len();
-        Listed { part, order }
+        Listed { calls, order }
     }
 
     /// The calls that show the fault.
-    pub(crate) fn reason(&self, fault: Fault) -> OrderReason<'h>
-        requires { IsFault self.now.part.now self.now.order.now fault }
-        ensures { IsOrderReason self.now.part.now self.now.order.now fault result }
+    pub(crate) fn reason(&self, fault: Fault) -> OrderReason<'a>
+        requires { IsFault self.now.calls.now self.now.order.now fault }
+        ensures { IsOrderReason self.now.calls.now self.now.order.now fault result }
     {
         match fault {
             Fault::UnknownCall(place) => OrderReason::UnknownCall {
@@ -47,7 +47,7 @@ impl<'a, 'h> Listed<'a, 'h> {
                 call: self.call_at(place),
             },
             Fault::MissingCall(op) => OrderReason::MissingCall {
-                call: call_of(self.part, op),
+                call: call_of(self.calls, op),
             },
             Fault::PendingRead(place) => OrderReason::PendingRead {
                 read: self.placed(place),
@@ -64,23 +64,23 @@ impl<'a, 'h> Listed<'a, 'h> {
     }
 
     /// The call at that place, at which one stands.
-    fn call_at(&self, place: usize) -> Call<'h>
+    fn call_at(&self, place: usize) -> &'a Call
         requires within { place < length self.now.order.now }
-        requires known { IsUnknown self.now.part.now self.now.order.now place → ⊥ }
-        ensures { StandsAt self.now.part.now self.now.order.now place result }
+        requires known { IsUnknown self.now.calls.now self.now.order.now place → ⊥ }
+        ensures { StandsAt self.now.calls.now self.now.order.now place result.now }
     {
-        match find(self.part, self.order[place]) {
+        match find(self.calls, self.order[place]) {
             Some(call) => call,
             None => unreachable!(),
         }
     }
 
     /// The same, with the place.
-    fn placed(&self, place: usize) -> PlacedCall<'h>
+    fn placed(&self, place: usize) -> PlacedCall<'a>
         requires within { place < length self.now.order.now }
-        requires known { IsUnknown self.now.part.now self.now.order.now place → ⊥ }
+        requires known { IsUnknown self.now.calls.now self.now.order.now place → ⊥ }
         ensures place { result.place ≡ place }
-        ensures call { StandsAt self.now.part.now self.now.order.now place result.call }
+        ensures call { StandsAt self.now.calls.now self.now.order.now place result.call.now }
     {
         PlacedCall {
             place,
@@ -103,27 +103,27 @@ impl<'a, 'h> Listed<'a, 'h> {
     }
 
     /// The write at that place, if one stands there.
-    fn write_at(&self, place: usize) -> Option<Call<'h>>
+    fn write_at(&self, place: usize) -> Option<&'a Call>
         requires { place < length self.now.order.now }
         ensures found { IfSome result
-            (λ call. StandsAt self.now.part.now self.now.order.now place call
-            × IsWrite call) }
+            (λ call. StandsAt self.now.calls.now self.now.order.now place call.now
+            × IsWrite call.now) }
         ensures none { IfNone result ((value : List ℕ)
-            → WritesAt self.now.part.now self.now.order.now place value → ⊥) }
+            → WritesAt self.now.calls.now self.now.order.now place value → ⊥) }
     {
-        let Some(call) = find(self.part, self.order[place]) else {
+        let Some(call) = find(self.calls, self.order[place]) else {
             return None;
         };
-        match call.action.written() {
-            Some(_) => Some(call),
-            None => None,
+        match call.action {
+            Action::Write(_) => Some(call),
+            Action::Read => None,
         }
     }
 
     /// The last write before that place, if there is one.
-    fn last_write_before(&self, place: usize) -> Option<PlacedCall<'h>>
+    fn last_write_before(&self, place: usize) -> Option<PlacedCall<'a>>
         requires { place < length self.now.order.now }
-        ensures { IsLastWriteBefore self.now.part.now self.now.order.now place result }
+        ensures { IsLastWriteBefore self.now.calls.now self.now.order.now place result }
     {
         for i in (0..place).rev() {
             if let Some(call) = self.write_at(i) {

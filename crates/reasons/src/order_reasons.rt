@@ -8,15 +8,15 @@ use recorder::{Call, Part};
 use tag::OpId;
 
 /// A call and its place in the order.
-#[derive(Drop)]
-pub struct PlacedCall<'h> {
+#[derive(Clone, Copy)]
+pub struct PlacedCall<'a> {
     pub place: usize,
-    pub call: Call<'h>,
+    pub call: &'a Call,
 }
 
 /// Why a list isn't an order of a part: the calls that show its fault. Places are counted from 0.
-#[derive(Drop)]
-pub enum OrderReason<'h> {
+#[derive(Clone, Copy)]
+pub enum OrderReason<'a> {
     /// No call of the part has the number that stands at that place.
     UnknownCall {
         place: usize,
@@ -26,35 +26,35 @@ pub enum OrderReason<'h> {
     CallTwice {
         earlier: usize,
         place: usize,
-        call: Call<'h>,
+        call: &'a Call,
     },
     /// The completed call isn't listed.
     MissingCall {
-        call: Call<'h>,
+        call: &'a Call,
     },
     /// The call at that place is a pending read.
     PendingRead {
-        read: PlacedCall<'h>,
+        read: PlacedCall<'a>,
     },
     /// The read answers another value than the last write before it wrote, or, where no write
     /// stands before it, a value.
     WrongAnswer {
-        read: PlacedCall<'h>,
-        last: Option<PlacedCall<'h>>,
+        read: PlacedCall<'a>,
+        last: Option<PlacedCall<'a>>,
     },
     /// The later call was answered before the earlier one began.
     OrderBroken {
-        earlier: PlacedCall<'h>,
-        later: PlacedCall<'h>,
+        earlier: PlacedCall<'a>,
+        later: PlacedCall<'a>,
     },
 }
 
 /// The calls that show the fault, which is the verdict on the order.
 ///
 /// It takes time in proportion to the order and the logarithm of the calls' count.
-pub fn order_reason<'h>(part: &Part<'h>, order: &[OpId], fault: Fault) -> OrderReason<'h>
+pub fn order_reason<'a>(part: &'a Part, order: &[OpId], fault: Fault) -> OrderReason<'a>
     requires { IsFault part.now order.now fault }
     ensures { IsOrderReason part.now order.now fault result }
 {
-    Listed::new(part, order).reason(fault)
+    Listed::new(part.calls(), order).reason(fault)
 }

@@ -1,8 +1,5 @@
 mod Lists
-mod Pairs
-mod Tables
-mod RowCounts
-mod PartLemmas
+mod Entries
 mod Numbers
 mod OneMore
 mod States

@@ -2,12 +2,13 @@
 ghost use Rattle.std.specs.Prelude.{ℕ, ◌≡◌, ◌<◌, ◌≤◌, ◌-◌, ◌/◌, ◌↔◌, min, Some, Contains};
 ghost use Rattle.std.specs.Prelude.{IfOk, IfSome, IfNone};
 ghost use Rattle.tag.specs.declared.numbers.OpId.{OpId};
+ghost use Rattle.recorder.specs.Parts.{IsSequence};
 ghost use Rattle.certificate_check.specs.Places.{HasOpAt};
 ghost use Rattle.scenes.specs.Scenes.{IsRisingListOf, IsSelection};
 ghost use Rattle.scenes.specs.Windows.{IsInWindow, IsToShow, IsWindowAround};
 
 use certificate_check::find_call;
-use recorder::Part;
+use recorder::{Call, Part};
 use std::alloc::Global;
 use tag::{Memory, OpId};
 
@@ -20,12 +21,12 @@ pub struct Window {
 
 /// The window of `count` calls, or as many as there are, that has that call as near to its middle
 /// as the ends of the part allow. Without a call, or if the part hasn't got it, the first `count`.
-pub fn window_around(part: &Part<'_>, count: usize, around: Option<OpId>) -> Window
+pub fn window_around(part: &Part, count: usize, around: Option<OpId>) -> Window
     ensures { IsWindowAround part.now count around result }
 {
-    let calls = part.len();
-    let count = count.min(calls);
-    let first = first_about(index_of(part, around), count, calls);
+    let calls = part.calls();
+    let count = count.min(calls.len());
+    let first = first_about(index_of(calls, around), count, calls.len());
     Window { first, count }
 }
 
@@ -43,12 +44,13 @@ fn first_about(at: Option<usize>, count: usize, calls: usize) -> usize
 }
 
 /// The index of the call of that number, if there is one.
-fn index_of(part: &Part<'_>, op: Option<OpId>) -> Option<usize>
-    ensures found { IfSome result (λ k. (o : OpId) × (op ≡ Some o) × HasOpAt part.now k o) }
-    ensures none { IfNone result ((o : OpId) (k : ℕ) → op ≡ Some o → HasOpAt part.now k o → ⊥) }
+fn index_of(calls: &[Call], op: Option<OpId>) -> Option<usize>
+    requires { IsSequence calls.now }
+    ensures found { IfSome result (λ k. (o : OpId) × (op ≡ Some o) × HasOpAt calls.now k o) }
+    ensures none { IfNone result ((o : OpId) (k : ℕ) → op ≡ Some o → HasOpAt calls.now k o → ⊥) }
 {
     match op {
-        Some(op) => find_call(part, op),
+        Some(op) => find_call(calls, op),
         None => None,
     }
 }
@@ -60,7 +62,7 @@ fn index_of(part: &Part<'_>, op: Option<OpId>) -> Option<usize>
 /// only where an allocation was refused.
 pub fn shown_calls(
     alloc: Global,
-    part: &Part<'_>,
+    part: &Part,
     window: Window,
     kept: &[OpId],
 ) -> Result<Vec<usize>, Memory>
@@ -68,7 +70,7 @@ pub fn shown_calls(
         IsRisingListOf (IsToShow part.now window kept.now) shown.items) }
     ensures selection { IfOk result (λ shown. IsSelection part.now shown.items) }
 {
-    let mut shown = indexes_of(alloc, part, window, kept)?;
+    let mut shown = indexes_of(alloc, part.calls(), window, kept)?;
     shown.sort_unstable();
     shown.dedup();
     Ok(shown)
@@ -77,16 +79,17 @@ pub fn shown_calls(
 /// The same, in any order.
 fn indexes_of(
     alloc: Global,
-    part: &Part<'_>,
+    calls: &[Call],
     window: Window,
     kept: &[OpId],
 ) -> Result<Vec<usize>, Memory>
+    requires { IsSequence calls.now }
     ensures { IfOk result (λ indexes. (i : ℕ)
-        → Contains indexes.items i ↔ IsToShow part.now window kept.now i) }
+        → Contains indexes.items i ↔ IsToShow calls.now window kept.now i) }
 {
-    let mut indexes = indexes_in(alloc, part.len(), window)?;
+    let mut indexes = indexes_in(alloc, calls.len(), window)?;
     for op in kept {
-        if let Some(k) = find_call(part, *op) {
+        if let Some(k) = find_call(calls, *op) {
             indexes.push(k)?;
         }
     }

@@ -3,7 +3,6 @@ use crate::messages::reply_of;
 use crate::texts::{say_request, say_returned, say_set, say_taken};
 use crate::words::Words;
 use client_phases::{Client, Phase, Taken};
-use recorder::ReturnedRef;
 use replica::Reply;
 use std::alloc::Global;
 use tag::{Action, Key, OpId};
@@ -56,7 +55,7 @@ fn respond(out: &mut Answer, client: &mut Client) {
         return out.push("not ready");
     }
     let returned = client.respond();
-    say_returned(out, &ReturnedRef::of(&returned));
+    say_returned(out, &returned);
 }
 
 fn say_next_request(out: &mut Answer, client: &Client) {
@@ -69,7 +68,7 @@ fn say_next_request(out: &mut Answer, client: &Client) {
 
 fn say_next_answer(out: &mut Answer, client: &Client) {
     match client.answer() {
-        Ok(Some(returned)) => say_returned(out, &ReturnedRef::of(&returned)),
+        Ok(Some(returned)) => say_returned(out, &returned),
         Ok(None) => out.push("nothing"),
         Err(_) => out.push("NO MEMORY"),
     }

@@ -2,11 +2,9 @@
 
 use crate::names::{action_of, returned_of, said_equal, say_found, tag_of};
 use crate::words::{first_word, number};
-use recorder::{
-    Call, History, KeyOrder, KeyRef, Order, Part, Parts, Response, ReturnedRef, Row, RowRefusal,
-};
+use recorder::{Call, History, KeyOrder, Order, Part, Parts, Response, Row, RowRefusal};
 use std::alloc::Global;
-use tag::{ClientId, Key, Memory, NameError, OpId, Tag};
+use tag::{ClientId, Key, Memory, NameError, OpId, Returned, Tag};
 use tag_check::check_tags;
 use test_rows::{Answer, RowSaid, said_by, say_action, say_tag};
 use witness_order::order_of;
@@ -59,11 +57,11 @@ fn say_row_taken(out: &mut Answer, taken: Option<Result<(), RowRefusal>>) -> boo
 }
 
 /// The kind of an answer, and its text.
-fn said_of<'h>(returned: &ReturnedRef<'h>) -> (&'static str, &'h str) {
-    match returned.answered() {
-        None => ("written", ""),
-        Some(None) => ("none", ""),
-        Some(Some(value)) => ("value ", value.as_str()),
+fn said_of(returned: &Returned) -> (&'static str, &str) {
+    match returned {
+        Returned::Written => ("written", ""),
+        Returned::Value(None) => ("none", ""),
+        Returned::Value(Some(value)) => ("value ", value.as_str()),
     }
 }
 
@@ -77,12 +75,12 @@ fn say_note(out: &mut Answer, note: Option<Tag>) {
 }
 
 /// Says a call's answer.
-fn say_answered(out: &mut Answer, returned: &ReturnedRef<'_>) {
+fn say_answered(out: &mut Answer, returned: &Returned) {
     let (kind, text) = said_of(returned);
     write!(out, "answer {kind}{text}");
 }
 
-fn say_row(out: &mut Answer, row: &Row<'_>) {
+fn say_row(out: &mut Answer, row: &Row) {
     let (op, said) = said_by(row);
     write!(out, "call {op}: ");
     match said {
@@ -99,12 +97,12 @@ fn say_row(out: &mut Answer, row: &Row<'_>) {
 
 /// All rows.
 fn say_rows(out: &mut Answer, history: &History) {
-    for place in 0..history.row_count() {
-        say_row(out, &history.row(place));
+    for row in history.rows() {
+        say_row(out, row);
     }
 }
 
-fn say_response(out: &mut Answer, response: Option<&Response<'_>>) {
+fn say_response(out: &mut Answer, response: Option<&Response>) {
     match response {
         None => out.push("pending\n"),
         Some(response) => {
@@ -116,7 +114,7 @@ fn say_response(out: &mut Answer, response: Option<&Response<'_>>) {
 }
 
 /// A call as its part has it.
-fn say_call(out: &mut Answer, call: &Call<'_>) {
+fn say_call(out: &mut Answer, call: &Call) {
     let (op, client, invoked) = (call.op.0, call.client.get(), call.invoked);
     write!(out, "{op}: client {client}, ");
     say_action(out, &call.action);
@@ -126,19 +124,18 @@ fn say_call(out: &mut Answer, call: &Call<'_>) {
     say_response(out, call.response.as_ref());
 }
 
-fn say_part(out: &mut Answer, key: &KeyRef<'_>, part: &Part<'_>) {
+fn say_part(out: &mut Answer, key: &Key, part: &Part) {
     out.push(key.as_str());
     out.push("\n");
-    for place in 0..part.len() {
-        say_call(out, &part.call(place));
+    for call in part.calls() {
+        say_call(out, call);
     }
 }
 
 /// The keys of the parts in their order, each with its calls.
-fn say_entries(out: &mut Answer, parts: &Parts<'_>) {
-    for place in 0..parts.len() {
-        let (key, part) = parts.entry(place);
-        say_part(out, &key, &part);
+fn say_entries(out: &mut Answer, parts: &Parts) {
+    for (key, part) in parts.entries() {
+        say_part(out, key, part);
     }
 }
 
@@ -150,10 +147,21 @@ fn say_parts(out: &mut Answer, history: &History) {
     }
 }
 
-/// Whether a copy of the history is equal to it.
+/// Whether the copies of the rows, and of the history, are equal to them.
+fn is_copied(history: &History) -> Result<bool, Memory> {
+    for row in history.rows() {
+        if row.copy()? != *row {
+            return Ok(false);
+        }
+    }
+    let copy = history.copy()?;
+    Ok(copy.rows() == history.rows() && copy.limit() == history.limit())
+}
+
+/// Whether the copies are equal.
 fn say_copy(out: &mut Answer, history: &History) {
-    match history.copy() {
-        Ok(copy) => out.push(said_equal(copy == *history)),
+    match is_copied(history) {
+        Ok(equal) => out.push(said_equal(equal)),
         Err(Memory) => out.refuse(),
     }
 }
@@ -170,7 +178,7 @@ fn say_numbers(out: &mut Answer, ops: &[OpId]) {
 }
 
 /// The tag order of a part's calls, or what is missing.
-fn say_order(out: &mut Answer, part: &Part<'_>) {
+fn say_order(out: &mut Answer, part: &Part) {
     match order_of(out.alloc(), part) {
         Ok(order) => say_numbers(out, order.as_slice()),
         Err(error) => write!(out, "{error}\n"),
@@ -178,7 +186,7 @@ fn say_order(out: &mut Answer, part: &Part<'_>) {
 }
 
 /// The first rule of sound tags that the notes of a part's calls break.
-fn say_rule(out: &mut Answer, part: &Part<'_>) {
+fn say_rule(out: &mut Answer, part: &Part) {
     match check_tags(out.alloc(), part) {
         Ok(Some(rule)) => write!(out, "{rule}\n"),
         Ok(None) => out.push("sound\n"),
@@ -187,7 +195,7 @@ fn say_rule(out: &mut Answer, part: &Part<'_>) {
 }
 
 /// The answer to a question about a part's calls.
-fn say_of_part(out: &mut Answer, word: &str, part: &Part<'_>) {
+fn say_of_part(out: &mut Answer, word: &str, part: &Part) {
     match word {
         "tags?" => say_rule(out, part),
         _ => say_order(out, part),
@@ -195,9 +203,9 @@ fn say_of_part(out: &mut Answer, word: &str, part: &Part<'_>) {
 }
 
 /// The answer to a question about the calls on a key.
-fn say_of_parts(out: &mut Answer, parts: &Parts<'_>, word: &str, key: &Key) {
+fn say_of_parts(out: &mut Answer, parts: &Parts, word: &str, key: &Key) {
     match parts.get(key) {
-        Some(part) => say_of_part(out, word, &part),
+        Some(part) => say_of_part(out, word, part),
         None => out.push("no part\n"),
     }
 }
@@ -245,7 +253,8 @@ fn say_numbered(out: &mut Answer, words: &str) {
 
 /// How many calls the empty part has.
 fn say_empty(out: &mut Answer) {
-    let count = Part::empty().len();
+    let part = Part::empty(out.alloc());
+    let count = part.calls().len();
     write!(out, "{count} calls\n");
 }
 

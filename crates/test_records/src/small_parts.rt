@@ -108,11 +108,21 @@ fn record(alloc: Global, history: &mut History, number: u32, count: u32) -> Opti
     Some(())
 }
 
-/// The history with the part of that number, of so many calls.
-fn small_history(alloc: Global, number: u32, count: u32) -> Option<History> {
+/// The only part of a history, or the empty one.
+fn only_part(alloc: Global, history: &History) -> Option<Part> {
+    match history.parts().ok()?.into_entries().pop() {
+        Some((_, part)) => Some(part),
+        None => Some(Part::empty(alloc)),
+    }
+}
+
+/// The part of that number with so many calls.
+fn small_part(alloc: Global, number: u32, count: u32) -> Option<Part> {
     let mut history = History::new(alloc, 10);
-    record(alloc, &mut history, number, count)?;
-    Some(history)
+    match record(alloc, &mut history, number, count) {
+        Some(()) => only_part(alloc, &history),
+        None => None,
+    }
 }
 
 /// How many orders were compared, on how many the checks differ, and to how many both say yes.
@@ -159,22 +169,17 @@ fn order_of(number: u32, base: u32) -> [OpId; 4] {
 /// Compares both checks on an order.
 fn compare_order(
     alloc: Global,
-    part: &Part<'_>,
+    part: &Part,
     order: &[OpId],
     compared: &mut Compared,
 ) -> Option<()> {
     let fast = check_part(alloc, part, order).ok()?;
-    compared.count(fast, slow_verdict(part, order));
+    compared.count(fast, slow_verdict(part.calls(), order));
     Some(())
 }
 
 /// Compares both checks on each order of up to four numbers, one of which the part lacks.
-fn compare_orders(
-    alloc: Global,
-    part: &Part<'_>,
-    count: u32,
-    compared: &mut Compared,
-) -> Option<()> {
+fn compare_orders(alloc: Global, part: &Part, count: u32, compared: &mut Compared) -> Option<()> {
     let base = count.saturating_add(1);
     let mut all = 1u32;
     for length in 0..5usize {
@@ -187,16 +192,11 @@ fn compare_orders(
     Some(())
 }
 
-/// Compares both checks on the part of that number with so many calls: the only part of its history, or the
-/// empty one.
+/// Compares both checks on the part of that number with so many calls.
 fn compare_part(alloc: Global, number: u32, count: u32, compared: &mut Compared) -> Option<()> {
-    let history = small_history(alloc, number, count)?;
-    let parts = history.parts().ok()?;
-    if parts.len() == 0 {
-        compare_orders(alloc, &Part::empty(), count, compared)
-    } else {
-        let (_, part) = parts.entry(0);
-        compare_orders(alloc, &part, count, compared)
+    match small_part(alloc, number, count) {
+        Some(part) => compare_orders(alloc, &part, count, compared),
+        None => None,
     }
 }
 
