@@ -76,11 +76,11 @@ fn script_details(rt: &HostRuntime, name: &str, fault: ScriptError) -> Option<Ve
 }
 
 /// Says what is wrong with a script that was given as a history, or that it is one.
-fn explain_script(rt: &HostRuntime, name: &str) {
+fn explain_script(rt: &HostRuntime, threads: &(impl Threads + Sync), name: &str) {
     let Ok(file) = fs::open(rt, name) else {
         return;
     };
-    match parse(rt.alloc(), &mut Counting::new(file)) {
+    match parse(threads, rt.alloc(), &mut Counting::new(file)) {
         Ok(_) => say(rt, b"  it is a script, which abd simulate runs\n"),
         Err(fault) => {
             if let Ok(words) = format!(in rt.alloc(); "  as a script: {fault}\n") {
@@ -99,7 +99,7 @@ fn explain_history(rt: &HostRuntime, threads: &(impl Threads + Sync), name: &str
         return false;
     };
     if begins_as_script(rt, name) {
-        explain_script(rt, name);
+        explain_script(rt, threads, name);
     } else if let Some(text) = history_details(rt, threads, name, fault) {
         say(rt, text.as_slice());
     }

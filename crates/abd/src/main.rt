@@ -198,23 +198,28 @@ fn justify(
 }
 
 /// Simulates the script.
-fn simulate(rt: &HostRuntime, script: &str) -> Status {
+fn simulate(rt: &HostRuntime, threads: &(impl Threads + Sync), script: &str) -> Status {
     on_file(rt, script, |script, out, errors| {
-        simulate_command(rt.alloc(), script, out, errors)
+        simulate_command(threads, rt.alloc(), script, out, errors)
     })
 }
 
 /// Tells the script's run.
-fn trace(rt: &HostRuntime, script: &str, most: u32) -> Status {
+fn trace(rt: &HostRuntime, threads: &(impl Threads + Sync), script: &str, most: u32) -> Status {
     on_file(rt, script, |script, out, errors| {
-        trace_command(rt.alloc(), script, most, out, errors)
+        trace_command(threads, rt.alloc(), script, most, out, errors)
     })
 }
 
 /// Draws the script's run.
-fn trace_page(rt: &HostRuntime, script: &str, most: u32) -> Status {
+fn trace_page(
+    rt: &HostRuntime,
+    threads: &(impl Threads + Sync),
+    script: &str,
+    most: u32,
+) -> Status {
     on_file(rt, script, |script, out, errors| {
-        trace_page_command(rt.alloc(), script, most, RUN_PICTURES, out, errors)
+        trace_page_command(threads, rt.alloc(), script, most, RUN_PICTURES, out, errors)
     })
 }
 
@@ -296,9 +301,9 @@ where
         Command::Draw(asked) => draw(rt, threads, asked),
         Command::Explain(asked) => explain(rt, threads, asked),
         Command::Justify { history, unchecked } => justify(rt, threads, history, *unchecked),
-        Command::Simulate { script } => simulate(rt, script),
-        Command::Trace { script, most } => trace(rt, script, *most),
-        Command::TracePage { script, most } => trace_page(rt, script, *most),
+        Command::Simulate { script } => simulate(rt, threads, script),
+        Command::Trace { script, most } => trace(rt, threads, script, *most),
+        Command::TracePage { script, most } => trace_page(rt, threads, script, *most),
         Command::Run(asked) => run(rt, threads, *asked),
     }
 }

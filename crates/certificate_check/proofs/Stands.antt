@@ -1,16 +1,10 @@
 -- What stands at a place of an order.
-use Rattle.std.specs.Option.{IfSome, IfNone}
-use Rattle.std.specs.Result.{result_ok}
-use Rattle.std.specs.List.Sorted.{IsSearchInRange, IsBinarySearchResult, IsNonDecreasingBy}
-use Rattle.std.specs.Ordering.{nat_cmp, ordering_index}
-use Rattle.std.proofs.lemmas.Cmp.{ranked}
-use Rattle.std.proofs.lemmas.Bool.Decides.{nat_tests}
-use Rattle.std.proofs.Common.{Bool, true, false, Result, Ok, Err, IfOk, IfErr, [], ◌∷◌, ◌++◌, max, take, set, length-take, length-append, ℕ, ◌≡◌, ◌<◌, ◌≤◌, ◌+◌, List, Some, None, Option, length, get_or, sym, ◌∙◌, ap, arith, refl}
+use Rattle.std.proofs.Common.{Bool, true, false, [], ◌∷◌, ◌++◌, max, take, set, length-take, length-append, ℕ, ◌≡◌, ◌<◌, ◌≤◌, ◌+◌, List, Some, None, Option, length, sym, ◌∙◌, ap, arith, refl}
 use Rattle.std.specs.List.{slice_get, Contains}
-use Rattle.std.proofs.lemmas.Option.{slice_get-get_or, slice_get_within, get_or_from_slice_get}
+use Rattle.std.proofs.lemmas.Option.{slice_get_within, same_Some}
 use Rattle.std.proofs.lemmas.Bool.{cases_lt}
 use Rattle.std.proofs.Common.{inl, inr, subst}
-use Rattle.tag.proofs.Lists.{Contains-slice_get, get_at, slice_get-take, push_cases, slice_get-set}
+use Rattle.tag.proofs.Lists.{Contains-slice_get, get_at, place_of, slice_get-take, push_cases, slice_get-set}
 use Rattle.tag.specs.declared.actions.Action.TheVariants.{Read, Write}
 use Rattle.tag.specs.declared.actions.Returned.TheVariants.{Value}
 use Rattle.recorder.specs.declared.part.Response.{Response}
@@ -19,6 +13,7 @@ use Rattle.tag.specs.declared.numbers.OpId.{OpId}
 use Rattle.recorder.specs.declared.part.Call.{Call}
 use Rattle.recorder.proofs.Sequences.{same_at, same_index}
 use Rattle.recorder.specs.Parts.{IsSequence, IsPending}
+use Rattle.recorder.specs.States.{place_in}
 use Rattle.recorder.specs.Orders.{StandsAt, WritesAt, NoWriteFrom, IsLastWritten, AnswersLast, IsLegal, IsComplete, IsOrder}
 use Rattle.certificate_check.specs.Places.{Locates, HasOpAt, Marks}
 use Rattle.certificate_check.specs.Verdicts.{IsPendingRead, IsWrongAnswer, IsLeast, IsUnknown, IsRepeated, BreaksPrecedence, BreaksPrecedenceAt, HasNone, IsMissing}
@@ -26,6 +21,11 @@ use Rattle.certificate_check.specs.Verdicts.{IsPendingRead, IsWrongAnswer, IsLea
 -- a call that stands at a place stands below the order's length
 pub place_within : (part : List Call) (order : List OpId) (i : ℕ) (a : Call) → StandsAt part order i a → i < length order
 place_within part order i a h = slice_get_within order i a.op h.listed
+
+-- a response that stands at a place
+pub response_at : (response : Option Response) (place : ℕ) → place_in response ≡ Some place → (r : Response) × (response ≡ Some r) × (r.place ≡ place)
+response_at None place is = absurd cc
+response_at (Some r) place is = (r, refl, same_Some r.place place is)
 
 -- no pending read up to a place that has none
 pub pending_more : (part : List Call) (order : List OpId) → IsSequence part → (i : ℕ) (call : Call) → StandsAt part order i call → (IsPending call × (call.action ≡ Read) → ⊥) → ((m : ℕ) → m < i → IsPendingRead part order m → ⊥) → (m : ℕ) → m < i + 1 → IsPendingRead part order m → ⊥
@@ -245,36 +245,41 @@ order_of_none calls order indexes located once complete answered legal kept = re
   precedence = λ i j a b less first second before. kept j (i, (a, b, less, first, second, before));
 }
 
--- a binary search by number finds the call of the number, or that there is none
-module _ (calls : List Call) (numbered : IsSequence calls) (op : OpId) where
-  numbers_rise : (i j : ℕ) (d : Call) → i ≤ j → j < length calls → (get_or calls i d).op.0 ≤ (get_or calls j d).op.0
-  numbers_rise i j d le within =
-      elim (cases_lt i j) [
-        | inl h ↦ let up : (get_or calls i d).op.0 < (get_or calls j d).op.0 = numbered.numbers i j (get_or calls i d) (get_or calls j d) h (slice_get-get_or calls i d (omega arith)) (slice_get-get_or calls j d within) in omega arith
-        | inr h ↦ let same : i ≡ j = omega arith in let equal : (get_or calls i d).op.0 ≡ (get_or calls j d).op.0 = ap (λ (k : ℕ). (get_or calls k d).op.0) same in omega arith
+-- what the call in the middle says of those before it, or of those after it
+module _ (calls : List Call) (numbered : IsSequence calls) (op : OpId) (middle : ℕ) (call : Call) (at : slice_get calls middle ≡ Some call) where
+  pub lower_half : call.op.0 < op.0 → (k : ℕ) (other : Call) → k < middle + 1 → slice_get calls k ≡ Some other → other.op.0 < op.0
+  lower_half below k other less there =
+      elim (cases_lt k middle) [
+        | inl h ↦ let rise : other.op.0 < call.op.0 = numbered.numbers k middle other call h there at in omega arith
+        | inr h ↦
+            let here : k ≡ middle = omega arith in
+            let again : slice_get calls k ≡ Some call = ap (slice_get calls) here ∙ at in
+            let same : other ≡ call = cc (there, again) in
+            let number : other.op.0 ≡ call.op.0 = ap (λ (x : Call). x.op.0) same in
+            omega arith
       ]
 
-  comparisons_rise : IsNonDecreasingBy (λ call. ordering_index (nat_cmp call.op.0 op.0)) calls
-  comparisons_rise i j d le within = let rise = numbers_rise i j d le within in grind (arith, nat_tests)
+  pub upper_half : op.0 < call.op.0 → (k : ℕ) (other : Call) → middle ≤ k → slice_get calls k ≡ Some other → op.0 < other.op.0
+  upper_half above k other least there =
+      elim (cases_lt middle k) [
+        | inl h ↦ let rise : call.op.0 < other.op.0 = numbered.numbers middle k call other h at there in omega arith
+        | inr h ↦
+            let here : k ≡ middle = omega arith in
+            let again : slice_get calls k ≡ Some call = ap (slice_get calls) here ∙ at in
+            let same : other ≡ call = cc (there, again) in
+            let number : other.op.0 ≡ call.op.0 = ap (λ (x : Call). x.op.0) same in
+            omega arith
+      ]
 
-  pub searched : (r : Result ℕ ℕ) → IsSearchInRange r (length calls) → IsBinarySearchResult (λ call. nat_cmp call.op.0 op.0) calls r → record { found : IfOk r (λ k. HasOpAt calls k op); absent : IfErr r (λ _. (call : Call) → Contains calls call → call.op ≡ op → ⊥) }
-  searched (Ok at) in_range equal = record {
-    found = let call = get_at calls at in_range in
-        let value : get_or calls at call.0 ≡ call.0 = get_or_from_slice_get calls at call.0 call.0 call.1 in
-        let same : (get_or calls at call.0).op.0 ≡ op.0 = ranked _ op.0 _ (sym (equal call.0)) in
-        (call.0, call.1, ap (λ (x : Call). x.op) (sym value) ∙ ap (λ (n : ℕ). let o : OpId = record { 0 = n } in o) same);
-    absent = tt;
-  }
-  searched (Err at) in_range parted = record {
-    found = tt;
-    absent = λ call there same.
-        let value : get_or calls there.0 call ≡ call = there.2 in
-        let number : (get_or calls there.0 call).op.0 ≡ op.0 = ap (λ (x : Call). x.op.0) value ∙ ap (λ (o : OpId). o.0) same in
-        elim (cases_lt there.0 at) [
-          | inl h ↦ absurd (let less : (get_or calls there.0 call).op.0 < op.0 = ranked _ op.0 _ (sym ((parted comparisons_rise).0 there.0 call (omega arith) h)) in omega arith)
-          | inr h ↦ absurd (let more : op.0 < (get_or calls there.0 call).op.0 = ranked _ op.0 _ (sym ((parted comparisons_rise).1 there.0 call h there.1)) in omega arith)
-        ];
-  }
+-- no call has the number where none before a place and none after it has it
+pub absent : (calls : List Call) (op : OpId) (low high : ℕ) → high ≤ low → ((k : ℕ) (call : Call) → k < low → slice_get calls k ≡ Some call → call.op.0 < op.0) → ((k : ℕ) (call : Call) → high ≤ k → slice_get calls k ≡ Some call → op.0 < call.op.0) → (call : Call) → Contains calls call → call.op ≡ op → ⊥
+absent calls op low high met before after call there same =
+    let k = place_of calls call there in
+    let number : call.op.0 ≡ op.0 = ap (λ (o : OpId). o.0) same in
+    elim (cases_lt k.0 low) [
+      | inl h ↦ let less : call.op.0 < op.0 = before k.0 call h k.1 in omega arith
+      | inr h ↦ let more : op.0 < call.op.0 = after k.0 call (omega (arith, met, h)) k.1 in omega arith
+    ]
 
 -- the marks with one more, at the index x of place i
 module _ (indexes : List ℕ) (marks : List Bool) (i x : ℕ) (at : slice_get indexes i ≡ Some x) (within : x < length marks) where
@@ -317,8 +322,3 @@ Marks-from_indexes calls order indexes marks i numbered located past all listed 
       let below : j < i = omega (arith, place_within calls order j call stands) in
       ap (slice_get marks) (sym index) ∙ marked j p.index below p.listed;
 }
-
--- the same of the option
-pub found_or_none : (calls : List Call) (op : OpId) (r : Result ℕ ℕ) → IfOk r (λ k. HasOpAt calls k op) → IfErr r (λ _. (call : Call) → Contains calls call → call.op ≡ op → ⊥) → IfSome (result_ok r) (λ k. HasOpAt calls k op) × IfNone (result_ok r) ((call : Call) → Contains calls call → call.op ≡ op → ⊥)
-found_or_none calls op (Ok k) found absent = (found, tt)
-found_or_none calls op (Err k) found absent = (tt, absent)

@@ -14,10 +14,10 @@ use tag::{Memory, OpId};
 /// `Yes` exactly where the list is an order of the part, and else the lowest fault. It takes time
 /// in proportion to the calls and the logarithm of their count, and answers `Memory` only where an
 /// allocation was refused.
-pub fn check_part(alloc: Global, part: &Part, order: &[OpId]) -> Result<Verdict, Memory>
+pub fn check_part(alloc: Global, part: &Part<'_>, order: &[OpId]) -> Result<Verdict, Memory>
     ensures { IfOk result (λ verdict. IsVerdict part.now order.now verdict) }
 {
-    match Listing::new(alloc, part.calls(), order)? {
+    match Listing::new(alloc, part, order)? {
         Ok(listing) => listing.verdict(alloc),
         Err(i) => Ok(Verdict::No(Fault::UnknownCall(i))),
     }

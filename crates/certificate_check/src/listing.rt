@@ -1,46 +1,61 @@
 //! An order with the calls that stand in it, and the lowest fault of it.
 ghost use Rattle.std.specs.Prelude.{◌≡◌, ℕ, ◌<◌, IfSome, IfNone, IfOk, MatchResult, MatchOption};
 ghost use Rattle.std.specs.Prelude.{Contains, slice_get, length, IsTrue, ◌↔◌, Option};
-ghost use Rattle.std.specs.Option.{option_copied};
+ghost use Rattle.tag.specs.declared.actions.Action.{Action};
+ghost use Rattle.tag.specs.declared.actions.Returned.{Returned};
 ghost use Rattle.recorder.specs.Parts.{IsPending, IsSequence};
+ghost use Rattle.recorder.specs.States.{IsStateOf};
 ghost use Rattle.recorder.specs.declared.part.Call.{Call};
 ghost use Rattle.certificate_check.specs.Places.{HasOpAt, Locates};
 
 use crate::{Fault, Verdict};
-use recorder::Call;
+use recorder::{Call, CallState, Part, ReturnedRef, ValueRef};
 use std::alloc::Global;
-use tag::{Action, Memory, OpId, Returned, Value};
+use tag::{Memory, OpId};
 
 /// The index of the call of that number, if there is one, in steps that grow with the logarithm of
 /// the count of calls.
-pub fn find_call(calls: &[Call], op: OpId) -> Option<usize>
-    requires { IsSequence calls.now }
-    ensures found { IfSome result (λ k. HasOpAt calls.now k op) }
-    ensures none { IfNone result ((call : Call) → Contains calls.now call → call.op ≡ op → ⊥) }
+pub fn find_call(part: &Part<'_>, op: OpId) -> Option<usize>
+    ensures found { IfSome result (λ k. HasOpAt part.now k op) }
+    ensures none { IfNone result ((call : Call) → Contains part.now call → call.op ≡ op → ⊥) }
 {
-    calls.binary_search_by_key(&op.0, |call| call.op.0).ok()
+    let mut low = 0;
+    let mut high = part.len();
+    'halves: while low < high {
+        let middle = low + (high - low) / 2;
+        let number = part.op(middle).0;
+        if number == op.0 {
+            return Some(middle);
+        }
+        if number < op.0 {
+            low = middle + 1;
+        } else {
+            high = middle;
+        }
+    }
+    None
 }
 
 /// The same, where one index is tried before the others.
-fn find_near(calls: &[Call], near: usize, op: OpId) -> Option<usize>
-    requires { IsSequence calls.now }
-    ensures found { IfSome result (λ k. HasOpAt calls.now k op) }
-    ensures none { IfNone result ((call : Call) → Contains calls.now call → call.op ≡ op → ⊥) }
+fn find_near(part: &Part<'_>, near: usize, op: OpId) -> Option<usize>
+    ensures found { IfSome result (λ k. HasOpAt part.now k op) }
+    ensures none { IfNone result ((call : Call) → Contains part.now call → call.op ≡ op → ⊥) }
 {
-    match calls.get(near) {
-        Some(call) if call.op == op => Some(near),
-        _ => find_call(calls, op),
+    if near < part.len() && part.op(near) == op {
+        Some(near)
+    } else {
+        find_call(part, op)
     }
 }
 
 /// An order, and beside each place the index of its call.
 #[derive(Drop)]
 pub struct Listing<'a> {
-    calls: &'a [Call],
+    part: &'a Part<'a>,
     order: &'a [OpId],
     indexes: Vec<usize>,
-    ghost sequence: { IsSequence calls.now },
-    ghost located: { Locates calls.now order.now indexes.items },
+    ghost sequence: { IsSequence part.now },
+    ghost located: { Locates part.now order.now indexes.items },
 }
 
 impl<'a> Listing<'a> {
@@ -54,20 +69,20 @@ impl<'a> Listing<'a> {
     /// The order with its calls, or the first place whose call isn't there.
     pub(crate) fn new(
         alloc: Global,
-        calls: &'a [Call],
+        part: &'a Part<'a>,
         order: &'a [OpId],
     ) -> Result<Result<Listing<'a>, usize>, Memory>
-        requires { IsSequence calls.now }
         ensures { IfOk result
             (λ answer. MatchResult answer
-            (λ listing. (listing.calls.now ≡ calls.now) × (listing.order.now ≡ order.now))
-            (λ i. IsLeast (IsUnknown calls.now order.now) i)) }
+            (λ listing. (listing.part.now ≡ part.now) × (listing.order.now ≡ order.now))
+            (λ i. IsLeast (IsUnknown part.now order.now) i)) }
     {
+        let _sequence = part.len();
         let mut indexes = Vec::with_capacity(alloc, order.len())?;
         // Most orders list a key's calls nearly as they were invoked.
         let mut next = 0;
         for (i, op) in order.iter().enumerate() {
-            match find_near(calls, next, *op) {
+            match find_near(part, next, *op) {
                 Some(index) => {
                     indexes.push(index)?;
                     next = index.wrapping_add(1);
@@ -76,7 +91,7 @@ impl<'a> Listing<'a> {
             }
         }
         Ok(Ok(Listing {
-            calls,
+            part,
             order,
             indexes,
         }))
@@ -84,7 +99,7 @@ impl<'a> Listing<'a> {
 
     /// The verdict on the order.
     pub(crate) fn verdict(&self, alloc: Global) -> Result<Verdict, Memory>
-        ensures { IfOk result (λ verdict. IsVerdict self.now.calls.now self.now.order.now verdict) }
+        ensures { IfOk result (λ verdict. IsVerdict self.now.part.now self.now.order.now verdict) }
     {
         let marks = match self.marks(alloc)? {
             Ok(marks) => marks,
@@ -106,12 +121,20 @@ impl<'a> Listing<'a> {
     }
 
     /// The call at that place.
-    fn call_at(&self, i: usize) -> &'a Call
+    fn call_at(&self, i: usize) -> Call<'a>
         requires { i < length self.now.order.now }
-        ensures { StandsAt self.now.calls.now self.now.order.now i result.now }
+        ensures { StandsAt self.now.part.now self.now.order.now i result }
     {
-        let index = self.indexes[i];
-        &self.calls[index]
+        self.part.call(self.indexes[i])
+    }
+
+    /// The call at that place, without its texts.
+    fn state_at(&self, i: usize) -> CallState
+        requires { i < length self.now.order.now }
+        ensures { (call : Call) × StandsAt self.now.part.now self.now.order.now i call
+            × IsStateOf call result }
+    {
+        self.part.state(self.indexes[i])
     }
 
     /// A mark for each call that is listed, or the first place whose call stands earlier too.
@@ -119,10 +142,10 @@ impl<'a> Listing<'a> {
         ensures { IfOk result
             (λ answer. MatchResult answer
             (λ marks. HasNone (IsRepeated self.now.order.now)
-            × Marks self.now.calls.now self.now.order.now marks.items)
+            × Marks self.now.part.now self.now.order.now marks.items)
             (λ i. IsLeast (IsRepeated self.now.order.now) i)) }
     {
-        let mut marks = vec![in alloc; false; self.calls.len()]?;
+        let mut marks = vec![in alloc; false; self.part.len()]?;
         for (i, index) in self.indexes.iter().enumerate() {
             if marks[*index] {
                 return Ok(Err(i));
@@ -134,13 +157,16 @@ impl<'a> Listing<'a> {
 
     /// The first completed call without a mark.
     fn first_missing(&self, marks: &[bool]) -> Option<OpId>
-        requires { Marks self.now.calls.now self.now.order.now marks.now }
-        ensures { MatchOption result (IsComplete self.now.calls.now self.now.order.now)
-            (λ op. IsLeast (IsMissing self.now.calls.now self.now.order.now) op.0) }
+        requires { Marks self.now.part.now self.now.order.now marks.now }
+        ensures { MatchOption result (IsComplete self.now.part.now self.now.order.now)
+            (λ op. IsLeast (IsMissing self.now.part.now self.now.order.now) op.0) }
     {
-        for (k, call) in self.calls.iter().enumerate() {
-            if call.response.is_some() && !marks[k] {
-                return Some(call.op);
+        for k in 0..self.part.len() {
+            if !marks[k] {
+                let call = self.part.call(k);
+                if call.response.is_some() {
+                    return Some(call.op);
+                }
             }
         }
         None
@@ -148,10 +174,10 @@ impl<'a> Listing<'a> {
 
     /// The first place of a pending read.
     fn first_pending_read(&self) -> Option<usize>
-        ensures { IsFirst (IsPendingRead self.now.calls.now self.now.order.now) result }
+        ensures { IsFirst (IsPendingRead self.now.part.now self.now.order.now) result }
     {
         for i in 0..self.order.len() {
-            if is_pending_read(self.call_at(i)) {
+            if is_pending_read(self.state_at(i)) {
                 return Some(i);
             }
         }
@@ -160,17 +186,17 @@ impl<'a> Listing<'a> {
 
     /// The first place of a read that answers another value than the last write before it wrote.
     fn first_wrong_answer(&self) -> Option<usize>
-        ensures { MatchOption result (IsLegal self.now.calls.now self.now.order.now)
-            (λ i. IsLeast (IsWrongAnswer self.now.calls.now self.now.order.now) i) }
+        ensures { MatchOption result (IsLegal self.now.part.now self.now.order.now)
+            (λ i. IsLeast (IsWrongAnswer self.now.part.now self.now.order.now) i) }
     {
-        let mut current: Option<&Value> = None;
+        let mut current: Option<ValueRef<'_>> = None;
         for i in 0..self.order.len() {
             let call = self.call_at(i);
-            match &call.action {
-                Action::Write(value) => current = Some(value),
-                Action::Read => {
+            match call.action.written() {
+                Some(value) => current = Some(value),
+                None => {
                     if let Some(response) = &call.response {
-                        if !answers(&response.returned, current) {
+                        if !answers(&response.returned, &current) {
                             return Some(i);
                         }
                     }
@@ -183,11 +209,11 @@ impl<'a> Listing<'a> {
     /// The first place of a call that was invoked after that place of the history.
     fn first_invoked_after(&self, place: usize) -> Option<usize>
         ensures { IsFirst (λ i. (call : Call)
-            × StandsAt self.now.calls.now self.now.order.now i call
+            × StandsAt self.now.part.now self.now.order.now i call
             × (place < call.invoked)) result }
     {
         for i in 0..self.order.len() {
-            if place < self.call_at(i).invoked {
+            if place < self.state_at(i).invoked as usize {
                 return Some(i);
             }
         }
@@ -197,41 +223,41 @@ impl<'a> Listing<'a> {
     /// The first place of a call with its response before the invocation of an earlier one, after
     /// the first such earlier place.
     fn first_broken(&self) -> Option<(usize, usize)>
-        ensures { MatchOption result (HasNone (BreaksPrecedenceAt self.now.calls.now self.now.order.now))
-            (λ places. IsLeast (BreaksPrecedenceAt self.now.calls.now self.now.order.now) places.1
-            × IsLeast (BreaksPrecedence self.now.calls.now self.now.order.now places.1) places.0) }
+        ensures { MatchOption result (HasNone (BreaksPrecedenceAt self.now.part.now self.now.order.now))
+            (λ places. IsLeast (BreaksPrecedenceAt self.now.part.now self.now.order.now) places.1
+            × IsLeast (BreaksPrecedence self.now.part.now self.now.order.now places.1) places.0) }
     {
         let mut latest = 0;
         for j in 0..self.order.len() {
-            let call = self.call_at(j);
-            if let Some(response) = &call.response {
-                if response.place < latest {
-                    match self.first_invoked_after(response.place) {
+            let state = self.state_at(j);
+            if let Some(place) = state.response {
+                if (place as usize) < latest {
+                    match self.first_invoked_after(place as usize) {
                         Some(i) => return Some((i, j)),
                         None => unreachable!(),
                     }
                 }
             }
-            latest = latest.max(call.invoked);
+            latest = latest.max(state.invoked as usize);
         }
         None
     }
 }
 
-/// Whether the call is a read without a response.
-fn is_pending_read(call: &Call) -> bool
-    ensures { IsTrue result ↔ (IsPending call.now × (call.now.action ≡ Action.Read)) }
+/// Whether the call of that state is a read without a response.
+fn is_pending_read(state: CallState) -> bool
+    ensures { (call : Call) → IsStateOf call state → IsTrue result
+        ↔ (IsPending call × (call.action ≡ Action.Read)) }
 {
-    call.response.is_none() && matches!(call.action, Action::Read)
+    state.response.is_none() && !state.is_write
 }
 
 /// Whether the answer is that value.
-fn answers(returned: &Returned, value: Option<&Value>) -> bool
-    ensures { IsTrue result ↔ (returned.now ≡ Returned.Value (option_copied value.entry)) }
+fn answers(returned: &ReturnedRef<'_>, value: &Option<ValueRef<'_>>) -> bool
+    ensures { IsTrue result ↔ (returned.now ≡ Returned.Value value.now) }
 {
-    match (returned, value) {
-        (Returned::Value(Some(answer)), Some(value)) => *answer == *value,
-        (Returned::Value(None), None) => true,
-        _ => false,
+    match returned.answered() {
+        Some(answer) => answer == *value,
+        None => false,
     }
 }

@@ -1,7 +1,8 @@
 -- The keys that have their orders so far.
-use Rattle.std.proofs.Common.{ℕ, ap₂, add-one, ◌≡◌, ◌<◌, ◌+◌, List, [], ◌∷◌, ◌++◌, length, map, take, drop, get_or, inl, inr, refl, sym, ap, subst, ◌∙◌, append_assoc, append-nil, arith, length-append}
+use Rattle.std.proofs.Common.{ℕ, ap₂, add-one, ◌≡◌, ◌<◌, ◌+◌, List, [], ◌∷◌, ◌++◌, Some, length, map, take, drop, get_or, inl, inr, refl, sym, ap, subst, ◌∙◌, append_assoc, append-nil, arith, length-append}
 use Rattle.std.proofs.lemmas.List.{map-append, take-append-drop}
-use Rattle.std.proofs.lemmas.Option.{slice_get_within}
+use Rattle.std.specs.List.{slice_get}
+use Rattle.std.proofs.lemmas.Option.{get_or_from_slice_get, slice_get_within}
 use Rattle.std.proofs.Math.Seq.{drop-cons}
 use Rattle.recorder.specs.declared.order.KeyOrder.{KeyOrder}
 use Rattle.tag.proofs.Lists.{push_cases}
@@ -24,8 +25,10 @@ justified_none before parts left orders same justified = record {
 }
 
 -- of what is left, the next is the entry at that place
-pub dropped_more : (parts : List KeyPart) (i : ℕ) (entry : KeyPart) → i < length parts → entry ≡ get_or parts i entry → drop i parts ≡ entry ∷ drop (i + 1) parts
-dropped_more parts i entry below is = drop-cons parts i entry below ∙ ap₂ (λ (e : KeyPart) (n : ℕ). e ∷ drop n parts) (sym is) (sym (add-one i))
+pub dropped_more : (parts : List KeyPart) (i : ℕ) (entry : KeyPart) → slice_get parts i ≡ Some entry → drop i parts ≡ entry ∷ drop (i + 1) parts
+dropped_more parts i entry at =
+    drop-cons parts i entry (slice_get_within parts i entry at)
+    ∙ ap₂ (λ (e : KeyPart) (n : ℕ). e ∷ drop n parts) (get_or_from_slice_get parts i entry entry at) (sym (add-one i))
 
 -- no key has no order
 pub justified_nothing : AreJustified [] []

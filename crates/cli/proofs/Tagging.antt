@@ -1,7 +1,8 @@
 -- What the tags make of keys, one key more.
-use Rattle.std.proofs.Common.{ℕ, ◌≡◌, ◌<◌, ◌≤◌, ◌+◌, List, [], ◌∷◌, ◌++◌, append_assoc, append-nil, length, map, take, get_or, refl, sym, ap, subst, ◌∙◌, arith}
+use Rattle.std.proofs.Common.{ℕ, ◌≡◌, ◌<◌, ◌≤◌, ◌+◌, List, [], ◌∷◌, ◌++◌, Some, append_assoc, append-nil, length, map, take, get_or, refl, sym, ap, subst, ◌∙◌, arith}
 use Rattle.parallel_keys.specs.CheckedKeys.{KeyParts, all_parts}
-use Rattle.parallel_keys.proofs.Fronts.{front_more}
+use Rattle.std.specs.List.{slice_get}
+use Rattle.parallel_keys.proofs.Fronts.{front_at}
 use Rattle.cli.proofs.Prefixes.{halls_more}
 use Rattle.tag.specs.declared.numbers.OpId.{OpId}
 use Rattle.recorder.specs.declared.order.KeyOrder.{KeyOrder}
@@ -57,11 +58,11 @@ left_out_more before entry op old new so_far here orders lines =
     (lines ∙ ap (λ (l : List ℕ). old.left_out.items ++ l) (sym (append-nil (no_note_text entry.0 op))))
 
 -- a front of the keys with one key more
-pub hall_front_more : (before parts : List KeyPart) (i : ℕ) (entry : KeyPart) (made : TagOrders) → i < length parts → entry ≡ get_or parts i entry
+pub hall_front_more : (before parts : List KeyPart) (i : ℕ) (entry : KeyPart) (made : TagOrders) → slice_get parts i ≡ Some entry
     → AreMade ((before ++ take i parts) ++ entry ∷ []) made → AreMade (before ++ take (i + 1) parts) made
-hall_front_more before parts i entry made below is so_far =
+hall_front_more before parts i entry made at so_far =
     subst (λ (l : List KeyPart). AreMade l made)
-    (append_assoc before (take i parts) (entry ∷ []) ∙ ap (λ (l : List KeyPart). before ++ l) (sym (front_more parts i entry below is))) so_far
+    (append_assoc before (take i parts) (entry ∷ []) ∙ ap (λ (l : List KeyPart). before ++ l) (sym (front_at parts i entry at))) so_far
 
 -- a hall more
 pub hall_made : {X : Type 0} (parts_in : X → KeyParts) (maps : List X) (i : ℕ) (own : X) → i < length maps → own ≡ get_or maps i own → (made : TagOrders)

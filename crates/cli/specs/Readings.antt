@@ -11,7 +11,7 @@ use Rattle.file_format.specs.Formats.{Format}
 use Rattle.file_format.specs.HistoriesFormat.{histories_format, MakesHistories}
 use Rattle.file_format.specs.OrderFormat.{MakesJoined, order_format}
 use Rattle.file_format.specs.Readings.{Reads}
-use Rattle.history_file.specs.FileFaults.{file_faults}
+use Rattle.file_format.specs.Files.{file_faults}
 
 -- the reader came to its end, and gave these histories
 abbrev pub ReadsHistories : DeviceStates → RecordedHalls → Type 0

@@ -6,7 +6,7 @@ use Rattle.counted_devices.specs.ReadFaults.{FailsFrom}
 use Rattle.file_format.specs.Formats.{Format}
 use Rattle.file_format.specs.HistoriesFormat.{histories_format}
 use Rattle.file_format.specs.OrderFormat.{order_format}
-use Rattle.fault_script.specs.Feeds.{script_faults}
+use Rattle.fault_script.specs.Scripts.{script_faults}
 use Rattle.fault_script.specs.Simulations.{Simulates}
 use Rattle.cli.specs.Devices.{FailsOnce, FileStates, Receives, ReceivesOrFails}
 use Rattle.cli.specs.Devices.{ReceivesPrefix, device_since, device_until}

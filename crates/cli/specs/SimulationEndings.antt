@@ -3,7 +3,7 @@ use Rattle.std.specs.Prelude.{ℕ, ◌⊎◌}
 use Rattle.counted_devices.specs.Deliveries.{Delivers}
 use Rattle.counted_devices.specs.DeviceStates.{DeviceStates}
 use Rattle.counted_devices.specs.FirstFaults.{StopsWith}
-use Rattle.fault_script.specs.Feeds.{script_faults}
+use Rattle.fault_script.specs.Scripts.{script_faults}
 use Rattle.fault_script.specs.Simulations.{Simulates}
 use Rattle.fault_script.specs.declared.fault.LineFault.{LineFault}
 use Rattle.counted_devices.specs.declared.read_fault.FaultKind.TheVariants as kind

@@ -57,8 +57,8 @@ pub record OrdersKeys (parts : List KeyPart) (good : Bool) (text notes : List �
   pub orders : text ≡ orders_text (orders_of tagged)
   pub lines : notes ≡ left_out_text tagged
 
--- what `abd justify` makes of keys with these parts: what the tags make, if the orders go unchecked,
--- and else what a justification makes
+-- what `abd justify` makes of keys with these parts: what the tags make, if the orders go
+-- unchecked, and else what a justification makes
 abbrev pub MakesOrders : Bool → List KeyPart → Bool → List ℕ → List ℕ → Type 0
 MakesOrders true = OrdersKeys
 MakesOrders false = Justifies

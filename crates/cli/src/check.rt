@@ -2,7 +2,7 @@
 ghost use Rattle.cli.specs.Checks.{EndsCheck};
 ghost use Rattle.cli.specs.Devices.{file_states, writer_states};
 
-use crate::check_keys::check_keys;
+use crate::check_outcome::check_outcome;
 use crate::outcome::conclude;
 use crate::sources::{Source, histories_in, orders_in};
 use crate::status::Status;
@@ -47,6 +47,6 @@ pub fn check_command<'a, H: CountedRead, O: CountedRead, W: CountedWrite, E: Cou
         Ok(orders) => orders,
         Err(failure) => return failure.report(errors),
     };
-    let made = check_keys(rt, alloc, &histories, orders.as_slice(), workers, form);
+    let made = check_outcome(rt, alloc, &histories, orders.as_slice(), workers, form);
     conclude(made, out, errors)
 }

@@ -5,7 +5,7 @@
 #![tactic(auto)]
 
 mod check;
-mod check_keys;
+mod check_outcome;
 mod json_lines;
 mod justify;
 mod noted_orders;

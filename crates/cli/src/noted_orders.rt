@@ -123,7 +123,11 @@ impl<'k, T: Drop> From<AllocFailed<T>> for Unjustified<'k> {
 }
 
 /// The key's tag order, where it is an order of its calls.
-fn checked_order<'k>(alloc: Global, key: &'k Key, part: &Part) -> Result<KeyOrder, Unjustified<'k>>
+fn checked_order<'k>(
+    alloc: Global,
+    key: &'k Key,
+    part: &Part<'_>,
+) -> Result<KeyOrder, Unjustified<'k>>
     ensures order { IfOk result (IsJustifiedOrder (key.now, part.now)) }
     ensures refused { IfErr result (IsUnjustified (key.now, part.now)) }
 {
@@ -145,16 +149,17 @@ fn checked_order<'k>(alloc: Global, key: &'k Key, part: &Part) -> Result<KeyOrde
 fn add_orders<'k>(
     alloc: Global,
     orders: &mut Vec<KeyOrder>,
-    parts: &'k [(Key, Part)],
+    parts: &'k Parts<'k>,
 ) -> Result<(), Unjustified<'k>>
     ensures orders { OnOk result ((before : List KeyPart) → AreJustified before orders.old.items
-        → AreJustified (before ++ parts.now) orders.new.items) }
+        → AreJustified (before ++ parts.now.entries) orders.new.items) }
     ensures refused { IfErr result (λ refusal. (before behind : List KeyPart)
         → AreJustified before orders.old.items
-        → IsFirstUnjustified (before ++ (parts.now ++ behind)) refusal) }
+        → IsFirstUnjustified (before ++ (parts.now.entries ++ behind)) refusal) }
 {
-    for entry in parts {
-        orders.push(checked_order(alloc, &entry.0, &entry.1)?)?;
+    for place in 0..parts.len() {
+        let (key, part) = parts.entry(place);
+        orders.push(checked_order(alloc, key.key(), &part)?)?;
     }
     Ok(())
 }
@@ -166,7 +171,7 @@ fn add_orders<'k>(
 /// comes only where an allocation was refused.
 pub fn checked_orders<'k>(
     alloc: Global,
-    parts: &'k [Parts],
+    parts: &'k [Parts<'k>],
 ) -> Result<Vec<KeyOrder>, Unjustified<'k>>
     ensures orders { IfOk result (λ orders.
         AreJustified (all_parts (map (λ p. p.entries) parts.now)) orders.items) }
@@ -175,7 +180,7 @@ pub fn checked_orders<'k>(
 {
     let mut orders = Vec::new(alloc);
     for own in parts {
-        add_orders(alloc, &mut orders, own.entries())?;
+        add_orders(alloc, &mut orders, own)?;
     }
     Ok(orders)
 }

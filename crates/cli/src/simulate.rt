@@ -10,6 +10,7 @@ use crate::status::{Failure, Status};
 use counted_devices::{CountedRead, CountedWrite};
 use fault_script::{SimulateError, simulate};
 use std::alloc::Global;
+use std::thread::Threads;
 
 /// Reads the script, runs it, and writes what is said of its lines to `errors` and then the history
 /// of the run to `out`.
@@ -18,6 +19,7 @@ use std::alloc::Global;
 /// has its message, and the status is `Good`. A failure is said on `errors`, after the messages
 /// that went there.
 pub fn simulate_command<'a, S: CountedRead, W: CountedWrite, E: CountedWrite>(
+    rt: &(impl Threads + Sync),
     alloc: Global,
     script: &mut Source<'a, S>,
     out: &mut W,
@@ -35,7 +37,7 @@ pub fn simulate_command<'a, S: CountedRead, W: CountedWrite, E: CountedWrite>(
         (states E.contents E.failures errors.old errors.new)
         result }
 {
-    match simulate(alloc, &mut script.reader, out, errors) {
+    match simulate(rt, alloc, &mut script.reader, out, errors) {
         Ok(()) => Status::Good,
         Err(SimulateError::Script(error)) => {
             let name = script.name;

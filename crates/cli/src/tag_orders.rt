@@ -31,7 +31,7 @@ impl TagOrders {
     }
 
     /// Adds the key's tag order, or the line that says which of its calls has no note.
-    fn add(&mut self, alloc: Global, key: &Key, part: &Part) -> Result<(), Memory>
+    fn add(&mut self, alloc: Global, key: &Key, part: &Part<'_>) -> Result<(), Memory>
         ensures { OnOk result ((before : List KeyPart) → AreMade before self.old
             → AreMade (before ++ (key.now, part.now) ∷ []) self.new) }
     {
@@ -48,12 +48,13 @@ impl TagOrders {
     }
 
     /// Adds what the tags make of each key, the keys in their order there.
-    fn add_hall(&mut self, alloc: Global, parts: &[(Key, Part)]) -> Result<(), Memory>
+    fn add_hall(&mut self, alloc: Global, parts: &Parts<'_>) -> Result<(), Memory>
         ensures { OnOk result ((before : List KeyPart) → AreMade before self.old
-            → AreMade (before ++ parts.now) self.new) }
+            → AreMade (before ++ parts.now.entries) self.new) }
     {
-        for entry in parts {
-            self.add(alloc, &entry.0, &entry.1)?;
+        for place in 0..parts.len() {
+            let (key, part) = parts.entry(place);
+            self.add(alloc, key.key(), &part)?;
         }
         Ok(())
     }
@@ -61,12 +62,12 @@ impl TagOrders {
 
 /// What the tags make of each key of the parts, the halls one after another and the keys in their order
 /// there.
-pub(crate) fn tag_orders(alloc: Global, parts: &[Parts]) -> Result<TagOrders, Memory>
+pub(crate) fn tag_orders(alloc: Global, parts: &[Parts<'_>]) -> Result<TagOrders, Memory>
     ensures { IfOk result (AreMade (all_parts (map (λ p. p.entries) parts.now))) }
 {
     let mut made = TagOrders::new(alloc);
     for own in parts {
-        made.add_hall(alloc, own.entries())?;
+        made.add_hall(alloc, own)?;
     }
     Ok(made)
 }

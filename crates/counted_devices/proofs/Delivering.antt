@@ -6,7 +6,7 @@ use Rattle.counted_devices.specs.declared.read_fault.FaultKind.{FaultKind}
 use Rattle.counted_devices.specs.declared.read_fault.ReadFault.{ReadFault}
 use Rattle.counted_devices.specs.DeviceStates.{DeviceStates}
 use Rattle.counted_devices.specs.Deliveries.{Delivers, ReadsFrom, HoldsAll}
-use Rattle.counted_devices.specs.ReadFaults.{FailsFrom, HasFailed}
+use Rattle.counted_devices.specs.ReadFaults.{FailsFrom}
 use Rattle.counted_devices.specs.FirstFaults.{LineFaults, IsUnderWay, StopsWith, StopsFrom, FaultSoFar, FaultInAll, FileAnswers}
 use Rattle.counted_devices.proofs.Consuming.{Consumes-join}
 use Rattle.counted_devices.proofs.FaultKinds.{of_line, no_device}

@@ -1,10 +1,10 @@
 -- The first fault of what a reader delivered.
-use Rattle.std.specs.Prelude.{ℕ, ◌≡◌, ◌≤◌, ◌+◌, ◌⊎◌, List, length, Option, Result, Ok, Err}
-use Rattle.std.specs.Prelude.{MatchResult}
+use Rattle.std.specs.Prelude.{ℕ, ◌≡◌, ◌≤◌, ◌+◌, ◌⊎◌, List, [], ◌∷◌, ◌++◌, length, nat_lt, Option}
+use Rattle.std.specs.Prelude.{Result, Ok, Err, MatchResult, if◌then◌else◌}
 use Rattle.std.specs.Io.KnownBytes.{IsAtEnd}
 use Rattle.counted_devices.specs.declared.read_fault.FaultKind.{FaultKind}
 use Rattle.counted_devices.specs.declared.read_fault.ReadFault.{ReadFault}
-use Rattle.counted_devices.specs.Cuts.{Splits, longest_line}
+use Rattle.counted_devices.specs.Cuts.{Splits, last_lines, longest_line}
 use Rattle.counted_devices.specs.Deliveries.{Delivers}
 use Rattle.counted_devices.specs.DeviceStates.{DeviceStates}
 use Rattle.counted_devices.specs.ReadFaults.{IsFaultBy, FailsFrom}
@@ -15,6 +15,55 @@ pub record LineFaults (L : Type 0) : Type 1 where
   pub HaveNone : List (List ℕ) → Type 0
   pub IsFirstSoFar : List ℕ → ℕ → L → Type 0
   pub IsFirstInAll : List ℕ → ℕ → L → Type 0
+
+-- for a kind of file: when whole lines, so far, have no fault; which fault the next line has after
+-- lines that have none; and which fault all the lines have at their end, where none of them has one
+pub record LineRules (L : Type 0) : Type 1 where
+  pub AreSound : List (List ℕ) → Type 0
+  pub HasFault : List (List ℕ) → List ℕ → L → Type 0
+  pub LacksAtEnd : List (List ℕ) → L → Type 0
+
+-- the whole lines so far: each that has its end, and a rest that is too long already
+abbrev pub whole_lines : List (List ℕ) → List ℕ → List (List ℕ)
+whole_lines lines rest =
+    if nat_lt longest_line (length rest) then lines ++ rest ∷ [] else lines
+
+module _ {L : Type 0} (rules : LineRules L) where
+  -- the first of the lines that has a fault has that number and that fault
+  pub record IsFirstFault (lines : List (List ℕ)) (number : ℕ) (fault : L) : Type 0 where
+    pub earlier : List (List ℕ)
+    pub line : List ℕ
+    pub later : List (List ℕ)
+    pub place : lines ≡ earlier ++ line ∷ later
+    pub counted : number ≡ length earlier + 1
+    pub faulty : rules.HasFault earlier line fault
+
+  -- among the lines that are whole so far, the first with a fault has that number and that fault
+  pub record FirstFaultSoFar (bytes : List ℕ) (number : ℕ) (fault : L) : Type 0 where
+    pub lines : List (List ℕ)
+    pub rest : List ℕ
+    pub splits : Splits bytes lines rest
+    pub first : IsFirstFault (whole_lines lines rest) number fault
+
+  -- the first fault of all lines, or what they lack at the bytes' end, which is told of line 1
+  pub record FirstFaultInAll (bytes : List ℕ) (number : ℕ) (fault : L) : Type 0 where
+    pub lines : List (List ℕ)
+    pub rest : List ℕ
+    pub splits : Splits bytes lines rest
+    pub first : IsFirstFault (last_lines lines rest) number fault
+        ⊎ (rules.LacksAtEnd (last_lines lines rest) fault × (number ≡ 1))
+
+  -- the faults of files by those rules
+  abbrev pub faults_by : LineFaults L
+  faults_by = record {
+    HaveNone = rules.AreSound;
+    IsFirstSoFar = FirstFaultSoFar;
+    IsFirstInAll = FirstFaultInAll;
+  }
+
+  -- the fault is the first of the lines; it is of a line, or an allocation was refused
+  abbrev pub IsFirstOfKind : List (List ℕ) → ℕ → FaultKind L → Type 0
+  IsFirstOfKind lines number kind = IsFaultBy (IsFirstFault lines number) ⊥ kind
 
 module _ {L : Type 0} (faults : LineFaults L) where
   -- no line of the bytes that is whole has a fault, and the line under way has that number

@@ -8,4 +8,5 @@ pub mod Deliveries
 pub mod ReadFaults
 pub mod Answers
 pub mod FirstFaults
+pub mod Judgements
 pub mod Sendings

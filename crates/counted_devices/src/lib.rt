@@ -6,6 +6,7 @@
 
 mod count_failures;
 mod device_traits;
+mod judgement;
 mod lines;
 mod read_fault;
 mod sending;
@@ -13,7 +14,8 @@ mod write_fault;
 
 pub use count_failures::Counting;
 pub use device_traits::{Counted, CountedRead, CountedWrite};
-pub use lines::{Cut, cut_chunks, first_end};
+pub use judgement::Judgement;
+pub use lines::{Cut, LONGEST, cut_chunks, first_end};
 pub use read_fault::{FaultKind, FaultNumbers, ReadFault, Stop};
 pub use sending::{relieve, write_pieces, write_text};
 pub use write_fault::WriteFault;

@@ -9,6 +9,9 @@ use tag::Memory;
 /// The byte that ends a line.
 const END: u8 = 10;
 
+/// The most bytes of a line, its end not counted.
+pub const LONGEST: usize = 65_536;
+
 /// How many bytes of lines are worth a chunk of their own.
 const CHUNK: usize = 65_536;
 

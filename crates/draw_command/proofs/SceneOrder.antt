@@ -33,7 +33,7 @@ drawn_points judged one (TagFault rule) order points are = of_nothing one.part o
 pub in_order : (judged : Judged) (drawn : Drawn) (hall : HallRows) (key : Judgement) (faulty : List OpId) (scene : Scene) → IsKeyScene judged drawn hall key faulty scene → IsInOrder scene
 in_order judged drawn hall key faulty scene is = record {
   ticks = is.is.is.ticks.rising;
-  dots = places_up hall.rows.now key.one.part is.is.shown is.order is.points scene (drawn_points judged key.one key.finding is.order is.points is.drawn_points) is.is.is;
+  dots = places_up hall.history.now.rows key.one.part is.is.shown is.order is.points scene (drawn_points judged key.one key.finding is.order is.points is.drawn_points) is.is.is;
 }
 
 -- a refused key has no points

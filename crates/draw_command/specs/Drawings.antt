@@ -31,24 +31,24 @@ use Rattle.explain_command.specs.declared.judged.Judged.TheVariants as judged
 -- the calls of the reason why a list is no order
 abbrev pub order_calls : OrderReason → List OpId
 order_calls (order_reason.UnknownCall place op) = []
-order_calls (order_reason.CallTwice earlier place call) = call.now.op ∷ []
-order_calls (order_reason.MissingCall call) = call.now.op ∷ []
-order_calls (order_reason.PendingRead read) = read.call.now.op ∷ []
-order_calls (order_reason.WrongAnswer read None) = read.call.now.op ∷ []
+order_calls (order_reason.CallTwice earlier place call) = call.op ∷ []
+order_calls (order_reason.MissingCall call) = call.op ∷ []
+order_calls (order_reason.PendingRead read) = read.call.op ∷ []
+order_calls (order_reason.WrongAnswer read None) = read.call.op ∷ []
 order_calls (order_reason.WrongAnswer read (Some last)) =
-    read.call.now.op ∷ last.call.now.op ∷ []
+    read.call.op ∷ last.call.op ∷ []
 order_calls (order_reason.OrderBroken earlier later) =
-    earlier.call.now.op ∷ later.call.now.op ∷ []
+    earlier.call.op ∷ later.call.op ∷ []
 
 -- the calls of the reason why tags aren't sound
 abbrev pub tag_calls : TagReason → List OpId
-tag_calls (tag_reason.NoNote call) = call.now.op ∷ []
-tag_calls (tag_reason.LeastTag write) = write.now.op ∷ []
-tag_calls (tag_reason.SameTag earlier later) = earlier.now.op ∷ later.now.op ∷ []
-tag_calls (tag_reason.NotAbove earlier later) = earlier.now.op ∷ later.now.op ∷ []
-tag_calls (tag_reason.NoWrite read) = read.now.op ∷ []
-tag_calls (tag_reason.OtherValue read None) = read.now.op ∷ []
-tag_calls (tag_reason.OtherValue read (Some write)) = read.now.op ∷ write.now.op ∷ []
+tag_calls (tag_reason.NoNote call) = call.op ∷ []
+tag_calls (tag_reason.LeastTag write) = write.op ∷ []
+tag_calls (tag_reason.SameTag earlier later) = earlier.op ∷ later.op ∷ []
+tag_calls (tag_reason.NotAbove earlier later) = earlier.op ∷ later.op ∷ []
+tag_calls (tag_reason.NoWrite read) = read.op ∷ []
+tag_calls (tag_reason.OtherValue read None) = read.op ∷ []
+tag_calls (tag_reason.OtherValue read (Some write)) = read.op ∷ write.op ∷ []
 
 module _ (hall : HallRows) where
   -- why a key is refused: the sentences of its reason, and the calls that these name; of a yes none
@@ -93,7 +93,7 @@ pub record IsSceneAround (drawn : Drawn) (hall : HallRows) (part : List Call) (f
   pub around : IsWindowAround part drawn.calls (center drawn.around faulty) window
   pub shown : List ℕ
   pub calls : IsRisingListOf (IsToShow part window faulty) shown
-  pub is : IsSceneOf part shown hall.rows.now order points scene
+  pub is : IsSceneOf part shown hall.history.now.rows order points scene
 
 -- the scene of a key that was judged
 pub record IsKeyScene (judged : Judged) (drawn : Drawn) (hall : HallRows) (key : Judgement)

@@ -11,7 +11,7 @@ use Rattle.explain_command.specs.declared.judged.Judged.{Judged}
 
 -- what is judged of a key, and what was found
 abbrev pub judgement_of : JudgedKey → Judgement
-judgement_of key = record { one = what_of key.one; finding = key.finding }
+judgement_of key = record { one = what_of key.one.now; finding = key.finding }
 
 -- those that are refused stand first, and they are counted
 pub record HasRefusedFirst (all : List Judgement) (findings : Findings) : Type 0 where

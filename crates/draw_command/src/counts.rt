@@ -2,7 +2,7 @@
 ghost use Rattle.std.specs.Prelude.{◌≡◌, IfOk, count_by, is_none, map};
 ghost use Rattle.draw_command.specs.Counts.{AreCountsOf, IsClientCount};
 
-use recorder::{Call, Part};
+use recorder::Part;
 use scenes::most_at_once;
 use std::alloc::Global;
 use tag::{ClientId, Memory};
@@ -19,33 +19,35 @@ pub(crate) struct KeyCounts {
     pub(crate) at_once: usize,
 }
 
-/// The clients of the calls, call by call.
-fn clients_of(alloc: Global, calls: &[Call]) -> Result<Vec<ClientId>, Memory>
-    ensures { IfOk result (λ clients. clients.items ≡ map (λ call. call.client) calls.now) }
+/// The clients of the part's calls, call by call.
+fn clients_of(alloc: Global, part: &Part<'_>) -> Result<Vec<ClientId>, Memory>
+    ensures { IfOk result (λ clients. clients.items ≡ map (λ call. call.client) part.now) }
 {
-    let mut clients = Vec::with_capacity(alloc, calls.len())?;
-    for call in calls {
+    let mut clients = Vec::with_capacity(alloc, part.len())?;
+    for place in 0..part.len() {
+        let call = part.call(place);
         clients.push(call.client)?;
     }
     Ok(clients)
 }
 
-/// How many clients have calls among these.
-fn client_count(alloc: Global, calls: &[Call]) -> Result<usize, Memory>
-    ensures { IfOk result (IsClientCount calls.now) }
+/// How many clients have calls in the part.
+fn client_count(alloc: Global, part: &Part<'_>) -> Result<usize, Memory>
+    ensures { IfOk result (IsClientCount part.now) }
 {
-    let mut clients = clients_of(alloc, calls)?;
+    let mut clients = clients_of(alloc, part)?;
     clients.sort_unstable();
     clients.dedup();
     Ok(clients.len())
 }
 
-/// How many of the calls are pending.
-fn pending_count(calls: &[Call]) -> usize
-    ensures { result ≡ count_by (λ call. is_none call.response) calls.now }
+/// How many of the part's calls are pending.
+fn pending_count(part: &Part<'_>) -> usize
+    ensures { result ≡ count_by (λ call. is_none call.response) part.now }
 {
     let mut pending = 0usize;
-    for call in calls {
+    for place in 0..part.len() {
+        let call = part.call(place);
         if call.response.is_none() {
             pending += 1;
         }
@@ -54,14 +56,13 @@ fn pending_count(calls: &[Call]) -> usize
 }
 
 /// The counts of the part's calls.
-pub(crate) fn counts_of(alloc: Global, part: &Part) -> Result<KeyCounts, Memory>
+pub(crate) fn counts_of(alloc: Global, part: &Part<'_>) -> Result<KeyCounts, Memory>
     ensures { IfOk result (AreCountsOf part.now) }
 {
-    let calls = part.calls();
     Ok(KeyCounts {
-        calls: calls.len(),
-        clients: client_count(alloc, calls)?,
-        pending: pending_count(calls),
+        calls: part.len(),
+        clients: client_count(alloc, part)?,
+        pending: pending_count(part),
         at_once: most_at_once(alloc, part)?,
     })
 }

@@ -39,7 +39,7 @@ impl Finding {
 /// A key that was judged.
 #[derive(Clone, Copy, Debug)]
 pub(crate) struct JudgedKey<'a> {
-    pub(crate) one: KeyToCheck<'a>,
+    pub(crate) one: &'a KeyToCheck<'a>,
     pub(crate) finding: Finding,
 }
 
@@ -47,7 +47,7 @@ impl JudgedKey<'_> {
     /// Adds the line that says what was found.
     pub(crate) fn append_line(&self, text: &mut Vec<u8>) -> Result<(), Memory>
         ensures { OnOk result (text.new.items
-            ≡ text.old.items ++ finding_line self.now.one.key.now self.now.finding) }
+            ≡ text.old.items ++ finding_line self.now.one.now.key.now self.now.finding) }
     {
         let key = self.one.key;
         match self.finding {
@@ -70,7 +70,7 @@ pub(crate) struct Findings<'a> {
 fn judge_order(alloc: Global, one: &KeyToCheck<'_>) -> Result<Finding, Memory>
     ensures { IfOk result (IsOrderFinding (what_of one.now)) }
 {
-    match check_part(alloc, one.part, one.order)? {
+    match check_part(alloc, &one.part, one.order)? {
         Verdict::Yes => Ok(Finding::Yes),
         Verdict::No(fault) => Ok(Finding::OrderFault(fault)),
     }
@@ -80,7 +80,7 @@ fn judge_order(alloc: Global, one: &KeyToCheck<'_>) -> Result<Finding, Memory>
 fn judge_tags(alloc: Global, one: &KeyToCheck<'_>) -> Result<Finding, Memory>
     ensures { IfOk result (IsTagFinding (what_of one.now)) }
 {
-    match check_tags(alloc, one.part)? {
+    match check_tags(alloc, &one.part)? {
         None => Ok(Finding::Yes),
         Some(rule) => Ok(Finding::TagFault(rule)),
     }
@@ -100,7 +100,7 @@ fn judge(alloc: Global, judged: Judged, one: &KeyToCheck<'_>) -> Result<Finding,
 fn judge_each<'a>(
     alloc: Global,
     judged: Judged,
-    keys: &[KeyToCheck<'a>],
+    keys: &'a [KeyToCheck<'a>],
 ) -> Result<Vec<JudgedKey<'a>>, Memory>
     ensures { IfOk result (λ all.
         AreJudged judged (map what_of keys.now) (map judgement_of all.items)) }
@@ -108,7 +108,7 @@ fn judge_each<'a>(
     let mut all = Vec::with_capacity(alloc, keys.len())?;
     for one in keys {
         let finding = judge(alloc, judged, one)?;
-        all.push(JudgedKey { one: *one, finding })?;
+        all.push(JudgedKey { one, finding })?;
     }
     Ok(all)
 }
@@ -144,7 +144,7 @@ fn refused_first<'a>(alloc: Global, all: &[JudgedKey<'a>]) -> Result<Findings<'a
 pub(crate) fn find_each<'a>(
     alloc: Global,
     judged: Judged,
-    keys: &[KeyToCheck<'a>],
+    keys: &'a [KeyToCheck<'a>],
 ) -> Result<Findings<'a>, Memory>
     ensures { IfOk result (AreFindingsOf judged (map what_of keys.now)) }
 {

@@ -15,7 +15,7 @@ use crate::section::Task;
 use explain_command::{Judged, is_good};
 use history_file::NumberedHistories;
 use parallel_keys::{KeyToCheck, hall_parts, keys_to_check};
-use recorder::{KeyOrder, Part};
+use recorder::KeyOrder;
 use std::alloc::Global;
 use tag::Memory;
 
@@ -24,17 +24,17 @@ fn add_keys(
     alloc: Global,
     page: &mut Vec<u8>,
     task: &Task<'_>,
-    keys: &[KeyToCheck<'_>],
+    mut keys: Vec<KeyToCheck<'_>>,
 ) -> Result<bool, Memory>
     requires lines { HasLinesOfEach task.now.numbered.now }
-    requires apart { All (λ one. AreApart one.part) (map what_of keys.now) }
+    requires apart { All (λ one. AreApart one.part) (map what_of keys.items) }
     ensures { IfOk result (λ good. Adds (IsJudgedContent task.now.numbered.now task.now.drawn
-        task.now.judged (map what_of keys.now) good) page.old.items page.new.items) }
+        task.now.judged (map what_of keys.entry.items) good) page.old.items page.new.items) }
 {
     let selection = task.drawn.selection();
-    let few = selection.select(alloc, keys)?;
-    let missing = selection.misses(few.len());
-    let findings = find_each(alloc, task.judged, few.as_slice())?;
+    selection.select(&mut keys);
+    let missing = selection.misses(keys.len());
+    let findings = find_each(alloc, task.judged, keys.as_slice())?;
     add_content(alloc, page, task, &findings, missing)?;
     Ok(is_good(findings.refused, missing))
 }
@@ -54,9 +54,8 @@ pub(crate) fn add_histories(
         page.old.items page.new.items) }
 {
     let parts = hall_parts(alloc, task.numbered.histories.halls())?;
-    let nothing = Part::empty(alloc);
-    let keys = keys_to_check(alloc, parts.as_slice(), orders, &nothing)?;
-    add_keys(alloc, page, task, keys.as_slice())
+    let keys = keys_to_check(alloc, parts.as_slice(), orders)?;
+    add_keys(alloc, page, task, keys)
 }
 
 /// Judges the keys of the histories by the tags of their calls, and adds what the page of

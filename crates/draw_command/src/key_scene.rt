@@ -21,7 +21,7 @@ use tag::{Memory, OpId};
 use witness_order::{WitnessError, order_of};
 
 /// The order that the sound tags make.
-fn tag_order(alloc: Global, part: &Part) -> Result<Order, Memory>
+fn tag_order(alloc: Global, part: &Part<'_>) -> Result<Order, Memory>
     requires { TagSound part.now }
     ensures by_tag { IfOk result (λ order. IsByTag part.now order) }
     ensures order { IfOk result (λ order. IsOrder part.now order) }
@@ -33,7 +33,7 @@ fn tag_order(alloc: Global, part: &Part) -> Result<Order, Memory>
     }
 }
 
-/// How a key is shown: how much of it, on the rows of its hall, and with the calls that show why it is
+/// How a key is shown: how much of it, with the history of its hall, and with the calls that show why it is
 /// refused.
 #[derive(Clone, Copy)]
 struct View<'a> {
@@ -46,24 +46,24 @@ struct View<'a> {
 fn scene_around(
     alloc: Global,
     view: &View<'_>,
-    part: &Part,
+    part: &Part<'_>,
     order: &[OpId],
     points: &[usize],
 ) -> Result<Scene, Memory>
     ensures { IfOk result (IsSceneAround view.now.drawn.now view.now.hall.now part.now
         view.now.faulty.now order.now points.now) }
 {
-    let (drawn, faulty) = (view.drawn, view.faulty);
+    let (history, drawn, faulty) = (view.hall.history, view.drawn, view.faulty);
     let window = window_around(part, drawn.calls as usize, drawn.center(faulty));
     let shown = shown_calls(alloc, part, window, faulty)?;
-    scene_of(alloc, view.hall.rows, part, shown.as_slice(), order, points)
+    scene_of(alloc, history, part, shown.as_slice(), order, points)
 }
 
 /// The scene of a key that isn't refused, with the points of its order.
 fn scene_of_yes(
     alloc: Global,
     view: &View<'_>,
-    part: &Part,
+    part: &Part<'_>,
     order: &[OpId],
 ) -> Result<Scene, Memory>
     requires apart { AreApart part.now }
@@ -77,7 +77,7 @@ fn scene_of_yes(
 }
 
 /// The scene of a key whose tags are sound, with the points of the order that they make.
-fn scene_of_tags(alloc: Global, view: &View<'_>, part: &Part) -> Result<Scene, Memory>
+fn scene_of_tags(alloc: Global, view: &View<'_>, part: &Part<'_>) -> Result<Scene, Memory>
     requires apart { AreApart part.now }
     requires sound { TagSound part.now }
     ensures { IfOk result (λ scene. (order : List OpId) × IsByTag part.now order
@@ -96,16 +96,16 @@ fn scene_of_found(
     view: &View<'_>,
     one: &KeyToCheck<'_>,
 ) -> Result<Scene, Memory>
-    requires apart { AreApart one.now.part.now }
+    requires apart { AreApart one.now.part }
     requires found { IsFinding judged (what_of one.now) Finding.Yes }
     ensures { IfOk result (λ scene. (order : List OpId) × (points : List ℕ)
         × AreDrawnPoints judged (what_of one.now) Finding.Yes order points
-        × IsSceneAround view.now.drawn.now view.now.hall.now one.now.part.now view.now.faulty.now
+        × IsSceneAround view.now.drawn.now view.now.hall.now one.now.part view.now.faulty.now
         order points scene) }
 {
     match judged {
-        Judged::Orders => scene_of_yes(alloc, view, one.part, one.order),
-        Judged::Tags => scene_of_tags(alloc, view, one.part),
+        Judged::Orders => scene_of_yes(alloc, view, &one.part, one.order),
+        Judged::Tags => scene_of_tags(alloc, view, &one.part),
     }
 }
 
@@ -128,7 +128,7 @@ pub(crate) fn scene_of_key(
         faulty,
     };
     match key.finding {
-        Finding::Yes => scene_of_found(alloc, judged, &view, &key.one),
-        _ => scene_around(alloc, &view, key.one.part, &[], &[]),
+        Finding::Yes => scene_of_found(alloc, judged, &view, key.one),
+        _ => scene_around(alloc, &view, &key.one.part, &[], &[]),
     }
 }

@@ -71,7 +71,7 @@ fn append_shown(page: &mut Vec<u8>, picture: &Picture<'_>) -> Result<(), Memory>
         ≡ page.old.items ++ rendered (shown_line picture.now)) }
 {
     let shown = (words::CALLS_SHOWN, picture.scene.bars.len() as u64);
-    let all = (words::OF, picture.part.calls().len() as u64);
+    let all = (words::OF, picture.part.len() as u64);
     append_counted(page, words::SHOWN, shown, all)
 }
 
@@ -129,7 +129,7 @@ fn add_section(
     let picture = Picture {
         key: key.one.key,
         hall,
-        part: key.one.part,
+        part: &key.one.part,
         scene: &scene,
         faulty,
     };

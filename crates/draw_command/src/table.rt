@@ -112,7 +112,7 @@ impl Row<'_> {
             page.old.items page.new.items) }
     {
         let key = self.key;
-        let counts = counts_of(alloc, key.one.part)?;
+        let counts = counts_of(alloc, &key.one.part)?;
         self.append(alloc, page, counts)
     }
 }

@@ -70,11 +70,11 @@ pub(crate) fn why_of(
     hall: &HallRows<'_>,
     key: &JudgedKey<'_>,
 ) -> Result<Why, Memory>
-    requires { IsFinding judged (what_of key.now.one) key.now.finding }
+    requires { IsFinding judged (what_of key.now.one.now) key.now.finding }
     ensures { IfOk result (λ why.
-        IsWhy hall.now (what_of key.now.one) key.now.finding why.text.items why.faulty.items) }
+        IsWhy hall.now (what_of key.now.one.now) key.now.finding why.text.items why.faulty.items) }
 {
-    let one = &key.one;
+    let one = key.one;
     let mut text = Vec::new(alloc);
     match key.finding {
         Finding::Yes => {
@@ -82,13 +82,13 @@ pub(crate) fn why_of(
             Ok(Why { text, faulty })
         }
         Finding::OrderFault(fault) => {
-            let reason = order_reason(one.part, one.order, fault);
+            let reason = order_reason(&one.part, one.order, fault);
             let faulty = order_calls(alloc, &reason)?;
             append_order_reason(&mut text, one.key, hall, &reason)?;
             Ok(Why { text, faulty })
         }
         Finding::TagFault(rule) => {
-            let reason = tag_reason(one.part, rule);
+            let reason = tag_reason(&one.part, rule);
             let faulty = tag_calls(alloc, &reason)?;
             append_tag_reason(&mut text, one.key, hall, &reason)?;
             Ok(Why { text, faulty })

@@ -39,7 +39,7 @@ module _ (numbered : NumberedHistories) where
     pub its : number ≡ hall_of (length numbered.histories.halls) key
     pub history : Recorded
     pub recorded : slice_get numbered.histories.halls number ≡ Some history
-    pub rows : hall.rows.now ≡ history.rows
+    pub rows : hall.history.now.rows ≡ history.rows
     pub lines : slice_get numbered.lines.items number ≡ Some hall.lines.now
 
   -- the key's order has that fault; the line says so, and the text which calls show it

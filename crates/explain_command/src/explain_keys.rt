@@ -13,7 +13,6 @@ use crate::selection::Selection;
 use cli::{Made, Outcome};
 use history_file::NumberedHistories;
 use parallel_keys::{KeyToCheck, hall_parts, keys_to_check};
-use recorder::Part;
 use std::alloc::Global;
 use tag::Memory;
 
@@ -42,14 +41,15 @@ impl Selection<'_> {
         alloc: Global,
         judged: Judged,
         numbered: &NumberedHistories,
-        keys: &[KeyToCheck<'_>],
+        mut keys: Vec<KeyToCheck<'_>>,
     ) -> Result<Outcome, Memory>
         requires { HasLinesOfEach numbered.now }
-        ensures { IfOk result (ExplainsKeys judged self.now numbered.now (map what_of keys.now)) }
+        ensures { IfOk result
+            (ExplainsKeys judged self.now numbered.now (map what_of keys.entry.items)) }
     {
-        let few = self.select(alloc, keys)?;
-        let missing = self.misses(few.len());
-        let mut report = say_keys(alloc, judged, numbered, few.as_slice(), self.most)?;
+        self.select(&mut keys);
+        let missing = self.misses(keys.len());
+        let mut report = say_keys(alloc, judged, numbered, keys.as_slice(), self.most)?;
         report.say_missing(missing)?;
         report.say_left_out()?;
         let good = is_good(report.refused, missing);
@@ -67,8 +67,7 @@ impl Presentation for Selection<'_> {
 
     fn present(&self, alloc: Global, judged: Judged, files: &Files) -> Made<'static> {
         let parts = hall_parts(alloc, files.numbered.histories.halls())?;
-        let nothing = Part::empty(alloc);
-        let keys = keys_to_check(alloc, parts.as_slice(), files.orders.as_slice(), &nothing)?;
-        Ok(self.explain_keys(alloc, judged, &files.numbered, keys.as_slice())?)
+        let keys = keys_to_check(alloc, parts.as_slice(), files.orders.as_slice())?;
+        Ok(self.explain_keys(alloc, judged, &files.numbered, keys)?)
     }
 }

@@ -1,4 +1,4 @@
-//! The rows of a key's hall.
+//! The history of a key's hall.
 ghost use Rattle.explain_command.specs.KeyExplanations.{HasLinesOfEach, IsHallOfKey};
 
 use explanations::HallRows;
@@ -6,7 +6,7 @@ use history_file::NumberedHistories;
 use recorder::Halls;
 use tag::Key;
 
-/// The rows of the key's hall, each with its line.
+/// The history of the key's hall, with the line of each row.
 pub fn hall_of<'a>(numbered: &'a NumberedHistories, key: &Key) -> HallRows<'a>
     requires { HasLinesOfEach numbered.now }
     ensures { IsHallOfKey numbered.now key.now result }
@@ -16,7 +16,7 @@ pub fn hall_of<'a>(numbered: &'a NumberedHistories, key: &Key) -> HallRows<'a>
         Some(halls) => {
             let hall = usize::from(halls.of(key));
             HallRows {
-                rows: histories[hall].rows(),
+                history: &histories[hall],
                 lines: &numbered.lines[hall],
             }
         }

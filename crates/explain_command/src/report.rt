@@ -79,7 +79,7 @@ impl Report {
 
     /// Says that the key's order has that fault, and why.
     fn refuse_order(&mut self, key: &KeyToExplain<'_>, fault: Fault) -> Result<(), Memory>
-        requires fault { IsFault key.now.one.now.part.now key.now.one.now.order.now fault }
+        requires fault { IsFault key.now.one.now.part key.now.one.now.order.now fault }
         requires lines { HasLinesOfEach key.now.numbered.now }
         requires room { self.old.refused < usize.MAX }
         ensures { OnOk result (AddsOf
@@ -87,7 +87,7 @@ impl Report {
     {
         let one = key.one;
         append_line(&mut self.text, one.key, Verdict::No(fault))?;
-        let reason = order_reason(one.part, one.order, fault);
+        let reason = order_reason(&one.part, one.order, fault);
         let hall = hall_of(key.numbered, one.key);
         if !self.count_refused() {
             return Ok(());
@@ -97,15 +97,15 @@ impl Report {
 
     /// Says that the key's tags break the rule, and why.
     fn refuse_tags(&mut self, key: &KeyToExplain<'_>, rule: BrokenRule) -> Result<(), Memory>
-        requires rule { IsTagVerdict key.now.one.now.part.now (Some rule) }
+        requires rule { IsTagVerdict key.now.one.now.part (Some rule) }
         requires lines { HasLinesOfEach key.now.numbered.now }
         requires room { self.old.refused < usize.MAX }
         ensures { OnOk result (AddsOf (ExplainsTags key.now.numbered.now
-            (key.now.one.now.key.now, key.now.one.now.part.now)) self.old self.new) }
+            (key.now.one.now.key.now, key.now.one.now.part)) self.old self.new) }
     {
         let one = key.one;
         append_tag_line(&mut self.text, one.key, rule)?;
-        let reason = tag_reason(one.part, rule);
+        let reason = tag_reason(&one.part, rule);
         let hall = hall_of(key.numbered, one.key);
         if !self.count_refused() {
             return Ok(());
@@ -127,11 +127,11 @@ impl Report {
     {
         let one = key.one;
         match judged {
-            Judged::Orders => match check_part(alloc, one.part, one.order)? {
+            Judged::Orders => match check_part(alloc, &one.part, one.order)? {
                 Verdict::Yes => append_line(&mut self.text, one.key, Verdict::Yes),
                 Verdict::No(fault) => self.refuse_order(key, fault),
             },
-            Judged::Tags => match check_tags(alloc, one.part)? {
+            Judged::Tags => match check_tags(alloc, &one.part)? {
                 None => append_line(&mut self.text, one.key, Verdict::Yes),
                 Some(rule) => self.refuse_tags(key, rule),
             },

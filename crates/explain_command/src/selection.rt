@@ -1,11 +1,10 @@
 //! Which keys are explained.
-ghost use Rattle.std.specs.Prelude.{◌≡◌, filter, IfOk};
+ghost use Rattle.std.specs.Prelude.{◌≡◌, filter};
 ghost use Rattle.explain_command.specs.Explanations.{is_missing, named_key};
 ghost use Rattle.explain_command.specs.KeyExplanations.{is_selected};
 
 use parallel_keys::KeyToCheck;
-use std::alloc::Global;
-use tag::{Key, Memory};
+use tag::Key;
 
 /// Which keys are judged, and how many of those that are refused have their reason said.
 #[derive(Clone, Copy, Debug)]
@@ -37,16 +36,11 @@ impl Selection<'_> {
         }
     }
 
-    /// The keys that are selected, in their order.
-    pub fn select<'k>(
-        &self,
-        alloc: Global,
-        keys: &[KeyToCheck<'k>],
-    ) -> Result<Vec<KeyToCheck<'k>>, Memory>
-        ensures { IfOk result (λ few. few.items
-            ≡ filter (λ one. is_selected (named_key self.now) one.key.now) keys.now) }
+    /// Keeps those of the keys that are selected, in their order.
+    pub fn select(&self, keys: &mut Vec<KeyToCheck<'_>>)
+        ensures { keys.new.items
+            ≡ filter (λ one. is_selected (named_key self.now) one.key.now) keys.old.items }
     {
-        let few = keys.iter().filter(|one| self.takes(one.key)).copied();
-        Ok(few.collect(alloc)?)
+        keys.retain(|one| self.takes(one.key));
     }
 }

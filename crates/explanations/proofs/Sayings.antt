@@ -18,7 +18,7 @@ module _ (key : List ℕ) (hall : HallRows) (old : List ℕ) where
   moved all text (piece.Above action tag) e = rw e (simp append_assoc)
   moved all text (piece.Due value) e = rw e (simp append_assoc)
   moved all text (piece.Line words call) e = rw e (simp append_assoc)
-  moved all text (piece.Placed words placed) e = rw e (simp append_assoc)
+  moved all text (piece.Placed words place call) e = rw e (simp append_assoc)
 
   -- pieces that are added one after another are their text
   pub said : (pieces : List Piece) → fold (with_piece key hall) old pieces ≡ old ++ pieces_text key hall pieces

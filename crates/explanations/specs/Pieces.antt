@@ -1,5 +1,5 @@
 -- Pieces that sentences are made of.
-use Rattle.std.specs.Prelude.{List, [], ◌++◌, ℕ, decimal, fold, option_copied}
+use Rattle.std.specs.Prelude.{List, [], ◌++◌, ℕ, decimal, fold}
 use Rattle.explanations.specs.Sentences.{above_text, call_line, due_line, placed_line}
 use Rattle.sentences.specs.Words.{tag_text}
 use Rattle.explanations.specs.declared.hall_rows.HallRows.{HallRows}
@@ -15,10 +15,10 @@ module _ (key : List ℕ) (hall : HallRows) where
   with_piece text (piece.Op words op) = text ++ words.now ++ decimal op.0
   with_piece text (piece.Noted tag) = text ++ tag_text tag
   with_piece text (piece.Above action tag) = text ++ above_text action.now tag
-  with_piece text (piece.Due value) = text ++ due_line (option_copied value)
+  with_piece text (piece.Due value) = text ++ due_line value
   with_piece text (piece.Line words call) = text ++ call_line key hall words.now call.now
-  with_piece text (piece.Placed words placed) =
-      text ++ placed_line key hall words.now placed.place placed.call.now
+  with_piece text (piece.Placed words place call) =
+      text ++ placed_line key hall words.now place call.now
 
   -- what pieces say, one after another
   abbrev pub pieces_text : List Piece → List ℕ

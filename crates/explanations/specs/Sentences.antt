@@ -3,7 +3,6 @@
 -- order.
 use Rattle.std.specs.Prelude.{ℕ, List, [], ◌++◌, Option, Some, None, codes, decimal, slice_index}
 use Rattle.std.specs.Prelude.{unwrap_or}
-use Rattle.std.specs.Borrow.{Bor}
 use Rattle.tag.specs.declared.actions.Action.{Action}
 use Rattle.tag.specs.declared.actions.Action.TheVariants.{Read, Write}
 use Rattle.tag.specs.declared.actions.Returned.{Returned}
@@ -38,7 +37,7 @@ line_of hall (Some place) = line_at hall place
 
 -- the line of the call's note
 abbrev pub note_line : HallRows → Call → ℕ
-note_line hall call = line_of hall (note_place hall.rows.now call)
+note_line hall call = line_of hall (note_place hall.history.now.rows call)
 
 -- the line of that response
 abbrev pub response_line : HallRows → Option Response → ℕ
@@ -120,34 +119,34 @@ module _ (key : List ℕ) (hall : HallRows) where
 
   -- a pending read is listed
   abbrev pub pending_text : PlacedCall → List ℕ
-  pending_text read = placed_line key hall (codes "  place ") read.place read.call.now
+  pending_text read = placed_line key hall (codes "  place ") read.place read.call
       ++ codes "  a read that was not answered shows nothing, so the order should leave it out\n"
 
   -- the read answers another value than the last write before it wrote
   unfoldable pub wrong_answer_text : PlacedCall → Option PlacedCall → List ℕ
-  wrong_answer_text read None = placed_line key hall (codes "  place ") read.place read.call.now
+  wrong_answer_text read None = placed_line key hall (codes "  place ") read.place read.call
       ++ codes "  no write stands before it in the order\n" ++ due_line None
   wrong_answer_text read (Some last) =
-      placed_line key hall (codes "  place ") read.place read.call.now
+      placed_line key hall (codes "  place ") read.place read.call
       ++ placed_line key hall (codes "  the last write before it in the order is at place ")
-      last.place last.call.now ++ due_line (last_value (Some last))
+      last.place last.call ++ due_line (last_value (Some last))
 
   -- two calls stand against their precedence: the later was answered before the earlier began
   unfoldable pub order_broken_text : PlacedCall → PlacedCall → List ℕ
   order_broken_text earlier later =
-      placed_line key hall (codes "  place ") earlier.place earlier.call.now
-      ++ placed_line key hall (codes "  place ") later.place later.call.now
-      ++ codes "  call " ++ decimal later.call.now.op.0
-      ++ codes " was answered at line " ++ decimal (response_line hall later.call.now.response)
-      ++ codes ", before call " ++ decimal earlier.call.now.op.0
-      ++ codes " began at line " ++ decimal (line_at hall earlier.call.now.invoked)
-      ++ codes ", so it should stand before call " ++ decimal earlier.call.now.op.0 ++ codes "\n"
+      placed_line key hall (codes "  place ") earlier.place earlier.call
+      ++ placed_line key hall (codes "  place ") later.place later.call
+      ++ codes "  call " ++ decimal later.call.op.0
+      ++ codes " was answered at line " ++ decimal (response_line hall later.call.response)
+      ++ codes ", before call " ++ decimal earlier.call.op.0
+      ++ codes " began at line " ++ decimal (line_at hall earlier.call.invoked)
+      ++ codes ", so it should stand before call " ++ decimal earlier.call.op.0 ++ codes "\n"
 
   -- why a list is no order of the key's calls
   abbrev pub order_reason_text : OrderReason → List ℕ
   order_reason_text (order_reason.UnknownCall place op) = unknown_text key place op
-  order_reason_text (order_reason.CallTwice earlier place call) = twice_text earlier place call.now
-  order_reason_text (order_reason.MissingCall call) = missing_text call.now
+  order_reason_text (order_reason.CallTwice earlier place call) = twice_text earlier place call
+  order_reason_text (order_reason.MissingCall call) = missing_text call
   order_reason_text (order_reason.PendingRead read) = pending_text read
   order_reason_text (order_reason.WrongAnswer read last) = wrong_answer_text read last
   order_reason_text (order_reason.OrderBroken earlier later) = order_broken_text earlier later
@@ -195,21 +194,21 @@ module _ (key : List ℕ) (hall : HallRows) where
       ++ codes ", so the tag or the answer is from elsewhere\n"
 
   -- the read answers another value than its tag stands for: the write's, or, without one, none
-  unfoldable pub other_value_text : Call → Option (Bor Call) → List ℕ
+  unfoldable pub other_value_text : Call → Option Call → List ℕ
   other_value_text read None = call_line key hall (codes "  ") read
       ++ codes "  (0, 0) is the tag before the first write\n" ++ due_line None
   other_value_text read (Some write) = call_line key hall (codes "  ") read
-      ++ call_line key hall (codes "  ") write.now
+      ++ call_line key hall (codes "  ") write
       ++ codes "  the read has the tag of that write\n" ++ due_line (tag_value (Some write))
 
   -- the calls that break a rule of tags, and how
   abbrev pub broken_text : TagReason → List ℕ
-  broken_text (tag_reason.NoNote call) = no_note_text call.now
-  broken_text (tag_reason.LeastTag write) = least_tag_text write.now
-  broken_text (tag_reason.SameTag earlier later) = same_tag_text earlier.now later.now
-  broken_text (tag_reason.NotAbove earlier later) = not_above_text earlier.now later.now
-  broken_text (tag_reason.NoWrite read) = no_write_text read.now
-  broken_text (tag_reason.OtherValue read write) = other_value_text read.now write
+  broken_text (tag_reason.NoNote call) = no_note_text call
+  broken_text (tag_reason.LeastTag write) = least_tag_text write
+  broken_text (tag_reason.SameTag earlier later) = same_tag_text earlier later
+  broken_text (tag_reason.NotAbove earlier later) = not_above_text earlier later
+  broken_text (tag_reason.NoWrite read) = no_write_text read
+  broken_text (tag_reason.OtherValue read write) = other_value_text read write
 
 -- what may have broken the rule
 abbrev pub hint_text : TagReason → List ℕ

@@ -5,22 +5,21 @@ ghost use Rattle.explanations.specs.Sentences.{placed_line, response_text, retur
 
 use crate::hall_rows::HallRows;
 use crate::pieces::Subject;
-use crate::words::append_op;
-use reasons::PlacedCall;
-use recorder::Call;
-use sentences::{append, append_number, append_tag, append_value};
-use tag::{Action, Key, Memory, Returned};
+use crate::words::{append_op, append_value};
+use recorder::{Call, ReturnedRef};
+use sentences::{append, append_number, append_tag};
+use tag::{Key, Memory};
 
 /// Adds what a response answers, if it is a read's.
 #[tactic(auto, unfolding(crate::specs::Sentences::returned_text))]
-fn append_returned(text: &mut Vec<u8>, returned: &Returned) -> Result<(), Memory>
+fn append_returned(text: &mut Vec<u8>, returned: &ReturnedRef<'_>) -> Result<(), Memory>
     ensures { OnOk result (text.new.items ≡ text.old.items ++ returned_text returned.now) }
 {
-    match returned {
-        Returned::Written => Ok(()),
-        Returned::Value(value) => {
+    match returned.answered() {
+        None => Ok(()),
+        Some(value) => {
             append(text, " and answers ")?;
-            append_value(text, value.as_ref())
+            append_value(text, &value)
         }
     }
 }
@@ -28,12 +27,12 @@ fn append_returned(text: &mut Vec<u8>, returned: &Returned) -> Result<(), Memory
 impl Subject<'_, '_> {
     /// Adds what the call does on the key.
     #[tactic(auto, unfolding(crate::specs::Sentences::action_text))]
-    fn append_action(&self, text: &mut Vec<u8>, call: &Call) -> Result<(), Memory>
+    fn append_action(&self, text: &mut Vec<u8>, call: &Call<'_>) -> Result<(), Memory>
         ensures { OnOk result (text.new.items
             ≡ text.old.items ++ action_text self.now.key.now call.now.action call.now.response) }
     {
-        match &call.action {
-            Action::Read => {
+        match call.action.written() {
+            None => {
                 append(text, ", reads ")?;
                 append(text, self.key.as_str())?;
                 match &call.response {
@@ -41,9 +40,9 @@ impl Subject<'_, '_> {
                     Some(response) => append_returned(text, &response.returned),
                 }
             }
-            Action::Write(value) => {
+            Some(value) => {
                 append(text, ", writes ")?;
-                append_value(text, Some(value))?;
+                append_value(text, &Some(value))?;
                 append(text, " to ")?;
                 append(text, self.key.as_str())
             }
@@ -52,7 +51,7 @@ impl Subject<'_, '_> {
 
     /// Adds the tag that the call is noted with, and the line of its note.
     #[tactic(auto, unfolding(crate::specs::Sentences::note_text))]
-    fn append_note(&self, text: &mut Vec<u8>, call: &Call) -> Result<(), Memory>
+    fn append_note(&self, text: &mut Vec<u8>, call: &Call<'_>) -> Result<(), Memory>
         ensures { OnOk result (text.new.items
             ≡ text.old.items ++ note_text self.now.hall call.now call.now.note) }
     {
@@ -68,7 +67,7 @@ impl Subject<'_, '_> {
 
     /// Adds the line of the response.
     #[tactic(auto, unfolding(crate::specs::Sentences::response_text))]
-    fn append_response(&self, text: &mut Vec<u8>, call: &Call) -> Result<(), Memory>
+    fn append_response(&self, text: &mut Vec<u8>, call: &Call<'_>) -> Result<(), Memory>
         ensures { OnOk result (text.new.items
             ≡ text.old.items ++ response_text self.now.hall call.now.response) }
     {
@@ -83,7 +82,7 @@ impl Subject<'_, '_> {
     }
 
     /// Adds the call: its number, its client, what it does, and the lines of its rows.
-    fn append_call(&self, text: &mut Vec<u8>, call: &Call) -> Result<(), Memory>
+    fn append_call(&self, text: &mut Vec<u8>, call: &Call<'_>) -> Result<(), Memory>
         ensures { OnOk result (text.new.items
             ≡ text.old.items ++ call_text self.now.key.now self.now.hall call.now) }
     {
@@ -101,7 +100,7 @@ impl Subject<'_, '_> {
         &self,
         text: &mut Vec<u8>,
         words: &str,
-        call: &Call,
+        call: &Call<'_>,
     ) -> Result<(), Memory>
         ensures { OnOk result (text.new.items
             ≡ text.old.items ++ call_line self.now.key.now self.now.hall words.now call.now) }
@@ -117,14 +116,14 @@ impl Subject<'_, '_> {
         &self,
         text: &mut Vec<u8>,
         words: &str,
-        placed: &PlacedCall<'_>,
+        place: usize,
+        call: &Call<'_>,
     ) -> Result<(), Memory>
         ensures { OnOk result (text.new.items ≡ text.old.items
-            ++ placed_line self.now.key.now self.now.hall words.now placed.now.place
-            placed.now.call.now) }
+            ++ placed_line self.now.key.now self.now.hall words.now place call.now) }
     {
-        append_number(text, words, placed.place as u64)?;
-        self.append_line(text, ": ", placed.call)
+        append_number(text, words, place as u64)?;
+        self.append_line(text, ": ", call)
     }
 }
 
@@ -134,7 +133,7 @@ pub fn append_call(
     text: &mut Vec<u8>,
     key: &Key,
     hall: &HallRows<'_>,
-    call: &Call,
+    call: &Call<'_>,
 ) -> Result<(), Memory>
     ensures { OnOk result
         (text.new.items ≡ text.old.items ++ call_text key.now hall.now call.now) }

@@ -2,14 +2,14 @@
 ghost use Rattle.std.specs.Prelude.{◌≡◌};
 
 use reasons::note_place;
-use recorder::{Call, Response, Row};
+use recorder::{Call, History, Response};
 use row_lines::RowLines;
 
-/// The rows of a hall's history, and the line of each in the history file, from 1. Of a row whose
+/// A hall's history, and the line of each of its rows in the history file, from 1. Of a row whose
 /// line isn't among them the line 0 is said.
 #[derive(Clone, Copy)]
 pub struct HallRows<'a> {
-    pub rows: &'a [Row],
+    pub history: &'a History,
     pub lines: &'a RowLines,
 }
 
@@ -27,17 +27,17 @@ impl HallRows<'_> {
     }
 
     /// The line of the call's note.
-    pub fn note_line(&self, call: &Call) -> u64
+    pub fn note_line(&self, call: &Call<'_>) -> u64
         ensures { result ≡ note_line self.now call.now }
     {
-        match note_place(self.rows, call) {
+        match note_place(self.history, call) {
             Some(place) => self.line_at(place),
             None => 0,
         }
     }
 
     /// The line of the response.
-    pub(crate) fn response_line(&self, response: &Option<Response>) -> u64
+    pub(crate) fn response_line(&self, response: &Option<Response<'_>>) -> u64
         ensures { result ≡ response_line self.now response.now }
     {
         match response {

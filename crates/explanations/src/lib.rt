@@ -18,3 +18,4 @@ pub use hall_rows::HallRows;
 pub use order_sentences::append_order_reason;
 pub use rules::append_rule;
 pub use tag_sentences::append_tag_reason;
+pub use words::append_value;

@@ -5,8 +5,8 @@ ghost use Rattle.explanations.specs.Sentences.{unknown_text, wrong_answer_text};
 
 use crate::hall_rows::HallRows;
 use crate::pieces::{Piece, Subject};
-use crate::words::written_by;
 use reasons::{OrderReason, PlacedCall};
+use recorder::Call;
 use tag::{Key, Memory, OpId};
 
 impl Subject<'_, '_> {
@@ -31,16 +31,17 @@ impl Subject<'_, '_> {
     fn say_twice(
         &self,
         text: &mut Vec<u8>,
-        first: PlacedCall<'_>,
+        first: usize,
         place: usize,
+        call: &Call<'_>,
     ) -> Result<(), Memory>
         ensures { OnOk result (text.new.items ≡ text.old.items
-            ++ twice_text self.now.key.now self.now.hall first.entry.place place first.entry.call.now) }
+            ++ twice_text self.now.key.now self.now.hall first place call.now) }
     {
         let pieces = [
-            Piece::Placed("  place ", first),
+            Piece::Placed("  place ", first, call),
             Piece::Number("  place ", place as u64),
-            Piece::Op(": call ", first.call.op),
+            Piece::Op(": call ", call.op),
             Piece::Words(" again\n  so the order should list it once\n"),
         ];
         self.say(text, &pieces)
@@ -51,22 +52,23 @@ impl Subject<'_, '_> {
     fn say_wrong_answer<'c>(
         &self,
         text: &mut Vec<u8>,
-        read: PlacedCall<'c>,
-        last: Option<PlacedCall<'c>>,
+        read: &'c PlacedCall<'c>,
+        last: &'c Option<PlacedCall<'c>>,
     ) -> Result<(), Memory>
         ensures { OnOk result (text.new.items ≡ text.old.items
-            ++ wrong_answer_text self.now.key.now self.now.hall read.entry last.entry) }
+            ++ wrong_answer_text self.now.key.now self.now.hall read.now last.now) }
     {
-        let placed = Piece::Placed("  place ", read);
+        let placed = Piece::Placed("  place ", read.place, &read.call);
         match last {
             None => {
                 let none = Piece::Words("  no write stands before it in the order\n");
                 self.say(text, &[placed, none, Piece::Due(None)])
             }
             Some(last) => {
-                let due = Piece::Due(written_by(&last.call.action));
                 let words = "  the last write before it in the order is at place ";
-                self.say(text, &[placed, Piece::Placed(words, last), due])
+                let write = Piece::Placed(words, last.place, &last.call);
+                let due = Piece::Due(last.call.action.written());
+                self.say(text, &[placed, write, due])
             }
         }
     }
@@ -77,17 +79,17 @@ impl Subject<'_, '_> {
     fn say_broken<'c>(
         &self,
         text: &mut Vec<u8>,
-        earlier: PlacedCall<'c>,
-        later: PlacedCall<'c>,
+        earlier: &'c PlacedCall<'c>,
+        later: &'c PlacedCall<'c>,
     ) -> Result<(), Memory>
         ensures { OnOk result (text.new.items ≡ text.old.items
-            ++ order_broken_text self.now.key.now self.now.hall earlier.entry later.entry) }
+            ++ order_broken_text self.now.key.now self.now.hall earlier.now later.now) }
     {
         let answered = self.hall.response_line(&later.call.response);
         let began = self.hall.line_at(earlier.call.invoked);
         let pieces = [
-            Piece::Placed("  place ", earlier),
-            Piece::Placed("  place ", later),
+            Piece::Placed("  place ", earlier.place, &earlier.call),
+            Piece::Placed("  place ", later.place, &later.call),
             Piece::Op("  call ", later.call.op),
             Piece::Number(" was answered at line ", answered),
             Piece::Op(", before call ", earlier.call.op),
@@ -118,13 +120,7 @@ pub fn append_order_reason(
             earlier,
             place,
             call,
-        } => {
-            let first = PlacedCall {
-                place: *earlier,
-                call,
-            };
-            subject.say_twice(text, first, *place)
-        }
+        } => subject.say_twice(text, *earlier, *place, call),
         OrderReason::MissingCall { call } => {
             let due = "  it was answered, so the order should list it\n";
             subject.say(text, &[Piece::Line("  missing: ", call), Piece::Words(due)])
@@ -132,9 +128,10 @@ pub fn append_order_reason(
         OrderReason::PendingRead { read } => {
             let due =
                 "  a read that was not answered shows nothing, so the order should leave it out\n";
-            subject.say(text, &[Piece::Placed("  place ", *read), Piece::Words(due)])
+            let placed = Piece::Placed("  place ", read.place, &read.call);
+            subject.say(text, &[placed, Piece::Words(due)])
         }
-        OrderReason::WrongAnswer { read, last } => subject.say_wrong_answer(text, *read, *last),
-        OrderReason::OrderBroken { earlier, later } => subject.say_broken(text, *earlier, *later),
+        OrderReason::WrongAnswer { read, last } => subject.say_wrong_answer(text, read, last),
+        OrderReason::OrderBroken { earlier, later } => subject.say_broken(text, earlier, later),
     }
 }

@@ -4,13 +4,12 @@ ghost use Rattle.explanations.specs.Pieces.{pieces_text, with_piece};
 
 use crate::hall_rows::HallRows;
 use crate::words::{append_above, append_due, append_op};
-use reasons::PlacedCall;
-use recorder::Call;
+use recorder::{ActionRef, Call, ValueRef};
 use sentences::{append, append_number, append_tag};
-use tag::{Action, Key, Memory, OpId, Tag, Value};
+use tag::{Key, Memory, OpId, Tag};
 
 /// A piece of a sentence.
-#[derive(Clone, Copy)]
+#[derive(Drop)]
 pub(crate) enum Piece<'a> {
     /// The words.
     Words(&'a str),
@@ -23,13 +22,13 @@ pub(crate) enum Piece<'a> {
     /// The tag.
     Noted(Tag),
     /// The tags that a call of that action may have after a call that is noted with the tag.
-    Above(&'a Action, Tag),
+    Above(&'a ActionRef<'a>, Tag),
     /// What a read should have answered, a line.
-    Due(Option<&'a Value>),
+    Due(Option<ValueRef<'a>>),
     /// The words, and then the call to the end of the line.
-    Line(&'a str, &'a Call),
+    Line(&'a str, &'a Call<'a>),
     /// The words, the place in the order, and the call that stands there, a line.
-    Placed(&'a str, PlacedCall<'a>),
+    Placed(&'a str, usize, &'a Call<'a>),
 }
 
 /// What sentences are about: a key, and the rows of its hall.
@@ -55,9 +54,9 @@ impl Subject<'_, '_> {
             Piece::Op(words, op) => append_op(text, words, *op),
             Piece::Noted(tag) => append_tag(text, *tag),
             Piece::Above(action, tag) => append_above(text, action, *tag),
-            Piece::Due(value) => append_due(text, *value),
+            Piece::Due(value) => append_due(text, value),
             Piece::Line(words, call) => self.append_line(text, words, call),
-            Piece::Placed(words, placed) => self.append_placed(text, words, placed),
+            Piece::Placed(words, place, call) => self.append_placed(text, words, *place, call),
         }
     }
 

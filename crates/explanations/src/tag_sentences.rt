@@ -6,14 +6,13 @@ ghost use Rattle.explanations.specs.Sentences.{not_above_text, other_value_text,
 
 use crate::hall_rows::HallRows;
 use crate::pieces::{Piece, Subject};
-use crate::words::written_by;
 use reasons::TagReason;
 use recorder::Call;
 use sentences::append;
 use tag::{Key, Memory, Tag};
 
 /// The tag that the call is noted with; the least, if it has no note.
-fn noted_tag(call: &Call) -> Tag
+fn noted_tag(call: &Call<'_>) -> Tag
     ensures { result ≡ unwrap_or call.now.note least }
 {
     match call.note {
@@ -28,8 +27,8 @@ impl Subject<'_, '_> {
     fn say_not_above<'c>(
         &self,
         text: &mut Vec<u8>,
-        earlier: &'c Call,
-        later: &'c Call,
+        earlier: &'c Call<'c>,
+        later: &'c Call<'c>,
     ) -> Result<(), Memory>
         ensures { OnOk result (text.new.items ≡ text.old.items
             ++ not_above_text self.now.key.now self.now.hall earlier.now later.now) }
@@ -52,7 +51,7 @@ impl Subject<'_, '_> {
 
     /// Says that no write has the read's tag.
     #[tactic(auto, unfolding(crate::specs::Sentences::no_write_text))]
-    fn say_no_write(&self, text: &mut Vec<u8>, read: &Call) -> Result<(), Memory>
+    fn say_no_write(&self, text: &mut Vec<u8>, read: &Call<'_>) -> Result<(), Memory>
         ensures { OnOk result (text.new.items
             ≡ text.old.items ++ no_write_text self.now.key.now self.now.hall read.now) }
     {
@@ -71,11 +70,11 @@ impl Subject<'_, '_> {
     fn say_other_value<'c>(
         &self,
         text: &mut Vec<u8>,
-        read: &'c Call,
-        write: Option<&'c Call>,
+        read: &'c Call<'c>,
+        write: &'c Option<Call<'c>>,
     ) -> Result<(), Memory>
         ensures { OnOk result (text.new.items ≡ text.old.items
-            ++ other_value_text self.now.key.now self.now.hall read.now write.entry) }
+            ++ other_value_text self.now.key.now self.now.hall read.now write.now) }
     {
         let read = Piece::Line("  ", read);
         match write {
@@ -85,7 +84,7 @@ impl Subject<'_, '_> {
             }
             Some(write) => {
                 let same = Piece::Words("  the read has the tag of that write\n");
-                let due = Piece::Due(written_by(&write.action));
+                let due = Piece::Due(write.action.written());
                 self.say(text, &[read, Piece::Line("  ", write), same, due])
             }
         }
@@ -115,7 +114,7 @@ impl Subject<'_, '_> {
             }
             TagReason::NotAbove { earlier, later } => self.say_not_above(text, earlier, later),
             TagReason::NoWrite { read } => self.say_no_write(text, read),
-            TagReason::OtherValue { read, write } => self.say_other_value(text, read, *write),
+            TagReason::OtherValue { read, write } => self.say_other_value(text, read, write),
         }
     }
 }

@@ -1,10 +1,11 @@
 //! What sentences say of calls: numbers, values that are written or due, and tags.
-ghost use Rattle.std.specs.Prelude.{◌≡◌, ◌++◌, decimal, option_copied, OnOk};
-ghost use Rattle.reasons.specs.Calls.{written_by};
+ghost use Rattle.std.specs.Prelude.{◌≡◌, ◌++◌, decimal, OnOk};
+ghost use Rattle.sentences.specs.Words.{value_text};
 ghost use Rattle.explanations.specs.Sentences.{above_text, due_line};
 
-use sentences::{append, append_number, append_tag, append_value};
-use tag::{Action, Memory, OpId, Tag, Value};
+use recorder::{ActionRef, ValueRef};
+use sentences::{append, append_number, append_quoted, append_tag};
+use tag::{Memory, OpId, Tag};
 
 /// Adds the words and then the call's number.
 pub(crate) fn append_op(text: &mut Vec<u8>, words: &str, op: OpId) -> Result<(), Memory>
@@ -13,21 +14,22 @@ pub(crate) fn append_op(text: &mut Vec<u8>, words: &str, op: OpId) -> Result<(),
     append_number(text, words, u64::from(op.0))
 }
 
-/// The value that the action writes; a read writes none.
-pub(crate) fn written_by(action: &Action) -> Option<&Value>
-    ensures { option_copied result ≡ written_by action.now }
+/// Adds the value, which a history keeps, as a JSON text, or `null` where there is none.
+#[tactic(auto, unfolding(sentences::specs::Words::value_text))]
+pub fn append_value(text: &mut Vec<u8>, value: &Option<ValueRef<'_>>) -> Result<(), Memory>
+    ensures { OnOk result (text.new.items ≡ text.old.items ++ value_text value.now) }
 {
-    match action {
-        Action::Read => None,
-        Action::Write(value) => Some(value),
+    match value {
+        None => append(text, "null"),
+        Some(value) => append_quoted(text, value.as_str()),
     }
 }
 
 /// Says what a read should have answered.
 #[tactic(auto, unfolding(crate::specs::Sentences::due_line))]
-pub(crate) fn append_due(text: &mut Vec<u8>, value: Option<&Value>) -> Result<(), Memory>
+pub(crate) fn append_due(text: &mut Vec<u8>, value: &Option<ValueRef<'_>>) -> Result<(), Memory>
     ensures { OnOk result
-        (text.new.items ≡ text.old.items ++ due_line (option_copied value.entry)) }
+        (text.new.items ≡ text.old.items ++ due_line value.now) }
 {
     append(text, "  so the read should have answered ")?;
     append_value(text, value)?;
@@ -36,15 +38,19 @@ pub(crate) fn append_due(text: &mut Vec<u8>, value: Option<&Value>) -> Result<()
 
 /// Adds the tags that a call of that action may have after a call that is noted with the tag.
 #[tactic(auto, unfolding(crate::specs::Sentences::above_text))]
-pub(crate) fn append_above(text: &mut Vec<u8>, action: &Action, tag: Tag) -> Result<(), Memory>
+pub(crate) fn append_above(
+    text: &mut Vec<u8>,
+    action: &ActionRef<'_>,
+    tag: Tag,
+) -> Result<(), Memory>
     ensures { OnOk result (text.new.items ≡ text.old.items ++ above_text action.now tag) }
 {
-    match action {
-        Action::Read => {
+    match action.written() {
+        None => {
             append_tag(text, tag)?;
             append(text, " or above")
         }
-        Action::Write(_) => {
+        Some(_) => {
             append(text, "above ")?;
             append_tag(text, tag)
         }

@@ -32,7 +32,7 @@ pub(crate) enum Sought {
 }
 
 /// Whether the row is one that is looked for.
-fn is_sought(sought: Sought, row: &Row) -> bool
+fn is_sought(sought: Sought, row: &Row<'_>) -> bool
     ensures { result ≡ is_sought sought row.now }
 {
     match (sought, row) {
@@ -50,10 +50,9 @@ impl EarlierRows<'_> {
         ensures place { result ≡ last_place sought self.now.history.now.rows }
         ensures inside { IfSome result (λ place. place < length self.now.history.now.rows) }
     {
-        let rows = self.history.rows();
-        let mut count = rows.len();
+        let mut count = self.history.row_count();
         while count > 0 {
-            if is_sought(sought, &rows[count - 1]) {
+            if is_sought(sought, &self.history.row(count - 1)) {
                 return Some(count - 1);
             }
             count -= 1;

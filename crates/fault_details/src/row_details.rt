@@ -6,9 +6,9 @@ ghost use Rattle.fault_details.specs.RowDetails.{place_of, row_text, unasked_tex
 
 use crate::earlier_rows::{EarlierRows, Sought};
 use file_format::LineFault;
-use recorder::Row;
+use recorder::{ActionRef, Row};
 use sentences::{append, append_number};
-use tag::{Action, Memory};
+use tag::Memory;
 
 /// Adds the hall, where a file has several.
 fn append_hall(text: &mut Vec<u8>, hall: Option<u8>) -> Result<(), Memory>
@@ -80,15 +80,20 @@ fn append_noted(
 }
 
 /// Says what the answer to a call of that action has.
-fn append_kind(text: &mut Vec<u8>, call: u64, action: &Action, line: u64) -> Result<(), Memory>
+fn append_kind(
+    text: &mut Vec<u8>,
+    call: u64,
+    action: &ActionRef<'_>,
+    line: u64,
+) -> Result<(), Memory>
     ensures { OnOk result (text.new.items ≡ text.old.items ++ kind_text call action.now line) }
 {
-    match action {
-        Action::Read => {
+    match action.written() {
+        None => {
             append_call_at(text, call, " is a read, begun at line ", line)?;
             append(text, ": its answer has \"value\"\n")
         }
-        Action::Write(_) => {
+        Some(_) => {
             append_call_at(text, call, " is a write, begun at line ", line)?;
             append(text, ": its answer has no \"value\"\n")
         }
@@ -96,7 +101,7 @@ fn append_kind(text: &mut Vec<u8>, call: u64, action: &Action, line: u64) -> Res
 }
 
 /// Says of the row at that line that the call that it begins has no answer yet.
-fn append_busy_row(text: &mut Vec<u8>, line: u64, row: &Row) -> Result<(), Memory>
+fn append_busy_row(text: &mut Vec<u8>, line: u64, row: &Row<'_>) -> Result<(), Memory>
     ensures { OnOk result (text.new.items ≡ text.old.items ++ busy_row line (Some row.now)) }
 {
     match row {
@@ -108,7 +113,7 @@ fn append_busy_row(text: &mut Vec<u8>, line: u64, row: &Row) -> Result<(), Memor
 }
 
 /// Says of the row at that line which kind the call that it begins is of.
-fn append_kind_row(text: &mut Vec<u8>, line: u64, row: &Row) -> Result<(), Memory>
+fn append_kind_row(text: &mut Vec<u8>, line: u64, row: &Row<'_>) -> Result<(), Memory>
     ensures { OnOk result (text.new.items ≡ text.old.items ++ kind_row line (Some row.now)) }
 {
     match row {
@@ -118,7 +123,7 @@ fn append_kind_row(text: &mut Vec<u8>, line: u64, row: &Row) -> Result<(), Memor
 }
 
 /// Says of the row at that line that it notes the call.
-fn append_noted_row(text: &mut Vec<u8>, line: u64, row: &Row) -> Result<(), Memory>
+fn append_noted_row(text: &mut Vec<u8>, line: u64, row: &Row<'_>) -> Result<(), Memory>
     ensures { OnOk result (text.new.items ≡ text.old.items ++ noted_row line (Some row.now)) }
 {
     match row {
@@ -162,20 +167,20 @@ pub fn append_row_details(
     ensures { OnOk result
         (text.new.items ≡ text.old.items ++ row_text earlier.now fault call client) }
 {
-    let rows = earlier.history.rows();
+    let history = earlier.history;
     match fault {
         LineFault::CallOutOfTurn => append_next(text, earlier),
         LineFault::CallNotPending => append_unasked(text, earlier, call),
         LineFault::ClientBusy => match earlier.last_place(Sought::Client(client)) {
-            Some(place) => append_busy_row(text, earlier.line_at(place), &rows[place]),
+            Some(place) => append_busy_row(text, earlier.line_at(place), &history.row(place)),
             None => Ok(()),
         },
         LineFault::WrongKind => match earlier.last_place(Sought::Begun(call)) {
-            Some(place) => append_kind_row(text, earlier.line_at(place), &rows[place]),
+            Some(place) => append_kind_row(text, earlier.line_at(place), &history.row(place)),
             None => Ok(()),
         },
         LineFault::NoteTwice => match earlier.last_place(Sought::Noted(call)) {
-            Some(place) => append_noted_row(text, earlier.line_at(place), &rows[place]),
+            Some(place) => append_noted_row(text, earlier.line_at(place), &history.row(place)),
             None => Ok(()),
         },
         _ => Ok(()),

@@ -10,16 +10,21 @@ use Rattle.fault_script.specs.declared.parse_line.Said.{Said}
 use Rattle.fault_script.specs.declared.parse_line.Said.TheVariants.{Opens, Runs}
 use Rattle.fault_script.specs.declared.fault.LineFault.{LineFault}
 use Rattle.fault_script.specs.declared.fault.LineFault.TheVariants.{NoReplicas, TooManyCommands}
+use Rattle.fault_script.specs.declared.shown.Shown.{Shown}
 use Rattle.world_steps.specs.Configs.{Config}
 use Rattle.fault_script.specs.declared.parse_line.Last.TheVariants.{Replicas}
 use Rattle.fault_script.specs.Words.{words, behind_word, without_return}
-use Rattle.counted_devices.specs.Answers.{◌>>=◌}
+use Rattle.counted_devices.specs.Answers.{◌>>=◌, Fails}
+use Rattle.counted_devices.specs.declared.read_fault.Stop.{Stop}
+use Rattle.counted_devices.specs.declared.read_fault.Stop.TheVariants as stop
+use Rattle.line_files.specs.Steps.{ReadsUnder}
 use Rattle.fault_script.specs.Settings.{replicas_in}
 use Rattle.fault_script.specs.LineMeanings.{first_said, said_in, command_says, words_say, text_says}
+use Rattle.fault_script.specs.LineItems.{ScriptLineShows, says_after}
 use Rattle.fault_script.specs.Lines.{ScriptLineSays, is_long, is_no_text, says}
 use Rattle.fault_script.specs.Scripts.{SaidLine, ScriptLinesSay, no_line, blank_line, command_line}
-use Rattle.fault_script.specs.Scripts.{opened_after, opened_of, command_by, commands_of}
-use Rattle.fault_script.specs.Feeds.{IsDraft, DrawsBy}
+use Rattle.fault_script.specs.Scripts.{opened_after, opened_of, command_by, commands_of, script_rules}
+use Rattle.fault_script.specs.Drafts.{IsDraft, Drafts}
 use Rattle.fault_script.proofs.Chains.{after}
 
 opened-more : (saids : List SaidLine) (placed : SaidLine) → opened_of (saids ++ placed ∷ []) ≡ opened_after (opened_of saids) placed.said
@@ -39,32 +44,50 @@ drafted_more saids placed old new d opened commands count = record {
   counted = omega (arith, count, d.counted, length-append saids (placed ∷ []));
 }
 
-shows_at : (saids : List SaidLine) (draft : Draft) (line : List ℕ) (r : Result (Option Said) LineFault) → IsDraft saids draft
-    → ScriptLineSays draft.opened draft.count line r → ScriptLineSays (opened_of saids) (length saids) line r
-shows_at saids draft line r d h =
-    let P : Option ConfigSoFar → Type 0 = λ o. ScriptLineSays o draft.count line r in
-    let Q : ℕ → Type 0 = λ n. ScriptLineSays (opened_of saids) n line r in
-    subst Q d.counted (subst P d.opened h)
+-- what the line says after the lines that were read
+says_at : (saids : List SaidLine) (draft : Draft) (line : List ℕ) (shown : Shown) (said : Result (Option Said) LineFault)
+    → IsDraft saids draft → ScriptLineShows line (Ok shown) → says_after draft.opened draft.count shown ≡ said
+    → ScriptLineSays (opened_of saids) (length saids) line said
+says_at saids draft line shown said d shows is =
+    let P : Result (Option Said) LineFault → Type 0 = λ said. ScriptLineSays (opened_of saids) (length saids) line said in
+    let same : says_after (opened_of saids) (length saids) shown ≡ says_after draft.opened draft.count shown =
+    λ i. says_after (sym d.opened i) (sym d.counted i) shown in
+    subst P (same ∙ is) (shows (opened_of saids) (length saids))
 
 -- a blank line, or a comment
-pub drawn_blank : (earlier : List (List ℕ)) (saids : List SaidLine) (draft : Draft) (line : List ℕ) (number : ℕ)
-    → ScriptLinesSay earlier saids → IsDraft saids draft → ScriptLineSays draft.opened draft.count line (Ok None)
-    → DrawsBy earlier line number (Ok tt) draft
-drawn_blank earlier saids draft line number read d h =
-    (saids, blank_line earlier saids line read (shows_at saids draft line (Ok None) d h), d)
+pub drawn_blank : (earlier : List (List ℕ)) (draft : Draft) (line : List ℕ) (shown : Shown) → Drafts earlier draft
+    → ScriptLineShows line (Ok shown) → says_after draft.opened draft.count shown ≡ Ok None → Drafts (earlier ++ line ∷ []) draft
+drawn_blank earlier draft line shown d h is = record {
+  saids = d.saids;
+  read = blank_line earlier d.saids line d.read (says_at d.saids draft line shown (Ok None) d.drafted h is);
+  drafted = d.drafted;
+}
 
 -- a command
-pub drawn_command : (earlier : List (List ℕ)) (saids : List SaidLine) (old new : Draft) (line : List ℕ) (number : ℕ) (said : Said)
-    → ScriptLinesSay earlier saids → IsDraft saids old → number ≡ length earlier + 1
-    → ScriptLineSays old.opened old.count line (Ok (Some said))
+pub drawn_command : (earlier : List (List ℕ)) (old new : Draft) (line : List ℕ) (number : ℕ) (shown : Shown) (said : Said)
+    → Drafts earlier old → number ≡ length earlier + 1 → ScriptLineShows line (Ok shown)
+    → says_after old.opened old.count shown ≡ Ok (Some said)
     → ((saids : List SaidLine) → IsDraft saids old → IsDraft (saids ++ record { line = number; said = said } ∷ []) new)
-    → DrawsBy earlier line number (Ok tt) new
-drawn_command earlier saids old new line number said read d counted h more =
-    let P : ℕ → Type 0 = λ n. IsDraft (saids ++ record { line = n; said = said } ∷ []) new in (
-      saids ++ record { line = length earlier + 1; said = said } ∷ [],
-      command_line earlier saids line said read (shows_at saids old line (Ok (Some said)) d h),
-      subst P counted (more saids d),
-    )
+    → Drafts (earlier ++ line ∷ []) new
+drawn_command earlier old new line number shown said d counted h is more =
+    let P : ℕ → Type 0 = λ n. IsDraft (d.saids ++ record { line = n; said = said } ∷ []) new in
+    record {
+      saids = d.saids ++ record { line = length earlier + 1; said = said } ∷ [];
+      read = command_line earlier d.saids line said d.read (says_at d.saids old line shown (Ok (Some said)) d.drafted h is);
+      drafted = subst P counted (more d.saids d.drafted);
+    }
+
+-- a line whose reading stopped
+pub drawn_stop : (earlier : List (List ℕ)) (draft new : Draft) (line : List ℕ) (shown : Shown) (s : Stop LineFault)
+    → Drafts earlier draft → ScriptLineShows line (Ok shown) → Fails s (says_after draft.opened draft.count shown)
+    → ReadsUnder script_rules Drafts (λ (draft : Draft). Some (tt {0})) (tt {0}) earlier line (Err s) new
+drawn_stop earlier draft new line shown stop.Memory d h is = tt
+drawn_stop earlier draft new line shown (stop.Fault fault) d h is = record {
+  saids = d.saids;
+  read = d.read;
+  counted = refl;
+  faulty = says_at d.saids draft line shown (Err fault) d.drafted h is;
+}
 
 -- a line that says something says it by its words
 said_by : (before : Option ConfigSoFar) (count : ℕ) (line : List ℕ) (r : Result (Option Said) LineFault) (said : Option Said)

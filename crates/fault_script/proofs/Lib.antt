@@ -3,9 +3,8 @@ mod WordLemmas
 mod NumberLemmas
 mod VoteLemmas
 mod VoteRows
-mod LineLemmas
+mod ItemLemmas
 mod DraftLemmas
-mod FeedLemmas
 mod ReadingBack
 mod FormsBack
 mod SettingsBack

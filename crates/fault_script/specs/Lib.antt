@@ -8,9 +8,10 @@ pub mod Forms
 pub mod SettingForms
 pub mod LineFaults
 pub mod LineMeanings
+pub mod LineItems
 pub mod Lines
 pub mod Scripts
-pub mod Feeds
+pub mod Drafts
 pub mod MessageTexts
 pub mod ScriptRuns
 pub mod Simulations

@@ -1,8 +1,6 @@
 -- What a line says after the lines before it.
-use Rattle.std.specs.Prelude.{ℕ, ◌≡◌, ◌≤◌, ◌<◌, List, length, Option, Result, Ok, Err, IsUtf8}
+use Rattle.std.specs.Prelude.{ℕ, ◌≡◌, ◌≤◌, ◌<◌, List, length, Option, Result, Err, IsUtf8}
 use Rattle.counted_devices.specs.Cuts.{longest_line}
-use Rattle.counted_devices.specs.declared.read_fault.Stop.{Stop}
-use Rattle.counted_devices.specs.declared.read_fault.Stop.TheVariants as stop
 use Rattle.fault_script.specs.declared.parse_line.ConfigSoFar.{ConfigSoFar}
 use Rattle.fault_script.specs.declared.parse_line.Said.{Said}
 use Rattle.fault_script.specs.declared.fault.LineFault.{LineFault}
@@ -20,11 +18,3 @@ pub data ScriptLineSays (before : Option ConfigSoFar) (count : ℕ) (line : List
   says : (said : Result (Option Said) LineFault) → length line ≤ longest_line → IsUtf8 line
       → text_says before count (without_return line) ≡ said
       → ScriptLineSays before count line said
-
--- what was read of a line is what it says, unless memory ran out
-abbrev pub ReadsScriptLine : Option ConfigSoFar → ℕ → List ℕ → Result (Option Said) (Stop LineFault)
-    → Type 0
-ReadsScriptLine before count line (Ok said) = ScriptLineSays before count line (Ok said)
-ReadsScriptLine before count line (Err (stop.Fault fault)) =
-    ScriptLineSays before count line (Err fault)
-ReadsScriptLine before count line (Err stop.Memory) = Unit {0}

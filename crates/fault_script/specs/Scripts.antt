@@ -1,8 +1,8 @@
 -- Scripts: the commands that lines say, and the first fault among lines.
 use Rattle.std.specs.Prelude.{ℕ, ◌≡◌, ◌+◌, List, [], ◌∷◌, ◌++◌, length, Option, Some, None, Ok, Err}
 use Rattle.std.specs.Prelude.{option_map, fold, filter_map}
-use Rattle.counted_devices.specs.Cuts.{Splits}
-use Rattle.counted_devices.specs.Cuts.{last_lines}
+use Rattle.counted_devices.specs.Cuts.{Splits, last_lines}
+use Rattle.counted_devices.specs.FirstFaults.{LineFaults, LineRules, faults_by}
 use Rattle.fault_script.specs.declared.command.NumberedCommand.{NumberedCommand}
 use Rattle.fault_script.specs.declared.command.Script.{Script}
 use Rattle.fault_script.specs.declared.parse_line.Last.TheVariants.{Other}
@@ -10,6 +10,7 @@ use Rattle.fault_script.specs.declared.parse_line.ConfigSoFar.{ConfigSoFar}
 use Rattle.fault_script.specs.declared.parse_line.Said.{Said}
 use Rattle.fault_script.specs.declared.parse_line.Said.TheVariants.{Opens, Runs}
 use Rattle.fault_script.specs.declared.fault.LineFault.{LineFault}
+use Rattle.fault_script.specs.declared.fault.LineFault.TheVariants.{NoReplicas}
 use Rattle.fault_script.specs.Lines.{ScriptLineSays}
 
 -- what a line says, and its number from 1
@@ -71,9 +72,14 @@ pub record IsScript (bytes : List ℕ) (script : Script) : Type 0 where
   pub read : ScriptLinesSay (last_lines lines rest) saids
   pub made : IsMadeOf saids script
 
--- the bytes are lines without a command
-pub record HasNoCommand (bytes : List ℕ) : Type 0 where
-  pub lines : List (List ℕ)
-  pub rest : List ℕ
-  pub splits : Splits bytes lines rest
-  pub read : ScriptLinesSay (last_lines lines rest) []
+-- the rules of a script's lines; at their end they must have said a configuration
+abbrev pub script_rules : LineRules LineFault
+script_rules = record {
+  AreSound = λ lines. (saids : List SaidLine) × ScriptLinesSay lines saids;
+  HasFault = λ earlier line. LineHasFault earlier line (length earlier + 1);
+  LacksAtEnd = λ lines fault. ScriptLinesSay lines [] × (fault ≡ NoReplicas);
+}
+
+-- when the lines of a script have no fault, and which fault of them is the first
+abbrev pub script_faults : LineFaults LineFault
+script_faults = faults_by script_rules

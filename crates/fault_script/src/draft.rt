@@ -1,13 +1,19 @@
 //! What the lines of a script made so far.
-ghost use Rattle.std.specs.Prelude.{ℕ, ◌≡◌, ◌<◌, ◌++◌, ◌∷◌, [], List, OnOk};
+ghost use Rattle.std.specs.Prelude.{ℕ, ◌≡◌, ◌<◌, ◌++◌, ◌∷◌, [], List, length, Some, OnOk, refl};
+ghost use Rattle.fault_script.specs.LineItems.{ScriptLineShows};
 ghost use Rattle.fault_script.specs.LineMeanings.{command_limit};
-ghost use Rattle.fault_script.specs.Scripts.{SaidLine, opened_after};
+ghost use Rattle.fault_script.specs.Lines.{is_long};
+ghost use Rattle.fault_script.specs.Scripts.{IsScript, SaidLine, opened_after, opened_of, script_rules};
 ghost use Rattle.fault_script.specs.declared.command.Command.{Command};
+ghost use Rattle.fault_script.specs.declared.fault.LineFault.TheVariants.{TooLong};
 
-use crate::command::{Command, NumberedCommand};
+use crate::command::{Command, NumberedCommand, Script};
 use crate::fault::Stop;
-use crate::lines::shown_by;
-use crate::parse_line::{ConfigSoFar, Last, Said};
+use crate::lines::{LineJudgement, judge_lines};
+use crate::parse_line::{ConfigSoFar, Last, Said, says_after};
+use crate::shown::Shown;
+use crate::{LineFault, ScriptError};
+use line_files::Contents;
 use std::alloc::Global;
 use tag::Memory;
 
@@ -34,18 +40,7 @@ fn after_command(before: Option<ConfigSoFar>) -> Option<ConfigSoFar>
 }
 
 impl Draft {
-    ghost use Rattle.fault_script.specs.Feeds.{IsDraft, Draws};
-
-    /// Of no line.
-    pub(crate) fn new(alloc: Global) -> Draft
-        ensures { IsDraft [] result }
-    {
-        Draft {
-            opened: None,
-            commands: Vec::new(alloc),
-            count: 0,
-        }
-    }
+    ghost use Rattle.fault_script.specs.Drafts.{IsDraft};
 
     /// Sets the configuration, as a line of whatever number says.
     fn open(&mut self, opened: ConfigSoFar)
@@ -68,22 +63,107 @@ impl Draft {
         self.count += 1;
         Ok(())
     }
+}
 
-    /// Takes the line of that number.
-    pub(crate) fn take(&mut self, number: u64, line: &[u8]) -> Result<(), Stop>
-        ensures { Draws self.old line.now number result self.new }
-    {
-        let alloc = *self.commands.allocator();
-        match shown_by(alloc, self.opened, self.count, line)? {
+/// A script's lines are judged by themselves alone.
+impl Contents for Draft {
+    ghost use Rattle.fault_script.specs.Drafts.{Drafts};
+
+    type Fault = LineFault;
+
+    type Item = Shown;
+
+    type Context = ();
+
+    type Tools = ();
+
+    type Whole = Script;
+
+    ghost rules = { script_rules };
+
+    ghost Reads = { Drafts };
+
+    ghost context = { λ draft. Some tt };
+
+    ghost Shows = { λ under. ScriptLineShows };
+
+    ghost ReadsWhole = { IsScript };
+
+    ghost too_long = { TooLong };
+
+    fn opening(alloc: Global) -> Draft {
+        Draft {
+            opened: None,
+            commands: Vec::new(alloc),
+            count: 0,
+        }
+    }
+
+    fn tools() {}
+
+    fn context(&self) -> Option<()> {
+        Some(())
+    }
+
+    fn too_long() -> LineFault {
+        LineFault::TooLong
+    }
+
+    fn begin(&mut self, _alloc: Global, _line: &[u8]) -> Result<(), Stop> {
+        Ok(())
+    }
+
+    fn judge_chunk(
+        alloc: Global,
+        _under: (),
+        _tools: &(),
+        chunk: &[u8],
+    ) -> Result<Vec<LineJudgement>, Memory> {
+        judge_lines(alloc, chunk)
+    }
+
+    fn follow(&mut self, line: u64, shown: Shown) -> Result<(), Stop> {
+        match says_after(self.opened, self.count, shown)? {
             Some(Said::Opens(opened)) => {
                 self.open(opened);
                 Ok(())
             }
             Some(Said::Runs(command)) => {
-                self.run(number, command)?;
+                self.run(line, command)?;
                 Ok(())
             }
             None => Ok(()),
         }
     }
+
+    fn whole(self) -> Result<Script, ScriptError> {
+        let Draft {
+            opened,
+            commands,
+            ..
+        } = self;
+        match opened {
+            Some(opened) => Ok(Script {
+                config: opened.config,
+                commands,
+            }),
+            None => Err(ScriptError::at(1, Stop::Fault(LineFault::NoReplicas))),
+        }
+    }
+
+    ghost sound = { λ lines draft drafts. (drafts.saids, drafts.read) };
+
+    ghost faulty = { λ lines draft under line fault drafts is shows. record {
+      saids = drafts.saids;
+      read = drafts.read;
+      counted = refl;
+      faulty = shows (opened_of drafts.saids) (length drafts.saids);
+    } };
+
+    ghost long = { λ lines draft line drafts much. record {
+      saids = drafts.saids;
+      read = drafts.read;
+      counted = refl;
+      faulty = is_long much;
+    } };
 }

@@ -1,8 +1,9 @@
 //! Fault scripts: what their bytes are read as, and the first fault of those that are none.
 //!
-//! A script comes from a reader and is read line by line, each where it lies; only what a command
-//! keeps is copied. What was read is what the lines say one for one, to the reader's end; a script
-//! with a fault is refused with its first one. A script's run is simulated to the text of its
+//! A script comes from a reader. Its lines are judged side by side, each by itself and where it lies,
+//! and then read one after another; only what a command keeps, and the words of a line of the
+//! configuration, are copied. What was read is what the lines say one for one, to the reader's end; a
+//! script with a fault is refused with its first one. A script's run is simulated to the text of its
 //! record, with a message for each command that is refused; a run of steps comes with the orders
 //! that show its record atomic.
 #![tactic(auto)]
@@ -10,7 +11,6 @@
 mod command;
 mod draft;
 mod fault;
-mod feed;
 pub mod laws;
 mod lines;
 mod messages;
@@ -18,10 +18,10 @@ mod numbers;
 mod parse_command;
 mod parse_line;
 mod parse_setting;
-mod progress;
 mod reading;
 mod run_with_orders;
 mod script_run;
+mod shown;
 mod simulate_script;
 mod words;
 

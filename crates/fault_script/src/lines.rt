@@ -1,33 +1,42 @@
-//! Lines of a script.
-ghost use Rattle.std.specs.Prelude.{◌<◌, IfOk, IsSome};
-ghost use Rattle.fault_script.specs.LineMeanings.{command_limit};
-ghost use Rattle.fault_script.specs.Lines.{ReadsScriptLine};
+//! Lines of a script, each by itself.
+ghost use Rattle.std.specs.Prelude.{◌∷◌, [], IfOk};
+ghost use Rattle.counted_devices.specs.Judgements.{ShowChunks, ShowsItem};
+ghost use Rattle.fault_script.specs.LineItems.{ScriptLineShows};
 
 use crate::LineFault;
-use crate::fault::Stop;
-use crate::parse_line::{ConfigSoFar, Said, text_says};
+use crate::shown::{Shown, shown_by};
 use crate::words::without_return;
+use counted_devices::{Judgement, LONGEST, first_end};
 use std::alloc::Global;
+use tag::Memory;
 
-/// The most bytes of a line, its end not counted.
-pub const LONGEST: usize = 65_536;
+/// What a line shows by itself: what it says, or its fault.
+pub type LineJudgement = Judgement<Shown, LineFault>;
 
-/// What the line, without its end, shows after the lines before, of which so many were commands:
-/// nothing where it is blank or a comment.
-pub(crate) fn shown_by(
-    alloc: Global,
-    before: Option<ConfigSoFar>,
-    count: usize,
-    line: &[u8],
-) -> Result<Option<Said>, Stop>
-    ensures shown { ReadsScriptLine before count line.now result }
-    ensures few { IfOk result (λ said. IsSome said → count < command_limit) }
+/// What the line, without its end, shows by itself.
+fn judge(alloc: Global, line: &[u8]) -> Result<LineJudgement, Memory>
+    ensures { IfOk result (ShowsItem ScriptLineShows line.now) }
 {
     if line.len() > LONGEST {
-        return Err(Stop::Fault(LineFault::TooLong));
+        return Ok(Judgement::Fault(LineFault::TooLong));
     }
     let Ok(text) = str::from_utf8(line) else {
-        return Err(Stop::Fault(LineFault::NotUtf8));
+        return Ok(Judgement::Fault(LineFault::NotUtf8));
     };
-    text_says(alloc, before, count, without_return(text))
+    let shown = shown_by(alloc, without_return(text))?;
+    Ok(Judgement::Item(shown))
+}
+
+/// What the lines of a chunk, the last of them without its end, show by themselves.
+pub(crate) fn judge_lines(alloc: Global, chunk: &[u8]) -> Result<Vec<LineJudgement>, Memory>
+    ensures { IfOk result (λ run. ShowChunks ScriptLineShows (chunk.now ∷ []) run.items) }
+{
+    let mut run = Vec::new(alloc);
+    let mut rest = chunk;
+    while let Some(end) = first_end(rest) {
+        run.push(judge(alloc, &rest[..end])?)?;
+        rest = &rest[end + 1..];
+    }
+    run.push(judge(alloc, rest)?)?;
+    Ok(run)
 }

@@ -1,18 +1,16 @@
 //! What a line says after the lines before it.
-ghost use Rattle.std.specs.Prelude.{◌≡◌, ◌==◌, ◌<◌, slice_index, IfOk, IsSome};
-ghost use Rattle.fault_script.specs.Words.{words};
+ghost use Rattle.std.specs.Prelude.{◌<◌, IfOk, IsSome, codes};
 ghost use Rattle.counted_devices.specs.Answers.{Gives};
-ghost use Rattle.fault_script.specs.LineMeanings.{command_limit};
+ghost use Rattle.fault_script.specs.LineItems.{run_after, says_after, setting_word};
+ghost use Rattle.fault_script.specs.LineMeanings.{command_limit, first_said, said_in};
 ghost use Rattle.fault_script.specs.LineMeanings.{reads_said, votes_set, votes_said};
-ghost use Rattle.fault_script.specs.LineMeanings.{first_said, said_in, command_says, text_says};
+ghost use Rattle.fault_script.specs.Words.{words};
 
 use crate::LineFault;
 use crate::command::Command;
 use crate::fault::Stop;
-use crate::parse_command::command_in;
 use crate::parse_setting::{reads_in, replicas_in, votes_in};
-use crate::words::{is, next_word};
-use std::alloc::Global;
+use crate::shown::{Setting, Shown};
 use world_steps::Config;
 
 /// The most commands of a script.
@@ -83,89 +81,67 @@ fn votes_said(opened: ConfigSoFar, args: &str) -> Result<ConfigSoFar, Stop>
     }
 }
 
-/// What the first command says.
+/// What the first line of the configuration says.
 #[tactic(auto, unfolding(crate::specs::LineMeanings::first_said))]
-fn first_said(verb: &str, args: &str) -> Result<Said, Stop>
-    ensures { Gives (λ said. said) result (first_said verb.now (words args.now)) }
+fn replicas_said(args: &str) -> Result<ConfigSoFar, Stop>
+    ensures { Gives (λ opened. Said.Opens opened) result
+        (first_said (codes "replicas") (words args.now)) }
 {
-    if is(verb, "replicas") {
-        let config = replicas_in(args)?;
-        Ok(Said::Opens(ConfigSoFar {
-            config,
-            last: Last::Replicas,
-        }))
-    } else {
-        Err(Stop::Fault(LineFault::NoReplicas))
+    let config = replicas_in(args)?;
+    Ok(ConfigSoFar {
+        config,
+        last: Last::Replicas,
+    })
+}
+
+/// The configuration that its next line says after the lines before.
+#[tactic(auto, unfolding(crate::specs::LineMeanings::said_in, crate::specs::LineMeanings::first_said))]
+fn set_after(before: Option<ConfigSoFar>, setting: Setting, args: &str) -> Result<ConfigSoFar, Stop>
+    ensures { Gives (λ opened. Said.Opens opened) result
+        (said_in before (setting_word setting) args.now) }
+{
+    match (before, setting) {
+        (None, Setting::Replicas) => replicas_said(args),
+        (None, _) => Err(Stop::Fault(LineFault::NoReplicas)),
+        (Some(_), Setting::Replicas) => Err(Stop::Fault(LineFault::UnknownCommand)),
+        (Some(opened), Setting::Reads) => reads_said(opened, args),
+        (Some(opened), Setting::Votes) => votes_said(opened, args),
     }
 }
 
-/// What a line of that first word says after the lines before.
-#[tactic(auto, unfolding(crate::specs::LineMeanings::said_in))]
-fn said_in(alloc: Global, before: Option<ConfigSoFar>, verb: &str, args: &str) -> Result<Said, Stop>
-    ensures { Gives (λ said. said) result (said_in before verb.now args.now) }
-{
-    let Some(opened) = before else {
-        return first_said(verb, args);
-    };
-    if is(verb, "replicas") {
-        Err(Stop::Fault(LineFault::UnknownCommand))
-    } else if is(verb, "reads") {
-        let opened = reads_said(opened, args)?;
-        Ok(Said::Opens(opened))
-    } else if is(verb, "votes") {
-        let opened = votes_said(opened, args)?;
-        Ok(Said::Opens(opened))
-    } else {
-        let command = command_in(alloc, verb, args)?;
-        Ok(Said::Runs(command))
-    }
-}
-
-fn is_comment(word: &str) -> bool
-    ensures { result ≡ (slice_index word.now 0 == 35) }
-{
-    match word.as_bytes().first() {
-        Some(byte) => *byte == b'#',
-        None => false,
-    }
-}
-
-/// What a line of that first word says after the lines before, of which so many were commands:
-/// nothing where it is a comment.
-#[tactic(auto, unfolding(crate::specs::LineMeanings::command_says))]
-fn command_says(
-    alloc: Global,
+/// The command after the lines before, which must say a configuration.
+fn run_after(
     before: Option<ConfigSoFar>,
-    count: usize,
-    verb: &str,
-    args: &str,
-) -> Result<Option<Said>, Stop>
-    ensures said { Gives (λ said. said) result (command_says before count verb.now args.now) }
-    ensures few { IfOk result (λ said. IsSome said → count < command_limit) }
+    command: Result<Command, LineFault>,
+) -> Result<Command, Stop>
+    ensures { Gives (λ command. Said.Runs command) result (run_after before command) }
 {
-    if is_comment(verb) {
-        return Ok(None);
+    if before.is_none() {
+        return Err(Stop::Fault(LineFault::NoReplicas));
     }
-    if count >= MOST_COMMANDS {
-        return Err(Stop::Fault(LineFault::TooManyCommands));
-    }
-    let said = said_in(alloc, before, verb, args)?;
-    Ok(Some(said))
+    command.map_err(Stop::Fault)
 }
 
-/// What the text of a line says after the lines before, of which so many were commands: nothing
+/// What a line that shows that says after the lines before, of which so many were commands: nothing
 /// where it is blank or a comment.
-pub(crate) fn text_says(
-    alloc: Global,
+pub(crate) fn says_after(
     before: Option<ConfigSoFar>,
     count: usize,
-    text: &str,
+    shown: Shown,
 ) -> Result<Option<Said>, Stop>
-    ensures said { Gives (λ said. said) result (text_says before count text.now) }
+    ensures said { Gives (λ said. said) result (says_after before count shown) }
     ensures few { IfOk result (λ said. IsSome said → count < command_limit) }
 {
-    match next_word(text) {
-        Some((verb, args)) => command_says(alloc, before, count, verb, args),
-        None => Ok(None),
+    match shown {
+        Shown::Nothing => Ok(None),
+        _ if count >= MOST_COMMANDS => Err(Stop::Fault(LineFault::TooManyCommands)),
+        Shown::Sets(setting, args) => {
+            let opened = set_after(before, setting, args.as_str())?;
+            Ok(Some(Said::Opens(opened)))
+        }
+        Shown::Runs(command) => {
+            let command = run_after(before, command)?;
+            Ok(Some(Said::Runs(command)))
+        }
     }
 }

@@ -3,8 +3,8 @@ ghost use Rattle.std.specs.Prelude.{◌≡◌, ◌⊎◌, IfErr, IfOk, IsErrOf, 
 ghost use Rattle.counted_devices.specs.DeviceStates.{states};
 ghost use Rattle.counted_devices.specs.FirstFaults.{StopsFrom};
 ghost use Rattle.counted_devices.specs.ReadFaults.{FailsFrom};
-ghost use Rattle.fault_script.specs.Feeds.{script_faults};
 ghost use Rattle.fault_script.specs.Numbers.{simulate_error_number};
+ghost use Rattle.fault_script.specs.Scripts.{script_faults};
 ghost use Rattle.fault_script.specs.Simulations.{AreTextsOf, FailsAfterStart, IfScript, SendsBoth};
 ghost use Rattle.fault_script.specs.Simulations.{Simulates, TakesText};
 ghost use Rattle.fault_script.specs.declared.simulate_script.SimulateError.{SimulateError};
@@ -15,6 +15,7 @@ use crate::{ScriptError, parse};
 use counted_devices::{CountedRead, CountedWrite, write_text};
 use file_format::history_text;
 use std::alloc::Global;
+use std::thread::Threads;
 use tag::Memory;
 use thiserror::Error;
 
@@ -104,6 +105,7 @@ fn write_texts<W: CountedWrite, M: CountedWrite>(
 /// `Device` comes only where a writer failed; a beginning of the messages may then have gone out, or
 /// the messages and a beginning of the history.
 pub fn simulate<R: CountedRead, W: CountedWrite, M: CountedWrite>(
+    rt: &(impl Threads + Sync),
     alloc: Global,
     reader: &mut R,
     out: &mut W,
@@ -124,7 +126,7 @@ pub fn simulate<R: CountedRead, W: CountedWrite, M: CountedWrite>(
     ensures memory { IsErrOf result SimulateError.Memory
         → (out.new ≡ out.old) × (messages.new ≡ messages.old) }
 {
-    let script = parse(alloc, reader).map_err(SimulateError::Script)?;
+    let script = parse(rt, alloc, reader).map_err(SimulateError::Script)?;
     let texts = texts_of(alloc, script)?;
     write_texts(&texts, out, messages)
 }

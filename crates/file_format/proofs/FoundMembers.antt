@@ -9,7 +9,7 @@ use Rattle.serde_json.specs.Data as values
 use Rattle.serde_json.specs.Data.{Data}
 use Rattle.serde_json.specs.Find as find
 use Rattle.serde_json.specs.Find.{as_u64}
-use Rattle.serde_json.specs.Read.{number_of, of_json, of_items, read}
+use Rattle.serde_json.specs.Read.{of_json, of_items, read}
 use Rattle.file_format.specs.declared.document.Document.{Document}
 use Rattle.file_format.specs.Documents.{data_in, IsJson}
 use Rattle.file_format.specs.Members.{text_at, number_at, numbers_in, numbers_at}

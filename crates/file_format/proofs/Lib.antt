@@ -31,6 +31,4 @@ pub mod Votes
 pub mod OneHall
 mod WritingOn
 pub mod ListedNumbers
-pub mod Chunks
-pub mod Zips
 pub mod PieceByPiece

@@ -3,11 +3,11 @@ use Rattle.std.proofs.Common.{ℕ, ◌≡◌, ◌<◌, ◌+◌, ◌⊎◌, inl, 
 use Rattle.std.proofs.Common.{Ok, Err, refl, sym, ap, ◌∙◌, subst, arith}
 use Rattle.std.specs.List.{AllZip}
 use Rattle.file_format.specs.declared.fault.LineFault.{LineFault}
-use Rattle.file_format.specs.declared.fault.LineFault.TheVariants.{NoHeader}
 use Rattle.file_format.specs.Formats.{Format}
-use Rattle.file_format.specs.Files.{IsLineOf, AreSpelled, AreLinesOf, HasFault, IsFirstFault}
+use Rattle.file_format.specs.Files.{IsLineOf, AreSpelled, AreLinesOf, HasFault, HasFaultAfter, LacksHeader, file_rules}
 use Rattle.counted_devices.specs.Cuts.{last_lines}
-use Rattle.file_format.specs.Readings.{Reads, FirstFaultInAll}
+use Rattle.counted_devices.specs.FirstFaults.{IsFirstFault, FirstFaultInAll}
+use Rattle.file_format.specs.Readings.{Reads}
 use Rattle.counted_devices.proofs.CutOnce.{splits_once}
 use Rattle.file_format.proofs.Once.{shows_once, header_once, spelled_once}
 use Rattle.file_format.proofs.SayingRows.{inside}
@@ -114,26 +114,37 @@ module _ {Header Item : Type 0} (format : Format Header Item) (sharp : IsSharp f
       let P : Header → Type 0 = λ header. HasFault format (first ∷ lines) header items line f in
       line_once (first ∷ lines) line b items f g (subst P (header_once format first a b r.0 s.0) h) k
 
-  first_once : (lines : List (List ℕ)) (m n : ℕ) (f g : LineFault) → IsFirstFault format lines m f → IsFirstFault format lines n g
-      → (m ≡ n) × (f ≡ g)
+  -- after the same lines a line has one fault
+  after_once : (lines : List (List ℕ)) (line : List ℕ) (f g : LineFault) → HasFaultAfter format lines line f
+      → HasFaultAfter format lines line g → f ≡ g
+  after_once lines line f g h k =
+      let items : h.items ≡ k.items = spelled_once format lines h.header k.header h.items k.items h.sound.spelled k.sound.spelled in
+      let spelled = subst (λ (is : List Item). AreSpelled format lines h.header is) items h.sound.spelled in
+      let faulty = subst (λ (is : List Item). HasFault format lines h.header is line f) items h.faulty in
+      fault_at_once lines line h.header k.header k.items f g spelled k.sound.spelled faulty k.faulty
+
+  -- lines of a file that go on have no fault before
+  never_before : (lines : List (List ℕ)) (line : List ℕ) (rest : List (List ℕ)) (header : Header) (items : List Item) (f : LineFault)
+      → AreLinesOf format (lines ++ line ∷ rest) header items → HasFaultAfter format lines line f → ⊥
+  never_before lines line rest header items f all h = sound_line lines line rest header h.header h.items items f all h.sound h.faulty
+
+  first_once : (lines : List (List ℕ)) (m n : ℕ) (f g : LineFault) → IsFirstFault (file_rules format) lines m f
+      → IsFirstFault (file_rules format) lines n g → (m ≡ n) × (f ≡ g)
   first_once lines m n f g h k =
       elim (parted h.earlier k.earlier h.line k.line h.later k.later (sym h.place ∙ k.place)) [
         | inl w ↦
-            let Lines : List (List ℕ) → Type 0 = λ ls. AreSpelled format ls h.header h.items in
-            let spelled = subst Lines w.0 h.sound.spelled in
-            let items : h.items ≡ k.items = spelled_once format k.earlier h.header k.header h.items k.items spelled k.sound.spelled in
-            let moved = subst (λ (ls : List (List ℕ)). HasFault format ls h.header k.items k.line f) w.0
-            (subst (λ (l : List ℕ). HasFault format h.earlier h.header k.items l f) w.1
-            (subst (λ (is : List Item). HasFault format h.earlier h.header is h.line f) items h.faulty)) in
-            let Items : List Item → Type 0 = λ is. AreSpelled format k.earlier h.header is in (
+            let moved = subst (λ (ls : List (List ℕ)). HasFaultAfter format ls k.line f) w.0
+            (subst (λ (l : List ℕ). HasFaultAfter format h.earlier l f) w.1 h.faulty) in (
               h.counted ∙ ap (λ (ls : List (List ℕ)). length ls + 1) w.0 ∙ sym k.counted,
-              fault_at_once k.earlier k.line h.header k.header k.items f g (subst Items items spelled) k.sound.spelled moved k.faulty,
+              after_once k.earlier k.line f g moved k.faulty,
             )
         | inr v ↦ elim v [
-          | inl w ↦ absurd (sound_line h.earlier h.line w.0 k.header h.header h.items k.items f
-              (subst (λ (ls : List (List ℕ)). AreLinesOf format ls k.header k.items) w.1 k.sound) h.sound h.faulty)
-          | inr w ↦ absurd (sound_line k.earlier k.line w.0 h.header k.header k.items h.items g
-              (subst (λ (ls : List (List ℕ)). AreLinesOf format ls h.header h.items) w.1 h.sound) k.sound k.faulty)
+          | inl w ↦
+              let all = subst (λ (ls : List (List ℕ)). AreLinesOf format ls k.faulty.header k.faulty.items) w.1 k.faulty.sound in
+              absurd (never_before h.earlier h.line w.0 k.faulty.header k.faulty.items f all h.faulty)
+          | inr w ↦
+              let all = subst (λ (ls : List (List ℕ)). AreLinesOf format ls h.faulty.header h.faulty.items) w.1 h.faulty.sound in
+              absurd (never_before k.earlier k.line w.0 h.faulty.header h.faulty.items g all k.faulty)
         ]
       ]
 
@@ -141,37 +152,39 @@ module _ {Header Item : Type 0} (format : Format Header Item) (sharp : IsSharp f
   some_line [] line later e = cc
   some_line (l ∷ earlier) line later e = cc
 
-  either_once : (lines : List (List ℕ)) (m n : ℕ) (f g : LineFault) → IsFirstFault format lines m f
-      ⊎ ((lines ≡ []) × (m ≡ 1) × (f ≡ NoHeader)) → IsFirstFault format lines n g ⊎ ((lines ≡ []) × (n ≡ 1) × (g ≡ NoHeader)) → (m ≡ n)
-      × (f ≡ g)
+  -- the first fault of all lines, or what they lack
+  abbrev IsFirst : List (List ℕ) → ℕ → LineFault → Type 0
+  IsFirst lines n f = IsFirstFault (file_rules format) lines n f ⊎ (LacksHeader format lines f × (n ≡ 1))
+
+  either_once : (lines : List (List ℕ)) (m n : ℕ) (f g : LineFault) → IsFirst lines m f → IsFirst lines n g → (m ≡ n) × (f ≡ g)
   either_once lines m n f g (inl h) (inl k) = first_once lines m n f g h k
-  either_once lines m n f g (inl h) (inr k) = absurd (some_line h.earlier h.line h.later (sym h.place ∙ k.0))
-  either_once lines m n f g (inr h) (inl k) = absurd (some_line k.earlier k.line k.later (sym k.place ∙ h.0))
-  either_once lines m n f g (inr h) (inr k) = (h.1 ∙ sym k.1, h.2 ∙ sym k.2)
+  either_once lines m n f g (inl h) (inr k) = absurd (some_line h.earlier h.line h.later (sym h.place ∙ k.0.0))
+  either_once lines m n f g (inr h) (inl k) = absurd (some_line k.earlier k.line k.later (sym k.place ∙ h.0.0))
+  either_once lines m n f g (inr h) (inr k) = (h.1 ∙ sym k.1, h.0.1 ∙ sym k.0.1)
 
   -- a file has one first fault
-  pub fault_once : (bytes : List ℕ) (m n : ℕ) (f g : LineFault) → FirstFaultInAll format bytes m f → FirstFaultInAll format bytes n g
-      → (m ≡ n) × (f ≡ g)
+  pub fault_once : (bytes : List ℕ) (m n : ℕ) (f g : LineFault) → FirstFaultInAll (file_rules format) bytes m f
+      → FirstFaultInAll (file_rules format) bytes n g → (m ≡ n) × (f ≡ g)
   fault_once bytes m n f g h k =
       let w = splits_once bytes h.lines k.lines h.rest k.rest h.splits k.splits in
-      let P : List (List ℕ) → Type 0 = λ ls. IsFirstFault format ls m f ⊎ ((ls ≡ []) × (m ≡ 1) × (f ≡ NoHeader)) in
+      let P : List (List ℕ) → Type 0 = λ ls. IsFirst ls m f in
       let same : last_lines h.lines h.rest ≡ last_lines k.lines k.rest = ap (λ (ls : List (List ℕ)). last_lines ls h.rest) w.0
       ∙ ap (λ (r : List ℕ). last_lines k.lines r) w.1 in
       either_once (last_lines k.lines k.rest) m n f g (subst P same h.first) k.first
 
   sound_file : (lines : List (List ℕ)) (header : Header) (items : List Item) (n : ℕ) (f : LineFault) → 0 < length lines
-      → AreLinesOf format lines header items → IsFirstFault format lines n f ⊎ ((lines ≡ []) × (n ≡ 1) × (f ≡ NoHeader)) → ⊥
+      → AreLinesOf format lines header items → IsFirst lines n f → ⊥
   sound_file lines header items n f some read (inl h) =
-      sound_line h.earlier h.line h.later header h.header h.items items f
-      (subst (λ (ls : List (List ℕ)). AreLinesOf format ls header items) h.place read) h.sound h.faulty
-  sound_file lines header items n f some read (inr h) = omega (arith, ap length h.0)
+      let all = subst (λ (ls : List (List ℕ)). AreLinesOf format ls header items) h.place read in
+      never_before h.earlier h.line h.later header items f all h.faulty
+  sound_file lines header items n f some read (inr h) = omega (arith, ap length h.0.0)
 
   -- a file that is read has no fault
   pub fault_never : {Contents : Type 0} (Makes : Header → List Item → Contents → Type 0) (bytes : List ℕ) (contents : Contents) (n : ℕ)
-      (f : LineFault) → Reads format Makes bytes contents → FirstFaultInAll format bytes n f → ⊥
+      (f : LineFault) → Reads format Makes bytes contents → FirstFaultInAll (file_rules format) bytes n f → ⊥
   fault_never Makes bytes contents n f h k =
       let w = splits_once bytes k.lines h.lines k.rest h.rest k.splits h.splits in
-      let P : List (List ℕ) → Type 0 = λ ls. IsFirstFault format ls n f ⊎ ((ls ≡ []) × (n ≡ 1) × (f ≡ NoHeader)) in
+      let P : List (List ℕ) → Type 0 = λ ls. IsFirst ls n f in
       let same : last_lines k.lines k.rest ≡ last_lines h.lines h.rest = ap (λ (ls : List (List ℕ)). last_lines ls k.rest) w.0
       ∙ ap (λ (r : List ℕ). last_lines h.lines r) w.1 in
       sound_file (last_lines h.lines h.rest) h.header h.items n f h.some h.read (subst P same k.first)

@@ -8,12 +8,13 @@ use Rattle.recorder.specs.declared.row.Row.TheVariants.{Invoke, Note, Respond}
 use Rattle.recorder.specs.Halls.{RecordedHalls, AreHalls, FallsTo, hall_calls}
 use Rattle.recorder.specs.Histories.{Recorded, IsWellFormed, call_count}
 use Rattle.counted_devices.specs.Cuts.{last_lines}
+use Rattle.counted_devices.specs.FirstFaults.{IsFirstFault, FirstFaultInAll}
 use Rattle.file_format.specs.declared.fault.LineFault.{LineFault}
 use Rattle.file_format.specs.declared.fault.LineFault.TheVariants.{NotJson, NoHeader, Version, TooLong}
 use Rattle.file_format.specs.declared.file_header.FileHeader.TheVariants.{Version1}
 use Rattle.file_format.specs.declared.hall_row.HallRow.{HallRow}
 use Rattle.file_format.specs.FileHeaders.{file_header_in}
-use Rattle.file_format.specs.Files.{IsLineOf, AreSpelled, HasFault, IsFirstFault}
+use Rattle.file_format.specs.Files.{IsLineOf, AreSpelled, HasFault, file_rules}
 use Rattle.file_format.specs.HallPlaces.{rows_of, IsMisplacedInHall}
 use Rattle.file_format.specs.HallRows.{hall_row_in}
 use Rattle.file_format.specs.Headers.{header_in}
@@ -22,7 +23,7 @@ use Rattle.file_format.specs.HistoryFormat.{history_format, MakesHistory, IsHist
 use Rattle.file_format.specs.LineFaults.{HasHeaderFault, HasFileHeaderFault}
 use Rattle.file_format.specs.Lines.{LineShows}
 use Rattle.file_format.specs.Places.{IsMisplaced, IsMisplacedAfter}
-use Rattle.file_format.specs.Readings.{Reads, FirstFaultInAll}
+use Rattle.file_format.specs.Readings.{Reads}
 use Rattle.file_format.specs.Rows.{row_in}
 use Rattle.file_format.specs.Texts.{rows_from}
 use Rattle.file_format.proofs.HallFaults.{file_header_fault, hall_row_fault}
@@ -159,22 +160,26 @@ fits_too rows h =
     subst (λ (placed : List HallRow). AreHistories Version1 placed) (append-nil (tagged 0 rows))
     (fits_again (alone rows) (one_hall rows h) (formed_too rows h))
 
-first_too : (lines : List (List ℕ)) (n : ℕ) (f : LineFault) → f ≢ Version → IsFirstFault history_format lines n f
-    → IsFirstFault histories_format lines n f
-first_too lines n f other h = record {
-  earlier = h.earlier;
-  line = h.line;
-  later = h.later;
-  place = h.place;
-  counted = h.counted;
-  header = Version1;
-  items = tagged 0 h.items;
-  sound = record { spelled = spelled_too h.earlier h.items h.sound.spelled; fits = fits_too h.items h.sound.fits };
-  faulty = fault_too h.earlier h.items h.line f other h.faulty;
-}
+first_too : (lines : List (List ℕ)) (n : ℕ) (f : LineFault) → f ≢ Version → IsFirstFault (file_rules history_format) lines n f
+    → IsFirstFault (file_rules histories_format) lines n f
+first_too lines n f other h =
+    let old = h.faulty in
+    record {
+      earlier = h.earlier;
+      line = h.line;
+      later = h.later;
+      place = h.place;
+      counted = h.counted;
+      faulty = record {
+        header = Version1;
+        items = tagged 0 old.items;
+        sound = record { spelled = spelled_too h.earlier old.items old.sound.spelled; fits = fits_too old.items old.sound.fits };
+        faulty = fault_too h.earlier old.items h.line f other old.faulty;
+      };
+    }
 
-pub first_fault_too : (bytes : List ℕ) (n : ℕ) (f : LineFault) → f ≢ Version → FirstFaultInAll history_format bytes n f
-    → FirstFaultInAll histories_format bytes n f
+pub first_fault_too : (bytes : List ℕ) (n : ℕ) (f : LineFault) → f ≢ Version → FirstFaultInAll (file_rules history_format) bytes n f
+    → FirstFaultInAll (file_rules histories_format) bytes n f
 first_fault_too bytes n f other h = record {
   lines = h.lines;
   rest = h.rest;

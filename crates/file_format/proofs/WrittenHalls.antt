@@ -1,5 +1,5 @@
 -- The text of histories by hall is read as their rows and quorums, and as nothing else.
-use Rattle.std.proofs.Common.{ℕ, ◌≡◌, ◌<◌, ◌≤◌, ◌+◌, ◌*◌, ◌^◌, List, [], ◌∷◌, ◌++◌}
+use Rattle.std.proofs.Common.{ℕ, ◌≡◌, ◌<◌, ◌≤◌, ◌^◌, List, ◌++◌}
 use Rattle.std.proofs.Common.{false, Option, Some, None, length, decimal, codes, refl, subst, arith}
 use Rattle.std.proofs.Common.{length-append}
 use Rattle.std.specs.Prelude.{⊤}

@@ -1,5 +1,5 @@
 -- The text of orders is read as the orders: their pieces are joined again.
-use Rattle.std.proofs.Common.{ℕ, zero, suc, ◌≡◌, ◌≤◌, ◌+◌, ◌-◌, ◌*◌, ◌/◌, ◌⊎◌, inl, inr, List, []}
+use Rattle.std.proofs.Common.{ℕ, zero, suc, ◌≡◌, ◌≤◌, ◌+◌, ◌-◌, ◌*◌, ◌/◌, inl, inr, List, []}
 use Rattle.std.proofs.Common.{◌∷◌, ◌++◌, false, Some, length, map, set, take, drop}
 use Rattle.std.proofs.Common.{codes, refl, sym, ap, ap₂, ◌∙◌, subst, arith, append_assoc}
 use Rattle.std.proofs.Common.{append-nil, length-append, length-take, length-drop}

@@ -1,7 +1,9 @@
--- Whole lines of a file: the header and the items that they are, and the first fault among them.
-use Rattle.std.specs.Prelude.{ℕ, ◌≡◌, ◌+◌, ◌⊎◌, List, [], ◌∷◌, ◌++◌, length, Ok, Err}
+-- Whole lines of a file: the header and the items that they are, and their faults.
+use Rattle.std.specs.Prelude.{ℕ, ◌≡◌, ◌⊎◌, List, [], ◌∷◌, Ok, Err}
 use Rattle.std.specs.List.{AllZip}
+use Rattle.counted_devices.specs.FirstFaults.{LineRules, LineFaults, faults_by}
 use Rattle.file_format.specs.declared.fault.LineFault.{LineFault}
+use Rattle.file_format.specs.declared.fault.LineFault.TheVariants.{NoHeader}
 use Rattle.file_format.specs.Lines.{LineShows}
 use Rattle.file_format.specs.Formats.{Format}
 
@@ -33,14 +35,28 @@ module _ {Header Item : Type 0} (format : Format Header Item) where
       LineShows (format.meaning header) line (Err fault)
       ⊎ ((item : Item) × IsLineOf header line item × format.HasFault header items item fault)
 
-  -- the first of the lines that has a fault has that number and that fault
-  pub record IsFirstFault (lines : List (List ℕ)) (number : ℕ) (fault : LineFault) : Type 0 where
-    pub earlier : List (List ℕ)
-    pub line : List ℕ
-    pub later : List (List ℕ)
-    pub place : lines ≡ earlier ++ (line ∷ later)
-    pub counted : number ≡ length earlier + 1
+  -- the lines are those of a file, so far
+  pub record AreSound (lines : List (List ℕ)) : Type 0 where
     pub header : Header
     pub items : List Item
-    pub sound : AreLinesOf earlier header items
-    pub faulty : HasFault earlier header items line fault
+    pub read : AreLinesOf lines header items
+
+  -- the line has that fault after those lines, which are those of a file so far
+  pub record HasFaultAfter (lines : List (List ℕ)) (line : List ℕ) (fault : LineFault) : Type 0
+    where
+      pub header : Header
+      pub items : List Item
+      pub sound : AreLinesOf lines header items
+      pub faulty : HasFault lines header items line fault
+
+  -- a file without a line has no header
+  abbrev pub LacksHeader : List (List ℕ) → LineFault → Type 0
+  LacksHeader lines fault = (lines ≡ []) × (fault ≡ NoHeader)
+
+  -- the faults of a file's lines, one after another
+  abbrev pub file_rules : LineRules LineFault
+  file_rules = record { AreSound = AreSound; HasFault = HasFaultAfter; LacksAtEnd = LacksHeader }
+
+  -- the faults of files of the format
+  abbrev pub file_faults : LineFaults LineFault
+  file_faults = faults_by file_rules

@@ -1,14 +1,11 @@
 -- What a line shows by itself.
 use Rattle.std.specs.Prelude.{ℕ, ◌≡◌, ◌≤◌, ◌<◌, List, length, Result, Ok, Err}
-use Rattle.std.specs.List.{AllZip}
 use Rattle.serde_json.specs.Data.{Data}
 use Rattle.file_format.specs.declared.fault.LineFault.{LineFault}
 use Rattle.file_format.specs.declared.fault.LineFault.TheVariants.{NotJson, TooLong}
 use Rattle.file_format.specs.Faults.{LineStop}
 use Rattle.counted_devices.specs.declared.read_fault.Stop.TheVariants as stop
-use Rattle.file_format.specs.declared.judge_lines.Judgement.{Judgement}
-use Rattle.file_format.specs.declared.judge_lines.Judgement.TheVariants as judgement
-use Rattle.counted_devices.specs.Cuts.{AreLinesIn, longest_line}
+use Rattle.counted_devices.specs.Cuts.{longest_line}
 use Rattle.file_format.specs.Documents.{IsJson}
 
 module _ {X : Type 0} (meaning : Data → Result X LineFault) where
@@ -31,14 +28,3 @@ module _ {X : Type 0} (meaning : Data → Result X LineFault) where
     LineShowsBy (Ok x) = LineShows (Ok x)
     LineShowsBy (Err (stop.Fault fault)) = LineShows (Err fault)
     LineShowsBy (Err stop.Memory) = Unit {0}
-
-    -- the item or the fault that the line shows
-    abbrev pub ShowsItem : Judgement X → Type 0
-    ShowsItem (judgement.Item item) = LineShows (Ok item)
-    ShowsItem (judgement.Fault fault) = LineShows (Err fault)
-
-  -- what the lines of the chunks show, in their order
-  pub record ShowChunks (chunks : List (List ℕ)) (judgements : List (Judgement X)) : Type 0 where
-    pub lines : List (List ℕ)
-    pub cut : AreLinesIn chunks lines
-    pub shown : AllZip ShowsItem lines judgements

@@ -1,6 +1,6 @@
 -- Members of a JSON value, and what is said of one: a member is there and of its kind, a number or
 -- a text is in its range.
-use Rattle.std.specs.Prelude.{ℕ, ◌≡◌, ◌^◌, ◌&&◌, List, [], ◌∷◌, Bool, Option, Some, None, Result}
+use Rattle.std.specs.Prelude.{ℕ, ◌^◌, ◌&&◌, List, [], ◌∷◌, Bool, Option, Some, None, Result}
 use Rattle.std.specs.Prelude.{Ok, Err, option_and_then, option_map, nat_lt, nat_le, if◌then◌else◌}
 use Rattle.serde_json.specs.Data.{Data, Items, no_items, item}
 use Rattle.serde_json.specs.Find.{get, as_number, as_u64, as_str, as_array}

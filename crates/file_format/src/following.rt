@@ -94,7 +94,7 @@ pub(crate) fn follow_in_hall(
     ensures few { call_count history.new.rows ≤ history.new.limit }
 {
     let result = follow_row(history, earlier, row);
-    let _rows = history.rows();
+    let _rows = history.row_count();
     let _calls = history.calls();
     result
 }

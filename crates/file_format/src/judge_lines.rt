@@ -1,8 +1,11 @@
 //! The judgement of a line by itself.
-ghost use Rattle.std.specs.Prelude.{◌≡◌, ◌∷◌, [], IfOk};
+ghost use Rattle.std.specs.Prelude.{ℕ, ◌≡◌, ◌∷◌, List, [], IfOk, Result};
+ghost use Rattle.serde_json.specs.Data.{Data};
+ghost use Rattle.counted_devices.specs.Judgements.{ShowsItem, ShowChunks};
+ghost use Rattle.file_format.specs.declared.fault.LineFault.{LineFault};
 ghost use Rattle.file_format.specs.FileHeaders.{file_header_in};
 ghost use Rattle.file_format.specs.Headers.{header_in};
-ghost use Rattle.file_format.specs.Lines.{LineShowsBy, ShowsItem, ShowChunks};
+ghost use Rattle.file_format.specs.Lines.{LineShows, LineShowsBy};
 
 use crate::LineFault;
 use crate::document::Document;
@@ -11,43 +14,26 @@ use crate::file_header::FileHeader;
 use crate::header::header_in;
 use crate::line_item::LineItem;
 use crate::line_key::{LinePlace, shared};
-use crate::line_tools::{LineTools, ToolSets};
+use crate::line_tools::LineTools;
 use crate::quorum_header::file_header_in;
-use counted_devices::first_end;
+use counted_devices::{Judgement, LONGEST, first_end};
 use json::Scratch;
 use std::alloc::Global;
 use tag::Memory;
 
-/// The most bytes of a line, its end not counted.
-pub const LONGEST: usize = 65_536;
-
 /// About how many bytes a line has.
 const USUAL: usize = 48;
 
-/// What a line after a header shows by itself: its item, or its fault.
-#[derive(Debug, Drop)]
-pub enum Judgement<T> {
-    Item(T),
-    Fault(LineFault),
-}
-
-/// The line's item after that header.
-fn item_on<T: LineItem>(
-    alloc: Global,
-    header: T::Header,
-    tools: &mut LineTools,
-    line: &[u8],
-) -> Result<T, Stop>
-    ensures { LineShowsBy (T.meaning header) line.now result }
+/// What was made of a line, as its judgement.
+fn judged<T>(made: Result<T, Stop>) -> Result<Judgement<T, LineFault>, Memory>
+    ensures { (meaning : Data → Result T LineFault) (line : List ℕ) → LineShowsBy meaning line made
+        → IfOk result (ShowsItem (LineShows meaning) line) }
 {
-    if line.len() > LONGEST {
-        return Err(Stop::Fault(LineFault::TooLong));
+    match made {
+        Ok(item) => Ok(Judgement::Item(item)),
+        Err(Stop::Fault(fault)) => Ok(Judgement::Fault(fault)),
+        Err(Stop::Memory) => Err(Memory),
     }
-    if let Some(item) = T::written_on(alloc, header, tools, line)? {
-        return Ok(item);
-    }
-    let document = Document::read(alloc, line, &tools.place, &mut tools.scratch)?;
-    T::item_in(alloc, header, &document)
 }
 
 /// What the line, without its end, shows after that header.
@@ -56,25 +42,31 @@ fn judge<T: LineItem>(
     header: T::Header,
     tools: &mut LineTools,
     line: &[u8],
-) -> Result<Judgement<T>, Memory>
-    ensures { IfOk result (ShowsItem (T.meaning header) line.now) }
+) -> Result<Judgement<T, LineFault>, Memory>
+    ensures { IfOk result (ShowsItem (LineShows (T.meaning header)) line.now) }
 {
-    match item_on::<T>(alloc, header, tools, line) {
-        Ok(item) => Ok(Judgement::Item(item)),
-        Err(Stop::Fault(fault)) => Ok(Judgement::Fault(fault)),
-        Err(Stop::Memory) => Err(Memory),
+    if line.len() > LONGEST {
+        return Ok(Judgement::Fault(LineFault::TooLong));
+    }
+    if let Some(item) = T::written_on(alloc, header, tools, line)? {
+        return Ok(Judgement::Item(item));
+    }
+    match Document::read(alloc, line, &tools.place, &mut tools.scratch) {
+        Ok(document) => judged(T::item_in(alloc, header, &document)),
+        Err(stop) => judged(Err(stop)),
     }
 }
 
 /// What the lines of a chunk, the last of them without its end, show after that header, judged with
 /// these tools.
-fn judge_with<T: LineItem>(
+pub fn judge_with<T: LineItem>(
     alloc: Global,
     header: T::Header,
     tools: &mut LineTools,
     chunk: &[u8],
-) -> Result<Vec<Judgement<T>>, Memory>
-    ensures { IfOk result (λ run. ShowChunks (T.meaning header) (chunk.now ∷ []) run.items) }
+) -> Result<Vec<Judgement<T, LineFault>>, Memory>
+    ensures { IfOk result (λ run. ShowChunks (LineShows (T.meaning header)) (chunk.now ∷ [])
+        run.items) }
 {
     tools.place.bytes = shared(alloc, chunk)?;
     let mut run = Vec::with_capacity(alloc, chunk.len() / USUAL)?;
@@ -87,42 +79,6 @@ fn judge_with<T: LineItem>(
     tools.place.end = chunk.len();
     run.push(judge::<T>(alloc, header, tools, rest)?)?;
     Ok(run)
-}
-
-/// The same with the set that is kept there, which is made where there is none.
-fn judge_with_set<T: LineItem>(
-    alloc: Global,
-    header: T::Header,
-    set: &mut Option<LineTools>,
-    chunk: &[u8],
-) -> Result<Vec<Judgement<T>>, Memory>
-    ensures { IfOk result (λ run. ShowChunks (T.meaning header) (chunk.now ∷ []) run.items) }
-{
-    let mut tools = match set.take() {
-        Some(tools) => tools,
-        None => LineTools::new(alloc)?,
-    };
-    let run = judge_with::<T>(alloc, header, &mut tools, chunk);
-    *set = Some(tools);
-    run
-}
-
-/// What the lines of a chunk, the last of them without its end, show after that header. It takes one
-/// of the sets of tools that no other thread has, and makes one of its own where all are taken.
-pub fn judge_chunk<T: LineItem>(
-    alloc: Global,
-    header: T::Header,
-    tools: &ToolSets,
-    chunk: &[u8],
-) -> Result<Vec<Judgement<T>>, Memory>
-    ensures { IfOk result (λ run. ShowChunks (T.meaning header) (chunk.now ∷ []) run.items) }
-{
-    for set in &tools.sets {
-        if let Some(mut free) = set.try_write() {
-            return judge_with_set::<T>(alloc, header, &mut free, chunk);
-        }
-    }
-    judge_with_set::<T>(alloc, header, &mut None, chunk)
 }
 
 /// What the line, without its end, says as the header of a history file of either version.

@@ -11,7 +11,9 @@ ghost use Rattle.file_format.specs.CanonicalLines.{IsRowLine, IsHallRowLine, IsP
 ghost use Rattle.file_format.specs.Lines.{LineShows};
 ghost use Rattle.file_format.specs.LineFaults.{FaultsAre, HasRowFault, HasHallRowFault};
 ghost use Rattle.file_format.specs.LineFaults.{HasPieceFault, HasHeaderFault, HasFileHeaderFault};
-ghost use Rattle.file_format.specs.Readings.{Reads, FirstFaultInAll};
+ghost use Rattle.counted_devices.specs.FirstFaults.{FirstFaultInAll};
+ghost use Rattle.file_format.specs.Files.{file_rules};
+ghost use Rattle.file_format.specs.Readings.{Reads};
 ghost use Rattle.file_format.specs.HistoryFormat.{history_format, MakesHistory, IsHistory};
 ghost use Rattle.file_format.specs.Headers.{header_in};
 ghost use Rattle.file_format.specs.FileHeaders.{file_header_in};
@@ -154,23 +156,23 @@ pub fn histories_are_read_from_their_text()
 /// A history file of either version has one first fault.
 pub fn a_file_of_histories_has_one_first_fault()
     ensures { (bytes : List ℕ) (m n : ℕ) (a b : LineFault)
-        → FirstFaultInAll histories_format bytes m a → FirstFaultInAll histories_format bytes n b
-        → (m ≡ n) × (a ≡ b) }
+        → FirstFaultInAll (file_rules histories_format) bytes m a
+        → FirstFaultInAll (file_rules histories_format) bytes n b → (m ≡ n) × (a ≡ b) }
 {}
 
 /// The first fault of a history file of version 1 is its first fault as histories too, where it
 /// isn't that of its version.
 pub fn a_fault_of_a_history_is_one_of_histories()
     ensures { (bytes : List ℕ) (n : ℕ) (fault : LineFault) → fault ≢ Version
-        → FirstFaultInAll history_format bytes n fault
-        → FirstFaultInAll histories_format bytes n fault }
+        → FirstFaultInAll (file_rules history_format) bytes n fault
+        → FirstFaultInAll (file_rules histories_format) bytes n fault }
 {}
 
 /// Bytes that are read as histories have no fault.
 pub fn histories_have_no_fault()
     ensures { (bytes : List ℕ) (histories : RecordedHalls) (n : ℕ) (fault : LineFault)
         → Reads histories_format MakesHistories bytes histories
-        → FirstFaultInAll histories_format bytes n fault → ⊥ }
+        → FirstFaultInAll (file_rules histories_format) bytes n fault → ⊥ }
 {}
 
 /// Bytes are read as one list of orders.
@@ -195,26 +197,27 @@ pub fn a_text_is_read_as_its_orders_alone()
 /// A history file has one first fault.
 pub fn a_history_file_has_one_first_fault()
     ensures { (bytes : List ℕ) (m n : ℕ) (a b : LineFault)
-        → FirstFaultInAll history_format bytes m a → FirstFaultInAll history_format bytes n b
-        → (m ≡ n) × (a ≡ b) }
+        → FirstFaultInAll (file_rules history_format) bytes m a
+        → FirstFaultInAll (file_rules history_format) bytes n b → (m ≡ n) × (a ≡ b) }
 {}
 
 /// An order file has one first fault.
 pub fn an_order_file_has_one_first_fault()
-    ensures { (bytes : List ℕ) (m n : ℕ) (a b : LineFault) → FirstFaultInAll order_format bytes m a
-        → FirstFaultInAll order_format bytes n b → (m ≡ n) × (a ≡ b) }
+    ensures { (bytes : List ℕ) (m n : ℕ) (a b : LineFault)
+        → FirstFaultInAll (file_rules order_format) bytes m a
+        → FirstFaultInAll (file_rules order_format) bytes n b → (m ≡ n) × (a ≡ b) }
 {}
 
 /// Bytes that are read as a history have no fault.
 pub fn a_history_has_no_fault()
     ensures { (bytes : List ℕ) (history : Recorded) (n : ℕ) (fault : LineFault)
         → Reads history_format MakesHistory bytes history
-        → FirstFaultInAll history_format bytes n fault → ⊥ }
+        → FirstFaultInAll (file_rules history_format) bytes n fault → ⊥ }
 {}
 
 /// Bytes that are read as orders have no fault.
 pub fn orders_have_no_fault()
     ensures { (bytes : List ℕ) (orders : List KeyOrder) (n : ℕ) (fault : LineFault)
-        → Reads order_format MakesJoined bytes orders → FirstFaultInAll order_format bytes n fault
-        → ⊥ }
+        → Reads order_format MakesJoined bytes orders
+        → FirstFaultInAll (file_rules order_format) bytes n fault → ⊥ }
 {}

@@ -26,7 +26,7 @@ use tag::Memory;
 /// What a line after the header says.
 pub trait LineItem: Drop + Sized {
     /// What the first line says of the others.
-    type Header: Copy + Send + Sync;
+    type Header: Copy;
 
     ghost meaning: { Self.Header → Data → Result Self LineFault };
 

@@ -6,6 +6,7 @@ ghost use Rattle.serde_json.specs.Data.{string, member, no_members};
 ghost use Rattle.serde_json.specs.Written.{items_text, members_text};
 ghost use Rattle.counted_devices.specs.Cuts.{with_end};
 ghost use Rattle.tag.specs.Names.{is_key};
+ghost use Rattle.tag.specs.declared.actions.Returned.{Returned};
 ghost use Rattle.file_format.specs.PlainTexts.{is_plain};
 ghost use Rattle.file_format.specs.Ranges.{IsOp, HasAnswerIn, AreOps, IsInvocation, IsNote};
 ghost use Rattle.file_format.specs.Ranges.{IsResponse, IsRowInRange, IsOrderInRange};
@@ -17,9 +18,9 @@ use crate::file_header::FileHeader;
 use itoa::Buffer;
 use json::Writer;
 use quorum::{Quorums, ReplicaSet};
-use recorder::{Halls, Row};
+use recorder::{ActionRef, Halls, KeyRef, ReturnedRef, Row, ValueRef};
 use std::mem;
-use tag::{Action, ClientId, Key, Memory, OpId, ReplicaId, Returned, Tag, Value};
+use tag::{ClientId, Memory, OpId, ReplicaId, Tag};
 
 /// The most calls of a piece of an order.
 pub const MOST_IN_PIECE: usize = 1_000;
@@ -176,8 +177,8 @@ fn append_invoke(
     hall: Option<u8>,
     op: OpId,
     client: ClientId,
-    key: &Key,
-    action: &Action,
+    key: &KeyRef<'_>,
+    action: &ActionRef<'_>,
 ) -> Result<(), Memory>
     ensures text { OnOk result (out.new.items
         ≡ out.old.items ++ row_text_with hall (Row.Invoke op client key.now action.now)) }
@@ -185,13 +186,13 @@ fn append_invoke(
 {
     append_number(out, b"{\"call\":", op.0)?;
     append_number(out, b",\"client\":", client.get())?;
-    match action {
-        Action::Read => {
+    match action.written() {
+        None => {
             append_hall(out, b",\"do\":\"read\"", hall)?;
             append_quoted(out, b",\"key\":", key.as_str())?;
             append(out, b",\"row\":\"invoke\"}\n")
         }
-        Action::Write(value) => {
+        Some(value) => {
             append_hall(out, b",\"do\":\"write\"", hall)?;
             append_quoted(out, b",\"key\":", key.as_str())?;
             append_quoted(out, b",\"row\":\"invoke\",\"value\":", value.as_str())?;
@@ -213,12 +214,12 @@ fn append_note(out: &mut Vec<u8>, hall: Option<u8>, op: OpId, tag: Tag) -> Resul
 }
 
 /// Adds what a read's response has after its call and its hall.
-fn append_answer(out: &mut Vec<u8>, answer: &Option<Value>) -> Result<(), Memory>
+fn append_answer(out: &mut Vec<u8>, answer: Option<ValueRef<'_>>) -> Result<(), Memory>
     ensures text { OnOk result (out.new.items
         ≡ out.old.items ++ with_end
         (members_text true (member (codes "row") (string (codes "respond"))
-        (answered_member (Returned.Value answer.now) no_members)))) }
-    ensures range { OnOk result (HasAnswerIn (Returned.Value answer.now)) }
+        (answered_member (Returned.Value answer.entry) no_members)))) }
+    ensures range { OnOk result (HasAnswerIn (Returned.Value answer.entry)) }
 {
     match answer {
         None => append(out, b",\"row\":\"respond\",\"value\":null}\n"),
@@ -233,7 +234,7 @@ fn append_respond(
     out: &mut Vec<u8>,
     hall: Option<u8>,
     op: OpId,
-    returned: &Returned,
+    returned: &ReturnedRef<'_>,
 ) -> Result<(), Memory>
     ensures text { OnOk result (out.new.items
         ≡ out.old.items ++ row_text_with hall (Row.Respond op returned.now)) }
@@ -241,14 +242,14 @@ fn append_respond(
 {
     append_number(out, b"{\"call\":", op.0)?;
     append_hall(out, b"", hall)?;
-    match returned {
-        Returned::Written => append(out, b",\"row\":\"respond\"}\n"),
-        Returned::Value(answer) => append_answer(out, answer),
+    match returned.answered() {
+        None => append(out, b",\"row\":\"respond\"}\n"),
+        Some(answer) => append_answer(out, answer),
     }
 }
 
 /// Adds the row's line, with its hall where that is a member.
-pub(crate) fn append_row(out: &mut Vec<u8>, hall: Option<u8>, row: &Row) -> Result<(), Memory>
+pub(crate) fn append_row(out: &mut Vec<u8>, hall: Option<u8>, row: &Row<'_>) -> Result<(), Memory>
     ensures text { OnOk result (out.new.items ≡ out.old.items ++ row_text_with hall row.now) }
     ensures range { OnOk result (IsRowInRange row.now) }
 {

@@ -1,5 +1,5 @@
 //! Files to writers.
-ghost use Rattle.std.specs.Prelude.{◌≡◌, ◌++◌, OnOk, IfOk, IfErr};
+ghost use Rattle.std.specs.Prelude.{◌≡◌, ◌++◌, OnOk, IfOk, IfErr, length};
 ghost use Rattle.std.specs.List.{flat_map};
 ghost use Rattle.counted_devices.specs.DeviceStates.{states};
 ghost use Rattle.file_format.specs.HistoryFormat.{IsHistory};
@@ -17,14 +17,14 @@ use recorder::{Histories, History, KeyOrder, Row};
 use std::alloc::Global;
 use tag::{Key, Memory, OpId};
 
-/// The rows, of at most 1,000,000 calls, as every history's are.
-fn lawful_rows(history: &History) -> &[Row]
-    ensures rows { result.now ≡ history.now.rows }
+/// How many rows there are, of at most 1,000,000 calls, as every history's are.
+fn lawful_rows(history: &History) -> usize
+    ensures count { result ≡ length history.now.rows }
     ensures lawful { IsHistory history.now.rows }
 {
     let _calls = history.calls();
     let _limit = history.limit();
-    history.rows()
+    history.row_count()
 }
 
 /// The text of the history, made before any of it goes out: its header, then a line for each row.
@@ -36,8 +36,8 @@ pub fn history_text(alloc: Global, history: &History) -> Result<Vec<u8>, Memory>
 {
     let mut text = Vec::new(alloc);
     append_header(&mut text, "history")?;
-    for row in lawful_rows(history) {
-        append_row(&mut text, None, row)?;
+    for place in 0..lawful_rows(history) {
+        append_row(&mut text, None, &history.row(place))?;
     }
     Ok(text)
 }
@@ -46,7 +46,7 @@ pub fn history_text(alloc: Global, history: &History) -> Result<Vec<u8>, Memory>
 /// once it is enough.
 fn write_row<W: CountedWrite>(
     hall: Option<u8>,
-    row: &Row,
+    row: &Row<'_>,
     batch: &mut Vec<u8>,
     writer: &mut W,
 ) -> Result<(), WriteFault>
@@ -73,8 +73,8 @@ fn write_hall<W: CountedWrite>(
         (batch.old.items ++ flat_map (row_text_with hall) history.now.rows)) }
     ensures range { OnOk result (IsWritten history.now) }
 {
-    for row in history.rows() {
-        write_row(hall, row, batch, writer)?;
+    for place in 0..history.row_count() {
+        write_row(hall, &history.row(place), batch, writer)?;
     }
     Ok(())
 }

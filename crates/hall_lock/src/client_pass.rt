@@ -242,7 +242,7 @@ fn begin_in(
     ensures delayed { OnErr result (hall.new ≡ hall.old) }
     ensures adds { OnOk result (AddsOwnRows (Some client) hall.old.world hall.new.world) }
 {
-    let place = hall.world().history().rows().len();
+    let place = next_place(hall);
     if place < seen {
         return Err(Delay::Foreign);
     }
@@ -258,6 +258,14 @@ fn begin_in(
         Ok(_) => unreachable!(),
         Err(refusal) => Err(Delay::Refused(refusal)),
     }
+}
+
+/// The place of the row that comes next.
+fn next_place(hall: &Hall) -> usize
+    ensures place { result ≡ length hall.now.world.history.rows }
+    ensures few { result ≤ most_elements }
+{
+    hall.world().history().row_count()
 }
 
 /// Has the hall take the delivery, where the flight is for the client.
@@ -306,7 +314,7 @@ fn respond_in(hall: &mut Hall, client: ClientId) -> Result<Ended, Refusal>
     if let Some(refusal) = hall.world().refusal(&Step::Respond { client }) {
         return Err(refusal);
     }
-    let place = hall.world().history().rows().len();
+    let place = next_place(hall);
     let copy = copy_in(hall.world(), client)?;
     let (op, returned) = answer_in(hall, client)?;
     Ok(Ended {

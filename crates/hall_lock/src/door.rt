@@ -45,6 +45,7 @@ impl Model for Door {
     ghost use Rattle.std.specs.Coded.{code_by, coded×, coded_bool, coded_list, coded_option, coded_ℕ};
     ghost use Rattle.crossbeam_channel.specs.Claims.{view as pass_view, IsSeatAt};
     ghost use Rattle.crossbeam_channel.specs.Ends.{sends_on, receives_on};
+    ghost use denote.Signature.{static_lft};
     ghost use Rattle.recorder.specs.contracts.row.Row as entry;
     ghost use Rattle.recorder.specs.declared.row.Row.{Row};
     ghost use Rattle.world_steps.specs.contracts.world.World as whole;
@@ -54,7 +55,7 @@ impl Model for Door {
     ghost Value = { View };
 
     ghost coded = { code_by (Option ℕ × (List Row × (Bool × Option System))) (coded× (coded_option
-        coded_ℕ) (coded× (coded_list entry.the_row.coded)
+        coded_ℕ) (coded× (coded_list (entry.the_row static_lft).coded)
         (coded× coded_bool (coded_option whole.the_row.coded))))
         (λ v. (v.client, (v.rows, (v.is_stopped, v.held)))) (λ p. record {
           client = p.0;
@@ -246,5 +247,5 @@ fn attest(hall: &Hall)
 {
     let world = hall.world();
     let _ = world.config();
-    let _ = world.history().rows();
+    let _ = world.history().row_count();
 }

@@ -13,4 +13,4 @@ mod rule;
 
 pub use client_pass::{Begun, ClientPass, Delay, Ended, Standing};
 pub use free_pass::FreePass;
-pub use rule::View;
+pub use rule::{SeenRows, View};

@@ -1,17 +1,30 @@
 //! The rule of the channel in which a hall lies while nobody has it.
 use crossbeam_channel::protocol::{Lesson, Outcome, Protocol, Split};
 use hall_journal::Hall;
-use recorder::Row;
-use std::collections::LinkedList;
+use std::marker::Model;
 use tag::ClientId;
 use world_steps::World;
+
+/// Rows of a record, as proofs know them. No value of it is made.
+pub struct SeenRows {
+    count: usize,
+}
+
+impl Model for SeenRows {
+    ghost use Rattle.std.specs.Prelude.{List, []};
+    ghost use Rattle.recorder.specs.declared.row.Row.{Row};
+
+    ghost Value = { List Row };
+
+    ghost view = { λ seen. [] };
+}
 
 /// What a pass knows: its client, if it has one; the rows that it has seen; whether the client was
 /// stopped in the hall when the pass last gave it back; and, while it holds the hall, the world that it
 /// received. No value of it is made.
 pub struct View {
     pub client: Option<ClientId>,
-    pub rows: LinkedList<Row>,
+    pub rows: SeenRows,
     pub is_stopped: bool,
     pub held: Option<World>,
 }

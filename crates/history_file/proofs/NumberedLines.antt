@@ -17,13 +17,13 @@ use Rattle.counted_devices.specs.Cuts.{last_lines}
 use Rattle.file_format.specs.FileHeaders.{halls_in}
 use Rattle.file_format.specs.Files.{AreSpelled, IsLineOf}
 use Rattle.file_format.specs.HallPlaces.{row_in_hall, rows_of}
-use Rattle.file_format.specs.HistoriesFormat.{histories_format, AreHistories}
+use Rattle.file_format.specs.HistoriesFormat.{histories_format, AreHistories, MakesHistories}
 use Rattle.file_format.specs.Readings.{Reads}
 use Rattle.file_format.specs.Formats.{Follows}
 use Rattle.file_format.specs.Faults.{LineStop}
 use Rattle.counted_devices.specs.declared.read_fault.Stop.TheVariants as stops
 use Rattle.recorder.specs.Halls.{RecordedHalls}
-use Rattle.history_file.specs.Making.{MakesHalls, MakesNumberedHalls}
+use Rattle.history_file.specs.Making.{MakesNumberedHalls}
 use Rattle.history_file.specs.declared.numbered_format.NumberedHalls.{NumberedHalls}
 use Rattle.history_file.specs.declared.numbered_format.NumberedHistories.{NumberedHistories}
 use Rattle.history_file.specs.NumberedRows.{line_in, lines_of, AreLinesByHall, MakesNumbered, StandsOn, AreLinesOfRows, LineSaysItem}
@@ -104,7 +104,7 @@ AreLinesByHall-none header lists count empty = record {
 }
 
 -- a row that isn't taken leaves no line
-pub stops_too : (header : FileHeader) (items : List HallRow) (item : HallRow) (stop : LineStop) (halls : Option RecordedHalls) (numbered : NumberedHalls) → Follows histories_format MakesHalls header items item (Err stop) halls → Follows histories_format MakesNumberedHalls header items item (Err stop) numbered
+pub stops_too : (header : FileHeader) (items : List HallRow) (item : HallRow) (stop : LineStop) (halls : RecordedHalls) (numbered : NumberedHalls) → Follows histories_format MakesHistories header items item (Err stop) halls → Follows histories_format MakesNumberedHalls header items item (Err stop) numbered
 stops_too header items item (stops.Fault fault) halls numbered h = h
 stops_too header items item stops.Memory halls numbered h = tt
 

@@ -1,9 +1,6 @@
 pub mod KeyedOrders
 pub mod Beginnings
-pub mod FileFaults
-pub mod LinesRead
+pub mod BodyLaws
+pub mod Openings
 pub mod Making
-pub mod Feeds
-pub mod Ahead
-pub mod Batches
 pub mod NumberedRows

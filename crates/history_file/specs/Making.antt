@@ -1,6 +1,5 @@
 -- What the lines of a file make.
-use Rattle.std.specs.Prelude.{◌≡◌, List, Option, Some, None}
-use Rattle.recorder.specs.Halls.{RecordedHalls}
+use Rattle.std.specs.Prelude.{◌≡◌, List}
 use Rattle.recorder.specs.declared.order.KeyOrder.{KeyOrder}
 use Rattle.file_format.specs.OrderFormat.{AreJoined, call_total}
 use Rattle.file_format.specs.declared.file_header.FileHeader.{FileHeader}
@@ -16,13 +15,8 @@ pub record MakesOrders (header : Unit {0}) (pieces : List KeyOrder) (orders : Ke
     pub joined : AreJoined pieces orders.orders
     pub counted : orders.calls ≡ call_total pieces
 
--- the histories of halls that the rows make after that header; before one came there are none
-abbrev pub MakesHalls : FileHeader → List HallRow → Option RecordedHalls → Type 0
-MakesHalls header items None = ⊥
-MakesHalls header items (Some histories) = MakesHistories header items histories
-
--- the same with the lines of the rows of each hall
+-- the histories of halls that the rows make, and the lines of the rows of each hall
 pub record MakesNumberedHalls (header : FileHeader) (items : List HallRow)
     (numbered : NumberedHalls) : Type 0 where
-  pub made : MakesHalls header items numbered.halls
+  pub made : MakesHistories header items numbered.halls
   pub lines : AreLinesByHall header items numbered.lines.items

@@ -1,63 +1,50 @@
 //! The format of history files of either version.
-ghost use Rattle.std.specs.Prelude.{refl};
+ghost use Rattle.std.specs.Prelude.{length, refl};
+ghost use Rattle.file_format.specs.FileHeaders.{header_with};
 ghost use Rattle.file_format.specs.HistoriesFormat.{histories_format, MakesHistories};
 ghost use Rattle.file_format.specs.Readings.{Reads};
-ghost use Rattle.history_file.specs.Making.{MakesHalls};
+ghost use Rattle.history_file.specs.Openings.{histories_open, halls_tell};
 
-use crate::format::Contents;
-use file_format::{
-    FaultKind, FileFault, FileHeader, HallHistories, HallRow, LineFault, Stop, judge_file_header,
-};
+use crate::body::Body;
+use file_format::{FileHeader, HallHistories, HallRow, Stop, judge_file_header};
 use recorder::Histories;
 use std::alloc::Global;
 
-/// The histories of a file's halls: there are none before its header comes.
-impl Contents for Option<HallHistories> {
+impl Body for HallHistories {
+    type Header = FileHeader;
+
     type Item = HallRow;
 
     type Whole = Histories;
 
     ghost format = { histories_format };
 
-    ghost Makes = { MakesHalls };
+    ghost Makes = { MakesHistories };
+
+    ghost told = { λ histories. header_with (length histories.halls) histories.quorums };
 
     ghost ReadsWhole = { Reads histories_format MakesHistories };
 
-    fn opening(_alloc: Global) -> Option<HallHistories> {
-        None
-    }
-
-    fn begin(alloc: Global, line: &[u8]) -> Result<Option<HallHistories>, Stop> {
+    fn begin(alloc: Global, line: &[u8]) -> Result<HallHistories, Stop> {
         let header = judge_file_header(alloc, line)?;
-        match HallHistories::new(alloc, header) {
-            Ok(histories) => Ok(Some(histories)),
-            Err(_) => Err(Stop::Memory),
-        }
+        Ok(HallHistories::new(alloc, header)?)
     }
 
     fn header(&self) -> FileHeader {
-        match self {
-            Some(histories) => histories.header(),
-            None => FileHeader::Version1,
-        }
+        self.header()
     }
 
     fn follow(&mut self, _line: u64, item: HallRow) -> Result<(), Stop> {
-        match self {
-            Some(histories) => histories.follow(item),
-            None => Err(Stop::Fault(LineFault::NoHeader)),
-        }
+        self.follow(item)
     }
 
-    fn whole(self) -> Result<Histories, FileFault> {
-        match self {
-            Some(histories) => Ok(histories.into_histories()),
-            None => Err(FileFault {
-                line: 1,
-                kind: FaultKind::Line(LineFault::NoHeader),
-            }),
-        }
+    fn whole(self) -> Histories {
+        self.into_histories()
     }
 
     ghost says = { λ header. refl };
+
+    ghost opens = { histories_open };
+
+    ghost tells = { halls_tell };
 }

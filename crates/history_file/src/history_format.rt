@@ -2,9 +2,10 @@
 ghost use Rattle.std.specs.Prelude.{◌≡◌, [], refl};
 ghost use Rattle.file_format.specs.HistoryFormat.{history_format, MakesHistory};
 ghost use Rattle.file_format.specs.Readings.{Reads};
+ghost use Rattle.history_file.specs.Openings.{history_opens};
 
-use crate::format::Contents;
-use file_format::{FileFault, LineRow, MOST_CALLS, Stop, follow, judge_header};
+use crate::body::Body;
+use file_format::{LineRow, MOST_CALLS, Stop, follow, judge_header};
 use recorder::History;
 use std::alloc::Global;
 use std::marker::Model;
@@ -44,7 +45,9 @@ impl FileHistory {
     }
 }
 
-impl Contents for FileHistory {
+impl Body for FileHistory {
+    type Header = ();
+
     type Item = LineRow;
 
     type Whole = History;
@@ -53,11 +56,9 @@ impl Contents for FileHistory {
 
     ghost Makes = { MakesHistory };
 
-    ghost ReadsWhole = { Reads history_format MakesHistory };
+    ghost told = { λ history. tt };
 
-    fn opening(alloc: Global) -> FileHistory {
-        FileHistory::new(alloc)
-    }
+    ghost ReadsWhole = { Reads history_format MakesHistory };
 
     fn begin(alloc: Global, line: &[u8]) -> Result<FileHistory, Stop> {
         judge_header(alloc, "history", line)?;
@@ -70,9 +71,13 @@ impl Contents for FileHistory {
         follow(&mut self.history, row)
     }
 
-    fn whole(self) -> Result<History, FileFault> {
-        Ok(self.into_history())
+    fn whole(self) -> History {
+        self.into_history()
     }
 
     ghost says = { λ header. refl };
+
+    ghost opens = { history_opens };
+
+    ghost tells = { λ header rows history made. refl };
 }

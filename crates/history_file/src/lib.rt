@@ -7,22 +7,17 @@
 //! lines share until the lines are read; beside it only what a line adds to the answer is copied.
 #![tactic(auto)]
 
-mod ahead;
-mod batches;
-mod feed;
-mod file_feed;
-mod format;
+mod body;
+mod feeds;
+mod headed;
 mod histories_format;
 mod history_format;
-mod judge_blocks;
-mod judgements;
 pub mod laws;
 mod numbered_format;
 mod order_format;
-mod progress;
 mod reading;
-mod side_by_side;
+mod tool_sets;
 
-pub use file_feed::{HistoriesFeed, HistoryFeed, OrderFeed};
+pub use feeds::{HistoriesFeed, HistoryFeed, OrderFeed};
 pub use numbered_format::NumberedHistories;
 pub use reading::{read_histories, read_history, read_numbered_histories, read_orders};

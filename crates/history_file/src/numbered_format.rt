@@ -1,10 +1,12 @@
 //! The format of history files of either version, of which the line of each row is kept.
 ghost use Rattle.std.specs.Prelude.{◌≡◌, [], length, refl, All, IfOk};
+ghost use Rattle.file_format.specs.FileHeaders.{header_with};
 ghost use Rattle.file_format.specs.HistoriesFormat.{histories_format};
 ghost use Rattle.file_format.specs.Readings.{Reads};
+ghost use Rattle.history_file.specs.Openings.{histories_open, halls_tell};
 
-use crate::format::Contents;
-use file_format::{FaultKind, FileFault, FileHeader, HallHistories, HallRow, LineFault, Stop};
+use crate::body::Body;
+use file_format::{FileHeader, HallHistories, HallRow, LineFault, Stop};
 use recorder::Histories;
 use row_lines::RowLines;
 use std::alloc::Global;
@@ -18,10 +20,10 @@ pub struct NumberedHistories {
     pub lines: Vec<RowLines>,
 }
 
-/// The same while the lines come: before the header there are no histories and no lists.
+/// The same while the lines come.
 #[derive(Drop)]
 pub struct NumberedHalls {
-    halls: Option<HallHistories>,
+    halls: HallHistories,
     lines: Vec<RowLines>,
 }
 
@@ -37,9 +39,11 @@ fn empty_lists(alloc: Global, count: u8) -> Result<Vec<RowLines>, Memory>
     Ok(lists)
 }
 
-impl Contents for NumberedHalls {
+impl Body for NumberedHalls {
     ghost use Rattle.history_file.specs.Making.{MakesNumberedHalls};
     ghost use Rattle.history_file.specs.NumberedRows.{MakesNumbered};
+
+    type Header = FileHeader;
 
     type Item = HallRow;
 
@@ -49,21 +53,17 @@ impl Contents for NumberedHalls {
 
     ghost Makes = { MakesNumberedHalls };
 
+    ghost told = { λ numbered. header_with (length numbered.halls.halls) numbered.halls.quorums };
+
     ghost ReadsWhole = { Reads histories_format MakesNumbered };
 
-    fn opening(alloc: Global) -> NumberedHalls {
-        NumberedHalls {
-            halls: None,
-            lines: Vec::new(alloc),
-        }
-    }
-
     fn begin(alloc: Global, line: &[u8]) -> Result<NumberedHalls, Stop> {
-        let halls = <Option<HallHistories> as Contents>::begin(alloc, line)?;
-        match empty_lists(alloc, halls.header().halls()) {
-            Ok(lines) => Ok(NumberedHalls { halls, lines }),
-            Err(_) => Err(Stop::Memory),
-        }
+        let histories = <HallHistories as Body>::begin(alloc, line)?;
+        let lines = empty_lists(alloc, histories.header().halls())?;
+        Ok(NumberedHalls {
+            halls: histories,
+            lines,
+        })
     }
 
     fn header(&self) -> FileHeader {
@@ -75,26 +75,22 @@ impl Contents for NumberedHalls {
         if hall >= self.lines.len() {
             return Err(Stop::Fault(LineFault::Range));
         }
-        self.halls.follow(line, item)?;
-        match self.lines[hall].push(line) {
-            Ok(()) => Ok(()),
-            Err(_) => Err(Stop::Memory),
-        }
+        self.halls.follow(item)?;
+        self.lines[hall].push(line)?;
+        Ok(())
     }
 
-    fn whole(self) -> Result<NumberedHistories, FileFault> {
+    fn whole(self) -> NumberedHistories {
         let NumberedHalls { halls, lines } = self;
-        match halls {
-            Some(halls) => Ok(NumberedHistories {
-                histories: halls.into_histories(),
-                lines,
-            }),
-            None => Err(FileFault {
-                line: 1,
-                kind: FaultKind::Line(LineFault::NoHeader),
-            }),
+        NumberedHistories {
+            histories: halls.into_histories(),
+            lines,
         }
     }
 
     ghost says = { λ header. refl };
+
+    ghost opens = { histories_open };
+
+    ghost tells = { λ header items numbered made. halls_tell header items numbered.halls made.made };
 }

@@ -2,11 +2,10 @@
 ghost use Rattle.std.specs.Prelude.{◌≡◌, ◌≤◌, [], refl};
 ghost use Rattle.file_format.specs.OrderFormat.{order_format, MakesJoined};
 ghost use Rattle.file_format.specs.Readings.{Reads};
+ghost use Rattle.history_file.specs.Openings.{orders_open};
 
-use crate::format::Contents;
-use file_format::{
-    FileFault, JoinedOrders, LineFault, MOST_CALLS, OrderPiece, Stop, join, judge_header,
-};
+use crate::body::Body;
+use file_format::{JoinedOrders, LineFault, MOST_CALLS, OrderPiece, Stop, join, judge_header};
 use recorder::KeyOrder;
 use std::alloc::Global;
 use std::marker::Model;
@@ -48,8 +47,10 @@ impl Orders {
     }
 }
 
-impl Contents for Orders {
+impl Body for Orders {
     ghost use Rattle.history_file.specs.Making.{MakesOrders};
+
+    type Header = ();
 
     type Item = OrderPiece;
 
@@ -59,11 +60,9 @@ impl Contents for Orders {
 
     ghost Makes = { MakesOrders };
 
-    ghost ReadsWhole = { λ bytes orders. Reads order_format MakesJoined bytes orders.items };
+    ghost told = { λ orders. tt };
 
-    fn opening(alloc: Global) -> Orders {
-        Orders::new(alloc)
-    }
+    ghost ReadsWhole = { λ bytes orders. Reads order_format MakesJoined bytes orders.items };
 
     fn begin(alloc: Global, line: &[u8]) -> Result<Orders, Stop> {
         judge_header(alloc, "orders", line)?;
@@ -82,9 +81,13 @@ impl Contents for Orders {
         Ok(())
     }
 
-    fn whole(self) -> Result<Vec<KeyOrder>, FileFault> {
-        Ok(self.into_list())
+    fn whole(self) -> Vec<KeyOrder> {
+        self.into_list()
     }
 
     ghost says = { λ header. refl };
+
+    ghost opens = { orders_open };
+
+    ghost tells = { λ header pieces orders made. refl };
 }

@@ -1,10 +1,11 @@
 //! Calls: each is a bar on its client's lifeline.
-ghost use Rattle.std.specs.Prelude.{◌≡◌, OnOk, Some, option_copied};
+ghost use Rattle.std.specs.Prelude.{◌≡◌, IfOk, OnOk, Some, slice_get};
 ghost use Rattle.message_scenes.specs.Calls.{calls_by, calls_with, is_of_call, is_pending, noted};
 ghost use Rattle.message_scenes.specs.Lists.{change_first};
 
 use crate::lists::{end_first, first_of};
-use recorder::Row;
+use recorder::{ActionRef, History, KeyRef, ReturnedRef, Row};
+use std::alloc::Global;
 use tag::{Action, ClientId, Key, Memory, OpId, Returned, Tag};
 use world_steps::Step;
 
@@ -48,23 +49,45 @@ impl CallEnd {
     }
 }
 
+/// An equal action, with a text of its own.
+fn owned_action(alloc: Global, action: &ActionRef<'_>) -> Result<Action, Memory>
+    ensures { IfOk result (λ own. own ≡ action.now) }
+{
+    match action.written() {
+        None => Ok(Action::Read),
+        Some(value) => Ok(Action::Write(value.to_value(alloc)?)),
+    }
+}
+
+/// An equal answer, with a text of its own.
+fn owned_answer(alloc: Global, returned: &ReturnedRef<'_>) -> Result<Returned, Memory>
+    ensures { IfOk result (λ own. own ≡ returned.now) }
+{
+    match returned.answered() {
+        None => Ok(Returned::Written),
+        Some(None) => Ok(Returned::Value(None)),
+        Some(Some(value)) => Ok(Returned::Value(Some(value.to_value(alloc)?))),
+    }
+}
+
 /// Adds the bar of a call that begins.
 fn begin(
     bars: &mut Vec<CallBar>,
     row: usize,
     call: OpId,
     client: ClientId,
-    key: &Key,
-    action: &Action,
+    key: &KeyRef<'_>,
+    action: &ActionRef<'_>,
 ) -> Result<(), Memory>
     ensures { OnOk result (bars.new.items
         ≡ calls_with row (Some (Row.Invoke call client key.now action.now)) bars.old.items) }
 {
+    let alloc = *bars.allocator();
     bars.push(CallBar {
         call,
         client,
-        key: key.copy()?,
-        action: action.copy()?,
+        key: key.key().copy()?,
+        action: owned_action(alloc, action)?,
         begins: row,
         note: None,
         end: CallEnd::Open,
@@ -83,11 +106,10 @@ fn note(bars: &mut [CallBar], row: usize, op: OpId, tag: Tag)
 }
 
 /// Adds, notes or ends a bar by a row of the record.
-fn record_row(bars: &mut Vec<CallBar>, row: usize, recorded: Option<&Row>) -> Result<(), Memory>
-    ensures { OnOk result
-        (bars.new.items ≡ calls_with row (option_copied recorded.entry) bars.old.items) }
+fn record_row(bars: &mut Vec<CallBar>, row: usize, recorded: Option<Row<'_>>) -> Result<(), Memory>
+    ensures { OnOk result (bars.new.items ≡ calls_with row recorded.entry bars.old.items) }
 {
-    match recorded {
+    match &recorded {
         None => Ok(()),
         Some(
             Row::Invoke {
@@ -102,10 +124,21 @@ fn record_row(bars: &mut Vec<CallBar>, row: usize, recorded: Option<&Row>) -> Re
             Ok(())
         }
         Some(Row::Respond { op, returned }) => {
-            let returned = returned.copy()?;
+            let returned = owned_answer(*bars.allocator(), returned)?;
             end_first(bars, *op, CallEnd::Answered { row, returned });
             Ok(())
         }
+    }
+}
+
+/// The row of the record at that place, if it has one.
+pub(crate) fn row_at(history: &History, place: usize) -> Option<Row<'_>>
+    ensures { result ≡ slice_get history.now.rows place }
+{
+    if place < history.row_count() {
+        Some(history.row(place))
+    } else {
+        None
     }
 }
 
@@ -114,10 +147,10 @@ pub(crate) fn add_calls(
     bars: &mut Vec<CallBar>,
     row: usize,
     step: &Step,
-    recorded: Option<&Row>,
+    recorded: Option<Row<'_>>,
 ) -> Result<(), Memory>
-    ensures { OnOk result (bars.new.items
-        ≡ calls_by row step.now (option_copied recorded.entry) bars.old.items) }
+    ensures { OnOk result
+        (bars.new.items ≡ calls_by row step.now recorded.entry bars.old.items) }
 {
     match step {
         Step::StopClient { client } => {

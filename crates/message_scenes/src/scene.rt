@@ -11,7 +11,7 @@ ghost use Rattle.message_scenes.specs.Sketches.{shapes_of};
 ghost use Rattle.message_scenes.specs.Taken.{taken_step};
 
 use crate::arrows::{Arrow, add_arrows};
-use crate::calls::{CallBar, add_calls};
+use crate::calls::{CallBar, add_calls, row_at};
 use crate::replicas::{Change, DownTime, add_downs, change_of};
 use fault_script::{Command, NumberedCommand};
 use std::alloc::Global;
@@ -127,7 +127,7 @@ impl MessageScene {
         ensures omitted { OnOk result (self.new.omitted ≡ self.old.omitted) }
     {
         let row = self.rows.len();
-        let (sent, recorded) = (world.pool().sent(), world.history().rows().len());
+        let (sent, recorded) = (world.pool().sent(), world.history().row_count());
         add_change(&mut self.changes, world, row, &step)?;
         take(world, step.copy()?)?;
         self.add_after(world, row, &step, sent, recorded)?;
@@ -165,7 +165,7 @@ impl MessageScene {
             &mut self.calls,
             row,
             step,
-            world.history().rows().get(recorded),
+            row_at(world.history(), recorded),
         )?;
         add_downs(&mut self.downs, row, step)
     }

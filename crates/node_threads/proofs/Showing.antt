@@ -44,14 +44,14 @@ shows law seen history s hall log copied enough same is = record {
 
 -- the same of what the calls gave
 pub shown_by : {Item : Type 0} → HaveSoundParts
-    → (look : Item → Entry) (seen rows : List Row) (history : Recorded) (s : Seat) (hall count client : ℕ) (items given : List Item)
+    → (look : Item → Entry) (seen : List Row) (history : Recorded) (s : Seat) (hall count rows client : ℕ) (items given : List Item)
     (log : List Entry)
-    → IsCopied seen history → rows ≡ history.rows → count ≡ seen_in s hall → count ≤ length rows → log ≡ s.log → map look items ≡ of_hall
+    → IsCopied seen history → rows ≡ length history.rows → count ≡ seen_in s hall → count ≤ rows → log ≡ s.log → map look items ≡ of_hall
     hall log → given ≡ items → client ≡ s.client
     → IsLog history.rows client (map look given) → IsSnapshotFor history s hall
-shown_by law look seen rows history s hall count client items given log copied rows_are count_is enough log_is found given_are client_is
+shown_by law look seen history s hall count rows client items given log copied rows_are count_is enough log_is found given_are client_is
     is =
     shows law seen history s hall (map look given) copied
-    (subst (λ (l : List Row). seen_in s hall ≤ length l) rows_are (subst (λ n. n ≤ length rows) count_is enough))
+    (subst (λ n. seen_in s hall ≤ n) rows_are (subst (λ n. n ≤ rows) count_is enough))
     (ap (map look) given_are ∙ found ∙ ap (of_hall hall) log_is)
     (subst (λ n. IsLog history.rows n (map look given)) client_is is)

@@ -23,7 +23,7 @@ pub(crate) fn snapshot_of<R: Wait>(
     let at = usize::from(hall);
     let history = root.lock(rt).history(rt)?;
     let entries = entries_of_hall(alloc, seat.log(), at)?;
-    if history.rows().len() < seat.seen(hall) {
+    if history.row_count() < seat.seen(hall) {
         return Err(CallError::Foreign);
     }
     if !is_log(&history, seat.client(), &entries) {

@@ -43,10 +43,10 @@ module _ (checked : List CheckedKey) where
       same_one i other here at = let twice : Some one ≡ Some other = sym at_one ∙ ap (slice_get checked) (sym here) ∙ at in cc
 
 -- the verdict at a key's index is the key's
-pub verdict_at : (keys : List KeyToCheck) (index : ℕ) (key : KeyToCheck) (verdict : Verdict) → index < length keys → key ≡ get_or keys index key → IsVerdictAt (map (λ (p : KeyToCheck). p.part.now) keys) (map (λ (p : KeyToCheck). p.order.now) keys) index verdict → IsVerdict key.part.now key.order.now verdict
+pub verdict_at : (keys : List KeyToCheck) (index : ℕ) (key : KeyToCheck) (verdict : Verdict) → index < length keys → key ≡ get_or keys index key → IsVerdictAt (map (λ (p : KeyToCheck). p.part) keys) (map (λ (p : KeyToCheck). p.order.now) keys) index verdict → IsVerdict key.part key.order.now verdict
 verdict_at keys index key verdict below is at =
     let here = slice_get_read keys (length keys) index key refl below is in
-    let part_is : at.part ≡ key.part.now = same_Some at.part key.part.now (sym at.part_at ∙ slice_get-map (λ (p : KeyToCheck). p.part.now) keys index ∙ ap (option_map (λ (p : KeyToCheck). p.part.now)) here) in
+    let part_is : at.part ≡ key.part = same_Some at.part key.part (sym at.part_at ∙ slice_get-map (λ (p : KeyToCheck). p.part) keys index ∙ ap (option_map (λ (p : KeyToCheck). p.part)) here) in
     let order_is : at.order ≡ key.order.now = same_Some at.order key.order.now (sym at.order_at ∙ slice_get-map (λ (p : KeyToCheck). p.order.now) keys index ∙ ap (option_map (λ (p : KeyToCheck). p.order.now)) here) in
     rw (part_is, order_is) at at.checked
 

@@ -1,5 +1,5 @@
 -- Keys that have parts, and those that only orders have.
-use Rattle.std.proofs.Common.{append-nil, ℕ, ◌≡◌, inl, inr, Bool, true, false, cond, List, [], ◌∷◌, ◌++◌, Option, Some, None, is_none, length, map, filter, take, get_or, ◌+◌, ◌<◌, subst, refl, sym, ap, ◌∙◌, append_assoc, arith}
+use Rattle.std.proofs.Common.{append-nil, ℕ, ◌≡◌, inl, inr, Bool, true, false, cond, List, [], ◌∷◌, ◌++◌, Option, Some, None, is_none, length, map, filter, take, get_or, ◌+◌, ◌<◌, subst, refl, sym, ap, ap₂, ◌∙◌, append_assoc, arith}
 use Rattle.std.specs.List.{slice_get, Contains}
 use Rattle.std.specs.Str.{bytes_eq}
 use Rattle.std.specs.Map.{lookup}
@@ -14,7 +14,7 @@ use Rattle.key_index.specs.Numbers.{Numbers, known, first}
 use Rattle.parallel_keys.specs.declared.collect_keys.NumberedKey.{NumberedKey}
 use Rattle.parallel_keys.specs.CheckedKeys.{CheckedKey, KeyParts, all_parts, given_order, is_other, keys_in, recorded_key}
 use Rattle.parallel_keys.specs.KeysToCheck.{AreNumbered, HasKeys, entry_of}
-use Rattle.parallel_keys.proofs.Fronts.{mapped_more}
+use Rattle.parallel_keys.proofs.Fronts.{front_at, mapped_more}
 
 -- a key more
 has_more : (old new others : List (List ℕ)) (key : List ℕ) (number : ℕ) → HasKeys old others → Numbers old key number new → HasKeys new (others ++ key ∷ [])
@@ -117,12 +117,18 @@ parts_more parts_in maps i own old new below is so_far grown =
     grown ∙ ap (λ (l : KeyParts). l ++ parts_in own) so_far
     ∙ sym (ap all_parts (mapped_more parts_in maps i own below is) ∙ joined_more (map parts_in (take i maps)) (parts_in own))
 
--- the checked keys up to a further one that has a part
-pub checked_more : (orders : List KeyOrder) (keys : List NumberedKey) (i : ℕ) (own : NumberedKey) (before old new : List CheckedKey) (order : List OpId) → i < length keys → own ≡ get_or keys i own → order ≡ given_order orders own.key.now → old ≡ before ++ map (recorded_key orders) (map entry_of (take i keys)) → new ≡ old ++ record { key = own.key.now; part = own.part.now; order = order } ∷ [] → new ≡ before ++ map (recorded_key orders) (map entry_of (take (i + 1) keys))
-checked_more orders keys i own before old new order below is given so_far grown =
-    let f = λ (l : List NumberedKey). map (recorded_key orders) (map entry_of l) in
-    let one : CheckedKey = recorded_key orders (entry_of own) in
-    grown ∙ ap (λ (o : List OpId). old ++ record { key = own.key.now; part = own.part.now; order = o } ∷ []) given
-    ∙ ap (λ (l : List CheckedKey). l ++ one ∷ []) so_far
-    ∙ append_assoc before (f (take i keys)) (one ∷ [])
-    ∙ ap (λ (l : List CheckedKey). before ++ l) (sym (ap (map (recorded_key orders)) (mapped_more entry_of keys i own below is) ∙ map-append (recorded_key orders) (map entry_of (take i keys)) (entry_of own ∷ [])))
+-- the checked keys, with a further one that has a part
+pub checked_more : (orders : List KeyOrder) (own : NumberedKey) (rest : List NumberedKey) (old new all : List CheckedKey) (order : List OpId) → order ≡ given_order orders own.key.now → old ++ map (recorded_key orders) (map entry_of (own ∷ rest)) ≡ all → new ≡ old ++ record { key = own.key.now; part = own.part; order = order } ∷ [] → new ++ map (recorded_key orders) (map entry_of rest) ≡ all
+checked_more orders own rest old new all order given so_far grown =
+    let after = map (recorded_key orders) (map entry_of rest) in
+    ap (λ (l : List CheckedKey). l ++ after) (grown ∙ ap (λ (o : List OpId). old ++ record { key = own.key.now; part = own.part; order = o } ∷ []) given)
+    ∙ append_assoc old (recorded_key orders (entry_of own) ∷ []) after
+    ∙ so_far
+
+-- the entries up to a further one
+pub entries_more : (entries : KeyParts) (place : ℕ) (own : NumberedKey) (entry : List ℕ × List Call) (start : KeyParts) (old new : List NumberedKey) → slice_get entries place ≡ Some entry → entry_of own ≡ entry → map entry_of old ≡ start ++ take place entries → new ≡ old ++ own ∷ [] → map entry_of new ≡ start ++ take (place + 1) entries
+entries_more entries place own entry start old new at same so_far grown =
+    ap (map entry_of) grown ∙ map-append entry_of old (own ∷ [])
+    ∙ ap₂ (λ (l : KeyParts) (e : List ℕ × List Call). l ++ e ∷ []) so_far same
+    ∙ append_assoc start (take place entries) (entry ∷ [])
+    ∙ ap (λ (l : KeyParts). start ++ l) (sym (front_at entries place entry at))

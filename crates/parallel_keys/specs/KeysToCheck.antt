@@ -14,11 +14,11 @@ use Rattle.parallel_keys.specs.CheckedKeys.{CheckedKey, KeyParts, is_other, keys
 
 -- what is checked of a key
 abbrev pub what_of : KeyToCheck → CheckedKey
-what_of own = record { key = own.key.now; part = own.part.now; order = own.order.now }
+what_of own = record { key = own.key.now; part = own.part; order = own.order.now }
 
 -- a key with its part
 abbrev pub entry_of : NumberedKey → List ℕ × List Call
-entry_of own = (own.key.now, own.part.now)
+entry_of own = (own.key.now, own.part)
 
 -- the two lists have the same keys
 pub record HasKeys (keys others : List (List ℕ)) : Type 0 where

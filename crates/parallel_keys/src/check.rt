@@ -6,6 +6,7 @@ ghost use Rattle.parallel_keys.specs.Workers.{MayFail, worker_limit};
 
 use crate::error::CheckError;
 use crate::gate::CheckGate;
+use crate::scoped::{spawn, within};
 use crate::share::{Share, share_of};
 use crate::weave_verdicts::weave;
 use crate::workers::Workers;
@@ -13,7 +14,6 @@ use certificate_check::Verdict;
 use recorder::Part;
 use std::alloc::Global;
 use std::sync::Wait;
-use std::thread;
 use std::thread::{PromisedHandle, Scope, Threads};
 use tag::{Memory, OpId};
 
@@ -40,7 +40,8 @@ fn start<'s, 'e: 's, G: CheckGate + Sync>(
         worker,
         workers,
     } = share;
-    Ok(scope.spawn_with(
+    Ok(spawn(
+        scope,
         share,
         move || -> Result<Vec<Verdict>, Memory>
             requires { (length parts.now ≡ length orders.now)
@@ -87,7 +88,7 @@ fn run_workers<'s, 'e: 's, R: Threads, G: CheckGate + Sync>(
 pub fn check_all<R: Threads + Wait, G: CheckGate + Sync>(
     rt: &R,
     alloc: Global,
-    parts: &[&Part],
+    parts: &[&Part<'_>],
     orders: &[&[OpId]],
     workers: Workers,
     gate: &G,
@@ -97,8 +98,7 @@ pub fn check_all<R: Threads + Wait, G: CheckGate + Sync>(
         (map (λ o. o.now) orders.now) verdicts.items) (MayFail workers) }
 {
     let count = usize::from(workers.count());
-    let lists = thread::scope(
-        thread::scope_env(),
+    let lists = within(
         rt,
         |scope| -> Result<Vec<Vec<Verdict>>, CheckError>
             requires { (length parts.now ≡ length orders.now)

@@ -11,18 +11,18 @@ use std::alloc::Global;
 use tag::{Key, Memory, OpId};
 
 /// A key, with its part and its order.
-#[derive(Clone, Copy, Debug)]
+#[derive(Debug, Drop)]
 pub struct KeyToCheck<'a> {
     pub key: &'a Key,
-    pub part: &'a Part,
+    pub part: Part<'a>,
     pub order: &'a [OpId],
 }
 
 /// A key that has a part, with its number among all such keys.
-#[derive(Clone, Copy)]
+#[derive(Drop)]
 struct NumberedKey<'a> {
     key: &'a Key,
-    part: &'a Part,
+    part: Part<'a>,
     number: usize,
 }
 
@@ -35,7 +35,7 @@ struct RecordedKeys<'a> {
 
 impl<'a> RecordedKeys<'a> {
     /// The keys of these parts.
-    fn new(alloc: Global, parts: &'a [Parts]) -> Result<RecordedKeys<'a>, Memory>
+    fn new(alloc: Global, parts: &'a [Parts<'a>]) -> Result<RecordedKeys<'a>, Memory>
         ensures entries { IfOk result (λ keys. map entry_of keys.list.items
             ≡ all_parts (map (λ p. p.entries) parts.now)) }
         ensures numbers { IfOk result (λ keys. AreNumbered keys.numbers keys.list.items) }
@@ -43,7 +43,7 @@ impl<'a> RecordedKeys<'a> {
         let mut list = Vec::new(alloc);
         let mut numbers = KeyNumbers::new(alloc);
         for own in parts {
-            number_keys(own.entries(), &mut list, &mut numbers)?;
+            number_keys(own, &mut list, &mut numbers)?;
         }
         Ok(RecordedKeys { list, numbers })
     }
@@ -51,16 +51,18 @@ impl<'a> RecordedKeys<'a> {
 
 /// Adds the keys of a history's parts, each with its number.
 fn number_keys<'a>(
-    parts: &'a [(Key, Part)],
+    parts: &'a Parts<'a>,
     list: &mut Vec<NumberedKey<'a>>,
     numbers: &mut KeyNumbers,
 ) -> Result<(), Memory>
     requires { AreNumbered numbers.old list.old.items }
     ensures entries { OnOk result (map entry_of list.new.items
-        ≡ map entry_of list.old.items ++ parts.now) }
+        ≡ map entry_of list.old.items ++ parts.now.entries) }
     ensures numbers { OnOk result (AreNumbered numbers.new list.new.items) }
 {
-    for (key, part) in parts {
+    for place in 0..parts.len() {
+        let (text, part) = parts.entry(place);
+        let key = text.key();
         let number = numbers.number(key)?;
         list.push(NumberedKey { key, part, number })?;
     }
@@ -114,17 +116,17 @@ impl<'a> OrderTable<'a> {
 /// Adds the keys that have parts, each with the order that is given for it, or the empty one.
 fn add_recorded<'a>(
     keys: &mut Vec<KeyToCheck<'a>>,
-    recorded: &RecordedKeys<'a>,
+    recorded: RecordedKeys<'a>,
     table: &OrderTable<'a>,
 ) -> Result<(), Memory>
-    requires numbers { AreNumbered recorded.now.numbers recorded.now.list.items }
-    requires given { length table.now.given.items ≡ length recorded.now.numbers }
+    requires numbers { AreNumbered recorded.numbers recorded.list.items }
+    requires given { length table.now.given.items ≡ length recorded.numbers }
     ensures { OnOk result ((orders : List KeyOrder)
-        → IsOrderTable recorded.now.numbers orders table.now
+        → IsOrderTable recorded.entry.numbers orders table.now
         → map what_of keys.new.items ≡ map what_of keys.old.items
-        ++ map (recorded_key orders) (map entry_of recorded.now.list.items)) }
+        ++ map (recorded_key orders) (map entry_of recorded.entry.list.items)) }
 {
-    for own in &recorded.list {
+    for own in recorded.list {
         keys.push(KeyToCheck {
             key: own.key,
             part: own.part,
@@ -135,19 +137,14 @@ fn add_recorded<'a>(
 }
 
 /// Adds the keys of these orders, each with a part without a call.
-fn add_others<'a>(
-    keys: &mut Vec<KeyToCheck<'a>>,
-    others: &[&'a KeyOrder],
-    nothing: &'a Part,
-) -> Result<(), Memory>
-    requires { nothing.now ≡ [] }
+fn add_others<'a>(keys: &mut Vec<KeyToCheck<'a>>, others: &[&'a KeyOrder]) -> Result<(), Memory>
     ensures { OnOk result (map what_of keys.new.items ≡ map what_of keys.old.items
         ++ map other_key (map (λ one. one.now) others.now)) }
 {
     for one in others {
         keys.push(KeyToCheck {
             key: &one.key,
-            part: nothing,
+            part: Part::empty(),
             order: one.order.as_slice(),
         })?;
     }
@@ -155,22 +152,20 @@ fn add_others<'a>(
 }
 
 /// What is checked of these parts and orders: the keys that have parts, in order, then those that
-/// only the orders have, whose part is `nothing`.
+/// only the orders have, whose part has no call.
 pub fn keys_to_check<'a>(
     alloc: Global,
-    parts: &'a [Parts],
+    parts: &'a [Parts<'a>],
     orders: &'a [KeyOrder],
-    nothing: &'a Part,
 ) -> Result<Vec<KeyToCheck<'a>>, Memory>
-    requires distinct { AreDistinct orders.now }
-    requires nothing { nothing.now ≡ [] }
+    requires { AreDistinct orders.now }
     ensures { IfOk result (λ keys. map what_of keys.items
         ≡ checked_keys (all_parts (map (λ p. p.entries) parts.now)) orders.now) }
 {
     let recorded = RecordedKeys::new(alloc, parts)?;
     let table = OrderTable::new(alloc, &recorded.numbers, orders)?;
     let mut keys = Vec::with_capacity(alloc, recorded.list.len())?;
-    add_recorded(&mut keys, &recorded, &table)?;
-    add_others(&mut keys, &table.others, nothing)?;
+    add_recorded(&mut keys, recorded, &table)?;
+    add_others(&mut keys, &table.others)?;
     Ok(keys)
 }

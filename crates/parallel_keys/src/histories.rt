@@ -21,17 +21,17 @@ use tag::{Key, Memory, OpId};
 /// The parts and the orders of the keys.
 fn parts_and_orders<'a>(
     alloc: Global,
-    keys: &[KeyToCheck<'a>],
-) -> Result<(Vec<&'a Part>, Vec<&'a [OpId]>), Memory>
+    keys: &'a [KeyToCheck<'a>],
+) -> Result<(Vec<&'a Part<'a>>, Vec<&'a [OpId]>), Memory>
     ensures parts { IfOk result (λ both.
-        map (λ p. p.now) both.0.items ≡ map (λ p. p.part.now) keys.now) }
+        map (λ p. p.now) both.0.items ≡ map (λ p. p.part) keys.now) }
     ensures orders { IfOk result (λ both.
         map (λ o. o.now) both.1.items ≡ map (λ p. p.order.now) keys.now) }
 {
     let mut parts = Vec::with_capacity(alloc, keys.len())?;
     let mut orders = Vec::with_capacity(alloc, keys.len())?;
     for key in keys {
-        parts.push(key.part)?;
+        parts.push(&key.part)?;
         orders.push(key.order)?;
     }
     Ok((parts, orders))
@@ -43,7 +43,7 @@ fn with_keys(
     keys: &[KeyToCheck<'_>],
     verdicts: &[KeyVerdict],
 ) -> Result<Vec<(Key, Verdict)>, Memory>
-    requires { AreVerdicts (map (λ p. p.part.now) keys.now)
+    requires { AreVerdicts (map (λ p. p.part) keys.now)
         (map (λ p. p.order.now) keys.now) verdicts.now }
     ensures { IfOk result (λ keyed. AreOn (map what_of keys.now) keyed.items) }
 {
@@ -74,7 +74,7 @@ fn check_keys<R: Threads + Wait, G: CheckGate + Sync>(
 fn check_parts<R: Threads + Wait, G: CheckGate + Sync>(
     rt: &R,
     alloc: Global,
-    parts: &[Parts],
+    parts: &[Parts<'_>],
     orders: &[KeyOrder],
     workers: Workers,
     gate: &G,
@@ -84,8 +84,7 @@ fn check_parts<R: Threads + Wait, G: CheckGate + Sync>(
         AreOn (checked_keys (all_parts (map (λ p. p.entries) parts.now)) orders.now) keyed.items)
         (MayFail workers) }
 {
-    let nothing = Part::empty(alloc);
-    let keys = keys_to_check(alloc, parts, orders, &nothing)?;
+    let keys = keys_to_check(alloc, parts, orders)?;
     check_keys(rt, alloc, &keys, workers, gate)
 }
 
@@ -113,7 +112,7 @@ pub fn check_history<R: Threads + Wait, G: CheckGate + Sync>(
 }
 
 /// The parts of each history's keys, the histories in their order, in each the keys first seen first.
-pub fn hall_parts(alloc: Global, histories: &[History]) -> Result<Vec<Parts>, Memory>
+pub fn hall_parts(alloc: Global, histories: &[History]) -> Result<Vec<Parts<'_>>, Memory>
     ensures { IfOk result (λ parts. AreHallParts histories.now (map (λ p. p.entries) parts.items)) }
 {
     let mut parts = Vec::with_capacity(alloc, histories.len())?;

@@ -12,6 +12,7 @@ mod distinct;
 mod error;
 mod gate;
 mod histories;
+mod scoped;
 mod share;
 mod weave_verdicts;
 mod workers;

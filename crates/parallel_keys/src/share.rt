@@ -12,7 +12,7 @@ use tag::{Memory, OpId};
 /// and so on. As a promise it says what the worker's list of verdicts is.
 #[derive(Clone, Copy)]
 pub struct Share<'a> {
-    pub parts: &'a [&'a Part],
+    pub parts: &'a [&'a Part<'a>],
     pub orders: &'a [&'a [OpId]],
     pub worker: usize,
     pub workers: usize,
@@ -20,7 +20,7 @@ pub struct Share<'a> {
 
 /// The share of that worker.
 pub(crate) fn share_of<'a>(
-    parts: &'a [&'a Part],
+    parts: &'a [&'a Part<'a>],
     orders: &'a [&'a [OpId]],
     worker: usize,
     workers: usize,

@@ -11,7 +11,7 @@ use tag::{Memory, OpId};
 /// The verdicts in order of index: that at index i is number i / k of worker i % k.
 pub(crate) fn weave(
     alloc: Global,
-    parts: &[&Part],
+    parts: &[&Part<'_>],
     orders: &[&[OpId]],
     lists: &[Vec<Verdict>],
 ) -> Result<Vec<KeyVerdict>, Memory>

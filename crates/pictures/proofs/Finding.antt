@@ -1,7 +1,6 @@
 -- A call that is found by its number.
-use Rattle.std.proofs.Common.{ℕ, ◌≡◌, ◌<◌, ◌==◌, Bool, true, false, cond, suc, zero, List, [], ◌∷◌, Option, Some, None, refl, sym, ap, ◌∙◌, arith}
+use Rattle.std.proofs.Common.{ℕ, ◌≡◌, ◌<◌, ◌==◌, Bool, true, false, cond, suc, zero, List, [], ◌∷◌, Some, None, refl, sym, ap, ◌∙◌, arith}
 use Rattle.std.specs.List.{slice_get, Contains, find}
-use Rattle.std.specs.Option.{IfNone, IfSome}
 use Rattle.std.proofs.lemmas.Bool.Decides.{nat_tests}
 use Rattle.std.proofs.lemmas.Option.{same_Some}
 use Rattle.tag.proofs.Lists.{Contains-slice_get}
@@ -10,7 +9,7 @@ use Rattle.tag.specs.declared.numbers.OpId.{OpId}
 use Rattle.recorder.specs.declared.part.Call.{Call}
 use Rattle.recorder.specs.Parts.{IsSequence}
 use Rattle.certificate_check.specs.Places.{HasOpAt}
-use Rattle.pictures.specs.Pictures.{call_at, call_of}
+use Rattle.pictures.specs.Pictures.{call_of}
 
 module _ {X : Type 0} (p : X → Bool) where
   -- the first element that passes is that at an index where one passes and none before
@@ -36,19 +35,22 @@ differs m n other = grind (arith, nat_tests)
 equals : (m n : ℕ) → m ≡ n → (m == n) ≡ true
 equals m n same = grind (arith, nat_tests)
 
--- what stands at an index that was found by number is the call of that number
-pub found_call : (calls : List Call) → IsSequence calls → (op : OpId) (r : Option ℕ) → IfSome r (λ k. HasOpAt calls k op)
-    → IfNone r ((call : Call) → Contains calls call → call.op ≡ op → ⊥) → call_at calls r ≡ call_of calls op
-found_call calls sequence op (Some k) found absent =
-    let call = found.0 in
-    let number : call.op.0 ≡ op.0 = ap (λ (o : OpId). o.0) found.2 in
-    found.1
-    ∙ sym
-    (find_here (λ (c : Call). c.op.0 == op.0) calls k call found.1 (equals call.op.0 op.0 number) (λ j other less there.
-    let up : other.op.0 < call.op.0 = sequence.numbers j k other call less there found.1 in
-    differs other.op.0 op.0 (λ same. omega (arith, same, up, number))))
-found_call calls sequence op None found absent =
-    sym
-    (find_none (λ (c : Call). c.op.0 == op.0) calls (λ k other there.
-    differs other.op.0 op.0 (λ same.
-    absent other (Contains-slice_get calls k other there) (ap (λ (n : ℕ). let o : OpId = record { 0 = n } in o) same))))
+module _ (calls : List Call) (op : OpId) where
+  -- the call that was found by its number is the call of that number
+  pub found_call : IsSequence calls → (k : ℕ) (call : Call) → slice_get calls k ≡ Some call → HasOpAt calls k op
+      → Some call ≡ call_of calls op
+  found_call sequence k call at found =
+      let same : call ≡ found.0 = same_Some call found.0 (sym at ∙ found.1) in
+      let number : call.op.0 ≡ op.0 = ap (λ (c : Call). c.op.0) same ∙ ap (λ (o : OpId). o.0) found.2 in
+      sym
+      (find_here (λ (c : Call). c.op.0 == op.0) calls k call at (equals call.op.0 op.0 number) (λ j other less there.
+      let up : other.op.0 < call.op.0 = sequence.numbers j k other call less there at in
+      differs other.op.0 op.0 (λ same. omega (arith, same, up, number))))
+
+  -- without one there is no call of that number
+  pub found_none : ((call : Call) → Contains calls call → call.op ≡ op → ⊥) → None ≡ call_of calls op
+  found_none absent =
+      sym
+      (find_none (λ (c : Call). c.op.0 == op.0) calls (λ k other there.
+      differs other.op.0 op.0 (λ same.
+      absent other (Contains-slice_get calls k other there) (ap (λ (n : ℕ). let o : OpId = record { 0 = n } in o) same))))

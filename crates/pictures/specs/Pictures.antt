@@ -1,6 +1,6 @@
 -- The picture of a key's calls: the ground, the line along the order, the bars and the dots.
 use Rattle.std.specs.Prelude.{ℕ, ◌==◌, Bool, nat_lt, if◌then◌else◌, List, [], ◌∷◌, length}
-use Rattle.std.specs.Prelude.{Option, Some, None, slice_get}
+use Rattle.std.specs.Prelude.{Option}
 use Rattle.std.specs.List.{find, list_any}
 use Rattle.markup.specs.Markup.{Markup, NamedText, nothing, text, element, both, each}
 use Rattle.markup.specs.declared.names.AttributeName.TheVariants as name
@@ -30,11 +30,6 @@ use Rattle.pictures.specs.Texts.{if_any, texts}
 -- the call of that number, if it is one of these
 abbrev pub call_of : List Call → OpId → Option Call
 call_of calls op = find (λ call. call.op.0 == op.0) calls
-
--- the call at that index, if there is an index
-abbrev pub call_at : List Call → Option ℕ → Option Call
-call_at calls None = None
-call_at calls (Some k) = slice_get calls k
 
 -- the class of a bar of that action
 abbrev pub class_of : Action → Bool → List ℕ

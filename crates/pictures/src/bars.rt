@@ -27,7 +27,7 @@ fn append_sentence(
     alloc: Global,
     page: &mut Vec<u8>,
     picture: &Picture<'_>,
-    call: &Call,
+    call: &Call<'_>,
 ) -> Result<(), Memory>
     ensures { OnOk result
         (page.new.items ≡ page.old.items ++ rendered (sentence picture.now call.now)) }
@@ -48,10 +48,10 @@ impl Shape for Bars<'_> {
         let Some(call) = self.picture.call_of(item.call) else {
             return Ok(());
         };
-        open_of_class(page, Element::G, self.picture.class_of(call))?;
-        append_sentence(self.alloc, page, self.picture, call)?;
+        open_of_class(page, Element::G, self.picture.class_of(&call))?;
+        append_sentence(self.alloc, page, self.picture, &call)?;
         append_shape(page, self.picture.scene, item, corner_of(&call.action))?;
-        append_texts(self.alloc, page, self.picture.scene, item, call)?;
+        append_texts(self.alloc, page, self.picture.scene, item, &call)?;
         append_closing(page, Element::G)
     }
 }

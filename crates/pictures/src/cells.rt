@@ -11,19 +11,19 @@ use labels::text_of;
 use markup::{
     Attribute, AttributeName, Element, append_closing, append_opening, append_plain, append_text,
 };
-use recorder::Response;
+use recorder::{ActionRef, Response};
 use sentences::append_number;
 use std::alloc::Global;
-use tag::{Action, Memory};
+use tag::Memory;
 
 /// What a cell says of a call.
 #[derive(Clone, Copy)]
 pub(crate) enum Content<'a> {
     Number(u64),
     /// What a call of that action does.
-    Does(&'a Action),
+    Does(&'a ActionRef<'a>),
     /// What that response answers.
-    Answers(&'a Option<Response>),
+    Answers(&'a Option<Response<'a>>),
 }
 
 /// Adds the heading of a column.

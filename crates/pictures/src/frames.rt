@@ -10,8 +10,9 @@ use crate::sizes::{BAR_FOOT, BAR_LEFT, BAR_MARGINS, BAR_TOP, FLOOR, READ_CORNER,
 use crate::style::OPEN;
 use labels::{Frame, append_polyline};
 use markup::{Attribute, AttributeName, Element, append_empty};
+use recorder::ActionRef;
 use scenes::{Bar, Scene};
-use tag::{Action, Memory};
+use tag::Memory;
 
 /// The bottom of a bar with that end.
 fn bottom_of(scene: &Scene, ends: Option<usize>) -> u64
@@ -41,12 +42,12 @@ fn frame_of(scene: &Scene, bar: &Bar) -> Frame
 }
 
 /// How round the corners are of a bar of that action.
-pub(crate) fn corner_of(action: &Action) -> u8
+pub(crate) fn corner_of(action: &ActionRef<'_>) -> u8
     ensures { result ≡ corner_of action.now }
 {
-    match action {
-        Action::Read => READ_CORNER,
-        Action::Write(_) => WRITE_CORNER,
+    match action.written() {
+        None => READ_CORNER,
+        Some(_) => WRITE_CORNER,
     }
 }
 

@@ -11,7 +11,6 @@
 mod bars;
 mod cells;
 mod dots;
-mod find;
 mod frames;
 mod ground;
 pub mod laws;

@@ -1,6 +1,5 @@
 //! The picture of one key's calls.
 ghost use Rattle.std.specs.Prelude.{◌≡◌, ◌++◌, OnOk};
-ghost use Rattle.std.specs.Option.{option_copied};
 ghost use Rattle.markup.specs.Markup.{opening_tag, rendered};
 ghost use Rattle.markup.specs.declared.names.Element.TheVariants as tag;
 ghost use Rattle.pictures.specs.Layout.{IsInOrder};
@@ -9,19 +8,19 @@ ghost use Rattle.pictures.specs.Pictures.{picture_markup, picture_title, svg_att
 
 use crate::bars::Bars;
 use crate::dots::Dots;
-use crate::find::find;
 use crate::ground::{Guides, Names, Ticks};
 use crate::layout::{across, down, rows_of};
 use crate::path::append_path;
 use crate::sizes::{BOTTOM, FOOT_BASE, LONG, NAMES_BASE, RIGHT};
 use crate::style::{FAULTY_READ, FAULTY_WRITE, PICTURE, READ, TITLE, WRITE};
+use certificate_check::find_call;
 use explanations::HallRows;
 use labels::{append_each, append_each_indexed, open_image};
 use markup::{Element, append_closing, append_opening, append_text, open_of_class};
 use recorder::{Call, Part};
 use scenes::Scene;
 use std::alloc::Global;
-use tag::{Action, Key, Memory, OpId};
+use tag::{Key, Memory, OpId};
 
 /// What a picture shows: the calls of a key, as a scene of them has them.
 #[derive(Clone, Copy)]
@@ -30,7 +29,7 @@ pub struct Picture<'a> {
     /// The rows of the key's hall, and the line of each.
     pub hall: HallRows<'a>,
     /// The calls on the key.
-    pub part: &'a Part,
+    pub part: &'a Part<'a>,
     pub scene: &'a Scene,
     /// The calls that show why the key is refused.
     pub faulty: &'a [OpId],
@@ -45,23 +44,23 @@ impl<'a> Picture<'a> {
     }
 
     /// The class of what is drawn of the call.
-    pub(crate) fn class_of(&self, call: &Call) -> &'static str
+    pub(crate) fn class_of(&self, call: &Call<'_>) -> &'static str
         ensures { result.now ≡ class_of call.now.action (is_faulty self.now call.now.op) }
     {
         let is_faulty = self.is_faulty(call.op);
-        match &call.action {
-            Action::Read => if is_faulty { FAULTY_READ } else { READ },
-            Action::Write(_) => if is_faulty { FAULTY_WRITE } else { WRITE },
+        match call.action.written() {
+            None => if is_faulty { FAULTY_READ } else { READ },
+            Some(_) => if is_faulty { FAULTY_WRITE } else { WRITE },
         }
     }
 
     /// The call of that number, if the part has it.
-    pub(crate) fn call_of(&self, op: OpId) -> Option<&'a Call>
-        ensures { option_copied result ≡ call_of self.now.part.now op }
+    pub(crate) fn call_of(&self, op: OpId) -> Option<Call<'a>>
+        ensures { result ≡ call_of self.now.part.now op }
     {
-        let calls = self.part.calls();
-        match find(calls, op) {
-            Some(index) => Some(&calls[index]),
+        let _sequence = self.part.len();
+        match find_call(self.part, op) {
+            Some(index) => Some(self.part.call(index)),
             None => None,
         }
     }

@@ -57,7 +57,7 @@ fn append_headings(page: &mut Vec<u8>) -> Result<(), Memory>
 }
 
 /// Adds the cells that say what the call does.
-fn append_call_cells(alloc: Global, page: &mut Vec<u8>, call: &Call) -> Result<(), Memory>
+fn append_call_cells(alloc: Global, page: &mut Vec<u8>, call: &Call<'_>) -> Result<(), Memory>
     ensures { OnOk result (page.new.items ≡ page.old.items ++ rendered (call_cells call.now)) }
 {
     append_cell(alloc, page, &Content::Number(u64::from(call.op.0)))?;
@@ -72,7 +72,7 @@ fn append_line_cells(
     page: &mut Vec<u8>,
     hall: &HallRows<'_>,
     bar: &Bar,
-    call: &Call,
+    call: &Call<'_>,
 ) -> Result<(), Memory>
     ensures { OnOk result
         (page.new.items ≡ page.old.items ++ rendered (line_cells hall.now bar.now call.now)) }
@@ -96,9 +96,9 @@ impl Shape for Rows<'_> {
         let Some(call) = self.picture.call_of(item.call) else {
             return Ok(());
         };
-        open_of_class(page, Element::Tr, self.picture.class_of(call))?;
-        append_call_cells(self.alloc, page, call)?;
-        append_line_cells(self.alloc, page, &self.picture.hall, item, call)?;
+        open_of_class(page, Element::Tr, self.picture.class_of(&call))?;
+        append_call_cells(self.alloc, page, &call)?;
+        append_line_cells(self.alloc, page, &self.picture.hall, item, &call)?;
         append_closing(page, Element::Tr)
     }
 }

@@ -37,7 +37,12 @@ fn text_class(text: BarText) -> &'static str
 }
 
 /// Adds what such a text says of the call.
-fn say_text(words: &mut Vec<u8>, text: BarText, call: &Call, briefly: bool) -> Result<(), Memory>
+fn say_text(
+    words: &mut Vec<u8>,
+    text: BarText,
+    call: &Call<'_>,
+    briefly: bool,
+) -> Result<(), Memory>
     ensures { OnOk result
         (words.new.items ≡ words.old.items ++ text_words text briefly call.now) }
 {
@@ -57,7 +62,7 @@ fn append_text(
     page: &mut Vec<u8>,
     scene: &Scene,
     lane: usize,
-    call: &Call,
+    call: &Call<'_>,
     text: BarText,
     place: Option<usize>,
 ) -> Result<(), Memory>
@@ -82,7 +87,7 @@ pub(crate) fn append_texts(
     page: &mut Vec<u8>,
     scene: &Scene,
     bar: &Bar,
-    call: &Call,
+    call: &Call<'_>,
 ) -> Result<(), Memory>
     requires { IsInOrder scene.now }
     ensures { OnOk result

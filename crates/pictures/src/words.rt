@@ -5,10 +5,10 @@ ghost use Rattle.pictures.specs.Words.{line_words, note_words, response_words, r
 ghost use Rattle.pictures.specs.Words.{unless};
 
 use crate::style::{ANSWER, BLANK, CALL_SIGN, DONE, NOT_ANSWERED, READS, WRITES};
-use explanations::HallRows;
-use recorder::{Call, Response};
-use sentences::{append, append_number, append_tag, append_value};
-use tag::{Action, Memory, Returned, Tag};
+use explanations::{HallRows, append_value};
+use recorder::{ActionRef, Call, Response, ReturnedRef};
+use sentences::{append, append_number, append_tag};
+use tag::{Memory, Tag};
 
 /// Adds the words where there is room for them.
 pub(crate) fn say_unless(words: &mut Vec<u8>, briefly: bool, more: &str) -> Result<(), Memory>
@@ -18,20 +18,24 @@ pub(crate) fn say_unless(words: &mut Vec<u8>, briefly: bool, more: &str) -> Resu
 }
 
 /// Adds what a call of that action does.
-pub(crate) fn say_action(words: &mut Vec<u8>, action: &Action, briefly: bool) -> Result<(), Memory>
+pub(crate) fn say_action(
+    words: &mut Vec<u8>,
+    action: &ActionRef<'_>,
+    briefly: bool,
+) -> Result<(), Memory>
     ensures { OnOk result (words.new.items ≡ words.old.items ++ action_words briefly action.now) }
 {
-    match action {
-        Action::Read => append(words, READS),
-        Action::Write(value) => {
+    match action.written() {
+        None => append(words, READS),
+        Some(value) => {
             say_unless(words, briefly, WRITES)?;
-            append_value(words, Some(value))
+            append_value(words, &Some(value))
         }
     }
 }
 
 /// Adds the call's number, and what it does.
-pub(crate) fn say_begin(words: &mut Vec<u8>, call: &Call, briefly: bool) -> Result<(), Memory>
+pub(crate) fn say_begin(words: &mut Vec<u8>, call: &Call<'_>, briefly: bool) -> Result<(), Memory>
     ensures { OnOk result (words.new.items ≡ words.old.items ++ begin_words briefly call.now) }
 {
     append_number(words, CALL_SIGN, u64::from(call.op.0))?;
@@ -40,27 +44,30 @@ pub(crate) fn say_begin(words: &mut Vec<u8>, call: &Call, briefly: bool) -> Resu
 }
 
 /// Adds what a response answers.
-fn say_returned(words: &mut Vec<u8>, returned: &Returned) -> Result<(), Memory>
+fn say_returned(words: &mut Vec<u8>, returned: &ReturnedRef<'_>) -> Result<(), Memory>
     ensures { OnOk result (words.new.items ≡ words.old.items ++ returned_words returned.now) }
 {
-    match returned {
-        Returned::Written => append(words, DONE),
-        Returned::Value(value) => append_value(words, value.as_ref()),
+    match returned.answered() {
+        None => append(words, DONE),
+        Some(value) => append_value(words, &value),
     }
 }
 
 /// Whether the response is a write's.
-fn is_written(response: &Option<Response>) -> bool
+fn is_written(response: &Option<Response<'_>>) -> bool
     ensures { result ≡ is_written response.now }
 {
     match response {
-        Some(response) => matches!(&response.returned, Returned::Written),
+        Some(response) => response.returned.answered().is_none(),
         None => false,
     }
 }
 
 /// Adds what that response answers, or that there is none.
-pub(crate) fn say_response(words: &mut Vec<u8>, response: &Option<Response>) -> Result<(), Memory>
+pub(crate) fn say_response(
+    words: &mut Vec<u8>,
+    response: &Option<Response<'_>>,
+) -> Result<(), Memory>
     ensures { OnOk result (words.new.items ≡ words.old.items ++ response_words response.now) }
 {
     match response {
@@ -72,7 +79,7 @@ pub(crate) fn say_response(words: &mut Vec<u8>, response: &Option<Response>) -> 
 /// Adds what that response answers, where a call ends.
 pub(crate) fn say_end(
     words: &mut Vec<u8>,
-    response: &Option<Response>,
+    response: &Option<Response<'_>>,
     briefly: bool,
 ) -> Result<(), Memory>
     ensures { OnOk result (words.new.items ≡ words.old.items ++ end_words briefly response.now) }

@@ -60,15 +60,15 @@ module _ (part : List Call) (order : List OpId) where
         let there = good.known place (slice_get_within order place op shows.0) in
         shows.1 there.0 (there.1.recorded, cc (there.1.listed, shows.0))
     no_order (reason.CallTwice earlier place call) shows good =
-        good.once earlier place shows.0 (within place call.now shows.1) (shows.2.0.listed ∙ sym shows.1.listed)
+        good.once earlier place shows.0 (within place call shows.1) (shows.2.0.listed ∙ sym shows.1.listed)
     no_order (reason.MissingCall call) shows good =
-        let there = good.complete call.now shows.0 shows.1 in
+        let there = good.complete call shows.0 shows.1 in
         shows.2 there.0 there.1
-    no_order (reason.PendingRead read) shows good = good.writes read.place read.call.now shows.0 shows.1 shows.2
+    no_order (reason.PendingRead read) shows good = good.writes read.place read.call shows.0 shows.1 shows.2
     no_order (reason.WrongAnswer read last) shows good =
         let wrong = shows.2 in
-        let right = good.legal read.place read.call.now wrong.1.0 shows.0 wrong.0 wrong.1.1 in
+        let right = good.legal read.place read.call wrong.1.0 shows.0 wrong.0 wrong.1.1 in
         let same : right.0 ≡ last_value last = same_last part order sequence read.place right.0 (last_value last) right.2 (last_written part order read.place last shows.1) in
         wrong.1.2 (right.1 ∙ ap Value same)
     no_order (reason.OrderBroken earlier later) shows good =
-        good.precedence earlier.place later.place earlier.call.now later.call.now shows.0 shows.1 shows.2 shows.3
+        good.precedence earlier.place later.place earlier.call later.call shows.0 shows.1 shows.2 shows.3

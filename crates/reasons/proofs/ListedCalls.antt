@@ -1,8 +1,8 @@
 -- What stands at the places of a list.
-use Rattle.std.proofs.Common.{ℕ, ◌≡◌, ◌+◌, inl, inr, List, Option, Some, None, get_or, sym, ◌∙◌, ap, subst, arith}
+use Rattle.std.proofs.Common.{ℕ, ◌≡◌, ◌+◌, inl, inr, List, Option, Some, None, sym, ◌∙◌, ap, subst, arith}
 use Rattle.std.specs.List.{slice_get}
 use Rattle.std.proofs.lemmas.Bool.{cases_lt}
-use Rattle.std.proofs.lemmas.Option.{same_Some, slice_get_within, get_or_from_slice_get}
+use Rattle.std.proofs.lemmas.Option.{same_Some, slice_get_within}
 use Rattle.tag.specs.declared.actions.Action.TheVariants.{Read}
 use Rattle.tag.specs.declared.numbers.OpId.{OpId}
 use Rattle.tag.proofs.Lists.{Contains-slice_get}
@@ -17,10 +17,10 @@ use Rattle.reasons.specs.OrderReasons.{IsLastWriteBefore, last_value}
 use Rattle.reasons.specs.declared.order_reasons.PlacedCall.{PlacedCall}
 
 -- what a search found is the part's call of that number
-pub found_at : (part : List Call) (k : ℕ) (op : OpId) (call : Call) → call ≡ get_or part k call → HasOpAt part k op → IsCallOf part op call
-found_at part k op call is found =
-    let same : call ≡ found.0 = is ∙ get_or_from_slice_get part k found.0 call found.1 in
-    subst (λ (x : Call). IsCallOf part op x) (sym same) (Contains-slice_get part k found.0 found.1, found.2)
+pub found_at : (part : List Call) (k : ℕ) (op : OpId) (call : Call) → slice_get part k ≡ Some call → HasOpAt part k op → IsCallOf part op call
+found_at part k op call at found =
+    let same : call ≡ found.0 = cc (at, found.1) in
+    (Contains-slice_get part k call at, ap (λ (x : Call). x.op) same ∙ found.2)
 
 module _ (part : List Call) (order : List OpId) where
   -- the call of the number at a place stands there
@@ -53,6 +53,6 @@ module _ (part : List Call) (order : List OpId) where
   last_written i None none = none
   last_written i (Some last) before =
       let write = before.2 in
-      let value : written_by last.call.now.action ≡ Some write.0 = ap written_by write.1 in
-      let written : IsLastWritten part order i (Some write.0) = (last.place, before.0, (last.call.now, before.1, write.1), before.3) in
+      let value : written_by last.call.action ≡ Some write.0 = ap written_by write.1 in
+      let written : IsLastWritten part order i (Some write.0) = (last.place, before.0, (last.call, before.1, write.1), before.3) in
       subst (λ (v : Option (List ℕ)). IsLastWritten part order i v) (sym value) written

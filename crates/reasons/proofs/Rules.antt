@@ -1,7 +1,6 @@
 -- What each rule says of the calls that are found for it, and that a reason refutes sound tags.
 use Rattle.std.proofs.Common.{◌≡◌, ◌≢◌, inl, inr, List, Option, Some, None, sym, ◌∙◌, ap, subst, arith}
 use Rattle.std.specs.List.{Contains}
-use Rattle.std.specs.Borrow.{Bor}
 use Rattle.std.proofs.lemmas.Option.{none-some}
 use Rattle.tag.specs.declared.actions.Action.TheVariants.{Write}
 use Rattle.tag.specs.declared.actions.Returned.TheVariants.{Value}
@@ -69,37 +68,37 @@ module _ (part : List Call) (sound : TagSound part) where
       let h : IsBelow s t = sound.rising_to_writes a b s t w.0 broken.precedes (record { recorded = in_a; noted = first }) (record { recorded = in_b; noted = second }) in
       omega (arith, ap (λ (u : Tag). u.number) w.1, ap (λ (u : Tag). u.writer) w.1)
 
-  other_value : (read : Call) (write : Option (Bor Call)) → Contains part read → IsWriteOfTag part read write → AnswersNot read (tag_value write) → ⊥
+  other_value : (read : Call) (write : Option Call) → Contains part read → IsWriteOfTag part read write → AnswersNot read (tag_value write) → ⊥
   other_value read None there noted answers =
       answers.1.2 (sound.absent read answers.1.0 answers.0 (record { recorded = there; noted = noted }) answers.1.1)
   other_value read (Some write) there noted answers =
       let tag = noted.1.0 in
       let right = sound.answers read answers.1.0 tag answers.0 (record { recorded = there; noted = noted.1.1 }) noted.1.2 answers.1.1 in
-      let mine : IsNoted part write.now tag = record { recorded = noted.0; noted = noted.1.3.1 } in
-      let same : write.now ≡ right.0 = sound.distinct write.now right.0 tag noted.1.3.0 (right.1, right.3) mine right.2 in
-      let action : write.now.action ≡ Write right.1 = cc (right.3, same) in
+      let mine : IsNoted part write tag = record { recorded = noted.0; noted = noted.1.3.1 } in
+      let same : write ≡ right.0 = sound.distinct write right.0 tag noted.1.3.0 (right.1, right.3) mine right.2 in
+      let action : write.action ≡ Write right.1 = cc (right.3, same) in
       answers.1.2 (right.4 ∙ ap Value (sym (ap written_by action)))
 
   pub no_rule : (reason : TagReason) → BreaksRule part reason → ⊥
   no_rule (reason.NoNote call) breaks =
-      let note = sound.noted call.now breaks.0 breaks.1.0 in
+      let note = sound.noted call breaks.0 breaks.1.0 in
       none-some note.0 (sym breaks.1.1 ∙ note.1)
   no_rule (reason.LeastTag write) breaks =
-      let below : IsBelow least least = sound.above write.now least breaks.1.0 (record { recorded = breaks.0; noted = breaks.1.1 }) in
+      let below : IsBelow least least = sound.above write least breaks.1.0 (record { recorded = breaks.0; noted = breaks.1.1 }) in
       omega arith
   no_rule (reason.SameTag earlier later) breaks =
       let shared = breaks.2 in
-      let first : IsNoted part earlier.now shared.0 = record { recorded = breaks.0; noted = shared.2.1 } in
-      let second : IsNoted part later.now shared.0 = record { recorded = breaks.1; noted = shared.3.1 } in
-      let same : earlier.now ≡ later.now = sound.distinct earlier.now later.now shared.0 shared.2.0 shared.3.0 first second in
-      let number : earlier.now.op.0 ≡ later.now.op.0 = ap (λ (x : Call). x.op.0) same in
+      let first : IsNoted part earlier shared.0 = record { recorded = breaks.0; noted = shared.2.1 } in
+      let second : IsNoted part later shared.0 = record { recorded = breaks.1; noted = shared.3.1 } in
+      let same : earlier ≡ later = sound.distinct earlier later shared.0 shared.2.0 shared.3.0 first second in
+      let number : earlier.op.0 ≡ later.op.0 = ap (λ (x : Call). x.op.0) same in
       omega (arith, shared.1)
   no_rule (reason.NotAbove earlier later) breaks =
       let broken = breaks.2 in
-      not_above earlier.now later.now broken breaks.0 breaks.1 broken.s broken.t broken.first broken.second broken.low
+      not_above earlier later broken breaks.0 breaks.1 broken.s broken.t broken.first broken.second broken.low
   no_rule (reason.NoWrite read) breaks =
       let broken = breaks.1 in
       let answered = broken.answered in
-      let right = sound.answers read.now answered.1.0 broken.tag answered.0 (record { recorded = breaks.0; noted = answered.2 }) broken.other answered.1.1 in
+      let right = sound.answers read answered.1.0 broken.tag answered.0 (record { recorded = breaks.0; noted = answered.2 }) broken.other answered.1.1 in
       broken.unwritten right.0 right.2.recorded ((right.1, right.3), right.2.noted)
-  no_rule (reason.OtherValue read write) breaks = other_value read.now write breaks.0 breaks.1 breaks.2
+  no_rule (reason.OtherValue read write) breaks = other_value read write breaks.0 breaks.1 breaks.2

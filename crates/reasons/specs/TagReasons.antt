@@ -1,6 +1,5 @@
 -- Why a part's tags aren't sound: the calls that break the rule.
 use Rattle.std.specs.Prelude.{ℕ, ◌≡◌, ◌≢◌, List, Option, Some, None, Contains}
-use Rattle.std.specs.Borrow.{Bor}
 use Rattle.tag.specs.declared.numbers.OpId.{OpId}
 use Rattle.tag.specs.Tags.{Tag, least}
 use Rattle.recorder.specs.declared.part.Call.{Call}
@@ -13,42 +12,42 @@ use Rattle.reasons.specs.declared.tag_reasons.TagReason.{TagReason}
 use Rattle.reasons.specs.declared.tag_reasons.TagReason.TheVariants as reason
 
 -- the number of a call, if there is one
-abbrev pub number_of : Option (Bor Call) → Option OpId
+abbrev pub number_of : Option Call → Option OpId
 number_of None = None
-number_of (Some call) = Some call.now.op
+number_of (Some call) = Some call.op
 
 -- the rule that a reason is one for
 abbrev pub rule_of : TagReason → BrokenRule
-rule_of (reason.NoNote call) = rule.NoNote call.now.op
-rule_of (reason.LeastTag write) = rule.LeastTag write.now.op
-rule_of (reason.SameTag earlier later) = rule.SameTag earlier.now.op later.now.op
-rule_of (reason.NotAbove earlier later) = rule.NotAbove earlier.now.op later.now.op
-rule_of (reason.NoWrite read) = rule.NoWrite read.now.op
-rule_of (reason.OtherValue read write) = rule.OtherValue read.now.op (number_of write)
+rule_of (reason.NoNote call) = rule.NoNote call.op
+rule_of (reason.LeastTag write) = rule.LeastTag write.op
+rule_of (reason.SameTag earlier later) = rule.SameTag earlier.op later.op
+rule_of (reason.NotAbove earlier later) = rule.NotAbove earlier.op later.op
+rule_of (reason.NoWrite read) = rule.NoWrite read.op
+rule_of (reason.OtherValue read write) = rule.OtherValue read.op (number_of write)
 
 -- the value that the tag of a write stands for; without one, absent
-abbrev pub tag_value : Option (Bor Call) → Option (List ℕ)
+abbrev pub tag_value : Option Call → Option (List ℕ)
 tag_value None = None
-tag_value (Some write) = written_by write.now.action
+tag_value (Some write) = written_by write.action
 
 module _ (part : List Call) where
   -- the write is noted with the read's tag; none: that tag is the least
-  abbrev pub IsWriteOfTag : Call → Option (Bor Call) → Type 0
+  abbrev pub IsWriteOfTag : Call → Option Call → Type 0
   IsWriteOfTag read None = read.note ≡ Some least
-  IsWriteOfTag read (Some write) = Contains part write.now
-      × ((tag : Tag) × (read.note ≡ Some tag) × (tag ≢ least) × IsWriteOf write.now tag)
+  IsWriteOfTag read (Some write) = Contains part write
+      × ((tag : Tag) × (read.note ≡ Some tag) × (tag ≢ least) × IsWriteOf write tag)
 
   -- the calls of a reason break its rule
   abbrev pub BreaksRule : TagReason → Type 0
-  BreaksRule (reason.NoNote call) = Contains part call.now × LacksNote call.now
-  BreaksRule (reason.LeastTag write) = Contains part write.now × IsLeastWrite write.now
+  BreaksRule (reason.NoNote call) = Contains part call × LacksNote call
+  BreaksRule (reason.LeastTag write) = Contains part write × IsLeastWrite write
   BreaksRule (reason.SameTag earlier later) =
-      Contains part earlier.now × Contains part later.now × ShareTag earlier.now later.now
+      Contains part earlier × Contains part later × ShareTag earlier later
   BreaksRule (reason.NotAbove earlier later) =
-      Contains part earlier.now × Contains part later.now × IsNotAbove earlier.now later.now
-  BreaksRule (reason.NoWrite read) = Contains part read.now × AnswersNoWrite part read.now
-  BreaksRule (reason.OtherValue read write) = Contains part read.now
-      × IsWriteOfTag read.now write × AnswersNot read.now (tag_value write)
+      Contains part earlier × Contains part later × IsNotAbove earlier later
+  BreaksRule (reason.NoWrite read) = Contains part read × AnswersNoWrite part read
+  BreaksRule (reason.OtherValue read write) = Contains part read
+      × IsWriteOfTag read write × AnswersNot read (tag_value write)
 
   -- the reason is one for the rule, and its calls break it
   abbrev pub IsTagReason : BrokenRule → TagReason → Type 0

@@ -1,8 +1,8 @@
 //! The calls that show why an order was refused, or why a part's tags aren't sound.
 //!
-//! A verdict names places and numbers; a reason has the calls themselves. It borrows them from the
-//! part and copies nothing. It takes one pass over the order at most, and a binary search for each
-//! call.
+//! A verdict names places and numbers; a reason has the calls themselves. It borrows their texts from
+//! the history and copies none. It takes one pass over the order at most, and a binary search for
+//! each call.
 #![tactic(auto)]
 
 mod find;

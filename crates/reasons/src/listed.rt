@@ -5,36 +5,36 @@ ghost use Rattle.recorder.specs.Parts.{IsSequence};
 use crate::find::{call_of, find};
 use crate::{OrderReason, PlacedCall};
 use certificate_check::Fault;
-use recorder::Call;
-use tag::{Action, OpId};
+use recorder::{Call, Part};
+use tag::OpId;
 
 /// A list of numbers beside the calls of a part.
 #[derive(Drop)]
-pub(crate) struct Listed<'a, 'b> {
-    calls: &'a [Call],
-    order: &'b [OpId],
-    ghost sequence: { IsSequence calls.now },
+pub(crate) struct Listed<'a, 'h> {
+    part: &'a Part<'h>,
+    order: &'a [OpId],
+    ghost sequence: { IsSequence part.now },
 }
 
-impl<'a, 'b> Listed<'a, 'b> {
+impl<'a, 'h> Listed<'a, 'h> {
     ghost use Rattle.recorder.specs.Orders.{StandsAt, WritesAt};
     ghost use Rattle.recorder.specs.Sound.{IsWrite};
     ghost use Rattle.certificate_check.specs.Verdicts.{IsFault, IsLeast, IsUnknown};
     ghost use Rattle.reasons.specs.OrderReasons.{IsOrderReason, IsLastWriteBefore, HasNumberOf};
 
-    /// The list beside these calls.
-    pub(crate) fn new(calls: &'a [Call], order: &'b [OpId]) -> Listed<'a, 'b>
-        requires { IsSequence calls.now }
-        ensures calls { result.calls.now ≡ calls.now }
+    /// The list beside the part's calls.
+    pub(crate) fn new(part: &'a Part<'h>, order: &'a [OpId]) -> Listed<'a, 'h>
+        ensures part { result.part.now ≡ part.now }
         ensures order { result.order.now ≡ order.now }
     {
-        Listed { calls, order }
+        let _sequence = part.len();
+        Listed { part, order }
     }
 
     /// The calls that show the fault.
-    pub(crate) fn reason(&self, fault: Fault) -> OrderReason<'a>
-        requires { IsFault self.now.calls.now self.now.order.now fault }
-        ensures { IsOrderReason self.now.calls.now self.now.order.now fault result }
+    pub(crate) fn reason(&self, fault: Fault) -> OrderReason<'h>
+        requires { IsFault self.now.part.now self.now.order.now fault }
+        ensures { IsOrderReason self.now.part.now self.now.order.now fault result }
     {
         match fault {
             Fault::UnknownCall(place) => OrderReason::UnknownCall {
@@ -47,7 +47,7 @@ impl<'a, 'b> Listed<'a, 'b> {
                 call: self.call_at(place),
             },
             Fault::MissingCall(op) => OrderReason::MissingCall {
-                call: call_of(self.calls, op),
+                call: call_of(self.part, op),
             },
             Fault::PendingRead(place) => OrderReason::PendingRead {
                 read: self.placed(place),
@@ -64,23 +64,23 @@ impl<'a, 'b> Listed<'a, 'b> {
     }
 
     /// The call at that place, at which one stands.
-    fn call_at(&self, place: usize) -> &'a Call
+    fn call_at(&self, place: usize) -> Call<'h>
         requires within { place < length self.now.order.now }
-        requires known { IsUnknown self.now.calls.now self.now.order.now place → ⊥ }
-        ensures { StandsAt self.now.calls.now self.now.order.now place result.now }
+        requires known { IsUnknown self.now.part.now self.now.order.now place → ⊥ }
+        ensures { StandsAt self.now.part.now self.now.order.now place result }
     {
-        match find(self.calls, self.order[place]) {
+        match find(self.part, self.order[place]) {
             Some(call) => call,
             None => unreachable!(),
         }
     }
 
     /// The same, with the place.
-    fn placed(&self, place: usize) -> PlacedCall<'a>
+    fn placed(&self, place: usize) -> PlacedCall<'h>
         requires within { place < length self.now.order.now }
-        requires known { IsUnknown self.now.calls.now self.now.order.now place → ⊥ }
+        requires known { IsUnknown self.now.part.now self.now.order.now place → ⊥ }
         ensures place { result.place ≡ place }
-        ensures call { StandsAt self.now.calls.now self.now.order.now place result.call.now }
+        ensures call { StandsAt self.now.part.now self.now.order.now place result.call }
     {
         PlacedCall {
             place,
@@ -103,27 +103,27 @@ impl<'a, 'b> Listed<'a, 'b> {
     }
 
     /// The write at that place, if one stands there.
-    fn write_at(&self, place: usize) -> Option<&'a Call>
+    fn write_at(&self, place: usize) -> Option<Call<'h>>
         requires { place < length self.now.order.now }
         ensures found { IfSome result
-            (λ call. StandsAt self.now.calls.now self.now.order.now place call.now
-            × IsWrite call.now) }
+            (λ call. StandsAt self.now.part.now self.now.order.now place call
+            × IsWrite call) }
         ensures none { IfNone result ((value : List ℕ)
-            → WritesAt self.now.calls.now self.now.order.now place value → ⊥) }
+            → WritesAt self.now.part.now self.now.order.now place value → ⊥) }
     {
-        let Some(call) = find(self.calls, self.order[place]) else {
+        let Some(call) = find(self.part, self.order[place]) else {
             return None;
         };
-        match call.action {
-            Action::Write(_) => Some(call),
-            Action::Read => None,
+        match call.action.written() {
+            Some(_) => Some(call),
+            None => None,
         }
     }
 
     /// The last write before that place, if there is one.
-    fn last_write_before(&self, place: usize) -> Option<PlacedCall<'a>>
+    fn last_write_before(&self, place: usize) -> Option<PlacedCall<'h>>
         requires { place < length self.now.order.now }
-        ensures { IsLastWriteBefore self.now.calls.now self.now.order.now place result }
+        ensures { IsLastWriteBefore self.now.part.now self.now.order.now place result }
     {
         for i in (0..place).rev() {
             if let Some(call) = self.write_at(i) {

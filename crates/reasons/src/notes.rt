@@ -2,11 +2,11 @@
 ghost use Rattle.std.specs.Prelude.{◌≡◌};
 ghost use Rattle.reasons.specs.Notes.{is_note_of, note_place};
 
-use recorder::{Call, Row};
+use recorder::{Call, History, Row};
 use tag::OpId;
 
 /// Whether the row is a note of that call.
-fn is_note_of(row: &Row, op: OpId) -> bool
+fn is_note_of(row: &Row<'_>, op: OpId) -> bool
     ensures { result ≡ is_note_of op row.now }
 {
     match row {
@@ -19,14 +19,14 @@ fn is_note_of(row: &Row, op: OpId) -> bool
 /// call without a note.
 ///
 /// It takes time in proportion to the rows between the call's invocation and its note.
-pub fn note_place(rows: &[Row], call: &Call) -> Option<usize>
-    ensures { result ≡ note_place rows.now call.now }
+pub fn note_place(history: &History, call: &Call<'_>) -> Option<usize>
+    ensures { result ≡ note_place history.now.rows call.now }
 {
     if call.note.is_none() {
         return None;
     }
-    for place in call.invoked..rows.len() {
-        if is_note_of(&rows[place], call.op) {
+    for place in call.invoked..history.row_count() {
+        if is_note_of(&history.row(place), call.op) {
             return Some(place);
         }
     }

@@ -8,15 +8,15 @@ use recorder::{Call, Part};
 use tag::OpId;
 
 /// A call and its place in the order.
-#[derive(Clone, Copy)]
-pub struct PlacedCall<'a> {
+#[derive(Drop)]
+pub struct PlacedCall<'h> {
     pub place: usize,
-    pub call: &'a Call,
+    pub call: Call<'h>,
 }
 
 /// Why a list isn't an order of a part: the calls that show its fault. Places are counted from 0.
-#[derive(Clone, Copy)]
-pub enum OrderReason<'a> {
+#[derive(Drop)]
+pub enum OrderReason<'h> {
     /// No call of the part has the number that stands at that place.
     UnknownCall {
         place: usize,
@@ -26,35 +26,35 @@ pub enum OrderReason<'a> {
     CallTwice {
         earlier: usize,
         place: usize,
-        call: &'a Call,
+        call: Call<'h>,
     },
     /// The completed call isn't listed.
     MissingCall {
-        call: &'a Call,
+        call: Call<'h>,
     },
     /// The call at that place is a pending read.
     PendingRead {
-        read: PlacedCall<'a>,
+        read: PlacedCall<'h>,
     },
     /// The read answers another value than the last write before it wrote, or, where no write
     /// stands before it, a value.
     WrongAnswer {
-        read: PlacedCall<'a>,
-        last: Option<PlacedCall<'a>>,
+        read: PlacedCall<'h>,
+        last: Option<PlacedCall<'h>>,
     },
     /// The later call was answered before the earlier one began.
     OrderBroken {
-        earlier: PlacedCall<'a>,
-        later: PlacedCall<'a>,
+        earlier: PlacedCall<'h>,
+        later: PlacedCall<'h>,
     },
 }
 
 /// The calls that show the fault, which is the verdict on the order.
 ///
 /// It takes time in proportion to the order and the logarithm of the calls' count.
-pub fn order_reason<'a>(part: &'a Part, order: &[OpId], fault: Fault) -> OrderReason<'a>
+pub fn order_reason<'h>(part: &Part<'h>, order: &[OpId], fault: Fault) -> OrderReason<'h>
     requires { IsFault part.now order.now fault }
     ensures { IsOrderReason part.now order.now fault result }
 {
-    Listed::new(part.calls(), order).reason(fault)
+    Listed::new(part, order).reason(fault)
 }

@@ -6,7 +6,7 @@ use Rattle.tag.specs.declared.actions.Action.{Action}
 use Rattle.tag.specs.declared.numbers.OpId.{OpId}
 use Rattle.recorder.specs.declared.row.Row.{Row}
 use Rattle.recorder.specs.declared.row.Row.TheVariants.{Invoke, Note, Respond}
-use Rattle.recorder.specs.declared.history.CallState.{CallState}
+use Rattle.recorder.specs.declared.record.CallState.{CallState}
 use Rattle.recorder.specs.Histories.{IsWellFormed, call_count, caller_of}
 use Rattle.recorder.specs.States.{AreStates}
 use Rattle.tag.proofs.Lists.{place_of, Contains-slice_get}
@@ -62,7 +62,7 @@ module _ (rows : List Row) (formed : IsWellFormed rows) where
   pub caller_of_state : (states : List CallState) → AreStates rows states → (op : OpId) (state : CallState) → slice_get states op.0 ≡ Some state → caller_of rows op ≡ Some state.client
   caller_of_state states are op state at =
       let d = are.each op state at in
-      caller_found op state.client d.key d.action d.invoked
+      caller_found op state.client d.key d.action (Contains-slice_get rows state.invoked (Invoke op state.client d.key d.action) d.invoked)
 
   pub caller_missing : (op : OpId) → (op.0 < call_count rows → ⊥) → caller_of rows op ≡ None
   caller_missing op above = missing rows op (λ k d key action at. above (number_below rows formed op d key action (Contains-slice_get rows k (Invoke op d key action) at)))

@@ -1,5 +1,8 @@
 mod Lists
-mod Entries
+mod Pairs
+mod Tables
+mod RowCounts
+mod PartLemmas
 mod Numbers
 mod OneMore
 mod States

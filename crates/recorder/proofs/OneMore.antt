@@ -8,7 +8,7 @@ use Rattle.tag.specs.declared.numbers.OpId.{OpId}
 use Rattle.tag.specs.Tags.{Tag}
 use Rattle.recorder.specs.declared.row.Row.{Row}
 use Rattle.recorder.specs.declared.row.Row.TheVariants.{Invoke, Note, Respond}
-use Rattle.recorder.specs.declared.history.CallState.{CallState}
+use Rattle.recorder.specs.declared.record.CallState.{CallState}
 use Rattle.recorder.specs.Histories.{HasResponse, IsPendingCall}
 use Rattle.recorder.specs.States.{Describes, RespondsAt}
 use Rattle.tag.proofs.Lists.{slice_get-push_left}
@@ -59,7 +59,7 @@ module _ (rows : List Row) (row : Row) (op : OpId) where
     key = d.key;
     action = d.action;
     kind = d.kind;
-    invoked = Contains-append_left rows (row ∷ []) (Invoke op state.client d.key d.action) d.invoked;
+    invoked = slice_get-push_left rows row state.invoked (Invoke op state.client d.key d.action) d.invoked;
     noted = λ tag. let same = noted_same notes tag in (λ e. same.0 ((d.noted tag).0 e), λ h. (d.noted tag).1 (same.1 h));
     answered = λ place. let same = answered_same answers place in (λ e. same.0 ((d.answered place).0 e), λ h. (d.answered place).1 (same.1 h));
   }
@@ -70,7 +70,7 @@ module _ (rows : List Row) (row : Row) (op : OpId) where
     key = d.key;
     action = d.action;
     kind = d.kind;
-    invoked = Contains-append_left rows (row ∷ []) (Invoke op state.client d.key d.action) d.invoked;
+    invoked = slice_get-push_left rows row state.invoked (Invoke op state.client d.key d.action) d.invoked;
     noted = noted;
     answered = answered;
   }

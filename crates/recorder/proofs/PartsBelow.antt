@@ -1,5 +1,5 @@
 -- The parts of the rows before a place.
-use Rattle.std.proofs.Common.{ℕ, ◌≡◌, ◌≢◌, ◌<◌, ◌+◌, ◌⊎◌, inl, inr, List, [], ◌∷◌, ◌++◌, Some, length, map, set, sym, ◌∙◌, ap, subst, arith}
+use Rattle.std.proofs.Common.{ℕ, ◌≡◌, ◌≢◌, ◌<◌, ◌+◌, ◌⊎◌, inl, inr, List, [], ◌∷◌, ◌++◌, Some, length, set, sym, ◌∙◌, ap, subst, arith}
 use Rattle.std.specs.List.{slice_get, Contains}
 use Rattle.std.proofs.lemmas.Option.{slice_get_within, some_pair_parts}
 use Rattle.std.proofs.lemmas.Bool.{cases_lt}
@@ -7,12 +7,9 @@ use Rattle.std.proofs.lemmas.List.Elements.{Contains-append_left, Contains-push}
 use Rattle.recorder.specs.declared.row.Row.{Row}
 use Rattle.recorder.specs.declared.row.Row.TheVariants.{Invoke}
 use Rattle.recorder.specs.declared.part.Call.{Call}
-use Rattle.key_index.specs.Numbers.{Numbers}
-use Rattle.key_index.specs.Numbers.Numbers.{known, first}
 use Rattle.recorder.specs.Records.{IsRecorded, BeginsAt, IsFirstSeen, AreParts}
 use Rattle.recorder.specs.Adding.{AddsCall, ExtendsPart, BeginsPart}
 use Rattle.tag.proofs.Lists.{place_of, push_cases, slice_get-set, Contains-slice_get}
-use Rattle.recorder.proofs.Entries.{entry_at, key_of_entry, keys_set, keys_push}
 use Rattle.recorder.specs.Histories.{IsWellFormed}
 use Rattle.recorder.specs.Parts.{IsSequence}
 use Rattle.recorder.proofs.Recorded.{IsSequence-recorded}
@@ -206,12 +203,3 @@ pub IsSequence-added : (rows : List Row) → IsWellFormed rows → (n : ℕ) (pa
 IsSequence-added rows formed n parts are key call recorded here part h =
     let p = IsPartBelow-push rows n key part call recorded here (are.each key part h) in
     IsSequence-recorded rows formed key (part ++ call ∷ []) p.each p.ordered
-
--- the keys of the parts, once the call is added, are those that its key's number leaves
-pub keys_added : (old new : List (List ℕ × List Call)) (key : List ℕ) (call : Call) (slot : ℕ) (keys : List (List ℕ)) → Numbers (map (λ e. e.0) old) key slot keys → AddsCall old key call new → keys ≡ map (λ e. e.0) new
-keys_added old new key call slot keys (known here same) (inl e) = same ∙ sym (ap (map (λ (p : List ℕ × List Call). p.0)) e.has ∙ keys_set old e.slot key e.part (e.part ++ call ∷ []) e.had)
-keys_added old new key call slot keys (known here same) (inr b) =
-    let e = entry_at old slot key here in
-    absurd (b.absent e.0 (Contains-slice_get old slot (key, e.0) e.1))
-keys_added old new key call slot keys (first unseen is same) (inl e) = absurd (unseen (key_of_entry old key e.part (Contains-slice_get old e.slot (key, e.part) e.had)))
-keys_added old new key call slot keys (first unseen is same) (inr b) = same ∙ sym (ap (map (λ (p : List ℕ × List Call). p.0)) b.has ∙ keys_push old key (call ∷ []))

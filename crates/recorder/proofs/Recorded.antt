@@ -1,16 +1,18 @@
 -- Calls as the rows record them.
-use Rattle.std.proofs.Common.{ℕ, ◌≡◌, ◌<◌, inl, inr, List, [], ◌∷◌, Option, Some, None, sym, ◌∙◌, ap, subst, refl, arith}
-use Rattle.std.proofs.lemmas.Option.{slice_get_within}
+use Rattle.std.proofs.Common.{ℕ, ◌≡◌, ◌<◌, inl, inr, List, [], ◌∷◌, Option, Some, None, sym, ◌∙◌, ap, ap₂, subst, refl, arith}
+use Rattle.std.proofs.lemmas.Option.{slice_get_within, same_Some}
 use Rattle.std.proofs.lemmas.List.Elements.{Contains-push_cases}
 use Rattle.std.specs.List.{slice_get, Contains}
 use Rattle.tag.specs.declared.actions.Returned.{Returned}
 use Rattle.recorder.specs.declared.row.Row.{Row}
 use Rattle.recorder.specs.declared.row.Row.TheVariants.{Invoke, Respond}
-use Rattle.recorder.specs.declared.history.CallState.{CallState}
+use Rattle.recorder.specs.declared.record.CallState.{CallState}
 use Rattle.recorder.specs.declared.part.Call.{Call}
 use Rattle.recorder.specs.declared.part.Response.{Response}
 use Rattle.recorder.specs.Histories.{IsWellFormed}
-use Rattle.recorder.specs.States.{Describes, IsResponseAt}
+use Rattle.recorder.specs.States.{AreStates, Describes, action_at, action_in, response_at, response_in, call_of, call_with}
+use Rattle.tag.specs.declared.actions.Action.{Action}
+use Rattle.tag.specs.declared.numbers.OpId.{OpId}
 use Rattle.recorder.specs.Parts.{IsSequence}
 use Rattle.recorder.specs.Records.{IsRecorded}
 use Rattle.tag.proofs.Lists.{Contains-slice_get}
@@ -29,6 +31,20 @@ IsSequence-recorded rows formed key part each ordered = record {
       begun_before rows formed response.place call.op response.returned ((x.answered response.place response.returned).0 e) call.invoked call.client key call.action x.begun;
 }
 
+-- the response, if any, is what the row at its place says
+record IsResponseAt (rows : List Row) (place : Option ℕ) (response : Option Response) : Type 0 where
+  none : place ≡ None → response ≡ None
+  some : (k : ℕ) (op : OpId) (returned : Returned) → place ≡ Some k → slice_get rows k ≡ Some (Respond op returned) → response ≡ Some (record { place = k; returned = returned })
+
+is_response : (rows : List Row) (place : Option ℕ) → IsResponseAt rows place (response_at rows place)
+is_response rows None = record { none = λ e. refl; some = λ k op returned e at. absurd (cc) }
+is_response rows (Some k) = record {
+  none = λ e. absurd (cc);
+  some = λ j op returned e at.
+      let same : k ≡ j = cc in
+      subst (λ (n : ℕ). response_in k (slice_get rows k) ≡ Some (record { place = n; returned = returned })) same (ap (response_in k) (ap (slice_get rows) same ∙ at));
+}
+
 -- a call made of its row and its state is recorded
 module _ (rows : List Row) (key : List ℕ) (state : CallState) (call : Call) (d : Describes rows call.op state) (response : IsResponseAt rows state.response call.response) where
   responds : (place : ℕ) (returned : Returned) (at : Option ℕ) → state.response ≡ at → call.response ≡ Some (record { place = place; returned = returned }) → slice_get rows place ≡ Some (Respond call.op returned)
@@ -43,12 +59,23 @@ module _ (rows : List Row) (key : List ℕ) (state : CallState) (call : Call) (d
       let answers : r.0 ≡ returned = ap (λ (z : Response). z.returned) same in
       cc (r.1, places, answers)
 
-  pub IsRecorded-made : slice_get rows call.invoked ≡ Some (Invoke call.op call.client key call.action) → call.note ≡ state.note → IsRecorded rows key call
+  IsRecorded-made : slice_get rows call.invoked ≡ Some (Invoke call.op call.client key call.action) → call.note ≡ state.note → IsRecorded rows key call
   IsRecorded-made begun note = record {
     begun = begun;
     noted = λ tag. (λ e. (d.noted tag).0 (sym note ∙ e), λ h. note ∙ (d.noted tag).1 h);
     answered = λ place returned. (λ e. responds place returned state.response refl e, λ at. response.some place call.op returned ((d.answered place).1 (returned, at)) at);
   }
+
+-- and so is the call of a number
+pub recorded_of : (rows : List Row) (states : List CallState) → AreStates rows states → (op : OpId) (state : CallState) → slice_get states op.0 ≡ Some state
+    → (key : List ℕ) (client : ℕ) (action : Action) → slice_get rows state.invoked ≡ Some (Invoke op client key action) → IsRecorded rows key (call_of rows states op.0)
+recorded_of rows states are op state at key client action begun =
+    let d = are.each op state at in
+    let row : ◌≡◌ {A = Row} (Invoke op state.client d.key d.action) (Invoke op client key action) = same_Some _ _ (sym d.invoked ∙ begun) in
+    let keys : d.key ≡ key = cc in
+    let asks : action_at rows state.invoked ≡ d.action = ap action_in d.invoked in
+    let here : slice_get rows state.invoked ≡ Some (Invoke op state.client key (action_at rows state.invoked)) = d.invoked ∙ ap₂ (λ (k : List ℕ) (a : Action). Some (Invoke op state.client k a)) keys (sym asks) in
+    subst (IsRecorded rows key) (ap (call_with rows op.0) (sym at)) (IsRecorded-made rows key state (call_with rows op.0 (Some state)) d (is_response rows state.response) here refl)
 
 -- a sequence of one call
 pub IsSequence-one : (rows : List Row) → IsWellFormed rows → (key : List ℕ) (call : Call) → IsRecorded rows key call → IsSequence (call ∷ [])

@@ -1,6 +1,8 @@
 -- Lists in the order of a place that each element has.
 use Rattle.std.proofs.Common.{ℕ, zero, suc, ◌≡◌, ◌<◌, List, [], ◌∷◌, Some, sym, ◌∙◌, subst, refl, arith}
 use Rattle.std.specs.List.{slice_get, Contains}
+use Rattle.std.proofs.lemmas.List.Elements.{Contains-append_right}
+use Rattle.std.proofs.lemmas.Map.Made.{Contains-tail}
 use Rattle.tag.proofs.Lists.{place_of, Contains-slice_get}
 
 -- each element has a place, and the places rise
@@ -34,14 +36,6 @@ module _ (X : Type 0) (At : X → ℕ → Type 0) (x y : X) (xs ys : List X) (p 
       let down = q.rises 0 (suc i) y x n.0 m.0 (omega arith) refl at_x n.1 m.1 in
       absurd (omega (arith, up, down))
 
--- a member of the longer list other than its head is one of the tail
-pub Contains-tail : (X : Type 0) (y : X) (ys : List X) (z : X) → (y ≡ z → ⊥) → Contains (y ∷ ys) z → Contains ys z
-Contains-tail X y ys z other h = let k = place_of (y ∷ ys) z h in by k.0 k.1
-  where
-    by : (k : ℕ) → slice_get (y ∷ ys) k ≡ Some z → Contains ys z
-    by zero at = absurd (other (cc))
-    by (suc k) at = Contains-slice_get ys k z at
-
 -- two lists in that order with the same members are one
 pub same_in_order : (X : Type 0) (At : X → ℕ → Type 0) (xs ys : List X) → IsInOrder X At xs → IsInOrder X At ys → ((x : X) → Contains xs x → Contains ys x) → ((x : X) → Contains ys x → Contains xs x) → xs ≡ ys
 same_in_order X At [] [] p q left right = refl
@@ -52,9 +46,6 @@ same_in_order X At (x ∷ xs) (y ∷ ys) p q left right =
     let j = place_of (x ∷ xs) y (right y (Contains-slice_get (y ∷ ys) 0 y refl)) in
     let head : x ≡ y = heads X At x y xs ys p q i.0 j.0 i.1 j.1 in
     let tail : xs ≡ ys = same_in_order X At xs ys (IsInOrder-tail X At x xs p) (IsInOrder-tail X At y ys q)
-    (λ z h. Contains-tail X y ys z (λ e. head_once X At x xs p (subst (λ (w : X). Contains xs w) (sym e ∙ sym head) h)) (left z (longer x xs z h)))
-    (λ z h. Contains-tail X x xs z (λ e. head_once X At y ys q (subst (λ (w : X). Contains ys w) (sym e ∙ head) h)) (right z (longer y ys z h))) in
+    (λ z h. Contains-tail y ys z (λ e. head_once X At x xs p (subst (λ (w : X). Contains xs w) (sym e ∙ sym head) h)) (left z (Contains-append_right (x ∷ []) xs z h)))
+    (λ z h. Contains-tail x xs z (λ e. head_once X At y ys q (subst (λ (w : X). Contains ys w) (sym e ∙ head) h)) (right z (Contains-append_right (y ∷ []) ys z h))) in
     cc
-  where
-    longer : (w : X) (ws : List X) (z : X) → Contains ws z → Contains (w ∷ ws) z
-    longer w ws z h = let k = place_of ws z h in Contains-slice_get (w ∷ ws) (suc k.0) z k.1

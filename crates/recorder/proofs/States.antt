@@ -1,7 +1,7 @@
 -- The states beside the rows, with one row more.
 use Rattle.std.proofs.Common.{ℕ, ◌≡◌, ◌⊎◌, inl, inr, List, [], ◌∷◌, ◌++◌, Option, Some, None, IsSome, length, get_or, set, sym, ◌∙◌, ap, subst, refl, arith, length-append, length-set}
 use Rattle.std.specs.List.{slice_get, Contains}
-use Rattle.std.proofs.lemmas.Option.{slice_get_within, get_or_from_slice_get}
+use Rattle.std.proofs.lemmas.Option.{get_or_from_slice_get}
 use Rattle.std.proofs.lemmas.List.Elements.{Contains-push, Contains-push_cases}
 use Rattle.tag.specs.declared.actions.Action.{Action}
 use Rattle.tag.specs.declared.actions.Returned.{Returned}
@@ -9,13 +9,13 @@ use Rattle.tag.specs.declared.numbers.OpId.{OpId}
 use Rattle.tag.specs.Tags.{Tag}
 use Rattle.recorder.specs.declared.row.Row.{Row}
 use Rattle.recorder.specs.declared.row.Row.TheVariants.{Invoke, Note, Respond}
-use Rattle.recorder.specs.declared.history.CallState.{CallState}
+use Rattle.recorder.specs.declared.record.CallState.{CallState}
 use Rattle.recorder.specs.Histories.{call_count, HasNote, HasResponse, IsPendingCall, IsPendingOp, IsWellFormed, MayFollow}
-use Rattle.recorder.specs.States.{Describes, AreStates, is_write}
+use Rattle.recorder.specs.States.{Describes, AreStates, IsStateOf, call_of, call_with, action_in, is_write, place_in, response_at, RespondsAt}
 use Rattle.tag.proofs.SameTags.{same_op}
-use Rattle.tag.proofs.Lists.{place_of, get_at, push_cases, slice_get-set, slice_get-push_last, Contains-slice_get}
+use Rattle.tag.proofs.Lists.{place_of, get_at, push_cases, set_cases, slice_get-push_last, Contains-slice_get}
 use Rattle.recorder.proofs.Numbers.{count_push, number_below, no_note, no_response}
-use Rattle.recorder.proofs.OneMore.{Describes-more, Describes-push, noted_same, answered_same}
+use Rattle.recorder.proofs.OneMore.{NotesAnother, AnswersAnother, Describes-more, Describes-push, noted_same, answered_same}
 
 -- what a state says of its call
 module _ (rows : List Row) (op : OpId) (state : CallState) (d : Describes rows op state) where
@@ -45,7 +45,7 @@ module _ (rows : List Row) (op : OpId) (state : CallState) (d : Describes rows o
           (r.0, Contains-slice_get rows place (Respond op r.0) r.1)
 
   pub pending_from : state.response ≡ None → IsPendingCall rows op state.client d.action
-  pending_from waits = record { key = d.key; invoked = d.invoked; unanswered = not_answered waits }
+  pending_from waits = record { key = d.key; invoked = Contains-slice_get rows state.invoked (Invoke op state.client d.key d.action) d.invoked; unanswered = not_answered waits }
 
   pub may_note : (tag : Tag) → state.response ≡ None → state.note ≡ None → MayFollow rows (Note op tag)
   may_note tag waits none = ((state.client, d.action, pending_from waits), not_noted none)
@@ -66,6 +66,16 @@ waits_from are op state found = (are.each op state found.0, found.1)
 pub state_there : (states : List CallState) (k : ℕ) (state here : CallState) → slice_get states k ≡ Some state → here ≡ get_or states k here → here ≡ state
 state_there states k state here found is = is ∙ get_or_from_slice_get states k state here found
 
+-- a call's state is written anew with a row that is about it alone
+AreStates-set : (rows : List Row) (row : Row) (op : OpId) (states : List CallState) (new : CallState) → AreStates rows states → call_count (rows ++ row ∷ []) ≡ call_count rows → ((o : OpId) → (o.0 ≡ op.0 → ⊥) → NotesAnother row o × AnswersAnother row o) → Describes (rows ++ row ∷ []) op new → AreStates (rows ++ row ∷ []) (set states op.0 new)
+AreStates-set rows row op states new are same others d = record {
+  all = length-set states op.0 new ∙ (are.all ∙ sym same);
+  each = λ o s there. elim (set_cases states op.0 new o.0 s there) [
+    | inl w ↦ subst (λ (x : OpId). Describes (rows ++ row ∷ []) x s) (sym (same_op o op w.0)) (subst (Describes (rows ++ row ∷ []) op) w.1 d)
+    | inr w ↦ Describes-push rows row o s (others o w.0).0 (others o w.0).1 (are.each o s w.1)
+  ];
+}
+
 -- one note more
 module _ (rows : List Row) (op : OpId) (tag : Tag) where
   pub Describes-noted : (state : CallState) → state.note ≡ None → Describes rows op state → Describes (rows ++ Note op tag ∷ []) op (record state { note = Some tag })
@@ -79,17 +89,9 @@ module _ (rows : List Row) (op : OpId) (tag : Tag) where
       by t (inr e) = cc
 
   pub states_note : (states : List CallState) (state noted : CallState) → AreStates rows states → slice_get states op.0 ≡ Some state → state.note ≡ None → noted ≡ record state { note = Some tag } → AreStates (rows ++ Note op tag ∷ []) (set states op.0 noted)
-  states_note states state noted are at none is = record {
-    all = length-set states op.0 noted ∙ (are.all ∙ sym (count_push rows (Note op tag) ∙ omega arith));
-    each = λ o s there. elim (slice_get-set states op.0 o.0 noted (slice_get_within states op.0 state at)) [
-      | inl w ↦
-          let here : o ≡ op = same_op o op w.0 in
-          let same : record state { note = Some tag } ≡ s = cc (w.1, there) in
-          let d = Describes-noted state none (are.each op state at) in
-          subst (λ (x : OpId). Describes (rows ++ Note op tag ∷ []) x s) (sym here) (subst (λ (x : CallState). Describes (rows ++ Note op tag ∷ []) op x) same d)
-      | inr w ↦ Describes-push rows (Note op tag) o s (λ t e. w.0 (let same : op ≡ o = cc in ap (λ (x : OpId). x.0) (sym same))) (λ r e. cc) (are.each o s (sym w.1 ∙ there))
-    ];
-  }
+  states_note states state noted are at none is = AreStates-set rows (Note op tag) op states noted are (count_push rows (Note op tag) ∙ omega arith)
+      (λ o other. (λ t e. other (let same : op ≡ o = cc in ap (λ (x : OpId). x.0) (sym same)), λ r e. cc))
+      (subst (Describes (rows ++ Note op tag ∷ []) op) (sym is) (Describes-noted state none (are.each op state at)))
 
 -- one response more
 module _ (rows : List Row) (op : OpId) (returned : Returned) where
@@ -104,21 +106,13 @@ module _ (rows : List Row) (op : OpId) (returned : Returned) where
       by place r (inr e) = ap Some (sym e.0)
 
   pub states_respond : (states : List CallState) (state answered : CallState) → AreStates rows states → slice_get states op.0 ≡ Some state → state.response ≡ None → answered ≡ record state { response = Some (length rows) } → AreStates (rows ++ Respond op returned ∷ []) (set states op.0 answered)
-  states_respond states state answered are at none is = record {
-    all = length-set states op.0 answered ∙ (are.all ∙ sym (count_push rows (Respond op returned) ∙ omega arith));
-    each = λ o s there. elim (slice_get-set states op.0 o.0 answered (slice_get_within states op.0 state at)) [
-      | inl w ↦
-          let here : o ≡ op = same_op o op w.0 in
-          let same : record state { response = Some (length rows) } ≡ s = cc (w.1, there) in
-          let d = Describes-answered state none (are.each op state at) in
-          subst (λ (x : OpId). Describes (rows ++ Respond op returned ∷ []) x s) (sym here) (subst (λ (x : CallState). Describes (rows ++ Respond op returned ∷ []) op x) same d)
-      | inr w ↦ Describes-push rows (Respond op returned) o s (λ t e. cc) (λ r e. w.0 (let same : op ≡ o = cc in ap (λ (x : OpId). x.0) (sym same))) (are.each o s (sym w.1 ∙ there))
-    ];
-  }
+  states_respond states state answered are at none is = AreStates-set rows (Respond op returned) op states answered are (count_push rows (Respond op returned) ∙ omega arith)
+      (λ o other. (λ t e. cc, λ r e. other (let same : op ≡ o = cc in ap (λ (x : OpId). x.0) (sym same))))
+      (subst (Describes (rows ++ Respond op returned ∷ []) op) (sym is) (Describes-answered state none (are.each op state at)))
 
 -- one invocation more
 module _ (rows : List Row) (formed : IsWellFormed rows) (op : OpId) (client : ℕ) (key : List ℕ) (action : Action) (fresh : op.0 ≡ call_count rows) where
-  pub Describes-begun : Describes (rows ++ Invoke op client key action ∷ []) op (record { client = client; is_write = is_write action; note = None; response = None })
+  pub Describes-begun : Describes (rows ++ Invoke op client key action ∷ []) op (record { client = client; is_write = is_write action; note = None; invoked = length rows; response = None })
   Describes-begun =
       let notes = noted_same rows (Invoke op client key action) op (λ t e. cc) in
       let answers = answered_same rows (Invoke op client key action) op (λ r e. cc) in
@@ -126,19 +120,35 @@ module _ (rows : List Row) (formed : IsWellFormed rows) (op : OpId) (client : �
         key = key;
         action = action;
         kind = refl;
-        invoked = Contains-push rows (Invoke op client key action);
+        invoked = slice_get-push_last rows (Invoke op client key action);
         noted = λ t. (λ e. absurd (cc), λ h. absurd (no_note rows formed op fresh (t, (notes t).1 h)));
         answered = λ place. (λ e. absurd (cc), λ h. let r = (answers place).1 h in absurd (no_response rows formed op fresh (r.0, Contains-slice_get rows place (Respond op r.0) r.1)));
       }
 
-  pub states_invoke : (states : List CallState) (state : CallState) → AreStates rows states → state ≡ record { client = client; is_write = is_write action; note = None; response = None } → AreStates (rows ++ Invoke op client key action ∷ []) (states ++ state ∷ [])
+  pub states_invoke : (states : List CallState) (state : CallState) → AreStates rows states → state ≡ record { client = client; is_write = is_write action; note = None; invoked = length rows; response = None } → AreStates (rows ++ Invoke op client key action ∷ []) (states ++ state ∷ [])
   states_invoke states state are is = record {
     all = simp length-append (omega (arith, count_push rows (Invoke op client key action), are.all));
     each = λ o s there. elim (push_cases states state o.0 s there) [
       | inl w ↦ Describes-push rows (Invoke op client key action) o s (λ t e. cc) (λ r e. cc) (are.each o s w)
       | inr w ↦
           let here : o ≡ op = same_op o op (omega (arith, w.0, are.all, fresh)) in
-          let same : record { client = client; is_write = is_write action; note = None; response = None } ≡ s = sym is ∙ w.1 in
+          let same : record { client = client; is_write = is_write action; note = None; invoked = length rows; response = None } ≡ s = sym is ∙ w.1 in
           subst (λ (x : OpId). Describes (rows ++ Invoke op client key action ∷ []) x s) (sym here) (subst (λ (x : CallState). Describes (rows ++ Invoke op client key action ∷ []) op x) same Describes-begun)
     ];
   }
+
+-- where the rows respond at that place, it is the place of the response that they have there
+response_there : (rows : List Row) (op : OpId) (place : Option ℕ) → ((k : ℕ) → place ≡ Some k → RespondsAt rows op k) → place ≡ place_in (response_at rows place)
+response_there rows op None answered = refl
+response_there rows op (Some k) answered = let h = answered k refl in rw h.1 refl
+
+-- a state that describes a call is that of the call
+pub IsStateOf-there : (rows : List Row) (states : List CallState) (op : OpId) (state : CallState) → slice_get states op.0 ≡ Some state → Describes rows op state → IsStateOf (call_of rows states op.0) state
+IsStateOf-there rows states op state at d =
+    subst (λ (s : Option CallState). IsStateOf (call_with rows op.0 s) state) (sym at) (record {
+      client = refl;
+      kind = d.kind ∙ ap (λ (row : Option Row). is_write (action_in row)) (sym d.invoked);
+      note = refl;
+      invoked = refl;
+      response = response_there rows op state.response (λ k is. (d.answered k).0 is);
+    })

@@ -1,10 +1,6 @@
 -- How the parts of a history grow by a call.
 use Rattle.std.specs.Prelude.{ℕ, ◌≡◌, ◌⊎◌, List, [], ◌∷◌, ◌++◌, Some, slice_get, slice_set}
 use Rattle.std.specs.Prelude.{Contains}
-use Rattle.tag.specs.declared.actions.Action.{Action}
-use Rattle.tag.specs.declared.numbers.OpId.{OpId}
-use Rattle.recorder.specs.declared.row.Row.{Row}
-use Rattle.recorder.specs.declared.row.Row.TheVariants.{Invoke}
 use Rattle.recorder.specs.declared.part.Call.{Call}
 
 -- the call comes to the end of its key's part
@@ -24,8 +20,3 @@ pub record BeginsPart (old : List (List ℕ × List Call)) (key : List ℕ) (cal
 -- the call is added to the parts
 abbrev pub AddsCall : List (List ℕ × List Call) → List ℕ → Call → List (List ℕ × List Call) → Type 0
 AddsCall old key call new = ExtendsPart old key call new ⊎ BeginsPart old key call new
-
--- the row at that place begins the call, on some key
-abbrev pub IsBegunAt : List Row → ℕ → OpId → ℕ → Action → Type 0
-IsBegunAt rows place op client action =
-    (key : List ℕ) × (slice_get rows place ≡ Some (Invoke op client key action))

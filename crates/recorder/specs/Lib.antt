@@ -1,8 +1,12 @@
+pub mod Shown
 pub mod Parts
 pub mod Orders
 pub mod Histories
 pub mod States
 pub mod Kept
+pub mod Tables
+pub mod KeptRows
+pub mod PartRecords
 pub mod Answers
 pub mod Records
 pub mod Sound

@@ -119,30 +119,35 @@ fn are_of_their_halls(histories: &[History], halls: Halls) -> bool
     ensures { IsTrue result ↔ AreOfTheirHalls halls histories.now }
 {
     for (k, history) in histories.iter().enumerate() {
-        if !is_hall_of(history.rows(), halls, k) {
+        if !is_hall_of(history, halls, k) {
             return false;
         }
     }
     true
 }
 
-/// Whether the rows' calls are on keys of that hall.
-fn is_hall_of(rows: &[Row], halls: Halls, hall: usize) -> bool
-    ensures { IsTrue result ↔ IsHallOf halls hall rows.now }
+/// Whether the history's calls are on keys of that hall.
+fn is_hall_of(history: &History, halls: Halls, hall: usize) -> bool
+    ensures { IsTrue result ↔ IsHallOf halls hall history.now.rows }
 {
     // All keys are of the only hall.
     if halls.count() == 1 && hall == 0 {
         return true;
     }
-    rows.iter().all(|row| falls_to(row, halls, hall))
+    for place in 0..history.row_count() {
+        if !falls_to(&history.row(place), halls, hall) {
+            return false;
+        }
+    }
+    true
 }
 
 /// Whether the row, where it begins a call, is on a key of that hall.
-fn falls_to(row: &Row, halls: Halls, hall: usize) -> bool
+fn falls_to(row: &Row<'_>, halls: Halls, hall: usize) -> bool
     ensures { IsTrue result ↔ FallsTo halls hall row.now }
 {
     match row {
-        Row::Invoke { key, .. } => usize::from(halls.of(key)) == hall,
+        Row::Invoke { key, .. } => usize::from(halls.of(key.key())) == hall,
         Row::Note { .. } | Row::Respond { .. } => true,
     }
 }

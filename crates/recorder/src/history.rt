@@ -4,30 +4,22 @@ ghost use Rattle.std.specs.Prelude.{IfNone, IsSome, Some, None, slice_get, true,
 ghost use Rattle.std.specs.Prelude.{◌↔◌, length, vec_len, vec_capacity};
 ghost use Rattle.tag.specs.Limits.{call_limit};
 ghost use Rattle.tag.specs.Names.{is_key};
-ghost use Rattle.recorder.specs.declared.history.CallState.{CallState};
+ghost use Rattle.recorder.specs.declared.record.CallState.{CallState};
 ghost use Rattle.recorder.specs.Histories.{IsBusy, IsWellFormed, call_count, caller_of};
 ghost use Rattle.recorder.specs.Answers.{RecordsRow, IsRefused, MayBegin, with_row};
 ghost use Rattle.recorder.specs.States.{is_write};
+ghost use Rattle.recorder.specs.Tables.{row_limit};
 
 mod equal;
 mod parts;
 
 use crate::clients::ClientSet;
+use crate::record::{CallState, Record};
+use crate::refs::{ActionRef, ReturnedRef};
 use crate::row::{Row, RowRefusal};
-use key_index::KeyNumbers;
 use std::alloc::Global;
 use std::marker::Model;
 use tag::{Action, ClientId, Key, Memory, OpId, Returned, Tag};
-
-/// What a history knows of a call without reading its rows.
-#[derive(Clone, Copy, Debug)]
-struct CallState {
-    client: ClientId,
-    is_write: bool,
-    note: Option<Tag>,
-    /// The place of its response's row.
-    response: Option<usize>,
-}
 
 /// The rows of calls, as they came.
 ///
@@ -37,15 +29,9 @@ struct CallState {
 /// the same time however many rows there are, but for the look-up of an invocation's key.
 #[derive(Debug, Drop)]
 pub struct History {
-    rows: Vec<Row>,
-    states: Vec<CallState>,
+    record: Record,
     /// The clients that have a pending call.
     busy: ClientSet,
-    /// The keys of the calls, whose texts the rows share.
-    keys: KeyNumbers,
-    /// How many calls each key has, by number, so that `parts` makes room once. Nothing rests on
-    /// it but time and memory.
-    key_calls: Vec<u32>,
     limit: u32,
 }
 
@@ -68,21 +54,27 @@ impl History {
         ensures { result ≡ record { rows = []; limit = limit } }
     {
         History {
-            rows: Vec::new(alloc),
-            states: Vec::new(alloc),
+            record: Record::new(alloc),
             busy: ClientSet::new(alloc),
-            keys: KeyNumbers::new(alloc),
-            key_calls: Vec::new(alloc),
             limit,
         }
     }
 
-    /// The rows, in the order in which they came.
-    pub fn rows(&self) -> &[Row]
-        ensures rows { result.now ≡ self.now.rows }
+    /// How many rows there are.
+    pub fn row_count(&self) -> usize
+        ensures count { result ≡ length self.now.rows }
         ensures formed { IsWellFormed self.now.rows }
+        ensures few { result ≤ row_limit }
     {
-        self.rows.as_slice()
+        self.record.rows.len()
+    }
+
+    /// The row at that place, from 0, in the order in which they came.
+    pub fn row(&self, place: usize) -> Row<'_>
+        requires { place < length self.now.rows }
+        ensures { slice_get self.now.rows place ≡ Some result }
+    {
+        self.record.rows.row(place)
     }
 
     /// How many calls were begun.
@@ -91,7 +83,7 @@ impl History {
         ensures most { result ≤ self.now.limit }
         ensures few { result ≤ call_limit }
     {
-        self.states.len()
+        self.record.states.len()
     }
 
     /// How many calls may be begun.
@@ -107,13 +99,9 @@ impl History {
     pub fn copy(&self) -> Result<History, Memory>
         ensures { IfOk result (λ history. history ≡ self.now) }
     {
-        let alloc = *self.rows.allocator();
         Ok(History {
-            rows: copied_rows(alloc, &self.rows)?,
-            states: Vec::from_slice(alloc, &self.states)?,
+            record: self.record.copy()?,
             busy: self.busy.copy()?,
-            keys: KeyNumbers::new(alloc),
-            key_calls: Vec::new(alloc),
             limit: self.limit,
         })
     }
@@ -130,7 +118,7 @@ impl History {
     pub fn caller(&self, op: OpId) -> Option<ClientId>
         ensures { result ≡ caller_of self.now.rows op }
     {
-        match self.states.get(op.0 as usize) {
+        match self.record.states.get(op.0 as usize) {
             Some(state) => Some(state.client),
             None => None,
         }
@@ -146,11 +134,7 @@ impl History {
         ensures may { OnOk result (MayBegin self.old client) }
         ensures err { OnErr result (self.new ≡ self.old) }
     {
-        self.check_begin(client)?;
-        let op = self.next_call();
-        let key = shared_key(&mut self.keys, &mut self.key_calls, &key)?;
-        self.begin(op, client, key, action)?;
-        Ok(op)
+        self.invoke_text(client, key.as_str(), &ActionRef::of(&action))
     }
 
     /// The same on the key of that text. It takes no memory for a key that this history was given
@@ -168,9 +152,25 @@ impl History {
         ensures may { OnOk result (MayBegin self.old client) }
         ensures err { OnErr result (self.new ≡ self.old) }
     {
+        self.invoke_text(client, key, &ActionRef::of(&action))
+    }
+
+    /// The same where the value's text is somebody else's, too.
+    pub fn invoke_text(
+        &mut self,
+        client: ClientId,
+        key: &str,
+        action: &ActionRef<'_>,
+    ) -> Result<OpId, RowRefusal>
+        requires { is_key key.now ≡ true }
+        ensures row { RecordsRow self.old (Row.Invoke
+            (record { 0 = call_count self.old.rows }) client key.now action.now) result self.new }
+        ensures number { IfOk result (λ op. op.0 ≡ call_count self.old.rows) }
+        ensures may { OnOk result (MayBegin self.old client) }
+        ensures err { OnErr result (self.new ≡ self.old) }
+    {
         self.check_begin(client)?;
         let op = self.next_call();
-        let key = key_of(&mut self.keys, &mut self.key_calls, key)?;
         self.begin(op, client, key, action)?;
         Ok(op)
     }
@@ -199,28 +199,35 @@ impl History {
     }
 
     /// Begins a call that nothing refuses. On `Memory` nothing changed.
-    fn begin(&mut self, op: OpId, client: ClientId, key: Key, action: Action) -> Result<(), Memory>
+    fn begin(
+        &mut self,
+        op: OpId,
+        client: ClientId,
+        key: &str,
+        action: &ActionRef<'_>,
+    ) -> Result<(), Memory>
         requires next { op.0 ≡ call_count self.old.rows }
         requires may { MayBegin self.old client }
-        ensures ok { OnOk result (self.new ≡ with_row self.old (Row.Invoke op client key action)) }
+        requires lawful { is_key key.now ≡ true }
+        ensures ok { OnOk result (self.new
+            ≡ with_row self.old (Row.Invoke op client key.now action.now)) }
         ensures err { OnErr result (self.new ≡ self.old) }
     {
         let state = CallState {
             client,
-            is_write: is_write(&action),
+            is_write: action.written().is_some(),
             note: None,
+            invoked: self.record.rows.len() as u32,
             response: None,
         };
         // Whatever can be refused comes first.
-        make_room(&mut self.rows, &mut self.states)?;
+        self.record.states.reserve(1)?;
         self.busy.insert(client)?;
-        self.states.push(state)?;
-        self.rows.push(Row::Invoke {
-            op,
-            client,
-            key,
-            action,
-        })?;
+        let Ok(()) = self.record.rows.push_invoke(op, client, key, action) else {
+            self.busy.remove(client);
+            return Err(Memory);
+        };
+        self.record.states.push(state)?;
         Ok(())
     }
 
@@ -230,14 +237,14 @@ impl History {
     pub fn note(&mut self, op: OpId, tag: Tag) -> Result<(), RowRefusal>
         ensures { RecordsRow self.old (Row.Note op tag) result self.new }
     {
-        let Some(state) = pending_state(&self.states, op) else {
+        let Some(state) = pending_state(&self.record.states, op) else {
             return Err(RowRefusal::NotPending);
         };
         if state.note.is_some() {
             return Err(RowRefusal::NoteTwice);
         }
-        self.rows.push(Row::Note { op, tag })?;
-        self.states[op.0 as usize].note = Some(tag);
+        self.record.rows.push_note(op, tag)?;
+        self.record.states[op.0 as usize].note = Some(tag);
         Ok(())
     }
 
@@ -247,91 +254,25 @@ impl History {
     pub fn respond(&mut self, op: OpId, returned: Returned) -> Result<(), RowRefusal>
         ensures { RecordsRow self.old (Row.Respond op returned) result self.new }
     {
-        let Some(state) = pending_state(&self.states, op) else {
+        self.respond_text(op, &ReturnedRef::of(&returned))
+    }
+
+    /// The same where the value's text is somebody else's.
+    pub fn respond_text(&mut self, op: OpId, returned: &ReturnedRef<'_>) -> Result<(), RowRefusal>
+        ensures { RecordsRow self.old (Row.Respond op returned.now) result self.new }
+    {
+        let Some(state) = pending_state(&self.record.states, op) else {
             return Err(RowRefusal::NotPending);
         };
-        if state.is_write != is_done(&returned) {
+        if state.is_write != returned.answered().is_none() {
             return Err(RowRefusal::WrongKind);
         }
-        let place = self.rows.len();
-        self.rows.push(Row::Respond { op, returned })?;
-        self.states[op.0 as usize].response = Some(place);
+        let place = self.record.rows.len() as u32;
+        self.record.rows.push_respond(op, returned)?;
+        self.record.states[op.0 as usize].response = Some(place);
         self.busy.remove(state.client);
         Ok(())
     }
-}
-
-/// Makes room for a row more and a state more.
-fn make_room(rows: &mut Vec<Row>, states: &mut Vec<CallState>) -> Result<(), Memory>
-    ensures rows { rows.new.items ≡ rows.old.items }
-    ensures states { states.new.items ≡ states.old.items }
-    ensures row { OnOk result (vec_len rows.new < vec_capacity rows.new) }
-    ensures state { OnOk result (vec_len states.new < vec_capacity states.new) }
-{
-    rows.reserve(1)?;
-    states.reserve(1)?;
-    Ok(())
-}
-
-/// Counts a call more of the key that has that number, the next one where it is new.
-fn count_call(key_calls: &mut Vec<u32>, number: usize) -> Result<(), Memory> {
-    if number < key_calls.len() {
-        key_calls[number] = key_calls[number].saturating_add(1);
-    } else {
-        key_calls.push(1)?;
-    }
-    Ok(())
-}
-
-/// The key of that number, of which a call more is counted.
-fn counted_key(keys: &KeyNumbers, key_calls: &mut Vec<u32>, number: usize) -> Result<Key, Memory>
-    requires { number < length keys.now }
-    ensures { IfOk result (λ key. slice_get keys.now number ≡ Some key) }
-{
-    count_call(key_calls, number)?;
-    keys.keys()[number].copy()
-}
-
-/// The key, its text shared with the one that is known, if any. Its call is counted.
-fn shared_key(keys: &mut KeyNumbers, key_calls: &mut Vec<u32>, key: &Key) -> Result<Key, Memory>
-    ensures { IfOk result (λ shared. shared ≡ key.now) }
-{
-    let number = keys.number(key)?;
-    counted_key(keys, key_calls, number)
-}
-
-/// The key of that text, which is made where it isn't known. Its call is counted.
-fn key_of(keys: &mut KeyNumbers, key_calls: &mut Vec<u32>, text: &str) -> Result<Key, Memory>
-    requires { is_key text.now ≡ true }
-    ensures { IfOk result (λ key. key ≡ text.now) }
-{
-    let number = keys.number_text(text)?;
-    counted_key(keys, key_calls, number)
-}
-
-/// Copies of the rows.
-fn copied_rows(alloc: Global, rows: &[Row]) -> Result<Vec<Row>, Memory>
-    ensures { IfOk result (λ copies. copies.items ≡ rows.now) }
-{
-    let mut copies = Vec::with_capacity(alloc, rows.len())?;
-    for row in rows {
-        copies.push(row.copy()?)?;
-    }
-    Ok(copies)
-}
-
-/// Whether the action is a write.
-fn is_write(action: &Action) -> bool
-    ensures { result ≡ is_write action.now }
-{
-    matches!(action, Action::Write(_))
-}
-
-/// Whether the answer is a write's.
-fn is_done(returned: &Returned) -> bool
-    ensures { IsTrue result ↔ (returned.now ≡ Returned.Written) }
-{
-    matches!(returned, Returned::Written)
 }
 
 /// The state of a call, where it is pending.

@@ -1,9 +1,11 @@
 //! What a client's log has of a call.
-use crate::Response;
-use tag::{Action, Key, OpId};
+ghost use Rattle.std.specs.Prelude.{◌≡◌};
+
+use std::marker::Model;
+use tag::{Action, Key, OpId, Returned};
 
 /// A call of a client.
-#[derive(Debug, Drop, PartialEq, Eq)]
+#[derive(Debug, Drop)]
 pub struct Entry {
     /// The hall of its key.
     pub hall: u8,
@@ -16,5 +18,43 @@ pub struct Entry {
     /// The place of its invocation in that record.
     pub invoked: usize,
     /// Its answer with its place there; none while it is pending.
-    pub response: Option<Response>,
+    pub response: Option<OwnResponse>,
+}
+
+/// A response, as `Response`, whose text is its own.
+#[derive(Debug, Drop)]
+pub struct OwnResponse {
+    place: usize,
+    returned: Returned,
+}
+
+impl Model for OwnResponse {
+    ghost use Rattle.recorder.specs.declared.part.Response.{Response};
+
+    ghost Value = { Response };
+
+    ghost view = { λ r. record { place = r.place; returned = r.returned } };
+}
+
+impl OwnResponse {
+    /// The response at that place.
+    pub fn new(place: usize, returned: Returned) -> OwnResponse
+        ensures { result ≡ record { place = place; returned = returned } }
+    {
+        OwnResponse { place, returned }
+    }
+
+    /// The place of its row.
+    pub fn place(&self) -> usize
+        ensures { result ≡ self.now.place }
+    {
+        self.place
+    }
+
+    /// What it answers.
+    pub fn returned(&self) -> &Returned
+        ensures { result.now ≡ self.now.returned }
+    {
+        &self.returned
+    }
 }

@@ -1,85 +1,121 @@
 //! The calls on one key.
-ghost use Rattle.std.specs.Prelude.{◌≡◌, [], ◌∷◌, ◌++◌, IfOk, OnOk, OnErr};
+ghost use Rattle.std.specs.Prelude.{◌≡◌, ◌<◌, [], length, Some};
+ghost use Rattle.std.specs.List.{slice_get};
 
-use std::alloc::{AllocFailed, Global};
+use crate::record::{CallState, Record};
+use crate::refs::{ActionRef, ReturnedRef};
 use std::marker::Model;
-use tag::{Action, ClientId, Memory, OpId, Returned, Tag};
+use tag::{ClientId, OpId, Tag};
 
 /// A response: its row's place in the history, and what it answers.
-#[derive(Debug, Drop, PartialEq, Eq)]
-pub struct Response {
+#[derive(Debug, Drop, PartialEq)]
+pub struct Response<'h> {
     pub place: usize,
-    pub returned: Returned,
+    pub returned: ReturnedRef<'h>,
 }
 
 /// A call as a history recorded it.
-#[derive(Debug, Drop, PartialEq, Eq)]
-pub struct Call {
+#[derive(Debug, Drop, PartialEq)]
+pub struct Call<'h> {
     pub op: OpId,
     pub client: ClientId,
-    pub action: Action,
+    pub action: ActionRef<'h>,
     pub note: Option<Tag>,
     /// The place of the invocation's row in the history.
     pub invoked: usize,
-    pub response: Option<Response>,
+    pub response: Option<Response<'h>>,
 }
 
-/// The calls on one key, in the order of their invocations.
+/// The calls on one key, in the order of their invocations, lent by the history that recorded them.
 ///
 /// Their numbers and the places of their invocations rise, and each response stands after its
-/// invocation. Only a history makes parts that hold calls.
+/// invocation. Only a history has parts with calls.
 #[derive(Debug, Drop)]
-pub struct Part {
-    calls: Vec<Call>,
+pub struct Part<'h> {
+    record: Option<&'h Record>,
+    /// The calls' numbers in the history.
+    numbers: &'h [u32],
 }
 
-impl Model for Part {
-    ghost use Rattle.recorder.specs.declared.part.Call.{Call};
-    ghost use Rattle.recorder.specs.Parts.{IsSequence};
+impl<'h> Model for Part<'h> {
     ghost use Rattle.std.specs.Prelude.{List};
+    ghost use Rattle.std.specs.Option.{option_copied};
+    ghost use Rattle.recorder.specs.declared.part.Call.{Call};
 
     ghost Value = { List Call };
 
-    ghost view = { λ p. p.calls.items };
+    ghost use Rattle.recorder.specs.PartRecords.{part_of, IsPartOf};
 
-    ghost invariant = { λ p. IsSequence p.calls.items };
+    ghost view = { λ p. part_of (option_copied p.record) p.numbers.now };
+
+    ghost invariant = { λ p. IsPartOf (option_copied p.record) p.numbers.now };
 }
 
-impl Part {
+impl<'h> Part<'h> {
     ghost use Rattle.recorder.specs.Parts.{IsSequence};
+    ghost use Rattle.recorder.specs.PartRecords.{calls_of, HasCalls};
+    ghost use Rattle.recorder.specs.declared.part.Call.{Call};
+    ghost use Rattle.recorder.specs.States.{IsStateOf};
 
     /// A part without a call.
-    pub fn empty(alloc: Global) -> Part
+    pub fn empty() -> Part<'h>
         ensures { result ≡ [] }
     {
         Part {
-            calls: Vec::new(alloc),
+            record: None,
+            numbers: &[],
         }
     }
 
-    /// The same, with room for so many calls.
-    pub(crate) fn with_room(alloc: Global, room: usize) -> Result<Part, Memory>
-        ensures { IfOk result (λ part. part ≡ []) }
+    /// The part of the record that has the calls of these numbers.
+    pub(crate) fn of(record: &'h Record, numbers: &'h [u32]) -> Part<'h>
+        requires { HasCalls record.now numbers.now }
+        ensures { result ≡ calls_of record.now numbers.now }
     {
-        Ok(Part {
-            calls: Vec::with_capacity(alloc, room)?,
-        })
+        Part {
+            record: Some(record),
+            numbers,
+        }
     }
 
-    /// The calls.
-    pub fn calls(&self) -> &[Call]
-        ensures calls { result.now ≡ self.now }
+    /// How many calls there are.
+    pub fn len(&self) -> usize
+        ensures count { result ≡ length self.now }
         ensures sequence { IsSequence self.now }
     {
-        self.calls.as_slice()
+        self.numbers.len()
     }
 
-    /// Adds a call that comes after all others.
-    pub(crate) fn push(&mut self, call: Call) -> Result<(), AllocFailed<Call>>
-        requires { IsSequence (self.old ++ call ∷ []) }
-        ensures ok { OnOk result (self.new ≡ self.old ++ call ∷ []) }
-        ensures err { OnErr result (self.new ≡ self.old) }
+    /// The call at that place of the part, from 0.
+    pub fn call(&self, place: usize) -> Call<'h>
+        requires { place < length self.now }
+        ensures { slice_get self.now place ≡ Some result }
     {
-        self.calls.push(call)
+        match self.record {
+            Some(record) => record.call(OpId(self.numbers[place])),
+            None => unreachable!(),
+        }
+    }
+
+    /// The number of the call at that place.
+    pub fn op(&self, place: usize) -> OpId
+        requires { place < length self.now }
+        ensures { (call : Call) × (slice_get self.now place ≡ Some call) × (result ≡ call.op) }
+    {
+        match self.record {
+            Some(_) => OpId(self.numbers[place]),
+            None => unreachable!(),
+        }
+    }
+
+    /// The call at that place without its texts, in less time than `call` takes.
+    pub fn state(&self, place: usize) -> CallState
+        requires { place < length self.now }
+        ensures { (call : Call) × (slice_get self.now place ≡ Some call) × IsStateOf call result }
+    {
+        match self.record {
+            Some(record) => record.state(OpId(self.numbers[place])),
+            None => unreachable!(),
+        }
     }
 }

@@ -1,21 +1,22 @@
 //! Rows of a history, and why one may be refused.
-ghost use Rattle.std.specs.Prelude.{◌≡◌, IfOk};
+ghost use Rattle.std.specs.Prelude.{◌≡◌};
 ghost use Rattle.recorder.specs.declared.row.RowRefusal.{RowRefusal};
 ghost use Rattle.recorder.specs.Numbers.{row_refusal_number};
 
+use crate::refs::{ActionRef, KeyRef, ReturnedRef};
 use std::alloc::AllocFailed;
-use tag::{Action, ClientId, Key, Memory, OpId, Returned, Tag};
+use tag::{ClientId, Memory, OpId, Tag};
 use thiserror::Error;
 
 /// A row of a history.
-#[derive(Debug, Drop, PartialEq, Eq)]
-pub enum Row {
+#[derive(Debug, Drop, PartialEq)]
+pub enum Row<'h> {
     /// A client begins a call on a key.
     Invoke {
         op: OpId,
         client: ClientId,
-        key: Key,
-        action: Action,
+        key: KeyRef<'h>,
+        action: ActionRef<'h>,
     },
     /// A call's tag is fixed.
     Note {
@@ -25,34 +26,8 @@ pub enum Row {
     /// A call is answered.
     Respond {
         op: OpId,
-        returned: Returned,
+        returned: ReturnedRef<'h>,
     },
-}
-
-impl Row {
-    /// An equal row. `Memory` comes only where a text's copy was refused.
-    pub fn copy(&self) -> Result<Row, Memory>
-        ensures { IfOk result (λ row. row ≡ self.now) }
-    {
-        match self {
-            Row::Invoke {
-                op,
-                client,
-                key,
-                action,
-            } => Ok(Row::Invoke {
-                op: *op,
-                client: *client,
-                key: key.copy()?,
-                action: action.copy()?,
-            }),
-            Row::Note { op, tag } => Ok(Row::Note { op: *op, tag: *tag }),
-            Row::Respond { op, returned } => Ok(Row::Respond {
-                op: *op,
-                returned: returned.copy()?,
-            }),
-        }
-    }
 }
 
 /// Why a row was refused: of all reasons that apply the first in this list.

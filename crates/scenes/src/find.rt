@@ -1,29 +1,19 @@
 //! Calls by their numbers.
-ghost use Rattle.std.specs.Prelude.{◌≡◌, ◌<◌, Some, length, slice_get};
+ghost use Rattle.std.specs.Prelude.{◌≡◌};
 ghost use Rattle.recorder.specs.declared.part.Call.{Call};
-ghost use Rattle.recorder.specs.Parts.{IsSequence};
 ghost use Rattle.reasons.specs.Calls.{IsCallOf};
 
 use certificate_check::find_call;
-use recorder::Call;
+use recorder::Part;
 use tag::OpId;
 
-/// The call at that index.
-pub(crate) fn call_at(calls: &[Call], i: usize) -> &Call
-    requires { i < length calls.now }
-    ensures { slice_get calls.now i ≡ Some result.now }
-{
-    &calls[i]
-}
-
 /// The place at which the call of that number begins, where there is one.
-pub(crate) fn invoked(calls: &[Call], op: OpId) -> usize
-    requires sequence { IsSequence calls.now }
-    requires there { (call : Call) × IsCallOf calls.now op call }
-    ensures { (call : Call) × IsCallOf calls.now op call × (result ≡ call.invoked) }
+pub(crate) fn invoked(part: &Part<'_>, op: OpId) -> usize
+    requires { (call : Call) × IsCallOf part.now op call }
+    ensures { (call : Call) × IsCallOf part.now op call × (result ≡ call.invoked) }
 {
-    match find_call(calls, op) {
-        Some(k) => calls[k].invoked,
+    match find_call(part, op) {
+        Some(k) => part.call(k).invoked,
         None => unreachable!(),
     }
 }

@@ -3,35 +3,34 @@ ghost use Rattle.std.specs.Prelude.{ℕ, ◌≡◌, ◌↔◌, IfOk, Some, Conta
 ghost use Rattle.std.specs.List.Sorted.{IsStrictlyIncreasing};
 ghost use Rattle.scenes.specs.Scenes.{HasCallOf, IsRisingListOf, IsSelection};
 
-use crate::find::call_at;
-use recorder::Call;
+use recorder::Part;
 use std::alloc::Global;
 use tag::{ClientId, Memory};
 
 /// The clients of the shown calls, each once, in rising order.
 pub(crate) fn lanes_of(
     alloc: Global,
-    calls: &[Call],
+    part: &Part<'_>,
     shown: &[usize],
 ) -> Result<Vec<ClientId>, Memory>
-    requires { IsSelection calls.now shown.now }
-    ensures { IfOk result (λ lanes. IsRisingListOf (HasCallOf calls.now shown.now) lanes.items) }
+    requires { IsSelection part.now shown.now }
+    ensures { IfOk result (λ lanes. IsRisingListOf (HasCallOf part.now shown.now) lanes.items) }
 {
-    let mut lanes = clients_of(alloc, calls, shown)?;
+    let mut lanes = clients_of(alloc, part, shown)?;
     lanes.sort_unstable();
     lanes.dedup();
     Ok(lanes)
 }
 
 /// The clients of the shown calls, in any order.
-fn clients_of(alloc: Global, calls: &[Call], shown: &[usize]) -> Result<Vec<ClientId>, Memory>
-    requires { IsSelection calls.now shown.now }
+fn clients_of(alloc: Global, part: &Part<'_>, shown: &[usize]) -> Result<Vec<ClientId>, Memory>
+    requires { IsSelection part.now shown.now }
     ensures { IfOk result (λ clients. (client : ℕ)
-        → Contains clients.items client ↔ HasCallOf calls.now shown.now client) }
+        → Contains clients.items client ↔ HasCallOf part.now shown.now client) }
 {
     let mut clients = Vec::with_capacity(alloc, shown.len())?;
     for i in shown {
-        clients.push(call_at(calls, *i).client)?;
+        clients.push(part.call(*i).client)?;
     }
     Ok(clients)
 }

@@ -1,12 +1,11 @@
 //! How many calls are under way at once.
 ghost use Rattle.std.specs.Prelude.{◌≡◌, IfOk};
 ghost use Rattle.std.specs.List.Sorted.{IsNonDecreasing};
-ghost use Rattle.recorder.specs.Parts.{IsSequence};
 ghost use Rattle.scenes.specs.Overlaps.{AreEnds, IsMostAtOnce, up_to};
 
 use crate::bars::end_of;
 use crate::ticks::add_some;
-use recorder::{Call, Part};
+use recorder::Part;
 use std::alloc::Global;
 use tag::Memory;
 
@@ -14,25 +13,23 @@ use tag::Memory;
 ///
 /// It takes time in proportion to the calls and the logarithm of their count, and answers `Memory`
 /// only where an allocation was refused.
-pub fn most_at_once(alloc: Global, part: &Part) -> Result<usize, Memory>
+pub fn most_at_once(alloc: Global, part: &Part<'_>) -> Result<usize, Memory>
     ensures { IfOk result (λ most. IsMostAtOnce part.now most) }
 {
-    let calls = part.calls();
-    let ends = sorted_ends(alloc, calls)?;
-    Ok(most_by_ends(calls, &ends))
+    let ends = sorted_ends(alloc, part)?;
+    Ok(most_by_ends(part, &ends))
 }
 
 /// The same, of the calls whose responses have these places.
-fn most_by_ends(calls: &[Call], ends: &[usize]) -> usize
-    requires sequence { IsSequence calls.now }
-    requires ends { AreEnds calls.now ends.now }
+fn most_by_ends(part: &Part<'_>, ends: &[usize]) -> usize
+    requires ends { AreEnds part.now ends.now }
     requires sorted { IsNonDecreasing ends.now }
-    ensures { IsMostAtOnce calls.now result }
+    ensures { IsMostAtOnce part.now result }
 {
     let mut most = 0usize;
-    for (k, call) in calls.iter().enumerate() {
+    for k in 0..part.len() {
         // All calls up to this one have begun here, and no later one.
-        let answered = count_up_to(ends, call.invoked);
+        let answered = count_up_to(ends, part.call(k).invoked);
         most = most.max(k + 1 - answered);
     }
     most
@@ -47,22 +44,22 @@ fn count_up_to(places: &[usize], place: usize) -> usize
 }
 
 /// The places of the calls' responses, sorted.
-fn sorted_ends(alloc: Global, calls: &[Call]) -> Result<Vec<usize>, Memory>
-    ensures ends { IfOk result (λ ends. AreEnds calls.now ends.items) }
+fn sorted_ends(alloc: Global, part: &Part<'_>) -> Result<Vec<usize>, Memory>
+    ensures ends { IfOk result (λ ends. AreEnds part.now ends.items) }
     ensures sorted { IfOk result (λ ends. IsNonDecreasing ends.items) }
 {
-    let mut ends = ends_of(alloc, calls)?;
+    let mut ends = ends_of(alloc, part)?;
     ends.sort_unstable();
     Ok(ends)
 }
 
 /// The places of the calls' responses, in the order of the calls.
-fn ends_of(alloc: Global, calls: &[Call]) -> Result<Vec<usize>, Memory>
-    ensures { IfOk result (λ ends. AreEnds calls.now ends.items) }
+fn ends_of(alloc: Global, part: &Part<'_>) -> Result<Vec<usize>, Memory>
+    ensures { IfOk result (λ ends. AreEnds part.now ends.items) }
 {
     let mut ends = Vec::new(alloc);
-    for call in calls {
-        add_some(&mut ends, end_of(&call.response))?;
+    for k in 0..part.len() {
+        add_some(&mut ends, end_of(&part.call(k).response))?;
     }
     Ok(ends)
 }

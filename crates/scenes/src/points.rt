@@ -13,16 +13,16 @@ use tag::{Memory, OpId};
 ///
 /// It takes time in proportion to the order and the logarithm of the calls' count, and answers
 /// `Memory` only where an allocation was refused.
-pub fn points_of(alloc: Global, part: &Part, order: &[OpId]) -> Result<Vec<usize>, Memory>
+pub fn points_of(alloc: Global, part: &Part<'_>, order: &[OpId]) -> Result<Vec<usize>, Memory>
     requires apart { AreApart part.now }
     requires order { IsOrder part.now order.now }
     ensures { IfOk result (λ points. ArePoints part.now order.now points.items) }
 {
-    let calls = part.calls();
+    let _sequence = part.len();
     let mut points = Vec::with_capacity(alloc, order.len())?;
     let mut latest = 0usize;
     for op in order {
-        latest = latest.max(invoked(calls, *op));
+        latest = latest.max(invoked(part, *op));
         points.push(latest)?;
     }
     Ok(points)

@@ -6,7 +6,7 @@ use crate::bars::bars_of;
 use crate::dots::dots_of;
 use crate::lanes::lanes_of;
 use crate::ticks::ticks_of;
-use recorder::{Part, Row};
+use recorder::{History, Part};
 use std::alloc::Global;
 use tag::{ClientId, Memory, OpId};
 
@@ -48,7 +48,7 @@ pub struct Scene {
     pub dots: Vec<Dot>,
 }
 
-/// The scene of the part's calls at the shown indexes, which the rows record, and of an order with
+/// The scene of the part's calls at the shown indexes, which the history records, and of an order with
 /// its points. For a picture without points give an empty order.
 ///
 /// It takes time in proportion to the shown calls and the order, times the logarithm of the shown
@@ -56,19 +56,19 @@ pub struct Scene {
 /// allocation was refused.
 pub fn scene_of(
     alloc: Global,
-    rows: &[Row],
-    part: &Part,
+    history: &History,
+    part: &Part<'_>,
     shown: &[usize],
     order: &[OpId],
     points: &[usize],
 ) -> Result<Scene, Memory>
     requires { IsSelection part.now shown.now }
     ensures { IfOk result (λ scene.
-        IsSceneOf part.now shown.now rows.now order.now points.now scene) }
+        IsSceneOf part.now shown.now history.now.rows order.now points.now scene) }
 {
-    let calls = part.calls();
-    let lanes = lanes_of(alloc, calls, shown)?;
-    let bars = bars_of(alloc, rows, calls, shown, &lanes)?;
+    let _sequence = part.len();
+    let lanes = lanes_of(alloc, part, shown)?;
+    let bars = bars_of(alloc, history, part, shown, &lanes)?;
     let ticks = ticks_of(alloc, &bars)?;
     let dots = dots_of(alloc, &bars, order, points)?;
     Ok(Scene {

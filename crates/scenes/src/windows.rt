@@ -2,13 +2,12 @@
 ghost use Rattle.std.specs.Prelude.{ℕ, ◌≡◌, ◌<◌, ◌≤◌, ◌-◌, ◌/◌, ◌↔◌, min, Some, Contains};
 ghost use Rattle.std.specs.Prelude.{IfOk, IfSome, IfNone};
 ghost use Rattle.tag.specs.declared.numbers.OpId.{OpId};
-ghost use Rattle.recorder.specs.Parts.{IsSequence};
 ghost use Rattle.certificate_check.specs.Places.{HasOpAt};
 ghost use Rattle.scenes.specs.Scenes.{IsRisingListOf, IsSelection};
 ghost use Rattle.scenes.specs.Windows.{IsInWindow, IsToShow, IsWindowAround};
 
 use certificate_check::find_call;
-use recorder::{Call, Part};
+use recorder::Part;
 use std::alloc::Global;
 use tag::{Memory, OpId};
 
@@ -21,12 +20,12 @@ pub struct Window {
 
 /// The window of `count` calls, or as many as there are, that has that call as near to its middle
 /// as the ends of the part allow. Without a call, or if the part hasn't got it, the first `count`.
-pub fn window_around(part: &Part, count: usize, around: Option<OpId>) -> Window
+pub fn window_around(part: &Part<'_>, count: usize, around: Option<OpId>) -> Window
     ensures { IsWindowAround part.now count around result }
 {
-    let calls = part.calls();
-    let count = count.min(calls.len());
-    let first = first_about(index_of(calls, around), count, calls.len());
+    let calls = part.len();
+    let count = count.min(calls);
+    let first = first_about(index_of(part, around), count, calls);
     Window { first, count }
 }
 
@@ -44,13 +43,12 @@ fn first_about(at: Option<usize>, count: usize, calls: usize) -> usize
 }
 
 /// The index of the call of that number, if there is one.
-fn index_of(calls: &[Call], op: Option<OpId>) -> Option<usize>
-    requires { IsSequence calls.now }
-    ensures found { IfSome result (λ k. (o : OpId) × (op ≡ Some o) × HasOpAt calls.now k o) }
-    ensures none { IfNone result ((o : OpId) (k : ℕ) → op ≡ Some o → HasOpAt calls.now k o → ⊥) }
+fn index_of(part: &Part<'_>, op: Option<OpId>) -> Option<usize>
+    ensures found { IfSome result (λ k. (o : OpId) × (op ≡ Some o) × HasOpAt part.now k o) }
+    ensures none { IfNone result ((o : OpId) (k : ℕ) → op ≡ Some o → HasOpAt part.now k o → ⊥) }
 {
     match op {
-        Some(op) => find_call(calls, op),
+        Some(op) => find_call(part, op),
         None => None,
     }
 }
@@ -62,7 +60,7 @@ fn index_of(calls: &[Call], op: Option<OpId>) -> Option<usize>
 /// only where an allocation was refused.
 pub fn shown_calls(
     alloc: Global,
-    part: &Part,
+    part: &Part<'_>,
     window: Window,
     kept: &[OpId],
 ) -> Result<Vec<usize>, Memory>
@@ -70,7 +68,7 @@ pub fn shown_calls(
         IsRisingListOf (IsToShow part.now window kept.now) shown.items) }
     ensures selection { IfOk result (λ shown. IsSelection part.now shown.items) }
 {
-    let mut shown = indexes_of(alloc, part.calls(), window, kept)?;
+    let mut shown = indexes_of(alloc, part, window, kept)?;
     shown.sort_unstable();
     shown.dedup();
     Ok(shown)
@@ -79,17 +77,16 @@ pub fn shown_calls(
 /// The same, in any order.
 fn indexes_of(
     alloc: Global,
-    calls: &[Call],
+    part: &Part<'_>,
     window: Window,
     kept: &[OpId],
 ) -> Result<Vec<usize>, Memory>
-    requires { IsSequence calls.now }
     ensures { IfOk result (λ indexes. (i : ℕ)
-        → Contains indexes.items i ↔ IsToShow calls.now window kept.now i) }
+        → Contains indexes.items i ↔ IsToShow part.now window kept.now i) }
 {
-    let mut indexes = indexes_in(alloc, calls.len(), window)?;
+    let mut indexes = indexes_in(alloc, part.len(), window)?;
     for op in kept {
-        if let Some(k) = find_call(calls, *op) {
+        if let Some(k) = find_call(part, *op) {
             indexes.push(k)?;
         }
     }

@@ -129,8 +129,8 @@ log_is rows client log begun answered = record {
   ordered = λ i j a b lt x y. begun.ordered i j a b lt (slice_get_within log j b y) x y;
 }
 
--- the rows are those of the history, and so many entries are all of them
-pub log_from : (seen rows : List Row) (client : ℕ) (log : List Entry) (count : ℕ) → seen ≡ rows → length log ≡ count → AreInvocations seen client (length seen) log count → ResponsesMatch seen log count → IsLog rows client log
-log_from seen rows client log count same long begun answered = log_is rows client log
-    (subst (λ l. AreInvocations l client (length l) log (length log)) same (subst (AreInvocations seen client (length seen) log) (sym long) begun))
-    (λ k entry lt at. subst (λ l. ResponseMatches l entry) same (answered k entry (subst (λ n. k < n) long lt) at))
+-- so many entries are all of them
+pub log_from : (rows : List Row) (client : ℕ) (log : List Entry) (count : ℕ) → length log ≡ count → AreInvocations rows client (length rows) log count → ResponsesMatch rows log count → IsLog rows client log
+log_from rows client log count long begun answered = log_is rows client log
+    (subst (AreInvocations rows client (length rows) log) (sym long) begun)
+    (λ k entry lt at. answered k entry (subst (λ n. k < n) long lt) at)

@@ -1,6 +1,5 @@
 //! Whether a log is what a record has of its client.
 ghost use Rattle.std.specs.Prelude.{◌≡◌, ℕ, false, length, map, IfOk, IsTrue};
-ghost use Rattle.recorder.specs.Histories.{IsWellFormed};
 ghost use Rattle.tag.specs.declared.actions.Returned.{Returned};
 ghost use Rattle.recorder.specs.declared.row.Row.TheVariants as event;
 ghost use Rattle.world_steps.specs.Sound.{NotCompleted};
@@ -8,7 +7,7 @@ ghost use Rattle.seats.specs.Comparisons.{AreInvocations, IsInvocationBy, IsInvo
 ghost use Rattle.seats.specs.Comparisons.{ResponseMatches, ResponsesMatch};
 ghost use Rattle.recorder.specs.Logs.{IsLog, of_hall};
 
-use recorder::{Entry, History, Row};
+use recorder::{ActionRef, Entry, History, KeyRef, ReturnedRef, Row};
 use std::alloc::Global;
 use tag::{ClientId, Memory, OpId, Returned};
 
@@ -34,23 +33,23 @@ pub fn entries_of_hall<'a>(
 pub fn is_log(history: &History, client: ClientId, entries: &[&Entry]) -> bool
     ensures { IsTrue result → IsLog history.now.rows client (map (λ e. e.now) entries.now) }
 {
-    let rows = history.rows();
-    are_invocations(rows, client, entries) && have_responses(rows, entries)
+    are_invocations(history, client, entries) && have_responses(history, entries)
 }
 
 /// Whether the entries are the client's calls as the rows begin them.
-fn are_invocations(rows: &[Row], client: ClientId, entries: &[&Entry]) -> bool
-    ensures { IsTrue result → AreInvocations rows.now client (length rows.now)
+fn are_invocations(history: &History, client: ClientId, entries: &[&Entry]) -> bool
+    ensures { IsTrue result → AreInvocations history.now.rows client (length history.now.rows)
         (map (λ e. e.now) entries.now) (length entries.now) }
 {
     let mut count = 0;
-    for place in 0..rows.len() {
-        if begins(&rows[place], client) {
+    for place in 0..history.row_count() {
+        let row = history.row(place);
+        if begins(&row, client) {
             if count >= entries.len() {
                 return false;
             }
             let entry = entries[count];
-            if entry.invoked != place || !is_invocation(&rows[place], client, entry) {
+            if entry.invoked != place || !is_invocation(&row, client, entry) {
                 return false;
             }
             count += 1;
@@ -60,7 +59,7 @@ fn are_invocations(rows: &[Row], client: ClientId, entries: &[&Entry]) -> bool
 }
 
 /// Whether the row begins a call of the client.
-fn begins(row: &Row, client: ClientId) -> bool
+fn begins(row: &Row<'_>, client: ClientId) -> bool
     ensures { (result ≡ false) → IsInvocationBy row.now client → ⊥ }
 {
     match row {
@@ -70,7 +69,7 @@ fn begins(row: &Row, client: ClientId) -> bool
 }
 
 /// Whether the row begins the entry's call.
-fn is_invocation(row: &Row, client: ClientId, entry: &Entry) -> bool
+fn is_invocation(row: &Row<'_>, client: ClientId, entry: &Entry) -> bool
     ensures { IsTrue result → IsInvocationOfEntry row.now client entry.now }
 {
     match row {
@@ -80,20 +79,22 @@ fn is_invocation(row: &Row, client: ClientId, entry: &Entry) -> bool
             key,
             action,
         } => {
-            *op == entry.op && *caller == client && *key == entry.key && *action == entry.action
+            *op == entry.op
+                && *caller == client
+                && *key == KeyRef::of(&entry.key)
+                && *action == ActionRef::of(&entry.action)
         }
         _ => false,
     }
 }
 
 /// Whether each entry has the response that the rows have of its call, or none with them.
-fn have_responses(rows: &[Row], entries: &[&Entry]) -> bool
-    requires { IsWellFormed rows.now }
-    ensures { IsTrue result → ResponsesMatch rows.now (map (λ e. e.now) entries.now)
+fn have_responses(history: &History, entries: &[&Entry]) -> bool
+    ensures { IsTrue result → ResponsesMatch history.now.rows (map (λ e. e.now) entries.now)
         (length entries.now) }
 {
     for entry in entries {
-        if !has_response(rows, entry) {
+        if !has_response(history, entry) {
             return false;
         }
     }
@@ -101,35 +102,35 @@ fn have_responses(rows: &[Row], entries: &[&Entry]) -> bool
 }
 
 /// Whether the entry has the response that the rows have of its call, or none with them.
-fn has_response(rows: &[Row], entry: &Entry) -> bool
-    requires { IsWellFormed rows.now }
-    ensures { IsTrue result → ResponseMatches rows.now entry.now }
+fn has_response(history: &History, entry: &Entry) -> bool
+    ensures { IsTrue result → ResponseMatches history.now.rows entry.now }
 {
     let Some(response) = &entry.response else {
-        return is_unanswered(rows, entry.op);
+        return is_unanswered(history, entry.op);
     };
-    response.place < rows.len() && is_response(&rows[response.place], entry.op, &response.returned)
+    let place = response.place();
+    place < history.row_count() && is_response(&history.row(place), entry.op, response.returned())
 }
 
 /// Whether the row is that response to the call.
-fn is_response(row: &Row, op: OpId, returned: &Returned) -> bool
+fn is_response(row: &Row<'_>, op: OpId, returned: &Returned) -> bool
     ensures { IsTrue result → row.now ≡ event.Respond op returned.now }
 {
     match row {
         Row::Respond {
             op: answered,
             returned: answer,
-        } => *answered == op && *answer == *returned,
+        } => *answered == op && *answer == ReturnedRef::of(returned),
         _ => false,
     }
 }
 
 /// Whether no row answers the call.
-fn is_unanswered(rows: &[Row], op: OpId) -> bool
-    ensures { IsTrue result → NotCompleted rows.now op }
+fn is_unanswered(history: &History, op: OpId) -> bool
+    ensures { IsTrue result → NotCompleted history.now.rows op }
 {
-    for row in rows {
-        if answers(row, op) {
+    for place in 0..history.row_count() {
+        if answers(&history.row(place), op) {
             return false;
         }
     }
@@ -137,7 +138,7 @@ fn is_unanswered(rows: &[Row], op: OpId) -> bool
 }
 
 /// Whether the row answers the call.
-fn answers(row: &Row, op: OpId) -> bool
+fn answers(row: &Row<'_>, op: OpId) -> bool
     ensures { (result ≡ false) → (returned : Returned) → row.now ≡ event.Respond op returned → ⊥ }
 {
     match row {

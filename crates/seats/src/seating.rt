@@ -14,7 +14,7 @@ use crate::receipt::Receipt;
 use crate::seat::{Answer, Seat};
 use crate::transport::Transport;
 use hall_lock::{Begun, ClientPass, Ended};
-use recorder::{Entry, Response};
+use recorder::{Entry, OwnResponse};
 use std::alloc::Global;
 use std::sync::Wait;
 use tag::{Action, ClientId, Key, Returned, Value};
@@ -91,7 +91,7 @@ pub fn call_on<R: Wait, G: Gate>(
 }
 
 /// The entry of a call that began in that hall.
-fn entry(hall: u8, begun: Begun, key: Key, action: Action, response: Option<Response>) -> Entry
+fn entry(hall: u8, begun: Begun, key: Key, action: Action, response: Option<OwnResponse>) -> Entry
     ensures { result ≡ record {
       hall = hall;
       op = begun.op;
@@ -112,7 +112,7 @@ fn entry(hall: u8, begun: Begun, key: Key, action: Action, response: Option<Resp
 }
 
 /// What an answered call leaves: its log the response, its caller the value.
-fn response_of(ended: Ended) -> (Response, Option<Value>)
+fn response_of(ended: Ended) -> (OwnResponse, Option<Value>)
     ensures response { result.0 ≡ record { place = ended.place; returned = ended.returned } }
     ensures value { result.1 ≡ value_of ended.copy }
 {
@@ -122,7 +122,7 @@ fn response_of(ended: Ended) -> (Response, Option<Value>)
         copy,
         ..
     } = ended;
-    (Response { place, returned }, value_of(copy))
+    (OwnResponse::new(place, returned), value_of(copy))
 }
 
 /// What a read answered; a write none.

@@ -185,10 +185,10 @@ fn say_calls(out: &mut String, order: &[OpId]) -> Result<(), AllocError> {
 }
 
 /// A line for a key: the order of its calls, and the verdict on it.
-fn say_key(alloc: Global, out: &mut String, parts: &Parts, key_order: &KeyOrder) -> Option<()> {
+fn say_key(alloc: Global, out: &mut String, parts: &Parts<'_>, key_order: &KeyOrder) -> Option<()> {
     let order = key_order.order.as_slice();
     let part = parts.get(&key_order.key)?;
-    let verdict = check_part(alloc, part, order).ok()?;
+    let verdict = check_part(alloc, &part, order).ok()?;
     out.push_str(key_order.key.as_str()).ok()?;
     out.push_str(":").ok()?;
     say_calls(out, order).ok()?;

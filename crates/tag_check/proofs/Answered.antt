@@ -1,10 +1,8 @@
 -- The greatest tag of the calls that were answered before each call.
-use Rattle.std.proofs.Common.{ℕ, ◌≡◌, ◌<◌, ◌≤◌, ◌+◌, ◌↔◌, ◌⊎◌, inl, inr, List, Option, Some, None, true, false, length, length-set, set, get_or, refl, ap, sym, ◌∙◌, subst, arith}
+use Rattle.std.proofs.Common.{ℕ, ◌≡◌, ◌<◌, ◌≤◌, ◌+◌, ◌-◌, ◌↔◌, ◌⊎◌, inl, inr, List, Option, Some, None, length, length-set, set, get_or, refl, ap, sym, ◌∙◌, subst, arith}
 use Rattle.std.specs.List.{slice_get}
-use Rattle.std.specs.List.Sorted.{IsPartitionPoint, IsNonDecreasingBy}
-use Rattle.std.proofs.lemmas.Bool.{cases_lt, leb-true, leb-false}
-use Rattle.std.proofs.Math.Dec.{leb}
-use Rattle.std.proofs.lemmas.Option.{none-some, same_Some, slice_get_within, slice_get-get_or, get_or_from_slice_get}
+use Rattle.std.proofs.lemmas.Bool.{cases_lt}
+use Rattle.std.proofs.lemmas.Option.{none-some, same_Some, slice_get_within}
 use Rattle.tag.specs.Tags.{Tag, IsBelow}
 use Rattle.recorder.specs.declared.part.Call.{Call}
 use Rattle.recorder.specs.declared.part.Response.{Response}
@@ -28,21 +26,29 @@ invoked_rise calls sequence i j a b le at_i at_j =
           omega arith
     ]
 
-pub invoked_sorted : (calls : List Call) → IsSequence calls → IsNonDecreasingBy (λ (x : Call). x.invoked) calls
-invoked_sorted calls sequence i j d le within = invoked_rise calls sequence i j (get_or calls i d) (get_or calls j d) le (slice_get-get_or calls i d (omega arith)) (slice_get-get_or calls j d within)
+-- what the call in the middle says of those before it, or of those after it
+module _ (calls : List Call) (sequence : IsSequence calls) (place middle : ℕ) (call : Call) (at : slice_get calls middle ≡ Some call) where
+  pub begun_to : call.invoked ≤ place → (j : ℕ) (b : Call) → j ≤ middle → slice_get calls j ≡ Some b → b.invoked ≤ place
+  begun_to le j b before at_j = let low : b.invoked ≤ call.invoked = invoked_rise calls sequence j middle b call before at_j at in omega arith
 
--- where the calls are parted by a place, those below began by it
-pub begun_from : (calls : List Call) (place i : ℕ) → IsPartitionPoint (λ (y : Call). leb y.invoked place ≡ true) (λ (y : Call). leb y.invoked place ≡ false) calls i → (j : ℕ) (call : Call) → slice_get calls j ≡ Some call → (j < i) ↔ (call.invoked ≤ place)
-begun_from calls place i parted j call at =
-    let within : j < length calls = slice_get_within calls j call at in
-    let value : get_or calls j call ≡ call = get_or_from_slice_get calls j call call at in
-    let invoked : (get_or calls j call).invoked ≡ call.invoked = ap (λ (x : Call). x.invoked) value in (
-      λ less. let le : (get_or calls j call).invoked ≤ place = leb-true _ _ (parted.0 j call (omega arith) less) in omega arith,
-      λ le. elim (cases_lt j i) [
-        | inl h ↦ h
-        | inr h ↦ let more : place < (get_or calls j call).invoked = leb-false _ _ (parted.1 j call h within) in absurd (omega arith)
-      ],
-    )
+  pub later_from : place < call.invoked → (j : ℕ) (b : Call) → middle ≤ j → slice_get calls j ≡ Some b → place < b.invoked
+  later_from more j b after at_j = let high : call.invoked ≤ b.invoked = invoked_rise calls sequence middle j call b after at at_j in omega arith
+
+-- of the calls from low on and below high those below n began by the place, and no others
+pub begun_between : (calls : List Call) (place low high n : ℕ) → ((j : ℕ) (b : Call) → j < n → low ≤ j → slice_get calls j ≡ Some b → b.invoked ≤ place)
+    → ((j : ℕ) (b : Call) → n ≤ j → j < high → slice_get calls j ≡ Some b → place < b.invoked) → (j : ℕ) (b : Call) → low ≤ j → j < high → slice_get calls j ≡ Some b → (j < n) ↔ (b.invoked ≤ place)
+begun_between calls place low high n begun later j b above below at = (
+  λ less. begun j b less above at,
+  λ le. elim (cases_lt j n) [ inl h ↦ h | inr h ↦ (let more : place < b.invoked = later j b h below at in absurd (omega arith)) ],
+)
+
+-- all calls below the second of two neighbours began by the place, and no others
+pub begun_beside : (calls : List Call) → IsSequence calls → (place n : ℕ) (a b : Call) → 1 ≤ n → slice_get calls (n - 1) ≡ Some a → slice_get calls n ≡ Some b → a.invoked ≤ place → place < b.invoked
+    → (j : ℕ) (call : Call) → slice_get calls j ≡ Some call → (j < n) ↔ (call.invoked ≤ place)
+begun_beside calls sequence place n a b one at_a at_b le more j call at = (
+  λ less. begun_to calls sequence place (n - 1) a at_a le j call (omega arith) at,
+  λ low. elim (cases_lt j n) [ inl h ↦ h | inr h ↦ (let high : place < call.invoked = later_from calls sequence place n b at_b more j call h at in absurd (omega arith)) ],
+)
 
 -- where a tag has the property there is a greatest one, which is no lower
 greatest_has : (T : Tag → Type 0) (greatest : Option Tag) → IsGreatest T greatest → (tag : Tag) → T tag → (top : Tag) × (greatest ≡ Some top) × IsAtMost tag top
@@ -162,11 +168,11 @@ pub record IsReadAt (calls : List Call) (tags : List (Option Tag)) (j : ℕ) (ca
   pub top : IsGreatest (HasTagBelow tags (j + 1)) greatest
 
 pub read_at : (calls : List Call) (tags : List (Option Tag)) (j : ℕ) (call : Call) (here before greatest : Option Tag) → AreAnsweredTags calls (length calls) tags
-    → j < length calls → call ≡ get_or calls j call → here ≡ get_or tags j here → IsGreatest (HasTagBelow tags j) before
+    → slice_get calls j ≡ Some call → here ≡ get_or tags j here → IsGreatest (HasTagBelow tags j) before
     → IsGreatest (λ tag. (before ≡ Some tag) ⊎ (here ≡ Some tag)) greatest → IsReadAt calls tags j call greatest
-read_at calls tags j call here before greatest are below call_is here_is top more = record {
-  at = item_at calls j call below call_is;
-  top = greatest_more tags j here before greatest (item_at tags j here (omega (arith, below, are.all)) here_is) top more;
+read_at calls tags j call here before greatest are at here_is top more = record {
+  at = at;
+  top = greatest_more tags j here before greatest (item_at tags j here (omega (arith, slice_get_within calls j call at, are.all)) here_is) top more;
 }
 
 module _ (calls : List Call) (tags : List (Option Tag)) (j : ℕ) (call : Call) (greatest : Option Tag) (at : slice_get calls j ≡ Some call) (are : AreAnsweredTags calls (length calls) tags) (top : IsGreatest (HasTagBelow tags (j + 1)) greatest) where

@@ -14,9 +14,9 @@ use tag::Memory;
 ///
 /// It takes time in proportion to the calls and the logarithm of their count, and answers `Memory`
 /// only where an allocation was refused.
-pub fn check_tags(alloc: Global, part: &Part) -> Result<Option<BrokenRule>, Memory>
+pub fn check_tags(alloc: Global, part: &Part<'_>) -> Result<Option<BrokenRule>, Memory>
     ensures verdict { IfOk result (λ broken. IsTagVerdict part.now broken) }
     ensures sound { IfOk result (λ broken. (broken ≡ None) ↔ TagSound part.now) }
 {
-    Notes::new(part.calls()).broken_rule(alloc)
+    Notes::new(part).broken_rule(alloc)
 }

@@ -1,5 +1,7 @@
 //! The notes of a part's calls, which are judged rule by rule.
-ghost use Rattle.std.specs.Prelude.{◌≡◌, ◌<◌, ◌≤◌, ◌+◌, IfOk, IfSome, MatchResult, MatchOption, Some, length};
+ghost use Rattle.std.specs.Prelude.{ℕ, ◌≡◌, ◌<◌, ◌≤◌, ◌+◌, ◌↔◌, IfOk, IfSome, MatchResult, MatchOption, Some, length};
+ghost use Rattle.std.specs.Prelude.{slice_get};
+ghost use Rattle.recorder.specs.declared.part.Call.{Call};
 ghost use Rattle.recorder.specs.Parts.{IsSequence};
 ghost use Rattle.tag_check.specs.Least.{IsFirstCall, IsFirstBefore, IsLeastCall, IsLeastPair, LacksCall};
 ghost use Rattle.tag_check.specs.Least.{HasNoPair};
@@ -17,9 +19,9 @@ use crate::tags::{
     answers, falls, greater, is_least, is_least_write, is_not_above, is_same, lacks_note, read_tag,
     write_tag,
 };
-use recorder::Call;
+use recorder::{Call, Part, ValueRef};
 use std::alloc::Global;
-use tag::{Action, Memory, OpId, Tag, Value};
+use tag::{Memory, OpId, Tag};
 
 /// What a call answers, beside what its tag stands for.
 enum Answer {
@@ -34,24 +36,24 @@ enum Answer {
 /// The calls of a part, whose notes are judged.
 #[derive(Drop)]
 pub struct Notes<'a> {
-    calls: &'a [Call],
-    ghost sequence: { IsSequence calls.now },
+    part: &'a Part<'a>,
+    ghost sequence: { IsSequence part.now },
 }
 
 impl<'a> Notes<'a> {
     ghost use Rattle.tag_check.specs.Verdicts.{IsTagVerdict};
 
     /// The notes of these calls.
-    pub(crate) fn new(calls: &'a [Call]) -> Notes<'a>
-        requires { IsSequence calls.now }
-        ensures { result.calls.now ≡ calls.now }
+    pub(crate) fn new(part: &'a Part<'a>) -> Notes<'a>
+        ensures { result.part.now ≡ part.now }
     {
-        Notes { calls }
+        let _sequence = part.len();
+        Notes { part }
     }
 
     /// The first rule that is broken, if any.
     pub(crate) fn broken_rule(&self, alloc: Global) -> Result<Option<BrokenRule>, Memory>
-        ensures { IfOk result (λ broken. IsTagVerdict self.now.calls.now broken) }
+        ensures { IfOk result (λ broken. IsTagVerdict self.now.part.now broken) }
     {
         let noted = match self.noted_writes(alloc)? {
             Ok(noted) => noted,
@@ -78,19 +80,20 @@ impl<'a> Notes<'a> {
     fn noted_writes(&self, alloc: Global) -> Result<Result<Vec<Entry>, BrokenRule>, Memory>
         ensures { IfOk result
             (λ answer. MatchResult answer
-            (λ noted. LacksCall self.now.calls.now LacksNote
-            × LacksCall self.now.calls.now IsLeastWrite
-            × AreNoted self.now.calls.now (length self.now.calls.now) noted.items)
-            (λ rule. IsTagVerdict self.now.calls.now (Some rule))) }
+            (λ noted. LacksCall self.now.part.now LacksNote
+            × LacksCall self.now.part.now IsLeastWrite
+            × AreNoted self.now.part.now (length self.now.part.now) noted.items)
+            (λ rule. IsTagVerdict self.now.part.now (Some rule))) }
     {
         let mut noted = Vec::new(alloc);
         let mut least = None;
-        for (i, call) in self.calls.iter().enumerate() {
-            if lacks_note(call) {
+        for i in 0..self.part.len() {
+            let call = self.part.call(i);
+            if lacks_note(&call) {
                 return Ok(Err(BrokenRule::NoNote(call.op)));
             }
             least = self.first_least_write(i, least);
-            add_write(&mut noted, call, i)?;
+            add_write(&mut noted, &call, i)?;
         }
         match least {
             Some(write) => Ok(Err(BrokenRule::LeastTag(write))),
@@ -100,15 +103,15 @@ impl<'a> Notes<'a> {
 
     /// The first write that is noted with the least tag, up to index `i`, if `least` is that before it.
     fn first_least_write(&self, i: usize, least: Option<OpId>) -> Option<OpId>
-        requires inside { i < length self.now.calls.now }
-        requires before { IsFirstBefore self.now.calls.now IsLeastWrite i least }
-        ensures { IsFirstBefore self.now.calls.now IsLeastWrite (i + 1) result }
+        requires inside { i < length self.now.part.now }
+        requires before { IsFirstBefore self.now.part.now IsLeastWrite i least }
+        ensures { IsFirstBefore self.now.part.now IsLeastWrite (i + 1) result }
     {
         if least.is_some() {
             return least;
         }
-        let call = &self.calls[i];
-        if is_least_write(call) {
+        let call = self.part.call(i);
+        if is_least_write(&call) {
             Some(call.op)
         } else {
             None
@@ -117,10 +120,10 @@ impl<'a> Notes<'a> {
 
     /// The entries by tag; or the first write whose tag an earlier one has, after that one.
     fn by_tag(&self, mut noted: Vec<Entry>) -> Result<Vec<Entry>, (OpId, OpId)>
-        requires { AreNoted self.now.calls.now (length self.now.calls.now) noted.items }
+        requires { AreNoted self.now.part.now (length self.now.part.now) noted.items }
         ensures { MatchResult result
-            (λ writes. AreWrites self.now.calls.now writes.items)
-            (λ pair. IsLeastPair self.now.calls.now ShareTag pair.0 pair.1) }
+            (λ writes. AreWrites self.now.part.now writes.items)
+            (λ pair. IsLeastPair self.now.part.now ShareTag pair.0 pair.1) }
     {
         sort_by_tag(&mut noted);
         if are_rising(noted.as_slice()) {
@@ -134,13 +137,14 @@ impl<'a> Notes<'a> {
 
     /// The first write whose tag an earlier one has, after that one.
     fn first_shared(&self, noted: &[Entry]) -> Option<(OpId, OpId)>
-        requires { AreEntries self.now.calls.now noted.now }
-        ensures { MatchOption result (HaveOwnTags self.now.calls.now)
-            (λ pair. IsLeastPair self.now.calls.now ShareTag pair.0 pair.1) }
+        requires { AreEntries self.now.part.now noted.now }
+        ensures { MatchOption result (HaveOwnTags self.now.part.now)
+            (λ pair. IsLeastPair self.now.part.now ShareTag pair.0 pair.1) }
     {
-        for (i, call) in self.calls.iter().enumerate() {
-            if let Some(k) = self.earlier_of_tag(noted, call, i) {
-                return Some((self.calls[k].op, call.op));
+        for i in 0..self.part.len() {
+            let call = self.part.call(i);
+            if let Some(k) = self.earlier_of_tag(noted, &call, i) {
+                return Some((self.part.call(k).op, call.op));
             }
         }
         None
@@ -148,10 +152,10 @@ impl<'a> Notes<'a> {
 
     /// The index of the first write with the call's tag, if the call is a write and that one stands
     /// before index `i`.
-    fn earlier_of_tag(&self, noted: &[Entry], call: &Call, i: usize) -> Option<usize>
-        requires { AreEntries self.now.calls.now noted.now }
-        ensures { MatchOption result (HasNoEarlier self.now.calls.now call.now i)
-            (λ k. IsEarlierOf self.now.calls.now call.now i k) }
+    fn earlier_of_tag(&self, noted: &[Entry], call: &Call<'_>, i: usize) -> Option<usize>
+        requires { AreEntries self.now.part.now noted.now }
+        ensures { MatchOption result (HasNoEarlier self.now.part.now call.now i)
+            (λ k. IsEarlierOf self.now.part.now call.now i k) }
     {
         let tag = write_tag(call)?;
         let k = self.index_of(noted, tag, 0)?;
@@ -160,8 +164,8 @@ impl<'a> Notes<'a> {
 
     /// How many calls began at that place of the history or before it, looked for from `near` on.
     fn begun_by(&self, place: usize, near: usize) -> usize
-        ensures most { result ≤ length self.now.calls.now }
-        ensures begun { IsBegunBy self.now.calls.now place result }
+        ensures most { result ≤ length self.now.part.now }
+        ensures begun { IsBegunBy self.now.part.now place result }
     {
         match self.begun_near(place, near, 4) {
             Some(begun) => begun,
@@ -171,42 +175,61 @@ impl<'a> Notes<'a> {
 
     /// The same, where it is no number close to `near`.
     fn begun_later(&self, place: usize, near: usize) -> usize
-        ensures most { result ≤ length self.now.calls.now }
-        ensures begun { IsBegunBy self.now.calls.now place result }
+        ensures most { result ≤ length self.now.part.now }
+        ensures begun { IsBegunBy self.now.part.now place result }
     {
         match self.begun_near(place, near, 128) {
             Some(begun) => begun,
-            None => self.calls.partition_point(|call| call.invoked <= place),
+            None => self.begun_within(place, 0, self.part.len()),
         }
     }
 
     /// The same, if it is `near` or one of so many numbers after it.
     fn begun_near(&self, place: usize, near: usize, many: usize) -> Option<usize>
-        ensures most { IfSome result (λ begun. begun ≤ length self.now.calls.now) }
-        ensures begun { IfSome result (λ begun. IsBegunBy self.now.calls.now place begun) }
+        ensures most { IfSome result (λ begun. begun ≤ length self.now.part.now) }
+        ensures begun { IfSome result (λ begun. IsBegunBy self.now.part.now place begun) }
     {
-        let end = self.calls.len().min(near.saturating_add(many));
+        let end = self.part.len().min(near.saturating_add(many));
         let start = near.min(end);
-        let later = self.calls[start..end].partition_point(|call| call.invoked <= place);
-        let next = start + later;
-        if next == 0 || next >= self.calls.len() {
+        let next = self.begun_within(place, start, end);
+        if next == 0 || next >= self.part.len() {
             return None;
         }
-        if self.calls[next - 1].invoked <= place && place < self.calls[next].invoked {
+        if self.part.call(next - 1).invoked <= place && place < self.part.call(next).invoked {
             Some(next)
         } else {
             None
         }
     }
 
+    /// How many calls began at that place or before it, where it is `low` at least and `high` at most.
+    fn begun_within(&self, place: usize, mut low: usize, mut high: usize) -> usize
+        requires order { low ≤ high }
+        requires inside { high ≤ length self.now.part.now }
+        ensures most { result ≤ high }
+        ensures begun { (j : ℕ) (call : Call) → low ≤ j → j < high
+            → slice_get self.now.part.now j ≡ Some call → (j < result) ↔ (call.invoked ≤ place) }
+    {
+        'halves: while low < high {
+            let middle = low + (high - low) / 2;
+            if self.part.call(middle).invoked <= place {
+                low = middle + 1;
+            } else {
+                high = middle;
+            }
+        }
+        low
+    }
+
     /// Beside each call the greatest tag of the calls that were answered before it began, and not
     /// before an earlier call did.
     fn answered_tags(&self, alloc: Global) -> Result<Vec<Option<Tag>>, Memory>
         ensures { IfOk result
-            (λ tags. AreAnsweredTags self.now.calls.now (length self.now.calls.now) tags.items) }
+            (λ tags. AreAnsweredTags self.now.part.now (length self.now.part.now) tags.items) }
     {
-        let mut tags = vec![in alloc; None; self.calls.len()]?;
-        for (i, call) in self.calls.iter().enumerate() {
+        let mut tags = vec![in alloc; None; self.part.len()]?;
+        for i in 0..self.part.len() {
+            let call = self.part.call(i);
             if let Some(response) = &call.response {
                 let next = self.begun_by(response.place, i + 1);
                 if next < tags.len() {
@@ -222,8 +245,8 @@ impl<'a> Notes<'a> {
     fn first_not_above(&self, alloc: Global) -> Result<Option<(OpId, OpId)>, Memory>
         ensures { IfOk result
             (λ pair. MatchOption pair
-            (HasNoPair self.now.calls.now IsNotAbove)
-            (λ pair. IsLeastPair self.now.calls.now IsNotAbove pair.0 pair.1)) }
+            (HasNoPair self.now.part.now IsNotAbove)
+            (λ pair. IsLeastPair self.now.part.now IsNotAbove pair.0 pair.1)) }
     {
         let tags = self.answered_tags(alloc)?;
         Ok(self.first_fall(tags.as_slice()))
@@ -231,16 +254,17 @@ impl<'a> Notes<'a> {
 
     /// The same, with the tags of what was answered before each call.
     fn first_fall(&self, tags: &[Option<Tag>]) -> Option<(OpId, OpId)>
-        requires { AreAnsweredTags self.now.calls.now (length self.now.calls.now) tags.now }
+        requires { AreAnsweredTags self.now.part.now (length self.now.part.now) tags.now }
         ensures { MatchOption result
-            (HasNoPair self.now.calls.now IsNotAbove)
-            (λ pair. IsLeastPair self.now.calls.now IsNotAbove pair.0 pair.1) }
+            (HasNoPair self.now.part.now IsNotAbove)
+            (λ pair. IsLeastPair self.now.part.now IsNotAbove pair.0 pair.1) }
     {
         let mut greatest: Option<Tag> = None;
-        for (j, call) in self.calls.iter().enumerate() {
+        for j in 0..self.part.len() {
+            let call = self.part.call(j);
             greatest = greater(greatest, tags[j]);
-            if falls(call, &greatest) {
-                match self.first_above(call) {
+            if falls(&call, &greatest) {
+                match self.first_above(&call) {
                     Some(earlier) => return Some((earlier, call.op)),
                     None => unreachable!(),
                 }
@@ -250,11 +274,12 @@ impl<'a> Notes<'a> {
     }
 
     /// The first call that was answered before that one began, and that it isn't above.
-    fn first_above(&self, later: &Call) -> Option<OpId>
-        ensures { IsFirstCall self.now.calls.now (λ earlier. IsNotAbove earlier later.now) result }
+    fn first_above(&self, later: &Call<'_>) -> Option<OpId>
+        ensures { IsFirstCall self.now.part.now (λ earlier. IsNotAbove earlier later.now) result }
     {
-        for (i, call) in self.calls.iter().enumerate() {
-            if is_not_above(call, later) {
+        for i in 0..self.part.len() {
+            let call = self.part.call(i);
+            if is_not_above(&call, later) {
                 return Some(call.op);
             }
         }
@@ -265,18 +290,19 @@ impl<'a> Notes<'a> {
     /// tag, if the tag isn't the least; or `Err` with the first read that answers under a tag which
     /// no write has, if any.
     fn first_other_value(&self, writes: &[Entry]) -> Result<Option<(OpId, Option<OpId>)>, OpId>
-        requires { AreWrites self.now.calls.now writes.now }
+        requires { AreWrites self.now.part.now writes.now }
         ensures { MatchResult result
-            (λ other. LacksCall self.now.calls.now (AnswersNoWrite self.now.calls.now)
-            × MatchOption other (AllAnswerRight self.now.calls.now)
-            (λ other. IsOtherValue self.now.calls.now other.0 other.1))
-            (λ read. IsLeastCall self.now.calls.now (AnswersNoWrite self.now.calls.now) read) }
+            (λ other. LacksCall self.now.part.now (AnswersNoWrite self.now.part.now)
+            × MatchOption other (AllAnswerRight self.now.part.now)
+            (λ other. IsOtherValue self.now.part.now other.0 other.1))
+            (λ read. IsLeastCall self.now.part.now (AnswersNoWrite self.now.part.now) read) }
     {
         let mut other = None;
         let mut begun: usize = 0;
-        for (i, call) in self.calls.iter().enumerate() {
-            begun = begun.saturating_add(usize::from(write_tag(call).is_some()));
-            match self.answer(writes, call, begun) {
+        for i in 0..self.part.len() {
+            let call = self.part.call(i);
+            begun = begun.saturating_add(usize::from(write_tag(&call).is_some()));
+            match self.answer(writes, &call, begun) {
                 Answer::Right => {}
                 Answer::NoWrite => return Err(call.op),
                 Answer::Other(write) => {
@@ -291,9 +317,9 @@ impl<'a> Notes<'a> {
 
     /// What the call answers, beside what its tag stands for; the entry of its write is looked for near
     /// that place first.
-    fn answer(&self, writes: &[Entry], call: &Call, near: usize) -> Answer
-        requires { AreWrites self.now.calls.now writes.now }
-        ensures { IsAnswer self.now.calls.now call.now result }
+    fn answer(&self, writes: &[Entry], call: &Call<'_>, near: usize) -> Answer
+        requires { AreWrites self.now.part.now writes.now }
+        ensures { IsAnswer self.now.part.now call.now result }
     {
         let Some(response) = &call.response else {
             return Answer::Right;
@@ -302,7 +328,7 @@ impl<'a> Notes<'a> {
             return Answer::Right;
         };
         if is_least(tag) {
-            return if answers(&response.returned, None) {
+            return if answers(&response.returned, &None) {
                 Answer::Right
             } else {
                 Answer::Other(None)
@@ -311,7 +337,7 @@ impl<'a> Notes<'a> {
         let Some((write, value)) = self.write_of(writes, tag, near) else {
             return Answer::NoWrite;
         };
-        if answers(&response.returned, Some(value)) {
+        if answers(&response.returned, &Some(value)) {
             Answer::Right
         } else {
             Answer::Other(Some(write))
@@ -321,8 +347,8 @@ impl<'a> Notes<'a> {
     /// The index of the first write that is noted with the tag, whose entry is looked for near that
     /// place first.
     fn index_of(&self, writes: &[Entry], tag: Tag, near: usize) -> Option<usize>
-        requires { AreEntries self.now.calls.now writes.now }
-        ensures { IsIndexOf self.now.calls.now tag result }
+        requires { AreEntries self.now.part.now writes.now }
+        ensures { IsIndexOf self.now.part.now tag result }
     {
         let place = first_place(writes, tag, near);
         let (noted, index) = *writes.get(place)?;
@@ -334,16 +360,14 @@ impl<'a> Notes<'a> {
     }
 
     /// The write that is noted with the tag, and its value.
-    fn write_of(&self, writes: &[Entry], tag: Tag, near: usize) -> Option<(OpId, &'a Value)>
-        requires { AreWrites self.now.calls.now writes.now }
-        ensures { MatchOption result (LacksCall self.now.calls.now (λ write. IsWriteOf write tag))
-            (λ found. IsWriteWith self.now.calls.now tag found.0 found.1.now) }
+    fn write_of(&self, writes: &[Entry], tag: Tag, near: usize) -> Option<(OpId, ValueRef<'a>)>
+        requires { AreWrites self.now.part.now writes.now }
+        ensures { MatchOption result (LacksCall self.now.part.now (λ write. IsWriteOf write tag))
+            (λ found. IsWriteWith self.now.part.now tag found.0 found.1) }
     {
         let k = self.index_of(writes, tag, near)?;
-        let call = &self.calls[k];
-        match &call.action {
-            Action::Write(value) => Some((call.op, value)),
-            Action::Read => None,
-        }
+        let call = self.part.call(k);
+        let value = call.action.written()?;
+        Some((call.op, value))
     }
 }

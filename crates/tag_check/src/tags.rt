@@ -1,29 +1,29 @@
 //! What a call is noted with, and how tags compare.
 ghost use Rattle.std.specs.Prelude.{◌≡◌, ◌↔◌, ◌⊎◌, IsTrue, Some};
-ghost use Rattle.std.specs.Option.{option_copied};
 ghost use Rattle.recorder.specs.Parts.{Precedes};
 ghost use Rattle.tag.specs.Tags.{IsBelow, Tag, least};
+ghost use Rattle.tag.specs.declared.actions.Returned.{Returned};
 ghost use Rattle.tag_check.specs.Rules.{LacksNote, IsWriteOf, IsLeastWrite, IsAnsweredRead, IsTooLow, IsNotAbove};
 ghost use Rattle.tag_check.specs.Greatest.{IsGreatest, Falls};
 
-use recorder::Call;
+use recorder::{Call, ReturnedRef, ValueRef};
 use std::cmp::Ordering;
-use tag::{Action, Returned, Tag, Value};
+use tag::Tag;
 
 /// Whether the call is completed and has no note.
-pub(crate) fn lacks_note(call: &Call) -> bool
+pub(crate) fn lacks_note(call: &Call<'_>) -> bool
     ensures { IsTrue result ↔ LacksNote call.now }
 {
     call.response.is_some() && call.note.is_none()
 }
 
 /// The tag of a write, if it is noted.
-pub(crate) fn write_tag(call: &Call) -> Option<Tag>
+pub(crate) fn write_tag(call: &Call<'_>) -> Option<Tag>
     ensures { (tag : Tag) → (result ≡ Some tag) ↔ IsWriteOf call.now tag }
 {
-    match call.action {
-        Action::Write(_) => call.note,
-        Action::Read => None,
+    match call.action.written() {
+        Some(_) => call.note,
+        None => None,
     }
 }
 
@@ -45,11 +45,11 @@ pub(crate) fn is_same(a: Tag, b: Tag) -> bool
 }
 
 /// The tag of a read that has its response, if it is noted.
-pub(crate) fn read_tag(call: &Call) -> Option<Tag>
+pub(crate) fn read_tag(call: &Call<'_>) -> Option<Tag>
     ensures { (tag : Tag) → (result ≡ Some tag) ↔ IsAnsweredRead call.now tag }
 {
-    match (&call.action, &call.response) {
-        (Action::Read, Some(_)) => call.note,
+    match (call.action.written(), &call.response) {
+        (None, Some(_)) => call.note,
         _ => None,
     }
 }
@@ -62,7 +62,7 @@ pub(crate) fn is_least(tag: Tag) -> bool
 }
 
 /// Whether the call is a write that is noted with the least tag.
-pub(crate) fn is_least_write(call: &Call) -> bool
+pub(crate) fn is_least_write(call: &Call<'_>) -> bool
     ensures { IsTrue result ↔ IsLeastWrite call.now }
 {
     match write_tag(call) {
@@ -86,18 +86,18 @@ pub(crate) fn greater(a: Option<Tag>, b: Option<Tag>) -> Option<Tag>
 }
 
 /// Whether the call, noted with `t`, may not follow one that is noted with `s`.
-fn is_too_low(later: &Call, t: Tag, s: Tag) -> bool
+fn is_too_low(later: &Call<'_>, t: Tag, s: Tag) -> bool
     ensures { IsTrue result ↔ IsTooLow later.now t s }
 {
     match t.cmp(&s) {
         Ordering::Less => true,
-        Ordering::Equal => matches!(later.action, Action::Write(_)),
+        Ordering::Equal => later.action.written().is_some(),
         Ordering::Greater => false,
     }
 }
 
 /// Whether the call may not follow one that is noted with that tag, if there is one.
-pub(crate) fn falls(call: &Call, greatest: &Option<Tag>) -> bool
+pub(crate) fn falls(call: &Call<'_>, greatest: &Option<Tag>) -> bool
     ensures { IsTrue result ↔ Falls call.now greatest.now }
 {
     match (&call.note, greatest) {
@@ -107,7 +107,7 @@ pub(crate) fn falls(call: &Call, greatest: &Option<Tag>) -> bool
 }
 
 /// Whether the earlier call was answered before the later one began.
-fn precedes(earlier: &Call, later: &Call) -> bool
+fn precedes(earlier: &Call<'_>, later: &Call<'_>) -> bool
     ensures { IsTrue result ↔ Precedes earlier.now later.now }
 {
     match &earlier.response {
@@ -118,19 +118,18 @@ fn precedes(earlier: &Call, later: &Call) -> bool
 
 /// Whether the later call began after the earlier one was answered, and is noted below it, or, as a
 /// write, not above it.
-pub(crate) fn is_not_above(earlier: &Call, later: &Call) -> bool
+pub(crate) fn is_not_above(earlier: &Call<'_>, later: &Call<'_>) -> bool
     ensures { IsTrue result ↔ IsNotAbove earlier.now later.now }
 {
     precedes(earlier, later) && falls(later, &earlier.note)
 }
 
 /// Whether the answer is that value.
-pub(crate) fn answers(returned: &Returned, value: Option<&Value>) -> bool
-    ensures { IsTrue result ↔ (returned.now ≡ Returned.Value (option_copied value.entry)) }
+pub(crate) fn answers(returned: &ReturnedRef<'_>, value: &Option<ValueRef<'_>>) -> bool
+    ensures { IsTrue result ↔ (returned.now ≡ Returned.Value value.now) }
 {
-    match (returned, value) {
-        (Returned::Value(Some(answer)), Some(value)) => *answer == *value,
-        (Returned::Value(None), None) => true,
-        _ => false,
+    match returned.answered() {
+        Some(answer) => answer == *value,
+        None => false,
     }
 }

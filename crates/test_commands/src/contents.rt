@@ -82,7 +82,7 @@ fn compare_text(out: &mut Answer, history: &History, written: &[u8]) {
 /// Says where a history with other rows is read from the bytes.
 fn compare_rows(rt: &(impl Threads + Sync), out: &mut Answer, history: &History, written: &[u8]) {
     match read_history(rt, out.alloc(), &mut whole(written)) {
-        Ok(again) if again.rows() == history.rows() => {}
+        Ok(again) if again == *history => {}
         Err(fault) if is_memory(&fault) => out.refuse(),
         _ => out.push("READ AGAIN IT DIFFERS\n"),
     }
@@ -95,7 +95,7 @@ fn is_memory(fault: &FileFault) -> bool {
 
 /// The rows of a history that was read from those bytes, and what is written of it.
 fn say_history_read(rt: &(impl Threads + Sync), out: &mut Answer, history: &History, bytes: &[u8]) {
-    say_rows(out, history.rows());
+    say_rows(out, history);
     let written = written_history(out, history);
     let written = written.as_slice();
     say_written(out, bytes, written);
@@ -196,9 +196,9 @@ pub fn say_orders_row(rt: &(impl Threads + Sync), out: &mut Answer, lines: &str)
 
 /// A script of those lines: its settings and commands, or with `steps` the orders that come with the run of
 /// its steps; or its fault.
-pub fn say_script_row(out: &mut Answer, asked: Asked<'_>) {
+pub fn say_script_row(rt: &(impl Threads + Sync), out: &mut Answer, asked: Asked<'_>) {
     let bytes = bytes_of(out, asked.lines);
-    match parse(out.alloc(), &mut whole(bytes.as_slice())) {
+    match parse(rt, out.alloc(), &mut whole(bytes.as_slice())) {
         Ok(script) if asked.kind() == "steps" => say_steps(out, script),
         Ok(script) => say_commands(out, &script),
         Err(error) => write!(out, "{error}\n"),

@@ -48,7 +48,7 @@ fn say_file_row(rt: &(impl Threads + Wait + Sync), out: &mut Answer, asked: Aske
         "cuts" => say_cuts(rt, out, asked),
         "why-history" => say_history_why(rt, out, asked),
         "why-orders" => say_orders_why(rt, out, asked),
-        "why-script" => say_script_why(out, asked),
+        "why-script" => say_script_why(rt, out, asked),
         _ => out.push("NO SUCH KIND OF ROW\n"),
     }
 }
@@ -60,7 +60,7 @@ fn say_row(rt: &(impl Threads + Wait + Sync), out: &mut Answer, asked: Asked<'_>
             say_command_row(rt, out, asked)
         }
         "seeds" => say_seeds(rt, out, asked),
-        "script" | "steps" => say_script_row(out, asked),
+        "script" | "steps" => say_script_row(rt, out, asked),
         "words" => say_words(out, asked.lines),
         "first-lines" => say_first_lines(out, asked.lines),
         "names" => say_names(out, asked.lines),

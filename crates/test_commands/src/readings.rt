@@ -42,7 +42,7 @@ fn say_read(
     match format {
         Format::History => say_history(out, &read_history(rt, alloc, reader)),
         Format::Orders => say_orders(out, &read_orders(rt, alloc, reader)),
-        Format::Script => say_script(out, &parse(alloc, reader)),
+        Format::Script => say_script(out, &parse(rt, alloc, reader)),
     }
 }
 

@@ -89,8 +89,8 @@ pub fn run(
     let mut orders = file("o", input.orders, way.size, None);
     let (keys, out, errors) = (input.selection, &mut outputs.out, &mut outputs.errors);
     let status = match name {
-        "simulate" => simulate_command(alloc, &mut first, out, errors),
-        "trace" => trace_command(alloc, &mut first, way.most, out, errors),
+        "simulate" => simulate_command(rt, alloc, &mut first, out, errors),
+        "trace" => trace_command(rt, alloc, &mut first, way.most, out, errors),
         "justify" => justify_command(rt, alloc, &mut first, way.unchecked, out, errors),
         "explain" => {
             judge_orders_command(rt, alloc, &mut first, &mut orders, &keys, out, errors)

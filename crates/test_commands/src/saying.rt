@@ -2,8 +2,8 @@
 use crate::formats::{FaultKind, FileFault};
 use client_phases::ReadMode;
 use fault_script::{Command, ErrorKind, Script, ScriptError};
-use recorder::{History, KeyOrder, Row};
-use tag::{Action, OpId, Returned};
+use recorder::{ActionRef, History, KeyOrder, ReturnedRef, Row};
+use tag::{Action, OpId};
 use test_rows::{Answer, RowSaid, said_by};
 use world_steps::{Config, Step};
 
@@ -31,7 +31,7 @@ fn say_fault(out: &mut Answer, fault: &FileFault) -> Outcome {
 pub fn say_history(out: &mut Answer, read: &Result<History, FileFault>) -> Outcome {
     match read {
         Ok(history) => {
-            let (calls, rows) = (history.calls(), history.rows().len());
+            let (calls, rows) = (history.calls(), history.row_count());
             write!(out, "good, calls: {calls}, rows: {rows}");
             Outcome::Good
         }
@@ -78,30 +78,28 @@ pub fn say_script(out: &mut Answer, read: &Result<Script, ScriptError>) -> Outco
     }
 }
 
-fn say_action(out: &mut Answer, action: &Action) {
-    match action {
-        Action::Read => out.push("read"),
-        Action::Write(value) => {
+fn say_action(out: &mut Answer, action: &ActionRef<'_>) {
+    match action.written() {
+        None => out.push("read"),
+        Some(value) => {
             let text = value.as_str();
             write!(out, "write {text:?}");
         }
     }
 }
 
-fn say_returned(out: &mut Answer, returned: &Returned) {
-    let Returned::Value(value) = returned else {
-        return out.push("written");
-    };
-    match value {
-        None => out.push("absent"),
-        Some(value) => {
+fn say_returned(out: &mut Answer, returned: &ReturnedRef<'_>) {
+    match returned.answered() {
+        None => out.push("written"),
+        Some(None) => out.push("absent"),
+        Some(Some(value)) => {
             let text = value.as_str();
             write!(out, "{text:?}");
         }
     }
 }
 
-fn say_row(out: &mut Answer, row: &Row) {
+fn say_row(out: &mut Answer, row: &Row<'_>) {
     let (op, said) = said_by(row);
     write!(out, "call {op} ");
     match said {
@@ -121,9 +119,9 @@ fn say_row(out: &mut Answer, row: &Row) {
 }
 
 /// A line for each row.
-pub fn say_rows(out: &mut Answer, rows: &[Row]) {
-    for row in rows {
-        say_row(out, row);
+pub fn say_rows(out: &mut Answer, history: &History) {
+    for place in 0..history.row_count() {
+        say_row(out, &history.row(place));
         out.push("\n");
     }
 }

@@ -54,9 +54,9 @@ pub fn say_orders_why(rt: &(impl Threads + Sync), out: &mut Answer, asked: Asked
 }
 
 /// The first fault of a script, and why it is one.
-pub fn say_script_why(out: &mut Answer, asked: Asked<'_>) {
+pub fn say_script_why(rt: &(impl Threads + Sync), out: &mut Answer, asked: Asked<'_>) {
     let (alloc, bytes) = (out.alloc(), file_of(asked));
-    match parse(alloc, &mut Counting::new(Pieces::whole(bytes))) {
+    match parse(rt, alloc, &mut Counting::new(Pieces::whole(bytes))) {
         Ok(_) => out.push("no fault\n"),
         Err(fault) => {
             let why = explain_script_fault(alloc, &mut Pieces::whole(bytes), fault);

@@ -3,6 +3,7 @@ use crate::messages::reply_of;
 use crate::texts::{say_request, say_returned, say_set, say_taken};
 use crate::words::Words;
 use client_phases::{Client, Phase, Taken};
+use recorder::ReturnedRef;
 use replica::Reply;
 use std::alloc::Global;
 use tag::{Action, Key, OpId};
@@ -55,7 +56,7 @@ fn respond(out: &mut Answer, client: &mut Client) {
         return out.push("not ready");
     }
     let returned = client.respond();
-    say_returned(out, &returned);
+    say_returned(out, &ReturnedRef::of(&returned));
 }
 
 fn say_next_request(out: &mut Answer, client: &Client) {
@@ -68,7 +69,7 @@ fn say_next_request(out: &mut Answer, client: &Client) {
 
 fn say_next_answer(out: &mut Answer, client: &Client) {
     match client.answer() {
-        Ok(Some(returned)) => say_returned(out, &returned),
+        Ok(Some(returned)) => say_returned(out, &ReturnedRef::of(&returned)),
         Ok(None) => out.push("nothing"),
         Err(_) => out.push("NO MEMORY"),
     }

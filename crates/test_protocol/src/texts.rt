@@ -2,13 +2,13 @@
 use client_phases::Taken;
 use network::{Message, NetRefusal};
 use quorum::ReplicaSet;
-use recorder::Row;
+use recorder::{ActionRef, ReturnedRef, Row, ValueRef};
 use replica::{Reply, Request};
-use tag::{ReplicaId, Returned, Tag, Value};
+use tag::{ReplicaId, Tag, Value};
 use test_rows::{Answer, RowSaid, said_by, say_action, say_tag};
 use world_steps::Step;
 
-pub fn value_text(value: Option<&Value>) -> &str {
+pub fn value_text<'h>(value: Option<ValueRef<'h>>) -> &'h str {
     match value {
         None => "absent",
         Some(value) if value.as_str() == "" => "\"\"",
@@ -44,7 +44,7 @@ pub fn say_request(out: &mut Answer, request: &Request) {
 
 pub fn say_pair(out: &mut Answer, tag: Tag, value: Option<&Value>) {
     say_tag(out, tag);
-    let value = value_text(value);
+    let value = value_text(value.map(|value| ValueRef::of(value)));
     write!(out, " {value}");
 }
 
@@ -74,10 +74,10 @@ pub fn say_message(out: &mut Answer, message: &Message) {
     write!(out, " to {kind} {number}");
 }
 
-pub fn say_returned(out: &mut Answer, returned: &Returned) {
-    out.push(match returned {
-        Returned::Written => "written",
-        Returned::Value(value) => value_text(value.as_ref()),
+pub fn say_returned(out: &mut Answer, returned: &ReturnedRef<'_>) {
+    out.push(match returned.answered() {
+        None => "written",
+        Some(value) => value_text(value),
     });
 }
 
@@ -86,7 +86,7 @@ pub fn say_net_refusal(out: &mut Answer, refusal: NetRefusal) {
     write!(out, "refused {number} {refusal:?}");
 }
 
-pub fn say_row(out: &mut Answer, row: &Row) {
+pub fn say_row(out: &mut Answer, row: &Row<'_>) {
     let (op, said) = said_by(row);
     match said {
         RowSaid::Invoked(client, key, action) => {
@@ -140,7 +140,7 @@ pub fn say_step(out: &mut Answer, step: &Step) {
         Step::Invoke { key, action, .. } => {
             let key = key.as_str();
             write!(out, " {key} ");
-            say_action(out, action);
+            say_action(out, &ActionRef::of(action));
         }
         Step::Send { replica, .. } => {
             let replica = replica.get();

@@ -2,6 +2,7 @@
 use crate::texts::{say_row, say_step, say_taken};
 use crate::words::Words;
 use random_steps::RandomSteps;
+use recorder::History;
 use std::alloc::Global;
 use tag::ClientId;
 use test_rows::Answer;
@@ -115,7 +116,7 @@ fn say_settled(out: &mut Answer, answer: Result<u32, SettleError>) {
 /// What is seen of a world: what was sent, the messages in flight, the rows, and who joined.
 fn say_seen(out: &mut Answer, world: &World) {
     let (sent, stored) = (world.pool().sent(), world.pool().stored());
-    let rows = world.history().rows().len();
+    let rows = world.history().row_count();
     let joined = world.joined().len();
     write!(
         out,
@@ -123,11 +124,11 @@ fn say_seen(out: &mut Answer, world: &World) {
     );
 }
 
-fn say_rows(out: &mut Answer, world: &World) {
+fn say_rows(out: &mut Answer, history: &History) {
     let mut divider = "";
-    for row in world.history().rows() {
+    for place in 0..history.row_count() {
         out.push(divider);
-        say_row(out, row);
+        say_row(out, &history.row(place));
         divider = " / ";
     }
 }
@@ -189,7 +190,7 @@ pub fn world_answers(out: &mut Answer, (world, steps): (&mut World, &mut RandomS
     match words.word() {
         "settle" => settle_call(out, world, words.client()),
         "seen?" => say_seen(out, world),
-        "rows?" => say_rows(out, world),
+        "rows?" => say_rows(out, world.history()),
         "phase?" => say_phase(out, world, words.client()),
         "copies?" => say_copies(out, world, words.number().unwrap_or(0)),
         "draw" => draw(out, world, steps),

@@ -2,9 +2,11 @@
 
 use crate::names::{action_of, returned_of, said_equal, say_found, tag_of};
 use crate::words::{first_word, number};
-use recorder::{Call, History, KeyOrder, Order, Part, Parts, Response, Row, RowRefusal};
+use recorder::{
+    Call, History, KeyOrder, KeyRef, Order, Part, Parts, Response, ReturnedRef, Row, RowRefusal,
+};
 use std::alloc::Global;
-use tag::{ClientId, Key, Memory, NameError, OpId, Returned, Tag};
+use tag::{ClientId, Key, Memory, NameError, OpId, Tag};
 use tag_check::check_tags;
 use test_rows::{Answer, RowSaid, said_by, say_action, say_tag};
 use witness_order::order_of;
@@ -57,11 +59,11 @@ fn say_row_taken(out: &mut Answer, taken: Option<Result<(), RowRefusal>>) -> boo
 }
 
 /// The kind of an answer, and its text.
-fn said_of(returned: &Returned) -> (&'static str, &str) {
-    match returned {
-        Returned::Written => ("written", ""),
-        Returned::Value(None) => ("none", ""),
-        Returned::Value(Some(value)) => ("value ", value.as_str()),
+fn said_of<'h>(returned: &ReturnedRef<'h>) -> (&'static str, &'h str) {
+    match returned.answered() {
+        None => ("written", ""),
+        Some(None) => ("none", ""),
+        Some(Some(value)) => ("value ", value.as_str()),
     }
 }
 
@@ -75,12 +77,12 @@ fn say_note(out: &mut Answer, note: Option<Tag>) {
 }
 
 /// Says a call's answer.
-fn say_answered(out: &mut Answer, returned: &Returned) {
+fn say_answered(out: &mut Answer, returned: &ReturnedRef<'_>) {
     let (kind, text) = said_of(returned);
     write!(out, "answer {kind}{text}");
 }
 
-fn say_row(out: &mut Answer, row: &Row) {
+fn say_row(out: &mut Answer, row: &Row<'_>) {
     let (op, said) = said_by(row);
     write!(out, "call {op}: ");
     match said {
@@ -97,12 +99,12 @@ fn say_row(out: &mut Answer, row: &Row) {
 
 /// All rows.
 fn say_rows(out: &mut Answer, history: &History) {
-    for row in history.rows() {
-        say_row(out, row);
+    for place in 0..history.row_count() {
+        say_row(out, &history.row(place));
     }
 }
 
-fn say_response(out: &mut Answer, response: Option<&Response>) {
+fn say_response(out: &mut Answer, response: Option<&Response<'_>>) {
     match response {
         None => out.push("pending\n"),
         Some(response) => {
@@ -114,7 +116,7 @@ fn say_response(out: &mut Answer, response: Option<&Response>) {
 }
 
 /// A call as its part has it.
-fn say_call(out: &mut Answer, call: &Call) {
+fn say_call(out: &mut Answer, call: &Call<'_>) {
     let (op, client, invoked) = (call.op.0, call.client.get(), call.invoked);
     write!(out, "{op}: client {client}, ");
     say_action(out, &call.action);
@@ -124,18 +126,19 @@ fn say_call(out: &mut Answer, call: &Call) {
     say_response(out, call.response.as_ref());
 }
 
-fn say_part(out: &mut Answer, key: &Key, part: &Part) {
+fn say_part(out: &mut Answer, key: &KeyRef<'_>, part: &Part<'_>) {
     out.push(key.as_str());
     out.push("\n");
-    for call in part.calls() {
-        say_call(out, call);
+    for place in 0..part.len() {
+        say_call(out, &part.call(place));
     }
 }
 
 /// The keys of the parts in their order, each with its calls.
-fn say_entries(out: &mut Answer, parts: &Parts) {
-    for (key, part) in parts.entries() {
-        say_part(out, key, part);
+fn say_entries(out: &mut Answer, parts: &Parts<'_>) {
+    for place in 0..parts.len() {
+        let (key, part) = parts.entry(place);
+        say_part(out, &key, &part);
     }
 }
 
@@ -147,21 +150,10 @@ fn say_parts(out: &mut Answer, history: &History) {
     }
 }
 
-/// Whether the copies of the rows, and of the history, are equal to them.
-fn is_copied(history: &History) -> Result<bool, Memory> {
-    for row in history.rows() {
-        if row.copy()? != *row {
-            return Ok(false);
-        }
-    }
-    let copy = history.copy()?;
-    Ok(copy.rows() == history.rows() && copy.limit() == history.limit())
-}
-
-/// Whether the copies are equal.
+/// Whether a copy of the history is equal to it.
 fn say_copy(out: &mut Answer, history: &History) {
-    match is_copied(history) {
-        Ok(equal) => out.push(said_equal(equal)),
+    match history.copy() {
+        Ok(copy) => out.push(said_equal(copy == *history)),
         Err(Memory) => out.refuse(),
     }
 }
@@ -178,7 +170,7 @@ fn say_numbers(out: &mut Answer, ops: &[OpId]) {
 }
 
 /// The tag order of a part's calls, or what is missing.
-fn say_order(out: &mut Answer, part: &Part) {
+fn say_order(out: &mut Answer, part: &Part<'_>) {
     match order_of(out.alloc(), part) {
         Ok(order) => say_numbers(out, order.as_slice()),
         Err(error) => write!(out, "{error}\n"),
@@ -186,7 +178,7 @@ fn say_order(out: &mut Answer, part: &Part) {
 }
 
 /// The first rule of sound tags that the notes of a part's calls break.
-fn say_rule(out: &mut Answer, part: &Part) {
+fn say_rule(out: &mut Answer, part: &Part<'_>) {
     match check_tags(out.alloc(), part) {
         Ok(Some(rule)) => write!(out, "{rule}\n"),
         Ok(None) => out.push("sound\n"),
@@ -195,7 +187,7 @@ fn say_rule(out: &mut Answer, part: &Part) {
 }
 
 /// The answer to a question about a part's calls.
-fn say_of_part(out: &mut Answer, word: &str, part: &Part) {
+fn say_of_part(out: &mut Answer, word: &str, part: &Part<'_>) {
     match word {
         "tags?" => say_rule(out, part),
         _ => say_order(out, part),
@@ -203,9 +195,9 @@ fn say_of_part(out: &mut Answer, word: &str, part: &Part) {
 }
 
 /// The answer to a question about the calls on a key.
-fn say_of_parts(out: &mut Answer, parts: &Parts, word: &str, key: &Key) {
+fn say_of_parts(out: &mut Answer, parts: &Parts<'_>, word: &str, key: &Key) {
     match parts.get(key) {
-        Some(part) => say_of_part(out, word, part),
+        Some(part) => say_of_part(out, word, &part),
         None => out.push("no part\n"),
     }
 }
@@ -253,8 +245,7 @@ fn say_numbered(out: &mut Answer, words: &str) {
 
 /// How many calls the empty part has.
 fn say_empty(out: &mut Answer) {
-    let part = Part::empty(out.alloc());
-    let count = part.calls().len();
+    let count = Part::empty().len();
     write!(out, "{count} calls\n");
 }
 

@@ -108,21 +108,11 @@ fn record(alloc: Global, history: &mut History, number: u32, count: u32) -> Opti
     Some(())
 }
 
-/// The only part of a history, or the empty one.
-fn only_part(alloc: Global, history: &History) -> Option<Part> {
-    match history.parts().ok()?.into_entries().pop() {
-        Some((_, part)) => Some(part),
-        None => Some(Part::empty(alloc)),
-    }
-}
-
-/// The part of that number with so many calls.
-fn small_part(alloc: Global, number: u32, count: u32) -> Option<Part> {
+/// The history with the part of that number, of so many calls.
+fn small_history(alloc: Global, number: u32, count: u32) -> Option<History> {
     let mut history = History::new(alloc, 10);
-    match record(alloc, &mut history, number, count) {
-        Some(()) => only_part(alloc, &history),
-        None => None,
-    }
+    record(alloc, &mut history, number, count)?;
+    Some(history)
 }
 
 /// How many orders were compared, on how many the checks differ, and to how many both say yes.
@@ -169,17 +159,22 @@ fn order_of(number: u32, base: u32) -> [OpId; 4] {
 /// Compares both checks on an order.
 fn compare_order(
     alloc: Global,
-    part: &Part,
+    part: &Part<'_>,
     order: &[OpId],
     compared: &mut Compared,
 ) -> Option<()> {
     let fast = check_part(alloc, part, order).ok()?;
-    compared.count(fast, slow_verdict(part.calls(), order));
+    compared.count(fast, slow_verdict(part, order));
     Some(())
 }
 
 /// Compares both checks on each order of up to four numbers, one of which the part lacks.
-fn compare_orders(alloc: Global, part: &Part, count: u32, compared: &mut Compared) -> Option<()> {
+fn compare_orders(
+    alloc: Global,
+    part: &Part<'_>,
+    count: u32,
+    compared: &mut Compared,
+) -> Option<()> {
     let base = count.saturating_add(1);
     let mut all = 1u32;
     for length in 0..5usize {
@@ -192,11 +187,16 @@ fn compare_orders(alloc: Global, part: &Part, count: u32, compared: &mut Compare
     Some(())
 }
 
-/// Compares both checks on the part of that number with so many calls.
+/// Compares both checks on the part of that number with so many calls: the only part of its history, or the
+/// empty one.
 fn compare_part(alloc: Global, number: u32, count: u32, compared: &mut Compared) -> Option<()> {
-    match small_part(alloc, number, count) {
-        Some(part) => compare_orders(alloc, &part, count, compared),
-        None => None,
+    let history = small_history(alloc, number, count)?;
+    let parts = history.parts().ok()?;
+    if parts.len() == 0 {
+        compare_orders(alloc, &Part::empty(), count, compared)
+    } else {
+        let (_, part) = parts.entry(0);
+        compare_orders(alloc, &part, count, compared)
     }
 }
 

@@ -2,19 +2,19 @@
 ghost use Rattle.test_rows.specs.Recorded.{SaysOf};
 
 use crate::Answer;
-use recorder::Row;
-use tag::{Action, ClientId, Key, Returned, Tag};
+use recorder::{ActionRef, KeyRef, ReturnedRef, Row};
+use tag::{ClientId, Tag};
 
 /// What a row says of its call: who begins it, on which key, and what it does; or its tag; or its answer.
 #[derive(Clone, Copy)]
-pub enum RowSaid<'a> {
-    Invoked(ClientId, &'a Key, &'a Action),
+pub enum RowSaid<'a, 'h> {
+    Invoked(ClientId, &'a KeyRef<'h>, &'a ActionRef<'h>),
     Noted(Tag),
-    Answered(&'a Returned),
+    Answered(&'a ReturnedRef<'h>),
 }
 
 /// The number of the row's call, and what it says of it.
-pub fn said_by(row: &Row) -> (u32, RowSaid<'_>)
+pub fn said_by<'a, 'h>(row: &'a Row<'h>) -> (u32, RowSaid<'a, 'h>)
     ensures { SaysOf row.now result.0 result.1 }
 {
     match row {
@@ -36,10 +36,10 @@ pub fn say_tag(out: &mut Answer, tag: Tag) {
 }
 
 /// `read`, or `write TEXT`.
-pub fn say_action(out: &mut Answer, action: &Action) {
-    match action {
-        Action::Read => out.push("read"),
-        Action::Write(value) => {
+pub fn say_action(out: &mut Answer, action: &ActionRef<'_>) {
+    match action.written() {
+        None => out.push("read"),
+        Some(value) => {
             let text = value.as_str();
             write!(out, "write {text}");
         }

@@ -2,12 +2,12 @@
 use crate::commands::{asked_of, checked, justified, ran};
 use cli::{Counting, Status};
 use history_file::read_histories;
-use recorder::{Histories, Row};
+use recorder::{Histories, History, Row};
 use run_options::RunAsked;
 use std::alloc::{AllocError, Global};
 use std::sync::Wait;
 use std::thread::Threads;
-use tag::{Action, OpId, Returned};
+use tag::OpId;
 use test_rows::{
     AMPLE, Answer, Pieces, RowSaid, Said, extent, said_by, say_bytes, say_outputs, spans_of,
 };
@@ -20,24 +20,24 @@ fn say_said(out: &mut Answer, said: &Said<Status>) {
 }
 
 /// What the call writes, or else the empty text.
-fn written_by(rows: &[Row], call: OpId) -> &str {
-    for row in rows {
-        match said_by(row) {
-            (op, RowSaid::Invoked(_, _, Action::Write(value))) if op == call.0 => {
-                return value.as_str();
-            }
-            _ => {}
+fn written_by(history: &History, call: OpId) -> &str {
+    for place in 0..history.row_count() {
+        if let Row::Invoke { op, action, .. } = history.row(place)
+            && op == call
+            && let Some(value) = action.written()
+        {
+            return value.as_str();
         }
     }
     ""
 }
 
 /// The call of client 1 on `k0` that the row begins, and whether it writes.
-fn begun_by_one(row: &Row) -> Option<(OpId, bool)> {
+fn begun_by_one(row: &Row<'_>) -> Option<(OpId, bool)> {
     let (op, said) = said_by(row);
     match said {
         RowSaid::Invoked(client, key, action) => {
-            let writes = matches!(action, Action::Write(_));
+            let writes = action.written().is_some();
             let is_wanted = client.get() == 1 && key.as_str() == "k0";
             if is_wanted {
                 Some((OpId(op), writes))
@@ -50,12 +50,9 @@ fn begun_by_one(row: &Row) -> Option<(OpId, bool)> {
 }
 
 /// What the call reads, where the row answers it.
-fn read_by(row: &Row, call: OpId) -> Option<&str> {
+fn read_by<'h>(row: &Row<'h>, call: OpId) -> Option<&'h str> {
     match row {
-        Row::Respond {
-            op,
-            returned: Returned::Value(value),
-        } if *op == call => match value {
+        Row::Respond { op, returned } if *op == call => match returned.answered()? {
             Some(value) => Some(value.as_str()),
             None => Some(""),
         },
@@ -64,24 +61,30 @@ fn read_by(row: &Row, call: OpId) -> Option<&str> {
 }
 
 /// Whether the row gives the call what the other wrote, where it answers the call.
-fn reads_of(rows: &[Row], row: &Row, call: Option<OpId>, write: Option<OpId>) -> Option<bool> {
+fn reads_of(
+    history: &History,
+    row: &Row<'_>,
+    call: Option<OpId>,
+    write: Option<OpId>,
+) -> Option<bool> {
     let read = read_by(row, call?)?;
-    Some(read == written_by(rows, write?))
+    Some(read == written_by(history, write?))
 }
 
 /// Whether each read of `k0` by client 1 gave what it wrote there last, and there is such a read.
-fn reads_own_writes(rows: &[Row]) -> bool {
+fn reads_own_writes(history: &History) -> bool {
     let mut pending = None;
     let mut written = None;
     let mut found = false;
-    for row in rows {
-        if let Some((call, writes)) = begun_by_one(row) {
+    for place in 0..history.row_count() {
+        let row = history.row(place);
+        if let Some((call, writes)) = begun_by_one(&row) {
             pending = Some(call);
             if writes {
                 written = Some(call);
             }
         }
-        match reads_of(rows, row, pending, written) {
+        match reads_of(history, &row, pending, written) {
             Some(true) => found = true,
             Some(false) => return false,
             None => {}
@@ -96,7 +99,7 @@ fn counted(histories: &Histories) -> (usize, &'static str) {
     let mut own = "caller 1 reads no write of its own";
     for history in histories.halls() {
         calls = calls.saturating_add(history.calls());
-        if reads_own_writes(history.rows()) {
+        if reads_own_writes(history) {
             own = "caller 1 reads its own writes";
         }
     }

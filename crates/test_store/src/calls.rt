@@ -68,9 +68,9 @@ pub fn fails_to_meet(seat: &mut Seat, receipt: Option<Receipt>) -> bool {
 /// How many calls of the client the record has.
 pub fn calls_of(client: ClientId, history: &History) -> usize {
     let mut count = 0;
-    for row in history.rows() {
-        if let Row::Invoke { client: caller, .. } = row
-            && *caller == client
+    for place in 0..history.row_count() {
+        if let Row::Invoke { client: caller, .. } = history.row(place)
+            && caller == client
         {
             count = usize::saturating_add(count, 1);
         }

@@ -23,26 +23,28 @@ fn is_atomic(alloc: Global, hall: &ClosedHall) -> bool {
 }
 
 /// Whether these are the keys of the parts, and the order of each is one of its calls.
-fn have_orders(alloc: Global, parts: &Parts, orders: &[KeyOrder]) -> bool {
+fn have_orders(alloc: Global, parts: &Parts<'_>, orders: &[KeyOrder]) -> bool {
     for key_order in orders {
         if is_in_order(alloc, parts, key_order) != Some(true) {
             return false;
         }
     }
-    parts.entries().len() == orders.len()
+    parts.len() == orders.len()
 }
 
 /// Whether the order is one of its key's calls.
-fn is_in_order(alloc: Global, parts: &Parts, key_order: &KeyOrder) -> Option<bool> {
+fn is_in_order(alloc: Global, parts: &Parts<'_>, key_order: &KeyOrder) -> Option<bool> {
     let part = parts.get(&key_order.key)?;
-    let verdict = check_part(alloc, part, key_order.order.as_slice()).ok()?;
+    let verdict = check_part(alloc, &part, key_order.order.as_slice()).ok()?;
     Some(verdict == Verdict::Yes)
 }
 
 /// Whether the record of the only hall is the invocation of one call.
 pub fn has_one_pending_call(closed: &Closed) -> bool {
     match closed.halls.as_slice() {
-        [hall] => matches!(hall.history.rows(), [Row::Invoke { .. }]),
+        [hall] => {
+            hall.history.row_count() == 1 && matches!(hall.history.row(0), Row::Invoke { .. })
+        }
         _ => false,
     }
 }

@@ -174,7 +174,7 @@ impl<R: Wait + Clock, G: Gate> Scene<'_, R, G> {
                 zero: world.is_up(zero),
                 one: world.is_up(one),
                 two: world.is_up(two),
-                is_untouched: world.history().rows().is_empty() && world.pool().sent() == 0,
+                is_untouched: world.history().row_count() == 0 && world.pool().sent() == 0,
             },
         )
     }

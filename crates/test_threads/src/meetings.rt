@@ -36,7 +36,7 @@ fn two_workers_are_at_the_gate_at_once(rt: HostRuntime) {
         came: AtomicU64::new(0),
         met: AtomicU64::new(0),
     };
-    let part = Part::empty(rt.alloc());
+    let part = Part::empty();
     let checked = match Workers::new(2) {
         Some(two) => {
             check_all(&rt, rt.alloc(), &[&part, &part], &[&[], &[]], two, &gate).is_ok()

@@ -74,7 +74,7 @@ fn are_checked<R: Threads + Wait, G: CheckGate + Sync>(
     workers: Workers,
     gate: &G,
 ) -> bool {
-    let part = Part::empty(alloc);
+    let part = Part::empty();
     let (Ok(parts), Ok(orders)) = (
         Vec::from_elem(alloc, &part, count),
         Vec::from_elem(alloc, [].as_slice(), count),

@@ -39,7 +39,7 @@ fn is_told<R: Threads + Wait>(rt: &R, alloc: Global, workers: u8) -> bool {
     let gate = Counted {
         came: AtomicU64::new(0),
     };
-    let part = Part::empty(alloc);
+    let part = Part::empty();
     let answered = check_all(rt, alloc, &[&part, &part], &[&[], &[]], count, &gate);
     is_right(&answered, workers, gate.came.load(Ordering::SeqCst) == 1)
 }

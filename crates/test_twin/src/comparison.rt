@@ -2,13 +2,14 @@
 mod answers;
 mod further;
 
-use crate::slow::{Rules, SlowWorld};
+use crate::slow::{Rules, SlowRow, SlowWorld};
 use crate::stop::Stop;
 use answers::Answers;
 use client_phases::ReadMode;
 use further::{client, further_step, query, read, with_same_value};
 use quorum::Quorums;
 use random_steps::RandomSteps;
+use recorder::History;
 use std::alloc::Global;
 use world_steps::{Config, Effect, Refusal, Step, World};
 
@@ -155,12 +156,25 @@ fn walk(alloc: Global, run: &Run, twins: &mut Twins, answers: &mut Answers) -> R
     Ok(())
 }
 
+/// Whether these are the rows of the history.
+fn has_rows(history: &History, rows: &[SlowRow]) -> bool {
+    if history.row_count() != rows.len() {
+        return false;
+    }
+    for place in 0..rows.len() {
+        if history.row(place) != rows[place].lent() {
+            return false;
+        }
+    }
+    true
+}
+
 /// The steps of a run, after which the records are equal.
 fn play(alloc: Global, run: &Run, twins: &mut Twins, answers: &mut Answers) -> Result<(), Stop> {
     join(twins, answers)?;
     repeat(alloc, twins, answers)?;
     walk(alloc, run, twins, answers)?;
-    if twins.real.history().rows() != twins.slow.rows() {
+    if !has_rows(twins.real.history(), twins.slow.rows()) {
         return Err(Stop::Differs);
     }
     Ok(())

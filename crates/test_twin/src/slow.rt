@@ -2,6 +2,7 @@
 mod clients;
 mod moving;
 mod replicas;
+mod rows;
 mod step_conditions;
 
 use crate::stop::Stop;
@@ -9,8 +10,8 @@ use client_phases::Phase;
 pub(crate) use clients::Rules;
 use clients::SlowClient;
 use network::Message;
-use recorder::Row;
 use replicas::SlowReplica;
+pub(crate) use rows::SlowRow;
 use std::alloc::Global;
 use tag::{ClientId, ReplicaId};
 use world_steps::{Effect, Refusal, Step};
@@ -32,7 +33,7 @@ pub(crate) struct SlowWorld {
     clients: Vec<SlowClient>,
     replicas: Vec<SlowReplica>,
     flights: Vec<SlowFlight>,
-    rows: Vec<Row>,
+    rows: Vec<SlowRow>,
 }
 
 impl SlowWorld {
@@ -59,7 +60,7 @@ impl SlowWorld {
     }
 
     /// The record.
-    pub(crate) fn rows(&self) -> &[Row] {
+    pub(crate) fn rows(&self) -> &[SlowRow] {
         &self.rows
     }
 
@@ -104,7 +105,7 @@ impl SlowWorld {
     fn call_count(&self) -> u32 {
         let mut count = 0u32;
         for row in &self.rows {
-            if let Row::Invoke { .. } = row {
+            if let SlowRow::Invoke { .. } = row {
                 count = count.saturating_add(1);
             }
         }

@@ -4,17 +4,17 @@ ghost use Rattle.std.specs.List.{range_with_len};
 ghost use Rattle.trace_command.specs.TracePages.{IsNumbered};
 
 use history_file::NumberedHistories;
-use recorder::{Histories, History, Row};
+use recorder::{Histories, History};
 use row_lines::RowLines;
 use std::alloc::Global;
 use tag::Memory;
 
-/// The lines of the rows: that of the file's header is line 1.
-fn lines_of(alloc: Global, rows: &[Row]) -> Result<RowLines, Memory>
-    ensures { IfOk result (λ lines. lines ≡ range_with_len 2 (length rows.now)) }
+/// The lines of the history's rows: that of the file's header is line 1.
+fn lines_of(alloc: Global, history: &History) -> Result<RowLines, Memory>
+    ensures { IfOk result (λ lines. lines ≡ range_with_len 2 (length history.now.rows)) }
 {
     let mut lines = RowLines::new(alloc);
-    for (place, _row) in rows.iter().enumerate() {
+    for place in 0..history.row_count() {
         lines.push(place as u64 + 2)?;
     }
     Ok(lines)
@@ -26,7 +26,7 @@ pub(crate) fn numbered_of(alloc: Global, history: History) -> Result<NumberedHis
 {
     let calls = history.calls();
     prove!(calls <= 1_000_000);
-    let lines = lines_of(alloc, history.rows())?;
+    let lines = lines_of(alloc, &history)?;
     let lists = Vec::from_array(alloc, [lines])?;
     let halls = Vec::from_array(alloc, [history])?;
     match Histories::new(halls, None) {

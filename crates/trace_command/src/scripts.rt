@@ -11,10 +11,12 @@ use cli::{Failure, Made, Outcome, Source};
 use counted_devices::CountedRead;
 use fault_script::{Script, parse};
 use std::alloc::Global;
+use std::thread::Threads;
 use tag::Memory;
 
 /// The script that the file is.
 pub(crate) fn script_in<'a, R: CountedRead>(
+    rt: &(impl Threads + Sync),
     alloc: Global,
     source: &mut Source<'a, R>,
 ) -> Result<Script, Failure<'a>>
@@ -23,7 +25,7 @@ pub(crate) fn script_in<'a, R: CountedRead>(
     ensures stops { IfErr result (IsScriptFault
         (file_states R.remaining R.failures source.old source.new)) }
 {
-    match parse(alloc, &mut source.reader) {
+    match parse(rt, alloc, &mut source.reader) {
         Ok(script) => Ok(script),
         Err(error) => Err(Failure::Script {
             name: source.name,

@@ -7,6 +7,7 @@ use crate::scripts::{made_of, script_in};
 use cli::{Source, Status, conclude};
 use counted_devices::{CountedRead, CountedWrite};
 use std::alloc::Global;
+use std::thread::Threads;
 use traces::trace_text;
 
 /// Reads the script, runs it, and prints its trace: a line for each step of its run, in the order of
@@ -17,6 +18,7 @@ use traces::trace_text;
 /// or after a failure of `out` a beginning of it; nothing where the script has a fault. A failure is
 /// said on `errors`.
 pub fn trace_command<'a, S: CountedRead, W: CountedWrite, E: CountedWrite>(
+    rt: &(impl Threads + Sync),
     alloc: Global,
     script: &mut Source<'a, S>,
     most: u32,
@@ -29,7 +31,7 @@ pub fn trace_command<'a, S: CountedRead, W: CountedWrite, E: CountedWrite>(
         (writer_states E.contents E.failures errors.old errors.new)
         result }
 {
-    match script_in(alloc, script) {
+    match script_in(rt, alloc, script) {
         Ok(script) => conclude(made_of(alloc, trace_text(alloc, script, most)), out, errors),
         Err(failure) => failure.report(errors),
     }

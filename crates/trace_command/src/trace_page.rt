@@ -12,6 +12,7 @@ use draw_command::Drawn;
 use fault_script::Script;
 use message_scenes::{RecordedScene, recorded_scene};
 use std::alloc::Global;
+use std::thread::Threads;
 use tag::Memory;
 use traces::trace_text;
 
@@ -45,6 +46,7 @@ fn page_of_script(
 /// after a failure of `out` a beginning of it; nothing where the script has a fault. The status is
 /// `Good` whatever the verdicts on the keys. A failure is said on `errors`.
 pub fn trace_page_command<'a, S: CountedRead, W: CountedWrite, E: CountedWrite>(
+    rt: &(impl Threads + Sync),
     alloc: Global,
     script: &mut Source<'a, S>,
     most: u32,
@@ -58,7 +60,7 @@ pub fn trace_page_command<'a, S: CountedRead, W: CountedWrite, E: CountedWrite>(
         (writer_states E.contents E.failures errors.old errors.new)
         result }
 {
-    match script_in(alloc, script) {
+    match script_in(rt, alloc, script) {
         Ok(script) => {
             let page = page_of_script(alloc, script, most, drawn);
             conclude(made_of(alloc, page), out, errors)

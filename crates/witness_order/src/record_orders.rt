@@ -6,12 +6,12 @@ ghost use Rattle.recorder.specs.declared.part.Call.{Call};
 ghost use Rattle.witness_order.specs.RecordOrders.{AreOrdersOf, HaveSoundTags, Justify};
 
 use crate::{WitnessError, order_of};
-use recorder::{History, KeyOrder, Part};
+use recorder::{History, KeyOrder, Part, Parts};
 use std::alloc::Global;
 use tag::{Key, Memory};
 
 /// The order of a key's calls that their tags make.
-fn key_order(alloc: Global, key: &Key, part: &Part) -> Result<KeyOrder, Memory>
+fn key_order(alloc: Global, key: &Key, part: &Part<'_>) -> Result<KeyOrder, Memory>
     requires { TagSound part.now }
     ensures { IfOk result (λ order. (order.key ≡ key.now) × IsOrder part.now order.order) }
 {
@@ -26,13 +26,15 @@ fn key_order(alloc: Global, key: &Key, part: &Part) -> Result<KeyOrder, Memory>
 }
 
 /// For each part the order that its tags make.
-fn key_orders(alloc: Global, parts: &[(Key, Part)]) -> Result<Vec<KeyOrder>, Memory>
-    requires { (key : List ℕ) (part : List Call) → Contains parts.now (key, part) → TagSound part }
-    ensures { IfOk result (λ orders. AreOrdersOf parts.now orders.items) }
+fn key_orders(alloc: Global, parts: &Parts<'_>) -> Result<Vec<KeyOrder>, Memory>
+    requires { (key : List ℕ) (part : List Call) → Contains parts.now.entries (key, part)
+        → TagSound part }
+    ensures { IfOk result (λ orders. AreOrdersOf parts.now.entries orders.items) }
 {
     let mut orders = Vec::with_capacity(alloc, parts.len())?;
-    for entry in parts {
-        orders.push(key_order(alloc, &entry.0, &entry.1)?)?;
+    for place in 0..parts.len() {
+        let (key, part) = parts.entry(place);
+        orders.push(key_order(alloc, key.key(), &part)?)?;
     }
     Ok(orders)
 }
@@ -44,5 +46,5 @@ pub fn justified_orders(alloc: Global, history: &History) -> Result<Vec<KeyOrder
     ensures { IfOk result (λ orders. Justify history.now.rows orders.items) }
 {
     let parts = history.parts()?;
-    key_orders(alloc, parts.entries())
+    key_orders(alloc, &parts)
 }

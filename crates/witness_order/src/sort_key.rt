@@ -3,7 +3,7 @@ ghost use Rattle.std.specs.Prelude.{◌≡◌};
 ghost use Rattle.witness_order.specs.Keys.{key_of};
 
 use recorder::Call;
-use tag::{Action, OpId, Tag};
+use tag::{OpId, Tag};
 
 /// What a settled call is sorted by: its tag, then whether it reads, then its number, since the
 /// numbers of a part rise with the places of the invocations.
@@ -15,10 +15,10 @@ pub struct SortKey {
 }
 
 /// What a call is sorted by. `None` comes where it isn't settled or has no note.
-pub(crate) fn sort_key(call: &Call) -> Option<SortKey>
+pub(crate) fn sort_key(call: &Call<'_>) -> Option<SortKey>
     ensures { result ≡ key_of call.now }
 {
-    let is_read = matches!(call.action, Action::Read);
+    let is_read = call.action.written().is_none();
     if is_read && call.response.is_none() {
         return None;
     }

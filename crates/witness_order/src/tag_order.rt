@@ -8,7 +8,7 @@ ghost use Rattle.witness_order.specs.Notes.{AllNoted, IsLeastUnnoted};
 
 use crate::WitnessError;
 use crate::sort_key::{SortKey, sort_key};
-use recorder::{Call, Order, Part};
+use recorder::{Order, Part};
 use std::alloc::{AllocError, Global};
 use tag::{Memory, OpId};
 
@@ -17,37 +17,37 @@ use tag::{Memory, OpId};
 ///
 /// `NoNote` comes exactly where a completed call has no note, and names the least such call;
 /// `Memory` only where each has one and an allocation was refused.
-pub fn order_of(alloc: Global, part: &Part) -> Result<Order, WitnessError>
+pub fn order_of(alloc: Global, part: &Part<'_>) -> Result<Order, WitnessError>
     ensures order { IfOk result (λ order. IsByTag part.now order) }
     ensures no_note { (op : OpId) → (result ≡ Err (WitnessError.NoNote op))
         ↔ IsLeastUnnoted part.now op }
     ensures memory { (result ≡ Err WitnessError.Memory) → AllNoted part.now }
     ensures sequence { IsSequence part.now }
 {
-    let calls = part.calls();
-    if let Some(op) = first_unnoted(calls) {
+    if let Some(op) = first_unnoted(part) {
         return Err(WitnessError::NoNote(op));
     }
-    match sorted_order(alloc, calls) {
+    match sorted_order(alloc, part) {
         Ok(order) => Ok(order),
         Err(_) => Err(WitnessError::Memory),
     }
 }
 
 /// The numbers of the settled calls, sorted.
-fn sorted_order(alloc: Global, calls: &[Call]) -> Result<Order, Memory>
-    ensures { IfOk result (λ order. IsSortedByKeys calls.now order) }
+fn sorted_order(alloc: Global, part: &Part<'_>) -> Result<Order, Memory>
+    ensures { IfOk result (λ order. IsSortedByKeys part.now order) }
 {
-    let keys = sorted_keys(alloc, calls)?;
+    let keys = sorted_keys(alloc, part)?;
     Ok(Order::from_vec(numbers(alloc, &keys)?))
 }
 
 /// The least completed call without a note.
-fn first_unnoted(calls: &[Call]) -> Option<OpId>
-    requires { IsSequence calls.now }
-    ensures { MatchOption result (AllNoted calls.now) (λ op. IsLeastUnnoted calls.now op) }
+fn first_unnoted(part: &Part<'_>) -> Option<OpId>
+    ensures first { MatchOption result (AllNoted part.now) (λ op. IsLeastUnnoted part.now op) }
+    ensures sequence { IsSequence part.now }
 {
-    for call in calls {
+    for k in 0..part.len() {
+        let call = part.call(k);
         if call.response.is_some() && call.note.is_none() {
             return Some(call.op);
         }
@@ -56,20 +56,26 @@ fn first_unnoted(calls: &[Call]) -> Option<OpId>
 }
 
 /// What the settled calls are sorted by, sorted.
-fn sorted_keys(alloc: Global, calls: &[Call]) -> Result<Vec<SortKey>, AllocError>
-    ensures settled { IfOk result (λ keys. IsPermutation (filter_map key_of calls.now) keys.items) }
+fn sorted_keys(alloc: Global, part: &Part<'_>) -> Result<Vec<SortKey>, AllocError>
+    ensures settled { IfOk result (λ keys. IsPermutation (filter_map key_of part.now) keys.items) }
     ensures sorted { IfOk result (λ keys. IsSorted key_cmp keys.items) }
 {
-    let mut keys = sort_keys(alloc, calls)?;
+    let mut keys = sort_keys(alloc, part)?;
     keys.sort_unstable();
     Ok(keys)
 }
 
 /// What the settled calls are sorted by, in the order of the calls.
-fn sort_keys(alloc: Global, calls: &[Call]) -> Result<Vec<SortKey>, AllocError>
-    ensures { IfOk result (λ keys. keys.items ≡ filter_map key_of calls.now) }
+fn sort_keys(alloc: Global, part: &Part<'_>) -> Result<Vec<SortKey>, AllocError>
+    ensures { IfOk result (λ keys. keys.items ≡ filter_map key_of part.now) }
 {
-    calls.iter().filter_map(sort_key).collect(alloc)
+    let mut keys = Vec::new(alloc);
+    for k in 0..part.len() {
+        if let Some(key) = sort_key(&part.call(k)) {
+            keys.push(key)?;
+        }
+    }
+    Ok(keys)
 }
 
 /// The numbers of the calls that have these keys.

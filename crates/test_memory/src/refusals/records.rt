@@ -3,6 +3,7 @@ use super::assert_kept;
 use certificate_check::{Verdict, check_part};
 use recorder::{History, Part, Parts, RowRefusal};
 use std::alloc::Global;
+use std::fmt::Write as _;
 use tag::{Action, ClientId, Key, Memory, OpId, Returned, Tag, Value};
 use witness_order::order_of;
 
@@ -17,9 +18,19 @@ fn value(alloc: Global) -> Result<Value, Memory> {
     Value::new(alloc, "a").map_err(|_| Memory)
 }
 
+/// The rows of a history, as a text.
+pub fn add_rows(text: &mut String, history: &History) -> Result<(), Memory> {
+    for place in 0..history.row_count() {
+        let row = history.row(place);
+        write!(text, "{row:?}\n")?;
+    }
+    Ok(())
+}
+
 fn text(alloc: Global, history: &History) -> Result<String, Memory> {
-    let rows = history.rows();
-    Ok(format!(in alloc; "{rows:?}")?)
+    let mut text = String::new(alloc);
+    add_rows(&mut text, history)?;
+    Ok(text)
 }
 
 /// Has client 1 begin the call.
@@ -78,18 +89,18 @@ fn is_recorded(alloc: Global, history: &mut History, call: u32) -> Result<bool, 
 }
 
 /// Whether the part has so many calls, and its tags make an order of them.
-fn is_justified(alloc: Global, part: &Part, calls: usize) -> Result<bool, Memory> {
+fn is_justified(alloc: Global, part: &Part<'_>, calls: usize) -> Result<bool, Memory> {
     let Ok(order) = order_of(alloc, part) else {
         return Err(Memory);
     };
     let verdict = check_part(alloc, part, order.as_slice())?;
-    Ok(part.calls().len() == calls && verdict == Verdict::Yes)
+    Ok(part.len() == calls && verdict == Verdict::Yes)
 }
 
 /// Whether there are the keys of all calls, and the key has its three.
-fn has_three(alloc: Global, parts: &Parts, key: &Key) -> Result<bool, Memory> {
+fn has_three(alloc: Global, parts: &Parts<'_>, key: &Key) -> Result<bool, Memory> {
     match parts.get(key) {
-        Some(part) => Ok(parts.entries().len() == 15 && is_justified(alloc, part, 3)?),
+        Some(part) => Ok(parts.len() == 15 && is_justified(alloc, &part, 3)?),
         None => Ok(false),
     }
 }

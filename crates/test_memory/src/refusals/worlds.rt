@@ -1,5 +1,6 @@
 //! Steps of a world, and the call that `settle` completes.
 use super::assert_kept;
+use super::records::add_rows;
 use client_phases::Taken;
 use std::alloc::Global;
 use std::fmt::Write as _;
@@ -93,9 +94,9 @@ fn add_clients(text: &mut String, world: &World) -> Result<(), Memory> {
 
 /// The whole of a world as a text: its rows, its network, its replicas and its clients.
 pub fn seen(alloc: Global, world: &World) -> Result<String, Memory> {
-    let rows = world.history().rows();
     let pool = world.pool();
-    let mut text = format!(in alloc; "{rows:?}\n{pool:?}\n")?;
+    let mut text = format!(in alloc; "{pool:?}\n")?;
+    add_rows(&mut text, world.history())?;
     add_replicas(&mut text, world)?;
     add_clients(&mut text, world)?;
     Ok(text)
@@ -253,12 +254,12 @@ fn is_settled(world: &mut World, client: ClientId) -> bool {
     let is_good = match settle(world, client) {
         Ok(count) => count == 13,
         Err(SettleError::Memory(count)) => {
-            let left = (world.pool().sent(), world.history().rows().len());
+            let left = (world.pool().sent(), world.history().row_count());
             left == after(count) && settle(world, client).is_ok()
         }
         Err(_) => false,
     };
-    is_good && world.history().rows().len() == 3
+    is_good && world.history().row_count() == 3
 }
 
 /// Whether client 1 joins, begins its write, and the call is completed.

@@ -1,19 +1,19 @@
 //! What a step does, where nothing refuses it.
 use super::clients::SlowClient;
 use super::replicas::SlowReplica;
+use super::rows::SlowRow;
 use super::{SlowFlight, SlowWorld};
 use crate::stop::Stop;
 use client_phases::{Phase, Taken};
 use network::Message;
-use recorder::Row;
 use replica::{Reply, Request};
 use tag::{Action, ClientId, Key, OpId, ReplicaId, Tag};
 use world_steps::{Effect, Step};
 
 /// The row of an invocation.
-fn invocation(op: OpId, client: ClientId, key: &Key, action: &Action) -> Result<Row, Stop> {
+fn invocation(op: OpId, client: ClientId, key: &Key, action: &Action) -> Result<SlowRow, Stop> {
     match (key.copy(), action.copy()) {
-        (Ok(key), Ok(action)) => Ok(Row::Invoke {
+        (Ok(key), Ok(action)) => Ok(SlowRow::Invoke {
             op,
             client,
             key,
@@ -113,7 +113,7 @@ impl SlowWorld {
     /// The client that made a call.
     fn caller(&self, call: OpId) -> Result<ClientId, Stop> {
         for row in &self.rows {
-            if let Row::Invoke { op, client, .. } = row {
+            if let SlowRow::Invoke { op, client, .. } = row {
                 if *op == call {
                     return Ok(*client);
                 }
@@ -159,7 +159,7 @@ impl SlowWorld {
     }
 
     fn note(&mut self, op: OpId, tag: Tag) -> Result<(), Stop> {
-        self.rows.push(Row::Note { op, tag })?;
+        self.rows.push(SlowRow::Note { op, tag })?;
         Ok(())
     }
 
@@ -180,7 +180,7 @@ impl SlowWorld {
         let client = self.client_mut(name)?;
         let (op, returned) = client.answer()?;
         client.end(Phase::Idle);
-        self.rows.push(Row::Respond { op, returned })?;
+        self.rows.push(SlowRow::Respond { op, returned })?;
         Ok(Effect::Responded(op))
     }
 }

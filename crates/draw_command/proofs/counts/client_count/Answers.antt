@@ -7,7 +7,7 @@ use Rattle.draw_command.proofs.counts.client_count.Goals as goal
 
 pub returns : goal.returns
 returns c =
-    let start = map (λ (call : Call). call.client) c.args.calls.now in
+    let start = map (λ (call : Call). call.client) c.args.part.now in
     record {
       clients = c.dedup.new.self.items;
       each_once = rising_list (λ n. Contains start n) c.in_ok-clients.clients.items _ _

@@ -1,10 +1,16 @@
-use Rattle.std.proofs.Common.{ℕ, List, [], ◌∷◌, ◌++◌, ap, sym, ◌∙◌}
+use Rattle.std.proofs.Common.{ℕ, List, [], ◌∷◌, ◌++◌, map, ap, sym, arith, ◌∙◌}
+use Rattle.std.proofs.lemmas.List.{take_all}
 use Rattle.recorder.specs.declared.part.Call.{Call}
-use Rattle.parallel_keys.proofs.Fronts.{mapped_more}
+use Rattle.parallel_keys.proofs.Fronts.{mapped_at}
 use Rattle.draw_command.proofs.counts.clients_of.Goals as goal
 
-pub loop-call-preserved : goal.loop-call-preserved
-loop-call-preserved c =
-    let call = c.call-item.result in
-    c.in_ok-push.ensures.items ∙ ap (λ (l : List ℕ). l ++ call.client ∷ []) c.loop-call.invariant
-    ∙ sym (mapped_more (λ (one : Call). one.client) c.args.calls.now c.loop-call.call-index call c.loop-call-test.true c.call-item.is)
+pub loop-place-preserved : goal.loop-place-preserved
+loop-place-preserved c =
+    let call = c.call-call.result in
+    c.in_ok-push.ensures.items ∙ ap (λ (l : List ℕ). l ++ call.client ∷ []) c.loop-place.invariant
+    ∙ sym (mapped_at (λ (one : Call). one.client) c.args.part.now c.loop-place.place call c.call-call.ensures)
+
+pub returns : goal.returns
+returns c =
+    c.loop-place.invariant
+    ∙ ap (map (λ (one : Call). one.client)) (take_all c.loop-place.place c.args.part.now (omega (arith, c.len-place-end.ensures.count, c.loop-place-test.false, c.loop-place.auto.place-end)))

@@ -2,5 +2,5 @@ use Rattle.std.proofs.Common.{◌≡◌, count_by, is_none, take}
 use Rattle.recorder.specs.declared.part.Call.{Call}
 use Rattle.draw_command.proofs.counts.pending_count.Given as goal
 
-abbrev pub invariant-loop-call : goal.invariant-loop-call
-invariant-loop-call l = l.pending ≡ count_by (λ (call : Call). is_none call.response) (take l.call-index l.calls)
+abbrev pub invariant-loop-place : goal.invariant-loop-place
+invariant-loop-place l = l.pending ≡ count_by (λ (call : Call). is_none call.response) (take l.place l.part)

@@ -20,12 +20,12 @@ returns c =
     let key = c.args.key.now in
     on_ok_weaker c.append_section.result
     (section_added task.judged task.numbered.now task.drawn c.args.n (judgement_of key) c.as_slice.result.now
-    (record { key = key.one.key; hall = hall; part = key.one.part; scene = record { ref_ptr = (0, 0); now = c.in_ok-scene.scene }; faulty = c.as_slice-faulty.result })
+    (record { key = key.one.now.key; hall = hall; part = record { ref_ptr = (0, 0); now = key.one.now.part }; scene = record { ref_ptr = (0, 0); now = c.in_ok-scene.scene }; faulty = c.as_slice-faulty.result })
     (record {
       of_key = refl;
       of_part = refl;
       hall = c.hall_of-hall.ensures;
-      why = subst (λ (t : List ℕ). IsWhy hall (what_of key.one) key.finding t c.as_slice-faulty.result.now) (sym c.as_slice.ensures.value)
-          (subst (λ (calls : List OpId). IsWhy hall (what_of key.one) key.finding c.in_ok-why.why.text.items calls) (sym c.as_slice-faulty.ensures.value) c.in_ok-why.ensures);
+      why = subst (λ (t : List ℕ). IsWhy hall (what_of key.one.now) key.finding t c.as_slice-faulty.result.now) (sym c.as_slice.ensures.value)
+          (subst (λ (calls : List OpId). IsWhy hall (what_of key.one.now) key.finding c.in_ok-why.why.text.items calls) (sym c.as_slice-faulty.ensures.value) c.in_ok-why.ensures);
       scene = c.in_ok-scene.ensures;
     }) _ _) c.append_section.ensures

@@ -1,5 +1,5 @@
 -- The hall's number is below their count, and each hall has its list of lines.
-use Rattle.std.proofs.Common.{◌≡◌, ◌<◌, ℕ, List, length, Some, slice_get, ap, subst, ◌∙◌, arith}
+use Rattle.std.proofs.Common.{◌≡◌, ◌<◌, ℕ, List, length, Some, slice_get, ap, refl, subst, ◌∙◌, arith}
 use Rattle.recorder.specs.Halls.{hall_of}
 use Rattle.recorder.specs.Histories.{Recorded}
 use Rattle.tag.proofs.Lists.{item_at}
@@ -19,6 +19,6 @@ returns c =
       its = c.from-hall.ensures ∙ c.of.ensures.hall ∙ ap (λ (n : ℕ). hall_of n key) (count ∙ ap length c.halls-histories.ensures.halls);
       history = history;
       recorded = subst (λ (hs : List Recorded). slice_get hs hall ≡ Some history) c.halls-histories.ensures.halls (item_at halls hall history below c.index-histories-hall.is);
-      rows = c.rows.ensures.rows;
+      rows = refl;
       lines = item_at c.args.numbered.now.lines.items hall c.index.result.now listed c.index.ensures;
     }

@@ -1,4 +1,4 @@
-use Rattle.std.proofs.Common.{ℕ, ◌+◌, ap, subst, sym}
+use Rattle.std.proofs.Common.{ℕ, ◌+◌, ap}
 use Rattle.random_steps.specs.Choices.{generator_of}
 use Rattle.fault_script.specs.ScriptRuns.{Walk}
 use Rattle.fault_script.proofs.Walking.{counted_few, walk_on}

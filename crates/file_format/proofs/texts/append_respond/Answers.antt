@@ -5,16 +5,16 @@ use Rattle.file_format.specs.Texts.{hall_text}
 use Rattle.file_format.proofs.Spelling.{written_bytes, respond_bytes, then, spelled}
 use Rattle.file_format.proofs.texts.append_respond.Goals as goal
 
-pub returns-in-Written-clause-text : goal.returns-in-Written-clause-text
-returns-in-Written-clause-text c =
+pub returns-in-None-clause-text : goal.returns-in-None-clause-text
+returns-in-None-clause-text c =
     let op = c.args.op in
-    rw c.in-Written.is (on_ok_weaker c.append.result (λ last. spelled _ _ _ _ (written_bytes c.args.hall op)
+    rw c.in-None.ensures.done (on_ok_weaker c.append.result (λ last. spelled _ _ _ _ (written_bytes c.args.hall op)
     (then _ _ _ (codes "{\"call\":") (decimal op.0) _ c.in_ok-append_number.ensures.text
     (then _ _ _ (codes "") (hall_text c.args.hall) (codes ",\"row\":\"respond\"}\n") c.in_ok-append_hall.ensures last))) c.append.ensures)
 
-pub returns-in-Value-clause-text : goal.returns-in-Value-clause-text
-returns-in-Value-clause-text c =
+pub returns-in-Some-clause-text : goal.returns-in-Some-clause-text
+returns-in-Some-clause-text c =
     let op = c.args.op in
-    rw c.in-Value.is (on_ok_weaker c.append_answer.result (λ last. spelled _ _ _ _ (respond_bytes c.args.hall op c.in-Value.answer)
+    rw c.in-Some.ensures.read (on_ok_weaker c.append_answer.result (λ last. spelled _ _ _ _ (respond_bytes c.args.hall op c.in-Some.answer)
     (then _ _ _ (codes "{\"call\":") (decimal op.0) _ c.in_ok-append_number.ensures.text
     (then _ _ _ (codes "") (hall_text c.args.hall) _ c.in_ok-append_hall.ensures last))) c.append_answer.ensures.text)

@@ -5,8 +5,8 @@ use Rattle.file_format.specs.Texts.{row_text, history_text}
 use Rattle.file_format.proofs.EachElement.{AllBefore}
 use Rattle.file_format.proofs.writing.history_text.Given as goal
 
-abbrev pub invariant-loop-row : goal.invariant-loop-row
-invariant-loop-row l = record {
-  text : l.text.items ++ flat_map row_text (drop l.row-index l.row-items) ≡ history_text l.history.rows;
-  range : AllBefore IsRowInRange l.row-items l.row-index;
+abbrev pub invariant-loop-place : goal.invariant-loop-place
+invariant-loop-place l = record {
+  text : l.text.items ++ flat_map row_text (drop l.place l.history.rows) ≡ history_text l.history.rows;
+  range : AllBefore IsRowInRange l.history.rows l.place;
 }

@@ -6,10 +6,10 @@ use Rattle.file_format.specs.Texts.{row_text_with}
 use Rattle.file_format.proofs.EachElement.{AllBefore}
 use Rattle.file_format.proofs.writing.write_hall.Given as goal
 
-abbrev pub invariant-loop-row : goal.invariant-loop-row
-invariant-loop-row g l = record {
+abbrev pub invariant-loop-place : goal.invariant-loop-place
+invariant-loop-place g l = record {
   left : Leaves (g.W.Write.contents l.fn.writer) (g.W.Write.contents l.writer) (l.fn.batch.items
-      ++ flat_map (row_text_with l.hall) l.history.rows) (l.batch.items ++ flat_map (row_text_with l.hall) (drop l.row-index l.row-items));
-  range : AllBefore IsRowInRange l.row-items l.row-index;
+      ++ flat_map (row_text_with l.hall) l.history.rows) (l.batch.items ++ flat_map (row_text_with l.hall) (drop l.place l.history.rows));
+  range : AllBefore IsRowInRange l.history.rows l.place;
   same : (g.W.Counted.failures l.writer) ≡ (g.W.Counted.failures l.fn.writer);
 }

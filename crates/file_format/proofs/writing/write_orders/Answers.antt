@@ -1,5 +1,4 @@
-use Rattle.std.proofs.Common.{ℕ, ◌++◌, sym, ◌∙◌, arith}
-use Rattle.counted_devices.specs.Sendings.{Leaves}
+use Rattle.std.proofs.Common.{◌++◌, sym, ◌∙◌, arith}
 use Rattle.file_format.specs.Ranges.{IsOrderInRange}
 use Rattle.file_format.specs.Texts.{order_text, orders_text}
 use Rattle.counted_devices.proofs.Leaving.{Leaves-next, AppendsPrefix-next, none_ahead}

@@ -11,7 +11,7 @@ loop-index-preserved c =
     let keys = c.args.keys.now in
     let index = c.loop-index.index in
     let key = c.index-keys-index.result in
-    let given = c.requires.each index _ (slice_get-get_or c.args.verdicts.now index _ (omega (arith, c.requires.all, length-map keys (λ (p : KeyToCheck). p.part.now)))) in
+    let given = c.requires.each index _ (slice_get-get_or c.args.verdicts.now index _ (omega (arith, c.requires.all, length-map keys (λ (p : KeyToCheck). p.part)))) in
     keyed_more (map what_of keys) index _ c.loop-index.keyed.items c.push.new.self.items _ _ (what_of key) c.loop-index.invariant
     (what_at keys index key c.loop-index-test.true c.index-keys-index.is)
     (c.in_ok-copy.ensures ∙ ap (λ (p : KeyToCheck). p.key.now) (sym c.index-keys-index.is))

@@ -4,8 +4,8 @@ use Rattle.tag.proofs.Lists.{Contains-slice_get}
 use Rattle.scenes.proofs.ShownCalls.{IsBarAt, zip_more}
 use Rattle.scenes.proofs.bars.bars_of.Goals as goal
 
-pub call_at-call-requires : goal.call_at-call-requires
-call_at-call-requires c =
+pub call-call-requires : goal.call-call-requires
+call-call-requires c =
     let shown = c.args.shown.now in
     let k = c.loop-i.i-index in
     c.requires.shown.within _ (Contains-slice_get shown k _ (slice_get-get_or shown k 0 c.loop-i-test.true))
@@ -14,18 +14,18 @@ pub lane_of-requires-clause-there : goal.lane_of-requires-clause-there
 lane_of-requires-clause-there c =
     let shown = c.args.shown.now in
     let k = c.loop-i.i-index in
-    let call = c.call_at-call.result.now in
+    let call = c.call-call.result in
     let there = Contains-slice_get shown k _ (slice_get-get_or shown k 0 c.loop-i-test.true) in
-    (c.requires.lanes.exactly call.client).1 (_, call, there, c.call_at-call.ensures, refl)
+    (c.requires.lanes.exactly call.client).1 (_, call, there, c.call-call.ensures, refl)
 
 pub loop-i-preserved : goal.loop-i-preserved
 loop-i-preserved c =
     let shown = c.args.shown.now in
     let k = c.loop-i.i-index in
-    zip_more (IsBarAt c.args.calls.now c.args.rows.now c.args.lanes.now) shown c.loop-i.bars.items _ k _ _
+    zip_more (IsBarAt c.args.part.now c.args.history.now.rows c.args.lanes.now) shown c.loop-i.bars.items _ k _ _
     (slice_get-get_or shown k 0 c.loop-i-test.true) c.in_ok-push.ensures.items c.loop-i.invariant (
-      c.call_at-call.result.now,
-      c.call_at-call.ensures,
+      c.call-call.result,
+      c.call-call.ensures,
       record {
         call_is = refl;
         lane = c.lane_of.ensures;

@@ -3,4 +3,4 @@ use Rattle.scenes.specs.Scenes.{AreBarsOf}
 use Rattle.scenes.proofs.bars.bars_of.Given as goal
 
 abbrev pub invariant-loop-i : goal.invariant-loop-i
-invariant-loop-i l = AreBarsOf l.calls (take l.i-index l.shown) l.rows l.lanes l.bars.items
+invariant-loop-i l = AreBarsOf l.part (take l.i-index l.shown) l.history.rows l.lanes l.bars.items

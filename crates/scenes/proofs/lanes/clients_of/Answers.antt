@@ -7,8 +7,8 @@ use Rattle.scenes.proofs.Just.{HasJust}
 use Rattle.scenes.proofs.ShownCalls.{clients_more}
 use Rattle.scenes.proofs.lanes.clients_of.Goals as goal
 
-pub call_at-requires : goal.call_at-requires
-call_at-requires c =
+pub call-requires : goal.call-requires
+call-requires c =
     let shown = c.args.shown.now in
     let k = c.loop-i.i-index in
     c.requires.within _ (Contains-slice_get shown k _ (slice_get-get_or shown k 0 c.loop-i-test.true))
@@ -17,9 +17,9 @@ pub loop-i-preserved : goal.loop-i-preserved
 loop-i-preserved c =
     let shown = c.args.shown.now in
     let k = c.loop-i.i-index in
-    clients_more c.args.calls.now shown k _ c.call_at.result.now c.loop-i.clients.items _
-    (slice_get-get_or shown k 0 c.loop-i-test.true) c.call_at.ensures c.in_ok-push.ensures.items c.loop-i.invariant
+    clients_more c.args.part.now shown k _ c.call.result c.loop-i.clients.items _
+    (slice_get-get_or shown k 0 c.loop-i-test.true) c.call.ensures c.in_ok-push.ensures.items c.loop-i.invariant
 
 pub returns : goal.returns
-returns c = subst (λ (l : List ℕ). HasJust (HasCallOf c.args.calls.now l) c.loop-i.clients.items)
+returns c = subst (λ (l : List ℕ). HasJust (HasCallOf c.args.part.now l) c.loop-i.clients.items)
     (take_all c.loop-i.i-index c.args.shown.now c.loop-i-test.false) c.loop-i.invariant

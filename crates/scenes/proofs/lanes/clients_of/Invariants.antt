@@ -4,4 +4,4 @@ use Rattle.scenes.proofs.Just.{HasJust}
 use Rattle.scenes.proofs.lanes.clients_of.Given as goal
 
 abbrev pub invariant-loop-i : goal.invariant-loop-i
-invariant-loop-i l = HasJust (HasCallOf l.calls (take l.i-index l.shown)) l.clients.items
+invariant-loop-i l = HasJust (HasCallOf l.part (take l.i-index l.shown)) l.clients.items

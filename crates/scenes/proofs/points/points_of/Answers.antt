@@ -4,11 +4,11 @@ use Rattle.reasons.proofs.ListedCalls.{stands}
 use Rattle.scenes.proofs.RunningPoints.{reached_more}
 use Rattle.scenes.proofs.points.points_of.Goals as goal
 
-pub invoked-requires-clause-there : goal.invoked-requires-clause-there
-invoked-requires-clause-there c =
+pub invoked-requires : goal.invoked-requires
+invoked-requires c =
     let known = c.requires.order.known c.loop-op.op-index c.loop-op-test.true in
     let number = get_or_from_slice_get c.args.order.now c.loop-op.op-index known.0.op (record { 0 = 0 }) known.1.listed in
-    (known.0, (rw c.calls-calls.ensures.calls known.1.recorded, sym number))
+    (known.0, (known.1.recorded, sym number))
 
 pub loop-op-preserved : goal.loop-op-preserved
 loop-op-preserved c =
@@ -17,7 +17,6 @@ loop-op-preserved c =
     let i = c.loop-op.op-index in
     let found = c.invoked.ensures in
     let at = slice_get-get_or order i (record { 0 = 0 }) c.loop-op-test.true in
-    let there = rw c.calls-calls.ensures.calls at found.1 in
     let is = c.max-latest.ensures ∙ ap (max c.loop-op.latest) found.2 in
-    reached_more part order c.calls-calls.ensures.sequence c.requires.apart c.requires.order.precedence i c.loop-op.latest _
-    c.loop-op.points.items _ found.0 is c.in_ok-push.ensures.items (stands part order i _ found.0 at there) c.loop-op.invariant
+    reached_more part order c.len-sequence.ensures.sequence c.requires.apart c.requires.order.precedence i c.loop-op.latest _
+    c.loop-op.points.items _ found.0 is c.in_ok-push.ensures.items (stands part order i _ found.0 at found.1) c.loop-op.invariant

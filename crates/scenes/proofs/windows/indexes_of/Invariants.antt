@@ -4,4 +4,4 @@ use Rattle.scenes.proofs.Just.{HasJust}
 use Rattle.scenes.proofs.windows.indexes_of.Given as goal
 
 abbrev pub invariant-loop-op : goal.invariant-loop-op
-invariant-loop-op l = HasJust (IsToShow l.calls l.fn.window (take l.op-index l.kept)) l.indexes.items
+invariant-loop-op l = HasJust (IsToShow l.part l.fn.window (take l.op-index l.kept)) l.indexes.items

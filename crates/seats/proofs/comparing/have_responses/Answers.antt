@@ -5,7 +5,7 @@ use Rattle.seats.proofs.comparing.have_responses.Goals as goal
 pub loop-entry-preserved : goal.loop-entry-preserved
 loop-entry-preserved c =
     let l = c.loop-entry in
-    responds_next c.args.rows.now (map (λ e. e.now) c.args.entries.now) l.entry-index c.entry-item.result.now l.invariant
+    responds_next c.args.history.now.rows (map (λ e. e.now) c.args.entries.now) l.entry-index c.entry-item.result.now l.invariant
     (mapped_at (λ e. e.now) c.args.entries.now l.entry-index c.entry-item.result c.loop-entry-test.true c.entry-item.is)
     (c.if-not-has_response.ensures refl)
 

@@ -4,5 +4,5 @@ use Rattle.recorder.specs.declared.row.Row.TheVariants.{Respond}
 use Rattle.world_steps.specs.Sound.{At}
 use Rattle.seats.proofs.comparing.is_unanswered.Given as goal
 
-abbrev pub invariant-loop-row : goal.invariant-loop-row
-invariant-loop-row l = (place : ℕ) (returned : Returned) → place < l.row-index → At l.rows place (Respond l.op returned) → ⊥
+abbrev pub invariant-loop-place : goal.invariant-loop-place
+invariant-loop-place l = (k : ℕ) (returned : Returned) → k < l.place → At l.history.rows k (Respond l.op returned) → ⊥

@@ -24,7 +24,7 @@ returns-then-index c =
     omega (arith, s.located.within c.loop-i.i (get_or c.deref-index-items.result.now c.loop-i.i 0) at, c.loop-i.invariant.all) in
     let m = c.loop-i.invariant.listed _ (slice_get-get_or c.loop-i.marks.items _ c.index.result.now small
     ∙ ap Some (sym c.index.ensures ∙ c.if-index.true)) in
-    (repeated_call s.calls.now s.order.now s.indexes.items s.sequence s.located c.loop-i.i m.0 m.1 (omega (arith, c.loop-i-test.true, ap length c.deref-index-items.ensures.value)) (m.2 ∙ sym at), λ n less found. c.loop-i.invariant.once n less (repeated_index s.calls.now s.order.now s.indexes.items s.sequence s.located n found))
+    (repeated_call s.part.now s.order.now s.indexes.items s.sequence s.located c.loop-i.i m.0 m.1 (omega (arith, c.loop-i-test.true, ap length c.deref-index-items.ensures.value)) (m.2 ∙ sym at), λ n less found. c.loop-i.invariant.once n less (repeated_index s.part.now s.order.now s.indexes.items s.sequence s.located n found))
 
 pub loop-i-preserved : goal.loop-i-preserved
 loop-i-preserved c =
@@ -44,6 +44,6 @@ pub returns : goal.returns
 returns c =
     let s = c.args.self.now in
     let past : length s.order.now ≤ c.loop-i.i = omega (arith, c.loop-i-test.false, ap length c.deref-index-items.ensures.value, s.located.all) in (
-      λ n found. c.loop-i.invariant.once n (omega (arith, found.0)) (repeated_index s.calls.now s.order.now s.indexes.items s.sequence s.located n found),
-      Marks-from_indexes s.calls.now s.order.now s.indexes.items c.loop-i.marks.items c.loop-i.i s.sequence s.located past c.loop-i.invariant.all c.loop-i.invariant.listed c.loop-i.invariant.marked,
+      λ n found. c.loop-i.invariant.once n (omega (arith, found.0)) (repeated_index s.part.now s.order.now s.indexes.items s.sequence s.located n found),
+      Marks-from_indexes s.part.now s.order.now s.indexes.items c.loop-i.marks.items c.loop-i.i s.sequence s.located past c.loop-i.invariant.all c.loop-i.invariant.listed c.loop-i.invariant.marked,
     )

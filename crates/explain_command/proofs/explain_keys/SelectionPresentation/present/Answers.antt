@@ -1,4 +1,4 @@
-use Rattle.std.proofs.Common.{List, ap, map, refl, subst, ◌∙◌}
+use Rattle.std.proofs.Common.{List, ap, map, refl, subst}
 use Rattle.recorder.specs.Histories.{Recorded}
 use Rattle.recorder.specs.Records.{KeyedParts}
 use Rattle.parallel_keys.specs.Histories.{AreHallParts}
@@ -8,11 +8,11 @@ use Rattle.explain_command.proofs.explain_keys.SelectionPresentation.present.Goa
 pub returns-clause-made : goal.returns-clause-made
 returns-clause-made c =
     let parts = map (λ (p : KeyedParts). p.entries) c.in_ok-parts.parts.items in
-    let which = ap (map what_of) c.as_slice-3.ensures.value ∙ (rw (c.as_slice.ensures.value, c.as_slice-2.ensures.value) at c.in_ok-keys.ensures) in
+    let which = rw (c.as_slice.ensures.value, c.as_slice-2.ensures.value) at c.in_ok-keys.ensures in
     let recorded = subst (λ (hs : List Recorded). AreHallParts hs parts) c.halls.ensures.halls c.in_ok-parts.ensures in
     record {
       numbered = c.args.files.now.numbered;
-      keys = map what_of c.as_slice-3.result.now;
+      keys = map what_of c.in_ok-keys.keys.items;
       read = record { same = refl; keys_are = record { lawful = c.halls.ensures.lawful; parts = parts; recorded = recorded; are = which } };
       made = c.in_ok-explain_keys.ensures;
     }

@@ -4,8 +4,8 @@ use Rattle.fault_details.proofs.earlier_rows.EarlierRows.last_place.Given as goa
 
 abbrev pub invariant-loop-count : goal.invariant-loop-count
 invariant-loop-count l = record {
-  same : last_place l.sought l.rows ≡ last_before l.sought l.rows l.count;
-  most : l.count ≤ length l.rows;
+  same : last_place l.sought l.self.history.now.rows ≡ last_before l.sought l.self.history.now.rows l.count;
+  most : l.count ≤ length l.self.history.now.rows;
 }
 
 abbrev pub decreases-loop-count : goal.decreases-loop-count

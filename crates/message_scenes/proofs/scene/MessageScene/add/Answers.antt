@@ -20,12 +20,12 @@ returns-clause-shapes c =
     let step = c.args.step in
     let row = c.len-row.result in
     let sent = c.sent-sent.result in
-    let recorded = length c.rows.result.now in
+    let recorded = c.row_count-recorded.result in
     let after : c.take.new.world ≡ system_after s step = c.in_ok-take.ensures ∙ ap (system_after s) c.in_ok-copy.ensures.equal in
     let new : MessageScene = record c.add_after.new.self { rows = c.push.new.self } in
     let t : TakenStep = record { command = c.args.command.now; before = s; step = step; after = system_after s step } in
     shapes_more old new t row sent recorded (omega (arith, c.len-row.ensures, old.rows.ok.0)) (c.sent-sent.ensures.sent ∙ ap (λ (p : Pool). p.sent) c.pool.ensures)
-    (ap length (c.rows.ensures.rows ∙ ap (λ (r : Recorded). r.rows) c.history.ensures.history))
+    (c.row_count-recorded.ensures.count ∙ ap (λ (r : Recorded). length r.rows) c.history.ensures.history)
     (c.in_ok-push.ensures.items ∙ (λ i. (h.others i).rows.items ++ c.in_ok-copy_command.ensures i ∷ [])) h.joined
     (h.arrows ∙ ap (λ (x : System). arrows_by row step sent (message_of x.pool.flights sent) old.arrows.items) after)
     (h.calls ∙ ap (λ (x : System). calls_by row step (slice_get x.history.rows recorded) old.calls.items) after)

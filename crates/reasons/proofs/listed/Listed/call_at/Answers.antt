@@ -6,10 +6,10 @@ pub unreachable-requires : goal.unreachable-requires
 unreachable-requires c =
     let s = c.args.self.now in
     let at = slice_get-get_or s.order.now c.args.place _ c.requires.within in
-    c.requires.known (unknown_here s.calls.now s.order.now c.args.place _ at c.in-None.ensures.none)
+    c.requires.known (unknown_here s.part.now s.order.now c.args.place _ at c.in-None.ensures.none)
 
 pub returns : goal.returns
 returns c =
     let s = c.args.self.now in
     let at = slice_get-get_or s.order.now c.args.place _ c.requires.within in
-    stands s.calls.now s.order.now c.args.place _ c.in-Some.call.now at c.in-Some.ensures.found
+    stands s.part.now s.order.now c.args.place _ c.in-Some.call at c.in-Some.ensures.found

@@ -13,7 +13,7 @@ returns-in-Some c = (
 pub loop-i-preserved : goal.loop-i-preserved
 loop-i-preserved c =
     let s = c.args.self.now in
-    no_write_from s.calls.now s.order.now _ c.loop-i.i c.args.place (omega arith) c.in_default.ensures.none c.loop-i.invariant
+    no_write_from s.part.now s.order.now _ c.loop-i.i c.args.place (omega arith) c.in_default.ensures.none c.loop-i.invariant
 
 pub returns : goal.returns
 returns c = λ k value low less write. c.loop-i.invariant k value (omega arith) less write

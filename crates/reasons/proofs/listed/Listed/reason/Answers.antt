@@ -9,56 +9,56 @@ use Rattle.reasons.proofs.listed.Listed.reason.Goals as goal
 pub call_at-requires-clause-known : goal.call_at-requires-clause-known
 call_at-requires-clause-known c =
     let s = c.args.self.now in
-    known s.calls.now s.order.now (fault.CallTwice c.in-CallTwice.place) (rw c.in-CallTwice.is at c.requires) (omega arith) c.in-CallTwice.place
+    known s.part.now s.order.now (fault.CallTwice c.in-CallTwice.place) (rw c.in-CallTwice.is at c.requires) (omega arith) c.in-CallTwice.place
 
 pub placed-requires-clause-within : goal.placed-requires-clause-within
 placed-requires-clause-within c =
     let s = c.args.self.now in
     let read = (rw c.in-PendingRead.is at c.requires).shown in
-    within s.calls.now s.order.now c.in-PendingRead.place read.0 read.1
+    within s.part.now s.order.now c.in-PendingRead.place read.0 read.1
 
 pub placed-requires-in-WrongAnswer-clause-within : goal.placed-requires-in-WrongAnswer-clause-within
 placed-requires-in-WrongAnswer-clause-within c =
     let s = c.args.self.now in
     let wrong = (rw c.in-WrongAnswer.is at c.requires).shown in
-    within s.calls.now s.order.now c.in-WrongAnswer.place wrong.0 wrong.2
+    within s.part.now s.order.now c.in-WrongAnswer.place wrong.0 wrong.2
 
 pub last_write_before-requires : goal.last_write_before-requires
 last_write_before-requires c =
     let s = c.args.self.now in
-    within s.calls.now s.order.now c.in-WrongAnswer.place c.placed-in-WrongAnswer.result.call.now c.placed-in-WrongAnswer.ensures.call
+    within s.part.now s.order.now c.in-WrongAnswer.place c.placed-in-WrongAnswer.result.call c.placed-in-WrongAnswer.ensures.call
 
 pub placed-requires-in-OrderBroken-clause-within : goal.placed-requires-in-OrderBroken-clause-within
 placed-requires-in-OrderBroken-clause-within c =
     let s = c.args.self.now in
     let broken = (rw c.in-OrderBroken.is at c.requires).shown in
-    within s.calls.now s.order.now c.in-OrderBroken.earlier broken.0 broken.3
+    within s.part.now s.order.now c.in-OrderBroken.earlier broken.0 broken.3
 
 pub placed-requires-in-OrderBroken-2-clause-within : goal.placed-requires-in-OrderBroken-2-clause-within
 placed-requires-in-OrderBroken-2-clause-within c =
     let s = c.args.self.now in
     let broken = (rw c.in-OrderBroken.is at c.requires).shown in
-    within s.calls.now s.order.now c.in-OrderBroken.later broken.1 broken.4
+    within s.part.now s.order.now c.in-OrderBroken.later broken.1 broken.4
 
 pub returns-in-UnknownCall : goal.returns-in-UnknownCall
 returns-in-UnknownCall c =
     let s = c.args.self.now in
     let unknown = (rw c.in-UnknownCall.is at c.requires).shown in
     let at = slice_get-get_or s.order.now c.in-UnknownCall.place _ unknown.0 in
-    (sym c.in-UnknownCall.is, (at, λ call found. unknown.1 call (stands s.calls.now s.order.now c.in-UnknownCall.place _ call at found)))
+    (sym c.in-UnknownCall.is, (at, λ call found. unknown.1 call (stands s.part.now s.order.now c.in-UnknownCall.place _ call at found)))
 
 pub returns-in-MissingCall : goal.returns-in-MissingCall
 returns-in-MissingCall c =
     let s = c.args.self.now in
     let missing = (rw c.in-MissingCall.is at c.requires).shown in
-    let found = missing_found s.calls.now s.order.now s.sequence c.in-MissingCall.op c.call_of.result.now missing c.call_of.ensures in
+    let found = missing_found s.part.now s.order.now s.sequence c.in-MissingCall.op c.call_of.result missing c.call_of.ensures in
     (ap (λ (op : OpId). fault.MissingCall op) c.call_of.ensures.1 ∙ sym c.in-MissingCall.is, (c.call_of.ensures.0, found.0, found.1))
 
 pub returns-in-PendingRead : goal.returns-in-PendingRead
 returns-in-PendingRead c =
     let s = c.args.self.now in
     let pending = (rw c.in-PendingRead.is at c.requires).shown in
-    let found = pending_found s.calls.now s.order.now s.sequence c.in-PendingRead.place c.placed.result.call.now pending c.placed.ensures.call in
+    let found = pending_found s.part.now s.order.now s.sequence c.in-PendingRead.place c.placed.result.call pending c.placed.ensures.call in
     (ap (λ (n : ℕ). fault.PendingRead n) c.placed.ensures.place ∙ sym c.in-PendingRead.is, rw c.placed.ensures.place (c.placed.ensures.call, found.0, found.1))
 
 pub returns-in-WrongAnswer : goal.returns-in-WrongAnswer
@@ -66,7 +66,7 @@ returns-in-WrongAnswer c =
     let s = c.args.self.now in
     let wrong = (rw c.in-WrongAnswer.is at c.requires).shown in
     let read = c.placed-in-WrongAnswer in
-    let answers = wrong_found s.calls.now s.order.now s.sequence c.in-WrongAnswer.place read.result.call.now c.last_write_before.result wrong read.ensures.call c.last_write_before.ensures in
+    let answers = wrong_found s.part.now s.order.now s.sequence c.in-WrongAnswer.place read.result.call c.last_write_before.result wrong read.ensures.call c.last_write_before.ensures in
     (ap (λ (n : ℕ). fault.WrongAnswer n) read.ensures.place ∙ sym c.in-WrongAnswer.is, rw read.ensures.place (read.ensures.call, c.last_write_before.ensures, answers))
 
 pub returns-in-OrderBroken : goal.returns-in-OrderBroken
@@ -75,5 +75,5 @@ returns-in-OrderBroken c =
     let broken = (rw c.in-OrderBroken.is at c.requires).shown in
     let first = c.placed-in-OrderBroken in
     let second = c.placed-in-OrderBroken-2 in
-    let precedes = broken_found s.calls.now s.order.now s.sequence c.in-OrderBroken.earlier c.in-OrderBroken.later first.result.call.now second.result.call.now broken first.ensures.call second.ensures.call in
+    let precedes = broken_found s.part.now s.order.now s.sequence c.in-OrderBroken.earlier c.in-OrderBroken.later first.result.call second.result.call broken first.ensures.call second.ensures.call in
     (cc (first.ensures.place, second.ensures.place, c.in-OrderBroken.is), rw (first.ensures.place, second.ensures.place) (broken.2, first.ensures.call, second.ensures.call, precedes))

@@ -19,13 +19,13 @@ returns-in_default-read_tag c = (
 pub returns-then-answers : goal.returns-then-answers
 returns-then-answers c =
     let tag = c.in-Some-read_tag.tag in
-    is_right c.args.self.now.calls.now c.args.call.now c.in-Some.response tag None None ((c.read_tag.ensures tag).0 c.in-Some-read_tag.is) c.in-Some.is
+    is_right c.args.self.now.part.now c.args.call.now c.in-Some.response tag None None ((c.read_tag.ensures tag).0 c.in-Some-read_tag.is) c.in-Some.is
     (c.is_least.ensures.0 c.if-is_least.true, refl) c.requires.own (c.answers.ensures.0 c.if-answers.true)
 
 pub returns-else-answers : goal.returns-else-answers
 returns-else-answers c =
     let tag = c.in-Some-read_tag.tag in
-    is_other c.args.self.now.calls.now c.args.call.now c.in-Some.response tag None None ((c.read_tag.ensures tag).0 c.in-Some-read_tag.is) c.in-Some.is
+    is_other c.args.self.now.part.now c.args.call.now c.in-Some.response tag None None ((c.read_tag.ensures tag).0 c.in-Some-read_tag.is) c.in-Some.is
     (c.is_least.ensures.0 c.if-is_least.true, refl) (λ h. false≢true (sym c.if-answers.false ∙ c.answers.ensures.1 h))
 
 pub returns-in_default-write_of : goal.returns-in_default-write_of
@@ -41,13 +41,13 @@ returns-in_default-write_of c =
 pub returns-then-answers-2 : goal.returns-then-answers-2
 returns-then-answers-2 c =
     let tag = c.in-Some-read_tag.tag in
-    is_right c.args.self.now.calls.now c.args.call.now c.in-Some.response tag (Some c.in-Some-write_of.write) (Some c.in-Some-write_of.value.now)
+    is_right c.args.self.now.part.now c.args.call.now c.in-Some.response tag (Some c.in-Some-write_of.write) (Some c.in-Some-write_of.value)
     ((c.read_tag.ensures tag).0 c.in-Some-read_tag.is) c.in-Some.is
-    (λ e. false≢true (sym c.if-is_least.false ∙ c.is_least.ensures.1 e), c.in-Some-write_of.value.now, c.in-Some-write_of.ensures, refl) c.requires.own (c.answers-2.ensures.0 c.if-answers-2.true)
+    (λ e. false≢true (sym c.if-is_least.false ∙ c.is_least.ensures.1 e), c.in-Some-write_of.value, c.in-Some-write_of.ensures, refl) c.requires.own (c.answers-2.ensures.0 c.if-answers-2.true)
 
 pub returns-else-answers-2 : goal.returns-else-answers-2
 returns-else-answers-2 c =
     let tag = c.in-Some-read_tag.tag in
-    is_other c.args.self.now.calls.now c.args.call.now c.in-Some.response tag (Some c.in-Some-write_of.write) (Some c.in-Some-write_of.value.now)
+    is_other c.args.self.now.part.now c.args.call.now c.in-Some.response tag (Some c.in-Some-write_of.write) (Some c.in-Some-write_of.value)
     ((c.read_tag.ensures tag).0 c.in-Some-read_tag.is) c.in-Some.is
-    (λ e. false≢true (sym c.if-is_least.false ∙ c.is_least.ensures.1 e), c.in-Some-write_of.value.now, c.in-Some-write_of.ensures, refl) (λ h. false≢true (sym c.if-answers-2.false ∙ c.answers-2.ensures.1 h))
+    (λ e. false≢true (sym c.if-is_least.false ∙ c.is_least.ensures.1 e), c.in-Some-write_of.value, c.in-Some-write_of.ensures, refl) (λ h. false≢true (sym c.if-answers-2.false ∙ c.answers-2.ensures.1 h))

@@ -2,32 +2,31 @@ use Rattle.std.proofs.Common.{ℕ, ◌≡◌, ◌<◌, ◌≤◌, Some, length, 
 use Rattle.std.proofs.lemmas.Option.{same_Some, slice_get_within, slice_get-get_or}
 use Rattle.recorder.specs.declared.part.Response.{Response}
 use Rattle.tag_check.specs.Greatest.{AreAnsweredTags}
-use Rattle.tag.proofs.Lists.{item_at}
 use Rattle.tag_check.proofs.Answered.{answered_same, answered_more}
 use Rattle.tag_check.proofs.notes.Notes.answered_tags.Goals as goal
 use Rattle.tag_check.proofs.notes.Notes.answered_tags.Goals.{in-Some+then-next-len, in-Some+else-next-len, in_default}
 
 pub loop-i-preserved : goal.loop-i-preserved
 loop-i-preserved c =
-    let calls = c.args.self.now.calls.now in
+    let calls = c.args.self.now.part.now in
     let tags = c.loop-i.tags.items in
-    let at = item_at calls c.loop-i.i c.call-item.result c.loop-i-test.true c.call-item.is in
+    let at = c.call-call.ensures in
     elim c.match-call.branch [
       | in-Some+then-next-len w ↦
           let next = w.begun_by-next.result in
-          let within : next < length tags = omega (arith, w.if-next-len.true, w.len.ensures, c.loop-i.tags.ok.0) in
-          rw w.tags-is (answered_more calls c.loop-i.i next c.call-item.result w.in-Some.response tags w.index.result.now w.greater.result at w.in-Some.is w.begun_by-next.ensures.begun within (slice_get-get_or tags next w.index.result.now within ∙ ap Some (sym w.index.ensures)) w.greater.ensures c.loop-i.invariant)
+          let within : next < length tags = omega (arith, w.if-next-len.true, w.len-in-Some.ensures, c.loop-i.tags.ok.0) in
+          rw w.tags-is (answered_more calls c.loop-i.i next c.call-call.result w.in-Some.response tags w.index.result.now w.greater.result at w.in-Some.is w.begun_by-next.ensures.begun within (slice_get-get_or tags next w.index.result.now within ∙ ap Some (sym w.index.ensures)) w.greater.ensures c.loop-i.invariant)
       | in-Some+else-next-len w ↦
-          rw w.tags-is (answered_same calls c.loop-i.i c.call-item.result tags at (λ response j b responds at_j before.
+          rw w.tags-is (answered_same calls c.loop-i.i c.call-call.result tags at (λ response j b responds at_j before.
           let same = same_Some response w.in-Some.response (sym responds ∙ w.in-Some.is) in
           let place : response.place ≡ w.in-Some.response.place = ap (λ (x : Response). x.place) same in
-          let low : j < w.begun_by-next.result = omega (arith, slice_get_within calls j b at_j, c.loop-i.invariant.all, w.if-next-len.false, w.len.ensures, c.loop-i.tags.ok.0) in
+          let low : j < w.begun_by-next.result = omega (arith, slice_get_within calls j b at_j, c.loop-i.invariant.all, w.if-next-len.false, w.len-in-Some.ensures, c.loop-i.tags.ok.0) in
           let le : b.invoked ≤ w.in-Some.response.place = (w.begun_by-next.ensures.begun j b at_j).0 low in
           omega arith) c.loop-i.invariant)
-      | in_default w ↦ rw w.tags-is (answered_same calls c.loop-i.i c.call-item.result tags at (λ response j b responds at_j before. w.in_default.not-Some response responds) c.loop-i.invariant)
+      | in_default w ↦ rw w.tags-is (answered_same calls c.loop-i.i c.call-call.result tags at (λ response j b responds at_j before. w.in_default.not-Some response responds) c.loop-i.invariant)
     ]
 
 pub returns : goal.returns
 returns c =
-    let all : c.loop-i.i ≡ length c.args.self.now.calls.now = omega (arith, c.loop-i-test.false, c.loop-i.auto.i-end) in
-    subst (λ (n : ℕ). AreAnsweredTags c.args.self.now.calls.now n c.loop-i.tags.items) all c.loop-i.invariant
+    let all : c.loop-i.i ≡ length c.args.self.now.part.now = omega (arith, c.loop-i-test.false, c.loop-i.auto.i-end, c.len-i-end.ensures.count) in
+    subst (λ (n : ℕ). AreAnsweredTags c.args.self.now.part.now n c.loop-i.tags.items) all c.loop-i.invariant

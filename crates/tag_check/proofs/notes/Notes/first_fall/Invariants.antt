@@ -7,5 +7,5 @@ use Rattle.tag_check.proofs.notes.Notes.first_fall.Given as goal
 abbrev pub invariant-loop-j : goal.invariant-loop-j
 invariant-loop-j l = record {
   greatest : IsGreatest (HasTagBelow l.tags l.j) l.greatest;
-  none : NoneBelow l.self.calls.now (HasPartner l.self.calls.now IsNotAbove) l.j;
+  none : NoneBelow l.self.part.now (HasPartner l.self.part.now IsNotAbove) l.j;
 }

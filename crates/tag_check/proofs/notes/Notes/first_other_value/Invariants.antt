@@ -5,6 +5,6 @@ use Rattle.tag_check.proofs.notes.Notes.first_other_value.Given as goal
 
 abbrev pub invariant-loop-i : goal.invariant-loop-i
 invariant-loop-i l = record {
-  written : NoneBelow l.self.calls.now (AnswersNoWrite l.self.calls.now) l.i;
-  first : IsFirstOther l.self.calls.now l.i l.other;
+  written : NoneBelow l.self.part.now (AnswersNoWrite l.self.part.now) l.i;
+  first : IsFirstOther l.self.part.now l.i l.other;
 }

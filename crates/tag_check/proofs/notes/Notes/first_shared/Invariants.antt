@@ -4,4 +4,4 @@ use Rattle.tag_check.proofs.Calls.{NoneBelow}
 use Rattle.tag_check.proofs.notes.Notes.first_shared.Given as goal
 
 abbrev pub invariant-loop-i : goal.invariant-loop-i
-invariant-loop-i l = NoneBelow l.self.calls.now (HasPartner l.self.calls.now ShareTag) l.i
+invariant-loop-i l = NoneBelow l.self.part.now (HasPartner l.self.part.now ShareTag) l.i

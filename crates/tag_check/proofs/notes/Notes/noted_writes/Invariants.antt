@@ -6,7 +6,7 @@ use Rattle.tag_check.proofs.notes.Notes.noted_writes.Given as goal
 
 abbrev pub invariant-loop-i : goal.invariant-loop-i
 invariant-loop-i l = record {
-  complete : NoneBelow l.self.calls.now LacksNote l.i;
-  least : IsFirstBefore l.self.calls.now IsLeastWrite l.i l.least;
-  noted : AreNoted l.self.calls.now l.i l.noted.items;
+  complete : NoneBelow l.self.part.now LacksNote l.i;
+  least : IsFirstBefore l.self.part.now IsLeastWrite l.i l.least;
+  noted : AreNoted l.self.part.now l.i l.noted.items;
 }

@@ -1,0 +1,16 @@
+//! Files that come in blocks.
+use crate::headed::Headed;
+use crate::history_format::FileHistory;
+use crate::order_format::Orders;
+use file_format::HallHistories;
+use line_files::FileFeed;
+
+/// A history file that comes in blocks of any size: the history of its lines so far.
+pub type HistoryFeed = FileFeed<Headed<FileHistory>>;
+
+/// A history file of version 1 or 2 that comes in blocks of any size: the histories of its lines so
+/// far.
+pub type HistoriesFeed = FileFeed<Headed<HallHistories>>;
+
+/// An order file that comes in blocks of any size: the orders of its lines so far.
+pub type OrderFeed = FileFeed<Headed<Orders>>;

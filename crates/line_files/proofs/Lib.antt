@@ -1,0 +1,7 @@
+pub mod SideBySide
+pub mod LineByLine
+pub mod Ends
+pub mod FeedLemmas
+pub mod Advancing
+pub mod Consuming
+pub mod Filling

@@ -1,0 +1,5 @@
+pub mod Steps
+pub mod LinesRead
+pub mod Feeds
+pub mod Ahead
+pub mod Batches

@@ -1,0 +1,68 @@
+-- How a table keeps its rows: a row has the number of its key, and where the text of its value
+-- stands among all texts.
+use Rattle.std.specs.Prelude.{ℕ, ◌≡◌, ◌≤◌, ◌<◌, ◌+◌, ◌*◌, ◌++◌, List, [], Some, None, map, length}
+use Rattle.std.specs.Prelude.{get_or, slice_range, slice_get}
+use Rattle.std.specs.Str.{IsUtf8}
+use Rattle.tag.specs.declared.actions.Action.TheVariants.{Read, Write}
+use Rattle.tag.specs.declared.actions.Returned.{Returned}
+use Rattle.tag.specs.declared.actions.Returned.TheVariants.{Value, Written}
+use Rattle.tag.specs.declared.numbers.OpId.{OpId}
+use Rattle.tag.specs.Limits.{value_limit}
+use Rattle.recorder.specs.declared.row.Row.{Row}
+use Rattle.recorder.specs.declared.row.Row.TheVariants.{Invoke, Note, Respond}
+use Rattle.recorder.specs.declared.row_table.KeptRow.{KeptRow}
+use Rattle.recorder.specs.declared.row_table.KeptRow.TheVariants as kept
+use Rattle.recorder.specs.declared.row_table.Span.{Span}
+use Rattle.recorder.specs.declared.row_table.RowTable.TheInside.{Inside}
+use Rattle.recorder.specs.Tables.{Table, row_limit}
+
+-- the text that stands there
+abbrev pub text_at : List ℕ → Span → List ℕ
+text_at texts span = slice_range texts span.start (span.start + span.length)
+
+-- a value's text stands there
+pub record IsValueAt (texts : List ℕ) (span : Span) : Type 0 where
+  pub within : span.start + span.length ≤ length texts
+  pub short : span.length ≤ value_limit
+  pub utf8 : IsUtf8 (text_at texts span)
+
+module _ (keys : List (List ℕ)) (texts : List ℕ) where
+  -- the row that is kept
+  abbrev pub row_of : KeptRow → Row
+  row_of (kept.Read op client key) = Invoke op client (get_or keys key []) Read
+  row_of (kept.Write op client key span) =
+      Invoke op client (get_or keys key []) (Write (text_at texts span))
+  row_of (kept.Note op tag) = Note op tag
+  row_of (kept.Done op) = Respond op Written
+  row_of (kept.Absent op) = Respond op (Value None)
+  row_of (kept.Answer op span) = Respond op (Value (Some (text_at texts span)))
+
+  -- its key and its text are there
+  abbrev pub IsThere : KeptRow → Type 0
+  IsThere (kept.Read op client key) = key < length keys
+  IsThere (kept.Write op client key span) = (key < length keys) × IsValueAt texts span
+  IsThere (kept.Note op tag) = Unit {0}
+  IsThere (kept.Done op) = Unit {0}
+  IsThere (kept.Absent op) = Unit {0}
+  IsThere (kept.Answer op span) = IsValueAt texts span
+
+-- the row that is kept of an answer, whose text, if any, comes after all others
+pub record KeepsAnswer (old new : List ℕ) (op : OpId) (returned : Returned) (row : KeptRow)
+    : Type 0 where
+  pub more : List ℕ
+  pub texts : new ≡ old ++ more
+  pub short : length more ≤ value_limit
+  pub there : (keys : List (List ℕ)) → IsThere keys new row
+  pub shown : (keys : List (List ℕ)) → row_of keys new row ≡ Respond op returned
+
+-- the rows that a table keeps, and its keys
+abbrev pub table_within : Inside → Table
+table_within t = record { rows = map (row_of t.keys t.texts.items) t.rows.items; keys = t.keys }
+
+-- each row's key and text are there, and there is room for the texts of further rows
+pub record IsKeptTable (t : Inside) : Type 0 where
+  pub there : (k : ℕ) (row : KeptRow) → slice_get t.rows.items k ≡ Some row
+      → IsThere t.keys t.texts.items row
+  pub few : length t.rows.items ≤ row_limit
+  pub texts : length t.texts.items ≤ value_limit * length t.rows.items
+  pub keys : length t.keys ≤ length t.rows.items
