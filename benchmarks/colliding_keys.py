@@ -7,10 +7,10 @@ Where these eight bytes are the state, the product is 0 whatever the other eight
 first block is drawn until the state behind it is eight bytes that a key may have; they follow it,
 then eight bytes that differ from key to key, and an end that doesn't.
 --plain writes as many keys of the same length that don't collide.
---marks writes keys that have one mark, by which `key_index` finds a key: the bytes of a key are
-the digits of a number in the base FACTOR, of which 64 bits are kept.  So the differences of two
-such keys are a lattice, and short vectors of it, which are found by the method of Lenstra, Lenstra
-and Lovasz, may be added to a key.
+--marks writes keys that have one mark, whose home in its table `key_index` so finds full: the bytes
+of a key are the digits of a number in the base FACTOR, of which 64 bits are kept, and the mark is
+the upper 32 of them.  The differences of two keys that agree in all 64 are a lattice, and short
+vectors of it, which are found by the method of Lenstra, Lenstra and Lovasz, may be added to a key.
 """
 import argparse
 import itertools
@@ -61,10 +61,10 @@ def keys_of(args):
 
 def mark_of(text):
     """The mark by which `key_index` finds the key."""
-    mark = 0
+    digits = 0
     for byte in text:
-        mark = mark * FACTOR + byte & WORD
-    return mark
+        digits = (digits + byte) * FACTOR & WORD
+    return digits >> 32
 
 
 def reduced(rows):

@@ -1,2 +1,5 @@
 pub mod Updated
-pub mod Placing
+pub mod Standing
+pub mod Searching
+pub mod Placements
+pub mod Moving

@@ -1,10 +1,14 @@
 -- Marks of keys: numbers by which most keys are told apart.
-use Rattle.std.specs.Prelude.{ℕ, ◌+◌, ◌*◌, ◌%◌, ◌^◌, List, fold}
+use Rattle.std.specs.Prelude.{ℕ, ◌+◌, ◌*◌, ◌/◌, ◌%◌, ◌^◌, List, fold}
 
--- a mark, and a byte after those that it was made of
-abbrev pub marked_on : ℕ → ℕ → ℕ
-marked_on mark byte = (mark * 11400714819323198485 % 2 ^ 64 + byte) % 2 ^ 64
+-- a number, and a byte as its next digit
+abbrev pub digit_more : ℕ → ℕ → ℕ
+digit_more digits byte = (digits + byte) % 2 ^ 64 * 11400714819323198485 % 2 ^ 64
 
--- the key's mark: its bytes as the digits of a number, of which 64 bits are kept
+-- the key's bytes as the digits of a number, of which 64 bits are kept
+abbrev pub digits_of : List ℕ → ℕ
+digits_of key = fold digit_more 0 key
+
+-- the key's mark: the upper 32 of these bits
 abbrev pub mark_of : List ℕ → ℕ
-mark_of key = fold marked_on 0 key
+mark_of key = digits_of key / 2 ^ 32

@@ -7,5 +7,7 @@
 
 mod marks;
 mod numbers;
+mod placing;
+mod slots;
 
 pub use numbers::KeyNumbers;

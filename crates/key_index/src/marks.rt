@@ -6,12 +6,12 @@ ghost use Rattle.key_index.specs.Marks.{mark_of};
 const FACTOR: u64 = 0x9e37_79b9_7f4a_7c15;
 
 /// The key's mark. Two keys may have one mark; that costs time, and changes no answer.
-pub(crate) fn mark_of(key: &[u8]) -> u64
+pub(crate) fn mark_of(key: &[u8]) -> u32
     ensures { result ≡ mark_of key.now }
 {
-    let mut mark: u64 = 0;
+    let mut digits: u64 = 0;
     for (at, byte) in key.iter().enumerate() {
-        mark = mark.wrapping_mul(FACTOR).wrapping_add(u64::from(*byte));
+        digits = digits.wrapping_add(u64::from(*byte)).wrapping_mul(FACTOR);
     }
-    mark
+    (digits >> 32) as u32
 }
