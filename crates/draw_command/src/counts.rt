@@ -25,8 +25,8 @@ fn clients_of(alloc: Global, part: &Part<'_>) -> Result<Vec<ClientId>, Memory>
 {
     let mut clients = Vec::with_capacity(alloc, part.len())?;
     for place in 0..part.len() {
-        let call = part.call(place);
-        clients.push(call.client)?;
+        let state = part.state(place);
+        clients.push(state.client)?;
     }
     Ok(clients)
 }
@@ -47,8 +47,8 @@ fn pending_count(part: &Part<'_>) -> usize
 {
     let mut pending = 0usize;
     for place in 0..part.len() {
-        let call = part.call(place);
-        if call.response.is_none() {
+        let state = part.state(place);
+        if state.response.is_none() {
             pending += 1;
         }
     }

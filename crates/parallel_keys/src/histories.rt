@@ -18,23 +18,27 @@ use std::sync::Wait;
 use std::thread::Threads;
 use tag::{Key, Memory, OpId};
 
-/// The parts and the orders of the keys.
-fn parts_and_orders<'a>(
-    alloc: Global,
-    keys: &'a [KeyToCheck<'a>],
-) -> Result<(Vec<&'a Part<'a>>, Vec<&'a [OpId]>), Memory>
-    ensures parts { IfOk result (λ both.
-        map (λ p. p.now) both.0.items ≡ map (λ p. p.part) keys.now) }
-    ensures orders { IfOk result (λ both.
-        map (λ o. o.now) both.1.items ≡ map (λ p. p.order.now) keys.now) }
+/// The parts of the keys.
+fn parts_of<'a>(alloc: Global, keys: &'a [KeyToCheck<'a>]) -> Result<Vec<&'a Part<'a>>, Memory>
+    ensures { IfOk result (λ parts. map (λ p. p.now) parts.items ≡ map (λ p. p.part) keys.now) }
 {
     let mut parts = Vec::with_capacity(alloc, keys.len())?;
-    let mut orders = Vec::with_capacity(alloc, keys.len())?;
     for key in keys {
         parts.push(&key.part)?;
+    }
+    Ok(parts)
+}
+
+/// The orders of the keys.
+fn orders_of<'a>(alloc: Global, keys: &'a [KeyToCheck<'a>]) -> Result<Vec<&'a [OpId]>, Memory>
+    ensures { IfOk result
+        (λ orders. map (λ o. o.now) orders.items ≡ map (λ p. p.order.now) keys.now) }
+{
+    let mut orders = Vec::with_capacity(alloc, keys.len())?;
+    for key in keys {
         orders.push(key.order)?;
     }
-    Ok((parts, orders))
+    Ok(orders)
 }
 
 /// The verdicts with their keys.
@@ -65,7 +69,8 @@ fn check_keys<R: Threads + Wait, G: CheckGate + Sync>(
     ensures { MatchResult result (λ keyed. AreOn (map what_of keys.now) keyed.items)
         (MayFail workers) }
 {
-    let (parts, orders) = parts_and_orders(alloc, keys)?;
+    let parts = parts_of(alloc, keys)?;
+    let orders = orders_of(alloc, keys)?;
     let verdicts = check_all(rt, alloc, &parts, &orders, workers, gate)?;
     Ok(with_keys(alloc, keys, &verdicts)?)
 }

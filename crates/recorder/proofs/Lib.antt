@@ -10,8 +10,9 @@ mod Busy
 mod Answering
 mod Keeps
 mod Recorded
-mod PartBelow
-mod PartsBelow
+mod Counts
+mod GroupLemmas
+mod FirstSeen
 mod Sorted
 mod OneList
 pub mod Callers

@@ -1,28 +1,29 @@
--- Parts as lists of calls' numbers.
-use Rattle.std.proofs.Common.{ℕ, zero, suc, replicate, ◌≡◌, ◌<◌, ◌+◌, inl, inr, List, [], ◌∷◌, ◌++◌, Option, Some, None, set, length, get_or, sym, ap, ap₂, subst, ◌∙◌, refl, arith, length-set}
-use Rattle.std.specs.List.{slice_get, Contains}
-use Rattle.std.proofs.lemmas.List.{length-replicate, length-map, map-append, map-set}
-use Rattle.std.proofs.lemmas.Option.{slice_get_within, slice_get-get_or, get_or_from_slice_get, none-some, same_Some}
+-- Parts as groups of calls' numbers.
+use Rattle.std.proofs.Common.{ℕ, zero, suc, ◌≡◌, ◌<◌, ◌+◌, inl, inr, List, [], ◌∷◌, ◌++◌, Option, Some, None, map, length, length-append, get_or, sym, ap, subst, ◌∙◌, refl, arith}
+use Rattle.std.specs.List.{slice_get, Contains, zip}
+use Rattle.std.proofs.lemmas.Bool.{cases_lt}
+use Rattle.std.proofs.lemmas.List.{length-map}
+use Rattle.std.proofs.lemmas.Option.{slice_get_within, slice_get-get_or, same_Some, some_pair_parts}
 use Rattle.key_index.specs.Numbers.{EachOnce}
+use Rattle.tag.specs.declared.actions.Action.{Action}
 use Rattle.tag.specs.declared.numbers.OpId.{OpId}
-use Rattle.tag.proofs.Lists.{place_of, Contains-slice_get, item_at, get_at, push_cases, each_push, set_cases, slice_get-set, slice_get-push_left, slice_get-push_last, slice_get-map_at, slice_get-map_back}
+use Rattle.tag.proofs.Options.{none_some}
+use Rattle.tag.proofs.Lists.{place_of, Contains-slice_get, get_at, each_push, slice_get-map_at, slice_get-map_back}
 use Rattle.recorder.specs.declared.part.Call.{Call}
-use Rattle.recorder.specs.declared.parts.KeyCalls.{KeyCalls}
 use Rattle.recorder.specs.declared.record.CallState.{CallState}
 use Rattle.recorder.specs.declared.record.Record.{Record}
 use Rattle.recorder.specs.declared.row.Row.{Row}
 use Rattle.recorder.specs.declared.row.Row.TheVariants.{Invoke}
-use Rattle.recorder.specs.Adding.{AddsCall}
+use Rattle.recorder.specs.Groups.{AreBelow, AreGroups, IsGroup}
 use Rattle.recorder.specs.Histories.{IsWellFormed}
-use Rattle.recorder.specs.PartRecords.{calls_of, part_of, entry_of, entries_of, HasCalls, IsPartOf, AreAtPlaces, AreEntries, AddsNumber}
-use Rattle.recorder.specs.PartRecords.AddsNumber.{later, first}
+use Rattle.recorder.specs.PartRecords.{calls_of, part_of, entries_of, HasCalls, IsPartOf, AreEntries, AreKeyNumbers}
 use Rattle.recorder.specs.Parts.{IsSequence}
-use Rattle.recorder.specs.Records.{IsRecorded, KeyedParts}
+use Rattle.recorder.specs.Records.{IsRecorded, IsPart, AreFirstSeen, AreParts}
 use Rattle.recorder.specs.States.{AreStates, call_of, call_with}
 use Rattle.recorder.specs.Tables.{BeginsOn}
-use Rattle.recorder.proofs.Numbers.{number_below, begun_once}
-use Rattle.recorder.proofs.PartsBelow.{ArePartsBelow, ArePartsBelow-add, IsSequence-added}
-use Rattle.recorder.proofs.Recorded.{recorded_of, IsSequence-one}
+use Rattle.recorder.proofs.FirstSeen.{same_begun}
+use Rattle.recorder.proofs.Numbers.{number_below, numbers_rise, begun_once}
+use Rattle.recorder.proofs.Recorded.{recorded_of, IsSequence-recorded}
 
 -- no call is a sequence
 IsSequence-none : IsSequence []
@@ -49,166 +50,160 @@ op-shown from numbers part place view below =
     let at : slice_get numbers place ≡ Some n = slice_get-get_or numbers place 0 within in
     (shown n, ap (λ (p : List Call). slice_get p place) (sym view) ∙ slice_get-map_at shown numbers place n at, sym (number_with from.rows.rows n (slice_get from.states.items n)))
 
--- the entry that stands at a place, as it is kept and as it is shown
-pub entry-kept : (from : Record) (entries : List KeyCalls) (parts : KeyedParts) (place : ℕ) (here : KeyCalls) → record { entries = entries_of from entries } ≡ parts → place < length parts.entries → here ≡ get_or entries place here → slice_get entries place ≡ Some here
-entry-kept from entries parts place here view below is =
-    let count : length (entries_of from entries) ≡ length parts.entries = ap (λ (p : KeyedParts). length p.entries) view in
-    item_at entries place here (omega (arith, below, count, length-map entries (entry_of from))) is
+-- ---- keys beside their parts
 
-pub entry-shown : (from : Record) (entries : List KeyCalls) (parts : KeyedParts) (place : ℕ) (here : KeyCalls) → record { entries = entries_of from entries } ≡ parts → slice_get entries place ≡ Some here → slice_get parts.entries place ≡ Some (entry_of from here)
-entry-shown from entries parts place here view at =
-    ap (λ (p : KeyedParts). slice_get p.entries place) (sym view) ∙ slice_get-map_at (entry_of from) entries place here at
+zip_at : (keys : List (List ℕ)) (parts : List (List Call)) (k : ℕ) (key : List ℕ) (part : List Call) → slice_get keys k ≡ Some key → slice_get parts k ≡ Some part → slice_get (zip keys parts) k ≡ Some (key, part)
+zip_at [] parts k key part at there = none_some at
+zip_at (x ∷ keys) [] k key part at there = none_some there
+zip_at (x ∷ keys) (y ∷ parts) zero key part at there = rw (same_Some x key at, same_Some y part there) refl
+zip_at (x ∷ keys) (y ∷ parts) (suc k) key part at there = zip_at keys parts k key part at there
 
--- a key's number, and the place of its entry
-key-there : (keys : List (List ℕ)) (number : ℕ) (key : List ℕ) → number < length keys → get_or keys number [] ≡ key → slice_get keys number ≡ Some key
-key-there keys number key below is = let k = get_at keys number below in k.1 ∙ ap Some (sym (get_or_from_slice_get keys number k.0 [] k.1) ∙ is)
+zip_back : (keys : List (List ℕ)) (parts : List (List Call)) (k : ℕ) (key : List ℕ) (part : List Call) → slice_get (zip keys parts) k ≡ Some (key, part) → (slice_get keys k ≡ Some key) × (slice_get parts k ≡ Some part)
+zip_back [] parts k key part at = none_some at
+zip_back (x ∷ keys) [] k key part at = none_some at
+zip_back (x ∷ keys) (y ∷ parts) zero key part at = let p = some_pair_parts x key y part at in (ap Some p.0, ap Some p.1)
+zip_back (x ∷ keys) (y ∷ parts) (suc k) key part at = zip_back keys parts k key part at
 
-pub entry-found : (from : Record) (entries : List KeyCalls) (places : List (Option ℕ)) (parts : KeyedParts) (key : List ℕ) (part : List Call) → AreEntries from entries places → record { entries = entries_of from entries } ≡ parts → Contains parts.entries (key, part)
-    → (place : ℕ) × (entry : KeyCalls) × (slice_get entries place ≡ Some entry) × (slice_get from.rows.keys entry.key ≡ Some key)
-entry-found from entries places parts key part are view h =
-    let k = place_of parts.entries (key, part) h in
-    let e = slice_get-map_back (entry_of from) entries k.0 (key, part) (ap (λ (p : KeyedParts). slice_get p.entries k.0) view ∙ k.1) in
-    (k.0, e.0, e.1, key-there from.rows.keys e.0.key key (are.each k.0 e.0 e.1).0 (ap (λ (p : List ℕ × List Call). p.0) e.2))
+zip_all : (keys : List (List ℕ)) (parts : List (List Call)) → length parts ≡ length keys → length (zip keys parts) ≡ length keys
+zip_all [] parts same = refl
+zip_all (x ∷ keys) [] same = absurd (omega (arith, same))
+zip_all (x ∷ keys) (y ∷ parts) same = ap suc (zip_all keys parts (omega (arith, same)))
 
-pub no-entry : (from : Record) (entries : List KeyCalls) (places : List (Option ℕ)) (parts : KeyedParts) (key : List ℕ) → AreEntries from entries places → record { entries = entries_of from entries } ≡ parts → (Contains from.rows.keys key → ⊥) → (part : List Call) → Contains parts.entries (key, part) → ⊥
-no-entry from entries places parts key are view unseen part h =
-    let f = entry-found from entries places parts key part are view h in
-    unseen (Contains-slice_get from.rows.keys f.1.key key f.3)
+pub length-entries : (from : Record) (groups : List (List ℕ)) → AreEntries from groups → length (entries_of from groups) ≡ length from.rows.keys
+length-entries from groups are = zip_all from.rows.keys (map (calls_of from) groups) (length-map groups (calls_of from) ∙ are.all)
 
-pub no-place : (from : Record) (entries : List KeyCalls) (places : List (Option ℕ)) (parts : KeyedParts) (key : List ℕ) (number : ℕ) → AreEntries from entries places → EachOnce from.rows.keys → record { entries = entries_of from entries } ≡ parts → slice_get from.rows.keys number ≡ Some key → slice_get places number ≡ Some None → (part : List Call) → Contains parts.entries (key, part) → ⊥
-no-place from entries places parts key number are once view at none part h =
-    let f = entry-found from entries places parts key part are view h in
-    let same : f.1.key ≡ number = once f.1.key number key f.3 at in
-    let there = (are.at number f.0).1 (f.1, f.2, same) in
-    let differ : ◌≡◌ {A = Option (Option ℕ)} (Some None) (Some (Some f.0)) = sym none ∙ there in
-    cc
+pub entry-at : (from : Record) (groups : List (List ℕ)) (k : ℕ) (key numbers : List ℕ) → slice_get from.rows.keys k ≡ Some key → slice_get groups k ≡ Some numbers → slice_get (entries_of from groups) k ≡ Some (key, calls_of from numbers)
+entry-at from groups k key numbers at there = zip_at from.rows.keys (map (calls_of from) groups) k key (calls_of from numbers) at (slice_get-map_at (calls_of from) groups k numbers there)
 
--- a call more on the key of that number
-module _ (from : Record) (formed : IsWellFormed from.rows.rows) (states : AreStates from.rows.rows from.states.items) (once : EachOnce from.rows.keys) (n : ℕ) (entries : List KeyCalls) (places : List (Option ℕ)) (below : ArePartsBelow from.rows.rows n (entries_of from entries)) (are : AreEntries from entries places) (op : OpId) (number : ℕ) (b : BeginsOn from.rows n op number) where
-  abbrev key : List ℕ
-  key = get_or from.rows.keys number []
+pub entry-back : (from : Record) (groups : List (List ℕ)) (key : List ℕ) (part : List Call) → Contains (entries_of from groups) (key, part) → (k : ℕ) × (numbers : List ℕ) × (slice_get from.rows.keys k ≡ Some key) × (slice_get groups k ≡ Some numbers) × (calls_of from numbers ≡ part)
+entry-back from groups key part h =
+    let k = place_of (entries_of from groups) (key, part) h in
+    let both = zip_back from.rows.keys (map (calls_of from) groups) k.0 key part k.1 in
+    let g = slice_get-map_back (calls_of from) groups k.0 part both.1 in
+    (k.0, g.0, both.0, g.1, g.2)
 
-  abbrev call : Call
-  call = call_of from.rows.rows from.states.items op.0
+-- the number of one call's key more
+pub key_numbers-more : (of : Record) (numbers new : List ℕ) (n number : ℕ) (state : CallState) → (length numbers ≡ n) × ((k key : ℕ) (s : CallState) → slice_get numbers k ≡ Some key → slice_get of.states.items k ≡ Some s → BeginsOn of.rows s.invoked key) → slice_get of.states.items n ≡ Some state → BeginsOn of.rows state.invoked number → new ≡ numbers ++ number ∷ []
+    → (length new ≡ n + 1) × ((k key : ℕ) (s : CallState) → slice_get new k ≡ Some key → slice_get of.states.items k ≡ Some s → BeginsOn of.rows s.invoked key)
+key_numbers-more of numbers new n number state before at here is = (
+  omega (arith, before.0, ap (λ (l : List ℕ). length l) is, length-append numbers (number ∷ [])),
+  λ k key s there at_k. each_push (λ (i m : ℕ). (one : CallState) → slice_get of.states.items i ≡ Some one → BeginsOn of.rows one.invoked m) numbers new number (λ i m found one at_i. before.1 i m one found at_i) is
+      (λ one at_i. let same : state ≡ one = same_Some state one (sym at ∙ (ap (slice_get of.states.items) (sym before.0) ∙ at_i)) in subst (λ (x : CallState). BeginsOn of.rows x.invoked number) same here) k key there s at_k,
+)
 
-  has-number : op.0 < length from.states.items
-  has-number = omega (arith, number_below from.rows.rows formed op b.client key b.action (Contains-slice_get from.rows.rows n (Invoke op b.client key b.action) b.begun), states.all)
+-- a key that the record hasn't numbered has no part
+pub no-entry : (from : Record) (groups : List (List ℕ)) (key : List ℕ) → (Contains from.rows.keys key → ⊥) → (part : List Call) → Contains (entries_of from groups) (key, part) → ⊥
+no-entry from groups key unseen part h =
+    let e = entry-back from groups key part h in
+    unseen (Contains-slice_get from.rows.keys e.0 key e.2)
 
-  made : IsRecorded from.rows.rows key call × (call.invoked ≡ n)
-  made =
-      let s = get_at from.states.items op.0 has-number in
+-- ---- the calls of a key
+
+-- of two recorded calls the one of the lower number is begun first
+begun_first : (rows : List Row) → IsWellFormed rows → (key : List ℕ) (a b : Call) → IsRecorded rows key a → IsRecorded rows key b → a.op.0 < b.op.0 → a.invoked < b.invoked
+begun_first rows formed key a b x y less = elim (cases_lt a.invoked b.invoked) [
+  | inl h ↦ h
+  | inr h ↦ elim (cases_lt b.invoked a.invoked) [
+    | inl g ↦ absurd (omega (arith, less, numbers_rise rows formed b.invoked a.invoked b.op a.op b.client a.client key key b.action a.action g y.begun x.begun))
+    | inr g ↦
+        let place : a.invoked ≡ b.invoked = omega (arith, h, g) in
+        let row : Invoke a.op a.client key a.action ≡ Invoke b.op b.client key b.action = cc (x.begun, y.begun, ap (slice_get rows) place) in
+        let one : a.op ≡ b.op = cc in
+        absurd (omega (arith, less, ap (λ (o : OpId). o.0) one))
+  ]
+]
+
+module _ (from : Record) (formed : IsWellFormed from.rows.rows) (states : AreStates from.rows.rows from.states.items) (once : EachOnce from.rows.keys) (seen : AreFirstSeen from.rows.rows from.rows.keys) (key_of : List ℕ) (are : AreKeyNumbers from key_of) where
+  abbrev rows : List Row
+  rows = from.rows.rows
+
+  abbrev call : ℕ → Call
+  call number = call_of rows from.states.items number
+
+  pub below-keys : AreBelow (length from.rows.keys) key_of
+  below-keys k number at =
+      let s = get_at from.states.items k (omega (arith, slice_get_within key_of k number at, are.all)) in
+      let b = are.each k number s.0 at s.1 in
+      slice_get_within from.rows.keys number b.key b.known
+
+  -- a call whose key has that number is one on the key
+  recorded : (k number : ℕ) (key : List ℕ) → slice_get key_of k ≡ Some number → slice_get from.rows.keys number ≡ Some key → IsRecorded rows key (call k)
+  recorded k number key at known =
+      let s = get_at from.states.items k (omega (arith, slice_get_within key_of k number at, are.all)) in
+      let op : OpId = record { 0 = k } in
       let d = states.each op s.0 s.1 in
-      let here : n ≡ s.0.invoked = begun_once from.rows.rows formed n s.0.invoked op b.client s.0.client key d.key b.action d.action b.begun d.invoked in (
-        recorded_of from.rows.rows from.states.items states op s.0 s.1 key b.client b.action (ap (slice_get from.rows.rows) (sym here) ∙ b.begun),
-        ap (λ (o : Option CallState). (call_with from.rows.rows op.0 o).invoked) s.1 ∙ sym here,
-      )
+      let b = are.each k number s.0 at s.1 in
+      let own : b.key ≡ key = same_Some b.key key (sym b.known ∙ known) in
+      let same : d.key ≡ key = same_begun rows s.0.invoked d.key b.key (op, s.0.client, d.action, d.invoked) b.begun ∙ own in
+      recorded_of rows from.states.items states op s.0 s.1 key s.0.client d.action (subst (λ (x : List ℕ). slice_get rows s.0.invoked ≡ Some (Invoke op s.0.client x d.action)) same d.invoked)
 
-  key-here : slice_get from.rows.keys number ≡ Some key
-  key-here = key-there from.rows.keys number key b.known refl
+  -- a call that is begun on the key has the key's number, and is begun there
+  found : (place : ℕ) (op : OpId) (client : ℕ) (key : List ℕ) (action : Action) → slice_get rows place ≡ Some (Invoke op client key action) → (number : ℕ) × (slice_get key_of op.0 ≡ Some number) × (slice_get from.rows.keys number ≡ Some key) × ((call op.0).invoked ≡ place)
+  found place op client key action begun =
+      let below = number_below rows formed op client key action (Contains-slice_get rows place (Invoke op client key action) begun) in
+      let s = get_at from.states.items op.0 (omega (arith, below, states.all)) in
+      let n = get_at key_of op.0 (omega (arith, below, states.all, are.all)) in
+      let d = states.each op s.0 s.1 in
+      let b = are.each op.0 n.0 s.0 n.1 s.1 in
+      let here : place ≡ s.0.invoked = begun_once rows formed place s.0.invoked op client s.0.client key d.key action d.action begun d.invoked in
+      let own : b.key ≡ key = same_begun rows s.0.invoked b.key key b.begun (op, client, action, ap (slice_get rows) (sym here) ∙ begun) in
+      (n.0, n.1, subst (λ (x : List ℕ). slice_get from.rows.keys n.0 ≡ Some x) own b.known, ap (λ (o : Option CallState). (call_with rows op.0 o).invoked) s.1 ∙ sym here)
 
-  -- the entry whose place stands at that number
-  own-key : (place : ℕ) (entry : KeyCalls) → slice_get places number ≡ Some (Some place) → slice_get entries place ≡ Some entry → entry.key ≡ number
-  own-key place entry at stands = let e = (are.at number place).0 at in ap (λ (x : KeyCalls). x.key) (same_Some entry e.0 (sym stands ∙ e.1)) ∙ e.2
+  module _ (k : ℕ) (key numbers : List ℕ) (known : slice_get from.rows.keys k ≡ Some key) (group : IsGroup key_of k numbers) where
+    each : (c : Call) → Contains (calls_of from numbers) c → IsRecorded rows key c
+    each c h =
+        let i = place_of (calls_of from numbers) c h in
+        let m = slice_get-map_back call numbers i.0 c i.1 in
+        subst (IsRecorded rows key) m.2 (recorded m.0 k key (group.each m.0 (Contains-slice_get numbers i.0 m.0 m.1)) known)
 
-  own-shown : (place : ℕ) (entry : KeyCalls) → slice_get places number ≡ Some (Some place) → slice_get entries place ≡ Some entry → slice_get (entries_of from entries) place ≡ Some (key, calls_of from entry.calls.items)
-  own-shown place entry at stands = slice_get-map_at (entry_of from) entries place entry stands ∙ ap (λ (k : ℕ). Some (get_or from.rows.keys k [], calls_of from entry.calls.items)) (own-key place entry at stands)
+    ordered : (i j : ℕ) (a b : Call) → i < j → slice_get (calls_of from numbers) i ≡ Some a → slice_get (calls_of from numbers) j ≡ Some b → a.invoked < b.invoked
+    ordered i j a b less at_i at_j =
+        let m = slice_get-map_back call numbers i a at_i in
+        let n = slice_get-map_back call numbers j b at_j in
+        let up : m.0 < n.0 = group.rising i j m.0 n.0 less m.1 n.1 in
+        let first : a.op ≡ record { 0 = m.0 } = ap (λ (x : Call). x.op) (sym m.2) ∙ number_with rows m.0 (slice_get from.states.items m.0) in
+        let second : b.op ≡ record { 0 = n.0 } = ap (λ (x : Call). x.op) (sym n.2) ∙ number_with rows n.0 (slice_get from.states.items n.0) in
+        begun_first rows formed key a b (each a (Contains-slice_get (calls_of from numbers) i a at_i)) (each b (Contains-slice_get (calls_of from numbers) j b at_j)) (omega (arith, up, ap (λ (o : OpId). o.0) first, ap (λ (o : OpId). o.0) second))
 
-  adds : (new : List KeyCalls) (now : List (Option ℕ)) → AddsNumber entries places number op.0 new now → AddsCall (entries_of from entries) key call (entries_of from new)
-  adds new now (later place entry added at stands same more is kept) =
-      let calls = ap (calls_of from) more ∙ map-append (call_of from.rows.rows from.states.items) entry.calls.items (op.0 ∷ []) in
-      inl (record {
-        slot = place;
-        part = calls_of from entry.calls.items;
-        had = own-shown place entry at stands;
-        has = ap (entries_of from) is ∙ map-set (entry_of from) entries place added ∙ ap₂ (λ (k : ℕ) (p : List Call). set (entries_of from entries) place (get_or from.rows.keys k [], p)) (same ∙ own-key place entry at stands) calls;
-      })
-  adds new now (first added at own only is kept) =
-      inr (record {
-        absent = no-place from entries places (record { entries = entries_of from entries }) key number are once refl key-here at;
-        has = ap (entries_of from) is ∙ map-append (entry_of from) entries (added ∷ []) ∙ ap₂ (λ (k : ℕ) (ns : List ℕ). entries_of from entries ++ (get_or from.rows.keys k [], calls_of from ns) ∷ []) own only;
-      })
+    IsPart-made : IsPart rows key (calls_of from numbers)
+    IsPart-made = record {
+      each = each;
+      all = λ place op client action begun.
+          let f = found place op client key action begun in
+          let same : f.0 ≡ k = once f.0 k key f.2 known in
+          let i = place_of numbers op.0 (group.all op.0 (f.1 ∙ ap Some same)) in
+          (call op.0, Contains-slice_get (calls_of from numbers) i.0 (call op.0) (slice_get-map_at call numbers i.0 op.0 i.1), f.3);
+      ordered = ordered;
+    }
 
-  pub below-added : (new : List KeyCalls) (now : List (Option ℕ)) → AddsNumber entries places number op.0 new now → ArePartsBelow from.rows.rows (n + 1) (entries_of from new)
-  below-added new now added = ArePartsBelow-add from.rows.rows n (entries_of from entries) (entries_of from new) below key call made.0 made.1 (adds new now added)
+    HasCalls-made : HasCalls from numbers
+    HasCalls-made = record {
+      states = states;
+      begun = λ i number at. omega (arith, slice_get_within key_of number k (group.each number (Contains-slice_get numbers i number at)), are.all);
+      sequence = IsSequence-recorded rows formed key (calls_of from numbers) each ordered;
+    }
 
-  -- entries and places stay those of each other
-  calls-later : (place : ℕ) (entry added : KeyCalls) → slice_get places number ≡ Some (Some place) → slice_get entries place ≡ Some entry → added.calls.items ≡ entry.calls.items ++ op.0 ∷ [] → HasCalls from added.calls.items
-  calls-later place entry added at stands more =
-      let had = (are.each place entry stands).1 in
-      let calls : calls_of from added.calls.items ≡ calls_of from entry.calls.items ++ call ∷ [] = ap (calls_of from) more ∙ map-append (call_of from.rows.rows from.states.items) entry.calls.items (op.0 ∷ []) in
-      record {
-        states = states;
-        begun = each_push (λ k m. m < length from.states.items) entry.calls.items added.calls.items op.0 had.begun more has-number;
-        sequence = subst IsSequence (sym calls) (IsSequence-added from.rows.rows formed n (entries_of from entries) below key call made.0 made.1 (calls_of from entry.calls.items) (Contains-slice_get (entries_of from entries) place (key, calls_of from entry.calls.items) (own-shown place entry at stands)));
-      }
+  module _ (groups : List (List ℕ)) (grouped : AreGroups key_of (length from.rows.keys) groups) where
+    pub AreEntries-made : AreEntries from groups
+    AreEntries-made = record {
+      all = grouped.all;
+      each = λ k numbers at.
+          let key = get_at from.rows.keys k (omega (arith, slice_get_within groups k numbers at, grouped.all)) in
+          HasCalls-made k key.0 numbers key.1 (grouped.each k numbers at);
+    }
 
-  calls-first : (added : KeyCalls) → added.calls.items ≡ op.0 ∷ [] → HasCalls from added.calls.items
-  calls-first added only = record {
-    states = states;
-    begun = each_push (λ k m. m < length from.states.items) [] added.calls.items op.0 (λ k m at. absurd (cc)) only has-number;
-    sequence = subst IsSequence (sym (ap (calls_of from) only)) (IsSequence-one from.rows.rows formed key call made.0);
-  }
-
-  at-later : (place : ℕ) (entry added : KeyCalls) → slice_get entries place ≡ Some entry → added.key ≡ entry.key → AreAtPlaces (set entries place added) places
-  at-later place entry added stands same m p = (
-    λ at.
-        let e = (are.at m p).0 at in
-        elim (slice_get-set entries place p added (slice_get_within entries place entry stands)) [
-          | inl w ↦ (added, w.1, same ∙ ap (λ (x : KeyCalls). x.key) (same_Some entry e.0 (sym stands ∙ (ap (slice_get entries) (sym w.0) ∙ e.1))) ∙ e.2)
-          | inr w ↦ (e.0, w.1 ∙ e.1, e.2)
-        ],
-    λ h. elim (set_cases entries place added p h.0 h.1) [
-      | inl w ↦ ap (λ (q : ℕ). slice_get places m) w.0 ∙ (are.at m place).1 (entry, stands, sym same ∙ ap (λ (x : KeyCalls). x.key) w.1 ∙ h.2) ∙ ap (λ (q : ℕ). Some (Some q)) (sym w.0)
-      | inr w ↦ (are.at m p).1 (h.0, w.1, h.2)
-    ],
-  )
-
-  at-first : (added : KeyCalls) → slice_get places number ≡ Some None → added.key ≡ number → AreAtPlaces (entries ++ added ∷ []) (set places number (Some (length entries)))
-  at-first added none own m p = (
-    λ at. elim (set_cases places number (Some (length entries)) m (Some p) at) [
-      | inl w ↦ (added, subst (λ (q : ℕ). slice_get (entries ++ added ∷ []) q ≡ Some added) (same_Some (length entries) p w.1) (slice_get-push_last entries added), own ∙ sym w.0)
-      | inr w ↦ let e = (are.at m p).0 w.1 in (e.0, slice_get-push_left entries added p e.0 e.1, e.2)
-    ],
-    λ h. elim (push_cases entries added p h.0 h.1) [
-      | inl w ↦
-          let old = (are.at m p).1 (h.0, w, h.2) in
-          elim (slice_get-set places number m (Some (length entries)) (slice_get_within places number None none)) [
-            | inl v ↦ absurd (let differ : ◌≡◌ {A = Option (Option ℕ)} (Some None) (Some (Some p)) = sym none ∙ (ap (slice_get places) (sym v.0) ∙ old) in cc)
-            | inr v ↦ v.1 ∙ old
-          ]
-      | inr w ↦
-          let here : m ≡ number = sym h.2 ∙ ap (λ (x : KeyCalls). x.key) (sym w.1) ∙ own in
-          elim (slice_get-set places number m (Some (length entries)) (slice_get_within places number None none)) [
-            | inl v ↦ v.1 ∙ ap (λ (q : ℕ). Some (Some q)) (sym w.0)
-            | inr v ↦ absurd (v.0 here)
-          ]
-    ],
-  )
-
-  pub are-added : (new : List KeyCalls) (now : List (Option ℕ)) → AddsNumber entries places number op.0 new now → AreEntries from new now
-  are-added new now (later place entry added at stands same more is kept) = rw (is, kept) (record {
-    all = are.all;
-    at = at-later place entry added stands same;
-    each = λ k e there. elim (set_cases entries place added k e there) [
-      | inl w ↦ subst (λ (x : KeyCalls). (x.key < length from.rows.keys) × HasCalls from x.calls.items) w.1 (rw same (are.each place entry stands).0, calls-later place entry added at stands more)
-      | inr w ↦ are.each k e w.1
-    ];
-  })
-  are-added new now (first added at own only is kept) = rw (is, kept) (record {
-    all = length-set places number (Some (length entries)) ∙ are.all;
-    at = at-first added at own;
-    each = each_push (λ k (e : KeyCalls). (e.key < length from.rows.keys) × HasCalls from e.calls.items) entries (entries ++ added ∷ []) added are.each refl (rw own b.known, calls-first added only);
-  })
-
--- no key has a place at first
-nothing-there : (n m place : ℕ) → slice_get (replicate n None) m ≡ Some (Some place) → ⊥
-nothing-there zero m place at = none-some (Some place) at
-nothing-there (suc n) zero place at = cc
-nothing-there (suc n) (suc m) place at = nothing-there n m place at
-
-pub are-none : (from : Record) (entries : List KeyCalls) (places : List (Option ℕ)) (n : ℕ) → entries ≡ [] → places ≡ replicate n None → n ≡ length from.rows.keys → AreEntries from entries places
-are-none from entries places n none is count = rw (none, is) (record {
-  all = length-replicate n None ∙ count;
-  at = λ m p. (λ at. absurd (nothing-there n m p at), λ h. absurd (none-some h.0 h.1));
-  each = λ k entry at. absurd (none-some entry at);
-})
+    pub AreParts-made : AreParts rows (entries_of from groups)
+    AreParts-made = record {
+      each = λ key part h.
+          let e = entry-back from groups key part h in
+          subst (IsPart rows key) e.4 (IsPart-made e.0 key e.1 e.2 (grouped.each e.0 e.1 e.3));
+      all = λ key place b.
+          let f = found place b.0 b.1 key b.2 b.3 in
+          let g = get_at groups f.0 (omega (arith, slice_get_within from.rows.keys f.0 key f.2, grouped.all)) in
+          (calls_of from g.0, Contains-slice_get (entries_of from groups) f.0 (key, calls_of from g.0) (entry-at from groups f.0 key g.0 f.2 g.1));
+      seen = λ key part h. let e = entry-back from groups key part h in seen.seen e.0 key e.2;
+      ordered = λ i j k l p q m n less at_i at_j f g.
+          let a = zip_back from.rows.keys (map (calls_of from) groups) i k p at_i in
+          let b = zip_back from.rows.keys (map (calls_of from) groups) j l q at_j in
+          seen.ordered i j k l m n less a.0 b.0 f g;
+    }

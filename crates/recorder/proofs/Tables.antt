@@ -1,12 +1,12 @@
 -- What a table of rows keeps while it grows.
 use Rattle.std.proofs.Common.{ℕ, suc, ◌≡◌, ◌≤◌, ◌<◌, ◌+◌, ◌-◌, List, [], ◌∷◌, ◌++◌, Some, take, drop, map, get_or, sym, ap, ap₂, subst, refl, ◌∙◌, arith, length, length-append}
-use Rattle.std.specs.List.{slice_get}
+use Rattle.std.specs.List.{slice_get, Contains}
 use Rattle.std.specs.Str.{IsUtf8}
 use Rattle.std.proofs.lemmas.List.{drop-append-le, take-append-le, length-drop, map-append, append-nil, get_or_append_left, length-map}
 use Rattle.std.proofs.Math.Seq.{drop-append_seam, take-append_seam}
 use Rattle.std.proofs.lemmas.Option.{slice_get_within, get_or_from_slice_get}
 use Rattle.tag.specs.Limits.{value_limit}
-use Rattle.tag.proofs.Lists.{each_push, slice_get-push_last, item_at, slice_get-map_at}
+use Rattle.tag.proofs.Lists.{each_push, get_at, Contains-slice_get, slice_get-push_last, item_at, slice_get-map_at}
 use Rattle.key_index.specs.Numbers.{Numbers}
 use Rattle.key_index.specs.Numbers.Numbers.{known, first}
 use Rattle.recorder.specs.declared.row.Row.{Row}
@@ -17,8 +17,10 @@ use Rattle.recorder.specs.declared.row_table.RowTable.TheInside.{Inside}
 use Rattle.recorder.specs.declared.row.Row.TheVariants.{Invoke}
 use Rattle.tag.specs.declared.actions.Action.{Action}
 use Rattle.tag.specs.declared.numbers.OpId.{OpId}
+use Rattle.recorder.specs.Records.{AreFirstSeen}
 use Rattle.recorder.specs.Tables.{row_limit, Table, BeginsOn}
 use Rattle.recorder.specs.KeptRows.{text_at, IsValueAt, row_of, IsThere, IsKeptTable, table_within}
+use Rattle.recorder.proofs.FirstSeen.{BeginsCall, AreFirstSeen-same, AreFirstSeen-first}
 
 -- texts that come later change no text
 text-more : (texts more : List ℕ) (span : Span) → span.start + span.length ≤ length texts → text_at (texts ++ more) span ≡ text_at texts span
@@ -73,12 +75,23 @@ module _ (keys ks : List (List ℕ)) (texts ts : List ℕ) where
 
 -- a row more
 pub pushed : (t u : Inside) → IsKeptTable t → (row : KeptRow) (ks : List (List ℕ)) (ts : List ℕ) → u.rows.items ≡ t.rows.items ++ row ∷ [] → u.keys ≡ t.keys ++ ks → u.texts.items ≡ t.texts.items ++ ts
-    → length t.rows.items < row_limit → IsThere u.keys u.texts.items row → length ts ≤ value_limit → length u.keys ≤ length t.rows.items + 1 → IsKeptTable u
-pushed t u h row ks ts rows keys texts few there short numbers = record {
+    → length t.rows.items < row_limit → IsThere u.keys u.texts.items row → length ts ≤ value_limit → length u.keys ≤ length t.rows.items + 1 → AreFirstSeen (table_within u).rows u.keys → IsKeptTable u
+pushed t u h row ks ts rows keys texts few there short numbers seen = record {
   there = each_push (λ k r. IsThere u.keys u.texts.items r) t.rows.items u.rows.items row (λ k r at. rw (keys, texts) (there-more t.keys ks t.texts.items ts r (h.there k r at))) rows there;
   few = omega (arith, few, ap (λ (l : List KeptRow). length l) rows, length-append t.rows.items (row ∷ []));
   texts = omega (arith, short, h.texts, ap (λ (l : List KeptRow). length l) rows, length-append t.rows.items (row ∷ []), ap (λ (l : List ℕ). length l) texts, length-append t.texts.items ts);
   keys = omega (arith, numbers, ap (λ (l : List KeptRow). length l) rows, length-append t.rows.items (row ∷ []));
+  seen = seen;
+}
+
+-- a table that holds what it held
+pub kept-same : (t u : Inside) → IsKeptTable t → u.rows.items ≡ t.rows.items → u.texts.items ≡ t.texts.items → u.keys ≡ t.keys → IsKeptTable u
+kept-same t u h rows texts keys = record {
+  there = rw (rows, texts, keys) h.there;
+  few = rw rows h.few;
+  texts = rw (rows, texts) h.texts;
+  keys = rw (rows, keys) h.keys;
+  seen = rw (rows, texts, keys) h.seen;
 }
 
 -- what numbering a key leaves
@@ -116,13 +129,29 @@ shown-pushed t u table view h row ks ts rows keys texts what is =
     ap (map (row_of u.keys u.texts.items)) rows ∙ map-append (row_of u.keys u.texts.items) t.rows.items (row ∷ [])
     ∙ ap₂ (λ (l : List Row) (r : Row). l ++ r ∷ []) (rw (keys, texts) (rows-same t.keys ks t.texts.items ts t.rows.items h.there) ∙ ap (λ (x : Table). x.rows) view) is
 
--- the row at a place that begins a call
-pub begins-on : (t : Inside) (table : Table) (place key : ℕ) (op : OpId) (client : ℕ) (action : Action) → table_within t ≡ table → slice_get table.rows place ≡ Some (Invoke op client (get_or t.keys key []) action) → key < length t.keys → BeginsOn table place op key
+-- the keys stay those of the rows, with one more that begins no call
+module _ (t u : Inside) (h : IsKeptTable t) (row : KeptRow) (ks : List (List ℕ)) (ts : List ℕ) (rows : u.rows.items ≡ t.rows.items ++ row ∷ []) (keys : u.keys ≡ t.keys ++ ks) (texts : u.texts.items ≡ t.texts.items ++ ts) where
+  more : (what : Row) → row_of u.keys u.texts.items row ≡ what → (table_within u).rows ≡ (table_within t).rows ++ what ∷ []
+  more what is = shown-pushed t u (table_within t) refl h row ks ts rows keys texts what is
+
+  pub seen-other : (what : Row) → row_of u.keys u.texts.items row ≡ what → u.keys ≡ t.keys → ((key : List ℕ) → BeginsCall what key → ⊥) → AreFirstSeen (table_within u).rows u.keys
+  seen-other what is same never = rw (more what is, same) (AreFirstSeen-same (table_within t).rows what t.keys h.seen (λ key b. absurd (never key b)))
+
+  -- or with one that begins one
+  pub seen-begun : (op : OpId) (client : ℕ) (key : List ℕ) (action : Action) (number : ℕ) → row_of u.keys u.texts.items row ≡ Invoke op client key action → Numbers t.keys key number u.keys → AreFirstSeen (table_within u).rows u.keys
+  seen-begun op client key action number is (known at same) = rw (more (Invoke op client key action) is, same) (AreFirstSeen-same (table_within t).rows (Invoke op client key action) t.keys h.seen (λ k b.
+      let own : key ≡ k = let e = b.3 in cc in
+      subst (λ (x : List ℕ). Contains t.keys x) own (Contains-slice_get t.keys number key at)))
+  seen-begun op client key action number is (first absent at_end is_more) = rw (more (Invoke op client key action) is, is_more) (AreFirstSeen-first (table_within t).rows (Invoke op client key action) t.keys h.seen key absent (op, client, action, refl))
+
+-- a call is begun at a place, on the key of that number
+pub begins-on : (t : Inside) (table : Table) (place key : ℕ) (op : OpId) (client : ℕ) (action : Action) → table_within t ≡ table → slice_get table.rows place ≡ Some (Invoke op client (get_or t.keys key []) action) → key < length t.keys → BeginsOn table place key
 begins-on t table place key op client action view at below =
     let keys : t.keys ≡ table.keys = ap (λ (x : Table). x.keys) view in
+    let k = get_at t.keys key below in
+    let own : get_or t.keys key [] ≡ k.0 = get_or_from_slice_get t.keys key k.0 [] k.1 in
     record {
-      client = client;
-      action = action;
-      known = subst (λ (l : List (List ℕ)). key < length l) keys below;
-      begun = subst (λ (l : List (List ℕ)). slice_get table.rows place ≡ Some (Invoke op client (get_or l key []) action)) keys at;
+      key = k.0;
+      known = subst (λ (l : List (List ℕ)). slice_get l key ≡ Some k.0) keys k.1;
+      begun = (op, client, action, subst (λ (x : List ℕ). slice_get table.rows place ≡ Some (Invoke op client x action)) own at);
     }

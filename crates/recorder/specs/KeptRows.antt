@@ -14,6 +14,7 @@ use Rattle.recorder.specs.declared.row_table.KeptRow.{KeptRow}
 use Rattle.recorder.specs.declared.row_table.KeptRow.TheVariants as kept
 use Rattle.recorder.specs.declared.row_table.Span.{Span}
 use Rattle.recorder.specs.declared.row_table.RowTable.TheInside.{Inside}
+use Rattle.recorder.specs.Records.{AreFirstSeen}
 use Rattle.recorder.specs.Tables.{Table, row_limit}
 
 -- the text that stands there
@@ -59,10 +60,12 @@ pub record KeepsAnswer (old new : List ℕ) (op : OpId) (returned : Returned) (r
 abbrev pub table_within : Inside → Table
 table_within t = record { rows = map (row_of t.keys t.texts.items) t.rows.items; keys = t.keys }
 
--- each row's key and text are there, and there is room for the texts of further rows
+-- each row's key and text are there, and there is room for the texts of further rows; the keys are
+-- those of the rows
 pub record IsKeptTable (t : Inside) : Type 0 where
   pub there : (k : ℕ) (row : KeptRow) → slice_get t.rows.items k ≡ Some row
       → IsThere t.keys t.texts.items row
   pub few : length t.rows.items ≤ row_limit
   pub texts : length t.texts.items ≤ value_limit * length t.rows.items
   pub keys : length t.keys ≤ length t.rows.items
+  pub seen : AreFirstSeen (table_within t).rows t.keys

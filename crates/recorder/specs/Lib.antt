@@ -10,8 +10,8 @@ pub mod PartRecords
 pub mod Answers
 pub mod Records
 pub mod Sound
-pub mod Adding
 pub mod Halls
 pub mod Clients
 pub mod Logs
 pub mod Numbers
+pub mod Groups

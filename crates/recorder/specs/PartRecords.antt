@@ -1,11 +1,12 @@
 -- Parts as lists of calls' numbers.
-use Rattle.std.specs.Prelude.{ℕ, ◌≡◌, ◌<◌, ◌↔◌, List, [], ◌∷◌, ◌++◌, Option, Some, None, map}
-use Rattle.std.specs.Prelude.{length, slice_get, slice_set, get_or}
+use Rattle.std.specs.Prelude.{ℕ, ◌≡◌, ◌<◌, List, [], Option, Some, None, map, length, slice_get}
+use Rattle.std.specs.List.{zip}
 use Rattle.recorder.specs.declared.part.Call.{Call}
-use Rattle.recorder.specs.declared.parts.KeyCalls.{KeyCalls}
+use Rattle.recorder.specs.declared.record.CallState.{CallState}
 use Rattle.recorder.specs.declared.record.Record.{Record}
 use Rattle.recorder.specs.Parts.{IsSequence}
 use Rattle.recorder.specs.States.{AreStates, call_of}
+use Rattle.recorder.specs.Tables.{BeginsOn}
 
 -- the calls of these numbers
 abbrev pub calls_of : Record → List ℕ → List Call
@@ -27,35 +28,18 @@ abbrev pub IsPartOf : Option Record → List ℕ → Type 0
 IsPartOf None numbers = numbers ≡ []
 IsPartOf (Some from) numbers = HasCalls from numbers
 
--- a key with its part
-abbrev pub entry_of : Record → KeyCalls → List ℕ × List Call
-entry_of from entry = (get_or from.rows.keys entry.key [], calls_of from entry.calls.items)
+-- each key with its part, whose calls have the numbers of its group
+abbrev pub entries_of : Record → List (List ℕ) → List (List ℕ × List Call)
+entries_of from groups = zip from.rows.keys (map (calls_of from) groups)
 
--- the same of each key
-abbrev pub entries_of : Record → List KeyCalls → List (List ℕ × List Call)
-entries_of from entries = map (entry_of from) entries
+-- a group for each key that the record has numbered, of calls that it has
+pub record AreEntries (of : Record) (groups : List (List ℕ)) : Type 0 where
+  pub all : length groups ≡ length of.rows.keys
+  pub each : (key : ℕ) (numbers : List ℕ) → slice_get groups key ≡ Some numbers
+      → HasCalls of numbers
 
--- each key has one entry at most, whose place stands at the key's number
-abbrev pub AreAtPlaces : List KeyCalls → List (Option ℕ) → Type 0
-AreAtPlaces entries places = (number place : ℕ) → (slice_get places number ≡ Some (Some place))
-    ↔ ((entry : KeyCalls) × (slice_get entries place ≡ Some entry) × (entry.key ≡ number))
-
--- entries of keys that the record has numbered, with calls that it has
-pub record AreEntries (of : Record) (entries : List KeyCalls) (places : List (Option ℕ)) : Type 0
-  where
-    pub all : length places ≡ length of.rows.keys
-    pub at : AreAtPlaces entries places
-    pub each : (k : ℕ) (entry : KeyCalls) → slice_get entries k ≡ Some entry
-        → (entry.key < length of.rows.keys) × HasCalls of entry.calls.items
-
--- a call more on a key that has an entry, or the first on one that has none
-pub data AddsNumber (entries : List KeyCalls) (places : List (Option ℕ)) (key number : ℕ)
-    (new : List KeyCalls) (now : List (Option ℕ)) : Type 0 where
-  later : (place : ℕ) (entry added : KeyCalls) → slice_get places key ≡ Some (Some place)
-      → slice_get entries place ≡ Some entry → added.key ≡ entry.key
-      → added.calls.items ≡ entry.calls.items ++ number ∷ [] → new ≡ slice_set entries place added
-      → now ≡ places → AddsNumber entries places key number new now
-  first : (added : KeyCalls) → slice_get places key ≡ Some None → added.key ≡ key
-      → added.calls.items ≡ number ∷ [] → new ≡ entries ++ added ∷ []
-      → now ≡ slice_set places key (Some (length entries))
-      → AddsNumber entries places key number new now
+-- the number of each call's key
+pub record AreKeyNumbers (of : Record) (numbers : List ℕ) : Type 0 where
+  pub all : length numbers ≡ length of.states.items
+  pub each : (k number : ℕ) (state : CallState) → slice_get numbers k ≡ Some number
+      → slice_get of.states.items k ≡ Some state → BeginsOn of.rows state.invoked number

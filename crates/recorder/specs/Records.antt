@@ -35,6 +35,14 @@ pub record IsFirstSeen (rows : List Row) (key : List ℕ) (place : ℕ) : Type 0
   pub begins : BeginsAt rows key place
   pub first : (earlier : ℕ) → earlier < place → BeginsAt rows key earlier → ⊥
 
+-- the keys on which the rows begin calls, in the order in which they are first seen
+pub record AreFirstSeen (rows : List Row) (keys : List (List ℕ)) : Type 0 where
+  pub all : (key : List ℕ) (place : ℕ) → BeginsAt rows key place → Contains keys key
+  pub seen : (k : ℕ) (key : List ℕ) → slice_get keys k ≡ Some key → (place : ℕ)
+      × IsFirstSeen rows key place
+  pub ordered : (i j : ℕ) (k l : List ℕ) (m n : ℕ) → i < j → slice_get keys i ≡ Some k
+      → slice_get keys j ≡ Some l → IsFirstSeen rows k m → IsFirstSeen rows l n → m < n
+
 -- the parts of a history: for each key on which a call is begun its part, in the order in which
 -- the keys are first seen
 pub record AreParts (rows : List Row) (parts : List (List ℕ × List Call)) : Type 0 where

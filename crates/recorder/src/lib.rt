@@ -2,10 +2,11 @@
 //!
 //! A `History` is well-formed by its type: a row comes in only where it may follow the rows
 //! before it, and adding one takes the same time however many there are. `History::parts` gives
-//! the calls of each key as the rows record them, in one pass.
+//! the calls of each key as the rows record them, in a time that grows with the calls alone.
 #![tactic(auto)]
 
 mod clients;
+mod groups;
 mod halls;
 mod histories;
 mod history;

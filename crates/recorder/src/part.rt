@@ -32,7 +32,7 @@ pub struct Call<'h> {
 /// invocation. Only a history has parts with calls.
 #[derive(Debug, Drop)]
 pub struct Part<'h> {
-    record: Option<&'h Record>,
+    from: Option<&'h Record>,
     /// The calls' numbers in the history.
     numbers: &'h [u32],
 }
@@ -46,9 +46,9 @@ impl<'h> Model for Part<'h> {
 
     ghost use Rattle.recorder.specs.PartRecords.{part_of, IsPartOf};
 
-    ghost view = { λ p. part_of (option_copied p.record) p.numbers.now };
+    ghost view = { λ p. part_of (option_copied p.from) p.numbers.now };
 
-    ghost invariant = { λ p. IsPartOf (option_copied p.record) p.numbers.now };
+    ghost invariant = { λ p. IsPartOf (option_copied p.from) p.numbers.now };
 }
 
 impl<'h> Part<'h> {
@@ -62,18 +62,18 @@ impl<'h> Part<'h> {
         ensures { result ≡ [] }
     {
         Part {
-            record: None,
+            from: None,
             numbers: &[],
         }
     }
 
     /// The part of the record that has the calls of these numbers.
-    pub(crate) fn of(record: &'h Record, numbers: &'h [u32]) -> Part<'h>
-        requires { HasCalls record.now numbers.now }
-        ensures { result ≡ calls_of record.now numbers.now }
+    pub(crate) fn of(from: &'h Record, numbers: &'h [u32]) -> Part<'h>
+        requires { HasCalls from.now numbers.now }
+        ensures { result ≡ calls_of from.now numbers.now }
     {
         Part {
-            record: Some(record),
+            from: Some(from),
             numbers,
         }
     }
@@ -91,8 +91,8 @@ impl<'h> Part<'h> {
         requires { place < length self.now }
         ensures { slice_get self.now place ≡ Some result }
     {
-        match self.record {
-            Some(record) => record.call(OpId(self.numbers[place])),
+        match self.from {
+            Some(from) => from.call(OpId(self.numbers[place])),
             None => unreachable!(),
         }
     }
@@ -102,7 +102,7 @@ impl<'h> Part<'h> {
         requires { place < length self.now }
         ensures { (call : Call) × (slice_get self.now place ≡ Some call) × (result ≡ call.op) }
     {
-        match self.record {
+        match self.from {
             Some(_) => OpId(self.numbers[place]),
             None => unreachable!(),
         }
@@ -113,8 +113,8 @@ impl<'h> Part<'h> {
         requires { place < length self.now }
         ensures { (call : Call) × (slice_get self.now place ≡ Some call) × IsStateOf call result }
     {
-        match self.record {
-            Some(record) => record.state(OpId(self.numbers[place])),
+        match self.from {
+            Some(from) => from.state(OpId(self.numbers[place])),
             None => unreachable!(),
         }
     }

@@ -3,18 +3,12 @@ ghost use Rattle.std.specs.Prelude.{◌≡◌, ◌<◌, List, length, IfSome, If
 ghost use Rattle.std.specs.List.{slice_get};
 ghost use Rattle.recorder.specs.declared.part.Call.{Call};
 
+use crate::groups::Groups;
 use crate::part::Part;
 use crate::record::Record;
 use crate::refs::KeyRef;
 use std::marker::Model;
 use tag::Key;
-
-/// The calls on a key: the number of the key, and their numbers.
-#[derive(Debug, Drop)]
-pub(crate) struct KeyCalls {
-    pub(crate) key: usize,
-    pub(crate) calls: Vec<u32>,
-}
 
 /// Keys with their parts, each key once, in the order in which they were first seen.
 ///
@@ -22,10 +16,9 @@ pub(crate) struct KeyCalls {
 /// are. Only a history makes it, and lends its calls.
 #[derive(Debug, Drop)]
 pub struct Parts<'h> {
-    record: &'h Record,
-    entries: Vec<KeyCalls>,
-    /// For each key, by number, the place of its entry, if it has one.
-    places: Vec<Option<usize>>,
+    from: &'h Record,
+    /// The numbers of each key's calls, by the number of the key.
+    groups: Groups,
 }
 
 impl<'h> Model for Parts<'h> {
@@ -35,35 +28,27 @@ impl<'h> Model for Parts<'h> {
 
     ghost use Rattle.recorder.specs.PartRecords.{entries_of, AreEntries};
 
-    ghost view = { λ p. record { entries = entries_of p.record.now p.entries.items } };
+    ghost view = { λ p. record { entries = entries_of p.from.now p.groups } };
 
-    ghost invariant = { λ p. AreEntries p.record.now p.entries.items p.places.items };
+    ghost invariant = { λ p. AreEntries p.from.now p.groups };
 }
 
 impl<'h> Parts<'h> {
     ghost use Rattle.recorder.specs.PartRecords.{entries_of, AreEntries};
 
-    /// The parts of the record that have those calls.
-    pub(crate) fn new(
-        record: &'h Record,
-        entries: Vec<KeyCalls>,
-        places: Vec<Option<usize>>,
-    ) -> Parts<'h>
-        requires { AreEntries record.now entries.items places.items }
-        ensures { result ≡ record { entries = entries_of record.now entries.items } }
+    /// The parts of the record whose calls are grouped so.
+    pub(crate) fn new(from: &'h Record, groups: Groups) -> Parts<'h>
+        requires { AreEntries from.now groups }
+        ensures { result ≡ record { entries = entries_of from.now groups } }
     {
-        Parts {
-            record,
-            entries,
-            places,
-        }
+        Parts { from, groups }
     }
 
     /// How many keys have a part.
     pub fn len(&self) -> usize
         ensures { result ≡ length self.now.entries }
     {
-        self.entries.len()
+        self.groups.len()
     }
 
     /// The key at that place, from 0, with its part.
@@ -71,11 +56,8 @@ impl<'h> Parts<'h> {
         requires { place < length self.now.entries }
         ensures { slice_get self.now.entries place ≡ Some result }
     {
-        let entry = &self.entries[place];
-        (
-            self.record.rows.key(entry.key),
-            Part::of(self.record, &entry.calls),
-        )
+        let numbers = self.groups.group(place);
+        (self.from.rows.key(place), Part::of(self.from, numbers))
     }
 
     /// The key's part, if it has one.
@@ -84,10 +66,7 @@ impl<'h> Parts<'h> {
         ensures none { IfNone result
             ((part : List Call) → Contains self.now.entries (key.now, part) → ⊥) }
     {
-        let keys = self.record.rows.keys();
-        let _distinct = keys.keys();
-        let number = keys.find(key)?;
-        let place = self.places[number]?;
-        Some(Part::of(self.record, &self.entries[place].calls))
+        let number = self.from.rows.keys().find(key)?;
+        Some(Part::of(self.from, self.groups.group(number)))
     }
 }

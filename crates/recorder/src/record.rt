@@ -2,6 +2,7 @@
 ghost use Rattle.std.specs.Prelude.{◌≡◌, ◌<◌, [], length, IfOk};
 ghost use Rattle.std.specs.Option.{ForSome};
 ghost use Rattle.tag.specs.declared.numbers.OpId.{OpId};
+ghost use Rattle.recorder.specs.PartRecords.{AreKeyNumbers};
 ghost use Rattle.recorder.specs.States.{AreStates, RespondsAt, IsBegunAt, IsStateOf, action_at, call_of, response_at};
 
 use crate::part::{Call, Response};
@@ -52,6 +53,19 @@ impl Record {
             rows: self.rows.copy()?,
             states: Vec::from_slice(alloc, &self.states)?,
         })
+    }
+
+    /// The number of each call's key.
+    pub(crate) fn key_numbers(&self) -> Result<Vec<u32>, Memory>
+        requires { AreStates self.now.rows.rows self.now.states.items }
+        ensures { IfOk result (λ numbers. AreKeyNumbers self.now numbers.items) }
+    {
+        let mut numbers = Vec::with_capacity(*self.states.allocator(), self.states.len())?;
+        for number in 0..self.states.len() {
+            let place = self.states[number].invoked as usize;
+            numbers.push(self.rows.key_number(place))?;
+        }
+        Ok(numbers)
     }
 
     /// The state of the call of that number.

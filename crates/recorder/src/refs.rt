@@ -91,7 +91,7 @@ impl<'h> ValueRef<'h> {
     }
 
     /// The value of that text.
-    pub(crate) fn of_text(text: &'h str) -> ValueRef<'h>
+    pub fn of_text(text: &'h str) -> ValueRef<'h>
         requires { is_value text.now ≡ true }
         ensures { result ≡ text.now }
     {
@@ -160,14 +160,14 @@ impl<'h> ActionRef<'h> {
     }
 
     /// A read.
-    pub(crate) fn read() -> ActionRef<'h>
+    pub fn read() -> ActionRef<'h>
         ensures { result ≡ Action.Read }
     {
         ActionRef { written: None }
     }
 
     /// A write of that value.
-    pub(crate) fn write(value: ValueRef<'h>) -> ActionRef<'h>
+    pub fn write(value: ValueRef<'h>) -> ActionRef<'h>
         ensures { result ≡ Action.Write value.entry }
     {
         ActionRef {
@@ -228,14 +228,14 @@ impl<'h> ReturnedRef<'h> {
     }
 
     /// A write is done.
-    pub(crate) fn done() -> ReturnedRef<'h>
+    pub fn done() -> ReturnedRef<'h>
         ensures { result ≡ Returned.Written }
     {
         ReturnedRef { answered: None }
     }
 
     /// A read answers that value, or that there is none.
-    pub(crate) fn value(value: Option<ValueRef<'h>>) -> ReturnedRef<'h>
+    pub fn value(value: Option<ValueRef<'h>>) -> ReturnedRef<'h>
         ensures { result ≡ Returned.Value value.entry }
     {
         ReturnedRef {

@@ -1,11 +1,11 @@
 //! The rows of a history, as it keeps them.
 ghost use Rattle.std.specs.Prelude.{ℕ, ◌≡◌, ◌≤◌, ◌<◌, ◌*◌, List, [], ◌∷◌, ◌++◌, Some, true, length, OnOk, OnErr};
-ghost use Rattle.std.specs.Prelude.{IfOk, IfSome, IfNone, get_or};
+ghost use Rattle.std.specs.Prelude.{IfOk, get_or};
 ghost use Rattle.std.specs.List.{slice_get};
 ghost use Rattle.tag.specs.Limits.{value_limit};
 ghost use Rattle.tag.specs.Names.{is_key, is_value};
-ghost use Rattle.tag.specs.declared.actions.Action.{Action};
-ghost use Rattle.tag.specs.declared.numbers.OpId.{OpId};
+ghost use Rattle.recorder.specs.Records.{AreFirstSeen};
+ghost use Rattle.recorder.specs.States.{IsBegunAt};
 ghost use Rattle.recorder.specs.Tables.{row_limit, BeginsOn};
 ghost use Rattle.recorder.specs.KeptRows.{IsValueAt, KeepsAnswer, text_at};
 
@@ -96,7 +96,8 @@ impl RowTable {
 
     /// The keys of the rows' calls, by number.
     pub(crate) fn keys(&self) -> &KeyNumbers
-        ensures { result.now ≡ self.now.keys }
+        ensures keys { result.now ≡ self.now.keys }
+        ensures seen { AreFirstSeen self.now.rows self.now.keys }
     {
         &self.keys
     }
@@ -148,17 +149,15 @@ impl RowTable {
         }
     }
 
-    /// The call that the row at that place begins, if it begins one, with the number of its key.
-    pub(crate) fn begun(&self, place: usize) -> Option<(OpId, usize)>
-        requires { place < length self.now.rows }
-        ensures some { IfSome result (λ b. BeginsOn self.now place b.0 b.1) }
-        ensures none { IfNone result ((op : OpId) (client : ℕ) (key : List ℕ) (action : Action)
-            → slice_get self.now.rows place ≡ Some (Row.Invoke op client key action) → ⊥) }
+    /// The number of the key on which a call is begun at that place.
+    pub(crate) fn key_number(&self, place: usize) -> u32
+        requires { IsBegunAt self.now.rows place }
+        ensures { BeginsOn self.now place result }
     {
         match self.rows[place] {
-            KeptRow::Read { op, key, .. } => Some((op, key as usize)),
-            KeptRow::Write { op, key, .. } => Some((op, key as usize)),
-            _ => None,
+            KeptRow::Read { key, .. } => key,
+            KeptRow::Write { key, .. } => key,
+            _ => unreachable!(),
         }
     }
 

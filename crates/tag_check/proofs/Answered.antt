@@ -7,6 +7,7 @@ use Rattle.tag.specs.Tags.{Tag, IsBelow}
 use Rattle.recorder.specs.declared.part.Call.{Call}
 use Rattle.recorder.specs.declared.part.Response.{Response}
 use Rattle.recorder.specs.Parts.{IsSequence}
+use Rattle.recorder.specs.States.{place_in}
 use Rattle.tag.proofs.Lists.{place_of, Contains-slice_get, get_at, item_at, slice_get-set}
 use Rattle.tag_check.specs.Least.{HasPartner}
 use Rattle.tag_check.specs.Rules.{IsNotAbove, IsTooLow}
@@ -61,6 +62,11 @@ greatest_is T greatest tag h e = (subst (IsGreatest T) e h).0
 -- what is among the first tags is among more
 among_more : (tags : List (Option Tag)) (i j : ℕ) (tag : Tag) → i ≤ j → HasTagBelow tags i tag → HasTagBelow tags j tag
 among_more tags i j tag le h = (h.0, omega (arith, h.1), h.2)
+
+-- a response has its place
+pub response_at : (response : Option Response) (place : ℕ) → place_in response ≡ Some place → (r : Response) × (response ≡ Some r) × (r.place ≡ place)
+response_at None place e = absurd (none-some place e)
+response_at (Some r) place e = (r, refl, same_Some r.place place e)
 
 -- a call without a response, or after which no call began, adds none
 pub answered_same : (calls : List Call) (i : ℕ) (call : Call) (tags : List (Option Tag)) → slice_get calls i ≡ Some call → ((response : Response) (j : ℕ) (b : Call) → call.response ≡ Some response → slice_get calls j ≡ Some b → response.place < b.invoked → ⊥) → AreAnsweredTags calls i tags → AreAnsweredTags calls (i + 1) tags

@@ -195,7 +195,9 @@ impl<'a> Notes<'a> {
         if next == 0 || next >= self.part.len() {
             return None;
         }
-        if self.part.call(next - 1).invoked <= place && place < self.part.call(next).invoked {
+        let before = self.part.state(next - 1).invoked as usize;
+        let after = self.part.state(next).invoked as usize;
+        if before <= place && place < after {
             Some(next)
         } else {
             None
@@ -212,7 +214,8 @@ impl<'a> Notes<'a> {
     {
         'halves: while low < high {
             let middle = low + (high - low) / 2;
-            if self.part.call(middle).invoked <= place {
+            let invoked = self.part.state(middle).invoked as usize;
+            if invoked <= place {
                 low = middle + 1;
             } else {
                 high = middle;
@@ -229,11 +232,11 @@ impl<'a> Notes<'a> {
     {
         let mut tags = vec![in alloc; None; self.part.len()]?;
         for i in 0..self.part.len() {
-            let call = self.part.call(i);
-            if let Some(response) = &call.response {
-                let next = self.begun_by(response.place, i + 1);
+            let state = self.part.state(i);
+            if let Some(place) = state.response {
+                let next = self.begun_by(place as usize, i + 1);
                 if next < tags.len() {
-                    tags[next] = greater(tags[next], call.note);
+                    tags[next] = greater(tags[next], state.note);
                 }
             }
         }

@@ -1,11 +1,14 @@
 -- What a call is sorted by.
-use Rattle.std.proofs.Common.{◌≡◌, inl, inr, Option, Some, None, true, false, true≢false, sym, ◌∙◌, subst, refl}
+use Rattle.std.proofs.Common.{ℕ, ◌≡◌, inl, inr, Option, Some, None, Bool, true, false, not, true≢false, sym, ◌∙◌, subst, refl}
 use Rattle.std.proofs.lemmas.Option.{same_Some}
 use Rattle.tag.specs.declared.actions.Action.{Action}
 use Rattle.tag.specs.declared.actions.Action.TheVariants.{Read, Write}
+use Rattle.tag.specs.declared.numbers.OpId.{OpId}
 use Rattle.tag.specs.Tags.{Tag}
 use Rattle.recorder.specs.declared.part.Call.{Call}
 use Rattle.recorder.specs.declared.part.Response.{Response}
+use Rattle.recorder.specs.declared.record.CallState.{CallState}
+use Rattle.recorder.specs.States.{IsStateOf, is_write, place_in}
 use Rattle.recorder.specs.Sound.{IsRead, IsWrite, IsSettled}
 use Rattle.witness_order.specs.declared.sort_key.SortKey.{SortKey}
 use Rattle.witness_order.specs.Keys.{key_from, key_of}
@@ -61,3 +64,37 @@ module _ (call : Call) (tag : Tag) (settled : IsSettled call) (noted : call.note
   has_key =
       let k = has_key_by call.action call.response refl refl in
       (k.0, subst (λ (note : Option Tag). key_from call.op call.action note call.response ≡ Some k.0) (sym noted) k.1)
+
+-- the key by what a call's state says
+abbrev pub key_with : OpId → Bool → Option Tag → Option ℕ → Option SortKey
+key_with op writes None response = None
+key_with op true (Some tag) response = Some (record { tag = tag; is_read = false; op = op })
+key_with op false (Some tag) (Some place) = Some (record { tag = tag; is_read = true; op = op })
+key_with op false (Some tag) None = None
+
+with_parts : (op : OpId) (action : Action) (note : Option Tag) (response : Option Response) → key_from op action note response ≡ key_with op (is_write action) note (place_in response)
+with_parts op action None response = refl
+with_parts op (Write value) (Some tag) response = refl
+with_parts op Read (Some tag) None = refl
+with_parts op Read (Some tag) (Some response) = refl
+
+pub key_of-state : (call : Call) (op : OpId) (state : CallState) → call.op ≡ op → IsStateOf call state → key_of call ≡ key_with op state.is_write state.note state.response
+key_of-state call op state same of = with_parts call.op call.action call.note call.response ∙ rw (of.kind, of.note, of.response, sym same) refl
+
+pub none_pending : (op : OpId) (writes : Bool) (note : Option Tag) (response : Option ℕ) → writes ≡ false → response ≡ None → None ≡ key_with op writes note response
+none_pending op writes note response reads waits = rw (reads, waits) (by note)
+  where
+    by : (n : Option Tag) → None ≡ key_with op false n None
+    by None = refl
+    by (Some tag) = refl
+
+pub none_unnoted : (op : OpId) (writes : Bool) (note : Option Tag) (response : Option ℕ) → note ≡ None → None ≡ key_with op writes note response
+none_unnoted op writes note response none = rw none refl
+
+pub some_key : (op : OpId) (writes : Bool) (note : Option Tag) (response : Option ℕ) (tag : Tag) → note ≡ Some tag → (writes ≡ false → response ≡ None → ⊥) → Some (record { tag = tag; is_read = not writes; op = op }) ≡ key_with op writes note response
+some_key op writes note response tag noted settled = rw noted (by writes response settled)
+  where
+    by : (w : Bool) (r : Option ℕ) → (w ≡ false → r ≡ None → ⊥) → Some (record { tag = tag; is_read = not w; op = op }) ≡ key_with op w (Some tag) r
+    by true r settled = refl
+    by false (Some place) settled = refl
+    by false None settled = absurd (settled refl refl)

@@ -1,9 +1,11 @@
 -- The least completed call without a note.
-use Rattle.std.proofs.Common.{ℕ, ◌≡◌, ◌<◌, ◌+◌, inl, inr, List, Some, None, is_some, true, false, length, below_more, sym, ap, subst, refl, arith}
+use Rattle.std.proofs.Common.{ℕ, ◌≡◌, ◌<◌, ◌+◌, inl, inr, List, Option, Some, None, is_some, true, false, length, below_more, sym, ap, ◌∙◌, subst, refl, arith}
 use Rattle.std.specs.List.{slice_get}
 use Rattle.std.proofs.lemmas.Option.{slice_get_within}
 use Rattle.std.proofs.lemmas.Bool.{cases_lt}
 use Rattle.recorder.specs.declared.part.Call.{Call}
+use Rattle.recorder.specs.declared.part.Response.{Response}
+use Rattle.recorder.specs.States.{place_in}
 use Rattle.tag.specs.declared.numbers.OpId.{OpId}
 use Rattle.recorder.specs.Parts.{IsSequence, IsCompleted}
 use Rattle.witness_order.specs.Notes.{IsNotedCall, AllNoted, IsLeastUnnoted}
@@ -48,6 +50,14 @@ least_unnoted calls sequence n call at completed unnoted before = record {
         ]
       ];
 }
+
+-- a call has a response where its state has the place of one
+pub answered : (call : Call) (place : Option ℕ) → place ≡ place_in call.response → is_some place ≡ is_some call.response
+answered call place is = ap (λ (p : Option ℕ). is_some p) is ∙ by call.response
+  where
+    by : (response : Option Response) → is_some (place_in response) ≡ is_some response
+    by None = refl
+    by (Some response) = refl
 
 -- a call without a response isn't completed
 pub not_completed : (call : Call) → is_some call.response ≡ false → IsCompleted call → ⊥

@@ -1,8 +1,10 @@
 //! What calls are sorted by.
 ghost use Rattle.std.specs.Prelude.{◌≡◌};
+ghost use Rattle.recorder.specs.declared.part.Call.{Call};
+ghost use Rattle.recorder.specs.States.{IsStateOf};
 ghost use Rattle.witness_order.specs.Keys.{key_of};
 
-use recorder::Call;
+use recorder::CallState;
 use tag::{OpId, Tag};
 
 /// What a settled call is sorted by: its tag, then whether it reads, then its number, since the
@@ -14,18 +16,15 @@ pub struct SortKey {
     pub op: OpId,
 }
 
-/// What a call is sorted by. `None` comes where it isn't settled or has no note.
-pub(crate) fn sort_key(call: &Call<'_>) -> Option<SortKey>
-    ensures { result ≡ key_of call.now }
+/// What the call of that number and that state is sorted by. `None` comes where it isn't settled or
+/// has no note.
+pub(crate) fn sort_key(op: OpId, state: &CallState) -> Option<SortKey>
+    ensures { (call : Call) → call.op ≡ op → IsStateOf call state.now → result ≡ key_of call }
 {
-    let is_read = call.action.written().is_none();
-    if is_read && call.response.is_none() {
+    let is_read = !state.is_write;
+    if is_read && state.response.is_none() {
         return None;
     }
-    let tag = call.note?;
-    Some(SortKey {
-        tag,
-        is_read,
-        op: call.op,
-    })
+    let tag = state.note?;
+    Some(SortKey { tag, is_read, op })
 }

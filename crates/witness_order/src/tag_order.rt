@@ -47,9 +47,9 @@ fn first_unnoted(part: &Part<'_>) -> Option<OpId>
     ensures sequence { IsSequence part.now }
 {
     for k in 0..part.len() {
-        let call = part.call(k);
-        if call.response.is_some() && call.note.is_none() {
-            return Some(call.op);
+        let state = part.state(k);
+        if state.response.is_some() && state.note.is_none() {
+            return Some(part.op(k));
         }
     }
     None
@@ -71,7 +71,7 @@ fn sort_keys(alloc: Global, part: &Part<'_>) -> Result<Vec<SortKey>, AllocError>
 {
     let mut keys = Vec::new(alloc);
     for k in 0..part.len() {
-        if let Some(key) = sort_key(&part.call(k)) {
+        if let Some(key) = sort_key(part.op(k), &part.state(k)) {
             keys.push(key)?;
         }
     }

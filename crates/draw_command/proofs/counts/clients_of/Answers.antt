@@ -1,4 +1,4 @@
-use Rattle.std.proofs.Common.{ℕ, List, [], ◌∷◌, ◌++◌, map, ap, sym, arith, ◌∙◌}
+use Rattle.std.proofs.Common.{ℕ, List, [], ◌∷◌, ◌++◌, map, ap, ap₂, sym, arith, ◌∙◌}
 use Rattle.std.proofs.lemmas.List.{take_all}
 use Rattle.recorder.specs.declared.part.Call.{Call}
 use Rattle.parallel_keys.proofs.Fronts.{mapped_at}
@@ -6,9 +6,9 @@ use Rattle.draw_command.proofs.counts.clients_of.Goals as goal
 
 pub loop-place-preserved : goal.loop-place-preserved
 loop-place-preserved c =
-    let call = c.call-call.result in
-    c.in_ok-push.ensures.items ∙ ap (λ (l : List ℕ). l ++ call.client ∷ []) c.loop-place.invariant
-    ∙ sym (mapped_at (λ (one : Call). one.client) c.args.part.now c.loop-place.place call c.call-call.ensures)
+    let of = c.state-state.ensures in
+    c.in_ok-push.ensures.items ∙ ap₂ (λ (l : List ℕ) (client : ℕ). l ++ client ∷ []) c.loop-place.invariant of.2.client
+    ∙ sym (mapped_at (λ (one : Call). one.client) c.args.part.now c.loop-place.place of.0 of.1)
 
 pub returns : goal.returns
 returns c =

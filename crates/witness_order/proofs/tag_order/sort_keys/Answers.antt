@@ -2,6 +2,7 @@ use Rattle.std.proofs.Common.{◌≡◌, ◌+◌, ◌∷◌, ◌++◌, [], ℕ, 
 use Rattle.std.specs.List.{slice_get, filter_map, cons_option}
 use Rattle.std.proofs.lemmas.List.{take_all, append-nil}
 use Rattle.std.proofs.lemmas.List.Elements.{filter_map-append}
+use Rattle.std.proofs.lemmas.Option.{same_Some}
 use Rattle.tag.proofs.Lists.{take_push}
 use Rattle.recorder.specs.declared.part.Call.{Call}
 use Rattle.witness_order.specs.declared.sort_key.SortKey.{SortKey}
@@ -21,9 +22,13 @@ pub loop-k-preserved : goal.loop-k-preserved
 loop-k-preserved c =
     let calls = c.args.part.now in
     let l = c.loop-k in
+    let of = c.state.ensures in
+    let listed = c.op.ensures in
+    let call = of.0 in
+    let op : call.op ≡ c.op.result = ap (λ (x : Call). x.op) (same_Some call listed.0 (sym of.1 ∙ listed.1)) ∙ sym listed.2 in
     elim c.match-sort_key.branch [
-      | in-Some+in_ok-push w ↦ rw (w.keys-is, w.in_ok-push.ensures.items, l.invariant) (keys_more calls l.k c.call.result (Some w.in-Some.key) c.call.ensures w.in-Some.ensures)
-      | in_default w ↦ rw w.keys-is (l.invariant ∙ (sym (append-nil (filter_map key_of (take l.k calls))) ∙ keys_more calls l.k c.call.result None c.call.ensures w.in_default.ensures))
+      | in-Some+in_ok-push w ↦ rw (w.keys-is, w.in_ok-push.ensures.items, l.invariant) (keys_more calls l.k call (Some w.in-Some.key) of.1 (w.in-Some.ensures call op of.2))
+      | in_default w ↦ rw w.keys-is (l.invariant ∙ (sym (append-nil (filter_map key_of (take l.k calls))) ∙ keys_more calls l.k call None of.1 (w.in_default.ensures call op of.2)))
     ]
 
 pub returns : goal.returns

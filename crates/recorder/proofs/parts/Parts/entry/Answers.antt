@@ -1,21 +1,26 @@
-use Rattle.std.proofs.Common.{ℕ, List, Some, sym, ap, ap₂, ◌∙◌}
+use Rattle.std.proofs.Common.{◌<◌, List, [], Some, length, sym, ap, ◌∙◌, arith}
+use Rattle.std.proofs.lemmas.Option.{slice_get-get_or}
 use Rattle.recorder.specs.declared.part.Call.{Call}
-use Rattle.recorder.specs.PartRecords.{calls_of}
-use Rattle.recorder.proofs.PartLemmas.{entry-kept, entry-shown}
+use Rattle.recorder.specs.Records.{KeyedParts}
+use Rattle.recorder.proofs.PartLemmas.{length-entries, entry-at}
 use Rattle.recorder.proofs.parts.Parts.entry.Goals as goal
+
+pub group-numbers-requires : goal.group-numbers-requires
+group-numbers-requires c =
+    let s = c.self.inside in
+    omega (arith, c.requires, ap (λ (p : KeyedParts). length p.entries) c.self.view_is, length-entries s.from.now s.groups c.self.invariant, c.self.invariant.all)
 
 pub key-requires : goal.key-requires
 key-requires c =
-    let at = entry-kept c.self.inside.record.now c.self.inside.entries.items c.args.self.now c.args.place _ c.self.view_is c.requires c.index-entry.ensures in
-    (c.self.invariant.each c.args.place _ at).0
+    let s = c.self.inside in
+    omega (arith, c.requires, ap (λ (p : KeyedParts). length p.entries) c.self.view_is, length-entries s.from.now s.groups c.self.invariant)
 
 pub of-requires : goal.of-requires
-of-requires c =
-    let at = entry-kept c.self.inside.record.now c.self.inside.entries.items c.args.self.now c.args.place _ c.self.view_is c.requires c.index-entry.ensures in
-    rw c.deref.ensures.value (c.self.invariant.each c.args.place _ at).1
+of-requires c = c.self.invariant.each c.args.place _ c.group-numbers.ensures
 
 pub returns : goal.returns
 returns c =
-    let at = entry-kept c.self.inside.record.now c.self.inside.entries.items c.args.self.now c.args.place _ c.self.view_is c.requires c.index-entry.ensures in
-    let calls = c.of.ensures ∙ ap (calls_of c.self.inside.record.now) c.deref.ensures.value in
-    entry-shown c.self.inside.record.now c.self.inside.entries.items c.args.self.now c.args.place _ c.self.view_is at ∙ ap₂ (λ (k : List ℕ) (p : List Call). Some (k, p)) (sym c.key.ensures) (sym calls)
+    let s = c.self.inside in
+    let below : c.args.place < length s.from.now.rows.keys = omega (arith, c.requires, ap (λ (p : KeyedParts). length p.entries) c.self.view_is, length-entries s.from.now s.groups c.self.invariant) in
+    let key = slice_get-get_or s.from.now.rows.keys c.args.place [] below ∙ ap Some (sym c.key.ensures) in
+    rw (← c.self.view_is) (entry-at s.from.now s.groups c.args.place _ _ key c.group-numbers.ensures ∙ ap (λ (p : List Call). Some (c.key.result, p)) (sym c.of.ensures))

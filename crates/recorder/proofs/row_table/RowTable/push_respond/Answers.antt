@@ -1,8 +1,11 @@
-use Rattle.std.proofs.Common.{[], sym, arith}
+use Rattle.std.proofs.Common.{[], sym, refl, arith}
 use Rattle.std.proofs.lemmas.List.{append-nil}
 use Rattle.tag.proofs.Lists.{same_push}
-use Rattle.recorder.proofs.Tables.{pushed, shown-pushed, room}
+use Rattle.recorder.proofs.Tables.{kept-same, pushed, seen-other, shown-pushed, room}
 use Rattle.recorder.proofs.row_table.RowTable.push_respond.Goals as goal
+
+pub invariant_of-self-in_err-row : goal.invariant_of-self-in_err-row
+invariant_of-self-in_err-row c = kept-same c.self.inside _ c.self.invariant c.in_ok-reserve.ensures.items c.in_err-row.ensures.err refl
 
 pub invariant_of-self-2 : goal.invariant_of-self-2
 invariant_of-self-2 c =
@@ -10,6 +13,7 @@ invariant_of-self-2 c =
     let k = c.in_ok-row.ensures.ok in
     pushed t _ c.self.invariant _ [] k.more (same_push t.rows.items _ _ _ c.in_ok-reserve.ensures.items c.in_ok-push.ensures.items) (sym (append-nil t.keys)) k.texts
     (room t c.args.self.now c.self.view_is c.requires) (k.there t.keys) k.short (omega (arith, c.self.invariant.keys))
+    (seen-other t (record { rows = c.push.new.self; texts = c.keep_answer.new.texts; keys = t.keys }) c.self.invariant _ [] k.more (same_push t.rows.items _ _ _ c.in_ok-reserve.ensures.items c.in_ok-push.ensures.items) (sym (append-nil t.keys)) k.texts _ (k.shown t.keys) refl (λ key b. let e = b.3 in absurd (cc)))
 
 pub returns-clause-ok : goal.returns-clause-ok
 returns-clause-ok c =

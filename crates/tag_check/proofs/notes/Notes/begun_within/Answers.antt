@@ -2,17 +2,17 @@ use Rattle.std.proofs.Common.{◌+◌, ◌-◌, ◌/◌, arith}
 use Rattle.tag_check.proofs.Answered.{begun_to, later_from, begun_between}
 use Rattle.tag_check.proofs.notes.Notes.begun_within.Goals as goal
 
-pub call-requires : goal.call-requires
-call-requires c = omega (arith, c.halves-test.true, c.halves.invariant.inside, c.requires.inside)
+pub state-invoked-requires : goal.state-invoked-requires
+state-invoked-requires c = omega (arith, c.halves-test.true, c.halves.invariant.inside, c.requires.inside)
 
-pub halves-preserved-then-call-place : goal.halves-preserved-then-call-place
-halves-preserved-then-call-place c =
+pub halves-preserved-then-invoked-place : goal.halves-preserved-then-invoked-place
+halves-preserved-then-invoked-place c =
     let was = c.halves.invariant in
     let s = c.args.self.now in
     record {
       order = omega (arith, c.halves-test.true);
       inside = was.inside;
-      begun = λ j b less above at. begun_to s.part.now s.sequence c.args.place (c.halves.low + (c.halves.high - c.halves.low) / 2) c.call.result c.call.ensures c.if-call-place.true j b (omega (arith, less)) at;
+      begun = λ j b less above at. begun_to s.part.now s.sequence c.args.place (c.halves.low + (c.halves.high - c.halves.low) / 2) c.state-invoked.ensures.0 c.state-invoked.ensures.1 (omega (arith, c.if-invoked-place.true, c.state-invoked.ensures.2.invoked)) j b (omega (arith, less)) at;
       later = was.later;
     }
 
@@ -24,7 +24,7 @@ halves-preserved c =
       order = omega arith;
       inside = omega (arith, c.halves-test.true, was.inside);
       begun = was.begun;
-      later = λ j b after below at. later_from s.part.now s.sequence c.args.place (c.halves.low + (c.halves.high - c.halves.low) / 2) c.call.result c.call.ensures c.if-call-place.false j b after at;
+      later = λ j b after below at. later_from s.part.now s.sequence c.args.place (c.halves.low + (c.halves.high - c.halves.low) / 2) c.state-invoked.ensures.0 c.state-invoked.ensures.1 (omega (arith, c.if-invoked-place.false, c.state-invoked.ensures.2.invoked)) j b after at;
     }
 
 pub returns-clause-begun : goal.returns-clause-begun
