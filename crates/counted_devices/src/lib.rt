@@ -1,7 +1,8 @@
 //! Readers and writers that count their failures, and bytes cut into lines.
 //!
 //! Each error of a device is counted, so that a contract can say that a device failed. A text goes
-//! out whole, or after a failure a beginning of it.
+//! out whole, or after a failure a beginning of it. The definitions say what lines show by themselves
+//! (`Judgements`), and which fault of a file is its first, by the rules of its lines (`FirstFaults`).
 #![tactic(auto)]
 
 mod count_failures;

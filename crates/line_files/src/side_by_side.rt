@@ -12,7 +12,8 @@ use std::thread::Threads;
 use tag::Memory;
 
 /// What the lines of the chunks show under that context, in order. Chunks are judged side by side,
-/// each with one of the sets of tools.
+/// each with one of the sets of tools; two or three, all that a single thread judges at once, are
+/// judged one after the other.
 pub(crate) fn judge_chunks<C: Contents, R: Threads + Sync>(
     rt: &R,
     alloc: Global,
@@ -26,7 +27,7 @@ pub(crate) fn judge_chunks<C: Contents, R: Threads + Sync>(
 {
     let runs: Result<Vec<Vec<Judgement<C::Item, C::Fault>>>, Memory> = chunks
         .par_iter()
-        .with_min_len(1)
+        .with_min_len(2)
         .map(
             |chunk: &&[u8]| -> Result<Vec<Judgement<C::Item, C::Fault>>, Memory>
                 ensures { IfOk result (λ run. ShowChunks (C.Shows under)
