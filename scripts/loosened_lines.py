@@ -1,7 +1,7 @@
 """loosened_lines.py ABD [TIMES [WRITE_SPEED]]
 
-Random histories of 10,000 rows, as `abd` writes them and in loosened form: members in another order, blanks, escapes, members that mean
-nothing. `abd justify` has to make the same orders of both, and `abd check` to say the same of them. With the built program
+Random histories of 10,000 rows, as `abd` writes them and in loosened form: members in another order, blanks, escapes in half of the lines,
+members that mean nothing, members that come twice, of which the last counts. `abd justify` has to make the same orders of both, and `abd check` to say the same of them. With the built program
 `write_speed` (benchmarks/build_programs.sh), which writes the history that it reads, both also have to be written as the first.
 """
 
@@ -15,20 +15,24 @@ import tempfile
 HERE = os.path.dirname(os.path.abspath(__file__))
 
 
-def text_of(draw, text):
-    """The text as a JSON string, some of whose letters are escaped."""
-    return '"' + "".join(f"\\u{ord(letter):04x}" if draw.random() < 0.2 else json.dumps(letter)[1:-1] for letter in text) + '"'
+def text_of(draw, text, share):
+    """The text as a JSON string, of whose letters that share is escaped."""
+    return '"' + "".join(f"\\u{ord(letter):04x}" if draw.random() < share else json.dumps(letter)[1:-1] for letter in text) + '"'
 
 
 def loosened(draw, line):
     """The line's value in another form."""
     members = list(json.loads(line).items())
     if draw.random() < 0.3:
-        members.append(("more", [1, {"call": 2}]))
+        members.append(("more", draw.choice([[1, {"call": 2}], 12345678901234567890, -1, 0.5, None, True, "x", ""])))
     draw.shuffle(members)
-    blank = lambda: draw.choice(["", " ", "\t", "  "])
-    value = lambda it: text_of(draw, it) if isinstance(it, str) else json.dumps(it)
-    inside = ",".join(f"{blank()}{text_of(draw, name)}{blank()}:{blank()}{value(it)}{blank()}" for name, it in members)
+    if draw.random() < 0.2:
+        at = draw.randrange(len(members))
+        members.insert(draw.randint(0, at), (members[at][0], draw.choice([0, 7, None, "other", [1]])))
+    share = draw.choice([0, 0.2])
+    blank = lambda: draw.choice(["", " ", "\t", "  ", "\r"])
+    value = lambda it: text_of(draw, it, share) if isinstance(it, str) else json.dumps(it)
+    inside = ",".join(f"{blank()}{text_of(draw, name, share)}{blank()}:{blank()}{value(it)}{blank()}" for name, it in members)
     return f"{blank()}{{{inside}}}{blank()}{draw.choice(['', chr(13)])}"
 
 

@@ -11,7 +11,8 @@ use Rattle.serde_json.specs.Find as find
 use Rattle.serde_json.specs.Find.{as_u64}
 use Rattle.serde_json.specs.Read.{of_json, of_items, read}
 use Rattle.file_format.specs.declared.document.Document.{Document}
-use Rattle.file_format.specs.Documents.{data_in, IsJson}
+use Rattle.row_members.specs.Values.{IsJson}
+use Rattle.file_format.specs.Documents.{data_in}
 use Rattle.file_format.specs.Members.{text_at, number_at, numbers_in, numbers_at}
 use Rattle.file_format.specs.Members as members
 use Rattle.file_format.specs.Trees.{tree_in, has_numbers, unsigned_of, all_unsigned}

@@ -1,4 +1,5 @@
 pub mod Spelling
+mod SaidRows
 mod SpelledNumbers
 pub mod Compact
 pub mod WrittenLines

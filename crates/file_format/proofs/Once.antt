@@ -7,7 +7,7 @@ use Rattle.counted_devices.specs.Cuts.{last_lines}
 use Rattle.counted_devices.proofs.CutOnce.{splits_once}
 use Rattle.file_format.specs.declared.fault.LineFault.{LineFault}
 use Rattle.file_format.specs.declared.fault.LineFault.TheVariants.{NotJson, TooLong}
-use Rattle.file_format.specs.Documents.{IsJson}
+use Rattle.row_members.specs.Values.{IsJson}
 use Rattle.file_format.specs.Formats.{Format}
 use Rattle.file_format.specs.Lines.{LineSays, LineShows}
 use Rattle.file_format.specs.Files.{IsHeader, IsLineOf, AreSpelled}

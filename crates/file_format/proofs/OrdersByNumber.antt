@@ -1,6 +1,6 @@
 -- Orders, whose keys have numbers.
 use Rattle.std.proofs.Common.{ℕ, ◌≡◌, ◌<◌, List, [], ◌∷◌, ◌++◌, Some, set, map, length, sym, ◌∙◌, ap, ap₂, subst, refl, arith}
-use Rattle.std.specs.List.{slice_get, Contains}
+use Rattle.std.specs.List.{slice_get}
 use Rattle.std.proofs.lemmas.List.{length-map, map-set, map-append}
 use Rattle.std.proofs.lemmas.Option.{same_Some, slice_get_within}
 use Rattle.key_index.specs.Numbers.{Numbers}
@@ -37,11 +37,6 @@ module _ (os : List KeyOrder) (key : List ℕ) (slot : ℕ) (keys : List (List �
       absurd (none (slice_get_within os slot o.0 o.1))
   key_added order (first unseen is same) none = let made : KeyOrder = record { key = key; order = order } in same
       ∙ sym (map-append key_in os (made ∷ []))
-
-  -- a key that has no order gets a place after all others
-  pub not_below : Numbers (map key_in os) key slot keys → (Contains (map key_in os) key → ⊥) → slot < length os → ⊥
-  not_below (known here same) absent below = absent (Contains-slice_get (map key_in os) slot key here)
-  not_below (first unseen is same) absent below = omega (arith, is, length-map os key_in, below)
 
 -- the piece comes to the end of its key's order
 pub extends_order : (os : List KeyOrder) (piece : KeyOrder) (slot : ℕ) (keys : List (List ℕ)) (one : KeyOrder) (order : List OpId)

@@ -19,7 +19,7 @@ use Rattle.file_format.specs.FileHeaders.{told_in, version_of, file_header_of, f
 use Rattle.file_format.specs.HallRows.{only_row_in, placed_row_in, hall_row_in}
 use Rattle.file_format.specs.Formats.{IsFine, IsOfMembers}
 use Rattle.file_format.specs.Lines.{LineShows, LineShowsBy}
-use Rattle.file_format.specs.Documents.{IsJson, ReadsDocument}
+use Rattle.row_members.specs.Values.{IsJson}
 
 pub record Well {X : Type 0} (r : Result X LineFault) : Type 0 where
   pub fine : IsFine r
@@ -154,10 +154,3 @@ shown meaning line d (Ok x) short json well given = record { short = short; valu
 shown meaning line d (Err stop.Memory) short json well given = tt
 shown meaning line d (Err (stop.Fault fault)) short json well given =
     fault_shown meaning line d fault short json given (fine_at (meaning d) fault given well)
-
--- what a line shows that isn't read as a value
-pub unread : {X : Type 0} (meaning : Data → Result X LineFault) (line : List ℕ) (why : LineStop) → length line ≤ 65536
-    → ReadsDocument line (Err why) → LineShowsBy meaning line (Err why)
-unread meaning line (stop.Fault NotJson) short h = (short, h)
-unread meaning line (stop.Fault _) short h = absurd h
-unread meaning line stop.Memory short h = tt

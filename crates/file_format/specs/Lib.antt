@@ -21,12 +21,13 @@ pub mod OrderFormat
 pub mod Joins
 pub mod Says
 pub mod LineFaults
-pub mod LineKeys
+pub mod LineTexts
 pub mod LineRows
 pub mod Texts
 pub mod PlainTexts
 pub mod Ranges
 pub mod ReadAgain
-pub mod RowTexts
 pub mod CanonicalLines
+pub mod RowTexts
+pub mod SaidRows
 pub mod Writings

@@ -6,7 +6,7 @@ use Rattle.file_format.specs.declared.fault.LineFault.TheVariants.{NotJson, TooL
 use Rattle.file_format.specs.Faults.{LineStop}
 use Rattle.counted_devices.specs.declared.read_fault.Stop.TheVariants as stop
 use Rattle.counted_devices.specs.Cuts.{longest_line}
-use Rattle.file_format.specs.Documents.{IsJson}
+use Rattle.row_members.specs.Values.{IsJson}
 
 module _ {X : Type 0} (meaning : Data → Result X LineFault) where
   module _ (line : List ℕ) where

@@ -4,33 +4,33 @@ ghost use Rattle.json.specs.Find.{as_array};
 ghost use Rattle.json.specs.Value.{value_view, items_view};
 ghost use Rattle.serde_json.specs.Find.{get};
 ghost use Rattle.counted_devices.specs.Answers.{Gives};
-ghost use Rattle.file_format.specs.Members.{key_of, needed_member, text_at, number_at, numbers_at};
+ghost use Rattle.file_format.specs.Members.{needed_member, text_at, number_at, numbers_at};
 ghost use Rattle.file_format.specs.Trees.{has_numbers, unsigned_of, all_unsigned};
 
 use crate::LineFault;
 use crate::fault::Stop;
-use crate::line_key::{LineKey, LinePlace};
+use crate::line_texts::LineText;
 use crate::numerals::unsigned_in;
 use crate::tree::{has_numbers, tree_in};
 use json::{Scratch, Value as Json};
+use memchr::memmem;
 use std::alloc::Global;
 use std::str;
-use tag::{Memory, is_key};
+use tag::Memory;
 
 /// The JSON value of a line, as `serde_json` reads it; its texts stay where they lie.
 #[derive(Drop)]
-pub struct Document<'a> {
+pub(crate) struct Document<'a> {
     value: Json<'a>,
     line: &'a [u8],
-    place: &'a LinePlace,
     ghost numbers: { has_numbers (value_view value) ≡ true },
 }
 
 /// A member that may be missing.
-pub enum Member<'a> {
+pub(crate) enum Member<'a> {
     Missing,
     Null,
-    Text(&'a str),
+    Text(LineText<'a>),
     Other,
 }
 
@@ -41,7 +41,6 @@ impl<'a> Document<'a> {
     pub(crate) fn read(
         alloc: Global,
         line: &'a [u8],
-        place: &'a LinePlace,
         scratch: &'a mut Scratch,
     ) -> Result<Document<'a>, Stop>
         ensures { ReadsDocument line.now result }
@@ -53,14 +52,34 @@ impl<'a> Document<'a> {
         if !has_numbers(&value) {
             return Err(Stop::Fault(LineFault::NotJson));
         }
-        Ok(Document { value, line, place })
+        Ok(Document { value, line })
+    }
+
+    /// The text, and where it stands in the line, or 0 where it doesn't.
+    fn found<'t>(&self, text: &'t str) -> LineText<'t>
+        ensures { result.text.now ≡ text.now }
+    {
+        LineText {
+            text,
+            start: memmem::find(self.line, text.as_bytes()).unwrap_or(0),
+        }
     }
 
     /// The text that is the member of that name.
-    pub(crate) fn text(&self, name: &str) -> Option<&str>
+    fn string(&self, name: &str) -> Option<&str>
         ensures { option_map (λ text. text.now) result ≡ text_at name.now (data_in self.now) }
     {
         self.value.get(name)?.as_str()
+    }
+
+    /// The same, with its place.
+    pub(crate) fn text(&self, name: &str) -> Option<LineText<'_>>
+        ensures { option_map (λ text. text.text.now) result ≡ text_at name.now (data_in self.now) }
+    {
+        match self.string(name) {
+            Some(text) => Some(self.found(text)),
+            None => None,
+        }
     }
 
     /// The number that is the member of that name.
@@ -81,27 +100,17 @@ impl<'a> Document<'a> {
             return Member::Null;
         }
         match value.as_str() {
-            Some(text) => Member::Text(text),
+            Some(text) => Member::Text(self.found(text)),
             None => Member::Other,
         }
     }
 
     /// The text that is the member of that name; without one the line has the fault `Member`.
-    pub(crate) fn needed_text(&self, name: &str) -> Result<&str, Stop>
-        ensures { Gives (λ text. text.now) result
+    pub(crate) fn needed_text(&self, name: &str) -> Result<LineText<'_>, Stop>
+        ensures { Gives (λ text. text.text.now) result
             (needed_member (text_at name.now (data_in self.now))) }
     {
         self.text(name).ok_or(Stop::Fault(LineFault::Member))
-    }
-
-    /// The key of that text, which is a text of the line; another text has the fault `Range`.
-    pub(crate) fn key(&self, alloc: Global, text: &str) -> Result<LineKey, Stop>
-        ensures { Gives (λ key. key) result (key_of text.now) }
-    {
-        if !is_key(text.as_bytes()) {
-            return Err(Stop::Fault(LineFault::Range));
-        }
-        Ok(self.place.key_anywhere(alloc, self.line, text)?)
     }
 
     /// The number that is the member of that name; without one the line has the fault `Member`.

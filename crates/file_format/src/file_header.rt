@@ -1,11 +1,11 @@
 //! What the first line of a history file says.
-ghost use Rattle.std.specs.Prelude.{◌≡◌, ◌≤◌};
+ghost use Rattle.std.specs.Prelude.{◌≡◌, ◌≤◌, true};
+ghost use Rattle.tag.specs.Names.{is_key};
 ghost use Rattle.recorder.specs.Halls.{AreHalls, hall_of};
 ghost use Rattle.file_format.specs.Ranges.{HasLawful};
 ghost use Rattle.file_format.specs.Texts.{header_of_histories};
 ghost use Rattle.file_format.specs.FileHeaders.{halls_in, quorums_in, written_hall};
 
-use crate::line_key::LineKey;
 use quorum::Quorums;
 use recorder::{Halls, Histories};
 
@@ -60,12 +60,13 @@ impl FileHeader {
     }
 
     /// The number of the key's hall.
-    pub(crate) fn hall_of(&self, key: &LineKey) -> u8
+    pub(crate) fn hall_of(&self, key: &str) -> u8
+        requires { is_key key.now ≡ true }
         ensures { result ≡ hall_of (halls_in self.now) key.now }
     {
         match self {
             FileHeader::Version1 => 0,
-            FileHeader::Version2 { halls, .. } => halls.of_text(key.as_str()),
+            FileHeader::Version2 { halls, .. } => halls.of_text(key),
         }
     }
 

@@ -1,5 +1,6 @@
 //! Rows that follow one another.
-ghost use Rattle.std.specs.Prelude.{ℕ, ◌≡◌, ◌≤◌};
+ghost use Rattle.std.specs.Prelude.{ℕ, ◌≡◌, ◌≤◌, true};
+ghost use Rattle.tag.specs.Names.{is_key};
 ghost use Rattle.tag.specs.Limits.{call_limit};
 ghost use Rattle.recorder.specs.declared.row.Row.{Row};
 ghost use Rattle.recorder.specs.Histories.{IsWellFormed, call_count};
@@ -7,10 +8,9 @@ ghost use Rattle.file_format.specs.Places.{FollowsAfter, FollowsInHall, FollowsR
 
 use crate::LineFault;
 use crate::fault::Stop;
-use crate::line_key::LineKey;
-use crate::line_row::{LineRow, SaidRow};
-use recorder::{History, RowRefusal};
-use tag::{Action, ClientId, OpId, Returned, Tag};
+use crate::line_row::{LineRow, RowKind};
+use recorder::{ActionRef, History, ReturnedRef, RowRefusal, ValueRef};
+use tag::{ClientId, OpId, Tag};
 
 /// The most calls of a file.
 pub const MOST_CALLS: u32 = 1_000_000;
@@ -20,11 +20,12 @@ fn follow_invoke(
     earlier: usize,
     op: OpId,
     client: ClientId,
-    key: LineKey,
-    action: Action,
+    key: &str,
+    action: &ActionRef<'_>,
 ) -> Result<(), Stop>
+    requires { is_key key.now ≡ true }
     ensures { FollowsInHall earlier history.old
-        (Row.Invoke op client key action) result history.new }
+        (Row.Invoke op client key.now action.now) result history.new }
 {
     if op.0 as usize != history.calls() {
         return Err(Stop::Fault(LineFault::CallOutOfTurn));
@@ -35,7 +36,7 @@ fn follow_invoke(
         }
         return Err(Stop::Fault(LineFault::TooManyCalls));
     }
-    match history.invoke_on(client, key.as_str(), action) {
+    match history.invoke_text(client, key, action) {
         Ok(_) => Ok(()),
         Err(RowRefusal::ClientBusy) => Err(Stop::Fault(LineFault::ClientBusy)),
         Err(_) => Err(Stop::Memory),
@@ -54,11 +55,11 @@ fn follow_note(history: &mut History, op: OpId, tag: Tag) -> Result<(), Stop>
     }
 }
 
-fn follow_respond(history: &mut History, op: OpId, returned: Returned) -> Result<(), Stop>
+fn follow_respond(history: &mut History, op: OpId, returned: &ReturnedRef<'_>) -> Result<(), Stop>
     ensures { (earlier : ℕ) → FollowsAfter earlier history.old
-        (Row.Respond op returned) result history.new }
+        (Row.Respond op returned.now) result history.new }
 {
-    match history.respond(op, returned) {
+    match history.respond_text(op, returned) {
         Ok(()) => Ok(()),
         Err(RowRefusal::NotPending) => Err(Stop::Fault(LineFault::CallNotPending)),
         Err(RowRefusal::WrongKind) => Err(Stop::Fault(LineFault::WrongKind)),
@@ -69,16 +70,29 @@ fn follow_respond(history: &mut History, op: OpId, returned: Returned) -> Result
 fn follow_row(history: &mut History, earlier: usize, row: LineRow) -> Result<(), Stop>
     ensures { FollowsInHall earlier history.old row result history.new }
 {
-    let LineRow { said } = row;
-    match said {
-        SaidRow::Invoke {
-            op,
-            client,
-            key,
-            action,
-        } => follow_invoke(history, earlier, op, client, key, action),
-        SaidRow::Note { op, tag } => follow_note(history, op, tag),
-        SaidRow::Respond { op, returned } => follow_respond(history, op, returned),
+    let LineRow { kind, texts } = row;
+    match kind {
+        RowKind::Read { op, client } => {
+            follow_invoke(
+                history,
+                earlier,
+                op,
+                client,
+                texts.key(),
+                &ActionRef::read(),
+            )
+        }
+        RowKind::Write { op, client } => {
+            let action = ActionRef::write(ValueRef::of_text(texts.value()));
+            follow_invoke(history, earlier, op, client, texts.key(), &action)
+        }
+        RowKind::Note { op, tag } => follow_note(history, op, tag),
+        RowKind::Done { op } => follow_respond(history, op, &ReturnedRef::done()),
+        RowKind::Absent { op } => follow_respond(history, op, &ReturnedRef::value(None)),
+        RowKind::Answer { op } => {
+            let value = ValueRef::of_text(texts.value());
+            follow_respond(history, op, &ReturnedRef::value(Some(value)))
+        }
     }
 }
 

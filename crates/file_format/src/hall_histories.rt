@@ -12,7 +12,7 @@ use crate::fault::Stop;
 use crate::file_header::FileHeader;
 use crate::following::{MOST_CALLS, follow_in_hall};
 use crate::hall_row::HallRow;
-use crate::line_row::{LineRow, SaidRow};
+use crate::line_row::{LineRow, RowKind};
 use recorder::{Histories, History};
 use std::alloc::Global;
 use std::marker::Model;
@@ -96,8 +96,8 @@ impl HallHistories {
 fn falls_to(row: &LineRow, header: &FileHeader, hall: u8) -> bool
     ensures { IsTrue result ↔ FallsTo (halls_in header.now) hall row.now }
 {
-    match &row.said {
-        SaidRow::Invoke { key, .. } => header.hall_of(key) == hall,
-        SaidRow::Note { .. } | SaidRow::Respond { .. } => true,
+    match row.kind {
+        RowKind::Read { .. } | RowKind::Write { .. } => header.hall_of(row.texts.key()) == hall,
+        _ => true,
     }
 }

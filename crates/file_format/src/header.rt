@@ -14,7 +14,7 @@ pub(crate) fn header_in(name: &str, document: &Document<'_>) -> Result<(), Stop>
     ensures { Gives (λ nothing. tt) result (header_in name.now (data_in document.now)) }
 {
     match document.text("abd") {
-        Some(abd) if abd == name => {}
+        Some(abd) if abd.text == name => {}
         _ => return Err(Stop::Fault(LineFault::NoHeader)),
     }
     match document.number("version") {

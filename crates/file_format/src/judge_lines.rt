@@ -13,7 +13,7 @@ use crate::fault::Stop;
 use crate::file_header::FileHeader;
 use crate::header::header_in;
 use crate::line_item::LineItem;
-use crate::line_key::{LinePlace, shared};
+use crate::line_texts::shared;
 use crate::line_tools::LineTools;
 use crate::quorum_header::file_header_in;
 use counted_devices::{Judgement, LONGEST, first_end};
@@ -48,13 +48,7 @@ fn judge<T: LineItem>(
     if line.len() > LONGEST {
         return Ok(Judgement::Fault(LineFault::TooLong));
     }
-    if let Some(item) = T::written_on(alloc, header, tools, line)? {
-        return Ok(Judgement::Item(item));
-    }
-    match Document::read(alloc, line, &tools.place, &mut tools.scratch) {
-        Ok(document) => judged(T::item_in(alloc, header, &document)),
-        Err(stop) => judged(Err(stop)),
-    }
+    judged(T::read(alloc, header, tools, line))
 }
 
 /// What the lines of a chunk, the last of them without its end, show after that header, judged with
@@ -72,11 +66,11 @@ pub fn judge_with<T: LineItem>(
     let mut run = Vec::with_capacity(alloc, chunk.len() / USUAL)?;
     let mut rest = chunk;
     while let Some(end) = first_end(rest) {
-        tools.place.end = chunk.len().saturating_sub(rest.len() - end);
+        tools.place.start = chunk.len().saturating_sub(rest.len());
         run.push(judge::<T>(alloc, header, tools, &rest[..end])?)?;
         rest = &rest[end + 1..];
     }
-    tools.place.end = chunk.len();
+    tools.place.start = chunk.len().saturating_sub(rest.len());
     run.push(judge::<T>(alloc, header, tools, rest)?)?;
     Ok(run)
 }
@@ -89,8 +83,7 @@ pub fn judge_file_header(alloc: Global, line: &[u8]) -> Result<FileHeader, Stop>
         return Err(Stop::Fault(LineFault::TooLong));
     }
     let mut scratch = Scratch::new(alloc);
-    let place = LinePlace::new(alloc)?;
-    let document = Document::read(alloc, line, &place, &mut scratch)?;
+    let document = Document::read(alloc, line, &mut scratch)?;
     file_header_in(alloc, &document)
 }
 
@@ -102,7 +95,6 @@ pub fn judge_header(alloc: Global, name: &str, line: &[u8]) -> Result<(), Stop>
         return Err(Stop::Fault(LineFault::TooLong));
     }
     let mut scratch = Scratch::new(alloc);
-    let place = LinePlace::new(alloc)?;
-    let document = Document::read(alloc, line, &place, &mut scratch)?;
+    let document = Document::read(alloc, line, &mut scratch)?;
     header_in(name, &document)
 }

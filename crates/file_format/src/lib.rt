@@ -5,6 +5,7 @@
 //! is written of a history, or of orders of distinct keys, is read as that and nothing else.
 #![tactic(auto)]
 
+mod beginnings;
 mod compact_lines;
 mod document;
 mod fault;
@@ -16,8 +17,8 @@ mod header;
 mod judge_lines;
 pub mod laws;
 mod line_item;
-mod line_key;
 mod line_row;
+mod line_texts;
 mod line_tools;
 mod numerals;
 mod order_lines;
@@ -25,13 +26,12 @@ mod order_piece;
 mod orders;
 mod quorum_header;
 mod ranges;
+mod row_document;
 mod rows;
-mod seen;
 mod texts;
 mod tree;
 mod writing;
 
-pub use document::Document;
 pub use fault::{FaultKind, FileFault, LineFault, Stop};
 pub use file_header::FileHeader;
 pub use following::{MOST_CALLS, follow};

@@ -1,13 +1,11 @@
 //! What a line after the header says.
-ghost use Rattle.std.specs.Prelude.{Result, Ok, IfOk, IfSome};
-ghost use Rattle.counted_devices.specs.Answers.{Gives};
+ghost use Rattle.std.specs.Prelude.{◌≤◌, Result, length};
 ghost use Rattle.serde_json.specs.Data.{Data};
-ghost use Rattle.file_format.specs.Documents.{data_in};
+ghost use Rattle.counted_devices.specs.Cuts.{longest_line};
 ghost use Rattle.file_format.specs.Rows.{row_in};
 ghost use Rattle.file_format.specs.HallRows.{hall_row_in};
 ghost use Rattle.file_format.specs.OrderLines.{piece_in};
-ghost use Rattle.file_format.specs.Formats.{IsFine};
-ghost use Rattle.file_format.specs.Lines.{LineShows};
+ghost use Rattle.file_format.specs.Lines.{LineShowsBy};
 ghost use Rattle.file_format.specs.declared.fault.LineFault.{LineFault};
 
 use crate::compact_lines::{written_hall_row, written_piece, written_row};
@@ -19,9 +17,10 @@ use crate::line_row::LineRow;
 use crate::line_tools::LineTools;
 use crate::order_lines::piece_in;
 use crate::order_piece::OrderPiece;
+use crate::row_document::RowDocument;
 use crate::rows::row_in;
+use row_members::{NAMES, RowMembers};
 use std::alloc::Global;
-use tag::Memory;
 
 /// What a line after the header says.
 pub trait LineItem: Drop + Sized {
@@ -30,21 +29,49 @@ pub trait LineItem: Drop + Sized {
 
     ghost meaning: { Self.Header → Data → Result Self LineFault };
 
-    /// The item that the line, without its end, is written for after that header. `None` says
-    /// nothing; `Memory` comes only where an allocation was refused.
-    fn written_on(
+    /// What the line, without its end, shows after that header.
+    fn read(
         alloc: Global,
         header: Self::Header,
         tools: &mut LineTools,
         line: &[u8],
-    ) -> Result<Option<Self>, Memory>
-        ensures { IfOk result (λ found. IfSome found
-            (λ item. LineShows (meaning header) line.now (Ok item))) };
+    ) -> Result<Self, Stop>
+        requires { length line.now ≤ longest_line }
+        ensures { LineShowsBy (meaning header) line.now result };
+}
 
-    /// The item that the value says after that header.
-    fn item_in(alloc: Global, header: Self::Header, document: &Document<'_>) -> Result<Self, Stop>
-        ensures said { Gives (λ item. item) result (meaning header (data_in document.now)) }
-        ensures fine { IsFine (meaning header (data_in document.now)) };
+// What a line shows that may be written otherwise than here. These two stand apart, so that the lines which are
+// taken as written don't pay for the room that these need.
+
+#[inline(never)]
+fn read_row(alloc: Global, tools: &mut LineTools, line: &[u8]) -> Result<LineRow, Stop>
+    requires { length line.now ≤ longest_line }
+    ensures { LineShowsBy row_in line.now result }
+{
+    let mut room = [None; NAMES];
+    if let Some(members) = RowMembers::read(line, &mut room) {
+        return row_in(alloc, &tools.place, &RowDocument::Members(&members));
+    }
+    let document = Document::read(alloc, line, &mut tools.scratch)?;
+    row_in(alloc, &tools.place, &RowDocument::Value(&document))
+}
+
+#[inline(never)]
+fn read_hall_row(
+    alloc: Global,
+    header: FileHeader,
+    tools: &mut LineTools,
+    line: &[u8],
+) -> Result<HallRow, Stop>
+    requires { length line.now ≤ longest_line }
+    ensures { LineShowsBy (hall_row_in header) line.now result }
+{
+    let mut room = [None; NAMES];
+    if let Some(members) = RowMembers::read(line, &mut room) {
+        return hall_row_in(alloc, &tools.place, header, &RowDocument::Members(&members));
+    }
+    let document = Document::read(alloc, line, &mut tools.scratch)?;
+    hall_row_in(alloc, &tools.place, header, &RowDocument::Value(&document))
 }
 
 impl LineItem for LineRow {
@@ -52,17 +79,16 @@ impl LineItem for LineRow {
 
     ghost meaning = { λ header. row_in };
 
-    fn written_on(
+    fn read(
         alloc: Global,
         _header: (),
         tools: &mut LineTools,
         line: &[u8],
-    ) -> Result<Option<LineRow>, Memory> {
-        written_row(alloc, &tools.place, &mut tools.seen, line)
-    }
-
-    fn item_in(alloc: Global, _header: (), document: &Document<'_>) -> Result<LineRow, Stop> {
-        row_in(alloc, document)
+    ) -> Result<LineRow, Stop> {
+        if let Some(row) = written_row(&tools.place, line)? {
+            return Ok(row);
+        }
+        read_row(alloc, tools, line)
     }
 }
 
@@ -71,21 +97,16 @@ impl LineItem for HallRow {
 
     ghost meaning = { hall_row_in };
 
-    fn written_on(
+    fn read(
         alloc: Global,
         header: FileHeader,
         tools: &mut LineTools,
         line: &[u8],
-    ) -> Result<Option<HallRow>, Memory> {
-        written_hall_row(alloc, header, &tools.place, &mut tools.seen, line)
-    }
-
-    fn item_in(
-        alloc: Global,
-        header: FileHeader,
-        document: &Document<'_>,
     ) -> Result<HallRow, Stop> {
-        hall_row_in(alloc, header, document)
+        if let Some(row) = written_hall_row(&header, &tools.place, line)? {
+            return Ok(row);
+        }
+        read_hall_row(alloc, header, tools, line)
     }
 }
 
@@ -94,16 +115,16 @@ impl LineItem for OrderPiece {
 
     ghost meaning = { λ header. piece_in };
 
-    fn written_on(
+    fn read(
         alloc: Global,
         _header: (),
         tools: &mut LineTools,
         line: &[u8],
-    ) -> Result<Option<OrderPiece>, Memory> {
-        written_piece(alloc, &tools.place, &mut tools.text, line)
-    }
-
-    fn item_in(alloc: Global, _header: (), document: &Document<'_>) -> Result<OrderPiece, Stop> {
-        piece_in(alloc, document)
+    ) -> Result<OrderPiece, Stop> {
+        if let Some(piece) = written_piece(alloc, &tools.place, &mut tools.text, line)? {
+            return Ok(piece);
+        }
+        let document = Document::read(alloc, line, &mut tools.scratch)?;
+        piece_in(alloc, &tools.place, &document)
     }
 }

@@ -1,38 +1,37 @@
 //! Rows as lines say them.
-ghost use Rattle.std.specs.Prelude.{◌≡◌};
+ghost use Rattle.std.specs.Prelude.{◌≡◌, true, IfOk, IfSome, IsUtf8};
+ghost use Rattle.tag.specs.Names.{is_key, is_value};
 ghost use Rattle.recorder.specs.declared.row.Row.{Row};
+ghost use Rattle.file_format.specs.LineRows.{AreLawful, HaveValue, action_said, returned_said, row_with};
 
-use crate::line_key::LineKey;
+use crate::line_texts::{LinePart, LinePlace, LineText, LineTexts};
+use std::alloc::Global;
 use std::marker::Model;
-use tag::{Action, ClientId, OpId, Returned, Tag};
+use tag::{ClientId, Memory, OpId, Tag};
 
-/// What a row's line says.
-#[derive(Debug, Drop)]
-pub(crate) enum SaidRow {
-    /// A client begins a call on a key.
-    Invoke {
-        op: OpId,
-        client: ClientId,
-        key: LineKey,
-        action: Action,
-    },
+/// What a row's line says beside its texts.
+#[derive(Clone, Copy, Debug)]
+pub(crate) enum RowKind {
+    /// A client begins to read a key.
+    Read { op: OpId, client: ClientId },
+    /// A client begins to write a value to a key.
+    Write { op: OpId, client: ClientId },
     /// A call's tag is fixed.
-    Note {
-        op: OpId,
-        tag: Tag,
-    },
-    /// A call is answered.
-    Respond {
-        op: OpId,
-        returned: Returned,
-    },
+    Note { op: OpId, tag: Tag },
+    /// A write is done.
+    Done { op: OpId },
+    /// A read finds no value.
+    Absent { op: OpId },
+    /// A read finds a value.
+    Answer { op: OpId },
 }
 
-/// A row as its line says it. Its key is the line's (`LineKey`); what is kept of it is a row whose
-/// key's text is made once.
+/// A row as its line says it. Its key and its value are parts of the bytes that the line is of; what is kept
+/// of it is a row whose texts are copied once.
 #[derive(Debug, Drop)]
 pub struct LineRow {
-    pub(crate) said: SaidRow,
+    pub(crate) kind: RowKind,
+    pub(crate) texts: LineTexts,
 }
 
 impl Model for LineRow {
@@ -40,38 +39,100 @@ impl Model for LineRow {
 
     ghost Value = { Row };
 
-    ghost use Rattle.file_format.specs.LineRows.{row_said};
+    ghost use Rattle.file_format.specs.LineRows.{row_there, IsRowThere};
 
-    ghost view = { λ r. row_said r.said };
+    ghost view = { row_there };
+
+    ghost invariant = { IsRowThere };
 }
 
 impl LineRow {
-    pub(crate) fn invoke(op: OpId, client: ClientId, key: LineKey, action: Action) -> LineRow
-        ensures { result ≡ Row.Invoke op client key action }
+    /// The row of that kind, whose line stands there.
+    fn new(
+        alloc: Global,
+        place: &LinePlace,
+        kind: RowKind,
+        key: LineText<'_>,
+        value: LineText<'_>,
+    ) -> Result<LineRow, Memory>
+        requires { AreLawful kind key.text.now value.text.now }
+        ensures { IfOk result (λ row. row ≡ row_with kind key.entry.text.now value.entry.text.now) }
     {
-        LineRow {
-            said: SaidRow::Invoke {
-                op,
-                client,
-                key,
-                action,
-            },
+        let texts = LineTexts::new(alloc, place, key, value)?;
+        Ok(LineRow { kind, texts })
+    }
+
+    /// The row of that kind, whose line of so many bytes stands there and has those parts. `None` says nothing.
+    pub(crate) fn found(
+        place: &LinePlace,
+        length: usize,
+        kind: RowKind,
+        key: LinePart<'_>,
+        value: LinePart<'_>,
+    ) -> Result<Option<LineRow>, Memory>
+        requires lawful { AreLawful kind key.text.now value.text.now }
+        requires key { IsUtf8 key.text.now }
+        requires value { IsUtf8 value.text.now }
+        ensures { IfOk result (λ found. IfSome found
+            (λ row. row ≡ row_with kind key.entry.text.now value.entry.text.now)) }
+    {
+        match place.parts(length, key, value)? {
+            Some(texts) => Ok(Some(LineRow { kind, texts })),
+            None => Ok(None),
         }
     }
 
-    pub(crate) fn note(op: OpId, tag: Tag) -> LineRow
-        ensures { result ≡ Row.Note op tag }
+    /// A client begins a call on the key: a write of that value, or a read.
+    pub(crate) fn invoke(
+        alloc: Global,
+        place: &LinePlace,
+        op: OpId,
+        client: ClientId,
+        key: LineText<'_>,
+        written: Option<LineText<'_>>,
+    ) -> Result<LineRow, Memory>
+        requires key { is_key key.text.now ≡ true }
+        requires value { IfSome written (λ value. is_value value.text.now ≡ true) }
+        ensures { IfOk result (λ row. row
+            ≡ Row.Invoke op client key.entry.text.now (action_said written.entry)) }
     {
-        LineRow {
-            said: SaidRow::Note { op, tag },
+        match written {
+            None => {
+                let kind = RowKind::Read { op, client };
+                LineRow::new(alloc, place, kind, key, LineText::none())
+            }
+            Some(value) => LineRow::new(alloc, place, RowKind::Write { op, client }, key, value),
         }
     }
 
-    pub(crate) fn respond(op: OpId, returned: Returned) -> LineRow
-        ensures { result ≡ Row.Respond op returned }
+    /// A call's tag is fixed.
+    pub(crate) fn note(
+        alloc: Global,
+        place: &LinePlace,
+        op: OpId,
+        tag: Tag,
+    ) -> Result<LineRow, Memory>
+        ensures { IfOk result (λ row. row ≡ Row.Note op tag) }
     {
-        LineRow {
-            said: SaidRow::Respond { op, returned },
+        let none = LineText::none();
+        LineRow::new(alloc, place, RowKind::Note { op, tag }, none, none)
+    }
+
+    /// A call is answered.
+    pub(crate) fn respond(
+        alloc: Global,
+        place: &LinePlace,
+        op: OpId,
+        answered: Option<Option<LineText<'_>>>,
+    ) -> Result<LineRow, Memory>
+        requires { HaveValue answered }
+        ensures { IfOk result (λ row. row ≡ Row.Respond op (returned_said answered.entry)) }
+    {
+        let none = LineText::none();
+        match answered {
+            None => LineRow::new(alloc, place, RowKind::Done { op }, none, none),
+            Some(None) => LineRow::new(alloc, place, RowKind::Absent { op }, none, none),
+            Some(Some(value)) => LineRow::new(alloc, place, RowKind::Answer { op }, none, value),
         }
     }
 }

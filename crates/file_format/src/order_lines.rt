@@ -8,7 +8,9 @@ ghost use Rattle.file_format.specs.OrderLines.{calls_of, piece_in};
 use crate::LineFault;
 use crate::document::Document;
 use crate::fault::Stop;
+use crate::line_texts::LinePlace;
 use crate::order_piece::OrderPiece;
+use crate::ranges::key_of;
 use recorder::Order;
 use std::alloc::Global;
 use tag::OpId;
@@ -33,14 +35,18 @@ fn calls_of(alloc: Global, numbers: &[u64]) -> Result<Order, Stop>
     Ok(order)
 }
 
-/// The key and the piece of its order that the value says.
+/// The key and the piece of its order that the value says, whose line stands there.
 #[tactic(auto, unfolding(crate::specs::OrderLines::piece_in))]
-pub(crate) fn piece_in(alloc: Global, document: &Document<'_>) -> Result<OrderPiece, Stop>
+pub(crate) fn piece_in(
+    alloc: Global,
+    place: &LinePlace,
+    document: &Document<'_>,
+) -> Result<OrderPiece, Stop>
     ensures { Gives (λ piece. piece) result (piece_in (data_in document.now)) }
 {
     let text = document.needed_text("key")?;
     let numbers = document.needed_numbers(alloc, "order")?;
-    let key = document.key(alloc, text)?;
+    let key = key_of(text)?;
     let order = calls_of(alloc, numbers.as_slice())?;
-    Ok(OrderPiece { key, order })
+    Ok(OrderPiece::new(alloc, place, key, order)?)
 }

@@ -64,14 +64,14 @@ fn append(order: &mut Order, calls: &[OpId]) -> Result<(), Memory>
 pub fn join(orders: &mut JoinedOrders, piece: OrderPiece) -> Result<(), Memory>
     ensures { OnOk result (Joins orders.old piece orders.new) }
 {
-    let OrderPiece { key, order } = piece;
-    if let Some(slot) = orders.places.find_text(key.as_str()) {
-        return append(&mut orders.list[slot].order, order.as_slice());
-    }
+    let OrderPiece { texts, order } = piece;
+    let key = texts.to_key(*orders.list.allocator())?;
     // Whatever can be refused comes first, so that each key keeps its place.
-    let key = key.to_key(*orders.list.allocator())?;
     orders.list.reserve(1)?;
-    orders.places.number(&key)?;
+    let place = orders.places.number(&key)?;
+    if place < orders.list.len() {
+        return append(&mut orders.list[place].order, order.as_slice());
+    }
     orders.list.push(KeyOrder { key, order })?;
     Ok(())
 }

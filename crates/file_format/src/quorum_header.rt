@@ -82,7 +82,7 @@ pub(crate) fn file_header_in(alloc: Global, document: &Document<'_>) -> Result<F
     ensures { Gives (λ header. header) result (file_header_in (data_in document.now)) }
 {
     match document.text("abd") {
-        Some(abd) if abd == "history" => {}
+        Some(abd) if abd.text == "history" => {}
         _ => return Err(Stop::Fault(LineFault::NoHeader)),
     }
     match document.number("version") {

@@ -1,12 +1,13 @@
 //! Numbers and texts in their ranges.
-ghost use Rattle.std.specs.Prelude.{◌≡◌};
+ghost use Rattle.std.specs.Prelude.{◌≡◌, true, IfOk};
+ghost use Rattle.tag.specs.Names.{is_key, is_value};
 ghost use Rattle.counted_devices.specs.Answers.{Gives};
-ghost use Rattle.file_format.specs.Members.{op_of, client_of, value_of, tag_of};
+ghost use Rattle.file_format.specs.Members.{op_of, client_of, key_of, value_of, tag_of};
 
 use crate::LineFault;
 use crate::fault::Stop;
-use std::alloc::Global;
-use tag::{ClientId, NameError, OpId, Tag, Value};
+use crate::line_texts::LineText;
+use tag::{ClientId, OpId, Tag, is_key};
 
 pub(crate) fn op_of(call: u64) -> Result<OpId, Stop>
     ensures { Gives (λ op. op) result (op_of call) }
@@ -30,13 +31,25 @@ pub(crate) fn client_of(client: u64) -> Result<ClientId, Stop>
     }
 }
 
-pub(crate) fn value_of(alloc: Global, text: &str) -> Result<Value, Stop>
-    ensures { Gives (λ value. value) result (value_of text.now) }
+pub(crate) fn key_of(text: LineText<'_>) -> Result<LineText<'_>, Stop>
+    ensures given { Gives (λ key. key.text.now) result (key_of text.entry.text.now) }
+    ensures lawful { IfOk result (λ key. is_key key.text.now ≡ true) }
 {
-    match Value::new(alloc, text) {
-        Ok(value) => Ok(value),
-        Err(NameError::BadValue) => Err(Stop::Fault(LineFault::Range)),
-        Err(_) => Err(Stop::Memory),
+    if is_key(text.text.as_bytes()) {
+        Ok(text)
+    } else {
+        Err(Stop::Fault(LineFault::Range))
+    }
+}
+
+pub(crate) fn value_of(text: LineText<'_>) -> Result<LineText<'_>, Stop>
+    ensures given { Gives (λ value. value.text.now) result (value_of text.entry.text.now) }
+    ensures lawful { IfOk result (λ value. is_value value.text.now ≡ true) }
+{
+    if text.text.len() <= 256 {
+        Ok(text)
+    } else {
+        Err(Stop::Fault(LineFault::Range))
     }
 }
 

@@ -1,133 +1,169 @@
 //! Rows from JSON values.
-ghost use Rattle.std.specs.Prelude.{◌≡◌, codes, Some};
+ghost use Rattle.std.specs.Prelude.{◌≡◌, codes, true, Some, IfOk, IfSome};
 ghost use Rattle.serde_json.specs.Find.{get};
-ghost use Rattle.file_format.specs.Documents.{data_in};
+ghost use Rattle.tag.specs.Names.{is_value};
+ghost use Rattle.file_format.specs.Documents.{row_data};
+ghost use Rattle.file_format.specs.LineRows.{HaveValue, action_said, returned_said};
 ghost use Rattle.counted_devices.specs.Answers.{Gives};
 ghost use Rattle.file_format.specs.Rows.{invocation_of, written_in, action_of, invoke_in, note_in};
 ghost use Rattle.file_format.specs.Rows.{answer_of, returned_of, respond_in, row_of, row_in};
 
 use crate::LineFault;
-use crate::document::{Document, Member};
+use crate::document::Member;
 use crate::fault::Stop;
 use crate::line_row::LineRow;
-use crate::ranges::{client_of, op_of, tag_of, value_of};
+use crate::line_texts::{LinePlace, LineText};
+use crate::ranges::{client_of, key_of, op_of, tag_of, value_of};
+use crate::row_document::RowDocument;
+use row_members::Name;
 use std::alloc::Global;
-use tag::{Action, Returned};
 
 #[tactic(auto, unfolding(crate::specs::Rows::invocation_of))]
 fn invocation_of(
     alloc: Global,
-    document: &Document<'_>,
+    place: &LinePlace,
     call: u64,
     client: u64,
-    key: &str,
-    action: Action,
+    key: LineText<'_>,
+    written: Option<LineText<'_>>,
 ) -> Result<LineRow, Stop>
-    ensures { Gives (λ row. row) result (invocation_of call client key.now action) }
+    requires { IfSome written (λ value. is_value value.text.now ≡ true) }
+    ensures { Gives (λ row. row) result
+        (invocation_of call client key.entry.text.now (action_said written.entry)) }
 {
     let op = op_of(call)?;
     let client = client_of(client)?;
-    let key = document.key(alloc, key)?;
-    Ok(LineRow::invoke(op, client, key, action))
+    let key = key_of(key)?;
+    Ok(LineRow::invoke(alloc, place, op, client, key, written)?)
 }
 
 #[tactic(auto, unfolding(crate::specs::Rows::written_in))]
-fn written_in(alloc: Global, document: &Document<'_>) -> Result<Action, Stop>
-    ensures { Gives (λ action. action) result (written_in (data_in document.now)) }
+fn written_in<'d>(document: &'d RowDocument<'_, '_>) -> Result<Option<LineText<'d>>, Stop>
+    ensures given { Gives action_said result (written_in (row_data document.now)) }
+    ensures lawful { IfOk result (λ written. IfSome written
+        (λ value. is_value value.text.now ≡ true)) }
 {
-    let text = document.needed_text("value")?;
-    let value = value_of(alloc, text)?;
-    Ok(Action::Write(value))
+    let text = document.needed_text(Name::Value)?;
+    let value = value_of(text)?;
+    Ok(Some(value))
 }
 
 #[tactic(auto, unfolding(crate::specs::Rows::action_of))]
-fn action_of(alloc: Global, action: &str, document: &Document<'_>) -> Result<Action, Stop>
-    ensures { Gives (λ action. action) result (action_of action.now (data_in document.now)) }
+fn action_of<'d>(
+    action: &str,
+    document: &'d RowDocument<'_, '_>,
+) -> Result<Option<LineText<'d>>, Stop>
+    ensures given { Gives action_said result (action_of action.now (row_data document.now)) }
+    ensures lawful { IfOk result (λ written. IfSome written
+        (λ value. is_value value.text.now ≡ true)) }
 {
     if action == "read" {
-        Ok(Action::Read)
+        Ok(None)
     } else if action == "write" {
-        written_in(alloc, document)
+        written_in(document)
     } else {
         Err(Stop::Fault(LineFault::Range))
     }
 }
 
 #[tactic(auto, unfolding(crate::specs::Rows::invoke_in))]
-fn invoke_in(alloc: Global, document: &Document<'_>) -> Result<LineRow, Stop>
-    ensures { Gives (λ row. row) result (invoke_in (data_in document.now)) }
+fn invoke_in(
+    alloc: Global,
+    place: &LinePlace,
+    document: &RowDocument<'_, '_>,
+) -> Result<LineRow, Stop>
+    ensures { Gives (λ row. row) result (invoke_in (row_data document.now)) }
 {
-    let call = document.needed_number("call")?;
-    let client = document.needed_number("client")?;
-    let key = document.needed_text("key")?;
-    let name = document.needed_text("do")?;
-    let action = action_of(alloc, name, document)?;
-    invocation_of(alloc, document, call, client, key, action)
+    let call = document.needed_number(Name::Call)?;
+    let client = document.needed_number(Name::Client)?;
+    let key = document.needed_text(Name::Key)?;
+    let name = document.needed_text(Name::Do)?;
+    let written = action_of(name.text, document)?;
+    invocation_of(alloc, place, call, client, key, written)
 }
 
 #[tactic(auto, unfolding(crate::specs::Rows::note_in))]
-fn note_in(document: &Document<'_>) -> Result<LineRow, Stop>
-    ensures { Gives (λ row. row) result (note_in (data_in document.now)) }
+fn note_in(
+    alloc: Global,
+    place: &LinePlace,
+    document: &RowDocument<'_, '_>,
+) -> Result<LineRow, Stop>
+    ensures { Gives (λ row. row) result (note_in (row_data document.now)) }
 {
-    let call = document.needed_number("call")?;
-    let number = document.needed_number("number")?;
-    let writer = document.needed_number("writer")?;
+    let call = document.needed_number(Name::Call)?;
+    let number = document.needed_number(Name::Number)?;
+    let writer = document.needed_number(Name::Writer)?;
     let op = op_of(call)?;
     let tag = tag_of(number, writer)?;
-    Ok(LineRow::note(op, tag))
+    Ok(LineRow::note(alloc, place, op, tag)?)
 }
 
 #[tactic(auto, unfolding(crate::specs::Rows::answer_of))]
-fn answer_of(alloc: Global, text: &str) -> Result<Returned, Stop>
-    ensures { Gives (λ returned. returned) result (answer_of (Some text.now)) }
+fn answer_of(text: LineText<'_>) -> Result<Option<Option<LineText<'_>>>, Stop>
+    ensures given { Gives returned_said result (answer_of (Some text.entry.text.now)) }
+    ensures lawful { IfOk result HaveValue }
 {
-    let value = value_of(alloc, text)?;
-    Ok(Returned::Value(Some(value)))
+    let value = value_of(text)?;
+    Ok(Some(Some(value)))
 }
 
 #[tactic(auto, unfolding(crate::specs::Rows::returned_of, crate::specs::Rows::answer_of))]
-fn returned_in(alloc: Global, document: &Document<'_>) -> Result<Returned, Stop>
-    ensures { Gives (λ returned. returned) result
-        (returned_of (get (codes "value") (data_in document.now))) }
+fn returned_in<'d>(document: &'d RowDocument<'_, '_>) -> Result<Option<Option<LineText<'d>>>, Stop>
+    ensures given { Gives returned_said result
+        (returned_of (get (codes "value") (row_data document.now))) }
+    ensures lawful { IfOk result HaveValue }
 {
-    match document.member("value") {
-        Member::Missing => Ok(Returned::Written),
-        Member::Null => Ok(Returned::Value(None)),
-        Member::Text(text) => answer_of(alloc, text),
+    match document.member(Name::Value) {
+        Member::Missing => Ok(None),
+        Member::Null => Ok(Some(None)),
+        Member::Text(text) => answer_of(text),
         Member::Other => Err(Stop::Fault(LineFault::Member)),
     }
 }
 
 #[tactic(auto, unfolding(crate::specs::Rows::respond_in))]
-fn respond_in(alloc: Global, document: &Document<'_>) -> Result<LineRow, Stop>
-    ensures { Gives (λ row. row) result (respond_in (data_in document.now)) }
+fn respond_in(
+    alloc: Global,
+    place: &LinePlace,
+    document: &RowDocument<'_, '_>,
+) -> Result<LineRow, Stop>
+    ensures { Gives (λ row. row) result (respond_in (row_data document.now)) }
 {
-    let call = document.needed_number("call")?;
-    let returned = returned_in(alloc, document)?;
+    let call = document.needed_number(Name::Call)?;
+    let answered = returned_in(document)?;
     let op = op_of(call)?;
-    Ok(LineRow::respond(op, returned))
+    Ok(LineRow::respond(alloc, place, op, answered)?)
 }
 
 #[tactic(auto, unfolding(crate::specs::Rows::row_of))]
-fn row_of(alloc: Global, kind: &str, document: &Document<'_>) -> Result<LineRow, Stop>
-    ensures { Gives (λ row. row) result (row_of kind.now (data_in document.now)) }
+fn row_of(
+    alloc: Global,
+    place: &LinePlace,
+    kind: &str,
+    document: &RowDocument<'_, '_>,
+) -> Result<LineRow, Stop>
+    ensures { Gives (λ row. row) result (row_of kind.now (row_data document.now)) }
 {
     if kind == "invoke" {
-        invoke_in(alloc, document)
+        invoke_in(alloc, place, document)
     } else if kind == "note" {
-        note_in(document)
+        note_in(alloc, place, document)
     } else if kind == "respond" {
-        respond_in(alloc, document)
+        respond_in(alloc, place, document)
     } else {
         Err(Stop::Fault(LineFault::Range))
     }
 }
 
-/// The row that the value says.
+/// The row that the value says, whose line stands there.
 #[tactic(auto, unfolding(crate::specs::Rows::row_in))]
-pub(crate) fn row_in(alloc: Global, document: &Document<'_>) -> Result<LineRow, Stop>
-    ensures { Gives (λ row. row) result (row_in (data_in document.now)) }
+pub(crate) fn row_in(
+    alloc: Global,
+    place: &LinePlace,
+    document: &RowDocument<'_, '_>,
+) -> Result<LineRow, Stop>
+    ensures { Gives (λ row. row) result (row_in (row_data document.now)) }
 {
-    let kind = document.needed_text("row")?;
-    row_of(alloc, kind, document)
+    let kind = document.needed_text(Name::Row)?;
+    row_of(alloc, place, kind.text, document)
 }

@@ -6,8 +6,8 @@ use std::sync::RwLock;
 /// How many sets of tools are kept: as many threads judge lines side by side without making others.
 const SETS: usize = 32;
 
-/// Sets of tools, kept for a whole file: a thread takes one that no other has, and leaves it with
-/// the values that it saw.
+/// Sets of tools, kept for a whole file: a thread takes one that no other has, and leaves it for
+/// another.
 #[derive(Drop)]
 pub struct ToolSets {
     pub(crate) sets: [RwLock<Option<LineTools>>; SETS],

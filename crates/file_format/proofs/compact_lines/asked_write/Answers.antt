@@ -1,13 +1,31 @@
-use Rattle.std.proofs.Common.{ℕ, List, ◌++◌, codes, ap, ◌∙◌}
+use Rattle.std.proofs.Common.{ℕ, List, ◌++◌, codes, ap, ◌∙◌, arith}
 use Rattle.json.specs.Print.{quoted}
+use Rattle.file_format.specs.RowTexts.{after_client}
 use Rattle.file_format.specs.Texts.{hall_text}
+use Rattle.file_format.proofs.WrittenLines.{key_utf8, short_key}
 use Rattle.file_format.proofs.compact_lines.asked_write.Goals as goal
 
-pub returns-in-Some-2 : goal.returns-in-Some-2
-returns-in-Some-2 c =
-    let key = c.in-Some.key in
-    let members = rw c.in-Some.is at c.in_ok-hall.ensures in
-    let valued = rw c.in-Some-2.is at c.in_ok-value.ensures in
-    let value = c.in-Some-behind.ensures ∙ ap (λ (s : List ℕ). codes ",\"row\":\"invoke\",\"value\":" ++ s) valued in
-    ap (λ (s : List ℕ). codes ",\"do\":\"write\"" ++ s)
-    (members ∙ ap (λ (s : List ℕ). hall_text c.in-Some.hall ++ (codes ",\"key\":" ++ (quoted key ++ s))) value)
+pub returns : goal.returns
+returns c =
+    let hall = c.in_ok-hall.hall in
+    let key = c.in_ok-hall.key.text.now in
+    let named = c.in_ok-hall.ensures.lawful in
+    let client = c.get-name.ensures in
+    let valued = c.in_ok-value.ensures.lawful in
+    let value = c.in_ok-rest.ensures
+    ∙ ap (λ (s : List ℕ). codes ",\"row\":\"invoke\",\"value\":" ++ s) c.in_ok-value.ensures.text in
+    let members = c.in_ok-hall.ensures.text
+    ∙ ap (λ (s : List ℕ). hall_text hall ++ (codes ",\"key\":" ++ (quoted key ++ s))) value in
+    record {
+      text = ap (λ (s : List ℕ). after_client c.args.op c.args.client (codes ",\"do\":\"write\"" ++ s)) members;
+      range = record {
+        call = c.call_in_range.ensures;
+        least = omega (arith, client.name, client.least);
+        most = omega (arith, client.name, client.most);
+        named = named;
+        asks = valued;
+      };
+      lawful = record { key = named; short = short_key key named; value = valued.short };
+      key = key_utf8 key named;
+      value = valued.text;
+    }

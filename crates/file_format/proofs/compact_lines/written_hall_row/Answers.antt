@@ -1,21 +1,25 @@
-use Rattle.std.proofs.Common.{ℕ, ◌≡◌, Option, ap, sym, ◌∙◌, arith}
+use Rattle.std.proofs.Common.{ℕ, ◌≡◌, Option, ap, sym, ◌∙◌, subst, arith}
+use Rattle.recorder.specs.declared.row.Row.{Row}
+use Rattle.file_format.specs.CanonicalLines.{IsHallRowLine}
 use Rattle.file_format.specs.FileHeaders.{written_hall}
-use Rattle.file_format.specs.LineRows.{row_said}
 use Rattle.file_format.specs.RowTexts.{row_bytes}
+use Rattle.file_format.specs.SaidRows.{IsSaidBy, row_said}
 use Rattle.file_format.proofs.TakenLines.{row_line}
 use Rattle.file_format.proofs.compact_lines.written_hall_row.Goals as goal
 
-pub returns : goal.returns
-returns c =
+pub returns-in-Some-2 : goal.returns-in-Some-2
+returns-in-Some-2 c =
     let line = c.args.line.now in
-    let found = c.in-Some.field-0 in
+    let header = c.args.header.now in
+    let said = c.in-Some.said in
     let hall = c.unwrap_or-hall.result in
-    let text : line ≡ row_bytes found.hall (row_said found.said) = rw c.in-Some.is at c.in_ok-member.ensures in
-    let same : written_hall c.args.header hall ≡ found.hall = sym c.place.ensures ∙ c.is_same.ensures c.if-not-is_same.false in
-    record {
-      text = row_line line (written_hall c.args.header hall) (row_said found.said) (text
-          ∙ ap (λ (hall : Option ℕ). row_bytes hall (row_said found.said)) (sym same));
+    let by_line : IsSaidBy line said = rw c.in-Some.is at c.said_row.ensures in
+    let same : written_hall header hall ≡ said.hall = sym c.place.ensures ∙ c.is_same.ensures c.if-not-is_same.false in
+    let row : c.in-Some-2.row ≡ row_said said = rw c.in-Some-2.is at c.in_ok-row.ensures in
+    subst (λ (r : Row). IsHallRowLine header line (record { hall = hall; row = r })) (sym row) (record {
+      text = row_line line (written_hall header hall) (row_said said) (by_line.text
+          ∙ ap (λ (hall : Option ℕ). row_bytes hall (row_said said)) (sym same));
       hall = omega (arith, c.if-hall-halls.false, c.halls.ensures.count);
       few = omega (arith, c.if-hall-halls.false, c.halls.ensures.most);
-      range = c.row_in_range.ensures;
-    }
+      range = by_line.range;
+    })

@@ -1,15 +1,20 @@
-use Rattle.std.proofs.Common.{ℕ, ◌≡◌, Option, ap, ◌∙◌}
-use Rattle.file_format.specs.LineRows.{row_said}
+use Rattle.std.proofs.Common.{ℕ, ◌≡◌, Option, None, ap, sym, ◌∙◌, subst}
+use Rattle.recorder.specs.declared.row.Row.{Row}
+use Rattle.file_format.specs.CanonicalLines.{IsRowLine}
 use Rattle.file_format.specs.RowTexts.{row_bytes}
-use Rattle.file_format.proofs.TakenLines.{row_line}
+use Rattle.file_format.specs.SaidRows.{IsSaidBy, row_said}
+use Rattle.file_format.proofs.TakenLines.{row_line, found_shows}
 use Rattle.file_format.proofs.compact_lines.written_row.Goals as goal
 
-pub returns-in-None : goal.returns-in-None
-returns-in-None c =
+pub returns : goal.returns
+returns c =
     let line = c.args.line.now in
-    let found = c.in-Some.field-0 in
-    let text : line ≡ row_bytes found.hall (row_said found.said) = rw c.in-Some.is at c.in_ok-hall.ensures in
-    record {
-      text = row_line line _ (row_said found.said) (text ∙ ap (λ (hall : Option ℕ). row_bytes hall (row_said found.said)) c.in-None.is);
-      range = c.row_in_range.ensures;
-    }
+    let said = c.in-Some.said in
+    let by_line : IsSaidBy line said = rw c.in-Some.is at c.said_row.ensures in
+    let alone : said.hall ≡ None = c.is_same.ensures c.if-not-is_same.false in
+    let one : IsRowLine line (row_said said) = record {
+      text = row_line line None (row_said said) (by_line.text ∙ ap (λ (hall : Option ℕ). row_bytes hall (row_said said)) alone);
+      range = by_line.range;
+    } in
+    found_shows (λ (row : Row). row ≡ row_said said) (IsRowLine line) c.found.result
+    (λ row same. subst (λ (r : Row). IsRowLine line r) (sym same) one) c.found.ensures

@@ -7,5 +7,5 @@ returns-then-is_busy c = search rules
 pub returns-in-Ok : goal.returns-in-Ok
 returns-in-Ok c = search rules
 
-pub returns : goal.returns
-returns c = search rules
+pub returns-in-Err : goal.returns-in-Err
+returns-in-Err c = search rules

@@ -1,5 +1,5 @@
 use Rattle.std.proofs.Common.{rules}
 use Rattle.file_format.proofs.hall_histories.falls_to.Goals as goal
 
-pub returns-in-Invoke : goal.returns-in-Invoke
-returns-in-Invoke c = search rules
+pub returns-in-Read : goal.returns-in-Read
+returns-in-Read c = search rules

@@ -1,0 +1,164 @@
+//! What the bytes of a line begin with, as this crate writes it, and what is after it.
+ghost use Rattle.std.specs.Prelude.{◌≡◌, ◌<◌, ◌≤◌, ◌++◌, codes, decimal, length, slice_index, true};
+ghost use Rattle.std.specs.Prelude.{IfSome, IsTrue, IsUtf8};
+ghost use Rattle.json.specs.Print.{quoted};
+ghost use Rattle.tag.specs.Names.{is_key};
+ghost use Rattle.file_format.specs.Ranges.{IsValue};
+ghost use Rattle.file_format.specs.Texts.{hall_text};
+
+use crate::line_texts::LinePart;
+use crate::texts::plain_length;
+use std::str;
+use tag::is_key;
+
+/// The most digits of a number of 32 bits.
+const MOST_DIGITS: usize = 10;
+
+/// The most bytes of a value.
+const LONGEST_VALUE: usize = 256;
+
+/// Whether the array has these bytes.
+#[inline(always)]
+fn has_bytes<const N: usize>(array: &[u8; N], bytes: &[u8; N]) -> bool
+    ensures { IsTrue result → array.now ≡ bytes.now }
+{
+    *array == *bytes
+}
+
+/// What is after that beginning of the bytes.
+#[inline(always)]
+pub(crate) fn behind<'a, const N: usize>(bytes: &'a [u8], beginning: &[u8; N]) -> Option<&'a [u8]>
+    ensures { IfSome result (λ rest. bytes.now ≡ beginning.now ++ rest.now) }
+{
+    let (first, rest) = bytes.split_first_chunk::<N>()?;
+    if !has_bytes(first, beginning) {
+        return None;
+    }
+    Some(rest)
+}
+
+/// Whether the bytes are that text.
+#[inline(always)]
+pub(crate) fn is_all<const N: usize>(bytes: &[u8], text: &[u8; N]) -> bool
+    ensures { IsTrue result → bytes.now ≡ text.now }
+{
+    match bytes.as_array::<N>() {
+        Some(array) => has_bytes(array, text),
+        None => false,
+    }
+}
+
+/// Whether so many digits at the front are as a number is written: some, and no zero before others.
+#[inline(always)]
+fn are_spelled(bytes: &[u8], count: usize) -> bool
+    requires { count ≤ length bytes.now }
+    ensures some { IsTrue result → 0 < count }
+    ensures alone { IsTrue result → slice_index bytes.now 0 ≡ 48 → count ≡ 1 }
+{
+    count == 1 || (count > 1 && bytes[0] != b'0')
+}
+
+/// The number of at most 32 bits that the bytes begin with, as it is written, and what is after
+/// it.
+#[inline(always)]
+pub(crate) fn first_number(bytes: &[u8]) -> Option<(u32, &[u8])>
+    ensures { IfSome result (λ found. bytes.now ≡ decimal found.0 ++ found.1.now) }
+{
+    let mut value: u64 = 0;
+    let mut count = 0;
+    while count < bytes.len().min(MOST_DIGITS) && bytes[count].is_ascii_digit() {
+        value = value * 10 + u64::from(bytes[count] - b'0');
+        count += 1;
+    }
+    if value > u64::from(u32::MAX) || !are_spelled(bytes, count) {
+        return None;
+    }
+    Some((value as u32, &bytes[count..]))
+}
+
+/// The text in quotation marks that the bytes begin with, where it has no escape, and what is
+/// after it.
+#[inline(always)]
+fn first_text(bytes: &[u8]) -> Option<(LinePart<'_>, &[u8])>
+    ensures { IfSome result (λ found. bytes.now ≡ quoted found.0.text.now ++ found.1.now) }
+{
+    let inside = behind(bytes, b"\"")?;
+    let end = plain_length(inside);
+    let rest = behind(&inside[end..], b"\"")?;
+    let text = LinePart {
+        text: &inside[..end],
+        behind: inside.len() - end,
+    };
+    Some((text, rest))
+}
+
+/// The number of the row's hall, where the bytes begin with it as a member, and what is after it.
+#[inline(always)]
+pub(crate) fn first_hall(bytes: &[u8]) -> Option<(Option<u8>, &[u8])>
+    ensures { IfSome result (λ found. bytes.now ≡ hall_text found.0 ++ found.1.now) }
+{
+    let Some(rest) = behind(bytes, b",\"hall\":") else {
+        return Some((None, bytes));
+    };
+    let (hall, rest) = first_number(rest)?;
+    if hall > 255 {
+        return None;
+    }
+    Some((Some(hall as u8), rest))
+}
+
+/// The key that the bytes begin with as a member, and what is after it.
+#[inline(always)]
+fn first_key(bytes: &[u8]) -> Option<(LinePart<'_>, &[u8])>
+    ensures text { IfSome result
+        (λ found. bytes.now ≡ codes ",\"key\":" ++ (quoted found.0.text.now ++ found.1.now)) }
+    ensures lawful { IfSome result (λ found. is_key found.0.text.now ≡ true) }
+{
+    let rest = behind(bytes, b",\"key\":")?;
+    let (key, rest) = first_text(rest)?;
+    if !is_key(key.text) {
+        return None;
+    }
+    Some((key, rest))
+}
+
+/// The hall, where it is a member, and the key that the bytes begin with, and what is after them.
+#[inline(always)]
+pub(crate) fn first_members(bytes: &[u8]) -> Option<(Option<u8>, LinePart<'_>, &[u8])>
+    ensures text { IfSome result (λ found. bytes.now
+        ≡ hall_text found.0 ++ (codes ",\"key\":" ++ (quoted found.1.text.now ++ found.2.now))) }
+    ensures lawful { IfSome result (λ found. is_key found.1.text.now ≡ true) }
+{
+    let (hall, rest) = first_hall(bytes)?;
+    let (key, rest) = first_key(rest)?;
+    Some((hall, key, rest))
+}
+
+/// Whether the bytes are a text.
+#[inline(always)]
+fn is_text(bytes: &[u8]) -> bool
+    ensures { IsTrue result → IsUtf8 bytes.now }
+{
+    bytes.is_ascii() || str::from_utf8(bytes).is_ok()
+}
+
+/// Whether the bytes are a value's text.
+#[inline(always)]
+fn is_value(bytes: &[u8]) -> bool
+    ensures { IsTrue result → IsValue bytes.now }
+{
+    bytes.len() <= LONGEST_VALUE && is_text(bytes)
+}
+
+/// The value in quotation marks that is all that the bytes have before a brace.
+#[inline(always)]
+pub(crate) fn last_value(bytes: &[u8]) -> Option<LinePart<'_>>
+    ensures text { IfSome result (λ value. bytes.now ≡ quoted value.text.now ++ codes "}") }
+    ensures lawful { IfSome result (λ value. IsValue value.text.now) }
+{
+    let (value, rest) = first_text(bytes)?;
+    if !is_all(rest, b"}") || !is_value(value.text) {
+        return None;
+    }
+    Some(value)
+}

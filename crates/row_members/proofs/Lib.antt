@@ -1,0 +1,7 @@
+mod Digits
+mod Pieces
+mod MemberKeys
+mod MemberValues
+mod Entries
+mod Objects
+mod Reading

@@ -1,0 +1,4 @@
+pub mod Names
+pub mod Values
+pub mod Scalars
+pub mod Scans
