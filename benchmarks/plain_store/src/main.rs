@@ -3,9 +3,13 @@
 //! its hall's lock for each step, and once more before a round that isn't a phase's first; a caller keeps a log of its calls. It asks no
 //! gate, and has no limits, so it refuses nothing.
 //!
-//!     plain_store CALLERS CALLS HALLS
+//! With `--whole` it then does what `abd run` does with the record: it orders each key's calls by their tags, checks the orders, writes the
+//! history of each hall on standard output, and counts all of that in the time.
+//!
+//!     plain_store [--whole] CALLERS CALLS HALLS
 use crossbeam_channel::{unbounded, Receiver, Sender};
 use std::collections::{BTreeMap, HashMap};
+use std::io::Write;
 use std::sync::Mutex;
 use std::thread;
 use std::time::Instant;
@@ -283,9 +287,109 @@ fn caller(halls: &[Mutex<Hall>], ways: &[Sender<Parcel>], client: u32, calls: u3
     answered
 }
 
+/// A call as the rows tell it.
+struct Recorded<'a> {
+    op: u32,
+    action: &'a Action,
+    invoked: usize,
+    tag: Option<Tag>,
+    response: Option<(usize, &'a Option<Option<String>>)>,
+}
+
+/// The calls of each key.
+fn parts(rows: &[Row]) -> BTreeMap<&str, Vec<Recorded<'_>>> {
+    let mut parts: BTreeMap<&str, Vec<Recorded<'_>>> = BTreeMap::new();
+    let mut places: Vec<(&str, usize)> = Vec::new();
+    for (at, row) in rows.iter().enumerate() {
+        match row {
+            Row::Invoke { op, key, action, .. } => {
+                let part = parts.entry(key).or_default();
+                places.push((key, part.len()));
+                part.push(Recorded { op: *op, action, invoked: at, tag: None, response: None });
+            }
+            Row::Note { op, tag } => {
+                let (key, place) = places[*op as usize];
+                parts.get_mut(key).expect("a part")[place].tag = Some(*tag);
+            }
+            Row::Respond { op, returned } => {
+                let (key, place) = places[*op as usize];
+                parts.get_mut(key).expect("a part")[place].response = Some((at, returned));
+            }
+        }
+    }
+    parts
+}
+
+/// Orders the calls by their tags, a write before the reads of its tag, and says whether that shows the key to be atomic.
+fn is_atomic(part: &mut Vec<Recorded<'_>>) -> bool {
+    part.retain(|call| call.tag.is_some() && (call.response.is_some() || matches!(call.action, Action::Write(_))));
+    part.sort_by_key(|call| (call.tag, matches!(call.action, Action::Read), call.invoked, call.op));
+    let mut current: Option<&String> = None;
+    let mut latest = 0;
+    for call in part.iter() {
+        let answer = match call.action {
+            Action::Write(value) => {
+                current = Some(value);
+                None
+            }
+            Action::Read => Some(current.cloned()),
+        };
+        if let Some((place, returned)) = call.response {
+            if place < latest || *returned != answer {
+                return false;
+            }
+        }
+        latest = latest.max(call.invoked);
+    }
+    true
+}
+
+/// Writes the rows as a history file has them.
+fn write_rows(out: &mut impl Write, rows: &[Row]) -> std::io::Result<()> {
+    writeln!(out, "{{\"abd\":\"history\",\"version\":1}}")?;
+    for row in rows {
+        match row {
+            Row::Invoke { op, client, key, action: Action::Read } => {
+                writeln!(out, "{{\"call\":{op},\"client\":{client},\"do\":\"read\",\"key\":\"{key}\",\"row\":\"invoke\"}}")?
+            }
+            Row::Invoke { op, client, key, action: Action::Write(value) } => writeln!(
+                out,
+                "{{\"call\":{op},\"client\":{client},\"do\":\"write\",\"key\":\"{key}\",\"row\":\"invoke\",\"value\":\"{value}\"}}"
+            )?,
+            Row::Note { op, tag } => {
+                writeln!(out, "{{\"call\":{op},\"number\":{},\"row\":\"note\",\"writer\":{}}}", tag.0, tag.1)?
+            }
+            Row::Respond { op, returned: None } => writeln!(out, "{{\"call\":{op},\"row\":\"respond\"}}")?,
+            Row::Respond { op, returned: Some(None) } => writeln!(out, "{{\"call\":{op},\"row\":\"respond\",\"value\":null}}")?,
+            Row::Respond { op, returned: Some(Some(value)) } => {
+                writeln!(out, "{{\"call\":{op},\"row\":\"respond\",\"value\":\"{value}\"}}")?
+            }
+        }
+    }
+    Ok(())
+}
+
+/// Checks the record of each hall and writes it; whether all keys are atomic.
+fn justify(halls: &[Mutex<Hall>]) -> std::io::Result<bool> {
+    let mut out = std::io::BufWriter::with_capacity(1 << 20, std::io::stdout().lock());
+    let mut all = true;
+    for hall in halls {
+        let hall = hall.lock().unwrap();
+        all &= parts(&hall.rows).values_mut().all(is_atomic);
+        write_rows(&mut out, &hall.rows)?;
+    }
+    out.flush()?;
+    Ok(all)
+}
+
 fn main() {
-    let numbers: Vec<u32> = std::env::args().skip(1).map(|word| word.parse().expect("a number")).collect();
-    let [callers, calls, count] = numbers[..] else { panic!("plain_store CALLERS CALLS HALLS") };
+    let mut words: Vec<String> = std::env::args().skip(1).collect();
+    let whole = words.first().is_some_and(|word| word == "--whole");
+    if whole {
+        words.remove(0);
+    }
+    let numbers: Vec<u32> = words.iter().map(|word| word.parse().expect("a number")).collect();
+    let [callers, calls, count] = numbers[..] else { panic!("plain_store [--whole] CALLERS CALLS HALLS") };
     let fresh = || Mutex::new(Hall { replicas: (0..REPLICAS).map(|_| BTreeMap::new()).collect(), ..Hall::default() });
     let halls: Vec<Mutex<Hall>> = (0..count).map(|_| fresh()).collect();
     let start = Instant::now();
@@ -306,7 +410,11 @@ fn main() {
         drop(ways);
         threads.into_iter().map(|thread| thread.join().unwrap()).sum()
     });
+    let atomic = !whole || justify(&halls).expect("standard output");
     let time = start.elapsed();
     let rows: usize = halls.iter().map(|hall| hall.lock().unwrap().rows.len()).sum();
-    println!("{answered} calls answered, {rows} rows, {:.0} calls a second", answered as f64 / time.as_secs_f64());
+    eprintln!("{answered} calls answered, {rows} rows, {:.0} calls a second", answered as f64 / time.as_secs_f64());
+    if !atomic {
+        std::process::exit(1);
+    }
 }
