@@ -1,5 +1,6 @@
 pub mod Spelling
 mod SaidRows
+mod SpelledNumbers
 pub mod Compact
 pub mod WrittenLines
 pub mod WrittenFiles

@@ -24,11 +24,9 @@ pub(crate) struct LinePart<'a> {
     pub(crate) behind: usize,
 }
 
-/// Where a line stands: in which bytes, and how many of them are before it. Texts that don't stand there
-/// are allocated.
+/// Where a line stands: in which bytes, and how many of them are before it.
 #[derive(Drop)]
 pub(crate) struct LinePlace {
-    alloc: Global,
     pub(crate) bytes: Arc<Vec<u8>>,
     pub(crate) start: usize,
 }
@@ -129,7 +127,6 @@ impl LinePlace {
     /// No line.
     pub(crate) fn new(alloc: Global) -> Result<LinePlace, Memory> {
         Ok(LinePlace {
-            alloc,
             bytes: shared(alloc, &[])?,
             start: 0,
         })
@@ -206,6 +203,7 @@ impl LinePlace {
 impl LineTexts {
     /// The texts of a line that stands there.
     pub(crate) fn new(
+        alloc: Global,
         place: &LinePlace,
         key: LineText<'_>,
         value: LineText<'_>,
@@ -215,7 +213,7 @@ impl LineTexts {
     {
         match place.found(key, value)? {
             Some(texts) => Ok(texts),
-            None => LineTexts::copied(place.alloc, key.text, value.text),
+            None => LineTexts::copied(alloc, key.text, value.text),
         }
     }
 

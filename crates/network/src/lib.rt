@@ -9,7 +9,6 @@ mod flights;
 mod in_flight;
 pub mod laws;
 mod messages;
-mod number_hash;
 mod pools;
 mod refusals;
 

@@ -1,32 +1,40 @@
 //! The keys that one worker checks.
 ghost use Rattle.std.specs.Prelude.{◌≡◌};
 
-use crate::checks::Checks;
 use crate::gate::CheckGate;
-use certificate_check::Verdict;
+use certificate_check::{Verdict, check_part};
+use recorder::Part;
 use std::alloc::Global;
 use std::thread::Promise;
-use tag::Memory;
+use tag::{Memory, OpId};
 
 /// The keys of one of several workers: those at its number, at its number and so many workers more,
 /// and so on. As a promise it says what the worker's list of verdicts is.
 #[derive(Clone, Copy)]
 pub struct Share<'a> {
-    pub checks: Checks<'a>,
+    pub parts: &'a [&'a Part<'a>],
+    pub orders: &'a [&'a [OpId]],
     pub worker: usize,
     pub workers: usize,
 }
 
 /// The share of that worker.
-pub(crate) fn share_of(checks: Checks<'_>, worker: usize, workers: usize) -> Share<'_>
+pub(crate) fn share_of<'a>(
+    parts: &'a [&'a Part<'a>],
+    orders: &'a [&'a [OpId]],
+    worker: usize,
+    workers: usize,
+) -> Share<'a>
     ensures { result ≡ record {
-      checks = checks.entry;
+      parts = parts.entry;
+      orders = orders.entry;
       worker = worker;
       workers = workers;
     } }
 {
     Share {
-        checks,
+        parts,
+        orders,
         worker,
         workers,
     }
@@ -50,9 +58,9 @@ impl<'a> Share<'a> {
     {
         let mut verdicts = Vec::new(alloc);
         let mut index = self.worker;
-        while index < self.checks.len() {
+        while index < self.parts.len() {
             gate.at(index);
-            verdicts.push(self.checks.check(alloc, index)?)?;
+            verdicts.push(check_part(alloc, self.parts[index], self.orders[index])?)?;
             index += self.workers;
         }
         Ok(verdicts)

@@ -1,6 +1,5 @@
 mod Digits
-pub mod PlainTexts
-pub mod Pieces
+mod Pieces
 mod MemberKeys
 mod MemberValues
 mod Entries
