@@ -6,6 +6,7 @@ ghost use Rattle.network.specs.Equality.{agree_below};
 ghost use Rattle.network.specs.Flights.{Flight, with_copies};
 
 use crate::Flight;
+use crate::number_hash::NumberHasher;
 use std::alloc::Global;
 use std::collections::HashMap;
 use std::marker::Model;
@@ -14,7 +15,7 @@ use tag::Memory;
 /// A map from numbers to flights, seen as a finite map.
 #[derive(Debug, Drop)]
 pub(crate) struct InFlight {
-    by_number: HashMap<u32, Flight>,
+    by_number: HashMap<u32, Flight, NumberHasher>,
 }
 
 impl Model for InFlight {
@@ -43,7 +44,7 @@ impl InFlight {
         ensures { result ≡ finite.empty }
     {
         InFlight {
-            by_number: HashMap::new(alloc),
+            by_number: HashMap::with_hasher(alloc, NumberHasher::new()),
         }
     }
 

@@ -9,6 +9,7 @@ mod flights;
 mod in_flight;
 pub mod laws;
 mod messages;
+mod number_hash;
 mod pools;
 mod refusals;
 

@@ -15,7 +15,7 @@ use Rattle.client_phases.specs.declared.outcomes.Phase.TheVariants as phase
 use Rattle.client_phases.specs.declared.outcomes.Taken.{Taken}
 use Rattle.client_phases.specs.declared.outcomes.Taken.TheVariants.{Noted, Agreed}
 use Rattle.client_phases.specs.declared.states.State.TheVariants.{Ready}
-use Rattle.network.specs.Flights.{copies_of, message_of, copy_limit}
+use Rattle.network.specs.Flights.{IsMessageOf, copies_of, message_of, copy_limit}
 use Rattle.network.specs.declared.messages.Message.{Message}
 use Rattle.network.specs.declared.messages.Message.TheVariants.{ToReplica, ToClient}
 use Rattle.recorder.specs.Histories.{FitsAction, IsBusy, IsPendingCall, MayFollow, call_count}
@@ -58,6 +58,20 @@ module _ (s : System) where
     pub client : ℕ
     pub caller : caller_of s.history.rows (op_of request) ≡ Some client
     pub room : s.pool.sent < s.pool.limit
+
+  -- a flight with a request to a replica of those that there are
+  pub record MayAdopt (flight : ℕ) : Type 0 where
+    pub number : ℕ
+    pub request : Request
+    pub is : IsMessageOf s.pool.flights flight (ToReplica number request)
+    pub within : number < length s.nodes
+
+  -- a flight with a request that its replica may handle
+  pub record MayServe (flight : ℕ) : Type 0 where
+    pub number : ℕ
+    pub request : Request
+    pub is : IsMessageOf s.pool.flights flight (ToReplica number request)
+    pub handles : MayHandle number request
 
   -- the call may be noted
   abbrev pub MayNote : OpId → Taken → Type 0

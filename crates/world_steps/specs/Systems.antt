@@ -6,7 +6,7 @@ use Rattle.std.specs.Prelude.{slice_set}
 use Rattle.std.specs.FinMap as finite
 use Rattle.tag.specs.declared.actions.Action.{Action}
 use Rattle.tag.specs.declared.numbers.OpId.{OpId}
-use Rattle.replica.specs.Replicas.{replica_after, reply_of}
+use Rattle.replica.specs.Replicas.{Replica, replica_after, reply_of}
 use Rattle.replica.specs.declared.requests.Request.{Request}
 use Rattle.replica.specs.declared.requests.Request.TheVariants.{Query, Put}
 use Rattle.replica.specs.declared.replies.Reply.{Reply}
@@ -85,6 +85,11 @@ send s replica None = s
 abbrev pub op_of : Request → OpId
 op_of (Query op key) = op
 op_of (Put op key tag value) = op
+
+-- the replica of a node becomes another
+abbrev pub with_replica : System → ℕ → Node → Replica → System
+with_replica s number node replica =
+    record s { nodes = slice_set s.nodes number (record node { replica = replica }) }
 
 -- a replica handles a request, and its reply is sent to the client that made the call
 abbrev pub handle : System → ℕ → Request → Option Node → Option ℕ → System
@@ -171,12 +176,12 @@ system_after s (step.StartReplica number) = set_up s number true (slice_get s.no
 -- ---- what a step answers if nothing refuses it
 
 -- what a client makes of a reply
-abbrev take_effect : Reply → Option Client → Option Effect
+abbrev pub take_effect : Reply → Option Client → Option Effect
 take_effect reply (Some client) = Some (effect.Taken (reply_result client reply))
 take_effect reply None = None
 
 -- what comes of a delivery: a reply with the next number, or what a client makes of one
-abbrev arrival_effect : System → Option Message → Option Effect
+abbrev pub arrival_effect : System → Option Message → Option Effect
 arrival_effect s (Some (ToReplica number request)) = Some (effect.Answered s.pool.sent)
 arrival_effect s (Some (ToClient name reply)) =
     take_effect reply (finite.get s.members.clients name)

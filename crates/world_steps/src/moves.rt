@@ -1,5 +1,6 @@
 //! What a step makes of a system that doesn't refuse it.
-ghost use Rattle.std.specs.Prelude.{◌≡◌, ◌<◌, IfOk, OnOk, OnErr, Ok, Some, length, true, false};
+ghost use Rattle.std.specs.Prelude.{◌≡◌, ◌<◌, IfOk, OnOk, OnErr, Ok, Some, length, slice_get, true, false, ℕ};
+ghost use Rattle.network.specs.Flights.{IsMessageOf};
 ghost use Rattle.network.specs.Pools.{IsBag, with_sent};
 ghost use Rattle.network.specs.declared.messages.Message.{Message};
 ghost use Rattle.recorder.specs.Histories.{MayFollow};
@@ -7,16 +8,19 @@ ghost use Rattle.recorder.specs.Answers.{with_row};
 ghost use Rattle.recorder.specs.declared.row.Row.{Row};
 ghost use Rattle.client_phases.specs.Clients.{reply_result};
 ghost use Rattle.client_phases.specs.declared.clients.Client.{Client};
-ghost use Rattle.world_steps.specs.Systems.{answered_op, arrive, lose, op_of, with_note};
-ghost use Rattle.world_steps.specs.Moves.{IsClient, IsReady, MayAnswer, MayDeliver, MayHandle, MayHear};
+ghost use Rattle.replica.specs.Replicas.{replica_after};
+ghost use Rattle.replica.specs.declared.requests.Request.{Request};
+ghost use Rattle.world_steps.specs.Systems.{answered_op, arrive, effect_of, lose, op_of, with_note, with_replica};
+ghost use Rattle.world_steps.specs.declared.nodes.Node.{Node};
+ghost use Rattle.world_steps.specs.Moves.{IsClient, IsReady, MayAdopt, MayAnswer, MayDeliver, MayHear};
 ghost use Rattle.world_steps.specs.Moves.{MayInvoke, MayMove, MayNote, MayRepeat, MayRespond};
-ghost use Rattle.world_steps.specs.Moves.{MaySend, MayStop, Moves};
+ghost use Rattle.world_steps.specs.Moves.{MaySend, MayServe, MayStop, Moves};
 
 use crate::system::System;
 use crate::{Effect, Step};
 use client_phases::{Client, Taken};
 use network::{Message, NetRefusal};
-use recorder::RowRefusal;
+use recorder::{ActionRef, RowRefusal};
 use replica::{Reply, Request};
 use tag::{Action, ClientId, Key, Memory, OpId, ReplicaId, Returned, Tag};
 
@@ -51,7 +55,8 @@ impl System {
         requires { MayInvoke self.old name }
         ensures { Moves self.old (Step.Invoke name key action) result self.new }
     {
-        match self.history.invoke(name, key.copy()?, action.copy()?) {
+        let shown = ActionRef::of(&action);
+        match self.history.invoke_text(name, key.as_str(), &shown) {
             Ok(op) => {
                 self.members.invoke(name, op, key, action);
                 Ok(Effect::Invoked(op))
@@ -122,19 +127,41 @@ impl System {
         }
     }
 
-    /// Has a replica handle a request, and sends its reply. What may grow first is what can be taken
-    /// back: a `Kept`, since the replica can't forget what it adopted.
-    fn handle(&mut self, number: ReplicaId, request: &Request) -> Result<Effect, Memory>
-        requires { MayHandle self.old number request.now }
-        ensures effect { IfOk result (λ effect. effect ≡ Effect.Answered self.old.pool.sent) }
-        ensures ok { OnOk result (self.new ≡ arrive self.old
-            (Message.ToReplica number request.now)) }
+    /// Has the replica of a request's flight do what it asks.
+    fn adopt(&mut self, flight: u32) -> Result<(), Memory>
+        requires { MayAdopt self.old flight }
+        ensures ok { OnOk result ((number : ℕ) (request : Request) (node : Node)
+            → IsMessageOf self.old.pool.flights flight (Message.ToReplica number request)
+            → slice_get self.old.nodes number ≡ Some node
+            → self.new ≡ with_replica self.old number node (replica_after node.replica request)) }
         ensures err { OnErr result (self.new ≡ self.old) }
     {
+        let Some(Message::ToReplica(number, request)) = self.pool.look(flight) else {
+            unreachable!()
+        };
+        let _ = self.nodes.handle(*number, request)?;
+        Ok(())
+    }
+
+    /// Has a replica handle the request of a flight, and sends its reply. What may grow first is what can
+    /// be taken back: a `Kept`, since the replica can't forget what it adopted.
+    fn handle(&mut self, flight: u32) -> Result<Effect, Memory>
+        requires { MayServe self.old flight }
+        ensures effect { IfOk result
+            (λ effect. effect_of self.old (Step.Deliver flight) ≡ Some effect) }
+        ensures ok { OnOk result ((message : Message)
+            → IsMessageOf self.old.pool.flights flight message
+            → self.new ≡ arrive self.old message) }
+        ensures err { OnErr result (self.new ≡ self.old) }
+    {
+        let Some(Message::ToReplica(number, request)) = self.pool.look(flight) else {
+            unreachable!()
+        };
         let Some(client) = self.history.caller(op_of(request)) else {
             unreachable!()
         };
-        let flight = match request {
+        let number = *number;
+        let sent = match request {
             Request::Query { .. } => {
                 let reply = self.nodes.handle(number, request)?;
                 self.post(Message::ToClient(client, reply))?
@@ -144,15 +171,15 @@ impl System {
                     op: *op,
                     replica: number,
                 };
-                let flight = self.post(Message::ToClient(client, kept))?;
-                if self.nodes.handle(number, request).is_err() {
+                let sent = self.post(Message::ToClient(client, kept))?;
+                if self.adopt(flight).is_err() {
                     self.pool.unsend();
                     return Err(Memory);
                 }
-                flight
+                sent
             }
         };
-        Ok(Effect::Answered(flight))
+        Ok(Effect::Answered(sent))
     }
 
     /// Records the note of a call, if what its client takes fixes the call's tag.
@@ -186,18 +213,32 @@ impl System {
         Ok(Effect::Taken(taken))
     }
 
+    /// A flight's message comes to whom it was sent.
+    fn arrive(&mut self, flight: u32) -> Result<Effect, Memory>
+        requires { MayDeliver self.old flight }
+        ensures effect { IfOk result
+            (λ effect. effect_of self.old (Step.Deliver flight) ≡ Some effect) }
+        ensures ok { OnOk result ((message : Message)
+            → IsMessageOf self.old.pool.flights flight message
+            → self.new ≡ arrive self.old message) }
+        ensures err { OnErr result (self.new ≡ self.old) }
+    {
+        match self.pool.look(flight) {
+            Some(Message::ToReplica(..)) => self.handle(flight),
+            Some(Message::ToClient(name, reply)) => {
+                let (name, reply) = (*name, reply.copy()?);
+                let effect = self.hear(name, reply)?;
+                Ok(effect)
+            }
+            None => unreachable!(),
+        }
+    }
+
     fn deliver(&mut self, flight: u32) -> Result<Effect, Memory>
         requires { MayDeliver self.old flight }
         ensures { Moves self.old (Step.Deliver flight) result self.new }
     {
-        let message = match self.pool.look(flight) {
-            Some(message) => message.copy()?,
-            None => unreachable!(),
-        };
-        let effect = match message {
-            Message::ToReplica(number, request) => self.handle(number, &request)?,
-            Message::ToClient(name, reply) => self.hear(name, reply)?,
-        };
+        let effect = self.arrive(flight)?;
         self.lose(flight);
         Ok(effect)
     }
