@@ -1,12 +1,10 @@
 -- Verdicts with their keys.
-use Rattle.std.proofs.Common.{ℕ, ◌≡◌, ◌<◌, ◌+◌, List, [], ◌∷◌, ◌++◌, Some, length, map, get_or, inl, inr, subst, sym, ap, refl, ◌∙◌, length-append}
+use Rattle.std.proofs.Common.{ℕ, ◌≡◌, ◌+◌, List, [], ◌∷◌, ◌++◌, Some, length, map, inl, inr, subst, sym, ap, refl, ◌∙◌, length-append}
 use Rattle.std.specs.List.{slice_get}
 use Rattle.std.specs.Option.{option_map}
-use Rattle.std.proofs.lemmas.Option.{same_Some, slice_get-map, slice_get_read}
+use Rattle.std.proofs.lemmas.Option.{same_Some, slice_get-map}
 use Rattle.tag.proofs.Lists.{push_cases}
-use Rattle.parallel_keys.specs.declared.collect_keys.KeyToCheck.{KeyToCheck}
 use Rattle.parallel_keys.specs.IndexVerdicts.{IsVerdictAt}
-use Rattle.parallel_keys.specs.KeysToCheck.{what_of}
 use Rattle.certificate_check.specs.Verdicts.{IsVerdict}
 use Rattle.certificate_check.specs.declared.verdict.Verdict.{Verdict}
 use Rattle.parallel_keys.specs.CheckedKeys.{CheckedKey}
@@ -43,12 +41,8 @@ module _ (checked : List CheckedKey) where
       same_one i other here at = let twice : Some one ≡ Some other = sym at_one ∙ ap (slice_get checked) (sym here) ∙ at in cc
 
 -- the verdict at a key's index is the key's
-pub verdict_at : (keys : List KeyToCheck) (index : ℕ) (key : KeyToCheck) (verdict : Verdict) → index < length keys → key ≡ get_or keys index key → IsVerdictAt (map (λ (p : KeyToCheck). p.part) keys) (map (λ (p : KeyToCheck). p.order.now) keys) index verdict → IsVerdict key.part key.order.now verdict
-verdict_at keys index key verdict below is at =
-    let here = slice_get_read keys (length keys) index key refl below is in
-    let part_is : at.part ≡ key.part = same_Some at.part key.part (sym at.part_at ∙ slice_get-map (λ (p : KeyToCheck). p.part) keys index ∙ ap (option_map (λ (p : KeyToCheck). p.part)) here) in
-    let order_is : at.order ≡ key.order.now = same_Some at.order key.order.now (sym at.order_at ∙ slice_get-map (λ (p : KeyToCheck). p.order.now) keys index ∙ ap (option_map (λ (p : KeyToCheck). p.order.now)) here) in
+pub verdict_of : (keys : List CheckedKey) (index : ℕ) (key : CheckedKey) (verdict : Verdict) → slice_get keys index ≡ Some key → IsVerdictAt (map (λ (p : CheckedKey). p.part) keys) (map (λ (p : CheckedKey). p.order) keys) index verdict → IsVerdict key.part key.order verdict
+verdict_of keys index key verdict here at =
+    let part_is : at.part ≡ key.part = same_Some at.part key.part (sym at.part_at ∙ slice_get-map (λ (p : CheckedKey). p.part) keys index ∙ ap (option_map (λ (p : CheckedKey). p.part)) here) in
+    let order_is : at.order ≡ key.order = same_Some at.order key.order (sym at.order_at ∙ slice_get-map (λ (p : CheckedKey). p.order) keys index ∙ ap (option_map (λ (p : CheckedKey). p.order)) here) in
     rw (part_is, order_is) at at.checked
-
-pub what_at : (keys : List KeyToCheck) (index : ℕ) (key : KeyToCheck) → index < length keys → key ≡ get_or keys index key → slice_get (map what_of keys) index ≡ Some (what_of key)
-what_at keys index key below is = slice_get-map what_of keys index ∙ ap (option_map what_of) (slice_get_read keys (length keys) index key refl below is)

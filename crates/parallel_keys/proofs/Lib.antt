@@ -4,7 +4,9 @@ pub mod GivenOrders
 pub mod WorkerVerdicts
 pub mod Woven
 pub mod Keyed
+pub mod Listed
 pub mod Recorded
 pub mod Halls
 pub mod Given
 pub mod Apart
+pub mod OwnKeys

@@ -1,16 +1,11 @@
 -- The verdicts of a worker.
-use Rattle.std.proofs.Common.{ℕ, ◌≡◌, ◌+◌, ◌*◌, ◌<◌, ◌≤◌, List, [], ◌∷◌, ◌++◌, Some, length, inl, inr, subst, sym, ap, refl, ◌∙◌, arith, length-append}
+use Rattle.std.proofs.Common.{ℕ, ◌≡◌, ◌+◌, ◌*◌, ◌≤◌, List, [], ◌∷◌, ◌++◌, Some, length, inl, inr, subst, sym, ap, refl, ◌∙◌, arith, length-append}
 use Rattle.std.specs.List.{slice_get}
-use Rattle.std.proofs.Common.{Bor, get_or}
 use Rattle.std.proofs.Math.Nat.{lt_of_mul-lt-mul_right}
 use Rattle.tag.proofs.Lists.{push_cases}
 use Rattle.tag.specs.declared.numbers.OpId.{OpId}
 use Rattle.recorder.specs.declared.part.Call.{Call}
 use Rattle.certificate_check.specs.declared.verdict.Verdict.{Verdict}
-use Rattle.certificate_check.specs.Verdicts.{IsVerdict}
-use Rattle.parallel_keys.specs.declared.share.Share.{Share}
-use Rattle.parallel_keys.specs.Shares.{IsShare, parts_of, orders_of}
-use Rattle.parallel_keys.proofs.Places.{map_at}
 use Rattle.parallel_keys.specs.IndexVerdicts.{IsVerdictAt, AreOfWorker, AreLists, AreFirstLists}
 
 -- the verdicts that a worker has made, and the index that is next
@@ -45,16 +40,6 @@ module _ (parts : List (List Call)) (orders : List (List OpId)) (w k : ℕ) wher
     all = λ number below. let at = so_far.next_at in lt_of_mul-lt-mul_right k (omega arith);
     each = so_far.each;
   }
-
--- the verdict on a share's part and order at an index
-pub checked_at : (share : Share) → IsShare share → (index : ℕ) (verdict : Verdict) (p : Bor (List Call)) (o : Bor (List OpId)) → index < length share.parts.now → IsVerdict (get_or share.parts.now index p).now (get_or share.orders.now index o).now verdict → IsVerdictAt (parts_of share) (orders_of share) index verdict
-checked_at share is index verdict p o below checked = record {
-  part = (get_or share.parts.now index p).now;
-  order = (get_or share.orders.now index o).now;
-  part_at = map_at (λ (b : Bor (List Call)). b.now) share.parts.now index p below;
-  order_at = map_at (λ (b : Bor (List OpId)). b.now) share.orders.now index o (let paired = is.paired in omega arith);
-  checked = checked;
-}
 
 -- the list of a further worker
 module _ (parts : List (List Call)) (orders : List (List OpId)) (k : ℕ) where

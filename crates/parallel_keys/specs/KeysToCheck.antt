@@ -7,14 +7,28 @@ use Rattle.tag.specs.declared.numbers.OpId.{OpId}
 use Rattle.recorder.specs.declared.part.Call.{Call}
 use Rattle.recorder.specs.declared.order.KeyOrder.{KeyOrder}
 use Rattle.key_index.specs.Numbers.{EachOnce}
+use Rattle.parallel_keys.specs.declared.collect_keys.CollectedKeys.{CollectedKeys}
 use Rattle.parallel_keys.specs.declared.collect_keys.KeyToCheck.{KeyToCheck}
 use Rattle.parallel_keys.specs.declared.collect_keys.NumberedKey.{NumberedKey}
 use Rattle.parallel_keys.specs.declared.collect_keys.OrderTable.{OrderTable}
-use Rattle.parallel_keys.specs.CheckedKeys.{CheckedKey, KeyParts, is_other, keys_in}
+use Rattle.parallel_keys.specs.declared.key_list.KeyList.{KeyList}
+use Rattle.parallel_keys.specs.CheckedKeys.{CheckedKey, KeyParts, is_other, keys_in, other_key}
 
 -- what is checked of a key
 abbrev pub what_of : KeyToCheck → CheckedKey
 what_of own = record { key = own.key.now; part = own.part; order = own.order.now }
+
+-- what is checked of the orders' keys that have no part
+abbrev pub others_in : List (Bor KeyOrder) → List CheckedKey
+others_in others = map other_key (map (λ one. one.now) others)
+
+-- what is checked of the keys of a list
+abbrev pub checked_in : KeyList → List CheckedKey
+checked_in list = map what_of list.recorded.now ++ others_in list.others.now
+
+-- the same of collected keys
+abbrev pub collected_in : CollectedKeys → List CheckedKey
+collected_in keys = map what_of keys.recorded.items ++ others_in keys.others.items
 
 -- a key with its part
 abbrev pub entry_of : NumberedKey → List ℕ × List Call

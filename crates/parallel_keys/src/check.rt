@@ -1,9 +1,11 @@
 //! The check of many keys' orders.
 ghost use Rattle.std.specs.Prelude.{◌≡◌, ◌<◌, ◌≤◌, ◌+◌, length, map, IfOk, MatchResult};
 ghost use Rattle.parallel_keys.specs.IndexVerdicts.{AreLists, AreOfWorker, AreVerdicts};
+ghost use Rattle.parallel_keys.specs.Checks.{ArePaired, parts_in, orders_in};
 ghost use Rattle.parallel_keys.specs.Shares.{AreUpToShare, IsShare};
 ghost use Rattle.parallel_keys.specs.Workers.{MayFail, worker_limit};
 
+use crate::checks::Checks;
 use crate::error::CheckError;
 use crate::gate::CheckGate;
 use crate::scoped::{spawn, within};
@@ -35,8 +37,7 @@ fn start<'s, 'e: 's, G: CheckGate + Sync>(
     ensures { IfOk result (λ started. started.promise ≡ share.entry) }
 {
     let Share {
-        parts,
-        orders,
+        checks,
         worker,
         workers,
     } = share;
@@ -44,11 +45,10 @@ fn start<'s, 'e: 's, G: CheckGate + Sync>(
         scope,
         share,
         move || -> Result<Vec<Verdict>, Memory>
-            requires { (length parts.now ≡ length orders.now)
-                × (worker < workers) × (workers ≤ worker_limit) }
-            ensures { IfOk result (λ verdicts. AreOfWorker (map (λ p. p.now) parts.entry.now)
-                (map (λ o. o.now) orders.entry.now) worker workers verdicts.items) }
-        { share_of(parts, orders, worker, workers).check(alloc, gate) },
+            requires { ArePaired checks × (worker < workers) × (workers ≤ worker_limit) }
+            ensures { IfOk result (λ verdicts. AreOfWorker (parts_in checks.entry)
+                (orders_in checks.entry) worker workers verdicts.items) }
+        { share_of(checks, worker, workers).check(alloc, gate) },
     )?)
 }
 
@@ -72,10 +72,34 @@ fn run_workers<'s, 'e: 's, R: Threads, G: CheckGate + Sync>(
         return Ok(lists);
     }
     let started = start(scope, alloc, last, gate)?;
-    let before = share_of(last.parts, last.orders, last.worker - 1, last.workers);
+    let before = share_of(last.checks, last.worker - 1, last.workers);
     let mut lists = run_workers(rt, scope, alloc, before, gate)?;
     lists.push(started.join(rt)?)?;
     Ok(lists)
+}
+
+/// The lists of the verdicts of so many workers, in order of worker.
+pub(crate) fn run_all<R: Threads + Wait, G: CheckGate + Sync>(
+    rt: &R,
+    alloc: Global,
+    checks: Checks<'_>,
+    workers: Workers,
+    gate: &G,
+) -> Result<Vec<Vec<Verdict>>, CheckError>
+    requires { ArePaired checks }
+    ensures { MatchResult result (λ lists. AreLists (parts_in checks.entry) (orders_in checks.entry)
+        workers (map (λ v. v.items) lists.items)) (MayFail workers) }
+{
+    let count = usize::from(workers.count());
+    within(
+        rt,
+        |scope| -> Result<Vec<Vec<Verdict>>, CheckError>
+            requires { ArePaired checks × (0 < count) × (count ≤ worker_limit) }
+            ensures { MatchResult result (λ lists. AreLists (parts_in checks.entry)
+                (orders_in checks.entry) count (map (λ v. v.items) lists.items))
+                (MayFail count) }
+        { run_workers(rt, scope, alloc, share_of(checks, count - 1, count), gate) },
+    )
 }
 
 /// Checks the order at each index against the part there; a verdict for each index, in order of index.
@@ -97,24 +121,7 @@ pub fn check_all<R: Threads + Wait, G: CheckGate + Sync>(
     ensures { MatchResult result (λ verdicts. AreVerdicts (map (λ p. p.now) parts.now)
         (map (λ o. o.now) orders.now) verdicts.items) (MayFail workers) }
 {
-    let count = usize::from(workers.count());
-    let lists = within(
-        rt,
-        |scope| -> Result<Vec<Vec<Verdict>>, CheckError>
-            requires { (length parts.now ≡ length orders.now)
-                × (0 < count) × (count ≤ worker_limit) }
-            ensures { MatchResult result (λ lists. AreLists (map (λ p. p.now) parts.entry.now)
-                (map (λ o. o.now) orders.entry.now) count (map (λ v. v.items) lists.items))
-                (MayFail count) }
-        {
-            run_workers(
-                rt,
-                scope,
-                alloc,
-                share_of(parts, orders, count - 1, count),
-                gate,
-            )
-        },
-    )?;
-    Ok(weave(alloc, parts, orders, &lists)?)
+    let checks = Checks::of_pairs(parts, orders);
+    let lists = run_all(rt, alloc, checks, workers, gate)?;
+    Ok(weave(alloc, checks, &lists)?)
 }

@@ -1,10 +1,11 @@
 //! The keys of histories and of orders, with what is checked of each.
 ghost use Rattle.std.specs.Prelude.{◌≡◌, [], ◌++◌, List, length, map, IfOk, OnOk};
 ghost use Rattle.parallel_keys.specs.CheckedKeys.{AreDistinct, all_parts, checked_keys};
-ghost use Rattle.parallel_keys.specs.CheckedKeys.{other_key, recorded_key};
+ghost use Rattle.parallel_keys.specs.CheckedKeys.{keys_in, other_key, recorded_key};
 ghost use Rattle.parallel_keys.specs.KeysToCheck.{AreNumbered, IsOrderTable, AddsOrder};
-ghost use Rattle.parallel_keys.specs.KeysToCheck.{entry_of, what_of};
+ghost use Rattle.parallel_keys.specs.KeysToCheck.{checked_in, collected_in, entry_of, what_of};
 
+use crate::key_list::KeyList;
 use key_index::KeyNumbers;
 use recorder::{KeyOrder, Part, Parts};
 use std::alloc::Global;
@@ -136,6 +137,29 @@ fn add_recorded<'a>(
     Ok(())
 }
 
+/// The same of one history's keys, where a key's number is its place.
+fn add_own<'a>(
+    keys: &mut Vec<KeyToCheck<'a>>,
+    own: &'a Parts<'a>,
+    table: &OrderTable<'a>,
+) -> Result<(), Memory>
+    requires { length table.now.given.items ≡ length own.now.entries }
+    ensures { OnOk result ((orders : List KeyOrder)
+        → IsOrderTable (keys_in own.now.entries) orders table.now
+        → map what_of keys.new.items ≡ map what_of keys.old.items
+        ++ map (recorded_key orders) own.now.entries) }
+{
+    for place in 0..own.len() {
+        let (text, part) = own.entry(place);
+        keys.push(KeyToCheck {
+            key: text.key(),
+            part,
+            order: table.given[place].unwrap_or(&[]),
+        })?;
+    }
+    Ok(())
+}
+
 /// Adds the keys of these orders, each with a part without a call.
 fn add_others<'a>(keys: &mut Vec<KeyToCheck<'a>>, others: &[&'a KeyOrder]) -> Result<(), Memory>
     ensures { OnOk result (map what_of keys.new.items ≡ map what_of keys.old.items
@@ -151,6 +175,69 @@ fn add_others<'a>(keys: &mut Vec<KeyToCheck<'a>>, others: &[&'a KeyOrder]) -> Re
     Ok(())
 }
 
+/// The keys of parts and orders.
+#[derive(Drop)]
+pub(crate) struct CollectedKeys<'a> {
+    /// Those that have parts, in order.
+    recorded: Vec<KeyToCheck<'a>>,
+    /// The orders of all others, in order.
+    others: Vec<&'a KeyOrder>,
+}
+
+impl<'a> CollectedKeys<'a> {
+    /// The same of one history's parts, which have numbers for the keys already.
+    fn of_one(
+        alloc: Global,
+        own: &'a Parts<'a>,
+        orders: &'a [KeyOrder],
+    ) -> Result<CollectedKeys<'a>, Memory>
+        requires { AreDistinct orders.now }
+        ensures { IfOk result (λ keys. collected_in keys
+            ≡ checked_keys own.now.entries orders.now) }
+    {
+        let table = OrderTable::new(alloc, own.numbers(), orders)?;
+        let mut recorded = Vec::with_capacity(alloc, own.len())?;
+        add_own(&mut recorded, own, &table)?;
+        Ok(CollectedKeys {
+            recorded,
+            others: table.others,
+        })
+    }
+
+    /// The keys of these parts and orders.
+    pub(crate) fn new(
+        alloc: Global,
+        parts: &'a [Parts<'a>],
+        orders: &'a [KeyOrder],
+    ) -> Result<CollectedKeys<'a>, Memory>
+        requires { AreDistinct orders.now }
+        ensures { IfOk result (λ keys. collected_in keys
+            ≡ checked_keys (all_parts (map (λ p. p.entries) parts.now)) orders.now) }
+    {
+        if let [own] = parts {
+            return CollectedKeys::of_one(alloc, own, orders);
+        }
+        let recorded = RecordedKeys::new(alloc, parts)?;
+        let table = OrderTable::new(alloc, &recorded.numbers, orders)?;
+        let mut keys = Vec::with_capacity(alloc, recorded.list.len())?;
+        add_recorded(&mut keys, recorded, &table)?;
+        Ok(CollectedKeys {
+            recorded: keys,
+            others: table.others,
+        })
+    }
+
+    /// All of them, first those that have parts.
+    pub(crate) fn list(&self) -> KeyList<'_>
+        ensures { checked_in result ≡ collected_in self.now }
+    {
+        KeyList {
+            recorded: self.recorded.as_slice(),
+            others: self.others.as_slice(),
+        }
+    }
+}
+
 /// What is checked of these parts and orders: the keys that have parts, in order, then those that
 /// only the orders have, whose part has no call.
 pub fn keys_to_check<'a>(
@@ -162,10 +249,10 @@ pub fn keys_to_check<'a>(
     ensures { IfOk result (λ keys. map what_of keys.items
         ≡ checked_keys (all_parts (map (λ p. p.entries) parts.now)) orders.now) }
 {
-    let recorded = RecordedKeys::new(alloc, parts)?;
-    let table = OrderTable::new(alloc, &recorded.numbers, orders)?;
-    let mut keys = Vec::with_capacity(alloc, recorded.list.len())?;
-    add_recorded(&mut keys, recorded, &table)?;
-    add_others(&mut keys, &table.others)?;
+    let CollectedKeys {
+        recorded: mut keys,
+        others,
+    } = CollectedKeys::new(alloc, parts, orders)?;
+    add_others(&mut keys, &others)?;
     Ok(keys)
 }

@@ -1,78 +1,38 @@
 //! The check of the keys of recorded histories.
-ghost use Rattle.std.specs.Prelude.{◌≡◌, map, IfOk, MatchResult};
+ghost use Rattle.std.specs.Prelude.{map, IfOk, MatchResult};
 ghost use Rattle.parallel_keys.specs.CheckedKeys.{AreDistinct, all_parts, checked_keys};
 ghost use Rattle.parallel_keys.specs.Histories.{AreHallParts, AreOn, AreVerdictsOnHistories, AreVerdictsOnHistory};
-ghost use Rattle.parallel_keys.specs.IndexVerdicts.{AreVerdicts};
-ghost use Rattle.parallel_keys.specs.KeysToCheck.{what_of};
+ghost use Rattle.parallel_keys.specs.KeysToCheck.{checked_in};
 ghost use Rattle.parallel_keys.specs.Workers.{MayFail};
 
-use crate::check::{KeyVerdict, check_all};
-use crate::collect_keys::{KeyToCheck, keys_to_check};
+use crate::check::run_all;
+use crate::checks::Checks;
+use crate::collect_keys::CollectedKeys;
 use crate::error::CheckError;
 use crate::gate::CheckGate;
+use crate::key_list::KeyList;
+use crate::weave_verdicts::weave_keys;
 use crate::workers::Workers;
 use certificate_check::Verdict;
-use recorder::{Histories, History, KeyOrder, Part, Parts};
+use recorder::{Histories, History, KeyOrder, Parts};
 use std::alloc::Global;
 use std::sync::Wait;
 use std::thread::Threads;
-use tag::{Key, Memory, OpId};
-
-/// The parts of the keys.
-fn parts_of<'a>(alloc: Global, keys: &'a [KeyToCheck<'a>]) -> Result<Vec<&'a Part<'a>>, Memory>
-    ensures { IfOk result (λ parts. map (λ p. p.now) parts.items ≡ map (λ p. p.part) keys.now) }
-{
-    let mut parts = Vec::with_capacity(alloc, keys.len())?;
-    for key in keys {
-        parts.push(&key.part)?;
-    }
-    Ok(parts)
-}
-
-/// The orders of the keys.
-fn orders_of<'a>(alloc: Global, keys: &'a [KeyToCheck<'a>]) -> Result<Vec<&'a [OpId]>, Memory>
-    ensures { IfOk result
-        (λ orders. map (λ o. o.now) orders.items ≡ map (λ p. p.order.now) keys.now) }
-{
-    let mut orders = Vec::with_capacity(alloc, keys.len())?;
-    for key in keys {
-        orders.push(key.order)?;
-    }
-    Ok(orders)
-}
-
-/// The verdicts with their keys.
-fn with_keys(
-    alloc: Global,
-    keys: &[KeyToCheck<'_>],
-    verdicts: &[KeyVerdict],
-) -> Result<Vec<(Key, Verdict)>, Memory>
-    requires { AreVerdicts (map (λ p. p.part) keys.now)
-        (map (λ p. p.order.now) keys.now) verdicts.now }
-    ensures { IfOk result (λ keyed. AreOn (map what_of keys.now) keyed.items) }
-{
-    let mut keyed = Vec::with_capacity(alloc, keys.len())?;
-    for index in 0..keys.len() {
-        keyed.push((keys[index].key.copy()?, verdicts[index].verdict))?;
-    }
-    Ok(keyed)
-}
+use tag::{Key, Memory};
 
 /// Checks the keys' orders; each key with its verdict, in their order.
 fn check_keys<R: Threads + Wait, G: CheckGate + Sync>(
     rt: &R,
     alloc: Global,
-    keys: &[KeyToCheck<'_>],
+    keys: KeyList<'_>,
     workers: Workers,
     gate: &G,
 ) -> Result<Vec<(Key, Verdict)>, CheckError>
-    ensures { MatchResult result (λ keyed. AreOn (map what_of keys.now) keyed.items)
+    ensures { MatchResult result (λ keyed. AreOn (checked_in keys.entry) keyed.items)
         (MayFail workers) }
 {
-    let parts = parts_of(alloc, keys)?;
-    let orders = orders_of(alloc, keys)?;
-    let verdicts = check_all(rt, alloc, &parts, &orders, workers, gate)?;
-    Ok(with_keys(alloc, keys, &verdicts)?)
+    let lists = run_all(rt, alloc, Checks::of_keys(keys), workers, gate)?;
+    Ok(weave_keys(alloc, keys, &lists)?)
 }
 
 /// Checks the keys of these parts, in order, and then those that only the orders have.
@@ -89,8 +49,8 @@ fn check_parts<R: Threads + Wait, G: CheckGate + Sync>(
         AreOn (checked_keys (all_parts (map (λ p. p.entries) parts.now)) orders.now) keyed.items)
         (MayFail workers) }
 {
-    let keys = keys_to_check(alloc, parts, orders)?;
-    check_keys(rt, alloc, &keys, workers, gate)
+    let keys = CollectedKeys::new(alloc, parts, orders)?;
+    check_keys(rt, alloc, keys.list(), workers, gate)
 }
 
 /// Checks orders of the keys of a history: each key with its verdict, first the history's keys, first

@@ -7,11 +7,13 @@
 #![tactic(auto)]
 
 mod check;
+mod checks;
 mod collect_keys;
 mod distinct;
 mod error;
 mod gate;
 mod histories;
+mod key_list;
 mod scoped;
 mod share;
 mod weave_verdicts;

@@ -1,40 +1,32 @@
 //! The keys that one worker checks.
 ghost use Rattle.std.specs.Prelude.{◌≡◌};
 
+use crate::checks::Checks;
 use crate::gate::CheckGate;
-use certificate_check::{Verdict, check_part};
-use recorder::Part;
+use certificate_check::Verdict;
 use std::alloc::Global;
 use std::thread::Promise;
-use tag::{Memory, OpId};
+use tag::Memory;
 
 /// The keys of one of several workers: those at its number, at its number and so many workers more,
 /// and so on. As a promise it says what the worker's list of verdicts is.
 #[derive(Clone, Copy)]
 pub struct Share<'a> {
-    pub parts: &'a [&'a Part<'a>],
-    pub orders: &'a [&'a [OpId]],
+    pub checks: Checks<'a>,
     pub worker: usize,
     pub workers: usize,
 }
 
 /// The share of that worker.
-pub(crate) fn share_of<'a>(
-    parts: &'a [&'a Part<'a>],
-    orders: &'a [&'a [OpId]],
-    worker: usize,
-    workers: usize,
-) -> Share<'a>
+pub(crate) fn share_of(checks: Checks<'_>, worker: usize, workers: usize) -> Share<'_>
     ensures { result ≡ record {
-      parts = parts.entry;
-      orders = orders.entry;
+      checks = checks.entry;
       worker = worker;
       workers = workers;
     } }
 {
     Share {
-        parts,
-        orders,
+        checks,
         worker,
         workers,
     }
@@ -58,9 +50,9 @@ impl<'a> Share<'a> {
     {
         let mut verdicts = Vec::new(alloc);
         let mut index = self.worker;
-        while index < self.parts.len() {
+        while index < self.checks.len() {
             gate.at(index);
-            verdicts.push(check_part(alloc, self.parts[index], self.orders[index])?)?;
+            verdicts.push(self.checks.check(alloc, index)?)?;
             index += self.workers;
         }
         Ok(verdicts)

@@ -1,5 +1,5 @@
 //! The parts of a history, by key.
-ghost use Rattle.std.specs.Prelude.{◌≡◌, ◌<◌, List, length, IfSome, IfNone, Some, Contains};
+ghost use Rattle.std.specs.Prelude.{◌≡◌, ◌<◌, List, length, map, IfSome, IfNone, Some, Contains};
 ghost use Rattle.std.specs.List.{slice_get};
 ghost use Rattle.recorder.specs.declared.part.Call.{Call};
 
@@ -7,6 +7,7 @@ use crate::groups::Groups;
 use crate::part::Part;
 use crate::record::Record;
 use crate::refs::KeyRef;
+use key_index::KeyNumbers;
 use std::marker::Model;
 use tag::Key;
 
@@ -58,6 +59,13 @@ impl<'h> Parts<'h> {
     {
         let numbers = self.groups.group(place);
         (self.from.rows.key(place), Part::of(self.from, numbers))
+    }
+
+    /// The keys, each numbered by its place.
+    pub fn numbers(&self) -> &KeyNumbers
+        ensures { result.now ≡ map (λ entry. entry.0) self.now.entries }
+    {
+        self.from.rows.keys()
     }
 
     /// The key's part, if it has one.

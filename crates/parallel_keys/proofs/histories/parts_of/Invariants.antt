@@ -1,6 +1,0 @@
-use Rattle.std.proofs.Common.{◌≡◌, map, take}
-use Rattle.parallel_keys.specs.declared.collect_keys.KeyToCheck.{KeyToCheck}
-use Rattle.parallel_keys.proofs.histories.parts_of.Given as goal
-
-abbrev pub invariant-loop-key : goal.invariant-loop-key
-invariant-loop-key l = map (λ p. p.now) l.parts.items ≡ map (λ (p : KeyToCheck). p.part) (take l.key-index l.keys)
