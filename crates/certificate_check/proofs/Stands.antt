@@ -247,28 +247,22 @@ order_of_none calls order indexes located once complete answered legal kept = re
 
 -- what the call in the middle says of those before it, or of those after it
 module _ (calls : List Call) (numbered : IsSequence calls) (op : OpId) (middle : ℕ) (call : Call) (at : slice_get calls middle ≡ Some call) where
+  number_there : (k : ℕ) (other : Call) → k ≡ middle → slice_get calls k ≡ Some other → other.op.0 ≡ call.op.0
+  number_there k other here there = let again : slice_get calls k ≡ Some call = ap (slice_get calls) here ∙ at in
+      let same : other ≡ call = cc (there, again) in ap (λ (x : Call). x.op.0) same
+
   pub lower_half : call.op.0 < op.0 → (k : ℕ) (other : Call) → k < middle + 1 → slice_get calls k ≡ Some other → other.op.0 < op.0
   lower_half below k other less there =
       elim (cases_lt k middle) [
         | inl h ↦ let rise : other.op.0 < call.op.0 = numbered.numbers k middle other call h there at in omega arith
-        | inr h ↦
-            let here : k ≡ middle = omega arith in
-            let again : slice_get calls k ≡ Some call = ap (slice_get calls) here ∙ at in
-            let same : other ≡ call = cc (there, again) in
-            let number : other.op.0 ≡ call.op.0 = ap (λ (x : Call). x.op.0) same in
-            omega arith
+        | inr h ↦ omega (arith, number_there k other (omega arith) there)
       ]
 
   pub upper_half : op.0 < call.op.0 → (k : ℕ) (other : Call) → middle ≤ k → slice_get calls k ≡ Some other → op.0 < other.op.0
   upper_half above k other least there =
       elim (cases_lt middle k) [
         | inl h ↦ let rise : call.op.0 < other.op.0 = numbered.numbers middle k call other h at there in omega arith
-        | inr h ↦
-            let here : k ≡ middle = omega arith in
-            let again : slice_get calls k ≡ Some call = ap (slice_get calls) here ∙ at in
-            let same : other ≡ call = cc (there, again) in
-            let number : other.op.0 ≡ call.op.0 = ap (λ (x : Call). x.op.0) same in
-            omega arith
+        | inr h ↦ omega (arith, number_there k other (omega arith) there)
       ]
 
 -- no call has the number where none before a place and none after it has it

@@ -1,6 +1,5 @@
 pub mod Spelling
 mod SaidRows
-mod SpelledNumbers
 pub mod Compact
 pub mod WrittenLines
 pub mod WrittenFiles

@@ -1,14 +1,12 @@
 -- The bytes of each kind of line.
-use Rattle.std.proofs.Common.{◌≡◌, ℕ, Bool, true, false, not, ◌&&◌, ◌==◌, nat_le, List, [], ◌∷◌}
-use Rattle.std.proofs.Common.{◌++◌, Option, Some, None, decimal, refl, sym, ap, ap₂, ◌∙◌, subst}
-use Rattle.std.proofs.Common.{append_assoc, arith, eq-eqb, take, drop, length, ◌-◌}
+use Rattle.std.proofs.Common.{◌≡◌, ℕ, true, false, List, [], ◌∷◌}
+use Rattle.std.proofs.Common.{◌++◌, Option, Some, None, decimal, refl, sym, ap, ap₂, ◌∙◌}
+use Rattle.std.proofs.Common.{append_assoc, arith, take, drop, length, ◌-◌}
 use Rattle.std.specs.Prelude.{codes}
 use Rattle.std.specs.List.{list_all}
-use Rattle.std.proofs.lemmas.Bool.{and_parts, leb-true}
 use Rattle.std.proofs.lemmas.Fmt.{decimal_digit}
-use Rattle.std.proofs.lemmas.List.{length-drop, take-append-drop}
-use Rattle.json.specs.Print.{quoted, escape, escape_byte}
-use Rattle.json.proofs.Printed.Strings.{escape_byte_plain}
+use Rattle.std.proofs.lemmas.List.{take-append-drop}
+use Rattle.json.specs.Print.{quoted, escape_byte}
 use Rattle.serde_json.specs.Data.{string, Members, no_members, member}
 use Rattle.serde_json.specs.Written.{compact_text, items_text, members_text}
 use Rattle.tag.specs.Tags.{Tag}
@@ -19,8 +17,10 @@ use Rattle.recorder.specs.declared.row.Row.{Row}
 use Rattle.recorder.specs.declared.row.Row.TheVariants.{Invoke, Note, Respond}
 use Rattle.quorum.specs.Quorums.{Quorums}
 use Rattle.counted_devices.specs.Cuts.{with_end}
+use Rattle.row_members.specs.Scans.{is_plain}
+use Rattle.row_members.proofs.PlainTexts.{escape_plain}
+use Rattle.row_members.proofs.Pieces.{to_end}
 use Rattle.file_format.specs.declared.file_header.FileHeader.TheVariants.{Version2}
-use Rattle.file_format.specs.PlainTexts.{is_plain}
 use Rattle.file_format.specs.RowTexts.{row_bytes}
 use Rattle.file_format.specs.Texts.{whole, header_data, file_header_data, numbers_data, row_data}
 use Rattle.file_format.specs.Texts.{hall_member, hall_text, answered_member, piece_data, calls_data}
@@ -223,23 +223,6 @@ both out mid new a b first more = more ∙ ap (λ (s : List ℕ). s ++ b) first 
 
 -- ---- texts without an escape
 
-own : (n : ℕ) → not (n == n) ≡ true → ⊥
-own n h =
-    let is : (n == n) ≡ true = eq-eqb n n refl in
-    let no : not true ≡ true = subst (λ (b : Bool). not b ≡ true) is h in
-    cc
-
-unlike : (y n : ℕ) → not (y == n) ≡ true → y ≡ n → ⊥
-unlike y n test e = own n (subst (λ (z : ℕ). not (z == n) ≡ true) e test)
-
-escape_plain : (s : List ℕ) → list_all is_plain s ≡ true → escape s ≡ s
-escape_plain [] h = refl
-escape_plain (x ∷ s) h =
-    let p = and_parts (is_plain x) (list_all is_plain s) h in
-    let q = and_parts (nat_le 32 x && not (x == 34)) (not (x == 92)) p.0 in
-    let r = and_parts (nat_le 32 x) (not (x == 34)) q.0 in
-    ap₂ (λ (a b : List ℕ). a ++ b) (escape_byte_plain x (unlike x 34 r.1) (unlike x 92 q.1) (leb-true 32 x r.0)) (escape_plain s p.1)
-
 pub quoted_plain : (s : List ℕ) → list_all is_plain s ≡ true → 34 ∷ (s ++ 34 ∷ []) ≡ quoted s
 quoted_plain s h = ap (λ (t : List ℕ). 34 ∷ (t ++ 34 ∷ [])) (sym (escape_plain s h))
 
@@ -260,10 +243,5 @@ quoted_first bytes inside taken text left rest plain p q r s =
     ∙ ap (λ (l : List ℕ). l ++ rest) (quoted_plain text plain)
 
 -- a list is what comes before a place and all from it on
-take_whole : (xs : List ℕ) → take (length xs) xs ≡ xs
-take_whole [] = refl
-take_whole (x ∷ xs) = ap (λ (l : List ℕ). x ∷ l) (take_whole xs)
-
 pub cut_whole : (n : ℕ) (xs : List ℕ) → xs ≡ take n xs ++ take (length xs - n) (drop n xs)
-cut_whole n xs = sym (take-append-drop n xs)
-    ∙ ap (λ (l : List ℕ). take n xs ++ l) (sym (ap (λ (k : ℕ). take k (drop n xs)) (sym (length-drop n xs)) ∙ take_whole (drop n xs)))
+cut_whole n xs = sym (take-append-drop n xs) ∙ ap (λ (l : List ℕ). take n xs ++ l) (sym (to_end xs n))

@@ -24,7 +24,6 @@ pub mod LineFaults
 pub mod LineTexts
 pub mod LineRows
 pub mod Texts
-pub mod PlainTexts
 pub mod Ranges
 pub mod ReadAgain
 pub mod CanonicalLines

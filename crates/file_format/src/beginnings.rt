@@ -1,5 +1,5 @@
 //! What the bytes of a line begin with, as this crate writes it, and what is after it.
-ghost use Rattle.std.specs.Prelude.{◌≡◌, ◌<◌, ◌≤◌, ◌++◌, codes, decimal, length, slice_index, true};
+ghost use Rattle.std.specs.Prelude.{◌≡◌, ◌++◌, codes, decimal, true};
 ghost use Rattle.std.specs.Prelude.{IfSome, IsTrue, IsUtf8};
 ghost use Rattle.json.specs.Print.{quoted};
 ghost use Rattle.tag.specs.Names.{is_key};
@@ -7,12 +7,9 @@ ghost use Rattle.file_format.specs.Ranges.{IsValue};
 ghost use Rattle.file_format.specs.Texts.{hall_text};
 
 use crate::line_texts::LinePart;
-use crate::texts::plain_length;
+use row_members::plain_length;
 use std::str;
 use tag::is_key;
-
-/// The most digits of a number of 32 bits.
-const MOST_DIGITS: usize = 10;
 
 /// The most bytes of a value.
 const LONGEST_VALUE: usize = 256;
@@ -48,32 +45,17 @@ pub(crate) fn is_all<const N: usize>(bytes: &[u8], text: &[u8; N]) -> bool
     }
 }
 
-/// Whether so many digits at the front are as a number is written: some, and no zero before others.
-#[inline(always)]
-fn are_spelled(bytes: &[u8], count: usize) -> bool
-    requires { count ≤ length bytes.now }
-    ensures some { IsTrue result → 0 < count }
-    ensures alone { IsTrue result → slice_index bytes.now 0 ≡ 48 → count ≡ 1 }
-{
-    count == 1 || (count > 1 && bytes[0] != b'0')
-}
-
 /// The number of at most 32 bits that the bytes begin with, as it is written, and what is after
 /// it.
 #[inline(always)]
 pub(crate) fn first_number(bytes: &[u8]) -> Option<(u32, &[u8])>
     ensures { IfSome result (λ found. bytes.now ≡ decimal found.0 ++ found.1.now) }
 {
-    let mut value: u64 = 0;
-    let mut count = 0;
-    while count < bytes.len().min(MOST_DIGITS) && bytes[count].is_ascii_digit() {
-        value = value * 10 + u64::from(bytes[count] - b'0');
-        count += 1;
-    }
-    if value > u64::from(u32::MAX) || !are_spelled(bytes, count) {
+    let (number, count) = row_members::first_number(bytes)?;
+    if number > u64::from(u32::MAX) {
         return None;
     }
-    Some((value as u32, &bytes[count..]))
+    Some((number as u32, &bytes[count..]))
 }
 
 /// The text in quotation marks that the bytes begin with, where it has no escape, and what is

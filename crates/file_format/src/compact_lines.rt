@@ -18,8 +18,9 @@ use crate::hall_row::HallRow;
 use crate::line_row::{LineRow, RowKind};
 use crate::line_texts::{LinePart, LinePlace, LineText};
 use crate::order_piece::OrderPiece;
-use crate::texts::{MOST_IN_PIECE, append_piece, plain_length};
+use crate::texts::{MOST_IN_PIECE, append_piece};
 use recorder::Order;
+use row_members::plain_length;
 use std::alloc::Global;
 use std::str;
 use tag::{ClientId, Memory, OpId, Tag, is_key};
@@ -297,7 +298,7 @@ fn guessed_piece(
     }
     let order = Order::from_vec(guessed_calls(alloc, rest)?);
     let start = BEFORE_KEY.len();
-    let piece = OrderPiece::new(alloc, place, LineText { text, start }, order)?;
+    let piece = OrderPiece::new(place, LineText { text, start }, order)?;
     Ok(Some(piece))
 }
 

@@ -13,7 +13,6 @@ use crate::line_texts::LinePlace;
 use crate::row_document::RowDocument;
 use crate::rows::row_in;
 use row_members::Name;
-use std::alloc::Global;
 
 /// A row, and the number of the hall that it is of.
 #[derive(Debug, Drop)]
@@ -35,21 +34,16 @@ fn hall_of(number: u64, halls: u8) -> Result<u8, Stop>
 
 /// The row of version 1 that the value says.
 #[tactic(auto, unfolding(crate::specs::HallRows::only_row_in))]
-fn only_row_in(
-    alloc: Global,
-    place: &LinePlace,
-    document: &RowDocument<'_, '_>,
-) -> Result<HallRow, Stop>
+fn only_row_in(place: &LinePlace, document: &RowDocument<'_, '_>) -> Result<HallRow, Stop>
     ensures { Gives (λ item. item) result (only_row_in (row_data document.now)) }
 {
-    let row = row_in(alloc, place, document)?;
+    let row = row_in(place, document)?;
     Ok(HallRow { hall: 0, row })
 }
 
 /// The row of version 2 that the value says, and its hall.
 #[tactic(auto, unfolding(crate::specs::HallRows::placed_row_in))]
 fn placed_row_in(
-    alloc: Global,
     place: &LinePlace,
     halls: u8,
     document: &RowDocument<'_, '_>,
@@ -57,7 +51,7 @@ fn placed_row_in(
     ensures { Gives (λ item. item) result (placed_row_in halls (row_data document.now)) }
 {
     let number = document.needed_number(Name::Hall)?;
-    let row = row_in(alloc, place, document)?;
+    let row = row_in(place, document)?;
     let hall = hall_of(number, halls)?;
     Ok(HallRow { hall, row })
 }
@@ -65,7 +59,6 @@ fn placed_row_in(
 /// The row that the value says after that header, and its hall.
 #[tactic(auto, unfolding(crate::specs::HallRows::hall_row_in))]
 pub(crate) fn hall_row_in(
-    alloc: Global,
     place: &LinePlace,
     header: FileHeader,
     document: &RowDocument<'_, '_>,
@@ -73,7 +66,7 @@ pub(crate) fn hall_row_in(
     ensures { Gives (λ item. item) result (hall_row_in header (row_data document.now)) }
 {
     match header {
-        FileHeader::Version1 => only_row_in(alloc, place, document),
-        FileHeader::Version2 { halls, .. } => placed_row_in(alloc, place, halls.count(), document),
+        FileHeader::Version1 => only_row_in(place, document),
+        FileHeader::Version2 { halls, .. } => placed_row_in(place, halls.count(), document),
     }
 }

@@ -50,10 +50,10 @@ fn read_row(alloc: Global, tools: &mut LineTools, line: &[u8]) -> Result<LineRow
 {
     let mut room = [None; NAMES];
     if let Some(members) = RowMembers::read(line, &mut room) {
-        return row_in(alloc, &tools.place, &RowDocument::Members(&members));
+        return row_in(&tools.place, &RowDocument::Members(&members));
     }
     let document = Document::read(alloc, line, &mut tools.scratch)?;
-    row_in(alloc, &tools.place, &RowDocument::Value(&document))
+    row_in(&tools.place, &RowDocument::Value(&document))
 }
 
 #[inline(never)]
@@ -68,10 +68,10 @@ fn read_hall_row(
 {
     let mut room = [None; NAMES];
     if let Some(members) = RowMembers::read(line, &mut room) {
-        return hall_row_in(alloc, &tools.place, header, &RowDocument::Members(&members));
+        return hall_row_in(&tools.place, header, &RowDocument::Members(&members));
     }
     let document = Document::read(alloc, line, &mut tools.scratch)?;
-    hall_row_in(alloc, &tools.place, header, &RowDocument::Value(&document))
+    hall_row_in(&tools.place, header, &RowDocument::Value(&document))
 }
 
 impl LineItem for LineRow {

@@ -5,7 +5,6 @@ ghost use Rattle.recorder.specs.declared.row.Row.{Row};
 ghost use Rattle.file_format.specs.LineRows.{AreLawful, HaveValue, action_said, returned_said, row_with};
 
 use crate::line_texts::{LinePart, LinePlace, LineText, LineTexts};
-use std::alloc::Global;
 use std::marker::Model;
 use tag::{ClientId, Memory, OpId, Tag};
 
@@ -49,7 +48,6 @@ impl Model for LineRow {
 impl LineRow {
     /// The row of that kind, whose line stands there.
     fn new(
-        alloc: Global,
         place: &LinePlace,
         kind: RowKind,
         key: LineText<'_>,
@@ -58,7 +56,7 @@ impl LineRow {
         requires { AreLawful kind key.text.now value.text.now }
         ensures { IfOk result (λ row. row ≡ row_with kind key.entry.text.now value.entry.text.now) }
     {
-        let texts = LineTexts::new(alloc, place, key, value)?;
+        let texts = LineTexts::new(place, key, value)?;
         Ok(LineRow { kind, texts })
     }
 
@@ -84,7 +82,6 @@ impl LineRow {
 
     /// A client begins a call on the key: a write of that value, or a read.
     pub(crate) fn invoke(
-        alloc: Global,
         place: &LinePlace,
         op: OpId,
         client: ClientId,
@@ -99,28 +96,22 @@ impl LineRow {
         match written {
             None => {
                 let kind = RowKind::Read { op, client };
-                LineRow::new(alloc, place, kind, key, LineText::none())
+                LineRow::new(place, kind, key, LineText::none())
             }
-            Some(value) => LineRow::new(alloc, place, RowKind::Write { op, client }, key, value),
+            Some(value) => LineRow::new(place, RowKind::Write { op, client }, key, value),
         }
     }
 
     /// A call's tag is fixed.
-    pub(crate) fn note(
-        alloc: Global,
-        place: &LinePlace,
-        op: OpId,
-        tag: Tag,
-    ) -> Result<LineRow, Memory>
+    pub(crate) fn note(place: &LinePlace, op: OpId, tag: Tag) -> Result<LineRow, Memory>
         ensures { IfOk result (λ row. row ≡ Row.Note op tag) }
     {
         let none = LineText::none();
-        LineRow::new(alloc, place, RowKind::Note { op, tag }, none, none)
+        LineRow::new(place, RowKind::Note { op, tag }, none, none)
     }
 
     /// A call is answered.
     pub(crate) fn respond(
-        alloc: Global,
         place: &LinePlace,
         op: OpId,
         answered: Option<Option<LineText<'_>>>,
@@ -130,9 +121,9 @@ impl LineRow {
     {
         let none = LineText::none();
         match answered {
-            None => LineRow::new(alloc, place, RowKind::Done { op }, none, none),
-            Some(None) => LineRow::new(alloc, place, RowKind::Absent { op }, none, none),
-            Some(Some(value)) => LineRow::new(alloc, place, RowKind::Answer { op }, none, value),
+            None => LineRow::new(place, RowKind::Done { op }, none, none),
+            Some(None) => LineRow::new(place, RowKind::Absent { op }, none, none),
+            Some(Some(value)) => LineRow::new(place, RowKind::Answer { op }, none, value),
         }
     }
 }

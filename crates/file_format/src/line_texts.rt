@@ -24,9 +24,11 @@ pub(crate) struct LinePart<'a> {
     pub(crate) behind: usize,
 }
 
-/// Where a line stands: in which bytes, and how many of them are before it.
+/// Where a line stands: in which bytes, and how many of them are before it. Texts that don't stand there
+/// are allocated.
 #[derive(Drop)]
 pub(crate) struct LinePlace {
+    alloc: Global,
     pub(crate) bytes: Arc<Vec<u8>>,
     pub(crate) start: usize,
 }
@@ -127,6 +129,7 @@ impl LinePlace {
     /// No line.
     pub(crate) fn new(alloc: Global) -> Result<LinePlace, Memory> {
         Ok(LinePlace {
+            alloc,
             bytes: shared(alloc, &[])?,
             start: 0,
         })
@@ -203,7 +206,6 @@ impl LinePlace {
 impl LineTexts {
     /// The texts of a line that stands there.
     pub(crate) fn new(
-        alloc: Global,
         place: &LinePlace,
         key: LineText<'_>,
         value: LineText<'_>,
@@ -213,7 +215,7 @@ impl LineTexts {
     {
         match place.found(key, value)? {
             Some(texts) => Ok(texts),
-            None => LineTexts::copied(alloc, key.text, value.text),
+            None => LineTexts::copied(place.alloc, key.text, value.text),
         }
     }
 

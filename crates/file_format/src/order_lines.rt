@@ -48,5 +48,5 @@ pub(crate) fn piece_in(
     let numbers = document.needed_numbers(alloc, "order")?;
     let key = key_of(text)?;
     let order = calls_of(alloc, numbers.as_slice())?;
-    Ok(OrderPiece::new(alloc, place, key, order)?)
+    Ok(OrderPiece::new(place, key, order)?)
 }

@@ -4,7 +4,6 @@ ghost use Rattle.tag.specs.Names.{is_key};
 
 use crate::line_texts::{LinePlace, LineText, LineTexts};
 use recorder::Order;
-use std::alloc::Global;
 use std::marker::Model;
 use tag::{Memory, OpId};
 
@@ -31,7 +30,6 @@ impl Model for OrderPiece {
 impl OrderPiece {
     /// The piece with that key, whose line stands there.
     pub(crate) fn new(
-        alloc: Global,
         place: &LinePlace,
         key: LineText<'_>,
         order: Order,
@@ -40,7 +38,7 @@ impl OrderPiece {
         ensures key { IfOk result (λ piece. piece.key ≡ key.entry.text.now) }
         ensures order { IfOk result (λ piece. piece.order ≡ order) }
     {
-        let texts = LineTexts::new(alloc, place, key, LineText::none())?;
+        let texts = LineTexts::new(place, key, LineText::none())?;
         Ok(OrderPiece { texts, order })
     }
 

@@ -16,11 +16,9 @@ use crate::line_texts::{LinePlace, LineText};
 use crate::ranges::{client_of, key_of, op_of, tag_of, value_of};
 use crate::row_document::RowDocument;
 use row_members::Name;
-use std::alloc::Global;
 
 #[tactic(auto, unfolding(crate::specs::Rows::invocation_of))]
 fn invocation_of(
-    alloc: Global,
     place: &LinePlace,
     call: u64,
     client: u64,
@@ -34,7 +32,7 @@ fn invocation_of(
     let op = op_of(call)?;
     let client = client_of(client)?;
     let key = key_of(key)?;
-    Ok(LineRow::invoke(alloc, place, op, client, key, written)?)
+    Ok(LineRow::invoke(place, op, client, key, written)?)
 }
 
 #[tactic(auto, unfolding(crate::specs::Rows::written_in))]
@@ -67,11 +65,7 @@ fn action_of<'d>(
 }
 
 #[tactic(auto, unfolding(crate::specs::Rows::invoke_in))]
-fn invoke_in(
-    alloc: Global,
-    place: &LinePlace,
-    document: &RowDocument<'_, '_>,
-) -> Result<LineRow, Stop>
+fn invoke_in(place: &LinePlace, document: &RowDocument<'_, '_>) -> Result<LineRow, Stop>
     ensures { Gives (λ row. row) result (invoke_in (row_data document.now)) }
 {
     let call = document.needed_number(Name::Call)?;
@@ -79,15 +73,11 @@ fn invoke_in(
     let key = document.needed_text(Name::Key)?;
     let name = document.needed_text(Name::Do)?;
     let written = action_of(name.text, document)?;
-    invocation_of(alloc, place, call, client, key, written)
+    invocation_of(place, call, client, key, written)
 }
 
 #[tactic(auto, unfolding(crate::specs::Rows::note_in))]
-fn note_in(
-    alloc: Global,
-    place: &LinePlace,
-    document: &RowDocument<'_, '_>,
-) -> Result<LineRow, Stop>
+fn note_in(place: &LinePlace, document: &RowDocument<'_, '_>) -> Result<LineRow, Stop>
     ensures { Gives (λ row. row) result (note_in (row_data document.now)) }
 {
     let call = document.needed_number(Name::Call)?;
@@ -95,7 +85,7 @@ fn note_in(
     let writer = document.needed_number(Name::Writer)?;
     let op = op_of(call)?;
     let tag = tag_of(number, writer)?;
-    Ok(LineRow::note(alloc, place, op, tag)?)
+    Ok(LineRow::note(place, op, tag)?)
 }
 
 #[tactic(auto, unfolding(crate::specs::Rows::answer_of))]
@@ -122,34 +112,25 @@ fn returned_in<'d>(document: &'d RowDocument<'_, '_>) -> Result<Option<Option<Li
 }
 
 #[tactic(auto, unfolding(crate::specs::Rows::respond_in))]
-fn respond_in(
-    alloc: Global,
-    place: &LinePlace,
-    document: &RowDocument<'_, '_>,
-) -> Result<LineRow, Stop>
+fn respond_in(place: &LinePlace, document: &RowDocument<'_, '_>) -> Result<LineRow, Stop>
     ensures { Gives (λ row. row) result (respond_in (row_data document.now)) }
 {
     let call = document.needed_number(Name::Call)?;
     let answered = returned_in(document)?;
     let op = op_of(call)?;
-    Ok(LineRow::respond(alloc, place, op, answered)?)
+    Ok(LineRow::respond(place, op, answered)?)
 }
 
 #[tactic(auto, unfolding(crate::specs::Rows::row_of))]
-fn row_of(
-    alloc: Global,
-    place: &LinePlace,
-    kind: &str,
-    document: &RowDocument<'_, '_>,
-) -> Result<LineRow, Stop>
+fn row_of(place: &LinePlace, kind: &str, document: &RowDocument<'_, '_>) -> Result<LineRow, Stop>
     ensures { Gives (λ row. row) result (row_of kind.now (row_data document.now)) }
 {
     if kind == "invoke" {
-        invoke_in(alloc, place, document)
+        invoke_in(place, document)
     } else if kind == "note" {
-        note_in(alloc, place, document)
+        note_in(place, document)
     } else if kind == "respond" {
-        respond_in(alloc, place, document)
+        respond_in(place, document)
     } else {
         Err(Stop::Fault(LineFault::Range))
     }
@@ -157,13 +138,9 @@ fn row_of(
 
 /// The row that the value says, whose line stands there.
 #[tactic(auto, unfolding(crate::specs::Rows::row_in))]
-pub(crate) fn row_in(
-    alloc: Global,
-    place: &LinePlace,
-    document: &RowDocument<'_, '_>,
-) -> Result<LineRow, Stop>
+pub(crate) fn row_in(place: &LinePlace, document: &RowDocument<'_, '_>) -> Result<LineRow, Stop>
     ensures { Gives (λ row. row) result (row_in (row_data document.now)) }
 {
     let kind = document.needed_text(Name::Row)?;
-    row_of(alloc, place, kind.text, document)
+    row_of(place, kind.text, document)
 }

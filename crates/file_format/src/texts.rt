@@ -1,13 +1,13 @@
 //! Lines, as they are written.
-ghost use Rattle.std.specs.Prelude.{◌≡◌, ◌++◌, ◌<◌, ◌≤◌, true, false, codes, decimal, length, take, slice_index, OnOk};
+ghost use Rattle.std.specs.Prelude.{◌≡◌, ◌++◌, ◌<◌, true, false, codes, decimal, length, slice_index, OnOk};
 ghost use Rattle.std.specs.List.{list_all};
 ghost use Rattle.json.specs.Print.{quoted};
 ghost use Rattle.serde_json.specs.Data.{string, member, no_members};
 ghost use Rattle.serde_json.specs.Written.{items_text, members_text};
 ghost use Rattle.counted_devices.specs.Cuts.{with_end};
+ghost use Rattle.row_members.specs.Scans.{is_plain};
 ghost use Rattle.tag.specs.Names.{is_key};
 ghost use Rattle.tag.specs.declared.actions.Returned.{Returned};
-ghost use Rattle.file_format.specs.PlainTexts.{is_plain};
 ghost use Rattle.file_format.specs.Ranges.{IsOp, HasAnswerIn, AreOps, IsInvocation, IsNote};
 ghost use Rattle.file_format.specs.Ranges.{IsResponse, IsRowInRange, IsOrderInRange};
 ghost use Rattle.file_format.specs.Texts.{header_data, file_header_data, hall_text, answered_member};
@@ -19,6 +19,7 @@ use itoa::Buffer;
 use json::Writer;
 use quorum::{Quorums, ReplicaSet};
 use recorder::{ActionRef, Halls, KeyRef, ReturnedRef, Row, ValueRef};
+use row_members::is_plain_byte;
 use std::mem;
 use tag::{ClientId, Memory, OpId, ReplicaId, Tag};
 
@@ -44,30 +45,11 @@ fn append_number(out: &mut Vec<u8>, before: &[u8], number: u32) -> Result<(), Me
     Ok(())
 }
 
-/// Whether the byte stands for itself in a JSON string.
-fn is_plain_byte(byte: u8) -> bool
-    ensures { result ≡ is_plain byte }
-{
-    byte >= b' ' && byte != b'"' && byte != b'\\'
-}
-
 /// Whether the text stands in a JSON string without an escape.
 fn is_plain(text: &str) -> bool
     ensures { result ≡ list_all is_plain text.now }
 {
     text.as_bytes().iter().all(|byte| is_plain_byte(*byte))
-}
-
-/// How many bytes stand for themselves in a JSON string before one that doesn't, or the end.
-pub(crate) fn plain_length(bytes: &[u8]) -> usize
-    ensures length { result ≤ length bytes.now }
-    ensures plain { list_all is_plain (take result bytes.now) ≡ true }
-{
-    let mut count = 0;
-    while count < bytes.len() && is_plain_byte(bytes[count]) {
-        count += 1;
-    }
-    count
 }
 
 /// Adds the text as a JSON string, with its escapes. Without memory all bytes are lost.

@@ -1,10 +1,21 @@
 -- A key whose number stands in a table is found there.
-use Rattle.std.proofs.Common.{ℕ, ◌≡◌, ◌<◌, ◌+◌, inl, inr, List, Some, length, sym, ◌∙◌, ap, arith, below_more}
+use Rattle.std.proofs.Common.{ℕ, ◌≡◌, ◌<◌, ◌+◌, inl, inr, List, Some, true, length, get_or, nat_lt, sym, ◌∙◌, ap, ltb-true, arith, below_more}
 use Rattle.std.specs.List.{slice_get}
 use Rattle.std.proofs.lemmas.Bool.{cases_lt, cases_eq}
 use Rattle.std.proofs.lemmas.Option.{same_Some}
+use Rattle.tag.proofs.Lists.{item_at}
 use Rattle.key_index.specs.declared.slots.Slot.{Slot}
 use Rattle.key_index.specs.Slots.{place_of, IsTaken, Stands}
+
+-- an element that was looked up stands there
+pub found_at : {X : Type 0} (xs : List X) (k : ℕ) (x : X) → true ≡ nat_lt k (length xs) → x ≡ get_or xs k x → slice_get xs k ≡ Some x
+found_at xs k x less is = item_at xs k x (ltb-true k (length xs) (sym less)) is
+
+-- the slot that was looked up, so many steps from the mark's home
+pub slot_at : (slots : List Slot) (mark steps place : ℕ) (slot : Slot) → place ≡ place_of mark steps (length slots)
+    → true ≡ nat_lt place (length slots) → slot ≡ get_or slots place slot
+    → slice_get slots (place_of mark steps (length slots)) ≡ Some slot
+slot_at slots mark steps place slot is less there = ap (slice_get slots) (sym is) ∙ found_at slots place slot less there
 
 -- the key's number stands at none of the places before so many steps
 abbrev pub IsPassed : List Slot → List (List ℕ) → ℕ → List ℕ → ℕ → Type 0

@@ -72,6 +72,15 @@ zip_all (x ∷ keys) (y ∷ parts) same = ap suc (zip_all keys parts (omega (ari
 pub length-entries : (from : Record) (groups : List (List ℕ)) → AreEntries from groups → length (entries_of from groups) ≡ length from.rows.keys
 length-entries from groups are = zip_all from.rows.keys (map (calls_of from) groups) (length-map groups (calls_of from) ∙ are.all)
 
+zip_keys : (keys : List (List ℕ)) (parts : List (List Call)) → length parts ≡ length keys → map (λ (e : List ℕ × List Call). e.0) (zip keys parts) ≡ keys
+zip_keys [] parts same = refl
+zip_keys (x ∷ keys) [] same = absurd (omega (arith, same))
+zip_keys (x ∷ keys) (y ∷ parts) same = ap (λ (l : List (List ℕ)). x ∷ l) (zip_keys keys parts (omega (arith, same)))
+
+-- the keys of the entries
+pub entries-keys : (from : Record) (groups : List (List ℕ)) → AreEntries from groups → map (λ (e : List ℕ × List Call). e.0) (entries_of from groups) ≡ from.rows.keys
+entries-keys from groups are = zip_keys from.rows.keys (map (calls_of from) groups) (length-map groups (calls_of from) ∙ are.all)
+
 pub entry-at : (from : Record) (groups : List (List ℕ)) (k : ℕ) (key numbers : List ℕ) → slice_get from.rows.keys k ≡ Some key → slice_get groups k ≡ Some numbers → slice_get (entries_of from groups) k ≡ Some (key, calls_of from numbers)
 entry-at from groups k key numbers at there = zip_at from.rows.keys (map (calls_of from) groups) k key (calls_of from numbers) at (slice_get-map_at (calls_of from) groups k numbers there)
 

@@ -1,5 +1,5 @@
 -- How many rows the states of the calls account for.
-use Rattle.std.proofs.Common.{ℕ, ◌≡◌, ◌≤◌, ◌<◌, ◌+◌, ◌*◌, List, Option, Some, None, set, length, arith, ap, sym, ◌∙◌, refl, length-set}
+use Rattle.std.proofs.Common.{ℕ, ◌≡◌, ◌≤◌, ◌<◌, ◌+◌, ◌*◌, List, Option, Some, None, set, length, arith, ap, sym, ◌∙◌, length-set}
 use Rattle.std.specs.List.{slice_get, slice_index_or, All}
 use Rattle.std.proofs.lemmas.List.Sums.{sum_by-set, sum_by-le}
 use Rattle.std.proofs.lemmas.Option.{slice_get_within, get_or_from_slice_get}
@@ -30,18 +30,10 @@ row_count-set states k state new at =
 
 -- a note, or a response, makes one more
 pub rows_of-noted : (state : CallState) (tag : Tag) → state.note ≡ None → rows_of (record state { note = Some tag }) ≡ rows_of state + 1
-rows_of-noted state tag none = by state.response refl
-  where
-    by : (response : Option ℕ) → state.response ≡ response → rows_of (record state { note = Some tag }) ≡ rows_of state + 1
-    by None e = rw (none, e) refl
-    by (Some place) e = rw (none, e) refl
+rows_of-noted state tag none = rw none (omega (arith))
 
 pub rows_of-answered : (state : CallState) (place : ℕ) → state.response ≡ None → rows_of (record state { response = Some place }) ≡ rows_of state + 1
-rows_of-answered state place none = by state.note refl
-  where
-    by : (note : Option Tag) → state.note ≡ note → rows_of (record state { response = Some place }) ≡ rows_of state + 1
-    by None e = rw (none, e) refl
-    by (Some tag) e = rw (none, e) refl
+rows_of-answered state place none = rw none (omega (arith))
 
 -- so there is room for a row more while a call may begin, and while one has no note or no response
 pub room-begin : (states : List CallState) (rows limit calls : ℕ) → rows ≤ row_count states → length states ≡ calls → calls < limit → limit ≤ call_limit → rows < row_limit

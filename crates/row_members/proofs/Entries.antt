@@ -43,13 +43,11 @@ place_in Writer = refl
 one_place : (m n : Name) → text_of m ≡ text_of n → place_of m ≡ place_of n
 one_place m n e = sym (place_in m) ∙ ap (λ (s : List ℕ). place_by_sum (total s)) e ∙ place_in n
 
-name_at : ℕ → Name
-name_at n =
-    cond (n == 0) Call (cond (n == 1) Client (cond (n == 2) Do (cond (n == 3) Hall (cond (n == 4) Key
-    (cond (n == 5) Number (cond (n == 6) Row (cond (n == 7) Value Writer)))))))
+-- the names in the order of their places
+abbrev pub names : List Name
+names = Call ∷ Client ∷ Do ∷ Hall ∷ Key ∷ Number ∷ Row ∷ Value ∷ Writer ∷ []
 
-named_at : (name : Name) → name_at (place_of name) ≡ name
-unfolding name_at
+pub named_at : (name : Name) → get_or names (place_of name) Call ≡ name
 named_at Call = refl
 named_at Client = refl
 named_at Do = refl
@@ -61,7 +59,7 @@ named_at Value = refl
 named_at Writer = refl
 
 one_name : (m n : Name) → place_of m ≡ place_of n → m ≡ n
-one_name m n e = sym (named_at m) ∙ ap name_at e ∙ named_at n
+one_name m n e = sym (named_at m) ∙ ap (λ (k : ℕ). get_or names k Call) e ∙ named_at n
 
 -- ---- the entries after a member
 

@@ -1,5 +1,6 @@
 mod Digits
-mod Pieces
+pub mod PlainTexts
+pub mod Pieces
 mod MemberKeys
 mod MemberValues
 mod Entries

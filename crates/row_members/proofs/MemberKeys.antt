@@ -11,7 +11,7 @@ use Rattle.row_members.specs.declared.name.Name.TheVariants.{Call, Client, Do, H
 use Rattle.row_members.specs.Names.{text_of}
 use Rattle.row_members.specs.Scans.{is_plain, Skips, Passes, Holds, HoldsName}
 use Rattle.row_members.specs.Scans.{IsNamed, HoldsKey}
-use Rattle.row_members.proofs.Pieces.{lex_plain}
+use Rattle.row_members.proofs.Pieces.{lex_plain, skip_holds}
 
 colon_first : (r : List ℕ) → lex between (58 ∷ r) ≡ colon ∷ lex between r
 unfolding lex
@@ -36,15 +36,7 @@ skip_none line at within = record { ahead = omega arith; within = within; lexed 
 
 pub skip_key : (line : List ℕ) (start at end : ℕ) (name : Option Name) → Skips line start at → HoldsKey line at name end
     → HoldsKey line start name end
-skip_key line start at end name skipped h = (
-  h.0,
-  h.1,
-  record {
-    ahead = omega (arith, skipped.ahead, h.2.ahead);
-    within = h.2.within;
-    lexed = skipped.lexed ∙ h.2.lexed;
-  },
-)
+skip_key line start at end name skipped h = (h.0, h.1, skip_holds line start at end (token (string h.0) ∷ colon ∷ []) skipped h.2)
 
 name_plain : (name : Name) → list_all is_plain (text_of name) ≡ true
 name_plain Call = refl

@@ -17,6 +17,7 @@ use Rattle.row_members.specs.declared.member.Member.TheVariants as member
 use Rattle.row_members.specs.Scalars.{Scalar, nothing, text, digits, token_of, data_of}
 use Rattle.row_members.specs.Scans.{Skips, Holds, HoldsText, BeginsWith}
 use Rattle.row_members.specs.Scans.{HoldsValue}
+use Rattle.row_members.proofs.Pieces.{skip_holds}
 
 lex_null : (r : List ℕ) → ends_word r ≡ true → lex between (codes "null" ++ r) ≡ token null ∷ lex between r
 unfolding lex word
@@ -59,12 +60,4 @@ text_value line s start end h same = (text (slice_range line (start + 1) (end - 
 
 pub skip_value : (line : List ℕ) (start at end : ℕ) (member : Member) → Skips line start at → HoldsValue line at member end
     → HoldsValue line start member end
-skip_value line start at end member skipped h = (
-  h.0,
-  h.1,
-  record {
-    ahead = omega (arith, skipped.ahead, h.2.ahead);
-    within = h.2.within;
-    lexed = skipped.lexed ∙ h.2.lexed;
-  },
-)
+skip_value line start at end member skipped h = (h.0, h.1, skip_holds line start at end (token (token_of h.0) ∷ []) skipped h.2)

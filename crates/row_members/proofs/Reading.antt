@@ -19,6 +19,7 @@ use Rattle.row_members.proofs.Objects.{Pair, tail, puts, read_object}
 
 -- up to that place the members have been read, and the rest decides what the line is read as
 pub record IsReadTo (line : List ℕ) (at : ℕ) (members : List (Option Member)) : Type 0 where
+  pub within : at ≤ length line
   pub found : Members
   pub each : (name : Name) → entry_of name members ≡ get_member (text_of name) found
   pub rest : (ps : List Pair) → lexemes_from line at ≡ tail ps → read line ≡ Some (object (puts ps found))
@@ -64,13 +65,10 @@ of_line : (line text : List ℕ) (start end : ℕ) (before after : List (Option 
     → AddsMember text start before after end → AddsMember line start before after end
 of_line line text start end before after same = subst (λ (t : List ℕ). AddsMember t start before after end) same
 
-pub within_line : (line text : List ℕ) (start end : ℕ) (before after : List (Option Member)) → text ≡ line
-    → AddsMember text start before after end → end ≤ length line
-within_line line text start end before after same h = (of_line line text start end before after same h).holds.within
-
 pub first_read : (line text : List ℕ) (next end : ℕ) (before after : List (Option Member)) → before ≡ replicate 9 None → text ≡ line
     → Passes line 0 123 next → AddsMember text next before after end → IsReadTo line end after
 first_read line text next end before after empty is passed said = let a = of_line line text next end before after is said in record {
+  within = a.holds.within;
   found = put a.key (data_of a.scalar) no_members;
   each = λ name. entry_after a.key (data_of a.scalar) no_members before after name (ap (entry_of name) empty ∙ no_entry name) (a.each name);
   rest = λ ps lexed. read_object line a.key a.scalar ps (passed.lexed ∙ brace_first (drop next line)
@@ -81,6 +79,7 @@ first_read line text next end before after empty is passed said = let a = of_lin
 pub more_read : (line text : List ℕ) (at next end : ℕ) (before after : List (Option Member)) → IsReadTo line at before → text ≡ line
     → Passes line at 44 next → AddsMember text next before after end → IsReadTo line end after
 more_read line text at next end before after r is passed said = let a = of_line line text next end before after is said in record {
+  within = a.holds.within;
   found = put a.key (data_of a.scalar) r.found;
   each = λ name. entry_after a.key (data_of a.scalar) r.found before after name (r.each name) (a.each name);
   rest = λ ps lexed. r.rest ((a.key, a.scalar) ∷ ps) (passed.lexed ∙ comma_first (drop next line)

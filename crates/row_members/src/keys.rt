@@ -1,51 +1,34 @@
 //! The keys of a line's members.
-ghost use Rattle.std.specs.Prelude.{◌≡◌, ◌∷◌, [], ◌≤◌, ◌↔◌, ◌++◌, length, IfSome, IsTrue};
+ghost use Rattle.std.specs.Prelude.{◌≡◌, ◌∷◌, [], ◌≤◌, ◌++◌, length, IfSome};
 ghost use Rattle.row_members.specs.Names.{text_of};
 ghost use Rattle.row_members.specs.Scans.{HoldsKey, HoldsName, IsNamed};
 
 use crate::name::Name;
+use crate::row_members::NAMES;
 use crate::scan::{after_byte, after_space, begins_with, text_end};
 
-/// Whether the bytes are that text.
-fn is_all<const N: usize>(bytes: &[u8], text: &[u8; N]) -> bool
-    ensures { IsTrue result ↔ (bytes.now ≡ text.now) }
-{
-    match bytes.as_array::<N>() {
-        Some(array) => array == text,
-        None => false,
-    }
-}
+/// The names, each at its place.
+const NAMES_IN_ORDER: [Name; NAMES] = [
+    Name::Call,
+    Name::Client,
+    Name::Do,
+    Name::Hall,
+    Name::Key,
+    Name::Number,
+    Name::Row,
+    Name::Value,
+    Name::Writer,
+];
 
 /// The name that the text is.
 fn name_of(text: &[u8]) -> Option<Name>
     ensures { IsNamed text.now result }
 {
-    if is_all(text, b"call") {
-        return Some(Name::Call);
-    }
-    if is_all(text, b"client") {
-        return Some(Name::Client);
-    }
-    if is_all(text, b"do") {
-        return Some(Name::Do);
-    }
-    if is_all(text, b"hall") {
-        return Some(Name::Hall);
-    }
-    if is_all(text, b"key") {
-        return Some(Name::Key);
-    }
-    if is_all(text, b"number") {
-        return Some(Name::Number);
-    }
-    if is_all(text, b"row") {
-        return Some(Name::Row);
-    }
-    if is_all(text, b"value") {
-        return Some(Name::Value);
-    }
-    if is_all(text, b"writer") {
-        return Some(Name::Writer);
+    for place in 0..NAMES {
+        let name = NAMES_IN_ORDER[place];
+        if text == name.text().as_bytes() {
+            return Some(name);
+        }
     }
     None
 }

@@ -4,6 +4,8 @@
 //! without escapes, in any order and with any white space. It has the members that `serde_json`
 //! reads: of a name that comes twice the last. Any other line is left to the JSON reader. Nothing
 //! is allocated, and texts stay where they lie.
+//!
+//! What a number and a plain text are to JSON is offered too, for other readers of such lines.
 #![tactic(auto)]
 
 mod keys;
@@ -16,3 +18,5 @@ mod values;
 pub use member::Member;
 pub use name::Name;
 pub use row_members::{MemberRoom, NAMES, RowMembers};
+pub use scan::{is_plain_byte, plain_length};
+pub use values::first_number;

@@ -1,6 +1,6 @@
 //! White space, single bytes and texts of a line, each from a place on.
-ghost use Rattle.std.specs.Prelude.{◌≡◌, ◌≤◌, ◌++◌, true, drop, length, IfSome, IsTrue};
-ghost use Rattle.std.specs.List.{list_all, slice_range};
+ghost use Rattle.std.specs.Prelude.{◌≡◌, ◌≤◌, ◌++◌, true, drop, length, take, IfSome, IsTrue};
+ghost use Rattle.std.specs.List.{list_all};
 ghost use Rattle.json.specs.Word.{is_space};
 ghost use Rattle.row_members.specs.Scans.{is_plain, HoldsText, Passes, Skips};
 
@@ -37,24 +37,22 @@ pub(crate) fn after_byte(line: &[u8], start: usize, byte: u8) -> Option<usize>
 }
 
 /// Whether the byte stands for itself in a JSON string.
-fn is_plain_byte(byte: u8) -> bool
+pub fn is_plain_byte(byte: u8) -> bool
     ensures { result ≡ is_plain byte }
 {
     byte >= b' ' && byte != b'"' && byte != b'\\'
 }
 
-/// The place after the bytes that stand for themselves in a JSON string.
-fn plain_end(line: &[u8], start: usize) -> usize
-    requires { start ≤ length line.now }
-    ensures ahead { start ≤ result }
-    ensures within { result ≤ length line.now }
-    ensures plain { list_all is_plain (slice_range line.now start result) ≡ true }
+/// How many bytes stand for themselves in a JSON string before one that doesn't, or the end.
+pub fn plain_length(bytes: &[u8]) -> usize
+    ensures length { result ≤ length bytes.now }
+    ensures plain { list_all is_plain (take result bytes.now) ≡ true }
 {
-    let mut at = start;
-    while at < line.len() && is_plain_byte(line[at]) {
-        at += 1;
+    let mut count = 0;
+    while count < bytes.len() && is_plain_byte(bytes[count]) {
+        count += 1;
     }
-    at
+    count
 }
 
 /// The place after the text in quotation marks that stands there, where it has no escape.
@@ -64,7 +62,8 @@ pub(crate) fn text_end(line: &[u8], start: usize) -> Option<usize>
     if start >= line.len() || line[start] != b'"' {
         return None;
     }
-    let stop = plain_end(line, start + 1);
+    let first = start + 1;
+    let stop = first + plain_length(&line[first..]);
     if stop < line.len() && line[stop] == b'"' {
         Some(stop + 1)
     } else {

@@ -18,6 +18,7 @@ fn is_ended(line: &[u8], at: usize) -> bool
 }
 
 /// Whether so many digits at the front are as a number is written: some, and no zero before others.
+#[inline(always)]
 fn are_spelled(bytes: &[u8], count: usize) -> bool
     requires { count ≤ length bytes.now }
     ensures some { IsTrue result → 0 < count }
@@ -27,7 +28,8 @@ fn are_spelled(bytes: &[u8], count: usize) -> bool
 }
 
 /// The number that the bytes begin with, as it is written, and how many digits it has.
-fn first_number(bytes: &[u8]) -> Option<(u64, usize)>
+#[inline(always)]
+pub fn first_number(bytes: &[u8]) -> Option<(u64, usize)>
     ensures { IfSome result (λ found. BeginsWith bytes.now found.0 found.1) }
 {
     let mut value: u64 = 0;

@@ -1,26 +1,22 @@
-use Rattle.std.proofs.Common.{◌≤◌, sym, ◌∙◌, length, ltb-true, arith}
+use Rattle.std.proofs.Common.{◌≤◌, sym, ◌∙◌, length, arith}
 use Rattle.std.proofs.lemmas.Option.{none-some, same_Some, slice_get_past}
-use Rattle.tag.proofs.Lists.{item_at}
+use Rattle.key_index.proofs.Searching.{found_at}
 use Rattle.key_index.proofs.Placements.{known_more}
 use Rattle.key_index.proofs.placing.put_among_others.Goals as goal
 
 pub returns-in_ok-insert-clause-grows : goal.returns-in_ok-insert-clause-grows
 returns-in_ok-insert-clause-grows c =
-    let keys = c.args.keys.now in
-    let key = c.in-Some.key.now in
     let found = c.in-Some.ensures.lookup in
-    let at = item_at keys c.args.number key (ltb-true c.args.number (length keys) (sym found.0)) found.1 in
-    let updates = rw c.of.ensures at c.in_ok-insert.ensures.updates in
-    known_more c.args.others.now c.insert.new.self keys key c.args.number c.requires.distinct c.requires.right at updates
+    let at = found_at c.args.keys.now c.args.number c.in-Some.key.now found.0 found.1 in
+    known_more c.args.others.now c.insert.new.self c.args.keys.now c.in-Some.key.now c.args.number c.requires.distinct c.requires.right at
+    (rw c.of.ensures at c.in_ok-insert.ensures.updates)
 
 pub returns-in_ok-insert-clause-ok : goal.returns-in_ok-insert-clause-ok
 returns-in_ok-insert-clause-ok c =
-    let keys = c.args.keys.now in
-    let key = c.in-Some.key.now in
     let found = c.in-Some.ensures.lookup in
-    let at = item_at keys c.args.number key (ltb-true c.args.number (length keys) (sym found.0)) found.1 in
+    let at = found_at c.args.keys.now c.args.number c.in-Some.key.now found.0 found.1 in
     let updates = rw c.of.ensures at c.in_ok-insert.ensures.updates in
-    λ same there. rw (← (same_Some key same (sym at ∙ there))) updates.1
+    λ same there. rw (← (same_Some c.in-Some.key.now same (sym at ∙ there))) updates.1
 
 pub returns-in_default-clause-ok : goal.returns-in_default-clause-ok
 returns-in_default-clause-ok c =

@@ -1,25 +1,18 @@
 use Rattle.std.proofs.Common.{refl, arith}
-use Rattle.row_members.proofs.Reading.{within_line, first_read, more_read, all_read}
+use Rattle.row_members.proofs.Reading.{first_read, more_read, all_read}
 use Rattle.row_members.proofs.row_members.RowMembers.read.Goals as goal
 
 pub loop-next-init : goal.loop-next-init
 loop-next-init c =
-    let line = c.args.line.now in
-    let same = c.in-Ok.ensures.cases.0 in
-    record {
-      within = within_line line _ _ _ _ _ same c.in_ok-at-2.ensures;
-      read = first_read line _ c.in_ok-at.at c.in_ok-at-2.at _ _ refl same c.in_ok-at.ensures c.in_ok-at-2.ensures;
-    }
+    let read = first_read c.args.line.now _ c.in_ok-at.at c.in_ok-at-2.at _ _ refl c.in-Ok.ensures.cases.0 c.in_ok-at.ensures
+    c.in_ok-at-2.ensures in
+    record { within = read.within; read = read }
 
 pub loop-next-preserved : goal.loop-next-preserved
 loop-next-preserved c =
-    let line = c.args.line.now in
-    let same = c.in-Ok.ensures.cases.0 in
-    record {
-      within = within_line line _ _ _ _ _ same c.in_ok-at-3.ensures;
-      read = more_read line _ c.loop-next.at c.in-Some.next c.in_ok-at-3.at _ _ c.loop-next.invariant.read same c.in-Some.ensures
-          c.in_ok-at-3.ensures;
-    }
+    let read = more_read c.args.line.now _ c.loop-next.at c.in-Some.next c.in_ok-at-3.at _ _ c.loop-next.invariant.read
+    c.in-Ok.ensures.cases.0 c.in-Some.ensures c.in_ok-at-3.ensures in
+    record { within = read.within; read = read }
 
 pub invariant_of-result : goal.invariant_of-result
 invariant_of-result c =

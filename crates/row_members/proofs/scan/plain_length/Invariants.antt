@@ -1,7 +1,7 @@
 use Rattle.std.proofs.Common.{◌≡◌, ◌≤◌, ◌-◌, true, length, take}
 use Rattle.std.specs.List.{list_all}
-use Rattle.file_format.specs.PlainTexts.{is_plain}
-use Rattle.file_format.proofs.texts.plain_length.Given as goal
+use Rattle.row_members.specs.Scans.{is_plain}
+use Rattle.row_members.proofs.scan.plain_length.Given as goal
 
 abbrev pub invariant-loop-count : goal.invariant-loop-count
 invariant-loop-count l = record {

@@ -1,8 +1,8 @@
 use Rattle.std.proofs.Common.{sym, ◌∙◌, arith}
 use Rattle.std.proofs.lemmas.Bool.{and_from}
 use Rattle.std.proofs.lemmas.List.Folds.{list_all_more}
-use Rattle.file_format.specs.PlainTexts.{is_plain}
-use Rattle.file_format.proofs.texts.plain_length.Goals as goal
+use Rattle.row_members.specs.Scans.{is_plain}
+use Rattle.row_members.proofs.scan.plain_length.Goals as goal
 
 pub loop-count-preserved : goal.loop-count-preserved
 loop-count-preserved c =
