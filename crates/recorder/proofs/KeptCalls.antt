@@ -10,32 +10,22 @@ use Rattle.tag.specs.declared.numbers.OpId.{OpId}
 use Rattle.tag.specs.Tags.{Tag}
 use Rattle.recorder.specs.declared.row.Row.{Row}
 use Rattle.recorder.specs.declared.row.Row.TheVariants.{Invoke, Note, Respond}
-use Rattle.recorder.specs.declared.row_table.Span.{Span}
+use Rattle.recorder.specs.declared.texts.Span.{Span}
 use Rattle.recorder.specs.declared.record.CallState.{CallState}
 use Rattle.recorder.specs.Histories.{call_count, FitsAction, IsWellFormed}
 use Rattle.recorder.specs.KeptCalls.{IsKeptCall, AreKept}
 use Rattle.recorder.specs.Shown.{written_of, answer_of}
-use Rattle.recorder.specs.States.{AreStates, Describes, is_write, action_by, returned_by}
+use Rattle.recorder.specs.States.{AreStates, Describes, begun, is_write, action_by, returned_by}
 use Rattle.recorder.specs.Tables.{Table, Extends, BeginsOn}
-use Rattle.recorder.specs.Texts.{IsValueAt, KeepsValue, value_in, text_at}
+use Rattle.recorder.specs.Texts.{IsValueAt, KeepsValue, value_in}
 use Rattle.tag.proofs.Lists.{Contains-slice_get, push_cases, set_cases, slice_get-append_left, slice_get-push_left, slice_get-push_last}
 use Rattle.tag.proofs.SameTags.{same_op}
 use Rattle.recorder.proofs.Numbers.{no_response}
 use Rattle.recorder.proofs.OneMore.{AnswersAnother}
-use Rattle.recorder.proofs.States.{not_answered, begun}
-use Rattle.recorder.proofs.Tables.{text-more, value-more}
+use Rattle.recorder.proofs.States.{not_answered}
+use Rattle.recorder.proofs.Tables.{value_more, value-more, written_by}
 
--- texts that come later change no value
-value_more : (old new more : List ℕ) → new ≡ old ++ more → (span : Option Span) → ForSome span (IsValueAt old) → value_in new span ≡ value_in old span
-value_more old new more is None there = refl
-value_more old new more is (Some span) there =
-    ap Some (ap (λ (l : List ℕ). text_at l span) is ∙ text-more old more span (there span refl).within)
-
--- a write's value makes its action, and any answer that fits its action is made of its kind and its value
-written_by : (action : Action) → action_by (is_write action) (written_of action) ≡ action
-written_by Read = refl
-written_by (Write value) = refl
-
+-- any answer that fits the call's action is made of its kind and its value
 fitting : (action : Action) (returned : Returned) → FitsAction action returned → (b : Bool) → b ≡ is_write action → (v : Option (List ℕ)) → (b ≡ false → v ≡ answer_of returned) → returned ≡ returned_by b v
 fitting Read (Value answer) fits true kind v is = absurd (cc)
 fitting Read (Value answer) fits false kind v is = ap Value (sym (is refl))

@@ -9,7 +9,7 @@ use Rattle.tag.specs.Tags.{Tag}
 use Rattle.recorder.specs.declared.row.Row.{Row}
 use Rattle.recorder.specs.declared.row.Row.TheVariants.{Invoke, Note, Respond}
 use Rattle.recorder.specs.declared.record.CallState.{CallState}
-use Rattle.recorder.specs.declared.row_table.Span.{Span}
+use Rattle.recorder.specs.declared.texts.Span.{Span}
 use Rattle.recorder.specs.Histories.{HasResponse, IsPendingCall}
 use Rattle.recorder.specs.States.{Describes, RespondsAt}
 use Rattle.tag.proofs.Lists.{slice_get-push_left}

@@ -1,7 +1,6 @@
 -- Calls as the rows record them.
-use Rattle.std.proofs.Common.{ℕ, ◌≡◌, ◌<◌, inl, inr, List, [], ◌∷◌, Option, Some, None, sym, ◌∙◌, ap, ap₂, subst, refl, arith}
-use Rattle.std.proofs.lemmas.Option.{slice_get_within, get_or_from_slice_get, same_Some}
-use Rattle.std.proofs.lemmas.List.Elements.{Contains-push_cases}
+use Rattle.std.proofs.Common.{ℕ, ◌≡◌, ◌<◌, List, Option, Some, None, sym, ◌∙◌, ap, ap₂, subst, refl, arith}
+use Rattle.std.proofs.lemmas.Option.{get_or_from_slice_get, same_Some}
 use Rattle.std.specs.List.{slice_get, Contains}
 use Rattle.tag.specs.declared.actions.Returned.{Returned}
 use Rattle.recorder.specs.declared.row.Row.{Row}
@@ -80,9 +79,3 @@ recorded_of table states are kept op state at key client action begun =
     let here = d.invoked ∙ ap₂ (λ (l : List ℕ) (a : Action). Some (Invoke op state.client l a)) keys (k.asks state.client d.key d.action d.invoked) in
     subst (IsRecorded table.rows key) (ap (call_with table.texts op.0) (sym (get_or_from_slice_get states op.0 state no_state at)))
     (IsRecorded-made table.rows key state (call_with table.texts op.0 state) d (is_response table.rows op state.response (returned_by state.is_write (value_in table.texts state.value)) k.answers) here refl)
-
--- a sequence of one call
-pub IsSequence-one : (rows : List Row) → IsWellFormed rows → (key : List ℕ) (call : Call) → IsRecorded rows key call → IsSequence (call ∷ [])
-IsSequence-one rows formed key call recorded = IsSequence-recorded rows formed key (call ∷ [])
-    (λ c h. elim (Contains-push_cases [] call c h) [ inl w ↦ absurd (omega (arith, w.1)) | inr w ↦ subst (λ (x : Call). IsRecorded rows key x) w recorded ])
-    (λ i j a b less at_i at_j. absurd (omega (arith, slice_get_within (call ∷ []) j b at_j)))

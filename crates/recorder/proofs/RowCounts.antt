@@ -7,7 +7,7 @@ use Rattle.tag.specs.Tags.{Tag}
 use Rattle.tag.specs.Limits.{call_limit}
 use Rattle.recorder.specs.Tables.{row_limit}
 use Rattle.recorder.specs.declared.record.CallState.{CallState}
-use Rattle.recorder.specs.declared.row_table.Span.{Span}
+use Rattle.recorder.specs.declared.texts.Span.{Span}
 use Rattle.recorder.specs.States.{rows_of, row_count}
 
 -- of a call there are at most three

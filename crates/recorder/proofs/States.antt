@@ -2,7 +2,7 @@
 use Rattle.std.proofs.Common.{ℕ, ◌≡◌, ◌⊎◌, inl, inr, List, [], ◌∷◌, ◌++◌, Option, Some, None, IsSome, length, get_or, set, sym, ◌∙◌, ap, subst, refl, arith, length-append, length-set}
 use Rattle.std.specs.List.{slice_get, Contains}
 use Rattle.std.proofs.lemmas.Option.{get_or_from_slice_get}
-use Rattle.recorder.specs.declared.row_table.Span.{Span}
+use Rattle.recorder.specs.declared.texts.Span.{Span}
 use Rattle.std.proofs.lemmas.List.Elements.{Contains-push, Contains-push_cases}
 use Rattle.tag.specs.declared.actions.Action.{Action}
 use Rattle.tag.specs.declared.actions.Returned.{Returned}
@@ -13,7 +13,7 @@ use Rattle.recorder.specs.declared.row.Row.TheVariants.{Invoke, Note, Respond}
 use Rattle.recorder.specs.declared.record.CallState.{CallState}
 use Rattle.recorder.specs.Histories.{call_count, HasNote, HasResponse, IsPendingCall, IsPendingOp, IsWellFormed, MayFollow}
 use Rattle.recorder.specs.KeptCalls.{IsKeptCall}
-use Rattle.recorder.specs.States.{Describes, AreStates, IsStateOf, call_of, call_with, is_write, no_state, place_in, response_at}
+use Rattle.recorder.specs.States.{Describes, AreStates, IsStateOf, begun, call_of, call_with, is_write, no_state, place_in, response_at}
 use Rattle.recorder.specs.Tables.{Table}
 use Rattle.tag.proofs.SameTags.{same_op}
 use Rattle.tag.proofs.Lists.{place_of, get_at, push_cases, set_cases, slice_get-push_last, Contains-slice_get}
@@ -112,18 +112,6 @@ module _ (rows : List Row) (op : OpId) (returned : Returned) where
   states_respond states state answered value are at none is = AreStates-set rows (Respond op returned) op states answered are (count_push rows (Respond op returned) ∙ omega arith)
       (λ o other. (λ t e. cc, λ r e. other (let same : op ≡ o = cc in ap (λ (x : OpId). x.0) (sym same))))
       (subst (Describes (rows ++ Respond op returned ∷ []) op) (sym is) (Describes-answered state value none (are.each op state at)))
-
--- the state of a call that begins there
-abbrev pub begun : ℕ → ℕ → Action → ℕ → Option Span → CallState
-begun client number action place value = record {
-  client = client;
-  note = None;
-  key = number;
-  is_write = is_write action;
-  invoked = place;
-  response = None;
-  value = value;
-}
 
 -- one invocation more
 module _ (rows : List Row) (formed : IsWellFormed rows) (op : OpId) (client : ℕ) (key : List ℕ) (action : Action) (fresh : op.0 ≡ call_count rows) (number : ℕ) (value : Option Span) where

@@ -10,6 +10,7 @@ use Rattle.tag.specs.Tags.{Tag}
 use Rattle.recorder.specs.declared.row.Row.{Row}
 use Rattle.recorder.specs.declared.row.Row.TheVariants.{Invoke, Note, Respond}
 use Rattle.recorder.specs.declared.record.CallState.{CallState}
+use Rattle.recorder.specs.declared.texts.Span.{Span}
 use Rattle.recorder.specs.declared.part.Call.{Call}
 use Rattle.recorder.specs.declared.part.Response.{Response}
 use Rattle.recorder.specs.Histories.{call_count}
@@ -74,6 +75,18 @@ no_state = record {
   invoked = 0;
   response = None;
   value = None;
+}
+
+-- the state of a call that begins there
+abbrev pub begun : ℕ → ℕ → Action → ℕ → Option Span → CallState
+begun client number action place value = record {
+  client = client;
+  note = None;
+  key = number;
+  is_write = is_write action;
+  invoked = place;
+  response = None;
+  value = value;
 }
 
 -- the call of that number and that state

@@ -1,11 +1,14 @@
 -- What contracts see of a table of rows.
 use Rattle.std.specs.Prelude.{ℕ, ◌≡◌, ◌++◌, List, Some, slice_get}
+use Rattle.recorder.specs.declared.record.CallState.{CallState}
 use Rattle.recorder.specs.declared.row.Row.{Row}
 use Rattle.recorder.specs.Records.{BeginsAt}
 
--- the rows, the keys of their calls, and the texts of their values, one after the other
+-- the rows, the state of each call, the keys of the calls, and the texts of their values, one after
+-- the other
 pub record Table : Type 0 where
   pub rows : List Row
+  pub states : List CallState
   pub keys : List (List ℕ)
   pub texts : List ℕ
 

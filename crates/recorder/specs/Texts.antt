@@ -1,9 +1,9 @@
 -- The texts of values, one after the other.
-use Rattle.std.specs.Prelude.{ℕ, ◌≡◌, ◌≤◌, ◌+◌, List, Option, Some, None, length, slice_range}
+use Rattle.std.specs.Prelude.{ℕ, ◌≡◌, ◌≤◌, ◌+◌, ◌++◌, List, Option, Some, None, length, slice_range}
 use Rattle.std.specs.Option.{ForSome}
 use Rattle.std.specs.Str.{IsUtf8}
 use Rattle.tag.specs.Limits.{value_limit}
-use Rattle.recorder.specs.declared.row_table.Span.{Span}
+use Rattle.recorder.specs.declared.texts.Span.{Span}
 
 -- the text that stands there
 abbrev pub text_at : List ℕ → Span → List ℕ
@@ -24,3 +24,11 @@ value_in texts (Some span) = Some (text_at texts span)
 pub record KeepsValue (texts : List ℕ) (span : Option Span) (value : Option (List ℕ)) : Type 0 where
   pub there : ForSome span (IsValueAt texts)
   pub shown : value_in texts span ≡ value
+
+-- the text of the value, if there is one, comes after all others
+pub record AddsValue (old new : List ℕ) (span : Option Span) (value : Option (List ℕ))
+    : Type 0 where
+  pub more : List ℕ
+  pub texts : new ≡ old ++ more
+  pub short : length more ≤ value_limit
+  pub kept : KeepsValue new span value

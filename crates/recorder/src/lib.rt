@@ -19,6 +19,7 @@ mod record;
 mod refs;
 mod row;
 mod row_table;
+mod texts;
 
 pub use halls::Halls;
 pub use histories::Histories;
