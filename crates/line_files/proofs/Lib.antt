@@ -5,3 +5,4 @@ pub mod FeedLemmas
 pub mod Advancing
 pub mod Consuming
 pub mod Filling
+pub mod ReadingOn

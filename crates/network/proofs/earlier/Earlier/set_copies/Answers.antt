@@ -1,8 +1,8 @@
 use Rattle.std.proofs.Common.{Some, None, sym, ◌∙◌, ◌≡◌, ◌==◌}
 use Rattle.std.specs.HashMap.{get}
 use Rattle.network.proofs.Writing.{get-flights_in, written}
-use Rattle.network.proofs.in_flight.InFlight.set_copies.Goals as goal
-use Rattle.network.proofs.in_flight.InFlight.set_copies.Goals.{in-Some, in_default}
+use Rattle.network.proofs.earlier.Earlier.set_copies.Goals as goal
+use Rattle.network.proofs.earlier.Earlier.set_copies.Goals.{in-Some, in_default}
 
 pub returns : goal.returns
 returns c = λ flight found.

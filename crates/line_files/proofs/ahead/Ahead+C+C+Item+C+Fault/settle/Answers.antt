@@ -1,12 +1,5 @@
-use Rattle.std.proofs.Common.{◌≤◌, length, arith}
 use Rattle.std.proofs.lemmas.Result.{err_from_is_err_and}
-use Rattle.line_files.proofs.ahead.Ahead+C+C+Item+C+Fault.check_length.Goals as goal
-
-pub returns-then-len-le-LONGEST-clause-goes : goal.returns-then-len-le-LONGEST-clause-goes
-returns-then-len-le-LONGEST-clause-goes g c = λ bytes a.
-    let rest = c.args.self.judged.rest in
-    let short : length rest.items ≤ 65536 = omega (arith, c.if-len-le-LONGEST.true, c.len.ensures, rest.ok.0) in
-    (a, short)
+use Rattle.line_files.proofs.ahead.Ahead+C+C+Item+C+Fault.settle.Goals as goal
 
 pub returns-in_err-into_feed-clause-goes : goal.returns-in_err-into_feed-clause-goes
 returns-in_err-into_feed-clause-goes g c = λ bytes a.
