@@ -1,5 +1,4 @@
 pub mod Spelling
-mod AsciiTexts
 mod SaidRows
 pub mod Compact
 pub mod WrittenLines

@@ -1,5 +1,5 @@
 -- The bytes of a row's line, piece by piece: numbers and texts, each after what stands before it.
-use Rattle.std.specs.Prelude.{ℕ, List, ◌++◌, Option, Some, None, Bool, ◌&&◌, nat_lt, codes, decimal}
+use Rattle.std.specs.Prelude.{ℕ, List, ◌++◌, Option, Some, None, codes, decimal}
 use Rattle.json.specs.Print.{quoted}
 use Rattle.tag.specs.declared.actions.Action.{Action}
 use Rattle.tag.specs.declared.actions.Action.TheVariants.{Read, Write}
@@ -9,7 +9,6 @@ use Rattle.tag.specs.declared.numbers.OpId.{OpId}
 use Rattle.tag.specs.Tags.{Tag}
 use Rattle.recorder.specs.declared.row.Row.{Row}
 use Rattle.recorder.specs.declared.row.Row.TheVariants.{Invoke, Note, Respond}
-use Rattle.row_members.specs.Scans.{is_plain}
 use Rattle.file_format.specs.Texts.{hall_text}
 
 -- what an invocation has after its client
@@ -46,7 +45,3 @@ row_bytes hall (Note op tag) =
     after_call op (hall_text hall ++ (codes ",\"number\":" ++ noted_text tag))
 row_bytes hall (Respond op returned) =
     after_call op (hall_text hall ++ (codes ",\"row\":\"respond\"" ++ returned_text returned))
-
--- an ASCII byte that stands for itself in a text
-abbrev pub is_plain_ascii : ℕ → Bool
-is_plain_ascii byte = nat_lt byte 128 && is_plain byte

@@ -1,15 +1,13 @@
 //! What the bytes of a line begin with, as this crate writes it, and what is after it.
-ghost use Rattle.std.specs.Prelude.{◌≡◌, ◌≤◌, ◌++◌, codes, decimal, length, take, true};
+ghost use Rattle.std.specs.Prelude.{◌≡◌, ◌++◌, codes, decimal, true};
 ghost use Rattle.std.specs.Prelude.{IfSome, IsTrue, IsUtf8};
-ghost use Rattle.std.specs.List.{list_all};
 ghost use Rattle.json.specs.Print.{quoted};
 ghost use Rattle.tag.specs.Names.{is_key};
 ghost use Rattle.file_format.specs.Ranges.{IsValue};
-ghost use Rattle.file_format.specs.RowTexts.{is_plain_ascii};
 ghost use Rattle.file_format.specs.Texts.{hall_text};
 
 use crate::line_texts::LinePart;
-use row_members::{is_plain_byte, plain_length};
+use row_members::plain_length;
 use std::str;
 use tag::is_key;
 
@@ -134,47 +132,9 @@ fn is_value(bytes: &[u8]) -> bool
     bytes.len() <= LONGEST_VALUE && is_text(bytes)
 }
 
-/// Whether the byte is ASCII and stands for itself in a JSON string.
+/// The value in quotation marks that is all that the bytes have before a brace.
 #[inline(always)]
-fn is_plain_ascii(byte: u8) -> bool
-    ensures { result ≡ is_plain_ascii byte }
-{
-    byte < 128 && is_plain_byte(byte)
-}
-
-/// How many of the first bytes are ASCII and stand for themselves in a JSON string.
-#[inline(always)]
-fn ascii_length(bytes: &[u8]) -> usize
-    ensures length { result ≤ length bytes.now }
-    ensures ascii { list_all is_plain_ascii (take result bytes.now) ≡ true }
-{
-    let mut count = 0;
-    while count < bytes.len() && is_plain_ascii(bytes[count]) {
-        count += 1;
-    }
-    count
-}
-
-/// The text in quotation marks that the bytes begin with, where it is ASCII without an escape, and what
-/// is after it.
-#[inline(always)]
-fn first_ascii(bytes: &[u8]) -> Option<(LinePart<'_>, &[u8])>
-    ensures text { IfSome result (λ found. bytes.now ≡ quoted found.0.text.now ++ found.1.now) }
-    ensures utf8 { IfSome result (λ found. IsUtf8 found.0.text.now) }
-{
-    let inside = behind(bytes, b"\"")?;
-    let end = ascii_length(inside);
-    let rest = behind(&inside[end..], b"\"")?;
-    let text = LinePart {
-        text: &inside[..end],
-        behind: inside.len() - end,
-    };
-    Some((text, rest))
-}
-
-/// The value in quotation marks that is all that the bytes have before a brace, whatever bytes it has.
-#[inline(never)]
-fn any_value(bytes: &[u8]) -> Option<LinePart<'_>>
+pub(crate) fn last_value(bytes: &[u8]) -> Option<LinePart<'_>>
     ensures text { IfSome result (λ value. bytes.now ≡ quoted value.text.now ++ codes "}") }
     ensures lawful { IfSome result (λ value. IsValue value.text.now) }
 {
@@ -183,19 +143,4 @@ fn any_value(bytes: &[u8]) -> Option<LinePart<'_>>
         return None;
     }
     Some(value)
-}
-
-/// The value in quotation marks that is all that the bytes have before a brace.
-#[inline(always)]
-pub(crate) fn last_value(bytes: &[u8]) -> Option<LinePart<'_>>
-    ensures text { IfSome result (λ value. bytes.now ≡ quoted value.text.now ++ codes "}") }
-    ensures lawful { IfSome result (λ value. IsValue value.text.now) }
-{
-    // most values are ASCII, which one pass tells
-    if let Some((value, rest)) = first_ascii(bytes) {
-        if is_all(rest, b"}") && value.text.len() <= LONGEST_VALUE {
-            return Some(value);
-        }
-    }
-    any_value(bytes)
 }

@@ -182,7 +182,6 @@ fn later(op: OpId, bytes: &[u8]) -> Option<SaidRow<'_>>
 }
 
 /// The row that the line is written for, and what the line has as its member `hall`.
-#[inline(always)]
 fn said_row(line: &[u8]) -> Option<SaidRow<'_>>
     ensures { IfSome result (IsSaidBy line.now) }
 {
@@ -195,7 +194,6 @@ fn said_row(line: &[u8]) -> Option<SaidRow<'_>>
 }
 
 /// Whether the numbers are the same, or both are missing.
-#[inline(always)]
 fn is_same(one: Option<u8>, other: Option<u8>) -> bool
     ensures { IsTrue result → one ≡ other }
 {
@@ -208,7 +206,6 @@ fn is_same(one: Option<u8>, other: Option<u8>) -> bool
 
 /// The row that the line, without its end, is written for, which stands at that place. `None` says
 /// nothing; `Memory` comes only where an allocation was refused.
-#[inline(always)]
 pub(crate) fn written_row(place: &LinePlace, line: &[u8]) -> Result<Option<LineRow>, Memory>
     ensures { IfOk result (λ found. IfSome found (IsRowLine line.now)) }
 {
@@ -222,7 +219,6 @@ pub(crate) fn written_row(place: &LinePlace, line: &[u8]) -> Result<Option<LineR
 }
 
 /// The same of a row with its hall, after that header.
-#[inline(always)]
 pub(crate) fn written_hall_row(
     header: &FileHeader,
     place: &LinePlace,

@@ -25,7 +25,6 @@ use tag::Memory;
 const USUAL: usize = 48;
 
 /// What was made of a line, as its judgement.
-#[inline(always)]
 fn judged<T>(made: Result<T, Stop>) -> Result<Judgement<T, LineFault>, Memory>
     ensures { (meaning : Data → Result T LineFault) (line : List ℕ) → LineShowsBy meaning line made
         → IfOk result (ShowsItem (LineShows meaning) line) }
@@ -38,7 +37,6 @@ fn judged<T>(made: Result<T, Stop>) -> Result<Judgement<T, LineFault>, Memory>
 }
 
 /// What the line, without its end, shows after that header.
-#[inline(always)]
 fn judge<T: LineItem>(
     alloc: Global,
     header: T::Header,

@@ -79,7 +79,6 @@ impl LineItem for LineRow {
 
     ghost meaning = { λ header. row_in };
 
-    #[inline(always)]
     fn read(
         alloc: Global,
         _header: (),
@@ -98,7 +97,6 @@ impl LineItem for HallRow {
 
     ghost meaning = { hall_row_in };
 
-    #[inline(always)]
     fn read(
         alloc: Global,
         header: FileHeader,

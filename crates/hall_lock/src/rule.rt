@@ -6,7 +6,9 @@ use tag::ClientId;
 use world_steps::World;
 
 /// Rows of a record, as proofs know them. No value of it is made.
-pub struct SeenRows;
+pub struct SeenRows {
+    count: usize,
+}
 
 impl Model for SeenRows {
     ghost use Rattle.std.specs.Prelude.{List, []};

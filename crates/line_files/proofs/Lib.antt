@@ -5,4 +5,3 @@ pub mod FeedLemmas
 pub mod Advancing
 pub mod Consuming
 pub mod Filling
-pub mod ReadingOn

@@ -49,13 +49,6 @@ module _ {L Item Context Contents : Type 0} (Reads : List (List ℕ) → Content
   GoesAhead rules bytes result = MatchResult result (λ new. StandsAhead bytes new)
       (λ fault. FaultSoFar (faults_by rules) bytes fault.line fault.kind)
 
-  -- what is answered stands for these bytes, or the first fault of them and of those that were read
-  -- on is answered
-  abbrev pub GoesOn : LineRules L → List ℕ → List ℕ → Result (Ahead Contents Item L) (ReadFault L)
-      → Type 0
-  GoesOn rules bytes more result = MatchResult result (λ new. StandsAhead bytes new)
-      (λ fault. FaultSoFar (faults_by rules) (bytes ++ more) fault.line fault.kind)
-
 -- the feed stands for all the lines, or the first fault is answered
 abbrev pub BecomesFeed : {L Contents : Type 0} → LineRules L
     → (List (List ℕ) → Contents → Type 0) → List ℕ → Result (Feed Contents L) (ReadFault L)

@@ -1,16 +1,16 @@
 //! Files from readers.
-ghost use Rattle.std.specs.Prelude.{ℕ, ◌≡◌, ◌<◌, ◌≤◌, ◌+◌, List, Option, length, take, IfOk, IfErr};
-ghost use Rattle.std.specs.Prelude.{OnOk, MatchResult};
+ghost use Rattle.std.specs.Prelude.{ℕ, ◌≡◌, ◌<◌, ◌≤◌, List, Option, length, true, false, IfOk};
+ghost use Rattle.std.specs.Prelude.{IfErr, OnOk, MatchResult};
+ghost use Rattle.std.specs.Io.KnownBytes.{IsAtEnd};
 ghost use Rattle.counted_devices.specs.DeviceStates.{states, states_since};
-ghost use Rattle.counted_devices.specs.Deliveries.{HoldsAll, ReadsFrom};
-ghost use Rattle.counted_devices.specs.FirstFaults.{StopsFrom, faults_by};
+ghost use Rattle.counted_devices.specs.Deliveries.{Holds, HoldsAll, ReadsFrom};
+ghost use Rattle.counted_devices.specs.FirstFaults.{ReadsOn, StopsFrom, faults_by};
 ghost use Rattle.counted_devices.specs.ReadFaults.{FailsFrom};
 ghost use Rattle.line_files.specs.Ahead.{StandsAhead};
-ghost use Rattle.line_files.specs.Batches.{HoldsBefore, IsBehind};
 ghost use Rattle.line_files.specs.Feeds.{StandsForLines};
 
 use crate::ahead::{Ahead, LEAST};
-use crate::batches::{BLOCK, Batch, Behind, read_batch};
+use crate::batches::{BLOCK, Behind, read_batch};
 use crate::contents::Contents;
 use crate::feed::Feed;
 use counted_devices::{CountedRead, FaultKind, ReadFault};
@@ -32,38 +32,39 @@ fn room_for(alloc: Global, size: usize) -> Result<Vec<u8>, AllocError>
     vec![in alloc; 0u8; size]
 }
 
-/// Goes on with the block that was read last, and reads the next batch into the room.
+/// Judges the next bytes of the reader, and says whether there were some.
 fn read_next<C: Contents, R: CountedRead, T: Threads + Sync>(
     rt: &T,
     tools: &C::Tools,
     ahead: Ahead<C, C::Item, C::Fault>,
-    block: &[u8],
     reader: &mut R,
     room: &mut [u8],
-) -> Result<(Ahead<C, C::Item, C::Fault>, Batch), ReadFault<C::Fault>>
+) -> Result<(Ahead<C, C::Item, C::Fault>, bool), ReadFault<C::Fault>>
     requires some { 0 < length room.old }
-    requires fed { ahead.fed + length block.now ≤ R.given reader.old }
+    requires fed { ahead.fed ≤ R.given reader.old }
     ensures goes { (start : Option (List ℕ))
-        → HoldsBefore (StandsAhead C.Reads C.context C.Shows) start (R.remaining reader.old) ahead
-        block.now
-        → MatchResult result (λ next. HoldsBefore (StandsAhead C.Reads C.context C.Shows) start
-        (R.remaining reader.new) next.0 (take next.1.count room.new))
-        (λ fault. StopsFrom (faults_by C.rules)
-        (states_since start R.remaining R.failures reader.old reader.new) fault
-        × FailsFrom (states_since start R.remaining R.failures reader.old reader.new) fault) }
-    ensures fed { IfOk result (λ next. next.0.fed ≡ ahead.fed + length block.now) }
-    ensures bound { IfOk result (λ next. next.1.count ≤ length room.new) }
-    ensures given { IfOk result (λ next. R.given reader.new ≡ R.given reader.old + next.1.count) }
-    ensures behind { IfOk result (λ next. IsBehind next.1.count next.1.behind
-        (R.remaining reader.new) (R.failures reader.old) (R.failures reader.new)) }
+        → Holds (StandsAhead C.Reads C.context C.Shows) start (R.remaining reader.old) ahead
+        → ReadsOn (faults_by C.rules)
+        (λ bytes next. StandsAhead C.Reads C.context C.Shows bytes next.0)
+        (states_since start R.remaining R.failures reader.old reader.new) result }
+    ensures fed { IfOk result (λ next. next.0.fed ≤ R.given reader.new) }
+    ensures end { IfOk result (λ next. next.1 ≡ false → IsAtEnd (R.remaining reader.new)) }
+    ensures more { IfOk result (λ next. next.1 ≡ true → R.given reader.old < R.given reader.new) }
+    ensures counted { OnOk result (R.failures reader.new ≡ R.failures reader.old) }
 {
-    let (next, following) = ahead.advance(rt, tools, block, reader, room);
-    let next = next?;
-    let batch = match following {
-        Some(batch) => batch,
-        None => read_batch(reader, room),
-    };
-    Ok((next, batch))
+    let batch = read_batch(reader, room);
+    let next = ahead.advance(rt, tools, &room[..batch.count])?;
+    match batch.behind {
+        Behind::More => Ok((next, true)),
+        Behind::End => Ok((next, false)),
+        Behind::Failure => {
+            let feed = next.into_feed()?;
+            Err(ReadFault {
+                line: feed.line(),
+                kind: FaultKind::Device,
+            })
+        }
+    }
 }
 
 /// Feeds the bytes of the reader, to its end, in batches.
@@ -81,35 +82,20 @@ fn feed_in_blocks<C: Contents, R: CountedRead, T: Threads + Sync>(
         × FailsFrom (states R.remaining R.failures reader.old reader.new) fault) }
 {
     let size = batch_size(rayon::current_num_threads(rt));
-    let (Ok(mut front), Ok(mut back)) = (room_for(alloc, size), room_for(alloc, size)) else {
+    let Ok(mut bytes) = room_for(alloc, size) else {
         return Err(ReadFault {
             line: 1,
             kind: FaultKind::Memory,
         });
     };
+    let room = bytes.as_mut_slice();
     let mut ahead = Ahead::of(Feed::<C, C::Fault>::new(alloc));
-    let mut batch = read_batch(reader, front.as_mut_slice());
     'reads: loop {
-        let block = &front[..batch.count];
-        match batch.behind {
-            Behind::More => {
-                let room = back.as_mut_slice();
-                let (next, following) = read_next(rt, tools, ahead, block, reader, room)?;
-                ahead = next;
-                batch = following;
-                let read = back;
-                back = front;
-                front = read;
-            }
-            Behind::End => return ahead.into_feed_with(rt, tools, block),
-            Behind::Failure => {
-                let feed = ahead.into_feed_with(rt, tools, block)?;
-                return Err(ReadFault {
-                    line: feed.line(),
-                    kind: FaultKind::Device,
-                });
-            }
+        let (next, more) = read_next(rt, tools, ahead, reader, room)?;
+        if !more {
+            return next.into_feed();
         }
+        ahead = next;
     }
 }
 

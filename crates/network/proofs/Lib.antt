@@ -2,6 +2,5 @@ mod Bags
 pub mod Lookups
 mod Hashed
 mod Writing
-mod Placing
 pub mod Agreement
 pub mod Unsending

@@ -1,6 +1,5 @@
 pub mod Equality
 pub mod Flights
-pub mod Places
 pub mod Numbers
 pub mod Refusals
 pub mod Pools

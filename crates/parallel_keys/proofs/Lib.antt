@@ -1,4 +1,4 @@
-pub mod Marks
+pub mod Places
 pub mod Fronts
 pub mod GivenOrders
 pub mod WorkerVerdicts

@@ -16,7 +16,6 @@ mod histories;
 mod key_list;
 mod scoped;
 mod share;
-mod verdict_list;
 mod weave_verdicts;
 mod workers;
 

@@ -29,12 +29,6 @@ kind_fits (Write v) Written w r is done same = tt
 kind_fits Read Written w r is done same = absurd (let e : true ≡ false = rw (is, done) at same in cc)
 kind_fits (Write v) (Value a) w r is done same = absurd (let e : true ≡ false = rw (is, done) at same in cc)
 
-pub kind_same : (w r : Bool) → not (beq w r) ≡ false → w ≡ r
-kind_same true true same = refl
-kind_same true false same = absurd (cc)
-kind_same false true same = absurd (cc)
-kind_same false false same = refl
-
 pub kind_differs : (action : Action) (returned : Returned) (w r : Bool) → w ≡ is_write action → r ≡ is_none (answered_of returned) → not (beq w r) ≡ true → FitsAction action returned → ⊥
 kind_differs Read Written w r is done same fits = fits
 kind_differs (Write v) (Value a) w r is done same fits = fits

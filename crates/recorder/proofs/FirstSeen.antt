@@ -102,3 +102,10 @@ module _ (rows : List Row) (row : Row) where
           ]
         ];
       }
+
+pub AreFirstSeen-none : AreFirstSeen [] []
+AreFirstSeen-none = record {
+  all = λ key place b. absurd (omega (arith, begun_within [] key place b));
+  seen = λ k key at. absurd (omega (arith, slice_get_within [] k key at));
+  ordered = λ i j k l m n less at_i at_j f g. absurd (omega (arith, slice_get_within [] i k at_i));
+}

@@ -8,7 +8,6 @@ mod OneMore
 mod States
 mod Busy
 mod Answering
-mod KeptCalls
 mod Keeps
 mod Recorded
 mod Counts

@@ -14,10 +14,9 @@ mod equal;
 mod parts;
 
 use crate::clients::ClientSet;
-use crate::record::CallState;
+use crate::record::{CallState, Record};
 use crate::refs::{ActionRef, ReturnedRef};
 use crate::row::{Row, RowRefusal};
-use crate::row_table::RowTable;
 use std::alloc::Global;
 use std::marker::Model;
 use tag::{Action, ClientId, Key, Memory, OpId, Returned, Tag};
@@ -30,7 +29,7 @@ use tag::{Action, ClientId, Key, Memory, OpId, Returned, Tag};
 /// the same time however many rows there are, but for the look-up of an invocation's key.
 #[derive(Debug, Drop)]
 pub struct History {
-    record: RowTable,
+    record: Record,
     /// The clients that have a pending call.
     busy: ClientSet,
     limit: u32,
@@ -55,7 +54,7 @@ impl History {
         ensures { result ≡ record { rows = []; limit = limit } }
     {
         History {
-            record: RowTable::new(alloc),
+            record: Record::new(alloc),
             busy: ClientSet::new(alloc),
             limit,
         }
@@ -67,7 +66,7 @@ impl History {
         ensures formed { IsWellFormed self.now.rows }
         ensures few { result ≤ row_limit }
     {
-        self.record.len()
+        self.record.rows.len()
     }
 
     /// The row at that place, from 0, in the order in which they came.
@@ -75,7 +74,7 @@ impl History {
         requires { place < length self.now.rows }
         ensures { slice_get self.now.rows place ≡ Some result }
     {
-        self.record.row(place)
+        self.record.rows.row(place)
     }
 
     /// How many calls were begun.
@@ -84,7 +83,7 @@ impl History {
         ensures most { result ≤ self.now.limit }
         ensures few { result ≤ call_limit }
     {
-        self.record.calls()
+        self.record.states.len()
     }
 
     /// How many calls may be begun.
@@ -119,7 +118,7 @@ impl History {
     pub fn caller(&self, op: OpId) -> Option<ClientId>
         ensures { result ≡ caller_of self.now.rows op }
     {
-        match self.record.states().get(op.0 as usize) {
+        match self.record.states.get(op.0 as usize) {
             Some(state) => Some(state.client),
             None => None,
         }
@@ -214,11 +213,21 @@ impl History {
             ≡ with_row self.old (Row.Invoke op client key.now action.now)) }
         ensures err { OnErr result (self.new ≡ self.old) }
     {
+        let state = CallState {
+            client,
+            is_write: action.written().is_some(),
+            note: None,
+            invoked: self.record.rows.len() as u32,
+            response: None,
+        };
+        // Whatever can be refused comes first.
+        self.record.states.reserve(1)?;
         self.busy.insert(client)?;
-        let Ok(()) = self.record.push_invoke(op, client, key, action) else {
+        let Ok(()) = self.record.rows.push_invoke(op, client, key, action) else {
             self.busy.remove(client);
             return Err(Memory);
         };
+        self.record.states.push(state)?;
         Ok(())
     }
 
@@ -228,13 +237,14 @@ impl History {
     pub fn note(&mut self, op: OpId, tag: Tag) -> Result<(), RowRefusal>
         ensures { RecordsRow self.old (Row.Note op tag) result self.new }
     {
-        let Some(state) = pending_state(self.record.states(), op) else {
+        let Some(state) = pending_state(&self.record.states, op) else {
             return Err(RowRefusal::NotPending);
         };
         if state.note.is_some() {
             return Err(RowRefusal::NoteTwice);
         }
-        self.record.push_note(op, &state, tag)?;
+        self.record.rows.push_note(op, tag)?;
+        self.record.states[op.0 as usize].note = Some(tag);
         Ok(())
     }
 
@@ -251,13 +261,15 @@ impl History {
     pub fn respond_text(&mut self, op: OpId, returned: &ReturnedRef<'_>) -> Result<(), RowRefusal>
         ensures { RecordsRow self.old (Row.Respond op returned.now) result self.new }
     {
-        let Some(state) = pending_state(self.record.states(), op) else {
+        let Some(state) = pending_state(&self.record.states, op) else {
             return Err(RowRefusal::NotPending);
         };
         if state.is_write != returned.answered().is_none() {
             return Err(RowRefusal::WrongKind);
         }
-        self.record.push_respond(op, &state, returned)?;
+        let place = self.record.rows.len() as u32;
+        self.record.rows.push_respond(op, returned)?;
+        self.record.states[op.0 as usize].response = Some(place);
         self.busy.remove(state.client);
         Ok(())
     }

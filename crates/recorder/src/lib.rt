@@ -19,7 +19,6 @@ mod record;
 mod refs;
 mod row;
 mod row_table;
-mod texts;
 
 pub use halls::Halls;
 pub use histories::Histories;

@@ -2,9 +2,8 @@
 ghost use Rattle.std.specs.Prelude.{◌≡◌, ◌<◌, [], length, Some};
 ghost use Rattle.std.specs.List.{slice_get};
 
-use crate::record::CallState;
+use crate::record::{CallState, Record};
 use crate::refs::{ActionRef, ReturnedRef};
-use crate::row_table::RowTable;
 use std::marker::Model;
 use tag::{ClientId, OpId, Tag};
 
@@ -33,7 +32,7 @@ pub struct Call<'h> {
 /// invocation. Only a history has parts with calls.
 #[derive(Debug, Drop)]
 pub struct Part<'h> {
-    from: Option<&'h RowTable>,
+    from: Option<&'h Record>,
     /// The calls' numbers in the history.
     numbers: &'h [u32],
 }
@@ -69,7 +68,7 @@ impl<'h> Part<'h> {
     }
 
     /// The part of the record that has the calls of these numbers.
-    pub(crate) fn of(from: &'h RowTable, numbers: &'h [u32]) -> Part<'h>
+    pub(crate) fn of(from: &'h Record, numbers: &'h [u32]) -> Part<'h>
         requires { HasCalls from.now numbers.now }
         ensures { result ≡ calls_of from.now numbers.now }
     {

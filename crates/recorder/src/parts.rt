@@ -5,8 +5,8 @@ ghost use Rattle.recorder.specs.declared.part.Call.{Call};
 
 use crate::groups::Groups;
 use crate::part::Part;
+use crate::record::Record;
 use crate::refs::KeyRef;
-use crate::row_table::RowTable;
 use key_index::KeyNumbers;
 use std::marker::Model;
 use tag::Key;
@@ -17,7 +17,7 @@ use tag::Key;
 /// are. Only a history makes it, and lends its calls.
 #[derive(Debug, Drop)]
 pub struct Parts<'h> {
-    from: &'h RowTable,
+    from: &'h Record,
     /// The numbers of each key's calls, by the number of the key.
     groups: Groups,
 }
@@ -38,7 +38,7 @@ impl<'h> Parts<'h> {
     ghost use Rattle.recorder.specs.PartRecords.{entries_of, AreEntries};
 
     /// The parts of the record whose calls are grouped so.
-    pub(crate) fn new(from: &'h RowTable, groups: Groups) -> Parts<'h>
+    pub(crate) fn new(from: &'h Record, groups: Groups) -> Parts<'h>
         requires { AreEntries from.now groups }
         ensures { result ≡ record { entries = entries_of from.now groups } }
     {
@@ -58,14 +58,14 @@ impl<'h> Parts<'h> {
         ensures { slice_get self.now.entries place ≡ Some result }
     {
         let numbers = self.groups.group(place);
-        (self.from.key(place), Part::of(self.from, numbers))
+        (self.from.rows.key(place), Part::of(self.from, numbers))
     }
 
     /// The keys, each numbered by its place.
     pub fn numbers(&self) -> &KeyNumbers
         ensures { result.now ≡ map (λ entry. entry.0) self.now.entries }
     {
-        self.from.keys()
+        self.from.rows.keys()
     }
 
     /// The key's part, if it has one.
@@ -74,7 +74,7 @@ impl<'h> Parts<'h> {
         ensures none { IfNone result
             ((part : List Call) → Contains self.now.entries (key.now, part) → ⊥) }
     {
-        let number = self.from.keys().find(key)?;
+        let number = self.from.rows.keys().find(key)?;
         Some(Part::of(self.from, self.groups.group(number)))
     }
 }

@@ -1,113 +1,119 @@
-//! What a history keeps of a call beside its rows.
-ghost use Rattle.std.specs.Prelude.{◌≡◌, cond, IsSome, Some};
+//! What a history keeps.
+ghost use Rattle.std.specs.Prelude.{◌≡◌, ◌<◌, [], length, IfOk};
 ghost use Rattle.std.specs.Option.{ForSome};
-ghost use Rattle.recorder.specs.States.{action_by, response_at, returned_by};
-ghost use Rattle.recorder.specs.Texts.{IsValueAt, value_in};
+ghost use Rattle.tag.specs.declared.numbers.OpId.{OpId};
+ghost use Rattle.recorder.specs.PartRecords.{AreKeyNumbers};
+ghost use Rattle.recorder.specs.States.{AreStates, RespondsAt, IsBegunAt, IsStateOf, action_at, call_of, response_at};
 
-use crate::part::Response;
-use crate::refs::{ActionRef, ReturnedRef};
-use crate::texts::{Span, value_in};
-use tag::{ClientId, Tag};
+use crate::part::{Call, Response};
+use crate::refs::ActionRef;
+use crate::row::Row;
+use crate::row_table::RowTable;
+use std::alloc::Global;
+use tag::{ClientId, Memory, OpId, Tag};
 
 /// What a history knows of a call without reading its rows.
 #[derive(Clone, Copy, Debug)]
 pub struct CallState {
     pub client: ClientId,
-    pub note: Option<Tag>,
-    /// The number of its key.
-    pub(crate) key: u32,
     pub is_write: bool,
+    pub note: Option<Tag>,
     /// The place of its invocation's row.
     pub invoked: u32,
     /// The place of its response's row.
     pub response: Option<u32>,
-    /// Where the text of the value stands that it wrote or answered.
-    pub(crate) value: Option<Span>,
 }
 
-impl CallState {
-    /// The state after a note of that tag.
-    pub(crate) fn with_note(&self, tag: Tag) -> CallState
-        ensures { result ≡ record self.now { note = Some tag } }
+/// The rows of a history, and of each call what can be told without reading them.
+#[derive(Debug, Drop)]
+pub(crate) struct Record {
+    pub(crate) rows: RowTable,
+    pub(crate) states: Vec<CallState>,
+}
+
+impl Record {
+    /// No row.
+    pub(crate) fn new(alloc: Global) -> Record
+        ensures rows { result.rows.rows ≡ [] }
+        ensures states { result.states.items ≡ [] }
     {
-        CallState {
-            client: self.client,
-            note: Some(tag),
-            key: self.key,
-            is_write: self.is_write,
-            invoked: self.invoked,
-            response: self.response,
-            value: self.value,
+        Record {
+            rows: RowTable::new(alloc),
+            states: Vec::new(alloc),
         }
     }
 
-    /// The state after a response at that place; a read answers the value that stands there.
-    pub(crate) fn with_response(&self, place: u32, value: Option<Span>) -> CallState
-        ensures { result ≡ record self.now {
-          response = Some place;
-          value = cond self.now.is_write self.now.value value;
-        } }
+    /// An equal record.
+    pub(crate) fn copy(&self) -> Result<Record, Memory>
+        ensures rows { IfOk result (λ copy. copy.rows.rows ≡ self.now.rows.rows) }
+        ensures states { IfOk result (λ copy. copy.states.items ≡ self.now.states.items) }
     {
-        CallState {
-            client: self.client,
-            note: self.note,
-            key: self.key,
-            is_write: self.is_write,
-            invoked: self.invoked,
-            response: Some(place),
-            value: if self.is_write { self.value } else { value },
+        let alloc = *self.states.allocator();
+        Ok(Record {
+            rows: self.rows.copy()?,
+            states: Vec::from_slice(alloc, &self.states)?,
+        })
+    }
+
+    /// The number of each call's key.
+    pub(crate) fn key_numbers(&self) -> Result<Vec<u32>, Memory>
+        requires { AreStates self.now.rows.rows self.now.states.items }
+        ensures { IfOk result (λ numbers. AreKeyNumbers self.now numbers.items) }
+    {
+        let mut numbers = Vec::with_capacity(*self.states.allocator(), self.states.len())?;
+        for number in 0..self.states.len() {
+            let place = self.states[number].invoked as usize;
+            numbers.push(self.rows.key_number(place))?;
+        }
+        Ok(numbers)
+    }
+
+    /// The state of the call of that number.
+    pub(crate) fn state(&self, op: OpId) -> CallState
+        requires begun { op.0 < length self.now.states.items }
+        requires states { AreStates self.now.rows.rows self.now.states.items }
+        ensures { IsStateOf (call_of self.now.rows.rows self.now.states.items op.0) result }
+    {
+        self.states[op.0 as usize]
+    }
+
+    /// The call of that number.
+    pub(crate) fn call(&self, op: OpId) -> Call<'_>
+        requires begun { op.0 < length self.now.states.items }
+        requires states { AreStates self.now.rows.rows self.now.states.items }
+        ensures { result ≡ call_of self.now.rows.rows self.now.states.items op.0 }
+    {
+        let state = self.states[op.0 as usize];
+        Call {
+            op,
+            client: state.client,
+            action: action_at(&self.rows, state.invoked as usize),
+            note: state.note,
+            invoked: state.invoked as usize,
+            response: response_at(&self.rows, state.response),
         }
     }
 }
 
-/// What the call of that state asks.
-pub(crate) fn action_of<'h>(texts: &'h [u8], state: &CallState) -> ActionRef<'h>
-    requires { ForSome state.now.value (IsValueAt texts.now) }
-    ensures { result ≡ action_by state.now.is_write (value_in texts.now state.now.value) }
+/// What the call asks that is begun at that place.
+fn action_at(rows: &RowTable, place: usize) -> ActionRef<'_>
+    requires { IsBegunAt rows.now.rows place }
+    ensures { result ≡ action_at rows.now.rows place }
 {
-    if !state.is_write {
-        return ActionRef::read();
-    }
-    match value_in(texts, state.value) {
-        Some(value) => ActionRef::write(value),
-        None => ActionRef::read(),
+    match rows.row(place) {
+        Row::Invoke { action, .. } => action,
+        Row::Note { .. } | Row::Respond { .. } => unreachable!(),
     }
 }
 
-/// The note of the call of that state, which has one.
-pub(crate) fn tag_of(state: &CallState) -> Tag
-    requires { IsSome state.now.note }
-    ensures { state.now.note ≡ Some result }
+/// The response whose row stands at that place.
+fn response_at(rows: &RowTable, place: Option<u32>) -> Option<Response<'_>>
+    requires { ForSome place (λ k. (op : OpId) × RespondsAt rows.now.rows op k) }
+    ensures { result ≡ response_at rows.now.rows place }
 {
-    match state.note {
-        Some(tag) => tag,
-        None => unreachable!(),
-    }
-}
-
-/// What the call of that state answers, where it has its response.
-pub(crate) fn returned_of<'h>(texts: &'h [u8], state: &CallState) -> ReturnedRef<'h>
-    requires { ForSome state.now.value (IsValueAt texts.now) }
-    ensures { result ≡ returned_by state.now.is_write (value_in texts.now state.now.value) }
-{
-    if state.is_write {
-        ReturnedRef::done()
-    } else {
-        ReturnedRef::value(value_in(texts, state.value))
-    }
-}
-
-/// The response of the call of that state.
-pub(crate) fn response_of<'h>(texts: &'h [u8], state: &CallState) -> Option<Response<'h>>
-    requires { ForSome state.now.value (IsValueAt texts.now) }
-    ensures { result ≡ response_at state.now.response
-        (returned_by state.now.is_write (value_in texts.now state.now.value)) }
-{
-    match state.response {
-        Some(place) => Some(Response {
-            place: place as usize,
-            returned: returned_of(texts, state),
-        }),
-        None => None,
+    let place = place? as usize;
+    match rows.row(place) {
+        Row::Respond { returned, .. } => Some(Response { place, returned }),
+        Row::Invoke { .. } | Row::Note { .. } => unreachable!(),
     }
 }

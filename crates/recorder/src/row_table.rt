@@ -1,48 +1,63 @@
 //! The rows of a history, as it keeps them.
-ghost use Rattle.std.specs.Prelude.{◌≡◌, ◌≤◌, ◌<◌, [], ◌∷◌, ◌++◌, Some, None, true, length, set, get_or};
-ghost use Rattle.std.specs.Prelude.{OnOk, OnErr, IfOk};
+ghost use Rattle.std.specs.Prelude.{ℕ, ◌≡◌, ◌≤◌, ◌<◌, ◌*◌, List, [], ◌∷◌, ◌++◌, Some, true, length, OnOk, OnErr};
+ghost use Rattle.std.specs.Prelude.{IfOk, get_or};
 ghost use Rattle.std.specs.List.{slice_get};
-ghost use Rattle.std.specs.Option.{is_none};
-ghost use Rattle.tag.specs.Names.{is_key};
+ghost use Rattle.tag.specs.Limits.{value_limit};
+ghost use Rattle.tag.specs.Names.{is_key, is_value};
 ghost use Rattle.recorder.specs.Records.{AreFirstSeen};
-ghost use Rattle.recorder.specs.Shown.{answer_of, answered_of};
-ghost use Rattle.recorder.specs.KeptRows.{AddsCall, AddsResponse};
-ghost use Rattle.recorder.specs.KeptCalls.{AreKept};
-ghost use Rattle.recorder.specs.PartRecords.{AreKeyNumbers};
-ghost use Rattle.recorder.specs.States.{AreStates, IsStateOf, call_of};
-ghost use Rattle.recorder.specs.Tables.{row_limit, Extends};
+ghost use Rattle.recorder.specs.States.{IsBegunAt};
+ghost use Rattle.recorder.specs.Tables.{row_limit, BeginsOn};
+ghost use Rattle.recorder.specs.KeptRows.{IsValueAt, KeepsAnswer, text_at};
 
-use crate::part::Call;
-use crate::record::{CallState, action_of, response_of, returned_of, tag_of};
 use crate::refs::{ActionRef, KeyRef, ReturnedRef, ValueRef};
 use crate::row::Row;
-use crate::texts::keep_value;
 use key_index::KeyNumbers;
 use std::alloc::Global;
 use std::marker::Model;
+use std::str;
 use tag::{ClientId, Memory, OpId, Tag};
 
-/// What a row tells of its call.
+/// Where the text of a value stands among all texts.
 #[derive(Clone, Copy, Debug)]
-enum Kind {
-    Invocation,
-    Note,
-    Response,
+struct Span {
+    start: u32,
+    length: u16,
 }
 
-/// A row as it is kept: the number of its call, whose state has all else.
+/// A row as it is kept: its key by number, its text among all texts.
 #[derive(Clone, Copy, Debug)]
-struct KeptRow {
-    op: OpId,
-    kind: Kind,
+enum KeptRow {
+    Read {
+        op: OpId,
+        client: ClientId,
+        key: u32,
+    },
+    Write {
+        op: OpId,
+        client: ClientId,
+        key: u32,
+        value: Span,
+    },
+    Note {
+        op: OpId,
+        tag: Tag,
+    },
+    Done {
+        op: OpId,
+    },
+    Absent {
+        op: OpId,
+    },
+    Answer {
+        op: OpId,
+        value: Span,
+    },
 }
 
-/// Rows, in the order in which they came, and the state of each call. The texts of values stand in
-/// one block, each key's once.
+/// Rows, in the order in which they came. The texts of values stand in one block, each key's once.
 #[derive(Debug, Drop)]
 pub(crate) struct RowTable {
     rows: Vec<KeptRow>,
-    states: Vec<CallState>,
     texts: Vec<u8>,
     keys: KeyNumbers,
 }
@@ -62,11 +77,10 @@ impl Model for RowTable {
 impl RowTable {
     /// No row.
     pub(crate) fn new(alloc: Global) -> RowTable
-        ensures { result ≡ record { rows = []; states = []; keys = []; texts = [] } }
+        ensures { result ≡ record { rows = []; keys = [] } }
     {
         RowTable {
             rows: Vec::new(alloc),
-            states: Vec::new(alloc),
             texts: Vec::new(alloc),
             keys: KeyNumbers::new(alloc),
         }
@@ -78,20 +92,6 @@ impl RowTable {
         ensures few { result ≤ row_limit }
     {
         self.rows.len()
-    }
-
-    /// How many calls there are.
-    pub(crate) fn calls(&self) -> usize
-        ensures { result ≡ length self.now.states }
-    {
-        self.states.len()
-    }
-
-    /// The state of each call.
-    pub(crate) fn states(&self) -> &[CallState]
-        ensures { result.now ≡ self.now.states }
-    {
-        &self.states
     }
 
     /// The keys of the rows' calls, by number.
@@ -115,79 +115,65 @@ impl RowTable {
         requires { place < length self.now.rows }
         ensures { slice_get self.now.rows place ≡ Some result }
     {
-        let row = self.rows[place];
-        let op = row.op;
-        let state = &self.states[op.0 as usize];
-        match row.kind {
-            Kind::Invocation => Row::Invoke {
+        match self.rows[place] {
+            KeptRow::Read { op, client, key } => Row::Invoke {
                 op,
-                client: state.client,
-                key: self.key(state.key as usize),
-                action: action_of(&self.texts, state),
+                client,
+                key: self.key(key as usize),
+                action: ActionRef::read(),
             },
-            Kind::Note => Row::Note {
+            KeptRow::Write {
                 op,
-                tag: tag_of(state),
+                client,
+                key,
+                value,
+            } => Row::Invoke {
+                op,
+                client,
+                key: self.key(key as usize),
+                action: ActionRef::write(value_at(&self.texts, value)),
             },
-            Kind::Response => Row::Respond {
+            KeptRow::Note { op, tag } => Row::Note { op, tag },
+            KeptRow::Done { op } => Row::Respond {
                 op,
-                returned: returned_of(&self.texts, state),
+                returned: ReturnedRef::done(),
+            },
+            KeptRow::Absent { op } => Row::Respond {
+                op,
+                returned: ReturnedRef::value(None),
+            },
+            KeptRow::Answer { op, value } => Row::Respond {
+                op,
+                returned: ReturnedRef::value(Some(value_at(&self.texts, value))),
             },
         }
     }
 
-    /// The number of each call's key.
-    pub(crate) fn key_numbers(&self) -> Result<Vec<u32>, Memory>
-        requires { AreKept self.now self.now.states }
-        ensures { IfOk result (λ numbers. AreKeyNumbers self.now numbers.items) }
+    /// The number of the key on which a call is begun at that place.
+    pub(crate) fn key_number(&self, place: usize) -> u32
+        requires { IsBegunAt self.now.rows place }
+        ensures { BeginsOn self.now place result }
     {
-        let mut numbers = Vec::with_capacity(*self.states.allocator(), self.states.len())?;
-        for number in 0..self.states.len() {
-            numbers.push(self.states[number].key)?;
-        }
-        Ok(numbers)
-    }
-
-    /// The state of the call of that number.
-    pub(crate) fn state(&self, op: OpId) -> CallState
-        requires begun { op.0 < length self.now.states }
-        requires states { AreStates self.now.rows self.now.states }
-        requires kept { AreKept self.now self.now.states }
-        ensures { IsStateOf (call_of self.now.texts self.now.states op.0) result }
-    {
-        self.states[op.0 as usize]
-    }
-
-    /// The call of that number.
-    pub(crate) fn call(&self, op: OpId) -> Call<'_>
-        requires { op.0 < length self.now.states }
-        ensures { result ≡ call_of self.now.texts self.now.states op.0 }
-    {
-        let state = &self.states[op.0 as usize];
-        Call {
-            op,
-            client: state.client,
-            action: action_of(&self.texts, state),
-            note: state.note,
-            invoked: state.invoked as usize,
-            response: response_of(&self.texts, state),
+        match self.rows[place] {
+            KeptRow::Read { key, .. } => key,
+            KeptRow::Write { key, .. } => key,
+            _ => unreachable!(),
         }
     }
 
-    /// A table with equal rows, states, keys and texts.
+    /// A table with equal rows and keys.
     pub(crate) fn copy(&self) -> Result<RowTable, Memory>
         ensures { IfOk result (λ copy. copy ≡ self.now) }
     {
         let alloc = *self.rows.allocator();
         Ok(RowTable {
             rows: Vec::from_slice(alloc, &self.rows)?,
-            states: Vec::from_slice(alloc, &self.states)?,
             texts: Vec::from_slice(alloc, &self.texts)?,
             keys: copied_keys(alloc, &self.keys)?,
         })
     }
 
-    /// Adds that a client begins the next call. On `Memory` nothing changed.
+    /// Adds that a client begins a call. On `Memory` no row is added.
     pub(crate) fn push_invoke(
         &mut self,
         op: OpId,
@@ -196,85 +182,56 @@ impl RowTable {
         action: &ActionRef<'_>,
     ) -> Result<(), Memory>
         requires few { length self.old.rows < row_limit }
-        requires next { op.0 ≡ length self.old.states }
         requires lawful { is_key key.now ≡ true }
         ensures ok { OnOk result (self.new.rows
             ≡ self.old.rows ++ Row.Invoke op client key.now action.now ∷ []) }
-        ensures call { OnOk result (AddsCall self.old self.new client key.now action.now) }
-        ensures err { OnErr result (self.new ≡ self.old) }
+        ensures err { OnErr result (self.new.rows ≡ self.old.rows) }
     {
-        let invoked = self.rows.len() as u32;
-        let text = action.written();
-        let is_write = text.is_some();
-        // Whatever can be refused comes first.
         self.rows.reserve(1)?;
-        self.states.reserve(1)?;
+        let Some(value) = action.written() else {
+            let key = self.keys.number_text(key)? as u32;
+            self.rows.push(KeptRow::Read { op, client, key })?;
+            return Ok(());
+        };
         let kept = self.texts.len();
-        let value = keep_value(&mut self.texts, text)?;
-        let Ok(number) = self.keys.number_text(key) else {
+        let value = keep_text(&mut self.texts, value.as_str())?;
+        let Ok(key) = self.keys.number_text(key) else {
             self.texts.truncate(kept);
             return Err(Memory);
         };
-        let number = number as u32;
-        self.rows.push(KeptRow {
+        self.rows.push(KeptRow::Write {
             op,
-            kind: Kind::Invocation,
-        })?;
-        self.states.push(CallState {
             client,
-            note: None,
-            key: number,
-            is_write,
-            invoked,
-            response: None,
+            key: key as u32,
             value,
         })?;
         Ok(())
     }
 
-    /// Adds that the tag is fixed of a call of that state. On `Memory` nothing changed.
-    pub(crate) fn push_note(&mut self, op: OpId, state: &CallState, tag: Tag) -> Result<(), Memory>
-        requires few { length self.old.rows < row_limit }
-        requires known { slice_get self.old.states op.0 ≡ Some state.now }
-        requires first { state.now.note ≡ None }
+    /// Adds that a call's tag is fixed. On `Memory` no row is added.
+    pub(crate) fn push_note(&mut self, op: OpId, tag: Tag) -> Result<(), Memory>
+        requires { length self.old.rows < row_limit }
         ensures ok { OnOk result (self.new.rows ≡ self.old.rows ++ Row.Note op tag ∷ []) }
-        ensures states { OnOk result (self.new.states
-            ≡ set self.old.states op.0 (record state.now { note = Some tag })) }
-        ensures grows { OnOk result (Extends self.old self.new) }
-        ensures err { OnErr result (self.new ≡ self.old) }
+        ensures err { OnErr result (self.new.rows ≡ self.old.rows) }
     {
-        self.rows.push(KeptRow {
-            op,
-            kind: Kind::Note,
-        })?;
-        self.states[op.0 as usize] = state.with_note(tag);
+        self.rows.push(KeptRow::Note { op, tag })?;
         Ok(())
     }
 
-    /// Adds that a call of that state is answered. On `Memory` nothing changed.
+    /// Adds that a call is answered. On `Memory` no row is added.
     pub(crate) fn push_respond(
         &mut self,
         op: OpId,
-        state: &CallState,
         returned: &ReturnedRef<'_>,
     ) -> Result<(), Memory>
-        requires few { length self.old.rows < row_limit }
-        requires known { slice_get self.old.states op.0 ≡ Some state.now }
-        requires first { state.now.response ≡ None }
-        requires kind { state.now.is_write ≡ is_none (answered_of returned.now) }
+        requires { length self.old.rows < row_limit }
         ensures ok { OnOk result (self.new.rows
             ≡ self.old.rows ++ Row.Respond op returned.now ∷ []) }
-        ensures answer { OnOk result (AddsResponse self.old self.new op state.now returned.now) }
-        ensures err { OnErr result (self.new ≡ self.old) }
+        ensures err { OnErr result (self.new.rows ≡ self.old.rows) }
     {
-        let place = self.rows.len() as u32;
         self.rows.reserve(1)?;
-        let value = keep_value(&mut self.texts, value_of(returned))?;
-        self.rows.push(KeptRow {
-            op,
-            kind: Kind::Response,
-        })?;
-        self.states[op.0 as usize] = state.with_response(place, value);
+        let row = keep_answer(&mut self.texts, op, returned)?;
+        self.rows.push(row)?;
         Ok(())
     }
 }
@@ -290,12 +247,45 @@ fn copied_keys(alloc: Global, keys: &KeyNumbers) -> Result<KeyNumbers, Memory>
     Ok(copy)
 }
 
-/// The value that the answer has, if there is one.
-fn value_of<'h>(returned: &ReturnedRef<'h>) -> Option<ValueRef<'h>>
-    ensures { result ≡ answer_of returned.now }
+/// Keeps what a call answers, its text after all others. On `Memory` nothing changed.
+fn keep_answer(texts: &mut Vec<u8>, op: OpId, returned: &ReturnedRef<'_>) -> Result<KeptRow, Memory>
+    requires { length texts.old.items ≤ value_limit * row_limit }
+    ensures ok { IfOk result (KeepsAnswer texts.old.items texts.new.items op returned.now) }
+    ensures err { OnErr result (texts.new.items ≡ texts.old.items) }
 {
     match returned.answered() {
-        Some(value) => value,
-        None => None,
+        None => Ok(KeptRow::Done { op }),
+        Some(None) => Ok(KeptRow::Absent { op }),
+        Some(Some(value)) => {
+            let value = keep_text(texts, value.as_str())?;
+            Ok(KeptRow::Answer { op, value })
+        }
     }
+}
+
+/// The value whose text stands there.
+fn value_at(texts: &[u8], span: Span) -> ValueRef<'_>
+    requires { IsValueAt texts.now span }
+    ensures { result ≡ text_at texts.now span }
+{
+    let start = span.start as usize;
+    let text = &texts[start..start + span.length as usize];
+    ValueRef::of_text(unsafe { str::from_utf8_unchecked(text) })
+}
+
+/// Keeps the text after all others. On `Memory` nothing changed.
+fn keep_text(texts: &mut Vec<u8>, text: &str) -> Result<Span, Memory>
+    requires few { length texts.old.items ≤ value_limit * row_limit }
+    requires short { is_value text.now ≡ true }
+    ensures span { IfOk result (λ span. (span.start ≡ length texts.old.items)
+        × (span.length ≡ length text.now)) }
+    ensures texts { OnOk result (texts.new.items ≡ texts.old.items ++ text.now) }
+    ensures err { OnErr result (texts.new.items ≡ texts.old.items) }
+{
+    let start = texts.len() as u32;
+    texts.extend_from_slice(text.as_bytes())?;
+    Ok(Span {
+        start,
+        length: text.len() as u16,
+    })
 }

@@ -37,7 +37,6 @@ pub(crate) fn after_byte(line: &[u8], start: usize, byte: u8) -> Option<usize>
 }
 
 /// Whether the byte stands for itself in a JSON string.
-#[inline(always)]
 pub fn is_plain_byte(byte: u8) -> bool
     ensures { result ≡ is_plain byte }
 {
@@ -45,7 +44,6 @@ pub fn is_plain_byte(byte: u8) -> bool
 }
 
 /// How many bytes stand for themselves in a JSON string before one that doesn't, or the end.
-#[inline(always)]
 pub fn plain_length(bytes: &[u8]) -> usize
     ensures length { result ≤ length bytes.now }
     ensures plain { list_all is_plain (take result bytes.now) ≡ true }

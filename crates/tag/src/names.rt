@@ -12,10 +12,8 @@ ghost use Rattle.tag.specs.Names.{is_key_byte, is_key, is_value};
 ghost use Rattle.tag.specs.Numbers.{name_error_number};
 
 use crate::Memory;
-use crate::short_text::ShortText;
 use std::alloc::Global;
 use std::cmp::Ordering;
-use std::fmt;
 use std::hash::{Hash, Hasher};
 use std::marker::Model;
 use std::sync::ArcStr;
@@ -48,31 +46,24 @@ impl NameError {
     }
 }
 
-/// The text of a key: in the value itself if it has at most 14 bytes, else in a block that copies share.
-#[derive(Drop)]
-enum Name {
-    Short(ShortText),
-    Long(ArcStr),
-}
-
 /// A key: 1 to 64 bytes, each an ASCII letter, a digit, or one of `.` `_` `-`.
 ///
-/// A key of at most 14 bytes takes no memory. Copies of a longer one share one text.
-#[derive(Drop)]
+/// Copies share one text.
+#[derive(Debug, Drop)]
 pub struct Key {
-    name: Name,
+    name: ArcStr,
 }
 
 impl Model for Key {
     ghost use Rattle.std.specs.Prelude.{◌≡◌, true, List, ℕ};
+    ghost use Rattle.std.specs.Arc.{arc_str_bytes};
     ghost use Rattle.tag.specs.Names.{is_key};
-    ghost use Rattle.tag.specs.KeyTexts.{text_of};
 
     ghost Value = { List ℕ };
 
-    ghost view = { λ k. text_of k.name };
+    ghost view = { λ k. arc_str_bytes k.name };
 
-    ghost invariant = { λ k. is_key (text_of k.name) ≡ true };
+    ghost invariant = { λ k. is_key (arc_str_bytes k.name) ≡ true };
 }
 
 fn is_key_byte(byte: u8) -> bool
@@ -114,15 +105,8 @@ impl Key {
         if !is_key(text.as_bytes()) {
             return Err(NameError::BadKey);
         }
-        if let Some(short) = ShortText::new(text) {
-            return Ok(Key {
-                name: Name::Short(short),
-            });
-        }
         match ArcStr::from_str(alloc, text) {
-            Ok(long) => Ok(Key {
-                name: Name::Long(long),
-            }),
+            Ok(name) => Ok(Key { name }),
             Err(_) => Err(NameError::Memory),
         }
     }
@@ -132,27 +116,16 @@ impl Key {
         ensures text { result.now ≡ self.now }
         ensures lawful { is_key self.now ≡ true }
     {
-        match &self.name {
-            Name::Short(text) => text.as_str(),
-            Name::Long(text) => text.as_str(),
-        }
+        self.name.as_str()
     }
 
     /// An equal key.
     pub fn copy(&self) -> Result<Key, Memory>
         ensures { IfOk result (λ key. key ≡ self.now) }
     {
-        let name = match &self.name {
-            Name::Short(text) => Name::Short(text.copy()),
-            Name::Long(text) => Name::Long(text.clone()?),
-        };
-        Ok(Key { name })
-    }
-}
-
-impl fmt::Debug for Key {
-    fn fmt<W: fmt::Write>(&self, f: &mut fmt::Formatter<W>) -> fmt::Result {
-        f.debug_struct("Key").field("name", &self.as_str()).finish()
+        Ok(Key {
+            name: self.name.clone()?,
+        })
     }
 }
 

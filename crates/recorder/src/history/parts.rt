@@ -15,7 +15,7 @@ impl History {
     pub fn parts(&self) -> Result<Parts<'_>, Memory>
         ensures { IfOk result (λ parts. AreParts self.now.rows parts.entries) }
     {
-        let keys = self.record.keys();
+        let keys = self.record.rows.keys();
         let count = keys.keys().len();
         let key_numbers = self.record.key_numbers()?;
         let groups = Groups::of(*key_numbers.allocator(), &key_numbers, count)?;

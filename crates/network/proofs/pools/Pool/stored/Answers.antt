@@ -2,9 +2,5 @@ use Rattle.std.proofs.Common.{arith}
 use Rattle.network.proofs.Bags.{len-below}
 use Rattle.network.proofs.pools.Pool.stored.Goals as goal
 
--- there are at most as many flights as numbers
-pub len-stored-requires : goal.len-stored-requires
-len-stored-requires c = let few = len-below c.self.inside.sent c.self.inside.flights c.self.invariant.given in omega (arith, few)
-
 pub prove-unreachable-requires : goal.prove-unreachable-requires
 prove-unreachable-requires c = omega (arith, len-below c.self.inside.sent c.self.inside.flights c.self.invariant.given, c.len-stored.ensures, c.if-prove.true)

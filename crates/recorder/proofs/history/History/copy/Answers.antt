@@ -5,4 +5,4 @@ use Rattle.recorder.proofs.history.History.copy.Goals as goal
 
 pub invariant_of-result : goal.invariant_of-result
 invariant_of-result c =
-    IsKept-same c.self.inside _ c.self.invariant c.in_ok-copy.ensures (λ client. ap (λ marks. is_marked marks client) c.in_ok-copy-2.ensures) refl
+    IsKept-same c.self.inside _ c.self.invariant c.in_ok-copy.ensures.rows c.in_ok-copy.ensures.states (λ client. ap (λ marks. is_marked marks client) c.in_ok-copy-2.ensures) refl

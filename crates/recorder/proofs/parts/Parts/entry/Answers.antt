@@ -21,6 +21,6 @@ of-requires c = c.self.invariant.each c.args.place _ c.group-numbers.ensures
 pub returns : goal.returns
 returns c =
     let s = c.self.inside in
-    let below : c.args.place < length s.from.now.keys = omega (arith, c.requires, ap (λ (p : KeyedParts). length p.entries) c.self.view_is, length-entries s.from.now s.groups c.self.invariant) in
-    let key = slice_get-get_or s.from.now.keys c.args.place [] below ∙ ap Some (sym c.key.ensures) in
+    let below : c.args.place < length s.from.now.rows.keys = omega (arith, c.requires, ap (λ (p : KeyedParts). length p.entries) c.self.view_is, length-entries s.from.now s.groups c.self.invariant) in
+    let key = slice_get-get_or s.from.now.rows.keys c.args.place [] below ∙ ap Some (sym c.key.ensures) in
     rw (← c.self.view_is) (entry-at s.from.now s.groups c.args.place _ _ key c.group-numbers.ensures ∙ ap (λ (p : List Call). Some (c.key.result, p)) (sym c.of.ensures))

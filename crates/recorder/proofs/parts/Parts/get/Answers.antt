@@ -13,7 +13,7 @@ returns-in_err-number-clause-none c =
 pub group-requires : goal.group-requires
 group-requires c =
     let number = rw c.keys.ensures.keys at c.in_ok-number.ensures in
-    omega (arith, slice_get_within c.self.inside.from.now.keys c.in_ok-number.number c.args.key.now number, c.self.invariant.all)
+    omega (arith, slice_get_within c.self.inside.from.now.rows.keys c.in_ok-number.number c.args.key.now number, c.self.invariant.all)
 
 pub of-requires : goal.of-requires
 of-requires c = c.self.invariant.each c.in_ok-number.number _ c.group.ensures

@@ -1,66 +1,76 @@
-use Rattle.std.proofs.Common.{ℕ, ◌≡◌, List, [], ◌∷◌, ◌++◌, Bool, Option, None, Some, length, take, subst, ap, ap₂, ◌∙◌, refl, arith}
-use Rattle.std.proofs.lemmas.List.{take_at}
+use Rattle.std.proofs.Common.{ℕ, ◌≡◌, ◌≤◌, List, [], take, refl, sym, ap, ap₂, ◌∙◌, arith, length}
+use Rattle.std.proofs.lemmas.Bool.{leb-true}
+use Rattle.std.proofs.lemmas.List.{append-nil, take_at}
+use Rattle.tag.specs.Limits.{value_limit}
+use Rattle.recorder.specs.KeptRows.{text_at, IsValueAt}
+use Rattle.tag.specs.declared.actions.Action.{Action}
+use Rattle.tag.specs.declared.actions.Action.TheVariants.{Write}
 use Rattle.tag.proofs.Lists.{same_push}
-use Rattle.recorder.specs.declared.record.CallState.{CallState}
-use Rattle.recorder.specs.Texts.{AddsValue}
-use Rattle.recorder.proofs.Tables.{begun-adds, begun-kept, begun-shown, kept-same, numbered, numbered-below, rows-count, written-kind, written-value}
+use Rattle.recorder.specs.declared.row.Row.TheVariants.{Invoke}
+use Rattle.recorder.proofs.Tables.{kept-same, pushed, seen-begun, shown-pushed, room, numbered, numbered-below, numbered-key, value-last, text-last}
 use Rattle.recorder.proofs.row_table.RowTable.push_invoke.Goals as goal
 
-pub overflow_cast-invoked : goal.overflow_cast-invoked
-overflow_cast-invoked c = omega (arith, c.self.invariant.few, c.len-invoked.ensures, c.self.inside.rows.ok.0)
+pub invariant_of-self-in_err-key : goal.invariant_of-self-in_err-key
+invariant_of-self-in_err-key c = kept-same c.self.inside _ c.self.invariant c.in_ok-reserve.ensures.items refl c.in_err-key.ensures.err
 
-pub invariant_of-self-in_err-reserve-2 : goal.invariant_of-self-in_err-reserve-2
-invariant_of-self-in_err-reserve-2 c = kept-same c.self.inside _ c.self.invariant c.in_ok-reserve.ensures.items c.in_err-reserve-2.ensures.items refl refl
+pub overflow_cast-key : goal.overflow_cast-key
+overflow_cast-key c =
+    let n = numbered c.in_ok-key.ensures.ok in
+    omega (arith, numbered-below c.in_ok-key.ensures.ok, n.3, c.self.invariant.keys, c.self.invariant.few)
 
 pub invariant_of-self-in_err-value : goal.invariant_of-self-in_err-value
-invariant_of-self-in_err-value c = kept-same c.self.inside _ c.self.invariant c.in_ok-reserve.ensures.items c.in_ok-reserve-2.ensures.items c.in_err-value.ensures.err refl
+invariant_of-self-in_err-value c = kept-same c.self.inside _ c.self.invariant c.in_ok-reserve.ensures.items c.in_err-value.ensures.err refl
+
+pub invariant_of-self-in_default-number_text : goal.invariant_of-self-in_default-number_text
+invariant_of-self-in_default-number_text c =
+    let t = c.self.inside in
+    let kept : length t.texts.items ≡ c.len-kept.result = omega (arith, c.len-kept.ensures, t.texts.ok.0) in
+    let texts = c.truncate.ensures.items ∙ (ap (λ (l : List ℕ). take c.len-kept.result l) c.in_ok-value.ensures.texts ∙ take_at t.texts.items _ c.len-kept.result kept) in
+    kept-same t _ c.self.invariant c.in_ok-reserve.ensures.items texts c.in_default-number_text.ensures.err
 
 pub invariant_of-self-in_default : goal.invariant_of-self-in_default
 invariant_of-self-in_default c =
     let t = c.self.inside in
-    let kept : length t.texts.items ≡ c.len-kept.result = omega (arith, c.len-kept.ensures, t.texts.ok.0) in
-    let texts = c.truncate.ensures.items ∙ (ap (λ (l : List ℕ). take c.len-kept.result l) c.in_ok-value.ensures.ok.texts ∙ take_at t.texts.items _ c.len-kept.result kept) in
-    kept-same t _ c.self.invariant c.in_ok-reserve.ensures.items c.in_ok-reserve-2.ensures.items texts c.in_default.ensures.err
+    let n = numbered c.in_ok-key.ensures.ok in
+    pushed t _ c.self.invariant _ n.0 [] (same_push t.rows.items _ _ _ c.in_ok-reserve.ensures.items c.in_ok-push.ensures.items) n.1 (sym (append-nil t.texts.items))
+    (room t c.args.self.now c.self.view_is c.requires.few) (numbered-below c.in_ok-key.ensures.ok) (omega (arith)) (omega (arith, n.3, c.self.invariant.keys))
+    (seen-begun t (record { rows = c.push.new.self; texts = t.texts; keys = c.number_text.new.self }) c.self.invariant _ n.0 [] (same_push t.rows.items _ _ _ c.in_ok-reserve.ensures.items c.in_ok-push.ensures.items) n.1 (sym (append-nil t.texts.items))
+    c.args.op c.args.client c.args.key.now c.args.action.now _ (ap₂ (λ (k : List ℕ) (a : Action). Invoke c.args.op c.args.client k a) (numbered-key c.in_ok-key.ensures.ok) (sym c.in_default.ensures.read)) c.in_ok-key.ensures.ok)
 
-pub overflow_cast-number : goal.overflow_cast-number
-overflow_cast-number c =
+pub returns-in_default-clause-ok : goal.returns-in_default-clause-ok
+returns-in_default-clause-ok c =
+    let t = c.self.inside in
+    let n = numbered c.in_ok-key.ensures.ok in
+    shown-pushed t (record { rows = c.push.new.self; texts = t.texts; keys = c.number_text.new.self }) c.args.self.now c.self.view_is c.self.invariant _ n.0 [] (same_push t.rows.items _ _ _ c.in_ok-reserve.ensures.items c.in_ok-push.ensures.items) n.1 (sym (append-nil t.texts.items))
+    _ (ap₂ (λ (k : List ℕ) (a : Action). Invoke c.args.op c.args.client k a) (numbered-key c.in_ok-key.ensures.ok) (sym c.in_default.ensures.read))
+
+pub overflow_cast-key-2 : goal.overflow_cast-key-2
+overflow_cast-key-2 c =
+    let t = c.self.inside in
     let n = numbered c.in-Ok.ensures.ok in
     omega (arith, numbered-below c.in-Ok.ensures.ok, n.3, c.self.invariant.keys, c.self.invariant.few)
 
 pub invariant_of-self-2 : goal.invariant_of-self-2
 invariant_of-self-2 c =
     let t = c.self.inside in
-    let action = c.args.action.now in
-    let number = c.in-Ok.number in
-    let value = c.in_ok-value.value in
-    let place : c.len-invoked.result ≡ length c.args.self.now.rows = omega (arith, c.len-invoked.ensures, t.rows.ok.0, rows-count t c.args.self.now c.self.view_is) in
-    let writes = c.is_some-is_write.ensures ∙ written-kind action c.written-text.result c.written-text.ensures.read c.written-text.ensures.write in
-    let is = ap₂ (λ (b : Bool) (k : ℕ). record { client = c.args.client; note = None; key = number; is_write = b; invoked = k; response = None; value = value }) writes place in
-    let adds = subst (λ (v : Option (List ℕ)). AddsValue t.texts.items c.keep_value.new.texts.items value v) (written-value action c.written-text.result c.written-text.ensures.read c.written-text.ensures.write) c.in_ok-value.ensures.ok in
-    begun-kept t c.self.invariant c.args.self.now c.self.view_is c.args.op c.args.client c.args.key.now action c.requires.next _ _ _ _ number c.in-Ok.ensures.ok value adds (same_push t.rows.items _ _ _ c.in_ok-reserve.ensures.items c.in_ok-push.ensures.items) (same_push t.states.items _ _ _ c.in_ok-reserve-2.ensures.items c.in_ok-push-2.ensures.items ∙ ap (λ (s : CallState). t.states.items ++ s ∷ []) is)
-    _ refl refl refl refl c.requires.few
+    let n = numbered c.in-Ok.ensures.ok in
+    let text = c.as_str.result.now in
+    let span = c.in_ok-value.ensures.span in
+    let short : length c.as_str.result.now ≤ value_limit = rw c.as_str.ensures.text (leb-true (length c.in-Some.value) value_limit c.as_str.ensures.lawful) in
+    let value : IsValueAt c.keep_text.new.texts.items c.in_ok-value.value = rw c.in_ok-value.ensures.texts (value-last t.texts.items text c.in_ok-value.value span.0 span.1 short c.as_str.utf8) in
+    let same = ap (λ (l : List ℕ). text_at l c.in_ok-value.value) c.in_ok-value.ensures.texts ∙ text-last t.texts.items text c.in_ok-value.value span.0 span.1 ∙ c.as_str.ensures.text in
+    pushed t _ c.self.invariant _ n.0 text (same_push t.rows.items _ _ _ c.in_ok-reserve.ensures.items c.in_ok-push-2.ensures.items) n.1 c.in_ok-value.ensures.texts
+    (room t c.args.self.now c.self.view_is c.requires.few) (numbered-below c.in-Ok.ensures.ok, value) short (omega (arith, n.3, c.self.invariant.keys))
+    (seen-begun t (record { rows = c.push-2.new.self; texts = c.keep_text.new.texts; keys = c.number_text-2.new.self }) c.self.invariant _ n.0 text (same_push t.rows.items _ _ _ c.in_ok-reserve.ensures.items c.in_ok-push-2.ensures.items) n.1 c.in_ok-value.ensures.texts
+    c.args.op c.args.client c.args.key.now c.args.action.now _ (ap₂ (λ (k : List ℕ) (a : Action). Invoke c.args.op c.args.client k a) (numbered-key c.in-Ok.ensures.ok) (ap Write same ∙ sym c.in-Some.ensures.write)) c.in-Ok.ensures.ok)
 
 pub returns-clause-ok : goal.returns-clause-ok
 returns-clause-ok c =
     let t = c.self.inside in
-    let action = c.args.action.now in
-    let number = c.in-Ok.number in
-    let value = c.in_ok-value.value in
-    let place : c.len-invoked.result ≡ length c.args.self.now.rows = omega (arith, c.len-invoked.ensures, t.rows.ok.0, rows-count t c.args.self.now c.self.view_is) in
-    let writes = c.is_some-is_write.ensures ∙ written-kind action c.written-text.result c.written-text.ensures.read c.written-text.ensures.write in
-    let is = ap₂ (λ (b : Bool) (k : ℕ). record { client = c.args.client; note = None; key = number; is_write = b; invoked = k; response = None; value = value }) writes place in
-    let adds = subst (λ (v : Option (List ℕ)). AddsValue t.texts.items c.keep_value.new.texts.items value v) (written-value action c.written-text.result c.written-text.ensures.read c.written-text.ensures.write) c.in_ok-value.ensures.ok in
-    begun-shown t c.self.invariant c.args.self.now c.self.view_is c.args.op c.args.client c.args.key.now action c.requires.next _ _ _ _ number c.in-Ok.ensures.ok value adds (same_push t.rows.items _ _ _ c.in_ok-reserve.ensures.items c.in_ok-push.ensures.items) (same_push t.states.items _ _ _ c.in_ok-reserve-2.ensures.items c.in_ok-push-2.ensures.items ∙ ap (λ (s : CallState). t.states.items ++ s ∷ []) is)
-
-pub returns-clause-call : goal.returns-clause-call
-returns-clause-call c =
-    let t = c.self.inside in
-    let action = c.args.action.now in
-    let number = c.in-Ok.number in
-    let value = c.in_ok-value.value in
-    let place : c.len-invoked.result ≡ length c.args.self.now.rows = omega (arith, c.len-invoked.ensures, t.rows.ok.0, rows-count t c.args.self.now c.self.view_is) in
-    let writes = c.is_some-is_write.ensures ∙ written-kind action c.written-text.result c.written-text.ensures.read c.written-text.ensures.write in
-    let is = ap₂ (λ (b : Bool) (k : ℕ). record { client = c.args.client; note = None; key = number; is_write = b; invoked = k; response = None; value = value }) writes place in
-    let adds = subst (λ (v : Option (List ℕ)). AddsValue t.texts.items c.keep_value.new.texts.items value v) (written-value action c.written-text.result c.written-text.ensures.read c.written-text.ensures.write) c.in_ok-value.ensures.ok in
-    begun-adds t c.self.invariant c.args.self.now c.self.view_is c.args.op c.args.client c.args.key.now action c.requires.next _ _ _ _ number c.in-Ok.ensures.ok value adds (same_push t.rows.items _ _ _ c.in_ok-reserve.ensures.items c.in_ok-push.ensures.items) (same_push t.states.items _ _ _ c.in_ok-reserve-2.ensures.items c.in_ok-push-2.ensures.items ∙ ap (λ (s : CallState). t.states.items ++ s ∷ []) is)
-    _ refl refl refl
+    let n = numbered c.in-Ok.ensures.ok in
+    let text = c.as_str.result.now in
+    let span = c.in_ok-value.ensures.span in
+    let same = ap (λ (l : List ℕ). text_at l c.in_ok-value.value) c.in_ok-value.ensures.texts ∙ text-last t.texts.items text c.in_ok-value.value span.0 span.1 ∙ c.as_str.ensures.text in
+    shown-pushed t (record { rows = c.push-2.new.self; texts = c.keep_text.new.texts; keys = c.number_text-2.new.self }) c.args.self.now c.self.view_is c.self.invariant _ n.0 text
+    (same_push t.rows.items _ _ _ c.in_ok-reserve.ensures.items c.in_ok-push-2.ensures.items) n.1 c.in_ok-value.ensures.texts
+    _ (ap₂ (λ (k : List ℕ) (a : Action). Invoke c.args.op c.args.client k a) (numbered-key c.in-Ok.ensures.ok) (ap Write same ∙ sym c.in-Some.ensures.write))

@@ -1,61 +1,48 @@
-use Rattle.std.proofs.Common.{ℕ, List, [], get_or, length, ap, ap₂, sym, ◌∙◌, arith}
-use Rattle.std.proofs.lemmas.Option.{slice_get_within}
+use Rattle.std.proofs.Common.{ℕ, List, Some, ap, ap₂, ◌∙◌, refl}
 use Rattle.tag.specs.declared.actions.Action.{Action}
+use Rattle.tag.specs.declared.actions.Action.TheVariants.{Write}
 use Rattle.tag.specs.declared.actions.Returned.{Returned}
-use Rattle.tag.specs.Tags.{Tag}
-use Rattle.recorder.specs.declared.row.Row.TheVariants.{Invoke, Note, Respond}
-use Rattle.recorder.specs.KeptRows.{tag_in}
-use Rattle.recorder.specs.States.{action_by, returned_by}
-use Rattle.recorder.specs.Tables.{Table}
-use Rattle.recorder.specs.Texts.{value_in}
-use Rattle.recorder.proofs.Tables.{found-row, found-state, has-note, shown}
+use Rattle.tag.specs.declared.actions.Returned.TheVariants.{Value}
+use Rattle.recorder.specs.declared.row.Row.TheVariants.{Invoke, Respond}
+use Rattle.recorder.specs.KeptRows.{text_at}
+use Rattle.recorder.proofs.Tables.{stands, shown}
 use Rattle.recorder.proofs.row_table.RowTable.row.Goals as goal
 
-pub index-state-requires : goal.index-state-requires
-index-state-requires c =
-    let t = c.self.inside in
-    let there = found-row t c.self.invariant c.args.self.now c.self.view_is c.args.place c.index-row.result.now c.requires c.index-row.ensures in
-    omega (arith, slice_get_within t.states.items c.index-row.result.now.op.0 there.state there.found, t.states.ok.0)
-
 pub key-requires : goal.key-requires
-key-requires c =
-    let found = found-state c.self.inside c.self.invariant c.args.self.now c.self.view_is c.args.place c.index-row.result.now c.index-state.result.now c.requires c.index-row.ensures c.index-state.ensures in
-    omega (arith, found.fine.key, ap (λ (x : Table). length x.keys) c.self.view_is)
+key-requires c = rw (← c.self.view_is) (c.self.invariant.there c.args.place _ (stands c.self.inside c.args.self.now c.args.place c.index.result.now _ c.self.view_is c.requires c.index.ensures c.in-Read.is))
 
-pub action_of-requires : goal.action_of-requires
-action_of-requires c =
-    let found = found-state c.self.inside c.self.invariant c.args.self.now c.self.view_is c.args.place c.index-row.result.now c.index-state.result.now c.requires c.index-row.ensures c.index-state.ensures in
-    rw c.deref.ensures.value found.fine.value
+pub key-requires-in-Write : goal.key-requires-in-Write
+key-requires-in-Write c = rw (← c.self.view_is) (c.self.invariant.there c.args.place _ (stands c.self.inside c.args.self.now c.args.place c.index.result.now _ c.self.view_is c.requires c.index.ensures c.in-Write.is)).0
 
-pub tag_of-requires : goal.tag_of-requires
-tag_of-requires c =
-    let found = found-state c.self.inside c.self.invariant c.args.self.now c.self.view_is c.args.place c.index-row.result.now c.index-state.result.now c.requires c.index-row.ensures c.index-state.ensures in
-    has-note c.index-state.result.now c.index-row.result.now.kind c.in-Note.is found.has
+pub value_at-requires : goal.value_at-requires
+value_at-requires c = rw c.deref.ensures.value (c.self.invariant.there c.args.place _ (stands c.self.inside c.args.self.now c.args.place c.index.result.now _ c.self.view_is c.requires c.index.ensures c.in-Write.is)).1
 
-pub returned_of-requires : goal.returned_of-requires
-returned_of-requires c =
-    let found = found-state c.self.inside c.self.invariant c.args.self.now c.self.view_is c.args.place c.index-row.result.now c.index-state.result.now c.requires c.index-row.ensures c.index-state.ensures in
-    rw c.deref-in-Response.ensures.value found.fine.value
+pub value_at-requires-in-Answer : goal.value_at-requires-in-Answer
+value_at-requires-in-Answer c = rw c.deref-in-Answer.ensures.value (c.self.invariant.there c.args.place _ (stands c.self.inside c.args.self.now c.args.place c.index.result.now _ c.self.view_is c.requires c.index.ensures c.in-Answer.is))
 
-pub returns-in-Invocation : goal.returns-in-Invocation
-returns-in-Invocation c =
-    let found = found-state c.self.inside c.self.invariant c.args.self.now c.self.view_is c.args.place c.index-row.result.now c.index-state.result.now c.requires c.index-row.ensures c.index-state.ensures in
-    let state = c.index-state.result.now in
-    let op = c.index-row.result.now.op in
-    let key = c.key.ensures ∙ ap (λ (x : Table). get_or x.keys state.key []) (sym c.self.view_is) in
-    let asks = c.action_of.ensures ∙ ap (λ (l : List ℕ). action_by state.is_write (value_in l state.value)) c.deref.ensures.value in
-    shown c.self.inside c.args.self.now c.self.view_is c.args.place c.index-row.result.now state found _ c.in-Invocation.is _ (ap₂ (λ (k : List ℕ) (a : Action). Invoke op state.client k a) key asks)
+pub returns-in-Read : goal.returns-in-Read
+returns-in-Read c =
+    let at = stands c.self.inside c.args.self.now c.args.place c.index.result.now _ c.self.view_is c.requires c.index.ensures c.in-Read.is in
+    let key = rw (← c.self.view_is) at c.key.ensures in
+    shown c.self.inside c.args.self.now c.args.place _ _ c.self.view_is at (ap₂ (λ (k : List ℕ) (a : Action). Invoke c.in-Read.op c.in-Read.client k a) key c.read.ensures)
+
+pub returns-in-Write : goal.returns-in-Write
+returns-in-Write c =
+    let at = stands c.self.inside c.args.self.now c.args.place c.index.result.now _ c.self.view_is c.requires c.index.ensures c.in-Write.is in
+    let key = rw (← c.self.view_is) at c.key-in-Write.ensures in
+    let text = c.value_at.ensures ∙ ap (λ (l : List ℕ). text_at l c.in-Write.value) c.deref.ensures.value in
+    shown c.self.inside c.args.self.now c.args.place _ _ c.self.view_is at (ap₂ (λ (k : List ℕ) (a : Action). Invoke c.in-Write.op c.in-Write.client k a) key (c.write.ensures ∙ ap Write text))
 
 pub returns-in-Note : goal.returns-in-Note
-returns-in-Note c =
-    let found = found-state c.self.inside c.self.invariant c.args.self.now c.self.view_is c.args.place c.index-row.result.now c.index-state.result.now c.requires c.index-row.ensures c.index-state.ensures in
-    let op = c.index-row.result.now.op in
-    shown c.self.inside c.args.self.now c.self.view_is c.args.place c.index-row.result.now c.index-state.result.now found _ c.in-Note.is _ (ap (λ (tag : Tag). Note op tag) (sym (ap tag_in c.tag_of.ensures)))
+returns-in-Note c = shown c.self.inside c.args.self.now c.args.place _ _ c.self.view_is (stands c.self.inside c.args.self.now c.args.place c.index.result.now _ c.self.view_is c.requires c.index.ensures c.in-Note.is) refl
 
-pub returns-in-Response : goal.returns-in-Response
-returns-in-Response c =
-    let found = found-state c.self.inside c.self.invariant c.args.self.now c.self.view_is c.args.place c.index-row.result.now c.index-state.result.now c.requires c.index-row.ensures c.index-state.ensures in
-    let state = c.index-state.result.now in
-    let op = c.index-row.result.now.op in
-    let answers = c.returned_of.ensures ∙ ap (λ (l : List ℕ). returned_by state.is_write (value_in l state.value)) c.deref-in-Response.ensures.value in
-    shown c.self.inside c.args.self.now c.self.view_is c.args.place c.index-row.result.now state found _ c.in-Response.is _ (ap (λ (r : Returned). Respond op r) answers)
+pub returns-in-Done : goal.returns-in-Done
+returns-in-Done c = shown c.self.inside c.args.self.now c.args.place _ _ c.self.view_is (stands c.self.inside c.args.self.now c.args.place c.index.result.now _ c.self.view_is c.requires c.index.ensures c.in-Done.is) (ap (λ (r : Returned). Respond c.in-Done.op r) c.done.ensures)
+
+pub returns-in-Absent : goal.returns-in-Absent
+returns-in-Absent c = shown c.self.inside c.args.self.now c.args.place _ _ c.self.view_is (stands c.self.inside c.args.self.now c.args.place c.index.result.now _ c.self.view_is c.requires c.index.ensures c.in-Absent.is) (ap (λ (r : Returned). Respond c.in-Absent.op r) c.value.ensures)
+
+pub returns-in-Answer : goal.returns-in-Answer
+returns-in-Answer c =
+    let text = c.value_at-in-Answer.ensures ∙ ap (λ (l : List ℕ). text_at l c.in-Answer.value) c.deref-in-Answer.ensures.value in
+    shown c.self.inside c.args.self.now c.args.place _ _ c.self.view_is (stands c.self.inside c.args.self.now c.args.place c.index.result.now _ c.self.view_is c.requires c.index.ensures c.in-Answer.is) (ap (λ (r : Returned). Respond c.in-Answer.op r) (c.value-in-Answer.ensures ∙ ap (λ (v : List ℕ). Value (Some v)) text))
