@@ -1,5 +1,5 @@
 -- Orders of numbers.
-use Rattle.std.proofs.Common.{◌≡◌, ◌<◌, ◌≤◌, ◌+◌, ◌⊎◌, ◌==◌, ℕ, zero, suc, false, inl, inr, true≢false, arith}
+use Rattle.std.proofs.Common.{◌≡◌, ◌<◌, ◌+◌, ◌⊎◌, ◌==◌, ℕ, zero, suc, false, inl, inr, true≢false, arith}
 use Rattle.std.proofs.lemmas.Bool.{cases_lt}
 
 -- what is below a number's successor is below the number, or is it

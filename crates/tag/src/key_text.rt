@@ -12,8 +12,7 @@ use std::marker::Model;
 
 /// The text of a key, whose bytes lie in the value itself: it takes no memory.
 ///
-/// It is for a look-up. A `Key` is for what is kept: it takes a ninth of the room, and its copies
-/// share one text.
+/// It is for a look-up. A `Key` is for what is kept: it takes a quarter of the room or less.
 #[derive(Debug, Drop)]
 pub struct KeyText {
     text: ArrayString<64>,

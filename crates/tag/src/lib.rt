@@ -1,8 +1,8 @@
 //! Names, keys, values and tags: what calls speak of.
 //!
 //! Each type holds only what the limits allow: a `Key` that exists is a key, a `Tag` is in range.
-//! Copies of a key, or of a value, share one text; a `KeyText` has its bytes in itself. Of the other
-//! types only those that hold a value take memory.
+//! A key of at most 14 bytes, and a `KeyText`, have their bytes in themselves. Copies of a longer key,
+//! or of a value, share one text. Of the other types only those that hold a value or a key take memory.
 #![tactic(auto)]
 
 mod actions;
@@ -11,6 +11,7 @@ pub mod laws;
 mod memory;
 mod names;
 mod numbers;
+mod short_text;
 mod tags;
 
 pub use actions::{Action, Returned};

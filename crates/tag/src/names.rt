@@ -1,5 +1,5 @@
 //! Keys and values: texts of limited length.
-ghost use Rattle.std.specs.Prelude.{◌≡◌, true, false, None, Some, IfOk, IsOk, bytes_eq, ◌↔◌, IfErr, ◌⊎◌, refl};
+ghost use Rattle.std.specs.Prelude.{◌≡◌, ◌≤◌, true, false, None, Some, IfOk, IsOk, bytes_eq, ◌↔◌, IfErr, ◌⊎◌, length, refl};
 ghost use Rattle.std.proofs.Common.{rules};
 ghost use Rattle.std.specs.Hash as fed;
 ghost use Rattle.std.specs.Ordering.{nat_cmp};
@@ -10,10 +10,13 @@ ghost use Rattle.std.specs.List.{list_all};
 ghost use Rattle.std.specs.Option.{option_copied};
 ghost use Rattle.tag.specs.Names.{is_key_byte, is_key, is_value};
 ghost use Rattle.tag.specs.Numbers.{name_error_number};
+ghost use Rattle.tag.specs.ShortTexts.{short_limit};
 
 use crate::Memory;
+use crate::short_text::ShortText;
 use std::alloc::Global;
 use std::cmp::Ordering;
+use std::fmt;
 use std::hash::{Hash, Hasher};
 use std::marker::Model;
 use std::sync::ArcStr;
@@ -46,24 +49,31 @@ impl NameError {
     }
 }
 
+/// The text of a key: in the value itself if it has at most 14 bytes, else in a block that copies share.
+#[derive(Drop)]
+enum Name {
+    Short(ShortText),
+    Long(ArcStr),
+}
+
 /// A key: 1 to 64 bytes, each an ASCII letter, a digit, or one of `.` `_` `-`.
 ///
-/// Copies share one text.
-#[derive(Debug, Drop)]
+/// A key of at most 14 bytes takes no memory. Copies of a longer one share one text.
+#[derive(Drop)]
 pub struct Key {
-    name: ArcStr,
+    name: Name,
 }
 
 impl Model for Key {
     ghost use Rattle.std.specs.Prelude.{◌≡◌, true, List, ℕ};
-    ghost use Rattle.std.specs.Arc.{arc_str_bytes};
     ghost use Rattle.tag.specs.Names.{is_key};
+    ghost use Rattle.tag.specs.KeyTexts.{text_of};
 
     ghost Value = { List ℕ };
 
-    ghost view = { λ k. arc_str_bytes k.name };
+    ghost view = { λ k. text_of k.name };
 
-    ghost invariant = { λ k. is_key (arc_str_bytes k.name) ≡ true };
+    ghost invariant = { λ k. is_key (text_of k.name) ≡ true };
 }
 
 fn is_key_byte(byte: u8) -> bool
@@ -94,19 +104,27 @@ fn is_value(text: &str) -> bool
 impl Key {
     ghost use Rattle.std.specs.Prelude.{ok_or};
 
-    /// The key of that text. `BadKey` comes exactly where the text is no key, `Memory` only where
-    /// the copy of a key's text was refused.
+    /// The key of that text. `BadKey` comes exactly where the text is no key, `Memory` only where the text
+    /// has more than 14 bytes and its copy was refused.
     pub fn new(alloc: Global, text: &str) -> Result<Key, NameError>
         ensures value { IfOk result (λ key. (key ≡ text.now) × (is_key text.now ≡ true)) }
         ensures bad { (result ≡ Err NameError.BadKey) ↔ (is_key text.now ≡ false) }
         ensures only { IfErr result
             (λ error. (error ≡ NameError.BadKey) ⊎ (error ≡ NameError.Memory)) }
+        ensures short { length text.now ≤ short_limit → result ≡ Err NameError.Memory → ⊥ }
     {
         if !is_key(text.as_bytes()) {
             return Err(NameError::BadKey);
         }
+        if let Some(short) = ShortText::new(text) {
+            return Ok(Key {
+                name: Name::Short(short),
+            });
+        }
         match ArcStr::from_str(alloc, text) {
-            Ok(name) => Ok(Key { name }),
+            Ok(long) => Ok(Key {
+                name: Name::Long(long),
+            }),
             Err(_) => Err(NameError::Memory),
         }
     }
@@ -116,16 +134,27 @@ impl Key {
         ensures text { result.now ≡ self.now }
         ensures lawful { is_key self.now ≡ true }
     {
-        self.name.as_str()
+        match &self.name {
+            Name::Short(text) => text.as_str(),
+            Name::Long(text) => text.as_str(),
+        }
     }
 
     /// An equal key.
     pub fn copy(&self) -> Result<Key, Memory>
         ensures { IfOk result (λ key. key ≡ self.now) }
     {
-        Ok(Key {
-            name: self.name.clone()?,
-        })
+        let name = match &self.name {
+            Name::Short(text) => Name::Short(text.copy()),
+            Name::Long(text) => Name::Long(text.clone()?),
+        };
+        Ok(Key { name })
+    }
+}
+
+impl fmt::Debug for Key {
+    fn fmt<W: fmt::Write>(&self, f: &mut fmt::Formatter<W>) -> fmt::Result {
+        f.debug_struct("Key").field("name", &self.as_str()).finish()
     }
 }
 

@@ -6,8 +6,9 @@ use replica::{Reply, Request};
 use std::alloc::Global;
 use tag::{Action, ClientId, Key, Memory, OpId, ReplicaId, Returned, Tag, Value};
 
+/// A key that takes an allocation.
 fn key(alloc: Global) -> Result<Key, Memory> {
-    Key::new(alloc, "x").map_err(|_| Memory)
+    Key::new(alloc, "a-key-of-28-bytes-is-a-block").map_err(|_| Memory)
 }
 
 fn value(alloc: Global) -> Result<Value, Memory> {
@@ -42,7 +43,7 @@ fn sends(alloc: Global, client: &Client, wanted: &Request) -> Result<bool, Memor
     gives(alloc, client, &|client: &Client| client.request(), wanted)
 }
 
-/// Has an idle client ask for a read of "x" as call 4. Whether it was idle.
+/// Has an idle client ask for a read as call 4. Whether it was idle.
 fn ask(alloc: Global, client: &mut Client) -> Result<bool, Memory> {
     if client.phase() != Phase::Idle {
         return Ok(false);

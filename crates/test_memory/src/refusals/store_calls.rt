@@ -12,14 +12,14 @@ use world_steps::Refusal;
 /// How many halls the store has.
 const HALLS: u8 = 4;
 
-/// Reads `x`.
+/// Reads a key that takes an allocation.
 fn read(
     rt: &impl Wait,
     alloc: Global,
     store: &Store<OpenGate>,
     seat: &mut Seat,
 ) -> Result<(), CallError> {
-    let key = Key::new(alloc, "x").map_err(|_| CallError::Memory)?;
+    let key = Key::new(alloc, "a-key-of-28-bytes-is-a-block").map_err(|_| CallError::Memory)?;
     store.call(rt, alloc, seat, key, Action::Read)?;
     Ok(())
 }

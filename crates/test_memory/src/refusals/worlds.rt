@@ -8,8 +8,8 @@ use tag::{Action, ClientId, Key, Memory, OpId, ReplicaId, Tag, Value};
 use world_settle::{SettleError, settle};
 use world_steps::{Config, Effect, Refusal, Step, World};
 
-/// A step, by a letter and two numbers: client `who` joins (`j`), begins a write of `a` on `x` (`w`) or a
-/// read of it (`r`), sends to replica `at` (`s`), responds (`a`), stops (`k`); the flight `at` is delivered
+/// A step, by a letter and two numbers: client `who` joins (`j`), begins a write of `a` (`w`) or a
+/// read (`r`), sends to replica `at` (`s`), responds (`a`), stops (`k`); the flight `at` is delivered
 /// to a replica (`d`), to a client that notes a tag by it (`n`) or is ready by it (`y`), lost (`l`) or repeated
 /// (`c`); the replica `at` stops (`-`) or starts (`+`).
 pub fn step(alloc: Global, kind: char, who: u32, at: u32) -> Result<Step, Memory> {
@@ -49,8 +49,11 @@ pub fn effect(kind: char, number: u32) -> Option<Effect> {
     }
 }
 
+/// A key that takes an allocation.
+const KEY: &str = "a-key-of-28-bytes-is-a-block";
+
 fn write(alloc: Global, client: ClientId) -> Result<Step, Memory> {
-    let (Ok(key), Ok(value)) = (Key::new(alloc, "x"), Value::new(alloc, "a")) else {
+    let (Ok(key), Ok(value)) = (Key::new(alloc, KEY), Value::new(alloc, "a")) else {
         return Err(Memory);
     };
     Ok(Step::Invoke {
@@ -61,7 +64,7 @@ fn write(alloc: Global, client: ClientId) -> Result<Step, Memory> {
 }
 
 fn read(alloc: Global, client: ClientId) -> Result<Step, Memory> {
-    let Ok(key) = Key::new(alloc, "x") else {
+    let Ok(key) = Key::new(alloc, KEY) else {
         return Err(Memory);
     };
     Ok(Step::Invoke {

@@ -10,12 +10,19 @@ use Rattle.seats.specs.Seats.{Seat, value_of}
 use Rattle.seats.proofs.CallLeaving.{answered_leaves, found, no_memory, no_room, pending_leaves, unbegun_leaves}
 use Rattle.seats.proofs.SeatChanges.{answered_is, kept_seat, pending_is, same_log}
 use Rattle.seats.proofs.seating.call_on.Goals as goal
+use Rattle.seats.proofs.seating.call_on.Goals.{in-Long-6, in-Short-6}
 
 abbrev answered_entry : ℕ → OpId → List ℕ → Action → ℕ → Response → Entry
 answered_entry hall op key action invoked response = record { hall = hall; op = op; key = key; action = action; invoked = invoked; response = Some response }
 
-pub invariant_of-seat-in-Refused-1 : goal.invariant_of-seat-in-Refused-1
-invariant_of-seat-in-Refused-1 g c =
+pub invariant_of-seat-in-Refused : goal.invariant_of-seat-in-Refused
+invariant_of-seat-in-Refused g c =
+    let s = seat_of c.seat.inside in
+    let f = found s _ c.from-at.result c.args.transport.now.hall c.index_mut.result.now c.index-seen.result.now c.seat.invariant c.seat.view_is c.from-at.ensures c.requires.there c.index_mut.ensures.value c.index-seen.ensures in
+    same_log s c.reserve.new.self.items _ c.reserve.ensures.items (kept_seat s c.from-at.result c.index_mut.result.now c.make_call.new.pass c.seat.invariant f.there c.in-Refused.ensures.outcome.1)
+
+pub invariant_of-seat-in-Refused-2 : goal.invariant_of-seat-in-Refused-2
+invariant_of-seat-in-Refused-2 g c =
     let s = seat_of c.seat.inside in
     let f = found s _ c.from-at.result c.args.transport.now.hall c.index_mut.result.now c.index-seen.result.now c.seat.invariant c.seat.view_is c.from-at.ensures c.requires.there c.index_mut.ensures.value c.index-seen.ensures in
     same_log s c.reserve.new.self.items _ c.reserve.ensures.items (kept_seat s c.from-at.result c.index_mut.result.now c.make_call.new.pass c.seat.invariant f.there c.in-Refused.ensures.outcome.1)
@@ -24,8 +31,12 @@ pub returns-in-Refused : goal.returns-in-Refused
 returns-in-Refused g c =
     let s = seat_of c.seat.inside in
     let f = found s _ c.from-at.result c.args.transport.now.hall c.index_mut.result.now c.index-seen.result.now c.seat.invariant c.seat.view_is c.from-at.ensures c.requires.there c.index_mut.ensures.value c.index-seen.ensures in
-    rw (← c.seat.view_is) (unbegun_leaves s c.reserve.new.self.items c.from-at.result c.args.transport.now.hall c.index_mut.result.now c.make_call.new.pass c.args.key c.args.action c.index-seen.result.now c.in-Refused.error
-    c.reserve.ensures.items f c.in-Refused.ensures.outcome.0 c.in-Refused.ensures.outcome.1)
+    let leaves = unbegun_leaves s c.reserve.new.self.items c.from-at.result c.args.transport.now.hall c.index_mut.result.now c.make_call.new.pass c.args.key c.args.action c.index-seen.result.now c.in-Refused.error
+    c.reserve.ensures.items f c.in-Refused.ensures.outcome.0 c.in-Refused.ensures.outcome.1 in
+    elim c.match-kept_key-3.branch [
+      | in-Long-6 w ↦ rw (w.seat-is, ← c.seat.view_is) leaves
+      | in-Short-6 w ↦ rw (w.seat-is, ← c.seat.view_is) leaves
+    ]
 
 pub invariant_of-seat-in-Pending : goal.invariant_of-seat-in-Pending
 invariant_of-seat-in-Pending g c =
