@@ -1,11 +1,13 @@
 -- Keys and their numbers, once a number more is placed.
-use Rattle.std.proofs.Common.{ℕ, ◌≡◌, inl, inr, List, [], ◌∷◌, ◌++◌, Some, length, sym, ◌∙◌, ap}
+use Rattle.std.proofs.Common.{ℕ, ◌≡◌, inl, inr, List, [], ◌∷◌, ◌++◌, Some, None, length, sym, ◌∙◌, ap}
 use Rattle.std.specs.List.{slice_get, Contains}
 use Rattle.std.specs.Ordering.{nat_cmp}
 use Rattle.std.specs.Cmp.Lexicographic.{slice_cmp}
-use Rattle.std.specs.BTreeMap.{BTreeMap, Updates, is_at}
+use Rattle.std.specs.BTreeMap.{BTreeMap, Updates, btree_map_len, get, is_at}
+use Rattle.std.specs.Map.{lookup}
 use Rattle.std.specs.Cmp.{Equal-is}
 use Rattle.std.proofs.lemmas.Bool.{cases_Bool}
+use Rattle.std.proofs.lemmas.List.{nil_from_length}
 use Rattle.std.proofs.lemmas.Map.Lookups.{exact_bytes}
 use Rattle.tag.proofs.Lists.{push_cases, slice_get-push_left, slice_get-push_last, Contains-slice_get}
 use Rattle.key_index.specs.declared.slots.Slot.{Slot}
@@ -79,3 +81,9 @@ other_more old new others now keys key are unseen still updates = record {
     | inr w ↦ slice_get-push_left keys key n q (are.right q n w)
   ];
 }
+
+-- an empty map has no number for a key
+pub none_among : (others : BTreeMap (List ℕ) ℕ) (key : List ℕ) → btree_map_len others ≡ 0
+    → None ≡ get (slice_cmp nat_cmp) others key
+none_among others key empty =
+    ap (lookup (is_at (slice_cmp nat_cmp key))) (sym (nil_from_length others.entries empty))

@@ -1,6 +1,9 @@
 //! Keys and their numbers.
 ghost use Rattle.std.specs.Prelude.{◌≡◌, [], true, IfOk, OnErr};
+ghost use Rattle.std.specs.BTreeMap.{get};
+ghost use Rattle.std.specs.Cmp.Lexicographic.{slice_cmp};
 ghost use Rattle.std.specs.List.{Contains};
+ghost use Rattle.std.specs.Ordering.{nat_cmp};
 ghost use Rattle.key_index.specs.Numbers.{EachOnce, IsPlace, Numbers};
 ghost use Rattle.key_index.specs.Marks.{mark_of};
 ghost use Rattle.tag.specs.Names.{is_key};
@@ -44,6 +47,19 @@ impl Model for KeyNumbers {
     ghost invariant = { IsKept };
 }
 
+/// The number of the key of that text, if it is among these.
+#[tactic(auto, using(crate::proofs::Placements::none_among))]
+fn number_among(others: &BTreeMap<KeyText, usize>, text: &str) -> Option<usize>
+    requires { is_key text.now ≡ true }
+    ensures { result ≡ get (slice_cmp nat_cmp) others.now text.now }
+{
+    if others.is_empty() {
+        return None;
+    }
+    let text = KeyText::new(text)?;
+    others.get(&text).copied()
+}
+
 impl KeyNumbers {
     /// No key.
     pub fn new(alloc: Global) -> KeyNumbers
@@ -73,8 +89,7 @@ impl KeyNumbers {
         if let Some(number) = standing(self.slots.as_slice(), self.keys.as_slice(), mark, text) {
             return Some(number);
         }
-        let text = KeyText::new(text)?;
-        self.others.get(&text).copied()
+        number_among(&self.others, text)
     }
 
     /// The key's number, if it was seen.
