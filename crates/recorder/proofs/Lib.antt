@@ -8,6 +8,7 @@ mod OneMore
 mod States
 mod Busy
 mod Answering
+mod KeptCalls
 mod Keeps
 mod Recorded
 mod Counts

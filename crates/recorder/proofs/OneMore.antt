@@ -9,6 +9,7 @@ use Rattle.tag.specs.Tags.{Tag}
 use Rattle.recorder.specs.declared.row.Row.{Row}
 use Rattle.recorder.specs.declared.row.Row.TheVariants.{Invoke, Note, Respond}
 use Rattle.recorder.specs.declared.record.CallState.{CallState}
+use Rattle.recorder.specs.declared.row_table.Span.{Span}
 use Rattle.recorder.specs.Histories.{HasResponse, IsPendingCall}
 use Rattle.recorder.specs.States.{Describes, RespondsAt}
 use Rattle.tag.proofs.Lists.{slice_get-push_left}
@@ -64,9 +65,9 @@ module _ (rows : List Row) (row : Row) (op : OpId) where
     answered = λ place. let same = answered_same answers place in (λ e. same.0 ((d.answered place).0 e), λ h. (d.answered place).1 (same.1 h));
   }
 
-  -- a state of its call after the row, with that note and that response
-  pub Describes-more : (state : CallState) (note : Option Tag) (response : Option ℕ) → Describes rows op state → ((tag : Tag) → (note ≡ Some tag) ↔ Contains (rows ++ row ∷ []) (Note op tag)) → ((place : ℕ) → (response ≡ Some place) ↔ RespondsAt (rows ++ row ∷ []) op place) → Describes (rows ++ row ∷ []) op (record state { note = note; response = response })
-  Describes-more state note response d noted answered = record {
+  -- a state of its call after the row, with that note, that response and that value
+  pub Describes-more : (state : CallState) (note : Option Tag) (response : Option ℕ) (value : Option Span) → Describes rows op state → ((tag : Tag) → (note ≡ Some tag) ↔ Contains (rows ++ row ∷ []) (Note op tag)) → ((place : ℕ) → (response ≡ Some place) ↔ RespondsAt (rows ++ row ∷ []) op place) → Describes (rows ++ row ∷ []) op (record state { note = note; response = response; value = value })
+  Describes-more state note response value d noted answered = record {
     key = d.key;
     action = d.action;
     kind = d.kind;

@@ -3,7 +3,7 @@ use Rattle.std.proofs.Common.{ℕ, zero, suc, ◌≡◌, ◌<◌, ◌+◌, inl, 
 use Rattle.std.specs.List.{slice_get, Contains, zip}
 use Rattle.std.proofs.lemmas.Bool.{cases_lt}
 use Rattle.std.proofs.lemmas.List.{length-map}
-use Rattle.std.proofs.lemmas.Option.{slice_get_within, slice_get-get_or, same_Some, some_pair_parts}
+use Rattle.std.proofs.lemmas.Option.{slice_get_within, slice_get-get_or, get_or_from_slice_get, same_Some, some_pair_parts}
 use Rattle.key_index.specs.Numbers.{EachOnce}
 use Rattle.tag.specs.declared.actions.Action.{Action}
 use Rattle.tag.specs.declared.numbers.OpId.{OpId}
@@ -19,7 +19,8 @@ use Rattle.recorder.specs.Histories.{IsWellFormed}
 use Rattle.recorder.specs.PartRecords.{calls_of, part_of, entries_of, HasCalls, IsPartOf, AreEntries, AreKeyNumbers}
 use Rattle.recorder.specs.Parts.{IsSequence}
 use Rattle.recorder.specs.Records.{IsRecorded, IsPart, AreFirstSeen, AreParts}
-use Rattle.recorder.specs.States.{AreStates, call_of, call_with}
+use Rattle.recorder.specs.KeptCalls.{AreKept}
+use Rattle.recorder.specs.States.{AreStates, call_of, no_state}
 use Rattle.recorder.specs.Tables.{BeginsOn}
 use Rattle.recorder.proofs.FirstSeen.{same_begun}
 use Rattle.recorder.proofs.Numbers.{number_below, numbers_rise, begun_once}
@@ -38,17 +39,13 @@ sequence_of None numbers is = IsSequence-none
 sequence_of (Some from) numbers is = is.sequence
 
 -- the number of the call at a place
-number_with : (rows : List Row) (number : ℕ) (state : Option CallState) → (call_with rows number state).op ≡ record { 0 = number }
-number_with rows number None = refl
-number_with rows number (Some state) = refl
-
 pub op-shown : (from : Record) (numbers : List ℕ) (part : List Call) (place : ℕ) → calls_of from numbers ≡ part → place < length part → (call : Call) × (slice_get part place ≡ Some call) × (record { 0 = get_or numbers place 0 } ≡ call.op)
 op-shown from numbers part place view below =
     let n = get_or numbers place 0 in
-    let shown = call_of from.rows.rows from.states.items in
+    let shown = call_of from.rows.texts from.states.items in
     let within : place < length numbers = omega (arith, below, ap length view, length-map numbers shown) in
     let at : slice_get numbers place ≡ Some n = slice_get-get_or numbers place 0 within in
-    (shown n, ap (λ (p : List Call). slice_get p place) (sym view) ∙ slice_get-map_at shown numbers place n at, sym (number_with from.rows.rows n (slice_get from.states.items n)))
+    (shown n, ap (λ (p : List Call). slice_get p place) (sym view) ∙ slice_get-map_at shown numbers place n at, refl)
 
 -- ---- keys beside their parts
 
@@ -122,12 +119,12 @@ begun_first rows formed key a b x y less = elim (cases_lt a.invoked b.invoked) [
   ]
 ]
 
-module _ (from : Record) (formed : IsWellFormed from.rows.rows) (states : AreStates from.rows.rows from.states.items) (once : EachOnce from.rows.keys) (seen : AreFirstSeen from.rows.rows from.rows.keys) (key_of : List ℕ) (are : AreKeyNumbers from key_of) where
+module _ (from : Record) (formed : IsWellFormed from.rows.rows) (states : AreStates from.rows.rows from.states.items) (kept : AreKept from.rows from.states.items) (once : EachOnce from.rows.keys) (seen : AreFirstSeen from.rows.rows from.rows.keys) (key_of : List ℕ) (are : AreKeyNumbers from key_of) where
   abbrev rows : List Row
   rows = from.rows.rows
 
   abbrev call : ℕ → Call
-  call number = call_of rows from.states.items number
+  call number = call_of from.rows.texts from.states.items number
 
   pub below-keys : AreBelow (length from.rows.keys) key_of
   below-keys k number at =
@@ -144,7 +141,7 @@ module _ (from : Record) (formed : IsWellFormed from.rows.rows) (states : AreSta
       let b = are.each k number s.0 at s.1 in
       let own : b.key ≡ key = same_Some b.key key (sym b.known ∙ known) in
       let same : d.key ≡ key = same_begun rows s.0.invoked d.key b.key (op, s.0.client, d.action, d.invoked) b.begun ∙ own in
-      recorded_of rows from.states.items states op s.0 s.1 key s.0.client d.action (subst (λ (x : List ℕ). slice_get rows s.0.invoked ≡ Some (Invoke op s.0.client x d.action)) same d.invoked)
+      recorded_of from.rows from.states.items states kept op s.0 s.1 key s.0.client d.action (subst (λ (x : List ℕ). slice_get rows s.0.invoked ≡ Some (Invoke op s.0.client x d.action)) same d.invoked)
 
   -- a call that is begun on the key has the key's number, and is begun there
   found : (place : ℕ) (op : OpId) (client : ℕ) (key : List ℕ) (action : Action) → slice_get rows place ≡ Some (Invoke op client key action) → (number : ℕ) × (slice_get key_of op.0 ≡ Some number) × (slice_get from.rows.keys number ≡ Some key) × ((call op.0).invoked ≡ place)
@@ -156,7 +153,7 @@ module _ (from : Record) (formed : IsWellFormed from.rows.rows) (states : AreSta
       let b = are.each op.0 n.0 s.0 n.1 s.1 in
       let here : place ≡ s.0.invoked = begun_once rows formed place s.0.invoked op client s.0.client key d.key action d.action begun d.invoked in
       let own : b.key ≡ key = same_begun rows s.0.invoked b.key key b.begun (op, client, action, ap (slice_get rows) (sym here) ∙ begun) in
-      (n.0, n.1, subst (λ (x : List ℕ). slice_get from.rows.keys n.0 ≡ Some x) own b.known, ap (λ (o : Option CallState). (call_with rows op.0 o).invoked) s.1 ∙ sym here)
+      (n.0, n.1, subst (λ (x : List ℕ). slice_get from.rows.keys n.0 ≡ Some x) own b.known, ap (λ (x : CallState). x.invoked) (get_or_from_slice_get from.states.items op.0 s.0 no_state s.1) ∙ sym here)
 
   module _ (k : ℕ) (key numbers : List ℕ) (known : slice_get from.rows.keys k ≡ Some key) (group : IsGroup key_of k numbers) where
     each : (c : Call) → Contains (calls_of from numbers) c → IsRecorded rows key c
@@ -170,8 +167,8 @@ module _ (from : Record) (formed : IsWellFormed from.rows.rows) (states : AreSta
         let m = slice_get-map_back call numbers i a at_i in
         let n = slice_get-map_back call numbers j b at_j in
         let up : m.0 < n.0 = group.rising i j m.0 n.0 less m.1 n.1 in
-        let first : a.op ≡ record { 0 = m.0 } = ap (λ (x : Call). x.op) (sym m.2) ∙ number_with rows m.0 (slice_get from.states.items m.0) in
-        let second : b.op ≡ record { 0 = n.0 } = ap (λ (x : Call). x.op) (sym n.2) ∙ number_with rows n.0 (slice_get from.states.items n.0) in
+        let first : a.op ≡ record { 0 = m.0 } = ap (λ (x : Call). x.op) (sym m.2) in
+        let second : b.op ≡ record { 0 = n.0 } = ap (λ (x : Call). x.op) (sym n.2) in
         begun_first rows formed key a b (each a (Contains-slice_get (calls_of from numbers) i a at_i)) (each b (Contains-slice_get (calls_of from numbers) j b at_j)) (omega (arith, up, ap (λ (o : OpId). o.0) first, ap (λ (o : OpId). o.0) second))
 
     IsPart-made : IsPart rows key (calls_of from numbers)
@@ -188,6 +185,7 @@ module _ (from : Record) (formed : IsWellFormed from.rows.rows) (states : AreSta
     HasCalls-made : HasCalls from numbers
     HasCalls-made = record {
       states = states;
+      kept = kept;
       begun = λ i number at. omega (arith, slice_get_within key_of number k (group.each number (Contains-slice_get numbers i number at)), are.all);
       sequence = IsSequence-recorded rows formed key (calls_of from numbers) each ordered;
     }

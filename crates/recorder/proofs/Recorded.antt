@@ -1,6 +1,6 @@
 -- Calls as the rows record them.
 use Rattle.std.proofs.Common.{ℕ, ◌≡◌, ◌<◌, inl, inr, List, [], ◌∷◌, Option, Some, None, sym, ◌∙◌, ap, ap₂, subst, refl, arith}
-use Rattle.std.proofs.lemmas.Option.{slice_get_within, same_Some}
+use Rattle.std.proofs.lemmas.Option.{slice_get_within, get_or_from_slice_get, same_Some}
 use Rattle.std.proofs.lemmas.List.Elements.{Contains-push_cases}
 use Rattle.std.specs.List.{slice_get, Contains}
 use Rattle.tag.specs.declared.actions.Returned.{Returned}
@@ -10,7 +10,10 @@ use Rattle.recorder.specs.declared.record.CallState.{CallState}
 use Rattle.recorder.specs.declared.part.Call.{Call}
 use Rattle.recorder.specs.declared.part.Response.{Response}
 use Rattle.recorder.specs.Histories.{IsWellFormed}
-use Rattle.recorder.specs.States.{AreStates, Describes, action_at, action_in, response_at, response_in, call_of, call_with}
+use Rattle.recorder.specs.KeptCalls.{AreKept}
+use Rattle.recorder.specs.States.{AreStates, Describes, call_of, call_with, no_state, response_at, returned_by}
+use Rattle.recorder.specs.Texts.{value_in}
+use Rattle.recorder.specs.Tables.{Table}
 use Rattle.tag.specs.declared.actions.Action.{Action}
 use Rattle.tag.specs.declared.numbers.OpId.{OpId}
 use Rattle.recorder.specs.Parts.{IsSequence}
@@ -32,26 +35,26 @@ IsSequence-recorded rows formed key part each ordered = record {
 }
 
 -- the response, if any, is what the row at its place says
-record IsResponseAt (rows : List Row) (place : Option ℕ) (response : Option Response) : Type 0 where
+record IsResponseAt (rows : List Row) (op : OpId) (place : Option ℕ) (response : Option Response) : Type 0 where
   none : place ≡ None → response ≡ None
-  some : (k : ℕ) (op : OpId) (returned : Returned) → place ≡ Some k → slice_get rows k ≡ Some (Respond op returned) → response ≡ Some (record { place = k; returned = returned })
+  some : (k : ℕ) (returned : Returned) → place ≡ Some k → slice_get rows k ≡ Some (Respond op returned) → response ≡ Some (record { place = k; returned = returned })
 
-is_response : (rows : List Row) (place : Option ℕ) → IsResponseAt rows place (response_at rows place)
-is_response rows None = record { none = λ e. refl; some = λ k op returned e at. absurd (cc) }
-is_response rows (Some k) = record {
+is_response : (rows : List Row) (op : OpId) (place : Option ℕ) (answer : Returned) → ((k : ℕ) (returned : Returned) → slice_get rows k ≡ Some (Respond op returned) → returned ≡ answer) → IsResponseAt rows op place (response_at place answer)
+is_response rows op None answer fits = record { none = λ e. refl; some = λ k returned e at. absurd (cc) }
+is_response rows op (Some k) answer fits = record {
   none = λ e. absurd (cc);
-  some = λ j op returned e at.
+  some = λ j returned e at.
       let same : k ≡ j = cc in
-      subst (λ (n : ℕ). response_in k (slice_get rows k) ≡ Some (record { place = n; returned = returned })) same (ap (response_in k) (ap (slice_get rows) same ∙ at));
+      ap₂ (λ (n : ℕ) (r : Returned). Some (record { place = n; returned = r })) same (sym (fits j returned at));
 }
 
 -- a call made of its row and its state is recorded
-module _ (rows : List Row) (key : List ℕ) (state : CallState) (call : Call) (d : Describes rows call.op state) (response : IsResponseAt rows state.response call.response) where
+module _ (rows : List Row) (key : List ℕ) (state : CallState) (call : Call) (d : Describes rows call.op state) (response : IsResponseAt rows call.op state.response call.response) where
   responds : (place : ℕ) (returned : Returned) (at : Option ℕ) → state.response ≡ at → call.response ≡ Some (record { place = place; returned = returned }) → slice_get rows place ≡ Some (Respond call.op returned)
   responds place returned None e h = let none : call.response ≡ None = response.none e in absurd (cc)
   responds place returned (Some k) e h =
       let r = (d.answered k).0 e in
-      let made : call.response ≡ Some (record { place = k; returned = r.0 }) = response.some k call.op r.0 e r.1 in
+      let made : call.response ≡ Some (record { place = k; returned = r.0 }) = response.some k r.0 e r.1 in
       let x : Response = record { place = k; returned = r.0 } in
       let y : Response = record { place = place; returned = returned } in
       let same : x ≡ y = cc in
@@ -63,19 +66,20 @@ module _ (rows : List Row) (key : List ℕ) (state : CallState) (call : Call) (d
   IsRecorded-made begun note = record {
     begun = begun;
     noted = λ tag. (λ e. (d.noted tag).0 (sym note ∙ e), λ h. note ∙ (d.noted tag).1 h);
-    answered = λ place returned. (λ e. responds place returned state.response refl e, λ at. response.some place call.op returned ((d.answered place).1 (returned, at)) at);
+    answered = λ place returned. (λ e. responds place returned state.response refl e, λ at. response.some place returned ((d.answered place).1 (returned, at)) at);
   }
 
 -- and so is the call of a number
-pub recorded_of : (rows : List Row) (states : List CallState) → AreStates rows states → (op : OpId) (state : CallState) → slice_get states op.0 ≡ Some state
-    → (key : List ℕ) (client : ℕ) (action : Action) → slice_get rows state.invoked ≡ Some (Invoke op client key action) → IsRecorded rows key (call_of rows states op.0)
-recorded_of rows states are op state at key client action begun =
+pub recorded_of : (table : Table) (states : List CallState) → AreStates table.rows states → AreKept table states → (op : OpId) (state : CallState) → slice_get states op.0 ≡ Some state
+    → (key : List ℕ) (client : ℕ) (action : Action) → slice_get table.rows state.invoked ≡ Some (Invoke op client key action) → IsRecorded table.rows key (call_of table.texts states op.0)
+recorded_of table states are kept op state at key client action begun =
     let d = are.each op state at in
+    let k = kept op state at in
     let row : ◌≡◌ {A = Row} (Invoke op state.client d.key d.action) (Invoke op client key action) = same_Some _ _ (sym d.invoked ∙ begun) in
     let keys : d.key ≡ key = cc in
-    let asks : action_at rows state.invoked ≡ d.action = ap action_in d.invoked in
-    let here : slice_get rows state.invoked ≡ Some (Invoke op state.client key (action_at rows state.invoked)) = d.invoked ∙ ap₂ (λ (k : List ℕ) (a : Action). Some (Invoke op state.client k a)) keys (sym asks) in
-    subst (IsRecorded rows key) (ap (call_with rows op.0) (sym at)) (IsRecorded-made rows key state (call_with rows op.0 (Some state)) d (is_response rows state.response) here refl)
+    let here = d.invoked ∙ ap₂ (λ (l : List ℕ) (a : Action). Some (Invoke op state.client l a)) keys (k.asks state.client d.key d.action d.invoked) in
+    subst (IsRecorded table.rows key) (ap (call_with table.texts op.0) (sym (get_or_from_slice_get states op.0 state no_state at)))
+    (IsRecorded-made table.rows key state (call_with table.texts op.0 state) d (is_response table.rows op state.response (returned_by state.is_write (value_in table.texts state.value)) k.answers) here refl)
 
 -- a sequence of one call
 pub IsSequence-one : (rows : List Row) → IsWellFormed rows → (key : List ℕ) (call : Call) → IsRecorded rows key call → IsSequence (call ∷ [])

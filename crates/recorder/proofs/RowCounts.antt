@@ -7,19 +7,20 @@ use Rattle.tag.specs.Tags.{Tag}
 use Rattle.tag.specs.Limits.{call_limit}
 use Rattle.recorder.specs.Tables.{row_limit}
 use Rattle.recorder.specs.declared.record.CallState.{CallState}
+use Rattle.recorder.specs.declared.row_table.Span.{Span}
 use Rattle.recorder.specs.States.{rows_of, row_count}
 
 -- of a call there are at most three
-few : (client : ℕ) (is_write : _) (invoked : ℕ) (note : Option Tag) (response : Option ℕ) → rows_of (record { client = client; is_write = is_write; note = note; invoked = invoked; response = response }) ≤ 3
-few client is_write invoked None None = omega (arith)
-few client is_write invoked (Some tag) None = omega (arith)
-few client is_write invoked None (Some place) = omega (arith)
-few client is_write invoked (Some tag) (Some place) = omega (arith)
+few : (state : CallState) (note : Option Tag) (response : Option ℕ) → rows_of (record state { note = note; response = response }) ≤ 3
+few state None None = omega (arith)
+few state (Some tag) None = omega (arith)
+few state None (Some place) = omega (arith)
+few state (Some tag) (Some place) = omega (arith)
 
 all-few : (states : List CallState) → All (λ state. rows_of state ≤ 3) states
 all-few states k d below =
     let state = slice_index_or states k d in
-    few state.client state.is_write state.invoked state.note state.response
+    few state state.note state.response
 
 pub row_count-few : (states : List CallState) → row_count states ≤ length states * 3
 row_count-few states = sum_by-le rows_of 3 states (all-few states)
@@ -32,8 +33,8 @@ row_count-set states k state new at =
 pub rows_of-noted : (state : CallState) (tag : Tag) → state.note ≡ None → rows_of (record state { note = Some tag }) ≡ rows_of state + 1
 rows_of-noted state tag none = rw none (omega (arith))
 
-pub rows_of-answered : (state : CallState) (place : ℕ) → state.response ≡ None → rows_of (record state { response = Some place }) ≡ rows_of state + 1
-rows_of-answered state place none = rw none (omega (arith))
+pub rows_of-answered : (state : CallState) (place : ℕ) (value : Option Span) → state.response ≡ None → rows_of (record state { response = Some place; value = value }) ≡ rows_of state + 1
+rows_of-answered state place value none = rw none (omega (arith))
 
 -- so there is room for a row more while a call may begin, and while one has no note or no response
 pub room-begin : (states : List CallState) (rows limit calls : ℕ) → rows ≤ row_count states → length states ≡ calls → calls < limit → limit ≤ call_limit → rows < row_limit

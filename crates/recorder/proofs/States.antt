@@ -2,6 +2,7 @@
 use Rattle.std.proofs.Common.{ℕ, ◌≡◌, ◌⊎◌, inl, inr, List, [], ◌∷◌, ◌++◌, Option, Some, None, IsSome, length, get_or, set, sym, ◌∙◌, ap, subst, refl, arith, length-append, length-set}
 use Rattle.std.specs.List.{slice_get, Contains}
 use Rattle.std.proofs.lemmas.Option.{get_or_from_slice_get}
+use Rattle.recorder.specs.declared.row_table.Span.{Span}
 use Rattle.std.proofs.lemmas.List.Elements.{Contains-push, Contains-push_cases}
 use Rattle.tag.specs.declared.actions.Action.{Action}
 use Rattle.tag.specs.declared.actions.Returned.{Returned}
@@ -11,7 +12,9 @@ use Rattle.recorder.specs.declared.row.Row.{Row}
 use Rattle.recorder.specs.declared.row.Row.TheVariants.{Invoke, Note, Respond}
 use Rattle.recorder.specs.declared.record.CallState.{CallState}
 use Rattle.recorder.specs.Histories.{call_count, HasNote, HasResponse, IsPendingCall, IsPendingOp, IsWellFormed, MayFollow}
-use Rattle.recorder.specs.States.{Describes, AreStates, IsStateOf, call_of, call_with, action_in, is_write, place_in, response_at, RespondsAt}
+use Rattle.recorder.specs.KeptCalls.{IsKeptCall}
+use Rattle.recorder.specs.States.{Describes, AreStates, IsStateOf, call_of, call_with, is_write, no_state, place_in, response_at}
+use Rattle.recorder.specs.Tables.{Table}
 use Rattle.tag.proofs.SameTags.{same_op}
 use Rattle.tag.proofs.Lists.{place_of, get_at, push_cases, set_cases, slice_get-push_last, Contains-slice_get}
 use Rattle.recorder.proofs.Numbers.{count_push, number_below, no_note, no_response}
@@ -81,7 +84,7 @@ module _ (rows : List Row) (op : OpId) (tag : Tag) where
   pub Describes-noted : (state : CallState) → state.note ≡ None → Describes rows op state → Describes (rows ++ Note op tag ∷ []) op (record state { note = Some tag })
   Describes-noted state none d =
       let same = answered_same rows (Note op tag) op (λ r e. cc) in
-      Describes-more rows (Note op tag) op state (Some tag) state.response d (λ t. (λ e. let here : tag ≡ t = cc in subst (λ (x : Tag). Contains (rows ++ Note op tag ∷ []) (Note op x)) here (Contains-push rows (Note op tag)), λ h. by t (Contains-push_cases rows (Note op tag) (Note op t) h)))
+      Describes-more rows (Note op tag) op state (Some tag) state.response state.value d (λ t. (λ e. let here : tag ≡ t = cc in subst (λ (x : Tag). Contains (rows ++ Note op tag ∷ []) (Note op x)) here (Contains-push rows (Note op tag)), λ h. by t (Contains-push_cases rows (Note op tag) (Note op t) h)))
       (λ place. (λ e. (same place).0 ((d.answered place).0 e), λ h. (d.answered place).1 ((same place).1 h)))
     where
       by : (t : Tag) → Contains rows (Note op t) ⊎ (Note op tag ≡ Note op t) → Some tag ≡ Some t
@@ -95,24 +98,36 @@ module _ (rows : List Row) (op : OpId) (tag : Tag) where
 
 -- one response more
 module _ (rows : List Row) (op : OpId) (returned : Returned) where
-  pub Describes-answered : (state : CallState) → state.response ≡ None → Describes rows op state → Describes (rows ++ Respond op returned ∷ []) op (record state { response = Some (length rows) })
-  Describes-answered state none d =
+  pub Describes-answered : (state : CallState) (value : Option Span) → state.response ≡ None → Describes rows op state → Describes (rows ++ Respond op returned ∷ []) op (record state { response = Some (length rows); value = value })
+  Describes-answered state value none d =
       let same = noted_same rows (Respond op returned) op (λ t e. cc) in
-      Describes-more rows (Respond op returned) op state state.note (Some (length rows)) d (λ t. (λ e. (same t).0 ((d.noted t).0 e), λ h. (d.noted t).1 ((same t).1 h)))
+      Describes-more rows (Respond op returned) op state state.note (Some (length rows)) value d (λ t. (λ e. (same t).0 ((d.noted t).0 e), λ h. (d.noted t).1 ((same t).1 h)))
       (λ place. (λ e. let here : length rows ≡ place = cc in (returned, subst (λ (k : ℕ). slice_get (rows ++ Respond op returned ∷ []) k ≡ Some (Respond op returned)) here (slice_get-push_last rows (Respond op returned))), λ h. by place h.0 (push_cases rows (Respond op returned) place (Respond op h.0) h.1)))
     where
       by : (place : ℕ) (r : Returned) → (slice_get rows place ≡ Some (Respond op r)) ⊎ ((place ≡ length rows) × (Respond op returned ≡ Respond op r)) → Some (length rows) ≡ Some place
       by place r (inl h) = absurd (not_answered rows op state d none (r, Contains-slice_get rows place (Respond op r) h))
       by place r (inr e) = ap Some (sym e.0)
 
-  pub states_respond : (states : List CallState) (state answered : CallState) → AreStates rows states → slice_get states op.0 ≡ Some state → state.response ≡ None → answered ≡ record state { response = Some (length rows) } → AreStates (rows ++ Respond op returned ∷ []) (set states op.0 answered)
-  states_respond states state answered are at none is = AreStates-set rows (Respond op returned) op states answered are (count_push rows (Respond op returned) ∙ omega arith)
+  pub states_respond : (states : List CallState) (state answered : CallState) (value : Option Span) → AreStates rows states → slice_get states op.0 ≡ Some state → state.response ≡ None → answered ≡ record state { response = Some (length rows); value = value } → AreStates (rows ++ Respond op returned ∷ []) (set states op.0 answered)
+  states_respond states state answered value are at none is = AreStates-set rows (Respond op returned) op states answered are (count_push rows (Respond op returned) ∙ omega arith)
       (λ o other. (λ t e. cc, λ r e. other (let same : op ≡ o = cc in ap (λ (x : OpId). x.0) (sym same))))
-      (subst (Describes (rows ++ Respond op returned ∷ []) op) (sym is) (Describes-answered state none (are.each op state at)))
+      (subst (Describes (rows ++ Respond op returned ∷ []) op) (sym is) (Describes-answered state value none (are.each op state at)))
+
+-- the state of a call that begins there
+abbrev pub begun : ℕ → ℕ → Action → ℕ → Option Span → CallState
+begun client number action place value = record {
+  client = client;
+  note = None;
+  key = number;
+  is_write = is_write action;
+  invoked = place;
+  response = None;
+  value = value;
+}
 
 -- one invocation more
-module _ (rows : List Row) (formed : IsWellFormed rows) (op : OpId) (client : ℕ) (key : List ℕ) (action : Action) (fresh : op.0 ≡ call_count rows) where
-  pub Describes-begun : Describes (rows ++ Invoke op client key action ∷ []) op (record { client = client; is_write = is_write action; note = None; invoked = length rows; response = None })
+module _ (rows : List Row) (formed : IsWellFormed rows) (op : OpId) (client : ℕ) (key : List ℕ) (action : Action) (fresh : op.0 ≡ call_count rows) (number : ℕ) (value : Option Span) where
+  pub Describes-begun : Describes (rows ++ Invoke op client key action ∷ []) op (begun client number action (length rows) value)
   Describes-begun =
       let notes = noted_same rows (Invoke op client key action) op (λ t e. cc) in
       let answers = answered_same rows (Invoke op client key action) op (λ r e. cc) in
@@ -125,30 +140,30 @@ module _ (rows : List Row) (formed : IsWellFormed rows) (op : OpId) (client : �
         answered = λ place. (λ e. absurd (cc), λ h. let r = (answers place).1 h in absurd (no_response rows formed op fresh (r.0, Contains-slice_get rows place (Respond op r.0) r.1)));
       }
 
-  pub states_invoke : (states : List CallState) (state : CallState) → AreStates rows states → state ≡ record { client = client; is_write = is_write action; note = None; invoked = length rows; response = None } → AreStates (rows ++ Invoke op client key action ∷ []) (states ++ state ∷ [])
+  pub states_invoke : (states : List CallState) (state : CallState) → AreStates rows states → state ≡ begun client number action (length rows) value → AreStates (rows ++ Invoke op client key action ∷ []) (states ++ state ∷ [])
   states_invoke states state are is = record {
     all = simp length-append (omega (arith, count_push rows (Invoke op client key action), are.all));
     each = λ o s there. elim (push_cases states state o.0 s there) [
       | inl w ↦ Describes-push rows (Invoke op client key action) o s (λ t e. cc) (λ r e. cc) (are.each o s w)
       | inr w ↦
           let here : o ≡ op = same_op o op (omega (arith, w.0, are.all, fresh)) in
-          let same : record { client = client; is_write = is_write action; note = None; invoked = length rows; response = None } ≡ s = sym is ∙ w.1 in
+          let same : begun client number action (length rows) value ≡ s = sym is ∙ w.1 in
           subst (λ (x : OpId). Describes (rows ++ Invoke op client key action ∷ []) x s) (sym here) (subst (λ (x : CallState). Describes (rows ++ Invoke op client key action ∷ []) op x) same Describes-begun)
     ];
   }
 
--- where the rows respond at that place, it is the place of the response that they have there
-response_there : (rows : List Row) (op : OpId) (place : Option ℕ) → ((k : ℕ) → place ≡ Some k → RespondsAt rows op k) → place ≡ place_in (response_at rows place)
-response_there rows op None answered = refl
-response_there rows op (Some k) answered = let h = answered k refl in rw h.1 refl
+-- the place of a response
+place_there : (place : Option ℕ) (returned : Returned) → place ≡ place_in (response_at place returned)
+place_there None returned = refl
+place_there (Some k) returned = refl
 
 -- a state that describes a call is that of the call
-pub IsStateOf-there : (rows : List Row) (states : List CallState) (op : OpId) (state : CallState) → slice_get states op.0 ≡ Some state → Describes rows op state → IsStateOf (call_of rows states op.0) state
-IsStateOf-there rows states op state at d =
-    subst (λ (s : Option CallState). IsStateOf (call_with rows op.0 s) state) (sym at) (record {
+pub IsStateOf-there : (table : Table) (states : List CallState) (op : OpId) (state : CallState) → slice_get states op.0 ≡ Some state → Describes table.rows op state → IsKeptCall table op state → IsStateOf (call_of table.texts states op.0) state
+IsStateOf-there table states op state at d k =
+    subst (λ (s : CallState). IsStateOf (call_with table.texts op.0 s) state) (sym (get_or_from_slice_get states op.0 state no_state at)) (record {
       client = refl;
-      kind = d.kind ∙ ap (λ (row : Option Row). is_write (action_in row)) (sym d.invoked);
+      kind = d.kind ∙ ap is_write (k.asks state.client d.key d.action d.invoked);
       note = refl;
       invoked = refl;
-      response = response_there rows op state.response (λ k is. (d.answered k).0 is);
+      response = place_there state.response _;
     })

@@ -1,12 +1,13 @@
 -- What a table of rows keeps while it grows.
 use Rattle.std.proofs.Common.{ℕ, suc, ◌≡◌, ◌≤◌, ◌<◌, ◌+◌, ◌-◌, List, [], ◌∷◌, ◌++◌, Some, take, drop, map, get_or, sym, ap, ap₂, subst, refl, ◌∙◌, arith, length, length-append}
+use Rattle.std.specs.Prelude.{Result, Ok, Err, OnErr}
 use Rattle.std.specs.List.{slice_get, Contains}
 use Rattle.std.specs.Str.{IsUtf8}
 use Rattle.std.proofs.lemmas.List.{drop-append-le, take-append-le, length-drop, map-append, append-nil, get_or_append_left, length-map}
 use Rattle.std.proofs.Math.Seq.{drop-append_seam, take-append_seam}
 use Rattle.std.proofs.lemmas.Option.{slice_get_within, get_or_from_slice_get}
 use Rattle.tag.specs.Limits.{value_limit}
-use Rattle.tag.proofs.Lists.{each_push, get_at, Contains-slice_get, slice_get-push_last, item_at, slice_get-map_at}
+use Rattle.tag.proofs.Lists.{each_push, Contains-slice_get, slice_get-push_last, item_at, slice_get-map_at}
 use Rattle.key_index.specs.Numbers.{Numbers}
 use Rattle.key_index.specs.Numbers.Numbers.{known, first}
 use Rattle.recorder.specs.declared.row.Row.{Row}
@@ -18,18 +19,19 @@ use Rattle.recorder.specs.declared.row.Row.TheVariants.{Invoke}
 use Rattle.tag.specs.declared.actions.Action.{Action}
 use Rattle.tag.specs.declared.numbers.OpId.{OpId}
 use Rattle.recorder.specs.Records.{AreFirstSeen}
-use Rattle.recorder.specs.Tables.{row_limit, Table, BeginsOn}
-use Rattle.recorder.specs.KeptRows.{text_at, IsValueAt, row_of, IsThere, IsKeptTable, table_within}
+use Rattle.recorder.specs.Tables.{row_limit, Table, Extends}
+use Rattle.recorder.specs.Texts.{text_at, IsValueAt}
+use Rattle.recorder.specs.KeptRows.{row_of, IsThere, IsKeptTable, table_within}
 use Rattle.recorder.proofs.FirstSeen.{BeginsCall, AreFirstSeen-same, AreFirstSeen-first}
 
 -- texts that come later change no text
-text-more : (texts more : List ℕ) (span : Span) → span.start + span.length ≤ length texts → text_at (texts ++ more) span ≡ text_at texts span
+pub text-more : (texts more : List ℕ) (span : Span) → span.start + span.length ≤ length texts → text_at (texts ++ more) span ≡ text_at texts span
 text-more texts more span within =
     let a = span.start in
     let n = span.start + span.length in
     ap (λ (l : List ℕ). take (n - a) l) (drop-append-le a texts more (omega (arith, within))) ∙ take-append-le (n - a) (drop a texts) more (omega (arith, within, length-drop a texts))
 
-value-more : (texts more : List ℕ) (span : Span) → IsValueAt texts span → IsValueAt (texts ++ more) span
+pub value-more : (texts more : List ℕ) (span : Span) → IsValueAt texts span → IsValueAt (texts ++ more) span
 value-more texts more span h = record {
   within = omega (arith, h.within, length-append texts more);
   short = h.short;
@@ -144,14 +146,14 @@ module _ (t u : Inside) (h : IsKeptTable t) (row : KeptRow) (ks : List (List ℕ
       subst (λ (x : List ℕ). Contains t.keys x) own (Contains-slice_get t.keys number key at)))
   seen-begun op client key action number is (first absent at_end is_more) = rw (more (Invoke op client key action) is, is_more) (AreFirstSeen-first (table_within t).rows (Invoke op client key action) t.keys h.seen key absent (op, client, action, refl))
 
--- a call is begun at a place, on the key of that number
-pub begins-on : (t : Inside) (table : Table) (place key : ℕ) (op : OpId) (client : ℕ) (action : Action) → table_within t ≡ table → slice_get table.rows place ≡ Some (Invoke op client (get_or t.keys key []) action) → key < length t.keys → BeginsOn table place key
-begins-on t table place key op client action view at below =
-    let keys : t.keys ≡ table.keys = ap (λ (x : Table). x.keys) view in
-    let k = get_at t.keys key below in
-    let own : get_or t.keys key [] ≡ k.0 = get_or_from_slice_get t.keys key k.0 [] k.1 in
-    record {
-      key = k.0;
-      known = subst (λ (l : List (List ℕ)). slice_get l key ≡ Some k.0) keys k.1;
-      begun = (op, client, action, subst (λ (x : List ℕ). slice_get table.rows place ≡ Some (Invoke op client x action)) own at);
-    }
+-- keys and texts that came later
+pub extends : (t u : Inside) (table : Table) → table_within t ≡ table → (ks : List (List ℕ)) (ts : List ℕ) → u.keys ≡ t.keys ++ ks → u.texts.items ≡ t.texts.items ++ ts → Extends table (table_within u)
+extends t u table view ks ts keys texts = record {
+  keys = (ks, keys ∙ ap (λ (x : Table). x.keys ++ ks) view);
+  texts = (ts, texts ∙ ap (λ (x : Table). x.texts ++ ts) view);
+}
+
+-- a table that holds what it held is the same, whatever was answered
+pub same-table : {X E : Type 0} (r : Result X E) (t u : Inside) (table : Table) → table_within t ≡ table → u.rows.items ≡ t.rows.items → u.texts.items ≡ t.texts.items → u.keys ≡ t.keys → OnErr r (table_within u ≡ table)
+same-table (Ok x) t u table view rows texts keys = tt
+same-table (Err e) t u table view rows texts keys = rw (rows, texts, keys) view

@@ -1,8 +1,7 @@
 -- How a table keeps its rows: a row has the number of its key, and where the text of its value
 -- stands among all texts.
-use Rattle.std.specs.Prelude.{ℕ, ◌≡◌, ◌≤◌, ◌<◌, ◌+◌, ◌*◌, ◌++◌, List, [], Some, None, map, length}
-use Rattle.std.specs.Prelude.{get_or, slice_range, slice_get}
-use Rattle.std.specs.Str.{IsUtf8}
+use Rattle.std.specs.Prelude.{ℕ, ◌≡◌, ◌≤◌, ◌<◌, ◌*◌, ◌++◌, List, [], Option, Some, None, map}
+use Rattle.std.specs.Prelude.{length, get_or, slice_get}
 use Rattle.tag.specs.declared.actions.Action.TheVariants.{Read, Write}
 use Rattle.tag.specs.declared.actions.Returned.{Returned}
 use Rattle.tag.specs.declared.actions.Returned.TheVariants.{Value, Written}
@@ -15,17 +14,18 @@ use Rattle.recorder.specs.declared.row_table.KeptRow.TheVariants as kept
 use Rattle.recorder.specs.declared.row_table.Span.{Span}
 use Rattle.recorder.specs.declared.row_table.RowTable.TheInside.{Inside}
 use Rattle.recorder.specs.Records.{AreFirstSeen}
+use Rattle.recorder.specs.Shown.{answer_of}
 use Rattle.recorder.specs.Tables.{Table, row_limit}
+use Rattle.recorder.specs.Texts.{IsValueAt, KeepsValue, text_at}
 
--- the text that stands there
-abbrev pub text_at : List ℕ → Span → List ℕ
-text_at texts span = slice_range texts span.start (span.start + span.length)
-
--- a value's text stands there
-pub record IsValueAt (texts : List ℕ) (span : Span) : Type 0 where
-  pub within : span.start + span.length ≤ length texts
-  pub short : span.length ≤ value_limit
-  pub utf8 : IsUtf8 (text_at texts span)
+-- where the text of the row's value stands, if it has one
+abbrev pub span_of : KeptRow → Option Span
+span_of (kept.Read op client key) = None
+span_of (kept.Write op client key span) = Some span
+span_of (kept.Note op tag) = None
+span_of (kept.Done op) = None
+span_of (kept.Absent op) = None
+span_of (kept.Answer op span) = Some span
 
 module _ (keys : List (List ℕ)) (texts : List ℕ) where
   -- the row that is kept
@@ -55,10 +55,15 @@ pub record KeepsAnswer (old new : List ℕ) (op : OpId) (returned : Returned) (r
   pub short : length more ≤ value_limit
   pub there : (keys : List (List ℕ)) → IsThere keys new row
   pub shown : (keys : List (List ℕ)) → row_of keys new row ≡ Respond op returned
+  pub value : KeepsValue new (span_of row) (answer_of returned)
 
--- the rows that a table keeps, and its keys
+-- the rows that a table keeps, its keys and its texts
 abbrev pub table_within : Inside → Table
-table_within t = record { rows = map (row_of t.keys t.texts.items) t.rows.items; keys = t.keys }
+table_within t = record {
+  rows = map (row_of t.keys t.texts.items) t.rows.items;
+  keys = t.keys;
+  texts = t.texts.items;
+}
 
 -- each row's key and text are there, and there is room for the texts of further rows; the keys are
 -- those of the rows

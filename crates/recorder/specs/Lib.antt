@@ -5,6 +5,8 @@ pub mod Histories
 pub mod States
 pub mod Kept
 pub mod Tables
+pub mod Texts
+pub mod KeptCalls
 pub mod KeptRows
 pub mod PartRecords
 pub mod Answers

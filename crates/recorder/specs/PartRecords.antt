@@ -4,17 +4,19 @@ use Rattle.std.specs.List.{zip}
 use Rattle.recorder.specs.declared.part.Call.{Call}
 use Rattle.recorder.specs.declared.record.CallState.{CallState}
 use Rattle.recorder.specs.declared.record.Record.{Record}
+use Rattle.recorder.specs.KeptCalls.{AreKept}
 use Rattle.recorder.specs.Parts.{IsSequence}
 use Rattle.recorder.specs.States.{AreStates, call_of}
 use Rattle.recorder.specs.Tables.{BeginsOn}
 
 -- the calls of these numbers
 abbrev pub calls_of : Record → List ℕ → List Call
-calls_of from numbers = map (call_of from.rows.rows from.states.items) numbers
+calls_of from numbers = map (call_of from.rows.texts from.states.items) numbers
 
 -- the record has calls of these numbers, and they are a sequence
 pub record HasCalls (of : Record) (numbers : List ℕ) : Type 0 where
   pub states : AreStates of.rows.rows of.states.items
+  pub kept : AreKept of.rows of.states.items
   pub begun : (k number : ℕ) → slice_get numbers k ≡ Some number → number < length of.states.items
   pub sequence : IsSequence (calls_of of numbers)
 

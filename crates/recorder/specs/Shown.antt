@@ -24,3 +24,8 @@ returned_with (Some value) = returned.Value value
 abbrev pub answered_of : Returned → Option (Option (List ℕ))
 answered_of returned.Written = None
 answered_of (returned.Value value) = Some value
+
+-- the value that is answered, if there is one
+abbrev pub answer_of : Returned → Option (List ℕ)
+answer_of returned.Written = None
+answer_of (returned.Value value) = value

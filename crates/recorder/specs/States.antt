@@ -1,9 +1,10 @@
 -- What a history keeps of each call beside its rows.
 use Rattle.std.specs.Prelude.{ℕ, ◌≡◌, ◌↔◌, List, Option, Some, None, Bool, true, false, slice_get}
-use Rattle.std.specs.Prelude.{length, Contains, sum_by, is_some, ◌+◌, if◌then◌else◌}
+use Rattle.std.specs.Prelude.{length, Contains, get_or, sum_by, is_some, ◌+◌, if◌then◌else◌}
 use Rattle.tag.specs.declared.actions.Action.{Action}
 use Rattle.tag.specs.declared.actions.Action.TheVariants.{Read, Write}
 use Rattle.tag.specs.declared.actions.Returned.{Returned}
+use Rattle.tag.specs.declared.actions.Returned.TheVariants.{Value, Written}
 use Rattle.tag.specs.declared.numbers.OpId.{OpId}
 use Rattle.tag.specs.Tags.{Tag}
 use Rattle.recorder.specs.declared.row.Row.{Row}
@@ -12,6 +13,7 @@ use Rattle.recorder.specs.declared.record.CallState.{CallState}
 use Rattle.recorder.specs.declared.part.Call.{Call}
 use Rattle.recorder.specs.declared.part.Response.{Response}
 use Rattle.recorder.specs.Histories.{call_count}
+use Rattle.recorder.specs.Texts.{value_in}
 
 -- whether the action is a write
 abbrev pub is_write : Action → Bool
@@ -47,56 +49,48 @@ rows_of state =
 abbrev pub row_count : List CallState → ℕ
 row_count states = sum_by rows_of states
 
--- a call is begun at that place
-abbrev pub IsBegunAt : List Row → ℕ → Type 0
-IsBegunAt rows place = (op : OpId) × (client : ℕ) × (key : List ℕ) × (action : Action)
-    × (slice_get rows place ≡ Some (Invoke op client key action))
+-- what a call of that kind with that value asks, and what it answers
+abbrev pub action_by : Bool → Option (List ℕ) → Action
+action_by true (Some value) = Write value
+action_by true None = Read
+action_by false value = Read
 
--- what the call asks that this row begins
-abbrev pub action_in : Option Row → Action
-action_in (Some (Invoke op client key action)) = action
-action_in (Some (Note op tag)) = Read
-action_in (Some (Respond op returned)) = Read
-action_in None = Read
+abbrev pub returned_by : Bool → Option (List ℕ) → Returned
+returned_by true value = Written
+returned_by false value = Value value
 
--- the response that this row is, at that place
-abbrev pub response_in : ℕ → Option Row → Option Response
-response_in place (Some (Respond op returned)) =
-    Some (record { place = place; returned = returned })
-response_in place (Some (Invoke op client key action)) = None
-response_in place (Some (Note op tag)) = None
-response_in place None = None
+-- the response at that place, if there is one
+abbrev pub response_at : Option ℕ → Returned → Option Response
+response_at None returned = None
+response_at (Some place) returned = Some (record { place = place; returned = returned })
 
--- what the call asks that is begun at that place, and the response that stands at one
-abbrev pub action_at : List Row → ℕ → Action
-action_at rows place = action_in (slice_get rows place)
-
-abbrev pub response_at : List Row → Option ℕ → Option Response
-response_at rows None = None
-response_at rows (Some place) = response_in place (slice_get rows place)
-
--- the call of that number, as the rows and its state have it
-abbrev pub call_with : List Row → ℕ → Option CallState → Call
-call_with rows number (Some state) = record {
-  op = record { 0 = number };
-  client = state.client;
-  action = action_at rows state.invoked;
-  note = state.note;
-  invoked = state.invoked;
-  response = response_at rows state.response;
-}
-call_with rows number None = record {
-  op = record { 0 = number };
+-- the state of no call
+abbrev pub no_state : CallState
+no_state = record {
   client = 0;
-  action = Read;
   note = None;
+  key = 0;
+  is_write = false;
   invoked = 0;
   response = None;
+  value = None;
+}
+
+-- the call of that number and that state
+abbrev pub call_with : List ℕ → ℕ → CallState → Call
+call_with texts number state = record {
+  op = record { 0 = number };
+  client = state.client;
+  action = action_by state.is_write (value_in texts state.value);
+  note = state.note;
+  invoked = state.invoked;
+  response = response_at state.response
+      (returned_by state.is_write (value_in texts state.value));
 }
 
 -- the same, its state found by its number
-abbrev pub call_of : List Row → List CallState → ℕ → Call
-call_of rows states number = call_with rows number (slice_get states number)
+abbrev pub call_of : List ℕ → List CallState → ℕ → Call
+call_of texts states number = call_with texts number (get_or states number no_state)
 
 -- the place of a response, if there is one
 abbrev pub place_in : Option Response → Option ℕ

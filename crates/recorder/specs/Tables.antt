@@ -1,12 +1,18 @@
 -- What contracts see of a table of rows.
-use Rattle.std.specs.Prelude.{ℕ, ◌≡◌, List, Some, slice_get}
+use Rattle.std.specs.Prelude.{ℕ, ◌≡◌, ◌++◌, List, Some, slice_get}
 use Rattle.recorder.specs.declared.row.Row.{Row}
 use Rattle.recorder.specs.Records.{BeginsAt}
 
--- the rows, and the keys of their calls
+-- the rows, the keys of their calls, and the texts of their values, one after the other
 pub record Table : Type 0 where
   pub rows : List Row
   pub keys : List (List ℕ)
+  pub texts : List ℕ
+
+-- a later table: its keys and its texts begin with the earlier one's
+pub record Extends (old new : Table) : Type 0 where
+  pub keys : (more : List (List ℕ)) × (new.keys ≡ old.keys ++ more)
+  pub texts : (more : List ℕ) × (new.texts ≡ old.texts ++ more)
 
 -- how many rows there may be: an invocation, a note and a response of each call
 abbrev pub row_limit : ℕ

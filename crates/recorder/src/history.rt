@@ -213,21 +213,24 @@ impl History {
             ≡ with_row self.old (Row.Invoke op client key.now action.now)) }
         ensures err { OnErr result (self.new ≡ self.old) }
     {
-        let state = CallState {
-            client,
-            is_write: action.written().is_some(),
-            note: None,
-            invoked: self.record.rows.len() as u32,
-            response: None,
-        };
+        let is_write = action.written().is_some();
+        let invoked = self.record.rows.len() as u32;
         // Whatever can be refused comes first.
         self.record.states.reserve(1)?;
         self.busy.insert(client)?;
-        let Ok(()) = self.record.rows.push_invoke(op, client, key, action) else {
+        let Ok((key, value)) = self.record.rows.push_invoke(op, client, key, action) else {
             self.busy.remove(client);
             return Err(Memory);
         };
-        self.record.states.push(state)?;
+        self.record.states.push(CallState {
+            client,
+            note: None,
+            key,
+            is_write,
+            invoked,
+            response: None,
+            value,
+        })?;
         Ok(())
     }
 
@@ -268,8 +271,8 @@ impl History {
             return Err(RowRefusal::WrongKind);
         }
         let place = self.record.rows.len() as u32;
-        self.record.rows.push_respond(op, returned)?;
-        self.record.states[op.0 as usize].response = Some(place);
+        let value = self.record.rows.push_respond(op, returned)?;
+        self.record.states[op.0 as usize] = state.with_response(place, value);
         self.busy.remove(state.client);
         Ok(())
     }

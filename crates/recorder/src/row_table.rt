@@ -2,12 +2,14 @@
 ghost use Rattle.std.specs.Prelude.{ℕ, ◌≡◌, ◌≤◌, ◌<◌, ◌*◌, List, [], ◌∷◌, ◌++◌, Some, true, length, OnOk, OnErr};
 ghost use Rattle.std.specs.Prelude.{IfOk, get_or};
 ghost use Rattle.std.specs.List.{slice_get};
+ghost use Rattle.std.specs.Option.{ForSome};
 ghost use Rattle.tag.specs.Limits.{value_limit};
 ghost use Rattle.tag.specs.Names.{is_key, is_value};
 ghost use Rattle.recorder.specs.Records.{AreFirstSeen};
-ghost use Rattle.recorder.specs.States.{IsBegunAt};
-ghost use Rattle.recorder.specs.Tables.{row_limit, BeginsOn};
-ghost use Rattle.recorder.specs.KeptRows.{IsValueAt, KeepsAnswer, text_at};
+ghost use Rattle.recorder.specs.Shown.{answer_of, written_of};
+ghost use Rattle.recorder.specs.Tables.{row_limit, Extends};
+ghost use Rattle.recorder.specs.Texts.{IsValueAt, KeepsValue, text_at, value_in};
+ghost use Rattle.recorder.specs.KeptRows.{KeepsAnswer, span_of};
 
 use crate::refs::{ActionRef, KeyRef, ReturnedRef, ValueRef};
 use crate::row::Row;
@@ -19,7 +21,7 @@ use tag::{ClientId, Memory, OpId, Tag};
 
 /// Where the text of a value stands among all texts.
 #[derive(Clone, Copy, Debug)]
-struct Span {
+pub(crate) struct Span {
     start: u32,
     length: u16,
 }
@@ -77,7 +79,7 @@ impl Model for RowTable {
 impl RowTable {
     /// No row.
     pub(crate) fn new(alloc: Global) -> RowTable
-        ensures { result ≡ record { rows = []; keys = [] } }
+        ensures { result ≡ record { rows = []; keys = []; texts = [] } }
     {
         RowTable {
             rows: Vec::new(alloc),
@@ -149,19 +151,18 @@ impl RowTable {
         }
     }
 
-    /// The number of the key on which a call is begun at that place.
-    pub(crate) fn key_number(&self, place: usize) -> u32
-        requires { IsBegunAt self.now.rows place }
-        ensures { BeginsOn self.now place result }
+    /// The value whose text stands there, if there is one.
+    pub(crate) fn value(&self, span: Option<Span>) -> Option<ValueRef<'_>>
+        requires { ForSome span (IsValueAt self.now.texts) }
+        ensures { result ≡ value_in self.now.texts span }
     {
-        match self.rows[place] {
-            KeptRow::Read { key, .. } => key,
-            KeptRow::Write { key, .. } => key,
-            _ => unreachable!(),
+        match span {
+            Some(span) => Some(value_at(&self.texts, span)),
+            None => None,
         }
     }
 
-    /// A table with equal rows and keys.
+    /// A table with equal rows, keys and texts.
     pub(crate) fn copy(&self) -> Result<RowTable, Memory>
         ensures { IfOk result (λ copy. copy ≡ self.now) }
     {
@@ -173,25 +174,30 @@ impl RowTable {
         })
     }
 
-    /// Adds that a client begins a call. On `Memory` no row is added.
+    /// Adds that a client begins a call. Answers the key's number, and where the text of a value
+    /// stands that the call writes. On `Memory` nothing changed.
     pub(crate) fn push_invoke(
         &mut self,
         op: OpId,
         client: ClientId,
         key: &str,
         action: &ActionRef<'_>,
-    ) -> Result<(), Memory>
+    ) -> Result<(u32, Option<Span>), Memory>
         requires few { length self.old.rows < row_limit }
         requires lawful { is_key key.now ≡ true }
         ensures ok { OnOk result (self.new.rows
             ≡ self.old.rows ++ Row.Invoke op client key.now action.now ∷ []) }
-        ensures err { OnErr result (self.new.rows ≡ self.old.rows) }
+        ensures grows { OnOk result (Extends self.old self.new) }
+        ensures key { IfOk result (λ kept. slice_get self.new.keys kept.0 ≡ Some key.now) }
+        ensures value { IfOk result
+            (λ kept. KeepsValue self.new.texts kept.1 (written_of action.now)) }
+        ensures err { OnErr result (self.new ≡ self.old) }
     {
         self.rows.reserve(1)?;
         let Some(value) = action.written() else {
             let key = self.keys.number_text(key)? as u32;
             self.rows.push(KeptRow::Read { op, client, key })?;
-            return Ok(());
+            return Ok((key, None));
         };
         let kept = self.texts.len();
         let value = keep_text(&mut self.texts, value.as_str())?;
@@ -199,40 +205,57 @@ impl RowTable {
             self.texts.truncate(kept);
             return Err(Memory);
         };
+        let key = key as u32;
         self.rows.push(KeptRow::Write {
             op,
             client,
-            key: key as u32,
+            key,
             value,
         })?;
-        Ok(())
+        Ok((key, Some(value)))
     }
 
-    /// Adds that a call's tag is fixed. On `Memory` no row is added.
+    /// Adds that a call's tag is fixed. On `Memory` nothing changed.
     pub(crate) fn push_note(&mut self, op: OpId, tag: Tag) -> Result<(), Memory>
         requires { length self.old.rows < row_limit }
         ensures ok { OnOk result (self.new.rows ≡ self.old.rows ++ Row.Note op tag ∷ []) }
-        ensures err { OnErr result (self.new.rows ≡ self.old.rows) }
+        ensures grows { OnOk result (Extends self.old self.new) }
+        ensures err { OnErr result (self.new ≡ self.old) }
     {
         self.rows.push(KeptRow::Note { op, tag })?;
         Ok(())
     }
 
-    /// Adds that a call is answered. On `Memory` no row is added.
+    /// Adds that a call is answered. Answers where the text of a value stands that it answers. On
+    /// `Memory` nothing changed.
     pub(crate) fn push_respond(
         &mut self,
         op: OpId,
         returned: &ReturnedRef<'_>,
-    ) -> Result<(), Memory>
+    ) -> Result<Option<Span>, Memory>
         requires { length self.old.rows < row_limit }
         ensures ok { OnOk result (self.new.rows
             ≡ self.old.rows ++ Row.Respond op returned.now ∷ []) }
-        ensures err { OnErr result (self.new.rows ≡ self.old.rows) }
+        ensures grows { OnOk result (Extends self.old self.new) }
+        ensures value { IfOk result
+            (λ value. KeepsValue self.new.texts value (answer_of returned.now)) }
+        ensures err { OnErr result (self.new ≡ self.old) }
     {
         self.rows.reserve(1)?;
         let row = keep_answer(&mut self.texts, op, returned)?;
         self.rows.push(row)?;
-        Ok(())
+        Ok(span_of(&row))
+    }
+}
+
+/// Where the text of the row's value stands, if it has one.
+fn span_of(row: &KeptRow) -> Option<Span>
+    ensures { result ≡ span_of row.now }
+{
+    match row {
+        KeptRow::Write { value, .. } => Some(*value),
+        KeptRow::Answer { value, .. } => Some(*value),
+        _ => None,
     }
 }
 

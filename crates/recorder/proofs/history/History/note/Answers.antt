@@ -9,6 +9,8 @@ use Rattle.recorder.specs.declared.row.Row.TheVariants.{Note}
 use Rattle.tag.proofs.Options.{none_from_is_some}
 use Rattle.recorder.proofs.Numbers.{count_push, IsWellFormed-push}
 use Rattle.recorder.proofs.States.{not_pending, pending_from, has_note, may_note, state_there, states_note, waits_from}
+use Rattle.recorder.proofs.Keeps.{IsKept-same}
+use Rattle.recorder.proofs.KeptCalls.{kept_note}
 use Rattle.recorder.proofs.Busy.{busy_note, busy_note_back}
 use Rattle.recorder.proofs.history.History.note.Goals as goal
 
@@ -37,6 +39,9 @@ push_note-requires c =
     let none : c.in-Some.state.note ≡ None = none_from_is_some c.in-Some.state.note (sym c.is_some.ensures ∙ c.if-is_some.false) in
     room-more h.record.states.items _ c.args.op.0 h.limit (call_count h.record.rows.rows) c.in-Some.state (record c.in-Some.state { note = Some c.args.tag }) some.0 (rows_of-noted c.in-Some.state c.args.tag none) c.self.invariant.few c.self.invariant.states.all c.self.invariant.room c.self.invariant.limit
 
+pub invariant_of-self : goal.invariant_of-self
+invariant_of-self c = IsKept-same c.self.inside _ c.self.invariant c.in_err-push_note.ensures.err refl (λ client. refl) refl
+
 pub invariant_of-self-2 : goal.invariant_of-self-2
 invariant_of-self-2 c =
     let rows = c.self.inside.record.rows.rows in
@@ -47,6 +52,7 @@ invariant_of-self-2 c =
     record {
       formed = rw c.in_ok-push_note.ensures.ok (IsWellFormed-push rows (Note c.args.op c.args.tag) c.self.invariant.formed may);
       states = rw c.in_ok-push_note.ensures.ok (states_note rows c.args.op c.args.tag c.self.inside.record.states.items c.in-Some.state _ c.self.invariant.states some.0 none (ap (λ (s : CallState). record s { note = Some c.args.tag }) same));
+      kept = kept_note c.self.inside.record.rows _ c.args.op c.args.tag c.in_ok-push_note.ensures.ok c.in_ok-push_note.ensures.grows c.self.inside.record.states.items c.in-Some.state _ c.self.invariant.states c.self.invariant.kept some.0 (ap (λ (s : CallState). record s { note = Some c.args.tag }) same);
       busy = λ client b. rw c.in_ok-push_note.ensures.ok (busy_note rows c.args.op c.args.tag client (c.self.invariant.busy client b));
       not_busy = λ client b busy. c.self.invariant.not_busy client b (busy_note_back rows c.args.op c.args.tag client (rw c.in_ok-push_note.ensures.ok at busy));
       room = rw c.in_ok-push_note.ensures.ok (omega (arith, count_push rows (Note c.args.op c.args.tag), c.self.invariant.room));

@@ -7,4 +7,4 @@ returns c =
     let s = c.args.self.now in
     let state = c.index.result.now in
     let at = item_at s.states.items c.args.op.0 state c.requires.begun c.index.ensures in
-    IsStateOf-there s.rows.rows s.states.items c.args.op state at (c.requires.states.each c.args.op state at)
+    IsStateOf-there s.rows s.states.items c.args.op state at (c.requires.states.each c.args.op state at) (c.requires.kept c.args.op state at)

@@ -1,13 +1,15 @@
-use Rattle.std.proofs.Common.{ℕ, ◌≡◌, ◌≤◌, List, [], take, refl, sym, ap, ap₂, ◌∙◌, arith, length}
+use Rattle.std.proofs.Common.{ℕ, ◌≡◌, ◌≤◌, List, [], Some, take, refl, sym, ap, ap₂, subst, ◌∙◌, arith, length}
+use Rattle.std.proofs.lemmas.Option.{same_Some}
+use Rattle.recorder.specs.Shown.{written_of}
 use Rattle.std.proofs.lemmas.Bool.{leb-true}
 use Rattle.std.proofs.lemmas.List.{append-nil, take_at}
 use Rattle.tag.specs.Limits.{value_limit}
-use Rattle.recorder.specs.KeptRows.{text_at, IsValueAt}
+use Rattle.recorder.specs.Texts.{text_at, IsValueAt}
 use Rattle.tag.specs.declared.actions.Action.{Action}
 use Rattle.tag.specs.declared.actions.Action.TheVariants.{Write}
 use Rattle.tag.proofs.Lists.{same_push}
 use Rattle.recorder.specs.declared.row.Row.TheVariants.{Invoke}
-use Rattle.recorder.proofs.Tables.{kept-same, pushed, seen-begun, shown-pushed, room, numbered, numbered-below, numbered-key, value-last, text-last}
+use Rattle.recorder.proofs.Tables.{kept-same, pushed, seen-begun, shown-pushed, room, numbered, numbered-below, numbered-key, value-last, text-last, extends}
 use Rattle.recorder.proofs.row_table.RowTable.push_invoke.Goals as goal
 
 pub invariant_of-self-in_err-key : goal.invariant_of-self-in_err-key
@@ -74,3 +76,37 @@ returns-clause-ok c =
     shown-pushed t (record { rows = c.push-2.new.self; texts = c.keep_text.new.texts; keys = c.number_text-2.new.self }) c.args.self.now c.self.view_is c.self.invariant _ n.0 text
     (same_push t.rows.items _ _ _ c.in_ok-reserve.ensures.items c.in_ok-push-2.ensures.items) n.1 c.in_ok-value.ensures.texts
     _ (ap₂ (λ (k : List ℕ) (a : Action). Invoke c.args.op c.args.client k a) (numbered-key c.in-Ok.ensures.ok) (ap Write same ∙ sym c.in-Some.ensures.write))
+
+pub returns-in_default-clause-grows : goal.returns-in_default-clause-grows
+returns-in_default-clause-grows c =
+    let t = c.self.inside in
+    let n = numbered c.in_ok-key.ensures.ok in
+    extends t (record { rows = c.push.new.self; texts = t.texts; keys = c.number_text.new.self }) c.args.self.now c.self.view_is n.0 [] n.1 (sym (append-nil t.texts.items))
+
+pub returns-in_default-clause-key : goal.returns-in_default-clause-key
+returns-in_default-clause-key c = (numbered c.in_ok-key.ensures.ok).2
+
+pub returns-in_default-clause-value : goal.returns-in_default-clause-value
+returns-in_default-clause-value c = record { there = λ span is. absurd (cc); shown = ap written_of (sym c.in_default.ensures.read) }
+
+pub returns-clause-grows : goal.returns-clause-grows
+returns-clause-grows c =
+    let t = c.self.inside in
+    let n = numbered c.in-Ok.ensures.ok in
+    extends t (record { rows = c.push-2.new.self; texts = c.keep_text.new.texts; keys = c.number_text-2.new.self }) c.args.self.now c.self.view_is n.0 c.as_str.result.now n.1 c.in_ok-value.ensures.texts
+
+pub returns-clause-key : goal.returns-clause-key
+returns-clause-key c = (numbered c.in-Ok.ensures.ok).2
+
+pub returns-clause-value : goal.returns-clause-value
+returns-clause-value c =
+    let t = c.self.inside in
+    let text = c.as_str.result.now in
+    let span = c.in_ok-value.ensures.span in
+    let short : length c.as_str.result.now ≤ value_limit = rw c.as_str.ensures.text (leb-true (length c.in-Some.value) value_limit c.as_str.ensures.lawful) in
+    let value : IsValueAt c.keep_text.new.texts.items c.in_ok-value.value = rw c.in_ok-value.ensures.texts (value-last t.texts.items text c.in_ok-value.value span.0 span.1 short c.as_str.utf8) in
+    let same = ap (λ (l : List ℕ). text_at l c.in_ok-value.value) c.in_ok-value.ensures.texts ∙ text-last t.texts.items text c.in_ok-value.value span.0 span.1 ∙ c.as_str.ensures.text in
+    record {
+      there = λ span is. subst (λ s. IsValueAt c.keep_text.new.texts.items s) (same_Some _ _ is) value;
+      shown = ap Some same ∙ ap written_of (sym c.in-Some.ensures.write);
+    }

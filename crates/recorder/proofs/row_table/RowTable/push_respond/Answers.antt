@@ -1,7 +1,7 @@
 use Rattle.std.proofs.Common.{[], sym, refl, arith}
 use Rattle.std.proofs.lemmas.List.{append-nil}
 use Rattle.tag.proofs.Lists.{same_push}
-use Rattle.recorder.proofs.Tables.{kept-same, pushed, seen-other, shown-pushed, room}
+use Rattle.recorder.proofs.Tables.{kept-same, pushed, seen-other, shown-pushed, room, extends, same-table}
 use Rattle.recorder.proofs.row_table.RowTable.push_respond.Goals as goal
 
 pub invariant_of-self-in_err-row : goal.invariant_of-self-in_err-row
@@ -21,3 +21,17 @@ returns-clause-ok c =
     let k = c.in_ok-row.ensures.ok in
     shown-pushed t (record { rows = c.push.new.self; texts = c.keep_answer.new.texts; keys = t.keys }) c.args.self.now c.self.view_is c.self.invariant _ [] k.more
     (same_push t.rows.items _ _ _ c.in_ok-reserve.ensures.items c.in_ok-push.ensures.items) (sym (append-nil t.keys)) k.texts _ (k.shown t.keys)
+
+pub returns-clause-grows : goal.returns-clause-grows
+returns-clause-grows c =
+    let t = c.self.inside in
+    let k = c.in_ok-row.ensures.ok in
+    extends t (record { rows = c.push.new.self; texts = c.keep_answer.new.texts; keys = t.keys }) c.args.self.now c.self.view_is [] k.more (sym (append-nil t.keys)) k.texts
+
+pub returns-clause-value : goal.returns-clause-value
+returns-clause-value c = rw c.span_of.ensures c.in_ok-row.ensures.ok.value
+
+pub returns-in_err-row-clause-err : goal.returns-in_err-row-clause-err
+returns-in_err-row-clause-err c =
+    let t = c.self.inside in
+    same-table _ t (record { rows = c.reserve.new.self; texts = c.keep_answer.new.texts; keys = t.keys }) c.args.self.now c.self.view_is c.in_ok-reserve.ensures.items c.in_err-row.ensures.err refl

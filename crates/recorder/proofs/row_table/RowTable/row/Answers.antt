@@ -4,7 +4,7 @@ use Rattle.tag.specs.declared.actions.Action.TheVariants.{Write}
 use Rattle.tag.specs.declared.actions.Returned.{Returned}
 use Rattle.tag.specs.declared.actions.Returned.TheVariants.{Value}
 use Rattle.recorder.specs.declared.row.Row.TheVariants.{Invoke, Respond}
-use Rattle.recorder.specs.KeptRows.{text_at}
+use Rattle.recorder.specs.Texts.{text_at}
 use Rattle.recorder.proofs.Tables.{stands, shown}
 use Rattle.recorder.proofs.row_table.RowTable.row.Goals as goal
 
