@@ -1,4 +1,4 @@
-pub mod Places
+pub mod Marks
 pub mod Fronts
 pub mod GivenOrders
 pub mod WorkerVerdicts

@@ -1,6 +1,7 @@
 pub mod Workers
 pub mod Numbers
 pub mod IndexVerdicts
+pub mod VerdictLists
 pub mod Shares
 pub mod Checks
 pub mod CheckedKeys

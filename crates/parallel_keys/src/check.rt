@@ -10,6 +10,7 @@ use crate::error::CheckError;
 use crate::gate::CheckGate;
 use crate::scoped::{spawn, within};
 use crate::share::{Share, share_of};
+use crate::verdict_list::VerdictList;
 use crate::weave_verdicts::weave;
 use crate::workers::Workers;
 use certificate_check::Verdict;
@@ -32,7 +33,7 @@ fn start<'s, 'e: 's, G: CheckGate + Sync>(
     alloc: Global,
     share: Share<'e>,
     gate: &'e G,
-) -> Result<PromisedHandle<Result<Vec<Verdict>, Memory>, Share<'e>>, CheckError>
+) -> Result<PromisedHandle<Result<VerdictList, Memory>, Share<'e>>, CheckError>
     requires { IsShare share }
     ensures { IfOk result (λ started. started.promise ≡ share.entry) }
 {
@@ -44,10 +45,10 @@ fn start<'s, 'e: 's, G: CheckGate + Sync>(
     Ok(spawn(
         scope,
         share,
-        move || -> Result<Vec<Verdict>, Memory>
+        move || -> Result<VerdictList, Memory>
             requires { ArePaired checks × (worker < workers) × (workers ≤ worker_limit) }
             ensures { IfOk result (λ verdicts. AreOfWorker (parts_in checks.entry)
-                (orders_in checks.entry) worker workers verdicts.items) }
+                (orders_in checks.entry) worker workers verdicts) }
         { share_of(checks, worker, workers).check(alloc, gate) },
     )?)
 }
@@ -60,10 +61,10 @@ fn run_workers<'s, 'e: 's, R: Threads, G: CheckGate + Sync>(
     alloc: Global,
     last: Share<'e>,
     gate: &'e G,
-) -> Result<Vec<Vec<Verdict>>, CheckError>
+) -> Result<Vec<VerdictList>, CheckError>
     requires { IsShare last }
     ensures { MatchResult result
-        (λ lists. AreUpToShare last.entry (map (λ v. v.items) lists.items))
+        (λ lists. AreUpToShare last.entry lists.items)
         (MayFail (last.entry.worker + 1)) }
 {
     if last.worker == 0 {
@@ -85,18 +86,18 @@ pub(crate) fn run_all<R: Threads + Wait, G: CheckGate + Sync>(
     checks: Checks<'_>,
     workers: Workers,
     gate: &G,
-) -> Result<Vec<Vec<Verdict>>, CheckError>
+) -> Result<Vec<VerdictList>, CheckError>
     requires { ArePaired checks }
     ensures { MatchResult result (λ lists. AreLists (parts_in checks.entry) (orders_in checks.entry)
-        workers (map (λ v. v.items) lists.items)) (MayFail workers) }
+        workers lists.items) (MayFail workers) }
 {
     let count = usize::from(workers.count());
     within(
         rt,
-        |scope| -> Result<Vec<Vec<Verdict>>, CheckError>
+        |scope| -> Result<Vec<VerdictList>, CheckError>
             requires { ArePaired checks × (0 < count) × (count ≤ worker_limit) }
             ensures { MatchResult result (λ lists. AreLists (parts_in checks.entry)
-                (orders_in checks.entry) count (map (λ v. v.items) lists.items))
+                (orders_in checks.entry) count lists.items)
                 (MayFail count) }
         { run_workers(rt, scope, alloc, share_of(checks, count - 1, count), gate) },
     )

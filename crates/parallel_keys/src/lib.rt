@@ -16,6 +16,7 @@ mod histories;
 mod key_list;
 mod scoped;
 mod share;
+mod verdict_list;
 mod weave_verdicts;
 mod workers;
 

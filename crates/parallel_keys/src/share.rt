@@ -3,7 +3,7 @@ ghost use Rattle.std.specs.Prelude.{◌≡◌};
 
 use crate::checks::Checks;
 use crate::gate::CheckGate;
-use certificate_check::Verdict;
+use crate::verdict_list::VerdictList;
 use std::alloc::Global;
 use std::thread::Promise;
 use tag::Memory;
@@ -32,11 +32,11 @@ pub(crate) fn share_of(checks: Checks<'_>, worker: usize, workers: usize) -> Sha
     }
 }
 
-impl<'a> Promise<Result<Vec<Verdict>, Memory>> for Share<'a> {
+impl<'a> Promise<Result<VerdictList, Memory>> for Share<'a> {
     ghost use Rattle.std.specs.Prelude.{IfOk};
     ghost use Rattle.parallel_keys.specs.Shares.{AreOfShare};
 
-    ghost kept_by = { λ share result. IfOk result (λ verdicts. AreOfShare share verdicts.items) };
+    ghost kept_by = { λ share result. IfOk result (λ verdicts. AreOfShare share verdicts) };
 }
 
 impl<'a> Share<'a> {
@@ -44,11 +44,11 @@ impl<'a> Share<'a> {
     ghost use Rattle.parallel_keys.specs.Shares.{AreOfShare, IsShare};
 
     /// Checks the orders of the share's keys, in order of index.
-    pub(crate) fn check<G: CheckGate>(self, alloc: Global, gate: &G) -> Result<Vec<Verdict>, Memory>
+    pub(crate) fn check<G: CheckGate>(self, alloc: Global, gate: &G) -> Result<VerdictList, Memory>
         requires { IsShare self }
-        ensures { IfOk result (λ verdicts. AreOfShare self.entry verdicts.items) }
+        ensures { IfOk result (λ verdicts. AreOfShare self.entry verdicts) }
     {
-        let mut verdicts = Vec::new(alloc);
+        let mut verdicts = VerdictList::new(alloc);
         let mut index = self.worker;
         while index < self.checks.len() {
             gate.at(index);
