@@ -1,4 +1,5 @@
 pub mod Spelling
+mod AsciiTexts
 mod SaidRows
 pub mod Compact
 pub mod WrittenLines

@@ -1,8 +1,8 @@
 -- Texts that are parts of shared bytes.
-use Rattle.std.specs.Prelude.{ℕ, ◌≡◌, ◌≤◌, List, length, slice_range}
+use Rattle.std.specs.Prelude.{ℕ, ◌≡◌, ◌≤◌, List, [], Option, Some, None, length, slice_range}
 use Rattle.std.specs.Str.{IsUtf8}
 use Rattle.file_format.specs.declared.line_texts.Span.{Span}
-use Rattle.file_format.specs.declared.line_texts.LineTexts.TheInside.{Inside}
+use Rattle.file_format.specs.declared.line_texts.SharedTexts.TheInside.{Inside}
 
 -- a key's text and a value's
 pub record TwoTexts : Type 0 where
@@ -30,6 +30,11 @@ texts_there t = record {
   key = text_at t.bytes.value.items t.key;
   value = text_at t.bytes.value.items t.value;
 }
+
+-- the two texts, or two empty ones
+abbrev pub texts_or_none : Option TwoTexts → TwoTexts
+texts_or_none None = record { key = []; value = [] }
+texts_or_none (Some texts) = texts
 
 -- both are there
 pub record AreThere (t : Inside) : Type 0 where

@@ -1,13 +1,14 @@
 //! What the bytes of a line begin with, as this crate writes it, and what is after it.
-ghost use Rattle.std.specs.Prelude.{◌≡◌, ◌++◌, codes, decimal, true};
-ghost use Rattle.std.specs.Prelude.{IfSome, IsTrue, IsUtf8};
+ghost use Rattle.std.specs.Char.{is_ascii};
+ghost use Rattle.std.specs.List.{list_all};
+ghost use Rattle.std.specs.Prelude.{◌≡◌, ◌++◌, codes, decimal, true, IfSome, IsTrue, IsUtf8};
 ghost use Rattle.json.specs.Print.{quoted};
 ghost use Rattle.tag.specs.Names.{is_key};
 ghost use Rattle.file_format.specs.Ranges.{IsValue};
 ghost use Rattle.file_format.specs.Texts.{hall_text};
 
 use crate::line_texts::LinePart;
-use row_members::plain_length;
+use row_members::plain_run;
 use std::str;
 use tag::is_key;
 
@@ -58,20 +59,22 @@ pub(crate) fn first_number(bytes: &[u8]) -> Option<(u32, &[u8])>
     Some((number as u32, &bytes[count..]))
 }
 
-/// The text in quotation marks that the bytes begin with, where it has no escape, and what is
-/// after it.
+/// The text in quotation marks that the bytes begin with, where it has no escape, whether it is ASCII,
+/// and what is after it.
 #[inline(always)]
-fn first_text(bytes: &[u8]) -> Option<(LinePart<'_>, &[u8])>
-    ensures { IfSome result (λ found. bytes.now ≡ quoted found.0.text.now ++ found.1.now) }
+fn first_text(bytes: &[u8]) -> Option<(LinePart<'_>, bool, &[u8])>
+    ensures text { IfSome result (λ found. bytes.now ≡ quoted found.0.text.now ++ found.2.now) }
+    ensures ascii { IfSome result (λ found. found.1 ≡ list_all is_ascii found.0.text.now) }
 {
     let inside = behind(bytes, b"\"")?;
-    let end = plain_length(inside);
+    let run = plain_run(inside);
+    let end = run.length;
     let rest = behind(&inside[end..], b"\"")?;
     let text = LinePart {
         text: &inside[..end],
         behind: inside.len() - end,
     };
-    Some((text, rest))
+    Some((text, run.is_ascii, rest))
 }
 
 /// The number of the row's hall, where the bytes begin with it as a member, and what is after it.
@@ -97,7 +100,7 @@ fn first_key(bytes: &[u8]) -> Option<(LinePart<'_>, &[u8])>
     ensures lawful { IfSome result (λ found. is_key found.0.text.now ≡ true) }
 {
     let rest = behind(bytes, b",\"key\":")?;
-    let (key, rest) = first_text(rest)?;
+    let (key, _, rest) = first_text(rest)?;
     if !is_key(key.text) {
         return None;
     }
@@ -116,20 +119,22 @@ pub(crate) fn first_members(bytes: &[u8]) -> Option<(Option<u8>, LinePart<'_>, &
     Some((hall, key, rest))
 }
 
-/// Whether the bytes are a text.
+/// Whether the bytes, which may be known to be ASCII, are a text.
 #[inline(always)]
-fn is_text(bytes: &[u8]) -> bool
+fn is_text(bytes: &[u8], ascii: bool) -> bool
+    requires { IsTrue ascii → list_all is_ascii bytes.now ≡ true }
     ensures { IsTrue result → IsUtf8 bytes.now }
 {
-    bytes.is_ascii() || str::from_utf8(bytes).is_ok()
+    ascii || str::from_utf8(bytes).is_ok()
 }
 
-/// Whether the bytes are a value's text.
+/// Whether the bytes, which may be known to be ASCII, are a value's text.
 #[inline(always)]
-fn is_value(bytes: &[u8]) -> bool
+fn is_value(bytes: &[u8], ascii: bool) -> bool
+    requires { IsTrue ascii → list_all is_ascii bytes.now ≡ true }
     ensures { IsTrue result → IsValue bytes.now }
 {
-    bytes.len() <= LONGEST_VALUE && is_text(bytes)
+    bytes.len() <= LONGEST_VALUE && is_text(bytes, ascii)
 }
 
 /// The value in quotation marks that is all that the bytes have before a brace.
@@ -138,8 +143,8 @@ pub(crate) fn last_value(bytes: &[u8]) -> Option<LinePart<'_>>
     ensures text { IfSome result (λ value. bytes.now ≡ quoted value.text.now ++ codes "}") }
     ensures lawful { IfSome result (λ value. IsValue value.text.now) }
 {
-    let (value, rest) = first_text(bytes)?;
-    if !is_all(rest, b"}") || !is_value(value.text) {
+    let (value, is_ascii, rest) = first_text(bytes)?;
+    if !is_all(rest, b"}") || !is_value(value.text, is_ascii) {
         return None;
     }
     Some(value)

@@ -20,7 +20,7 @@ use crate::line_texts::{LinePart, LinePlace, LineText};
 use crate::order_piece::OrderPiece;
 use crate::texts::{MOST_IN_PIECE, append_piece};
 use recorder::Order;
-use row_members::plain_length;
+use row_members::plain_run;
 use std::alloc::Global;
 use std::str;
 use tag::{ClientId, Memory, OpId, Tag, is_key};
@@ -182,6 +182,7 @@ fn later(op: OpId, bytes: &[u8]) -> Option<SaidRow<'_>>
 }
 
 /// The row that the line is written for, and what the line has as its member `hall`.
+#[inline(always)]
 fn said_row(line: &[u8]) -> Option<SaidRow<'_>>
     ensures { IfSome result (IsSaidBy line.now) }
 {
@@ -194,6 +195,7 @@ fn said_row(line: &[u8]) -> Option<SaidRow<'_>>
 }
 
 /// Whether the numbers are the same, or both are missing.
+#[inline(always)]
 fn is_same(one: Option<u8>, other: Option<u8>) -> bool
     ensures { IsTrue result → one ≡ other }
 {
@@ -206,6 +208,7 @@ fn is_same(one: Option<u8>, other: Option<u8>) -> bool
 
 /// The row that the line, without its end, is written for, which stands at that place. `None` says
 /// nothing; `Memory` comes only where an allocation was refused.
+#[inline(always)]
 pub(crate) fn written_row(place: &LinePlace, line: &[u8]) -> Result<Option<LineRow>, Memory>
     ensures { IfOk result (λ found. IfSome found (IsRowLine line.now)) }
 {
@@ -219,6 +222,7 @@ pub(crate) fn written_row(place: &LinePlace, line: &[u8]) -> Result<Option<LineR
 }
 
 /// The same of a row with its hall, after that header.
+#[inline(always)]
 pub(crate) fn written_hall_row(
     header: &FileHeader,
     place: &LinePlace,
@@ -286,7 +290,7 @@ fn guessed_piece(
     let Some(inside) = line.strip_prefix(BEFORE_KEY) else {
         return Ok(None);
     };
-    let end = plain_length(inside);
+    let end = plain_run(inside).length;
     let Some(rest) = inside[end..].strip_prefix(b"\",\"order\":[".as_slice()) else {
         return Ok(None);
     };

@@ -67,6 +67,7 @@ fn follow_respond(history: &mut History, op: OpId, returned: &ReturnedRef<'_>) -
     }
 }
 
+#[inline(always)]
 fn follow_row(history: &mut History, earlier: usize, row: LineRow) -> Result<(), Stop>
     ensures { FollowsInHall earlier history.old row result history.new }
 {
@@ -98,6 +99,7 @@ fn follow_row(history: &mut History, earlier: usize, row: LineRow) -> Result<(),
 
 /// Adds the row at the end of its hall's history, where so many calls began in all halls, or says
 /// which fault it has there.
+#[inline(always)]
 pub(crate) fn follow_in_hall(
     history: &mut History,
     earlier: usize,

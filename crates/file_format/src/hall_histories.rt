@@ -64,6 +64,7 @@ impl HallHistories {
     }
 
     /// Adds the row at the end of its hall's rows, or says which fault it has there.
+    #[inline(always)]
     pub fn follow(&mut self, item: HallRow) -> Result<(), Stop>
         ensures follows { (header : FileHeader) (items : List HallRow)
             → MakesHistories header items self.old → AreHistories header items
@@ -93,6 +94,7 @@ impl HallHistories {
 }
 
 /// Whether the row, where it begins a call, is on a key of that hall.
+#[inline(always)]
 fn falls_to(row: &LineRow, header: &FileHeader, hall: u8) -> bool
     ensures { IsTrue result ↔ FallsTo (halls_in header.now) hall row.now }
 {

@@ -25,6 +25,7 @@ use tag::Memory;
 const USUAL: usize = 48;
 
 /// What was made of a line, as its judgement.
+#[inline(always)]
 fn judged<T>(made: Result<T, Stop>) -> Result<Judgement<T, LineFault>, Memory>
     ensures { (meaning : Data → Result T LineFault) (line : List ℕ) → LineShowsBy meaning line made
         → IfOk result (ShowsItem (LineShows meaning) line) }
@@ -37,6 +38,7 @@ fn judged<T>(made: Result<T, Stop>) -> Result<Judgement<T, LineFault>, Memory>
 }
 
 /// What the line, without its end, shows after that header.
+#[inline(always)]
 fn judge<T: LineItem>(
     alloc: Global,
     header: T::Header,

@@ -79,6 +79,7 @@ impl LineItem for LineRow {
 
     ghost meaning = { λ header. row_in };
 
+    #[inline(always)]
     fn read(
         alloc: Global,
         _header: (),
@@ -97,6 +98,7 @@ impl LineItem for HallRow {
 
     ghost meaning = { hall_row_in };
 
+    #[inline(always)]
     fn read(
         alloc: Global,
         header: FileHeader,

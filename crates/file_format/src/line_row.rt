@@ -61,6 +61,7 @@ impl LineRow {
     }
 
     /// The row of that kind, whose line of so many bytes stands there and has those parts. `None` says nothing.
+    #[inline(always)]
     pub(crate) fn found(
         place: &LinePlace,
         length: usize,

@@ -40,16 +40,15 @@ struct Span {
     end: u32,
 }
 
-/// A key's and a value's text, as parts of the bytes that their line is of, which all lines there share. They
-/// take memory of their own only where the line has one of them with an escape.
+/// A key's and a value's text, as parts of bytes that many share.
 #[derive(Debug, Drop)]
-pub(crate) struct LineTexts {
+struct SharedTexts {
     bytes: Arc<Vec<u8>>,
     key: Span,
     value: Span,
 }
 
-impl Model for LineTexts {
+impl Model for SharedTexts {
     ghost use Rattle.file_format.specs.LineTexts.{TwoTexts};
 
     ghost Value = { TwoTexts };
@@ -59,6 +58,23 @@ impl Model for LineTexts {
     ghost view = { texts_there };
 
     ghost invariant = { AreThere };
+}
+
+/// A key's and a value's text, as parts of the bytes that their line is of, which all lines there share. They
+/// take memory of their own only where the line has one of them with an escape. Two empty texts share nothing.
+#[derive(Debug, Drop)]
+pub(crate) struct LineTexts {
+    shared: Option<SharedTexts>,
+}
+
+impl Model for LineTexts {
+    ghost use Rattle.file_format.specs.LineTexts.{TwoTexts};
+
+    ghost Value = { TwoTexts };
+
+    ghost use Rattle.file_format.specs.LineTexts.{texts_or_none};
+
+    ghost view = { λ texts. texts_or_none texts.shared };
 }
 
 /// The bytes, for many to share.
@@ -87,10 +103,14 @@ fn text_at(bytes: &[u8], span: Span) -> &str
 }
 
 /// The part of the bytes that is the text, where it stands at that place. `None` says nothing.
+#[inline(always)]
 fn span_at(bytes: &[u8], place: usize, text: &[u8]) -> Option<Span>
     requires { IsUtf8 text.now }
     ensures { IfSome result (λ span. StandsAt bytes.now span text.now) }
 {
+    if text.is_empty() {
+        return Some(Span { start: 0, end: 0 });
+    }
     let Ok(start) = u32::try_from(place) else {
         return None;
     };
@@ -136,6 +156,7 @@ impl LinePlace {
     }
 
     /// The texts as parts of the bytes, if they stand at those places.
+    #[inline(always)]
     fn texts_at(
         &self,
         key: &[u8],
@@ -147,6 +168,9 @@ impl LinePlace {
         requires value { IsUtf8 value.now }
         ensures { IfOk result (λ found. IfSome found (HaveTexts key.now value.now)) }
     {
+        if key.is_empty() && value.is_empty() {
+            return Ok(Some(LineTexts { shared: None }));
+        }
         let bytes = self.bytes.as_slice();
         let Some(key) = span_at(bytes, key_place, key) else {
             return Ok(None);
@@ -154,10 +178,13 @@ impl LinePlace {
         let Some(value) = span_at(bytes, value_place, value) else {
             return Ok(None);
         };
-        Ok(Some(LineTexts {
+        let shared = SharedTexts {
             bytes: self.bytes.clone()?,
             key,
             value,
+        };
+        Ok(Some(LineTexts {
+            shared: Some(shared),
         }))
     }
 
@@ -167,6 +194,7 @@ impl LinePlace {
     }
 
     /// The place of a part of the line, which has so many bytes.
+    #[inline(always)]
     fn place_of_part(&self, length: usize, part: LinePart<'_>) -> usize {
         let end = self
             .start
@@ -186,6 +214,7 @@ impl LinePlace {
     }
 
     /// The parts of the line, which has so many bytes, as parts of the bytes, if they stand there.
+    #[inline(always)]
     pub(crate) fn parts(
         &self,
         length: usize,
@@ -200,6 +229,22 @@ impl LinePlace {
         let key_place = self.place_of_part(length, key);
         let value_place = self.place_of_part(length, value);
         self.texts_at(key.text, key_place, value.text, value_place)
+    }
+}
+
+impl SharedTexts {
+    /// The key.
+    fn key(&self) -> &str
+        ensures { result.now ≡ self.now.key }
+    {
+        text_at(self.bytes.as_slice(), self.key)
+    }
+
+    /// The value.
+    fn value(&self) -> &str
+        ensures { result.now ≡ self.now.value }
+    {
+        text_at(self.bytes.as_slice(), self.value)
     }
 }
 
@@ -227,13 +272,16 @@ impl LineTexts {
         let bytes = joined(alloc, key, value)?;
         let middle = key.len() as u32;
         let end = (key.len() + value.len()) as u32;
-        Ok(LineTexts {
+        let shared = SharedTexts {
             bytes,
             key: Span {
                 start: 0,
                 end: middle,
             },
             value: Span { start: middle, end },
+        };
+        Ok(LineTexts {
+            shared: Some(shared),
         })
     }
 
@@ -241,7 +289,10 @@ impl LineTexts {
     pub(crate) fn key(&self) -> &str
         ensures { result.now ≡ self.now.key }
     {
-        text_at(self.bytes.as_slice(), self.key)
+        match &self.shared {
+            Some(shared) => shared.key(),
+            None => "",
+        }
     }
 
     /// The key, with a text of its own.
@@ -258,6 +309,9 @@ impl LineTexts {
     pub(crate) fn value(&self) -> &str
         ensures { result.now ≡ self.now.value }
     {
-        text_at(self.bytes.as_slice(), self.value)
+        match &self.shared {
+            Some(shared) => shared.value(),
+            None => "",
+        }
     }
 }

@@ -3,6 +3,7 @@ use Rattle.std.specs.Prelude.{◌≡◌, ◌<◌, ◌≤◌, ◌+◌, ◌-◌, �
 use Rattle.std.specs.Prelude.{Some, None, Bool}
 use Rattle.std.specs.Prelude.{decimal, drop, get_or, length, option_map, set, slice_range, not}
 use Rattle.std.specs.Prelude.{nat_le, ◌&&◌, ◌==◌}
+use Rattle.std.specs.Char.{IsAsciiDigit, IsNotAsciiDigit}
 use Rattle.json.specs.Lex.{Lexeme, token, colon, lex, between}
 use Rattle.json.specs.Token.{string}
 use Rattle.serde_json.specs.Data.{Data}
@@ -44,12 +45,19 @@ HoldsText line start end =
     (start + 2 ≤ end)
     × Holds line start (token (string (slice_range line (start + 1) (end - 1))) ∷ []) end
 
--- the bytes begin with the number, of so many digits
+-- the bytes begin with the number, of so many digits, after which no digit stands unless they are 19
 pub record BeginsWith (bytes : List ℕ) (number count : ℕ) : Type 0 where
   pub some : 0 < count
   pub within : count ≤ length bytes
   pub fits : number < 2 ^ 64
   pub spelled : bytes ≡ decimal number ++ drop count bytes
+  pub whole : count < 19 → IsNotAsciiDigit (get_or bytes count 0)
+
+-- the bytes begin with no number: with no digit, or with a zero before a digit
+abbrev pub BeginsWithNone : List ℕ → Type 0
+BeginsWithNone bytes =
+    IsNotAsciiDigit (get_or bytes 0 0)
+    ⊎ ((get_or bytes 0 0 ≡ 48) × IsAsciiDigit (get_or bytes 1 0))
 
 -- that value stands between the places
 abbrev pub HoldsValue : List ℕ → ℕ → Member → ℕ → Type 0

@@ -18,5 +18,5 @@ mod values;
 pub use member::Member;
 pub use name::Name;
 pub use row_members::{MemberRoom, NAMES, RowMembers};
-pub use scan::{is_plain_byte, plain_length};
+pub use scan::{PlainRun, is_plain_byte, plain_run};
 pub use values::first_number;

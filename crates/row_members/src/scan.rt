@@ -1,5 +1,7 @@
 //! White space, single bytes and texts of a line, each from a place on.
-ghost use Rattle.std.specs.Prelude.{◌≡◌, ◌≤◌, ◌++◌, true, drop, length, take, IfSome, IsTrue};
+ghost use Rattle.std.specs.Prelude.{◌≡◌, ◌<◌, ◌≤◌, ◌++◌, true, false, drop, length, slice_index, take};
+ghost use Rattle.std.specs.Prelude.{IfSome, IsTrue};
+ghost use Rattle.std.specs.Char.{is_ascii};
 ghost use Rattle.std.specs.List.{list_all};
 ghost use Rattle.json.specs.Word.{is_space};
 ghost use Rattle.row_members.specs.Scans.{is_plain, HoldsText, Passes, Skips};
@@ -37,22 +39,37 @@ pub(crate) fn after_byte(line: &[u8], start: usize, byte: u8) -> Option<usize>
 }
 
 /// Whether the byte stands for itself in a JSON string.
+#[inline(always)]
 pub fn is_plain_byte(byte: u8) -> bool
     ensures { result ≡ is_plain byte }
 {
     byte >= b' ' && byte != b'"' && byte != b'\\'
 }
 
-/// How many bytes stand for themselves in a JSON string before one that doesn't, or the end.
-pub fn plain_length(bytes: &[u8]) -> usize
-    ensures length { result ≤ length bytes.now }
-    ensures plain { list_all is_plain (take result bytes.now) ≡ true }
+/// Bytes that stand for themselves in a JSON string: how many, and whether all are ASCII.
+#[derive(Debug, Drop)]
+pub struct PlainRun {
+    /// How many bytes.
+    pub length: usize,
+    /// Whether each is ASCII.
+    pub is_ascii: bool,
+}
+
+/// The bytes at the front that stand for themselves in a JSON string, before one that doesn't, or the end.
+#[inline(always)]
+pub fn plain_run(bytes: &[u8]) -> PlainRun
+    ensures length { result.length ≤ length bytes.now }
+    ensures plain { list_all is_plain (take result.length bytes.now) ≡ true }
+    ensures whole { result.length < length bytes.now → is_plain (slice_index bytes.now result.length) ≡ false }
+    ensures ascii { result.is_ascii ≡ list_all is_ascii (take result.length bytes.now) }
 {
-    let mut count = 0;
-    while count < bytes.len() && is_plain_byte(bytes[count]) {
-        count += 1;
+    let mut length = 0;
+    let mut is_ascii = true;
+    while length < bytes.len() && is_plain_byte(bytes[length]) {
+        is_ascii &= bytes[length].is_ascii();
+        length += 1;
     }
-    count
+    PlainRun { length, is_ascii }
 }
 
 /// The place after the text in quotation marks that stands there, where it has no escape.
@@ -63,7 +80,7 @@ pub(crate) fn text_end(line: &[u8], start: usize) -> Option<usize>
         return None;
     }
     let first = start + 1;
-    let stop = first + plain_length(&line[first..]);
+    let stop = first + plain_run(&line[first..]).length;
     if stop < line.len() && line[stop] == b'"' {
         Some(stop + 1)
     } else {

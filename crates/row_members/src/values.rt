@@ -1,7 +1,8 @@
 //! The values of a line's members.
-ghost use Rattle.std.specs.Prelude.{◌≡◌, ◌<◌, ◌≤◌, true, drop, length, slice_index, IfSome, IsTrue};
+ghost use Rattle.std.specs.Prelude.{◌≡◌, ◌<◌, ◌≤◌, ◌⊎◌, true, drop, length, slice_index};
+ghost use Rattle.std.specs.Prelude.{IfNone, IfSome, IsFalse, IsTrue};
 ghost use Rattle.json.specs.Word.{ends_word};
-ghost use Rattle.row_members.specs.Scans.{BeginsWith, HoldsValue};
+ghost use Rattle.row_members.specs.Scans.{BeginsWith, BeginsWithNone, HoldsValue};
 
 use crate::member::Member;
 use crate::scan::{after_space, begins_with, is_space, text_end};
@@ -23,14 +24,17 @@ fn are_spelled(bytes: &[u8], count: usize) -> bool
     requires { count ≤ length bytes.now }
     ensures some { IsTrue result → 0 < count }
     ensures alone { IsTrue result → slice_index bytes.now 0 ≡ 48 → count ≡ 1 }
+    ensures not { IsFalse result → (count ≡ 0) ⊎ ((slice_index bytes.now 0 ≡ 48) × (1 < count)) }
 {
     count == 1 || (count > 1 && bytes[0] != b'0')
 }
 
-/// The number that the bytes begin with, as it is written, and how many digits it has.
+/// The number that the bytes begin with, as it is written, and how many digits it has. Of a number with
+/// more than 19 digits the first 19 are read.
 #[inline(always)]
 pub fn first_number(bytes: &[u8]) -> Option<(u64, usize)>
-    ensures { IfSome result (λ found. BeginsWith bytes.now found.0 found.1) }
+    ensures found { IfSome result (λ found. BeginsWith bytes.now found.0 found.1) }
+    ensures none { IfNone result (BeginsWithNone bytes.now) }
 {
     let mut value: u64 = 0;
     let mut count = 0;

@@ -4,5 +4,5 @@ use Rattle.row_members.proofs.scan.text_end.Goals as goal
 
 pub returns-then-line-stop-eq34 : goal.returns-then-line-stop-eq34
 returns-then-line-stop-eq34 c =
-    text_holds c.args.line.now c.args.start c.plain_length.result (omega arith) c.if-line-start-ne34.false c.plain_length.ensures.plain
+    text_holds c.args.line.now c.args.start c.plain_run.result.length (omega arith) c.if-line-start-ne34.false c.plain_run.ensures.plain
     (omega arith) c.if-line-stop-eq34.true

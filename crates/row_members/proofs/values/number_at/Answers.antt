@@ -6,4 +6,4 @@ pub returns-then-is_ended : goal.returns-then-is_ended
 returns-then-is_ended c =
     let line = c.args.line.now in
     number_holds line _ c.args.start c.in_ok-number.number c.in_ok-number.count (to_end line c.args.start) c.requires
-    c.in_ok-number.ensures (c.is_ended.ensures c.if-is_ended.true)
+    c.in_ok-number.ensures.found (c.is_ended.ensures c.if-is_ended.true)
