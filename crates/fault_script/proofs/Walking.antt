@@ -1,34 +1,13 @@
 -- Random steps, one after another.
-use Rattle.std.proofs.Common.{ℕ, suc, ◌≡◌, ◌+◌, Bool, true, false, is_some, is_none, not, cond, Ok}
-use Rattle.std.proofs.Common.{◌≤◌, Err, inl, inr, sym, ap, ◌∙◌, subst, add-zero, arith}
+use Rattle.std.proofs.Common.{ℕ, suc, ◌≡◌, ◌+◌, ◌≤◌, Bool, true, false, is_some, is_none, not, cond}
+use Rattle.std.proofs.Common.{ap, ◌∙◌, subst, add-zero, arith}
 use Rattle.std.specs.Int.{from_bool}
 use Rattle.rand_pcg.specs.Lcg.{Lcg}
 use Rattle.random_steps.specs.Choices.{draw, step_of}
 use Rattle.world_steps.specs.Refusals.{refusal_of}
-use Rattle.world_steps.specs.Runs.{Steps, next}
-use Rattle.world_steps.specs.declared.effect.Effect.{Effect}
-use Rattle.world_steps.specs.declared.refusal.Refusal.{Refusal}
-use Rattle.world_steps.specs.declared.refusal.Refusal.TheVariants as refusal
-use Rattle.world_steps.specs.declared.step.Step.{Step}
+use Rattle.world_steps.specs.Runs.{next}
 use Rattle.world_steps.specs.declared.system.System.{System}
-use Rattle.world_steps.proofs.StepAnswers.{next_is}
 use Rattle.fault_script.specs.ScriptRuns.{Walk, stride, walk_after}
-
--- the steps of a step of a system: the next one, and whether it was refused
-pub is_taken : (s new : System) (step : Step) (effect : Effect) → Steps s step (Ok effect) new → true ≡ is_none (refusal_of s step)
-is_taken s new step effect (none, is, moves) = sym (ap is_none none)
-
-pub is_passed : (s new : System) (step : Step) (why : Refusal) → Steps s step (Err why) new → (why ≡ refusal.Memory → ⊥) → false
-    ≡ is_none (refusal_of s step)
-is_passed s new step why (inl refused, same) fine = sym (ap is_none refused)
-is_passed s new step why (inr (none, memory, grows), same) fine = absurd (fine memory)
-
-pub moves_taken : (s new : System) (step : Step) (effect : Effect) → Steps s step (Ok effect) new → new ≡ next s step
-moves_taken s new step effect h = next_is s step (Ok effect) new h (λ e. absurd cc)
-
-pub moves_passed : (s new : System) (step : Step) (why : Refusal) → Steps s step (Err why) new → (why ≡ refusal.Memory → ⊥) → new
-    ≡ next s step
-moves_passed s new step why h fine = next_is s step (Err why) new h (λ e. let same : why ≡ refusal.Memory = cc in fine same)
 
 -- a walk stands there
 pub record IsWalkAt (walk : Walk) (system : System) (generator : Lcg) (taken : ℕ) : Type 0 where

@@ -1,8 +1,5 @@
 //! Runs of scripts.
-ghost use Rattle.std.specs.Prelude.{◌≡◌, ◌+◌, [], IfOk, OnOk, is_none};
-ghost use Rattle.random_steps.specs.Choices.{draw, step_of};
-ghost use Rattle.world_steps.specs.Refusals.{refusal_of};
-ghost use Rattle.world_steps.specs.Runs.{next};
+ghost use Rattle.std.specs.Prelude.{◌≡◌, ◌+◌, [], IfOk, OnOk};
 ghost use Rattle.world_steps.specs.Systems.{opening};
 ghost use Rattle.fault_script.specs.Running.{IsRunSoFar, Walks};
 
@@ -12,28 +9,13 @@ use random_steps::RandomSteps;
 use std::alloc::Global;
 use tag::{ClientId, Memory};
 use world_settle::settle;
-use world_steps::{Config, Refusal, Step, World};
+use world_steps::{Config, Step, World};
 
 /// The world as the commands so far left it, and what was said of them.
 #[derive(Drop)]
 pub struct ScriptRun {
     pub world: World,
     pub messages: Vec<u8>,
-}
-
-/// Takes the next random step, and answers whether it was taken.
-fn stride(alloc: Global, world: &mut World, steps: &mut RandomSteps) -> Result<bool, Memory>
-    ensures system { OnOk result (world.new ≡ next world.old (step_of world.old (draw steps.old))) }
-    ensures generator { OnOk result (steps.new ≡ (draw steps.old).rest) }
-    ensures taken { IfOk result (λ taken. taken
-        ≡ is_none (refusal_of world.old (step_of world.old (draw steps.old)))) }
-{
-    let step = steps.next(alloc, world)?;
-    match world.step(step) {
-        Ok(_) => Ok(true),
-        Err(Refusal::Memory) => Err(Memory),
-        Err(_) => Ok(false),
-    }
 }
 
 /// Takes so many random steps of that seed, and answers how many of them were taken.
@@ -43,7 +25,7 @@ fn walk(alloc: Global, world: &mut World, seed: u64, count: u32) -> Result<u32, 
     let mut steps = RandomSteps::new(seed);
     let mut taken = 0;
     for _turn in 0..count {
-        taken += u32::from(stride(alloc, world, &mut steps)?);
+        taken += u32::from(steps.take_next(alloc, world)?);
     }
     Ok(taken)
 }

@@ -71,7 +71,7 @@ kind_of word =
     else kind.Deliver
 
 -- the step of that kind that two words choose
-abbrev step_by : System → Kind → ℕ → ℕ → Step
+abbrev pub step_by : System → Kind → ℕ → ℕ → Step
 step_by s kind.Lose second third = step.Lose (flight_at s second)
 step_by s kind.Repeat second third = step.Repeat (flight_at s second)
 step_by s kind.Respond second third = step.Respond (client_at s second)

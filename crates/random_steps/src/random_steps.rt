@@ -1,15 +1,18 @@
 //! A source of random steps.
-ghost use Rattle.std.specs.Prelude.{◌≡◌, ◌++◌, IfOk, codes, decimal};
+ghost use Rattle.std.specs.Prelude.{◌≡◌, ◌++◌, IfOk, OnErr, OnOk, codes, decimal, is_none};
 ghost use Rattle.random_steps.specs.Choices.{action_of, client_at, draw, flight_at, generator_of};
-ghost use Rattle.random_steps.specs.Choices.{key_of, kind_of, replica_at, step_of};
+ghost use Rattle.random_steps.specs.Choices.{key_of, kind_of, replica_at, step_by, step_of};
+ghost use Rattle.world_steps.specs.Refusals.{is_idle, phase_at, refusal_of};
+ghost use Rattle.world_steps.specs.Runs.{next};
 
+use client_phases::Phase;
 use itoa::Buffer;
 use rand_core::utils::NextWord;
 use rand_pcg::Lcg64Xsh32;
 use std::alloc::Global;
 use std::marker::Model;
 use tag::{Action, ClientId, Key, Memory, NameError, ReplicaId, Value};
-use world_steps::{Step, World};
+use world_steps::{Refusal, Step, World};
 
 /// A source of random steps, of a generator.
 #[derive(Drop)]
@@ -130,6 +133,102 @@ fn action_of(alloc: Global, word: u32) -> Result<Action, Memory>
     Ok(Action::Write(value_of(alloc, word)?))
 }
 
+/// The step of that kind that two words choose.
+fn step_by(
+    alloc: Global,
+    world: &World,
+    kind: Kind,
+    second: u32,
+    third: u32,
+) -> Result<Step, Memory>
+    ensures { IfOk result (λ step. step ≡ step_by world.now kind second third) }
+{
+    match kind {
+        Kind::Lose => Ok(Step::Lose {
+            flight: flight_at(world, second),
+        }),
+        Kind::Repeat => Ok(Step::Repeat {
+            flight: flight_at(world, second),
+        }),
+        Kind::Respond => Ok(Step::Respond {
+            client: client_at(world, second),
+        }),
+        Kind::Invoke => Ok(Step::Invoke {
+            client: client_at(world, second),
+            key: key_of(alloc, third)?,
+            action: action_of(alloc, third)?,
+        }),
+        Kind::Send => Ok(Step::Send {
+            client: client_at(world, second),
+            replica: replica_at(world, third),
+        }),
+        Kind::Deliver => Ok(Step::Deliver {
+            flight: flight_at(world, second),
+        }),
+    }
+}
+
+/// Takes the step, and answers whether it was taken.
+fn try_step(world: &mut World, step: Step) -> Result<bool, Memory>
+    ensures system { OnOk result (world.new ≡ next world.old step) }
+    ensures taken { IfOk result (λ taken. taken ≡ is_none (refusal_of world.old step)) }
+    ensures err { OnErr result (world.new ≡ world.old) }
+{
+    match world.step(step) {
+        Ok(_) => Ok(true),
+        Err(Refusal::Memory) => Err(Memory),
+        Err(_) => Ok(false),
+    }
+}
+
+/// Whether a client of that name joined and is idle.
+fn is_idle(world: &World, client: ClientId) -> bool
+    ensures { result ≡ is_idle (phase_at world.now client) }
+{
+    match world.client(client) {
+        Some(client) => client.phase() == Phase::Idle,
+        None => false,
+    }
+}
+
+/// Takes the invocation that two words choose, and answers whether it was taken. Its texts are made only
+/// if its client is idle.
+fn try_invocation(alloc: Global, world: &mut World, second: u32, third: u32) -> Result<bool, Memory>
+    ensures system { OnOk result
+        (world.new ≡ next world.old (step_by world.old Kind.Invoke second third)) }
+    ensures taken { IfOk result (λ taken. taken
+        ≡ is_none (refusal_of world.old (step_by world.old Kind.Invoke second third))) }
+    ensures err { OnErr result (world.new ≡ world.old) }
+{
+    if !is_idle(world, client_at(world, second)) {
+        return Ok(false);
+    }
+    let step = step_by(alloc, world, Kind::Invoke, second, third)?;
+    try_step(world, step)
+}
+
+/// Takes the step of that kind that two words choose, and answers whether it was taken.
+fn try_chosen(
+    alloc: Global,
+    world: &mut World,
+    kind: Kind,
+    second: u32,
+    third: u32,
+) -> Result<bool, Memory>
+    ensures system { OnOk result (world.new ≡ next world.old (step_by world.old kind second third)) }
+    ensures taken { IfOk result (λ taken. taken
+        ≡ is_none (refusal_of world.old (step_by world.old kind second third))) }
+    ensures err { OnErr result (world.new ≡ world.old) }
+{
+    match kind {
+        Kind::Invoke => try_invocation(alloc, world, second, third),
+        _ => {
+            let step = step_by(alloc, world, kind, second, third)?;
+            try_step(world, step)
+        }
+    }
+}
+
 impl RandomSteps {
     /// The steps of a seed.
     pub fn new(seed: u64) -> RandomSteps
@@ -140,37 +239,40 @@ impl RandomSteps {
         }
     }
 
+    /// Draws three words.
+    fn draw(&mut self) -> (u32, u32, u32)
+        ensures first { result.0 ≡ (draw self.old).first }
+        ensures second { result.1 ≡ (draw self.old).second }
+        ensures third { result.2 ≡ (draw self.old).third }
+        ensures rest { self.new ≡ (draw self.old).rest }
+    {
+        let first: u32 = self.generator.next_word();
+        let second: u32 = self.generator.next_word();
+        let third: u32 = self.generator.next_word();
+        (first, second, third)
+    }
+
     /// The next step for the world as it stands. The three words are drawn whatever comes of it;
     /// `Memory` comes only if room for a text was refused.
     pub fn next(&mut self, alloc: Global, world: &World) -> Result<Step, Memory>
         ensures step { IfOk result (λ step. step ≡ step_of world.now (draw self.old)) }
         ensures drawn { self.new ≡ (draw self.old).rest }
     {
-        let first: u32 = self.generator.next_word();
-        let second: u32 = self.generator.next_word();
-        let third: u32 = self.generator.next_word();
-        match kind_of(first) {
-            Kind::Lose => Ok(Step::Lose {
-                flight: flight_at(world, second),
-            }),
-            Kind::Repeat => Ok(Step::Repeat {
-                flight: flight_at(world, second),
-            }),
-            Kind::Respond => Ok(Step::Respond {
-                client: client_at(world, second),
-            }),
-            Kind::Invoke => Ok(Step::Invoke {
-                client: client_at(world, second),
-                key: key_of(alloc, third)?,
-                action: action_of(alloc, third)?,
-            }),
-            Kind::Send => Ok(Step::Send {
-                client: client_at(world, second),
-                replica: replica_at(world, third),
-            }),
-            Kind::Deliver => Ok(Step::Deliver {
-                flight: flight_at(world, second),
-            }),
-        }
+        let (first, second, third) = self.draw();
+        step_by(alloc, world, kind_of(first), second, third)
+    }
+
+    /// Takes the next step, and answers whether it was taken: a step that is refused changes nothing. The
+    /// three words are drawn whatever comes of it; `Memory` comes only if an allocation was refused, and
+    /// leaves the world as it was.
+    pub fn take_next(&mut self, alloc: Global, world: &mut World) -> Result<bool, Memory>
+        ensures system { OnOk result (world.new ≡ next world.old (step_of world.old (draw self.old))) }
+        ensures taken { IfOk result (λ taken. taken
+            ≡ is_none (refusal_of world.old (step_of world.old (draw self.old)))) }
+        ensures drawn { self.new ≡ (draw self.old).rest }
+        ensures err { OnErr result (world.new ≡ world.old) }
+    {
+        let (first, second, third) = self.draw();
+        try_chosen(alloc, world, kind_of(first), second, third)
     }
 }

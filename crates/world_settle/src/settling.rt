@@ -25,7 +25,7 @@ fn take(world: &mut World, step: Step, count: u32) -> Result<u32, SettleError>
     ensures err { OnErr result (world.new ≡ world.old) }
     ensures sound { IsSound world.new }
 {
-    match world.step(step) {
+    match world.take(step) {
         Ok(_) => Ok(count + 1),
         Err(_) => Err(SettleError::Memory(count)),
     }

@@ -7,11 +7,11 @@ use Rattle.fault_script.proofs.script_run.walk.Goals as goal
 pub loop-turn-preserved : goal.loop-turn-preserved
 loop-turn-preserved c =
     let l = c.loop-turn in
-    let new = c.stride.new in
-    let h = c.in_ok-stride.ensures in
+    let new = c.take_next.new in
+    let h = c.in_ok-take_next.ensures in
     let start : Walk = record { system = c.args.world.now; generator = generator_of c.args.seed; taken = 0 } in
     record {
-      at = walk_on start l._turn l.world new.world l.steps new.steps l.taken _ c.in_ok-stride.field-0 l.invariant.at h.system h.generator h.taken
+      at = walk_on start l._turn l.world new.world l.steps new.self l.taken _ c.in_ok-take_next.field-0 l.invariant.at h.system h.drawn h.taken
           (ap (λ (n : ℕ). l.taken + n) c.from.ensures);
-      few = rw c.from.ensures (counted_few c.in_ok-stride.field-0 l.taken l._turn l.invariant.few);
+      few = rw c.from.ensures (counted_few c.in_ok-take_next.field-0 l.taken l._turn l.invariant.few);
     }
