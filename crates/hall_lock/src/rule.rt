@@ -6,9 +6,7 @@ use tag::ClientId;
 use world_steps::World;
 
 /// Rows of a record, as proofs know them. No value of it is made.
-pub struct SeenRows {
-    count: usize,
-}
+pub struct SeenRows;
 
 impl Model for SeenRows {
     ghost use Rattle.std.specs.Prelude.{List, []};

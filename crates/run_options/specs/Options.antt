@@ -1,5 +1,5 @@
 -- The options of `abd run`.
-use Rattle.std.specs.Prelude.{ℕ, ◌-◌, List, [], ◌∷◌, Option, Some, None, pos, codes}
+use Rattle.std.specs.Prelude.{◌-◌, List, [], ◌∷◌, Option, Some, None, pos, codes}
 use Rattle.std.specs.Option.{option_map}
 use Rattle.tag.specs.Limits.{replica_limit}
 use Rattle.recorder.specs.Halls.{hall_limit}

@@ -1,4 +1,4 @@
-use Rattle.std.proofs.Common.{◌≡◌, ℕ, length, sym, ◌∙◌, eqb-true, arith}
+use Rattle.std.proofs.Common.{◌≡◌, length, sym, ◌∙◌, eqb-true, arith}
 use Rattle.std.specs.Vec.{vec_len}
 use Rattle.std.proofs.lemmas.List.{nil_from_length}
 use Rattle.row_lines.proofs.Counting.{counted_more}
