@@ -19,10 +19,10 @@ WIDTH = 138
 
 HEAD = """# The definitions
 
-What the contracts say rests on these definitions and on nothing else. Each stands in a file of `crates/NAME/specs`, as a relation over all
-pairs, all places, all calls; none repeats a loop of the code. The sentences are the comments of these files: `scripts/definitions.py` writes
-this page from them. [GLOSSARY](GLOSSARY.md) has the words, [PROOF](PROOF.md) the invariant, and [GUARANTEES](GUARANTEES.md) which clause
-cites what.
+What the contracts say rests on these definitions and on nothing else. Each stands in a file of `crates/NAME/specs`, as a relation over
+all pairs, all places, all calls; none repeats a loop of the code. The sentences are the comments of these files: `scripts/definitions.py`
+writes this page from them. [GLOSSARY](GLOSSARY.md) has the words, [PROOF](PROOF.md) the invariant, and [GUARANTEES](GUARANTEES.md) which
+clause cites what.
 
 Places are numbers of rows in a whole history, from 0. A call is *pending* from its invocation until its response, and *completed* from then
 on. A definition without a sentence of its own stands beside the one before it.
@@ -183,7 +183,7 @@ def page():
     groups = [(name, [it for it in crates if it[1]]) for name, crates in groups]
     crates = [it for _, crates in groups for it in crates]
     lines = [HEAD, *first_lines(dict(crates)), "## By crate\n"]
-    lines += [f"- {name}: " + ", ".join(f"[{it}](#{it})" for it, _ in crates) for name, crates in groups if crates]
+    lines += [wrapped(f"{name}: " + ", ".join(f"[{it}](#{it})" for it, _ in crates), "- ", "  ") for name, crates in groups if crates]
     lines.append("")
     for crate, files in crates:
         lines += crate_lines(crate, files)
