@@ -1,9 +1,10 @@
 """altered_lines.py ABD [SHARE]
 
-Lines that are written as `abd` writes them are read without JSON. Here each byte of a line of each kind, in a history of either version
-and in orders, is given each of 256 values, and `abd` is asked twice: of the line, and of the line after a blank, which JSON allows and
-`abd` never writes, so that the JSON reader answers. Both have to answer the same: `check`, and of a history's line `justify` too, since it
-looks at the tags of notes. SHARE, 1 by default, is how many of the alterations are tried, in a hundred.
+A line is read in one of three ways: as `abd` writes it, as members in any order, or as JSON. Here each byte of a line of each kind, in a
+history of either version and in orders, is given each of 256 values, and `abd` is asked three times: of the line, of the line after a
+blank, which `abd` never writes, and of the line with a member that means nothing and has an array, which the JSON reader alone takes. All
+have to answer the same: `check`, and of a history's line `justify` too, since it looks at the tags of notes. SHARE, 1 by default, is how
+many of the alterations are tried, in a hundred.
 """
 
 import os
@@ -58,17 +59,25 @@ def answers(abd, folder, history, orders, commands):
         return [(it.returncode, it.stdout, it.stderr) for it in ran]
 
 
+def forms(line):
+    """The line, and forms that mean the same and are read in another way."""
+    yield line
+    yield b" " + line
+    if line.startswith(b"{"):
+        yield b'{"other":[],' + line[1:]
+
+
 def differs(abd, folder, alteration):
-    """Whether the altered line is answered otherwise behind a blank."""
+    """Whether the altered line is answered otherwise in another form."""
     kind, at, line = alteration
     history, orders, altered = FILES[kind]
     commands = [("check", "h", "o"), ("justify", "h")][: 2 - altered]
     said = []
-    for text in (line, b" " + line):
+    for text in forms(line):
         files = [list(history), list(orders)]
         files[altered][at] = text
         said.append(answers(abd, folder, *files, commands))
-    return said if said[0] != said[1] else None
+    return said if any(it != said[0] for it in said) else None
 
 
 def alterations(share):
@@ -105,7 +114,7 @@ def main():
             if said:
                 other += 1
                 print(one, said)
-    print(f"{tried} lines, {other} of them answered otherwise by the JSON reader")
+    print(f"{tried} lines, {other} of them answered otherwise in another form")
     sys.exit(other > 0)
 
 

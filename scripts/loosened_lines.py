@@ -1,8 +1,9 @@
 """loosened_lines.py ABD [TIMES [WRITE_SPEED]]
 
 Random histories of 10,000 rows, as `abd` writes them and in loosened form: members in another order, blanks, escapes in half of the lines,
-members that mean nothing, members that come twice, of which the last counts. `abd justify` has to make the same orders of both, and `abd check` to say the same of them. With the built program
-`write_speed` (benchmarks/build_programs.sh), which writes the history that it reads, both also have to be written as the first.
+members that mean nothing, members that come twice, of which the last counts. `abd justify` has to make the same orders of both, and
+`abd check` to say the same of them. With the built program `write_speed` (benchmarks/build_programs.sh), which writes the history that it
+reads, both also have to be written as the first.
 """
 
 import json
