@@ -204,22 +204,20 @@ fn simulate(rt: &HostRuntime, threads: &(impl Threads + Sync), script: &str) -> 
     })
 }
 
-/// Tells the script's run.
-fn trace(rt: &HostRuntime, threads: &(impl Threads + Sync), script: &str, most: u32) -> Status {
-    on_file(rt, script, |script, out, errors| {
-        trace_command(threads, rt.alloc(), script, most, out, errors)
-    })
-}
-
-/// Draws the script's run.
-fn trace_page(
+/// Tells the script's run, or draws it on a page.
+fn trace(
     rt: &HostRuntime,
     threads: &(impl Threads + Sync),
     script: &str,
     most: u32,
+    page: bool,
 ) -> Status {
     on_file(rt, script, |script, out, errors| {
-        trace_page_command(threads, rt.alloc(), script, most, RUN_PICTURES, out, errors)
+        if page {
+            trace_page_command(threads, rt.alloc(), script, most, RUN_PICTURES, out, errors)
+        } else {
+            trace_command(threads, rt.alloc(), script, most, out, errors)
+        }
     })
 }
 
@@ -302,8 +300,8 @@ where
         Command::Explain(asked) => explain(rt, threads, asked),
         Command::Justify { history, unchecked } => justify(rt, threads, history, *unchecked),
         Command::Simulate { script } => simulate(rt, threads, script),
-        Command::Trace { script, most } => trace(rt, threads, script, *most),
-        Command::TracePage { script, most } => trace_page(rt, threads, script, *most),
+        Command::Trace { script, most } => trace(rt, threads, script, *most, false),
+        Command::TracePage { script, most } => trace(rt, threads, script, *most, true),
         Command::Run(asked) => run(rt, threads, *asked),
     }
 }
