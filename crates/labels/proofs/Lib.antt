@@ -1,3 +1,6 @@
 pub mod Counts
 pub mod Rendering
 mod Fitting
+pub mod ShownWords
+pub mod Standing
+mod Widths

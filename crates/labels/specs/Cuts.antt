@@ -2,12 +2,17 @@
 use Rattle.std.specs.Prelude.{ℕ, ◌-◌, ◌==◌, Bool, nat_lt, if◌then◌else◌}
 use Rattle.std.specs.Prelude.{List, [], ◌∷◌, length, chars, flat_map}
 use Rattle.std.specs.Char.{encode_utf8}
+use Rattle.std.specs.List.{sum_by}
 use Rattle.markup.specs.Markup.{Markup, both, text}
 use Rattle.labels.specs.declared.style.TheConstants.{ELLIPSIS}
 
 -- how many letters' room a character takes: one, or two past the scripts of narrow characters
 abbrev pub cells : ℕ → ℕ
 cells c = if nat_lt c 0x1100 then 1 else 2
+
+-- how many letters' room a text takes
+abbrev pub width : List ℕ → ℕ
+width words = sum_by cells (chars words)
 
 -- the first characters that fit into the room
 abbrev pub fitting : ℕ → List ℕ → List ℕ

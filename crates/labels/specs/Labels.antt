@@ -7,7 +7,7 @@ use Rattle.markup.specs.declared.names.Element.TheVariants as tag
 use Rattle.labels.specs.declared.labels.Spot.{Spot}
 use Rattle.labels.specs.declared.labels.Way.{Way}
 use Rattle.labels.specs.Cuts.{cut}
-use Rattle.labels.specs.Texts.{text_of}
+use Rattle.labels.specs.Texts.{shown_words, text_of}
 
 -- an attribute that is a text
 abbrev pub words_of : AttributeName → List ℕ → NamedText
@@ -17,11 +17,11 @@ words_of name words = record { name = name; value = words }
 abbrev pub number_of : AttributeName → ℕ → NamedText
 number_of name n = record { name = name; value = decimal n }
 
--- words of that class at that place, cut to so much room
+-- words of that class at that place: what is shown of them, cut to so much room
 abbrev pub label_markup : List ℕ → ℕ → ℕ → ℕ → List ℕ → Markup
 label_markup class x y room words = element tag.Text
     (words_of name.Class class ∷ number_of name.X x ∷ number_of name.Y y ∷ [])
-    (cut room (text_of words))
+    (cut room (shown_words words))
 
 -- the words at that spot
 abbrev pub words_at : Spot → List ℕ → Markup

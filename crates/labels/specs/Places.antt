@@ -6,6 +6,10 @@ use Rattle.markup.specs.declared.names.AttributeName.TheVariants as name
 use Rattle.labels.specs.declared.places.Frame.{Frame}
 use Rattle.labels.specs.declared.style.TheConstants.{FARTHEST}
 
+-- the farthest place
+abbrev pub farthest : ℕ
+farthest = FARTHEST
+
 -- so many steps beyond a start; nothing stands farther than FARTHEST
 abbrev pub pixels : ℕ → ℕ → ℕ → ℕ
 pixels start count step = min (start + count * step) FARTHEST

@@ -2,10 +2,12 @@
 ghost use Rattle.std.specs.Prelude.{◌≡◌, ◌++◌, OnOk};
 ghost use Rattle.markup.specs.Markup.{rendered};
 ghost use Rattle.sentences.specs.Words.{numbered};
+ghost use Rattle.labels.specs.Cuts.{cut};
 ghost use Rattle.labels.specs.Labels.{line_markup, polyline, title, words_at};
+ghost use Rattle.labels.specs.Texts.{shown_words};
 
 use crate::cuts::append_cut;
-use crate::texts::text_of;
+use crate::texts::{shown_words, text_of};
 use markup::{
     Attribute, AttributeName, Element, append_closing, append_empty, append_opening, append_plain,
 };
@@ -69,7 +71,17 @@ impl Way {
     }
 }
 
-/// Adds the words there.
+/// Adds what is shown of the words, cut to the room.
+#[tactic(auto, using(crate::proofs::ShownWords::shown_is_text))]
+fn append_words(alloc: Global, page: &mut Vec<u8>, words: &[u8], room: u64) -> Result<(), Memory>
+    ensures { OnOk result
+        (page.new.items ≡ page.old.items ++ rendered (cut room (shown_words words.now))) }
+{
+    let shown = shown_words(alloc, words)?;
+    append_cut(alloc, page, text_of(&shown), room)
+}
+
+/// Adds the words there, each hidden character as its number, and cut to the room that there is.
 #[tactic(auto, unfolding(markup::specs::Markup::rendered))]
 pub fn append_label(
     alloc: Global,
@@ -86,7 +98,7 @@ pub fn append_label(
         Attribute::Number(AttributeName::Y, spot.y),
     ];
     append_opening(page, Element::Text, &attributes)?;
-    append_cut(alloc, page, text_of(words), spot.room)?;
+    append_words(alloc, page, words, spot.room)?;
     append_closing(page, Element::Text)
 }
 

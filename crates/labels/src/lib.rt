@@ -1,8 +1,8 @@
 //! What the pictures and the diagrams of pages are drawn with: labels, lines and samples, each at
 //! its place, and a shape for each item of a list.
 //!
-//! Each function adds exactly the bytes of a tree of elements that a definition names. A label is
-//! cut to the room that it has. A caller says once, as a `Shape`, what is drawn of an item; then
+//! Each function adds exactly the bytes of a tree of elements that a definition names. What a label
+//! shows is cut to the room that it has. A caller says once, as a `Shape`, what is drawn of an item; then
 //! `append_each` draws the items of a list, one after another. If a function fails, a beginning of
 //! what it was to add may have been added. Only the `Vec` and the words of a label allocate.
 //!
@@ -26,6 +26,7 @@
 mod cuts;
 mod images;
 mod labels;
+pub mod laws;
 mod places;
 mod samples;
 mod shapes;

@@ -1,4 +1,4 @@
-//! The fixed words and sizes of labels: of no contract.
+//! The fixed words and sizes of labels.
 
 /// Nothing stands farther right or down.
 pub(crate) const FARTHEST: u64 = 1_000_000_000_000_000_000;

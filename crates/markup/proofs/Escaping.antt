@@ -9,8 +9,9 @@ use Rattle.std.proofs.lemmas.Fmt.{decimal_by_steps}
 use Rattle.std.proofs.lemmas.Grind.{flat_map-append}
 use Rattle.std.proofs.lemmas.List.Folds.{list_all-append}
 use Rattle.std.proofs.lemmas.Str.{chars-IsAscii, chars-append}
-use Rattle.std.proofs.lemmas.Str.Ascii.{IsAscii-nil, IsAscii-cons}
-use Rattle.markup.specs.Escapes.{escaped, escaped_char, is_between, is_markup, is_plain}
+use Rattle.sentences.specs.Hidden.{is_between}
+use Rattle.sentences.proofs.Bytes.{all_ascii}
+use Rattle.markup.specs.Escapes.{escaped, escaped_char, is_markup, is_plain}
 use Rattle.markup.specs.Markup.{all_tenths_text, tenths_text}
 
 -- the bytes are that one
@@ -41,13 +42,6 @@ plain_char b e =
     let none : escapes_plain b ≡ false = agree_below_at escapes_plain (λ _. false) 127 b refl (below_127 b e) in
     let alone : not (is_alone b (escaped_char b)) ≡ false = sym (ap (λ (p : Bool). p && not (is_alone b (escaped_char b))) e) ∙ none in
     from_alone b (escaped_char b) (not-false _ alone)
-
--- bytes that are all below 127 are ASCII
-pub all_ascii : (p : ℕ → Bool) → ((b : ℕ) → p b ≡ true → b < 127) → (bs : List ℕ) → list_all p bs ≡ true → IsAscii bs
-all_ascii p below [] e = IsAscii-nil
-all_ascii p below (b ∷ bs) e =
-    let parts = and_parts (p b) (list_all p bs) e in
-    IsAscii-cons b bs (omega (arith, below b parts.0)) (all_ascii p below bs parts.1)
 
 pub plain_ascii : (bs : List ℕ) → list_all is_plain bs ≡ true → IsAscii bs
 plain_ascii bs e = all_ascii is_plain below_127 bs e

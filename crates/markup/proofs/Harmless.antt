@@ -1,5 +1,5 @@
 -- An escaped text has no markup but escapes.
-use Rattle.std.proofs.Common.{ℕ, ◌≡◌, ◌+◌, ◌/◌, ◌%◌, ◌<◌, ◌≤◌, Bool, true, false, not, ◌&&◌, ◌||◌, ◌==◌, cond, nat_lt, List, []}
+use Rattle.std.proofs.Common.{ℕ, ◌≡◌, ◌+◌, ◌/◌, ◌<◌, ◌≤◌, Bool, true, false, not, ◌&&◌, ◌||◌, ◌==◌, cond, nat_lt, List, []}
 use Rattle.std.proofs.Common.{◌∷◌, ◌++◌, flat_map, chars, codes, inl, inr, refl, ◌∙◌, arith}
 use lib.Utf8.{encode, next}
 use Rattle.std.specs.Prelude.{if◌then◌else◌}
@@ -8,8 +8,9 @@ use Rattle.std.specs.List.{list_all}
 use Rattle.std.proofs.lemmas.Bool.{agree_below_at, and_parts, and_from, cases_lt, ne_eqb, le-ltb, false≢true}
 use Rattle.std.proofs.lemmas.List.Folds.{list_all-append}
 use Rattle.std.proofs.lemmas.Str.{encode_ascii}
-use Rattle.markup.specs.Escapes.{escaped, escaped_char, shown_char, number_escape, is_hidden, is_markup, is_harmless, ends_escape}
-use Rattle.markup.specs.Escapes.{ampersands_escape}
+use Rattle.sentences.specs.Hidden.{shown_char, number_escape, is_hidden}
+use Rattle.sentences.proofs.Bytes.{numbered_all, weaker}
+use Rattle.markup.specs.Escapes.{escaped, escaped_char, is_markup, is_harmless, ends_escape, ampersands_escape}
 
 -- the byte is no part of markup
 abbrev is_calm : ℕ → Bool
@@ -53,15 +54,6 @@ encoded_calm c calm = elim (cases_lt c 128) [
 hex_calm : (d : ℕ) → d < 16 → is_calm (digit_char d) ≡ true
 hex_calm d small = agree_below_at (λ n. is_calm (digit_char n)) (λ _. true) 16 d refl small
 
--- what holds of `\u` and of each hexadecimal digit holds of a character's number
-pub numbered_all : (p : ℕ → Bool) → p 92 ≡ true → p 117 ≡ true → ((d : ℕ) → d < 16 → p (digit_char d) ≡ true) → (c : ℕ)
-    → list_all p (number_escape c) ≡ true
-numbered_all p mark u hex c =
-    and_from _ _ mark (and_from _ _ u
-    (and_from _ _ (hex (c / 4096 % 16) (omega arith))
-    (and_from _ _ (hex (c / 256 % 16) (omega arith))
-    (and_from _ _ (hex (c / 16 % 16) (omega arith)) (and_from _ _ (hex (c % 16) (omega arith)) refl)))))
-
 shown_calm : (c : ℕ) (hidden : Bool) → is_markup c ≡ false → list_all is_calm (if hidden then number_escape c else encode c) ≡ true
 shown_calm c true calm = numbered_all is_calm refl refl hex_calm c
 shown_calm c false calm = encoded_calm c calm
@@ -95,11 +87,6 @@ by_kind : (P : List ℕ → Type 0) → P (codes "&amp;") → P (codes "&lt;") �
     → P (codes "&#39;") → ((bs : List ℕ) → list_all is_calm bs ≡ true → P bs) → (c : ℕ) → P (escaped_char c)
 by_kind P amp lt gt quot apostrophe calm c =
     by_escape P amp lt gt quot apostrophe c (λ none. calm (shown_char c) (shown_calm c (is_hidden c) none))
-
--- what each byte of the one kind is, all are
-pub weaker : (p q : ℕ → Bool) → ((b : ℕ) → p b ≡ true → q b ≡ true) → (bs : List ℕ) → list_all p bs ≡ true → list_all q bs ≡ true
-weaker p q each [] e = refl
-weaker p q each (b ∷ bs) e = let parts = and_parts (p b) (list_all p bs) e in and_from _ _ (each b parts.0) (weaker p q each bs parts.1)
 
 drop_first : (a b c d e : Bool) → not (a || b || c || d || e) ≡ true → not (b || c || d || e) ≡ true
 drop_first true b c d e h = absurd (false≢true h)

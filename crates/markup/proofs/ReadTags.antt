@@ -11,7 +11,8 @@ use Rattle.markup.specs.Names.{attribute_name, element_name}
 use Rattle.markup.specs.Markup.{Markup, nothing, text, line_end, empty, element, both, NamedText, attribute_text, element_tag}
 use Rattle.markup.specs.Markup.{opening_tag, closing_tag, lone_tag, rendered, page_text}
 use Rattle.markup.specs.PageTags.{Reading, between, within, after_byte, reading_of, page_tags}
-use Rattle.markup.proofs.Harmless.{weaker, escaped_harmless}
+use Rattle.sentences.proofs.Bytes.{weaker}
+use Rattle.markup.proofs.Harmless.{escaped_harmless}
 use Rattle.markup.proofs.NamesAreWords.{is_word, is_word_byte, element_is_word, attribute_is_word}
 
 -- no greater-than sign: the byte ends no tag;  no less-than sign: it begins none

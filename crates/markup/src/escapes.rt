@@ -1,10 +1,10 @@
 //! Texts, escaped so that they stay texts.
 ghost use Rattle.std.specs.Prelude.{◌≡◌, ◌++◌, IfSome, None, OnOk};
 ghost use Rattle.std.specs.List.{list_all};
-ghost use Rattle.markup.specs.Escapes.{escaped, escaped_char, is_hidden, is_plain};
-ghost use Rattle.markup.specs.Escapes.{moves_text, number_escape, shown_char};
+ghost use Rattle.sentences.specs.Hidden.{shown_char};
+ghost use Rattle.markup.specs.Escapes.{escaped, escaped_char, is_plain};
 
-use sentences::{append, hex_digit};
+use sentences::{append, append_shown};
 use tag::Memory;
 
 /// Whether the byte is a whole character that stands for itself.
@@ -19,42 +19,6 @@ fn is_plain(text: &str) -> bool
     ensures { result ≡ list_all is_plain text.now }
 {
     text.as_bytes().iter().all(|byte| is_plain_byte(*byte))
-}
-
-/// Whether the character breaks a line, or turns the direction in which text is shown.
-fn moves_text(c: char) -> bool
-    ensures { result ≡ moves_text c }
-{
-    matches!(c, '\u{61c}' | '\u{200e}'..='\u{200f}')
-        || matches!(c, '\u{2028}'..='\u{202e}' | '\u{2066}'..='\u{2069}')
-}
-
-/// Whether the character is not shown as it is.
-fn is_hidden(c: char) -> bool
-    ensures { result ≡ is_hidden c }
-{
-    c.is_control() || moves_text(c) || matches!(c, '\u{fffe}'..='\u{ffff}')
-}
-
-/// Adds the character by its number.
-fn append_numbered(page: &mut Vec<u8>, c: char) -> Result<(), Memory>
-    ensures { OnOk result (page.new.items ≡ page.old.items ++ number_escape c) }
-{
-    let code = u32::from(c);
-    let digit = |place: u32| hex_digit((code / place % 16) as u8);
-    page.extend_from_slice(&[b'\\', b'u', digit(4096), digit(256), digit(16), digit(1)])?;
-    Ok(())
-}
-
-/// Adds a character that isn't part of markup.
-fn append_shown(page: &mut Vec<u8>, c: char) -> Result<(), Memory>
-    ensures { OnOk result (page.new.items ≡ page.old.items ++ shown_char c) }
-{
-    if is_hidden(c) {
-        append_numbered(page, c)
-    } else {
-        append(page, c.encode_utf8(&mut [0; 4]))
-    }
 }
 
 /// The escape of a character that could be part of markup.

@@ -2,7 +2,8 @@
 ghost use Rattle.std.specs.Prelude.{ℕ, ◌≡◌, true, List, [], ◌∷◌, Some, chars, codes, fold};
 ghost use Rattle.std.specs.List.{list_all};
 ghost use Rattle.std.specs.Str.{IsUtf8};
-ghost use Rattle.markup.specs.Escapes.{ampersands_escape, escaped, is_harmless, is_plain, is_shown};
+ghost use Rattle.sentences.specs.Hidden.{is_shown};
+ghost use Rattle.markup.specs.Escapes.{ampersands_escape, escaped, is_harmless, is_plain};
 ghost use Rattle.markup.specs.Markup.{Markup, page_text};
 ghost use Rattle.markup.specs.PageTags.{after_tag, between, reading_of, page_tags};
 

@@ -1,1 +1,4 @@
 pub mod Appending
+pub mod Bytes
+pub mod Shown
+mod Hiding

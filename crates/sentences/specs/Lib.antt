@@ -1,1 +1,2 @@
+pub mod Hidden
 pub mod Words

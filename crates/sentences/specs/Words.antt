@@ -1,8 +1,9 @@
 -- What sentences are made of: numbers, tags, and values as JSON texts.
 use Rattle.std.specs.Prelude.{ℕ, ◌/◌, ◌%◌, List, [], ◌∷◌, ◌++◌, Option, Some, None, cond, nat_lt}
 use Rattle.std.specs.Prelude.{chars, codes, decimal, flat_map}
-use Rattle.std.specs.Char.{digit_char, encode_utf8, is_control}
+use Rattle.std.specs.Char.{digit_char}
 use Rattle.json.specs.Print.{escape_letter}
+use Rattle.sentences.specs.Hidden.{shown_char}
 use Rattle.tag.specs.Tags.{Tag}
 
 -- words and then a number
@@ -18,10 +19,9 @@ tag_text tag =
 abbrev pub control_escape : ℕ → List ℕ
 control_escape c = codes "\\u00" ++ digit_char (c / 16) ∷ digit_char (c % 16) ∷ []
 
--- a character in a JSON text: each control character, `"` and `\` as its escape, others as they are
+-- a character in a JSON text: `"`, `\` and each hidden character as its escape, others as they are
 unfoldable pub char_text : ℕ → List ℕ
-char_text c = cond (nat_lt 0 (escape_letter c)) (codes "\\" ++ escape_letter c ∷ [])
-    (cond (is_control c) (control_escape c) (encode_utf8 c))
+char_text c = cond (nat_lt 0 (escape_letter c)) (codes "\\" ++ escape_letter c ∷ []) (shown_char c)
 
 -- a text as a JSON text
 abbrev pub quoted_text : List ℕ → List ℕ

@@ -3,6 +3,7 @@ ghost use Rattle.std.specs.Prelude.{◌≡◌, ◌<◌, ◌++◌, OnOk};
 ghost use Rattle.std.specs.Char.{digit_char};
 ghost use Rattle.sentences.specs.Words.{char_text, control_escape, quoted_text};
 
+use crate::hidden::append_shown;
 use crate::words::append;
 use tag::Memory;
 
@@ -41,13 +42,12 @@ fn append_char(text: &mut Vec<u8>, letter: char) -> Result<(), Memory>
         '\n' => append(text, "\\n"),
         '\r' => append(text, "\\r"),
         '\t' => append(text, "\\t"),
-        _ if letter.is_control() => append_control(text, u32::from(letter) as u8),
-        _ => append(text, letter.encode_utf8(&mut [0; 4])),
+        _ => append_shown(text, letter),
     }
 }
 
-/// Adds the text as a JSON text: a control character in it, also one past ASCII, stands as its
-/// escape.
+/// Adds the text as a JSON text: a control character in it, also one past ASCII, and one that moves
+/// other text stand as their escapes.
 pub fn append_quoted(text: &mut Vec<u8>, value: &str) -> Result<(), Memory>
     ensures { OnOk result (text.new.items ≡ text.old.items ++ quoted_text value.now) }
 {
