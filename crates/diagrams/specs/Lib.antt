@@ -1,4 +1,5 @@
 pub mod Layout
+pub mod Readable
 pub mod Words
 pub mod Lifelines
 pub mod Rows

@@ -4,8 +4,9 @@
 //! The diagram is of the scene: each function adds exactly the bytes of a tree of elements that a
 //! definition makes of the scene. An arrow goes from the row where it begins to the row where it
 //! ends; since each step begins at most one, no two words of messages stand over one another.
-//! Sizes, colours and words are of no contract; they stand in `sizes.rt` and `style.rt`. A diagram
-//! takes time in proportion to what it shows, times the logarithm of the number of clients.
+//! Its sizes, words and names of classes stand in `sizes.rt` and `style.rt`; the laws say what has to
+//! hold of them, as that columns go from left to right. Colours are of no contract. A diagram takes
+//! time in proportion to what it shows, times the logarithm of the number of clients.
 #![tactic(auto, unfolding(markup::specs::Markup::rendered))]
 
 mod arrows;

@@ -1,4 +1,4 @@
-//! The names of classes, words and colours of a diagram: of no contract, all in this file.
+//! The names of classes and the words of a diagram, all in this file. What has to hold of them the laws say.
 
 // ---- names of classes
 

@@ -2,3 +2,4 @@ pub mod Counts
 pub mod Finding
 pub mod Rendering
 pub mod Rows
+mod Readable

@@ -4,13 +4,13 @@ use Rattle.std.specs.List.{slice_get}
 use Rattle.std.specs.List.Sorted.{IsNonDecreasing, IsStrictlyIncreasing}
 use Rattle.std.proofs.lemmas.Bool.Decides.{nat_tests}
 use Rattle.std.proofs.lemmas.List.Kept.{AllPairs-from_increasing}
-use Rattle.std.proofs.lemmas.List.Sums.{sum_by-cons}
+use Rattle.std.proofs.lemmas.List.Sums.{count_by-le-length, sum_by-cons}
 use Rattle.std.proofs.lemmas.Option.{same_Some, slice_get_within, get_or_from_slice_get}
 use Rattle.tag.proofs.Options.{none_some}
 use Rattle.scenes.specs.declared.scene.Dot.{Dot}
 use Rattle.scenes.specs.declared.scene.Scene.{Scene}
 use Rattle.labels.proofs.Counts.{below, not_below}
-use Rattle.pictures.specs.Layout.{HasRowsInOrder, IsInOrder, row_of_dot, row_of_place}
+use Rattle.pictures.specs.Layout.{HasRowsInOrder, IsInOrder, row_of_dot, row_of_place, rows_of}
 use Rattle.pictures.proofs.Counts.{mapped_not_falling}
 
 up_to : (m n : ℕ) → m ≤ n → nat_le m n ≡ true
@@ -126,6 +126,35 @@ module _ (scene : Scene) (ordered : IsInOrder scene) where
       in
       omega (arith, ticks)
 
+  -- a dot stands in no row above that of an earlier place, or of its own
+  pub dot_not_above : (j p : ℕ) (d : Dot) → slice_get scene.dots.items j ≡ Some d → p ≤ d.place → row_of_place scene p ≤ row_of_dot scene j d.place
+  dot_not_above j p d at_j le =
+      let ticks = count_less (λ (t : ℕ). nat_lt t p) (λ (t : ℕ). nat_le t d.place)
+      (λ t is. up_to t d.place (let h = from_below t p is in omega (arith, h, le))) scene.ticks.items
+      in
+      let dots = count_at_most (λ (x : Dot). nat_lt x.place p) scene.dots.items j (λ k y later at_k.
+      not_below y.place p (let rise = dots_rise scene.dots.items ordered.dots j k d y later at_j at_k in omega (arith, rise, le)))
+      in
+      omega (arith, ticks, dots)
+
+  -- and above that of a later place
+  pub dot_above_place : (j p : ℕ) (d : Dot) → slice_get scene.dots.items j ≡ Some d → d.place < p → row_of_dot scene j d.place < row_of_place scene p
+  dot_above_place j p d at_j less =
+      let ticks = count_less (λ (t : ℕ). nat_le t d.place) (λ (t : ℕ). nat_lt t p)
+      (λ t is. below t p (let h = from_up_to t d.place is in omega (arith, h, less))) scene.ticks.items
+      in
+      let dots = count_at_least (λ (x : Dot). nat_lt x.place p) scene.dots.items j d at_j (λ k y earlier at_k.
+      below y.place p (let rise = dots_rise scene.dots.items ordered.dots k j y d earlier at_k at_j in omega (arith, rise, less)))
+      in
+      omega (arith, ticks, dots)
+
+  -- and within the rows
+  pub dot_within_rows : (j : ℕ) (d : Dot) → slice_get scene.dots.items j ≡ Some d → row_of_dot scene j d.place < rows_of scene
+  dot_within_rows j d at_j =
+      let ticks = count_by-le-length (λ (t : ℕ). nat_le t d.place) scene.ticks.items in
+      let within = slice_get_within scene.dots.items j d at_j in
+      omega (arith, ticks, within)
+
   tick_above_dot : (i j p : ℕ) (d : Dot) → slice_get scene.ticks.items i ≡ Some p → slice_get scene.dots.items j ≡ Some d → p ≤ d.place
       → row_of_place scene p < row_of_dot scene j d.place
   tick_above_dot i j p d at_i at_j le =
@@ -140,14 +169,7 @@ module _ (scene : Scene) (ordered : IsInOrder scene) where
 
   dot_above_tick : (i j p : ℕ) (d : Dot) → slice_get scene.ticks.items i ≡ Some p → slice_get scene.dots.items j ≡ Some d → d.place < p
       → row_of_dot scene j d.place < row_of_place scene p
-  dot_above_tick i j p d at_i at_j less =
-      let ticks = count_less (λ (t : ℕ). nat_le t d.place) (λ (t : ℕ). nat_lt t p)
-      (λ t is. below t p (let h = from_up_to t d.place is in omega (arith, h, less))) scene.ticks.items
-      in
-      let dots = count_at_least (λ (x : Dot). nat_lt x.place p) scene.dots.items j d at_j (λ k y earlier at_k.
-      below y.place p (let rise = dots_rise scene.dots.items ordered.dots k j y d earlier at_k at_j in omega (arith, rise, less)))
-      in
-      omega (arith, ticks, dots)
+  dot_above_tick i j p d at_i at_j less = dot_above_place j p d at_j less
 
   pub rows_in_order : HasRowsInOrder scene
   rows_in_order = record {

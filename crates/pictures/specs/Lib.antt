@@ -3,6 +3,7 @@ pub mod Words
 pub mod Ground
 pub mod Dots
 pub mod Frames
+pub mod Readable
 pub mod Texts
 pub mod Pictures
 pub mod Tables

@@ -3,9 +3,10 @@
 //! Time goes down: each client has a column, each place at which a shown call begins, is noted or
 //! is answered has a row, and each linearization point has a row of its own, so that no words stand
 //! over others. The page is of the scene: each function adds exactly the bytes of a tree of
-//! elements that a definition makes of the scene and the calls. Sizes, colours and words of a page
-//! are of no contract; they stand in `sizes.rt` and `style.rt`. A picture takes time in proportion
-//! to what it shows, times the logarithm of that and of the key's calls.
+//! elements that a definition makes of the scene and the calls. Its sizes, words and names of classes
+//! stand in `sizes.rt` and `style.rt`; the laws say what has to hold of them, as that a dot stands on
+//! its bar. Colours are of no contract. A picture takes time in proportion to what it shows, times
+//! the logarithm of that and of the key's calls.
 #![tactic(auto, unfolding(markup::specs::Markup::rendered))]
 
 mod bars;

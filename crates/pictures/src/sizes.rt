@@ -1,4 +1,4 @@
-//! The sizes of a picture, in pixels: of no contract, all in this file.
+//! The sizes of a picture, in pixels, all in this file. What has to hold of them the laws say.
 
 /// The height of a row.
 pub(crate) const ROW: u64 = 20;

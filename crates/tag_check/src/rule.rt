@@ -1,6 +1,7 @@
 //! What a check answers.
-ghost use Rattle.std.specs.Prelude.{◌≡◌};
+ghost use Rattle.std.specs.Prelude.{◌≡◌, Some};
 ghost use Rattle.tag_check.specs.Numbers.{broken_rule_number};
+ghost use Rattle.tag_check.specs.Texts.{broken_rule_text};
 
 use std::fmt;
 use tag::OpId;
@@ -44,6 +45,8 @@ impl BrokenRule {
 }
 
 impl fmt::Display for BrokenRule {
+    ghost output = { λ rule. Some (broken_rule_text rule) };
+
     fn fmt<W: fmt::Write>(&self, f: &mut fmt::Formatter<W>) -> fmt::Result {
         match self {
             BrokenRule::NoNote(call) => {

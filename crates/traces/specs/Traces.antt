@@ -43,9 +43,13 @@ finish_words number name = line_head number ++ numbered (codes "finish ") name
 unfoldable pub finish_line : ℕ → ℕ → List ℕ
 finish_line number name = finish_words number name ++ codes ":\n"
 
+-- one step, or several
+abbrev pub steps_word : ℕ → List ℕ
+steps_word count = if count == 1 then codes " step\n" else codes " steps\n"
+
 -- the line below the steps that completed a client's call: how many there were
 unfoldable pub finished_line : ℕ → List ℕ
-finished_line count = numbered (codes "  took ") count ++ codes " steps\n"
+finished_line count = numbered (codes "  took ") count ++ steps_word count
 
 -- the line of a call that can't be completed
 unfoldable pub unfinished_line : ℕ → ℕ → SettleError → List ℕ

@@ -35,7 +35,7 @@ fn append_finished(text: &mut Vec<u8>, count: u32) -> Result<(), Memory>
     ensures { OnOk result (text.new.items ≡ text.old.items ++ finished_line count) }
 {
     append_number(text, "  took ", u64::from(count))?;
-    append(text, " steps\n")
+    append(text, if count == 1 { " step\n" } else { " steps\n" })
 }
 
 /// Adds the line above random steps.

@@ -1,0 +1,93 @@
+-- Dots stand on their bars, bars in their columns and texts in their bars.
+use Rattle.std.proofs.Common.{ℕ, ◌≡◌, ◌<◌, ◌≤◌, ◌+◌, ◌-◌, ◌*◌, ◌/◌, ◌∙◌, min, max, length, Option, Some, None, ap, refl, arith}
+use Rattle.std.specs.List.{slice_get}
+use Rattle.std.proofs.Math.Nat.{le-max_right}
+use Rattle.labels.specs.Places.{farthest}
+use Rattle.labels.proofs.Standing.{near_is, nearer, one_step, stays_before}
+use Rattle.scenes.specs.declared.scene.Bar.{Bar}
+use Rattle.scenes.specs.declared.scene.Dot.{Dot}
+use Rattle.scenes.specs.declared.scene.Scene.{Scene}
+use Rattle.scenes.specs.Scenes.{IsPlaceIn}
+use Rattle.pictures.specs.declared.sizes.TheConstants.{BAR_FOOT, BAR_LEFT, BAR_MARGINS, BAR_TOP, COLUMNS, DOT_LEFT, DOT_RADIUS, FLOOR}
+use Rattle.pictures.specs.declared.sizes.TheConstants.{MIDDLE, NARROWEST, ROW, TEXT_LEFT, WIDEST}
+use Rattle.pictures.specs.Dots.{dot_x, dot_y, lane_or_first}
+use Rattle.pictures.specs.Frames.{bottom_of, frame_of}
+use Rattle.pictures.specs.Layout.{IsInOrder, across, column_width, down, row_of_dot, row_of_place, rows_of}
+use Rattle.pictures.specs.Readable.{HasCircle, HasTexts, IsWithinReach}
+use Rattle.pictures.proofs.Rows.{dot_above_place, dot_not_above, dot_within_rows}
+
+-- a column is at least so wide
+pub wide : (scene : Scene) → NARROWEST ≤ column_width scene
+wide scene = le-max_right (min (COLUMNS / max (length scene.lanes.items) 1) WIDEST) NARROWEST
+
+pub rows_down : (start i j : ℕ) → i < j → down start j < farthest → down start i < down start j
+rows_down start i j less near =
+    let step = one_step i j ROW less in
+    stays_before (start + i * ROW) (start + j * ROW) farthest (omega (arith, step)) near
+
+pub columns_right : (scene : Scene) (start i j : ℕ) → i < j → across scene start j < farthest → across scene start i < across scene start j
+columns_right scene start i j less near =
+    let w = column_width scene in
+    let step = one_step i j w less in
+    stays_before (start + i * w) (start + j * w) farthest (omega (arith, step, wide scene)) near
+
+pub bars_right : (scene : Scene) (bar next : Bar) → bar.lane < next.lane → (frame_of scene next).left < farthest
+    → (frame_of scene bar).right < (frame_of scene next).left
+bars_right scene bar next less near =
+    let w = column_width scene in
+    let step = one_step bar.lane next.lane w less in
+    stays_before (BAR_LEFT + (w - BAR_MARGINS) + bar.lane * w) (BAR_LEFT + next.lane * w) farthest (omega (arith, step, wide scene)) near
+
+-- where the sides of a bar stand that ends before the farthest place, and what stands between them
+module _ (scene : Scene) (lane : ℕ) (near : across scene (BAR_LEFT + (column_width scene - BAR_MARGINS)) lane < farthest) where
+  abbrev right_end : ℕ
+  right_end = BAR_LEFT + (column_width scene - BAR_MARGINS) + lane * column_width scene
+
+  right_is : across scene (BAR_LEFT + (column_width scene - BAR_MARGINS)) lane ≡ right_end
+  right_is = nearer right_end farthest near
+
+  inside_is : (start : ℕ) → start + lane * column_width scene ≤ right_end → across scene start lane ≡ start + lane * column_width scene
+  inside_is start le = near_is (start + lane * column_width scene) farthest (omega (arith, le, near, right_is))
+
+pub texts_inside : (scene : Scene) (bar : Bar) → IsWithinReach (frame_of scene bar) → HasTexts scene bar
+texts_inside scene bar reach =
+    let w = column_width scene in
+    let right = right_is scene bar.lane reach.right in
+    let left = inside_is scene bar.lane reach.right BAR_LEFT (omega (arith, wide scene)) in
+    let text = inside_is scene bar.lane reach.right TEXT_LEFT (omega (arith, wide scene)) in
+    record { left = omega (arith, left, text); right = omega (arith, right, text, wide scene) }
+
+module _ (scene : Scene) (ordered : IsInOrder scene) (index : ℕ) (d : Dot) (at : slice_get scene.dots.items index ≡ Some d) where
+  -- a dot stands above the bottom of its bar
+  above_bottom : (ends : Option ℕ) → ((end : ℕ) → ends ≡ Some end → d.place < end) → bottom_of scene ends < farthest
+      → MIDDLE + row_of_dot scene index d.place * ROW + DOT_RADIUS < bottom_of scene ends
+  above_bottom None before near =
+      let bottom = nearer (FLOOR + rows_of scene * ROW) farthest near in
+      let within = one_step (row_of_dot scene index d.place) (rows_of scene) ROW (dot_within_rows scene ordered index d at) in
+      omega (arith, bottom, within)
+  above_bottom (Some end) before near =
+      let bottom = nearer (BAR_FOOT + row_of_place scene end * ROW) farthest near in
+      let within = one_step (row_of_dot scene index d.place) (row_of_place scene end) ROW
+      (dot_above_place scene ordered index end d at (before end refl)) in
+      omega (arith, bottom, within)
+
+  pub dot_on_bar : (bar : Bar) → slice_get scene.bars.items d.bar ≡ Some bar → IsPlaceIn bar d.place → IsWithinReach (frame_of scene bar)
+      → HasCircle (frame_of scene bar) (dot_x scene d) (dot_y scene index d)
+  dot_on_bar bar on within reach =
+      let row = row_of_dot scene index d.place in
+      let w = column_width scene in
+      let foot = above_bottom bar.ends within.1 reach.bottom in
+      let y : dot_y scene index d ≡ MIDDLE + row * ROW = near_is (MIDDLE + row * ROW) farthest (omega (arith, foot, reach.bottom)) in
+      let below = dot_not_above scene ordered index bar.begins d at within.0 in
+      let top : (frame_of scene bar).top ≡ BAR_TOP + row_of_place scene bar.begins * ROW =
+      near_is (BAR_TOP + row_of_place scene bar.begins * ROW) farthest (omega (arith, foot, reach.bottom, below)) in
+      let right = right_is scene bar.lane reach.right in
+      let left = inside_is scene bar.lane reach.right BAR_LEFT (omega (arith, wide scene)) in
+      let x : dot_x scene d ≡ DOT_LEFT + bar.lane * w =
+      ap (λ (l : ℕ). across scene DOT_LEFT l) (ap lane_or_first on) ∙ inside_is scene bar.lane reach.right DOT_LEFT (omega (arith, wide scene)) in
+      record {
+        left = omega (arith, left, x);
+        right = omega (arith, right, x, wide scene);
+        top = omega (arith, top, y, below);
+        bottom = omega (arith, foot, y);
+      }
