@@ -8,8 +8,11 @@ mod progress;
 use crate::faults::explain_faults;
 use crate::names::FileName;
 use crate::progress::{Progress, SharedProgress};
-use cli::{Counting, Failure, Source, Status, check_command, justify_command, simulate_command};
-use command_line::{CheckAsked, Command, DrawAsked, KeysAsked, Usage, command};
+use cli::{
+    Counting, Ending, Failure, Source, Status, check_command, justify_command, simulate_command,
+    usage_command,
+};
+use command_line::{CheckAsked, Command, DrawAsked, KeysAsked, command};
 use draw_command::Drawn;
 use explain_command::{Presentation, Selection, judge_orders_command, judge_tags_command};
 use run_command::{KeyWatch, NoWatch, Watch, run_command};
@@ -21,14 +24,6 @@ use std::sync::Wait;
 use std::thread::Threads;
 use std::{env, fs};
 use trace_command::{trace_command, trace_page_command};
-
-/// What a page of a trace draws of the history of its run: what `abd draw` draws without options.
-const RUN_PICTURES: Drawn<'static> = Drawn {
-    key: None,
-    most: 20,
-    calls: 200,
-    around: None,
-};
 
 /// A file that was opened, whose failures are counted.
 type Opened<'a> = Source<'a, Counting<File>>;
@@ -42,26 +37,6 @@ type Errors = Counting<Stderr>;
 /// Says the failure on standard error. Its status.
 fn fail(rt: &HostRuntime, failure: Failure<'_>) -> Status {
     failure.report(&mut Counting::new(rt.stderr()))
-}
-
-/// Shows the help or the version that was asked for.
-fn show(rt: &HostRuntime, text: &str) -> Status {
-    match rt.print(text) {
-        Ok(()) => Status::Good,
-        Err(_) => fail(rt, Failure::Output),
-    }
-}
-
-/// Says why the words make no command.
-fn refuse(rt: &HostRuntime, usage: Usage) -> Status {
-    match usage {
-        Usage::Help(text) | Usage::Version(text) => show(rt, text.as_str()),
-        Usage::Fault(text) => {
-            let _ = rt.eprint(text.as_str());
-            Status::Usage
-        }
-        Usage::Memory => fail(rt, Failure::Memory),
-    }
 }
 
 /// Opens the file. If it can't be opened, says so; the status then.
@@ -78,20 +53,20 @@ fn outputs(rt: &HostRuntime) -> (Out, Errors) {
 }
 
 /// Opens the file, and runs the command on it.
-fn on_file<F>(rt: &HostRuntime, name: &str, run: F) -> Status
+fn on_file<F>(rt: &HostRuntime, name: &str, run: F) -> Ending
 where
     F: FnOnce(&mut Opened<'_>, &mut Out, &mut Errors) -> Status,
     requires { F.IsAlwaysCallable run }
 {
     let Ok(name) = FileName::new(rt, name) else {
-        return fail(rt, Failure::Memory);
+        return Ending::NotRun(fail(rt, Failure::Memory));
     };
     match open(rt, &name) {
         Ok(mut file) => {
             let (mut out, mut errors) = outputs(rt);
-            run(&mut file, &mut out, &mut errors)
+            Ending::Ran(run(&mut file, &mut out, &mut errors))
         }
-        Err(status) => status,
+        Err(status) => Ending::NotRun(status),
     }
 }
 
@@ -112,20 +87,20 @@ fn open_both<'a>(
 }
 
 /// Opens both files before either is read, and runs the command on them.
-fn on_both<F>(rt: &HostRuntime, history: &str, orders: &str, run: F) -> Status
+fn on_both<F>(rt: &HostRuntime, history: &str, orders: &str, run: F) -> Ending
 where
     F: for<'a> FnOnce(&mut Opened<'a>, &mut Opened<'a>, &mut Out, &mut Errors) -> Status,
     requires { F.IsAlwaysCallable run }
 {
     let (Ok(history), Ok(orders)) = (FileName::new(rt, history), FileName::new(rt, orders)) else {
-        return fail(rt, Failure::Memory);
+        return Ending::NotRun(fail(rt, Failure::Memory));
     };
     match open_both(rt, &history, &orders) {
         Ok((mut history, mut orders)) => {
             let (mut out, mut errors) = outputs(rt);
-            run(&mut history, &mut orders, &mut out, &mut errors)
+            Ending::Ran(run(&mut history, &mut orders, &mut out, &mut errors))
         }
-        Err(status) => status,
+        Err(status) => Ending::NotRun(status),
     }
 }
 
@@ -134,7 +109,7 @@ fn check(
     rt: &HostRuntime,
     threads: &(impl Threads + Wait + Sync),
     asked: &CheckAsked<'_>,
-) -> Status {
+) -> Ending {
     let (history, orders) = (asked.history, asked.orders);
     let (workers, form) = (asked.workers, asked.form);
     on_both(rt, history, orders, |history, orders, out, errors| {
@@ -143,46 +118,36 @@ fn check(
     })
 }
 
-/// Judges the history's keys by the orders, or without orders by the tags, and shows them so.
+/// Judges the history's keys by the orders, or without orders by the tags, and shows them so. Of a faulty
+/// file it explains what is wrong with it.
 fn judge(
     rt: &HostRuntime,
     threads: &(impl Threads + Sync),
     keys: &KeysAsked<'_>,
     shown: &impl Presentation,
-) -> Status {
-    match keys.orders {
+) -> Ending {
+    let ending = match keys.orders {
         Some(orders) => on_both(rt, keys.history, orders, |history, orders, out, errors| {
             judge_orders_command(threads, rt.alloc(), history, orders, shown, out, errors)
         }),
         None => on_file(rt, keys.history, |history, out, errors| {
             judge_tags_command(threads, rt.alloc(), history, shown, out, errors)
         }),
+    };
+    if ending.has_fault() {
+        explain_faults(rt, threads, keys.history, keys.orders);
     }
+    ending
 }
 
-/// Explains the history's keys; of a faulty file, what is wrong with it.
-fn explain(rt: &HostRuntime, threads: &(impl Threads + Sync), asked: &KeysAsked<'_>) -> Status {
-    let selection = Selection {
-        key: asked.key,
-        most: asked.most,
-    };
-    let status = judge(rt, threads, asked, &selection);
-    if status == Status::Format {
-        explain_faults(rt, threads, asked.history, asked.orders);
-    }
-    status
+/// Explains the history's keys.
+fn explain(rt: &HostRuntime, threads: &(impl Threads + Sync), asked: &KeysAsked<'_>) -> Ending {
+    judge(rt, threads, asked, &Selection::of(asked))
 }
 
 /// Draws the calls of the history's keys.
-fn draw(rt: &HostRuntime, threads: &(impl Threads + Sync), asked: &DrawAsked<'_>) -> Status {
-    let keys = asked.keys;
-    let drawn = Drawn {
-        key: keys.key,
-        most: keys.most,
-        calls: u32::from(asked.calls),
-        around: asked.around.map(u64::from),
-    };
-    judge(rt, threads, &keys, &drawn)
+fn draw(rt: &HostRuntime, threads: &(impl Threads + Sync), asked: &DrawAsked<'_>) -> Ending {
+    judge(rt, threads, &asked.keys, &Drawn::of(asked))
 }
 
 /// Justifies the history, or writes the orders that its tags make.
@@ -191,33 +156,36 @@ fn justify(
     threads: &(impl Threads + Sync),
     history: &str,
     unchecked: bool,
-) -> Status {
+) -> Ending {
     on_file(rt, history, |history, out, errors| {
         justify_command(threads, rt.alloc(), history, unchecked, out, errors)
     })
 }
 
 /// Simulates the script.
-fn simulate(rt: &HostRuntime, threads: &(impl Threads + Sync), script: &str) -> Status {
+fn simulate(rt: &HostRuntime, threads: &(impl Threads + Sync), script: &str) -> Ending {
     on_file(rt, script, |script, out, errors| {
         simulate_command(threads, rt.alloc(), script, out, errors)
     })
 }
 
-/// Tells the script's run, or draws it on a page.
-fn trace(
+/// Tells the script's run.
+fn trace(rt: &HostRuntime, threads: &(impl Threads + Sync), script: &str, most: u32) -> Ending {
+    on_file(rt, script, |script, out, errors| {
+        trace_command(threads, rt.alloc(), script, most, out, errors)
+    })
+}
+
+/// Draws the script's run on a page.
+fn trace_page(
     rt: &HostRuntime,
     threads: &(impl Threads + Sync),
     script: &str,
     most: u32,
-    page: bool,
-) -> Status {
+) -> Ending {
+    let drawn = Drawn::by_default();
     on_file(rt, script, |script, out, errors| {
-        if page {
-            trace_page_command(threads, rt.alloc(), script, most, RUN_PICTURES, out, errors)
-        } else {
-            trace_command(threads, rt.alloc(), script, most, out, errors)
-        }
+        trace_page_command(threads, rt.alloc(), script, most, drawn, out, errors)
     })
 }
 
@@ -290,7 +258,7 @@ where
 }
 
 /// Does what was asked for.
-fn obey<R>(rt: &HostRuntime, threads: &R, asked: &Command<'_>) -> Status
+fn obey<R>(rt: &HostRuntime, threads: &R, asked: &Command<'_>) -> Ending
 where
     R: Threads + Wait + Copy + Send + Sync + 'static,
 {
@@ -300,9 +268,9 @@ where
         Command::Explain(asked) => explain(rt, threads, asked),
         Command::Justify { history, unchecked } => justify(rt, threads, history, *unchecked),
         Command::Simulate { script } => simulate(rt, threads, script),
-        Command::Trace { script, most } => trace(rt, threads, script, *most, false),
-        Command::TracePage { script, most } => trace(rt, threads, script, *most, true),
-        Command::Run(asked) => run(rt, threads, *asked),
+        Command::Trace { script, most } => trace(rt, threads, script, *most),
+        Command::TracePage { script, most } => trace_page(rt, threads, script, *most),
+        Command::Run(asked) => Ending::Ran(run(rt, threads, *asked)),
     }
 }
 
@@ -326,8 +294,11 @@ where
         Err(_) => return fail(rt, Failure::Memory),
     };
     match command(rt.alloc(), words.as_slice()) {
-        Ok(asked) => obey(rt, threads, &asked),
-        Err(usage) => refuse(rt, usage),
+        Ok(asked) => obey(rt, threads, &asked).status(),
+        Err(usage) => {
+            let (mut out, mut errors) = outputs(rt);
+            usage_command(rt.alloc(), usage, &mut out, &mut errors)
+        }
     }
 }
 

@@ -15,3 +15,4 @@ pub mod Reported
 pub mod Noted
 pub mod Prefixes
 pub mod Reading
+mod Sayings

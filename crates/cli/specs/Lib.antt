@@ -12,3 +12,4 @@ pub mod SimulationEndings
 pub mod Statuses
 pub mod TagOrders
 pub mod VerdictLines
+pub mod Usages

@@ -2,6 +2,8 @@
 use Rattle.std.specs.Prelude.{ℕ}
 use Rattle.counted_devices.specs.declared.read_fault.FaultKind.{FaultKind}
 use Rattle.counted_devices.specs.declared.read_fault.FaultKind.TheVariants as kind
+use Rattle.cli.specs.declared.ending.Ending.{Ending}
+use Rattle.cli.specs.declared.ending.Ending.TheVariants as ending
 use Rattle.cli.specs.declared.status.Status.{Status}
 use Rattle.cli.specs.declared.status.Status.TheVariants.{Good, Refused, Usage, Format, Failed}
 use Rattle.cli.specs.declared.status.Failure.{Failure}
@@ -30,3 +32,8 @@ status_of (failure.Script name error) = status_of_kind error.kind
 status_of failure.Output = Failed
 status_of failure.Memory = Failed
 status_of failure.Thread = Failed
+
+-- the status of a command on files, whether it ran or not
+abbrev pub status_of_ending : Ending → Status
+status_of_ending (ending.Ran s) = s
+status_of_ending (ending.NotRun s) = s

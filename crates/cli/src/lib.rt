@@ -6,6 +6,7 @@
 
 mod check;
 mod check_outcome;
+mod ending;
 mod json_lines;
 mod justify;
 mod noted_orders;
@@ -16,11 +17,13 @@ mod sources;
 mod status;
 mod tag_orders;
 mod unchecked;
+mod usage;
 mod verdict_lines;
 
 pub use check::check_command;
 pub use command_line::Lines;
 pub use counted_devices::Counting;
+pub use ending::Ending;
 pub use justify::justify_command;
 pub use noted_orders::{Unjustified, checked_orders};
 pub use outcome::{Made, Outcome, conclude};
@@ -29,4 +32,5 @@ pub use shown_names::{shown_name, shown_names_are_harmless};
 pub use simulate::simulate_command;
 pub use sources::{Source, orders_in};
 pub use status::{Failure, Status, say};
+pub use usage::usage_command;
 pub use verdict_lines::append_line;

@@ -1,5 +1,6 @@
 -- The commands of `abd`, as clap takes them.
 use Rattle.std.specs.Prelude.{ℕ, [], ◌∷◌, Some, pos, true, codes}
+use Rattle.std.specs.Str.Parse.{digits_value}
 use Rattle.clap.specs.Words.{App, Rule, Text, new_app, new_rule, with_rule, with_subcommand}
 use Rattle.clap.specs.declared.builder.action.ArgAction.TheVariants.{SetTrue}
 use Rattle.clap.specs.declared.builder.value_parser.ValueParser.{ValueParser}
@@ -10,6 +11,21 @@ use Rattle.run_options.specs.Options.{run_app}
 -- the most keys that are explained or drawn, and calls or steps that are drawn
 abbrev pub most_shown : ℕ
 most_shown = 10000
+
+-- how many keys are explained or drawn, where the words don't say it
+abbrev pub most_word : Text
+most_word = codes "20"
+
+-- and how many calls of a key are drawn
+abbrev pub calls_word : Text
+calls_word = codes "200"
+
+-- the same as numbers
+abbrev pub default_most : ℕ
+default_most = digits_value 10 most_word
+
+abbrev pub default_calls : ℕ
+default_calls = digits_value 10 calls_word
 
 -- the greatest number of a call, of lines or of steps that may be asked for
 abbrev pub most_asked : ℕ
@@ -54,12 +70,12 @@ check_app = with_rule (with_rule (with_rule (file_app (codes "check") (codes "HI
 abbrev pub keys_app : Text → App
 keys_app name = with_rule (with_rule (with_rule (file_app name (codes "HISTORY"))
     (new_rule (codes "ORDERS"))) (value_option (codes "key")))
-    (number_option (codes "most") (codes "20") (within 0 most_shown))
+    (number_option (codes "most") most_word (within 0 most_shown))
 
 -- abd draw HISTORY [ORDERS] [--key KEY] [--most N] [--calls N] [--around CALL]
 abbrev pub draw_app : App
 draw_app = with_rule (with_rule (keys_app (codes "draw"))
-    (number_option (codes "calls") (codes "200") (within 1 most_shown)))
+    (number_option (codes "calls") calls_word (within 1 most_shown)))
     (any_number_option (codes "around"))
 
 -- abd explain HISTORY [ORDERS] [--key KEY] [--most N]

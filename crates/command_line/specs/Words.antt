@@ -1,7 +1,7 @@
 -- What the words of a command line ask for, by clap's reading of a simple command.
 use Rattle.std.specs.Prelude.{ℕ, ◌≡◌, ◌≤◌, ◌⊎◌, ◌↔◌, Bool, IsTrue, List, []}
 use Rattle.std.specs.Prelude.{Option, Some, None, codes}
-use Rattle.std.specs.Prelude.{MatchOption, min, option_map}
+use Rattle.std.specs.Prelude.{MatchOption, length, min, option_map, string_bytes}
 use Rattle.std.specs.Str.Parse.{IsNumeral, digits_value, without_leading_plus}
 use Rattle.clap.specs.Words.{IsAmong, Row, Text, fault_of, first_of, one_of, subcommand_of}
 use Rattle.clap.specs.declared.error.kind.ErrorKind.{ErrorKind}
@@ -152,6 +152,17 @@ AsksNothing words (usage.Help text) = IsAmong DisplayHelp (fault_of abd_app word
 AsksNothing words (usage.Version text) = IsAmong DisplayVersion (fault_of abd_app words)
 AsksNothing words (usage.Fault text) = AreFaulty words
 AsksNothing words usage.Memory = Unit {0}
+
+-- the text isn't empty
+abbrev pub HasWords : Text → Type 0
+HasWords text = 1 ≤ length text
+
+-- help, the version and faults are answered with words
+abbrev pub IsSaid : Usage → Type 0
+IsSaid (usage.Help text) = HasWords (string_bytes text)
+IsSaid (usage.Version text) = HasWords (string_bytes text)
+IsSaid (usage.Fault text) = HasWords (string_bytes text)
+IsSaid usage.Memory = Unit {0}
 
 -- the answer to an error of clap's that has that kind
 abbrev pub IsUsageOf : ErrorKind → Usage → Type 0

@@ -10,7 +10,7 @@ pub struct CommandHelp {
 }
 
 /// The version that `abd --version` says.
-pub const VERSION: &str = "0.2.0";
+pub const VERSION: &str = "0.3.0";
 
 /// Of `abd`.
 pub const ABD: CommandHelp = CommandHelp {
@@ -56,7 +56,8 @@ Example: abd check examples/two_calls.history examples/two_calls.orders",
 pub const DRAWN_KEY: &str = "The only key to draw";
 
 /// Of the option `--most` of `abd draw`.
-pub const PICTURES: &str = "How many keys have a picture, 0 to 10,000";
+pub const PICTURES: &str =
+    "How many keys have a picture, 0 to 10,000, as far as a page has room: for 20,000 calls";
 
 /// Of the option `--calls`.
 pub const CALLS: &str =
@@ -72,7 +73,7 @@ pub const DRAW: CommandHelp = CommandHelp {
 Writes one page of HTML, for any browser, with all pictures in it: a table of the keys, refused ones first, and \
 for each key a picture with a lane a client and a bar a call, from its invocation to its response. A `yes` has a point \
 in each bar, in the order that shows it; a `no` has its calls marked, below the sentences of `abd explain`. Without \
-ORDERS the orders that the tags make are drawn. HISTORY is of version 1 or 2. One of the files may be /dev/stdin, for \
+ORDERS the orders that the tags make are drawn. Of a faulty file standard error says why, as `abd explain` does. HISTORY is of version 1 or 2. One of the files may be /dev/stdin, for \
 what is piped in.\nExit status: 0 all yes, 1 a key refused or no such key, 2 usage, 3 a file can't be opened or read \
 as its format, 4 memory or a device.\n\n\
 Example: abd draw examples/two_calls.history examples/two_calls.orders > two_calls.html",

@@ -3,8 +3,8 @@ ghost use Rattle.std.specs.Prelude.{◌≡◌, ◌↔◌, IsTrue, codes, IfOk, I
 ghost use Rattle.std.specs.Prelude.{map, option_map, string_bytes};
 ghost use Rattle.clap.specs.Words.{first_of, found_of, kind_of, rows_of, subcommand_rows_of};
 ghost use Rattle.command_line.specs.Words.{Asks, AsksAround, AsksForm, AsksKeys, AsksMost};
-ghost use Rattle.command_line.specs.Words.{AsksNothing, AsksNumber, Finds, GivesFlag, IsUsageOf};
-ghost use Rattle.command_line.specs.Words.{MakesAs, MakesNothing, MakesOf};
+ghost use Rattle.command_line.specs.Words.{AsksNothing, AsksNumber, Finds, GivesFlag, HasWords};
+ghost use Rattle.command_line.specs.Words.{IsSaid, IsUsageOf, MakesAs, MakesNothing, MakesOf};
 ghost use Rattle.command_line.specs.declared.asked.Command.{Command};
 
 use crate::asked::{CheckAsked, Command, DrawAsked, KeysAsked, Usage};
@@ -14,13 +14,25 @@ use clap::error::ErrorKind;
 use clap::{ArgMatches, Error};
 use parallel_keys::Workers;
 use run_options::{RunFault, run_in};
-use std::alloc::Global;
+use std::alloc::{AllocError, Global};
+
+/// The text of an error of clap's; if it were empty, where help is.
+fn text_of(alloc: Global, error: &Error) -> Result<String, AllocError>
+    ensures { IfOk result (λ text. HasWords (string_bytes text)) }
+{
+    let text = error.to_string(alloc)?;
+    if text.as_str().is_empty() {
+        return String::from_str(alloc, "abd: see abd --help\n");
+    }
+    Ok(text)
+}
 
 /// What an error of clap's says.
 fn usage_of(alloc: Global, error: &Error) -> Usage
-    ensures { IsUsageOf (kind_of error.now) result }
+    ensures kind { IsUsageOf (kind_of error.now) result }
+    ensures said { IsSaid result }
 {
-    let Ok(text) = error.to_string(alloc) else {
+    let Ok(text) = text_of(alloc, error) else {
         return Usage::Memory;
     };
     match error.kind() {
@@ -179,9 +191,10 @@ fn trace_in<'a>(matches: &ArgMatches<'a>) -> Option<Command<'a>>
 
 /// `run`, of the words after its name.
 fn asked_run<'a>(alloc: Global, matches: &ArgMatches<'a>) -> Result<Command<'a>, Usage>
-    ensures { MatchResult result (MakesAs (codes "run") (rows_of (found_of matches.now)))
+    ensures makes { MatchResult result (MakesAs (codes "run") (rows_of (found_of matches.now)))
         (MakesNothing ((command : Command)
         → MakesAs (codes "run") (rows_of (found_of matches.now)) command → ⊥)) }
+    ensures said { IfErr result IsSaid }
 {
     match run_in(alloc, matches) {
         Ok(asked) => Ok(Command::Run(asked)),
@@ -190,11 +203,22 @@ fn asked_run<'a>(alloc: Global, matches: &ArgMatches<'a>) -> Result<Command<'a>,
     }
 }
 
+/// The line that says why the words after `run` ask for no load.
+fn run_fault_text(alloc: Global, fault: RunFault) -> Result<String, AllocError>
+    ensures { IfOk result (λ text. HasWords (string_bytes text)) }
+{
+    let mut text = String::from_str(alloc, "abd: ")?;
+    text.push_str(fault.to_string(alloc)?.as_str())?;
+    text.push_str("; see abd run --help\n")?;
+    Ok(text)
+}
+
 /// Says why the words after `run` ask for no load.
 fn fault_of(alloc: Global, fault: RunFault) -> Usage
-    ensures { IsUsageOf ErrorKind.MissingSubcommand result }
+    ensures kind { IsUsageOf ErrorKind.MissingSubcommand result }
+    ensures said { IsSaid result }
 {
-    match format!(in alloc; "abd: {fault}; see abd run --help\n") {
+    match run_fault_text(alloc, fault) {
         Ok(text) => Usage::Fault(text),
         Err(_) => Usage::Memory,
     }
@@ -224,9 +248,10 @@ fn made_in<'a>(name: &str, matches: &ArgMatches<'a>) -> Option<Command<'a>>
 
 /// The command that was met.
 fn command_in<'a>(alloc: Global, matches: &ArgMatches<'a>) -> Result<Command<'a>, Usage>
-    ensures { MatchResult result (MakesOf (subcommand_rows_of matches.now))
+    ensures makes { MatchResult result (MakesOf (subcommand_rows_of matches.now))
         (MakesNothing ((command : Command)
         → MakesOf (subcommand_rows_of matches.now) command → ⊥)) }
+    ensures said { IfErr result IsSaid }
 {
     let Some((name, found)) = matches.subcommand() else {
         return Err(no_command(alloc));
@@ -242,7 +267,8 @@ fn command_in<'a>(alloc: Global, matches: &ArgMatches<'a>) -> Result<Command<'a>
 
 /// Where clap takes the words and they make no command of ours.
 fn no_command(alloc: Global) -> Usage
-    ensures { IsUsageOf ErrorKind.MissingSubcommand result }
+    ensures kind { IsUsageOf ErrorKind.MissingSubcommand result }
+    ensures said { IsSaid result }
 {
     match String::from_str(alloc, "abd: no command; see abd --help\n") {
         Ok(text) => Usage::Fault(text),
@@ -252,11 +278,12 @@ fn no_command(alloc: Global) -> Usage
 
 /// The command that the words, the program's own name first, ask for.
 ///
-/// Help, the version and faults come with a text for people, which ends with a line's end. Help and
-/// the version are answered only where they were asked for, a fault only where the words have one.
+/// Help, the version and faults come with a text for people, never an empty one. Help and the
+/// version are answered only where they were asked for, a fault only where the words have one.
 pub fn command<'a>(alloc: Global, words: &'a [String]) -> Result<Command<'a>, Usage>
     ensures asked { IfOk result (Asks (map string_bytes words.now)) }
     ensures not_asked { IfErr result (AsksNothing (map string_bytes words.now)) }
+    ensures said { IfErr result IsSaid }
 {
     let Ok(abd) = abd_words(alloc) else {
         return Err(Usage::Memory);

@@ -6,3 +6,4 @@ mod SceneOrder
 mod Selected
 mod Content
 pub mod NoRefusal
+mod Fitting

@@ -1,5 +1,5 @@
 -- The selected keys.
-use Rattle.std.proofs.Common.{ℕ, ◌≡◌, Bool, List, Option, All, filter, length, map, option_map, ap, ap₂, subst, sym, ◌∙◌}
+use Rattle.std.proofs.Common.{ℕ, ◌≡◌, List, Option, All, filter, length, map, option_map, ap, ap₂, subst, sym, ◌∙◌}
 use Rattle.std.specs.Borrow.{Bor}
 use Rattle.std.proofs.lemmas.List.{length-map}
 use Rattle.std.proofs.lemmas.List.Elements.{All-filter, All-same}
@@ -7,11 +7,11 @@ use Rattle.parallel_keys.specs.CheckedKeys.{CheckedKey}
 use Rattle.parallel_keys.specs.KeysToCheck.{what_of}
 use Rattle.parallel_keys.specs.declared.collect_keys.KeyToCheck.{KeyToCheck}
 use Rattle.scenes.specs.Points.{AreApart}
-use Rattle.explain_command.specs.Explanations.{is_missing, named_key as name_in}
+use Rattle.explain_command.specs.Explanations.{missing_name, named_key as name_in}
 use Rattle.explain_command.specs.KeyExplanations.{is_selected, selected_keys}
 use Rattle.explain_command.specs.declared.selection.Selection.{Selection}
 use Rattle.explain_command.proofs.Selecting.{selected_what}
-use Rattle.draw_command.specs.Findings.{AreJudged, Judgement, misses_key, named_key}
+use Rattle.draw_command.specs.Findings.{AreJudged, Judgement, missing_key, named_key}
 use Rattle.draw_command.specs.declared.drawn.Drawn.{Drawn}
 use Rattle.explain_command.specs.declared.judged.Judged.{Judged}
 
@@ -33,8 +33,8 @@ module _ (drawn : Drawn) (selection : Selection) (same_key : selection.key ≡ d
       pub few_judged : AreJudged judged (selected_keys (named_key drawn) (map what_of keys)) all
       few_judged = subst (λ (ks : List CheckedKey). AreJudged judged ks all) which are
 
-      -- whether the key that was named is missing
-      pub missing_is : (missing : Bool) (count : ℕ) → count ≡ length few → missing ≡ is_missing (name_in selection) count → missing ≡ misses_key drawn all
+      -- the name that was given, if no key has it
+      pub missing_is : (missing : Option (List ℕ)) (count : ℕ) → count ≡ length few → missing ≡ missing_name (name_in selection) count → missing ≡ missing_key drawn all
       missing_is missing count counted is =
           let as_many : count ≡ length all = counted ∙ sym (length-map few what_of) ∙ sym (ap length are.each_key) ∙ length-map all (λ (j : Judgement). j.one) in
-          is ∙ ap₂ is_missing name_is as_many
+          is ∙ ap₂ missing_name name_is as_many

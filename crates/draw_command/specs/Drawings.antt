@@ -2,6 +2,7 @@
 -- refused, and of a refused one the calls that show why, with the sentences that say it.
 use Rattle.std.specs.Prelude.{ℕ, ◌≡◌, List, [], ◌∷◌, Option, None, Some, nat_lt, slice_get}
 use Rattle.std.specs.Prelude.{if◌then◌else◌}
+use Rattle.command_line.specs.Forms.{default_calls, default_most}
 use Rattle.tag.specs.declared.numbers.OpId.{OpId}
 use Rattle.recorder.specs.declared.part.Call.{Call}
 use Rattle.recorder.specs.Sound.{IsByTag}
@@ -25,6 +26,11 @@ use Rattle.draw_command.specs.declared.finding.Finding.{Finding}
 use Rattle.draw_command.specs.declared.finding.Finding.TheVariants as finding
 use Rattle.explain_command.specs.declared.judged.Judged.{Judged}
 use Rattle.explain_command.specs.declared.judged.Judged.TheVariants as judged
+
+-- what is drawn where nothing else is asked for
+abbrev pub default_drawn : Drawn
+default_drawn =
+    record { key = None; most = default_most; calls = default_calls; around = None }
 
 -- ---- why a key is refused
 

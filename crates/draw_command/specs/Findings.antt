@@ -6,7 +6,7 @@ use Rattle.certificate_check.specs.declared.verdict.Verdict.TheVariants as verdi
 use Rattle.tag_check.specs.Verdicts.{IsTagVerdict}
 use Rattle.parallel_keys.specs.CheckedKeys.{CheckedKey}
 use Rattle.cli.specs.VerdictLines.{line_text}
-use Rattle.explain_command.specs.Explanations.{is_missing}
+use Rattle.explain_command.specs.Explanations.{missing_name}
 use Rattle.explain_command.specs.KeyExplanations.{tag_line}
 use Rattle.draw_command.specs.declared.drawn.Drawn.{Drawn}
 use Rattle.draw_command.specs.declared.finding.Finding.{Finding}
@@ -67,6 +67,6 @@ refused_count judgements = length (filter (λ j. is_no j.finding) judgements)
 abbrev pub named_key : Drawn → Option (List ℕ)
 named_key drawn = option_map (λ key. key.now) drawn.key
 
--- a key was named, and no key has that name
-abbrev pub misses_key : Drawn → List Judgement → Bool
-misses_key drawn judgements = is_missing (named_key drawn) (length judgements)
+-- the name that was given, if no key has it
+abbrev pub missing_key : Drawn → List Judgement → Option (List ℕ)
+missing_key drawn judgements = missing_name (named_key drawn) (length judgements)

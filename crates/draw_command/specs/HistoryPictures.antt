@@ -7,7 +7,7 @@ use Rattle.parallel_keys.specs.CheckedKeys.{CheckedKey}
 use Rattle.explain_command.specs.Explanations.{is_good}
 use Rattle.explain_command.specs.Files.{HaveKeys}
 use Rattle.explain_command.specs.KeyExplanations.{selected_keys}
-use Rattle.draw_command.specs.Findings.{AreJudged, Judgement, misses_key, named_key, refused_count}
+use Rattle.draw_command.specs.Findings.{AreJudged, Judgement, missing_key, named_key, refused_count}
 use Rattle.draw_command.specs.Findings.{refused_first}
 use Rattle.draw_command.specs.Pages.{IsContentOf}
 use Rattle.draw_command.specs.declared.drawn.Drawn.{Drawn}
@@ -21,14 +21,14 @@ module _ (numbered : NumberedHistories) (drawn : Drawn) where
       pub keys : List Judgement
       pub keys_are : AreJudged judged (selected_keys (named_key drawn) all) keys
       pub content_is : IsContentOf judged numbered drawn (refused_first keys) (refused_count keys)
-          (misses_key drawn keys) content
+          (missing_key drawn keys) content
 
   -- the same, with whether that is good: none of them is refused, and a key has the name that was
   -- given, if one was
   pub record IsJudgedContent (judged : Judged) (all : List CheckedKey) (good : Bool)
       (content : Markup) : Type 0 where
     pub shown : IsContentOfKeys judged all content
-    pub is : good ≡ is_good (refused_count shown.keys) (misses_key drawn shown.keys)
+    pub is : good ≡ is_good (refused_count shown.keys) (missing_key drawn shown.keys)
 
   -- the keys of the histories were judged by the tags of their calls, hall by hall, in each in the
   -- order in which its rows first see them; and that is what a page says and shows of them

@@ -2,6 +2,7 @@ pub mod Findings
 pub mod Judging
 pub mod Counts
 pub mod Drawings
+pub mod Pictured
 pub mod Frames
 pub mod Pages
 pub mod HistoryPictures

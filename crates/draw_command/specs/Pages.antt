@@ -1,5 +1,5 @@
 -- The page: a table of the keys, and for each of the first of them a section with its picture.
-use Rattle.std.specs.Prelude.{ℕ, zero, suc, ◌≡◌, ◌+◌, ◌-◌, Bool, List, [], ◌∷◌, ◌++◌}
+use Rattle.std.specs.Prelude.{ℕ, zero, suc, ◌≡◌, ◌+◌, ◌-◌, List, [], ◌∷◌, ◌++◌, Option, None, Some}
 use Rattle.std.specs.Prelude.{cond, decimal, length, nat_lt, take}
 use Rattle.std.specs.Str.Lines.{lines}
 use Rattle.std.specs.Str.Lossy.{utf8_lossy}
@@ -12,11 +12,13 @@ use Rattle.pictures.specs.Pictures.{picture_markup}
 use Rattle.pictures.specs.Sheets.{legend, style}
 use Rattle.pictures.specs.Tables.{table_markup as call_table}
 use Rattle.pictures.specs.declared.picture.Picture.{Picture}
+use Rattle.explain_command.specs.Explanations.{missing_text}
 use Rattle.explain_command.specs.KeyExplanations.{IsHallOfKey}
 use Rattle.draw_command.specs.Counts.{AreCountsOf}
 use Rattle.draw_command.specs.Drawings.{IsKeyScene, IsWhy}
 use Rattle.draw_command.specs.Findings.{Judgement, finding_line, is_no}
 use Rattle.draw_command.specs.Frames.{page_frame}
+use Rattle.draw_command.specs.Pictured.{ArePictured}
 use Rattle.draw_command.specs.declared.counts.KeyCounts.{KeyCounts}
 use Rattle.draw_command.specs.declared.drawn.Drawn.{Drawn}
 use Rattle.draw_command.specs.declared.finding.Finding.{Finding}
@@ -107,10 +109,20 @@ rest_line zero refused = nothing
 rest_line (suc count) refused =
     counted word.REST.now word.MORE.now (suc count) word.MORE_REFUSED.now refused
 
--- what stands below the table of so many keys, of which so many are refused: how many have no row,
--- and what the pictures' signs mean
-abbrev pub below_table : ℕ → ℕ → Markup
-below_table count refused = both (rest_line (count - table_size) (refused - table_size)) legend
+-- how many keys have no picture, and how many of these are refused, if any has none
+abbrev pub undrawn_line : ℕ → ℕ → Markup
+undrawn_line zero refused = nothing
+undrawn_line (suc count) refused =
+    counted word.REST.now word.UNDRAWN.now (suc count) word.MORE_REFUSED.now refused
+
+-- how many of so many keys, of which so many are refused, have no row, and how many no picture
+abbrev pub left_out : ℕ → ℕ → ℕ → Markup
+left_out pictured count refused = both (rest_line (count - table_size) (refused - table_size))
+    (undrawn_line (count - pictured) (refused - pictured))
+
+-- what stands below the table: that, and what the pictures' signs mean
+abbrev pub below_table : ℕ → ℕ → ℕ → Markup
+below_table pictured count refused = both (left_out pictured count refused) legend
 
 -- ---- a section
 
@@ -150,12 +162,17 @@ abbrev pub styles_markup : Markup
 styles_markup = both style (plain tag.Style word.STYLE.now)
 
 -- the line that says that no key has the name
-abbrev pub missing_line : Bool → Markup
-missing_line missing = cond missing (worded tag.P word.MISSING.now word.NO_SUCH_KEY.now) nothing
+abbrev pub missing_name_line : List ℕ → Markup
+missing_name_line name = element tag.P (of_class word.MISSING.now) (said (missing_text name))
 
--- what stands above the table: how many keys were judged and refused, and whether the key that was
--- named is missing
-abbrev pub front_markup : ℕ → ℕ → Bool → Markup
+-- the same of the name that is missing, if one is
+abbrev pub missing_line : Option (List ℕ) → Markup
+missing_line None = nothing
+missing_line (Some name) = missing_name_line name
+
+-- what stands above the table: how many keys were judged and refused, and the key that was named,
+-- if it is missing
+abbrev pub front_markup : ℕ → ℕ → Option (List ℕ) → Markup
 front_markup count refused missing = both
     (counted word.SUM.now word.KEYS_JUDGED.now count word.REFUSED.now refused)
     (missing_line missing)
@@ -200,12 +217,14 @@ module _ (judged : Judged) (numbered : NumberedHistories) (drawn : Drawn) where
       × (section ≡ section_markup n key words picture)
 
   -- what a page says and shows of these keys: how many there are, and of them how many are refused;
-  -- a table of the first; and for as many as are to be drawn a section
-  pub record IsContentOf (keys : List Judgement) (refused : ℕ) (missing : Bool) (content : Markup)
-      : Type 0 where
+  -- a table of the first; and for as many as a page has room for a section
+  pub record IsContentOf (keys : List Judgement) (refused : ℕ) (missing : Option (List ℕ))
+      (content : Markup) : Type 0 where
+    pub pictured : ℕ
+    pub fitting : ArePictured drawn keys pictured
     pub table : Markup
-    pub tabled : IsTableOf drawn.most keys table
+    pub tabled : IsTableOf pictured keys table
     pub sections : Markup
-    pub pictured : IsEach IsSectionOf 0 (take drawn.most keys) sections
+    pub drawn_are : IsEach IsSectionOf 0 (take pictured keys) sections
     pub is : content ≡ both (front_markup (length keys) refused missing) (both table
-        (both (below_table (length keys) refused) sections))
+        (both (below_table pictured (length keys) refused) sections))

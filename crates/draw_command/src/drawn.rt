@@ -1,7 +1,8 @@
 //! Which keys are drawn, and how much of each.
 ghost use Rattle.std.specs.Prelude.{◌≡◌};
-ghost use Rattle.draw_command.specs.Drawings.{center, numbered_call};
+ghost use Rattle.draw_command.specs.Drawings.{center, default_drawn, numbered_call};
 
+use command_line::DrawAsked;
 use explain_command::Selection;
 use tag::OpId;
 
@@ -19,6 +20,37 @@ pub struct Drawn<'a> {
 }
 
 impl<'a> Drawn<'a> {
+    /// What is drawn where nothing else is asked for: what `abd draw` draws without options.
+    pub fn by_default() -> Drawn<'a>
+        ensures { result ≡ default_drawn }
+    {
+        Drawn {
+            key: None,
+            most: 20,
+            calls: 200,
+            around: None,
+        }
+    }
+
+    /// What the words ask for.
+    pub fn of(asked: &DrawAsked<'a>) -> Drawn<'a>
+        ensures key { result.key ≡ asked.now.keys.key }
+        ensures most { result.most ≡ asked.now.keys.most }
+        ensures calls { result.calls ≡ asked.now.calls }
+        ensures around { result.around ≡ asked.now.around }
+    {
+        let around = match asked.around {
+            None => None,
+            Some(call) => Some(u64::from(call)),
+        };
+        Drawn {
+            key: asked.keys.key,
+            most: asked.keys.most,
+            calls: u32::from(asked.calls),
+            around,
+        }
+    }
+
     /// Which keys are judged.
     pub(crate) fn selection(&self) -> Selection<'a>
         ensures { result.key ≡ self.now.key }

@@ -1,39 +1,66 @@
 //! What stands above a page's table: its sums.
-ghost use Rattle.std.specs.Prelude.{◌≡◌, ◌++◌, length, OnOk};
+ghost use Rattle.std.specs.Prelude.{◌≡◌, ◌++◌, length, option_map, OnOk};
 ghost use Rattle.markup.specs.Markup.{rendered};
-ghost use Rattle.draw_command.specs.Pages.{front_markup, missing_line};
+ghost use Rattle.draw_command.specs.Pages.{front_markup, missing_line, missing_name_line, said};
+ghost use Rattle.explain_command.specs.Explanations.{missing_text};
 
 use crate::finding::Findings;
-use crate::texts::append_counted;
+use crate::texts::{append_counted, append_said};
 use crate::words;
-use markup::{Element, append_worded};
+use explain_command::append_missing as append_name_missing;
+use markup::{Attribute, AttributeName, Element, append_closing, append_opening};
+use std::alloc::Global;
 use tag::Memory;
 
-/// Says that no key has the name, if so.
-#[tactic(auto, unfolding(markup::specs::Markup::rendered))]
-fn append_missing(page: &mut Vec<u8>, missing: bool) -> Result<(), Memory>
-    ensures { OnOk result (page.new.items ≡ page.old.items ++ rendered (missing_line missing)) }
+/// Adds the words that no key has the name.
+fn append_words(alloc: Global, page: &mut Vec<u8>, name: &str) -> Result<(), Memory>
+    ensures { OnOk result
+        (page.new.items ≡ page.old.items ++ rendered (said (missing_text name.now))) }
 {
-    if missing {
-        append_worded(page, Element::P, words::MISSING, words::NO_SUCH_KEY)
-    } else {
-        Ok(())
+    let mut line = Vec::new(alloc);
+    append_name_missing(&mut line, name)?;
+    append_said(alloc, page, line.as_slice())
+}
+
+/// Adds the line that says that no key has the name.
+#[tactic(auto, unfolding(markup::specs::Markup::rendered))]
+fn append_name(alloc: Global, page: &mut Vec<u8>, name: &str) -> Result<(), Memory>
+    ensures { OnOk result
+        (page.new.items ≡ page.old.items ++ rendered (missing_name_line name.now)) }
+{
+    let class = Attribute::Words(AttributeName::Class, words::MISSING);
+    append_opening(page, Element::P, &[class])?;
+    append_words(alloc, page, name)?;
+    append_closing(page, Element::P)
+}
+
+/// Says that no key has the name, if one is missing.
+#[tactic(auto, unfolding(markup::specs::Markup::rendered))]
+fn append_missing(alloc: Global, page: &mut Vec<u8>, missing: Option<&str>) -> Result<(), Memory>
+    ensures { OnOk result (page.new.items ≡ page.old.items
+        ++ rendered (missing_line (option_map (λ name. name.now) missing.entry))) }
+{
+    match missing {
+        None => Ok(()),
+        Some(name) => append_name(alloc, page, name),
     }
 }
 
-/// Adds how many keys were judged and how many of them are refused, and whether none has the name
-/// that was given.
+/// Adds how many keys were judged and how many of them are refused, and the name that was given, if no
+/// key has it.
 #[tactic(auto, unfolding(markup::specs::Markup::rendered))]
 pub(crate) fn append_front(
+    alloc: Global,
     page: &mut Vec<u8>,
     findings: &Findings<'_>,
-    missing: bool,
+    missing: Option<&str>,
 ) -> Result<(), Memory>
-    ensures { OnOk result (page.new.items ≡ page.old.items
-        ++ rendered (front_markup (length findings.now.keys.items) findings.now.refused missing)) }
+    ensures { OnOk result (page.new.items ≡ page.old.items ++ rendered (front_markup
+        (length findings.now.keys.items) findings.now.refused
+        (option_map (λ name. name.now) missing.entry))) }
 {
     let judged = (words::KEYS_JUDGED, findings.keys.as_slice().len() as u64);
     let refused = (words::REFUSED, findings.refused as u64);
     append_counted(page, words::SUM, judged, refused)?;
-    append_missing(page, missing)
+    append_missing(alloc, page, missing)
 }

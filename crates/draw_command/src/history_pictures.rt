@@ -33,7 +33,7 @@ fn add_keys(
 {
     let selection = task.drawn.selection();
     selection.select(&mut keys);
-    let missing = selection.misses(keys.len());
+    let missing = selection.missing_key(keys.len());
     let findings = find_each(alloc, task.judged, keys.as_slice())?;
     add_content(alloc, page, task, &findings, missing)?;
     Ok(is_good(findings.refused, missing))

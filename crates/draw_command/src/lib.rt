@@ -14,6 +14,7 @@ mod front;
 mod history_pictures;
 mod key_scene;
 mod page;
+mod pictured;
 mod section;
 mod table;
 mod texts;

@@ -1,5 +1,5 @@
 //! What a page says and shows of judged keys.
-ghost use Rattle.std.specs.Prelude.{All, OnOk, map};
+ghost use Rattle.std.specs.Prelude.{All, OnOk, map, option_map};
 ghost use Rattle.explain_command.specs.KeyExplanations.{HasLinesOfEach};
 ghost use Rattle.draw_command.specs.Judging.{IsDrawable, judgement_of};
 ghost use Rattle.draw_command.specs.Making.{Adds};
@@ -18,19 +18,20 @@ pub(crate) fn add_content(
     page: &mut Vec<u8>,
     task: &Task<'_>,
     findings: &Findings<'_>,
-    missing: bool,
+    missing: Option<&str>,
 ) -> Result<(), Memory>
     requires lines { HasLinesOfEach task.now.numbered.now }
     requires drawable { All (IsDrawable task.now.judged)
         (map judgement_of findings.now.keys.items) }
     ensures { OnOk result (Adds (IsContentOf task.now.judged task.now.numbered.now task.now.drawn
-        (map judgement_of findings.now.keys.items) findings.now.refused missing)
-        page.old.items page.new.items) }
+        (map judgement_of findings.now.keys.items) findings.now.refused
+        (option_map (λ name. name.now) missing.entry)) page.old.items page.new.items) }
 {
     let keys = findings.keys.as_slice();
-    let pictured = &keys[..keys.len().min(usize::from(task.drawn.most))];
-    append_front(page, findings, missing)?;
-    add_table(alloc, page, task.drawn.most, keys)?;
-    append_below(page, keys.len(), findings.refused)?;
-    add_sections(alloc, page, task, pictured)
+    let pictured = task.drawn.pictured_count(keys);
+    let first = &keys[..keys.len().min(pictured)];
+    append_front(alloc, page, findings, missing)?;
+    add_table(alloc, page, pictured, keys)?;
+    append_below(page, pictured, keys.len(), findings.refused)?;
+    add_sections(alloc, page, task, first)
 }

@@ -5,8 +5,8 @@ ghost use Rattle.draw_command.specs.Judging.{judgement_of};
 ghost use Rattle.draw_command.specs.Making.{Adds};
 ghost use Rattle.draw_command.specs.Pages.{IsRowOf, IsTableOf, column_head, columns_markup};
 ghost use Rattle.draw_command.specs.Pages.{count_cell, count_cells, finding_cell, finding_link};
-ghost use Rattle.draw_command.specs.Pages.{below_table, rest_line, row_markup, table_front};
-ghost use Rattle.draw_command.specs.Pages.{verdict_class};
+ghost use Rattle.draw_command.specs.Pages.{below_table, left_out, rest_line, row_markup};
+ghost use Rattle.draw_command.specs.Pages.{table_front, undrawn_line, verdict_class};
 
 use crate::counts::{KeyCounts, counts_of};
 use crate::finding::{Finding, JudgedKey};
@@ -58,7 +58,7 @@ fn append_counts(page: &mut Vec<u8>, counts: KeyCounts) -> Result<(), Memory>
 #[derive(Clone, Copy)]
 struct Row<'a> {
     /// How many of the first keys have pictures.
-    drawn: u16,
+    drawn: usize,
     /// The key's number in the table.
     n: usize,
     key: &'a JudgedKey<'a>,
@@ -71,7 +71,7 @@ impl Row<'_> {
         ensures { OnOk result (page.new.items ≡ page.old.items
             ++ rendered (finding_link self.now.drawn self.now.n (judgement_of self.now.key.now))) }
     {
-        if self.n >= usize::from(self.drawn) {
+        if self.n >= self.drawn {
             return append_finding(alloc, page, self.key);
         }
         let target = Attribute::Numbered(AttributeName::Href, words::TO_KEY, self.n as u64);
@@ -157,7 +157,7 @@ fn append_table_front(page: &mut Vec<u8>) -> Result<(), Memory>
 pub(crate) fn add_table(
     alloc: Global,
     page: &mut Vec<u8>,
-    drawn: u16,
+    drawn: usize,
     keys: &[JudgedKey<'_>],
 ) -> Result<(), Memory>
     ensures { OnOk result
@@ -194,15 +194,58 @@ fn append_rest(page: &mut Vec<u8>, count: usize, refused: usize) -> Result<(), M
     )
 }
 
-/// Adds what stands below the table: how many keys have no row, and what the pictures' signs mean.
-pub(crate) fn append_below(page: &mut Vec<u8>, count: usize, refused: usize) -> Result<(), Memory>
+/// Says how many keys have no picture, and how many of these are refused, if any has none.
+#[tactic(auto, unfolding(markup::specs::Markup::rendered))]
+fn append_undrawn(page: &mut Vec<u8>, count: usize, refused: usize) -> Result<(), Memory>
     ensures { OnOk result (page.new.items
-        ≡ page.old.items ++ rendered (below_table count refused)) }
+        ≡ page.old.items ++ rendered (undrawn_line count refused)) }
+{
+    if count == 0 {
+        return Ok(());
+    }
+    let undrawn = (words::UNDRAWN, count as u64);
+    append_counted(
+        page,
+        words::REST,
+        undrawn,
+        (words::MORE_REFUSED, refused as u64),
+    )
+}
+
+/// Says how many keys have no row, and how many no picture.
+fn append_left_out(
+    page: &mut Vec<u8>,
+    pictured: usize,
+    count: usize,
+    refused: usize,
+) -> Result<(), Memory>
+    ensures { OnOk result (page.new.items
+        ≡ page.old.items ++ rendered (left_out pictured count refused)) }
 {
     append_rest(
         page,
         count.saturating_sub(TABLE_SIZE),
         refused.saturating_sub(TABLE_SIZE),
     )?;
+    append_undrawn(
+        page,
+        count.saturating_sub(pictured),
+        refused.saturating_sub(pictured),
+    )
+}
+
+/// Adds what stands below the table: how many keys have no row, how many no picture, and what the
+/// pictures' signs mean.
+#[tactic(auto, unfolding(markup::specs::Markup::rendered))]
+pub(crate) fn append_below(
+    page: &mut Vec<u8>,
+    pictured: usize,
+    count: usize,
+    refused: usize,
+) -> Result<(), Memory>
+    ensures { OnOk result (page.new.items
+        ≡ page.old.items ++ rendered (below_table pictured count refused)) }
+{
+    append_left_out(page, pictured, count, refused)?;
     append_legend(page)
 }

@@ -45,7 +45,7 @@ fn append_lines(page: &mut Vec<u8>, words: &str) -> Result<(), Memory>
 }
 
 /// Adds what the bytes say, without the ends of lines.
-fn append_said(alloc: Global, page: &mut Vec<u8>, bytes: &[u8]) -> Result<(), Memory>
+pub(crate) fn append_said(alloc: Global, page: &mut Vec<u8>, bytes: &[u8]) -> Result<(), Memory>
     ensures { OnOk result (page.new.items ≡ page.old.items ++ rendered (said bytes.now)) }
 {
     let words = String::from_utf8_lossy(alloc, bytes)?;

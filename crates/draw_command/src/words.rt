@@ -41,8 +41,6 @@ pub(crate) const KEYS_JUDGED: &str = "Keys: ";
 
 pub(crate) const REFUSED: &str = ", refused: ";
 
-pub(crate) const NO_SUCH_KEY: &str = "no such key";
-
 pub(crate) const CAPTION: &str = "The keys, refused ones first";
 
 pub(crate) const ROW_SCOPE: &str = "row";
@@ -59,7 +57,10 @@ pub(crate) const PENDING: &str = "pending";
 
 pub(crate) const AT_ONCE: &str = "at once, at most";
 
-pub(crate) const MORE: &str = "Keys that do not stand here: ";
+pub(crate) const MORE: &str = "Keys that are not in the table: ";
+
+pub(crate) const UNDRAWN: &str =
+    "Keys that are not drawn (--most says how many are, up to 20,000 calls on a page; --key draws one): ";
 
 pub(crate) const MORE_REFUSED: &str = ", refused ones among them: ";
 

@@ -1,5 +1,5 @@
 -- Reports, one key more.
-use Rattle.std.proofs.Common.{ℕ, zero, suc, ◌≡◌, ◌<◌, ◌≤◌, ◌+◌, ◌-◌, Bool, true, false, IsTrue, ◌↔◌, Some, inl, inr, List, [], ◌∷◌, ◌++◌, append_assoc, append-nil, codes, decimal, length, refl, sym, ap, ap₂, ◌∙◌, arith}
+use Rattle.std.proofs.Common.{ℕ, zero, suc, ◌≡◌, ◌<◌, ◌≤◌, ◌+◌, ◌-◌, Bool, true, false, IsTrue, ◌↔◌, Option, Some, inl, inr, List, [], ◌∷◌, ◌++◌, append_assoc, append-nil, codes, decimal, length, refl, sym, ap, ap₂, ◌∙◌, arith}
 use Rattle.history_file.specs.declared.numbered_format.NumberedHistories.{NumberedHistories}
 use Rattle.parallel_keys.specs.CheckedKeys.{CheckedKey}
 use Rattle.std.proofs.lemmas.Bool.{cases_lt}
@@ -13,13 +13,14 @@ use Rattle.reasons.specs.TagReasons.{IsTagReason}
 use Rattle.reasons.specs.declared.order_reasons.OrderReason.{OrderReason}
 use Rattle.reasons.specs.declared.tag_reasons.TagReason.{TagReason}
 use Rattle.explanations.specs.declared.hall_rows.HallRows.{HallRows}
+use Rattle.sentences.specs.Words.{quoted_text}
 use Rattle.explanations.specs.Sentences.{order_reason_text, tag_reason_text}
 use Rattle.cli.specs.VerdictLines.{line_text}
 use Rattle.cli.specs.Justifications.{KeyPart}
 use Rattle.cli.specs.declared.outcome.Outcome.{Outcome}
 use Rattle.explain_command.specs.Endings.{ExplainsKeys}
 use Rattle.explain_command.specs.KeyExplanations.{ExplainsOrder, ExplainsTags, IsHallOfKey, RefusesOrder, RefusesTags, selected_keys, tag_line}
-use Rattle.explain_command.specs.Explanations.{Yes, No, explanations_text, is_good, is_missing, left_out_line, lines_text, missing_line, named_key, no_count}
+use Rattle.explain_command.specs.Explanations.{Yes, No, explanations_text, is_good, left_out_line, lines_text, missing_line, missing_name, missing_text, named_key, no_count}
 use Rattle.explain_command.specs.Reports.{Adds, AddsOf, Explains, IsReportOf}
 use Rattle.explain_command.specs.declared.judged.Judged.{Judged}
 use Rattle.explain_command.specs.declared.report.Report.{Report}
@@ -86,22 +87,22 @@ module _ (judged : Judged) (numbered : NumberedHistories) where
 
   -- with its last lines a report is an explanation
   pub whole : (all : List CheckedKey) (selection : Selection) (first second last : Report) (count : ℕ) (outcome : Outcome) → IsReportOf judged numbered (selected_keys (named_key selection) all) selection.most first
-      → count ≡ length (selected_keys (named_key selection) all) → second.text.items ≡ first.text.items ++ missing_line (is_missing (named_key selection) count) → second.refused ≡ first.refused → second.most ≡ first.most
+      → count ≡ length (selected_keys (named_key selection) all) → second.text.items ≡ first.text.items ++ missing_line (missing_name (named_key selection) count) → second.refused ≡ first.refused → second.most ≡ first.most
       → last.text.items ≡ second.text.items ++ left_out_line (second.refused - second.most) → last.refused ≡ second.refused
-      → outcome.text.items ≡ last.text.items → outcome.good ≡ is_good last.refused (is_missing (named_key selection) count) → outcome.notes.items ≡ []
+      → outcome.text.items ≡ last.text.items → outcome.good ≡ is_good last.refused (missing_name (named_key selection) count) → outcome.notes.items ≡ []
       → ExplainsKeys judged selection numbered all outcome
   unfolding explanations_text
   whole all selection first second last count outcome are counted missing same_refused same_most left kept same_text good quiet =
       let es = are.explanations in
       let name = named_key selection in
-      let misses : is_missing name count ≡ is_missing name (length es) = ap (is_missing name) (counted ∙ sym (length-explained (Explains judged numbered) (selected_keys name all) es are.explained)) in
+      let misses : missing_name name count ≡ missing_name name (length es) = ap (missing_name name) (counted ∙ sym (length-explained (Explains judged numbered) (selected_keys name all) es are.explained)) in
       let refused : second.refused ≡ no_count es = same_refused ∙ are.refused in
       let most : second.most ≡ selection.most = same_most ∙ are.most_is in
       record {
         explanations = es;
         explained = are.explained;
         is = good ∙ ap₂ is_good (kept ∙ refused) misses;
-        text = same_text ∙ left ∙ ap₂ (λ (l : List ℕ) (n : ℕ). l ++ left_out_line n) (missing ∙ ap₂ (λ (l : List ℕ) (b : Bool). l ++ missing_line b) are.text misses) (ap₂ (λ (n m : ℕ). n - m) refused most);
+        text = same_text ∙ left ∙ ap₂ (λ (l : List ℕ) (n : ℕ). l ++ left_out_line n) (missing ∙ ap₂ (λ (l : List ℕ) (missed : Option (List ℕ)). l ++ missing_line missed) are.text misses) (ap₂ (λ (n m : ℕ). n - m) refused most);
         quiet = quiet;
       }
 
@@ -146,6 +147,15 @@ module _ (numbered : NumberedHistories) (entry : KeyPart) (rule : BrokenRule) (j
       → AddsOf (ExplainsTags numbered entry) old new
   tags_unsaid old new lined none refused most =
       (No (tag_line entry.0 rule) (tag_reason_text entry.0 hall reason), tags_why, refused_unsaid old new (tag_line entry.0 rule) (tag_reason_text entry.0 hall reason) lined none refused most)
+
+-- no key has the name
+pub missing_said : (old a b new name : List ℕ) → a ≡ old ++ codes "no such key " → b ≡ a ++ quoted_text name → new ≡ b ++ codes "\n" → new ≡ old ++ missing_text name
+unfolding missing_text
+missing_said old a b new name words named ended =
+    ended ∙ ap (λ (l : List ℕ). l ++ codes "\n") (named ∙ ap (λ (l : List ℕ). l ++ quoted_text name) words) ∙ regroup old (codes "no such key ") (quoted_text name) (codes "\n")
+  where
+    regroup : (old p q r : List ℕ) → old ++ p ++ q ++ r ≡ old ++ (p ++ q ++ r)
+    regroup old p q r = simp append_assoc
 
 -- how many refused keys have no reason
 pub left_out_said : (old before new : List ℕ) (left count : ℕ) → left ≡ count → (left ≡ 0 → ⊥) → before ≡ old ++ (codes "refused keys not explained: " ++ decimal left) → new ≡ before ++ codes "; --most N says how many are\n" → new ≡ old ++ left_out_line count

@@ -5,7 +5,7 @@ use Rattle.history_file.specs.declared.numbered_format.NumberedHistories.{Number
 use Rattle.parallel_keys.specs.CheckedKeys.{CheckedKey}
 use Rattle.cli.specs.declared.outcome.Outcome.{Outcome}
 use Rattle.explain_command.specs.Explanations.{Explanation, explanations_text, is_good}
-use Rattle.explain_command.specs.Explanations.{misses_key, named_key, no_count}
+use Rattle.explain_command.specs.Explanations.{missing_key, named_key, no_count}
 use Rattle.explain_command.specs.Files.{ReadsKeys, ReadsKeysAndOrders}
 use Rattle.explain_command.specs.KeyExplanations.{AreExplained, selected_keys}
 use Rattle.explain_command.specs.Reports.{Explains}
@@ -26,7 +26,7 @@ module _ (judged : Judged) (selection : Selection) where
       (outcome : Outcome) : Type 0 where
     pub explanations : List Explanation
     pub explained : ExplainsSelected numbered keys explanations
-    pub is : outcome.good ≡ is_good (no_count explanations) (misses_key selection explanations)
+    pub is : outcome.good ≡ is_good (no_count explanations) (missing_key selection explanations)
     pub text : outcome.text.items ≡ explanations_text selection explanations
     pub quiet : outcome.notes.items ≡ []
 

@@ -1,8 +1,9 @@
 -- What is said of keys, and the text that says it.
-use Rattle.std.specs.Prelude.{ℕ, zero, suc, ◌+◌, ◌-◌, ◌==◌, ◌&&◌, not, Bool, false}
+use Rattle.std.specs.Prelude.{ℕ, zero, suc, ◌+◌, ◌-◌, ◌==◌, Bool, false}
 use Rattle.std.specs.Prelude.{List, [], ◌∷◌, ◌++◌}
 use Rattle.std.specs.Prelude.{Option, None, Some, codes, decimal, length, option_map}
 use Rattle.std.specs.Prelude.{if◌then◌else◌}
+use Rattle.sentences.specs.Words.{quoted_text}
 use Rattle.explain_command.specs.declared.selection.Selection.{Selection}
 
 -- what is said of a key: a line that says yes; or a line that says no, and the reason
@@ -33,26 +34,31 @@ left_out_line (suc count) = codes "refused keys not explained: " ++ decimal (suc
 abbrev pub named_key : Selection → Option (List ℕ)
 named_key selection = option_map (λ key. key.now) selection.key
 
--- a key was named, and so many keys have that name: none
-abbrev pub is_missing : Option (List ℕ) → ℕ → Bool
-is_missing None count = false
-is_missing (Some name) count = count == 0
+-- the name that was given, if so many keys have it: none
+abbrev pub missing_name : Option (List ℕ) → ℕ → Option (List ℕ)
+missing_name name count = if count == 0 then name else None
 
--- a key was named, and none of those that are explained has that name
-abbrev pub misses_key : Selection → List Explanation → Bool
-misses_key selection explanations = is_missing (named_key selection) (length explanations)
+-- the name that was given, if none of those that are explained has it
+abbrev pub missing_key : Selection → List Explanation → Option (List ℕ)
+missing_key selection explanations = missing_name (named_key selection) (length explanations)
 
 -- so many keys are refused: none, and no key that was named is missing
-abbrev pub is_good : ℕ → Bool → Bool
-is_good refused missing = (refused == 0) && not missing
+abbrev pub is_good : ℕ → Option (List ℕ) → Bool
+is_good refused None = refused == 0
+is_good refused (Some name) = false
 
--- the line that says that no key has the name
-abbrev pub missing_line : Bool → List ℕ
-missing_line missing = if missing then codes "no such key\n" else []
+-- the line that says that no key has the name, which stands there as a JSON text
+unfoldable pub missing_text : List ℕ → List ℕ
+missing_text name = codes "no such key " ++ quoted_text name ++ codes "\n"
+
+-- the same of the name that is missing, if one is
+abbrev pub missing_line : Option (List ℕ) → List ℕ
+missing_line None = []
+missing_line (Some name) = missing_text name
 
 -- what is written of explanations
 unfoldable pub explanations_text : Selection → List Explanation → List ℕ
 explanations_text selection explanations =
     lines_text explanations selection.most
-    ++ missing_line (misses_key selection explanations)
+    ++ missing_line (missing_key selection explanations)
     ++ left_out_line (no_count explanations - selection.most)

@@ -48,7 +48,7 @@ impl Selection<'_> {
             (ExplainsKeys judged self.now numbered.now (map what_of keys.entry.items)) }
     {
         self.select(&mut keys);
-        let missing = self.misses(keys.len());
+        let missing = self.missing_key(keys.len());
         let mut report = say_keys(alloc, judged, numbered, keys.as_slice(), self.most)?;
         report.say_missing(missing)?;
         report.say_left_out()?;

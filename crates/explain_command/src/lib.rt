@@ -21,5 +21,5 @@ pub use find_hall::hall_of;
 pub use judge::{judge_orders_command, judge_tags_command};
 pub use judged::Judged;
 pub use presentation::Presentation;
-pub use report::{append_tag_line, is_good};
+pub use report::{append_missing, append_tag_line, is_good};
 pub use selection::Selection;

@@ -1,9 +1,11 @@
 //! What is said of keys.
 ghost use Rattle.std.specs.Prelude.{◌≡◌, ◌<◌, ◌+◌, ◌-◌, ◌++◌, [], ◌↔◌, IsTrue, OnOk, Some};
+ghost use Rattle.std.specs.Prelude.{option_map};
 ghost use Rattle.certificate_check.specs.Verdicts.{IsFault};
 ghost use Rattle.parallel_keys.specs.KeysToCheck.{what_of};
 ghost use Rattle.tag_check.specs.Verdicts.{IsTagVerdict};
 ghost use Rattle.explain_command.specs.Explanations.{is_good, left_out_line, missing_line};
+ghost use Rattle.explain_command.specs.Explanations.{missing_text};
 ghost use Rattle.explain_command.specs.KeyExplanations.{HasLinesOfEach, ExplainsOrder, ExplainsTags};
 ghost use Rattle.explain_command.specs.KeyExplanations.{tag_line};
 ghost use Rattle.explain_command.specs.Reports.{AddsOf, Explains};
@@ -16,6 +18,7 @@ use explanations::{append_order_reason, append_rule, append_tag_reason};
 use history_file::NumberedHistories;
 use parallel_keys::KeyToCheck;
 use reasons::{order_reason, tag_reason};
+use sentences::append_quoted;
 use std::alloc::Global;
 use tag::{Key, Memory};
 use tag_check::{BrokenRule, check_tags};
@@ -29,6 +32,16 @@ pub fn append_tag_line(text: &mut Vec<u8>, key: &Key, rule: BrokenRule) -> Resul
     append(text, key.as_str())?;
     append(text, ": no tags ")?;
     append_rule(text, rule)?;
+    append(text, "\n")
+}
+
+/// Adds the line that says that no key has the name, which stands there as a JSON text. Without
+/// memory a beginning of it may have been added.
+pub fn append_missing(text: &mut Vec<u8>, name: &str) -> Result<(), Memory>
+    ensures { OnOk result (text.new.items ≡ text.old.items ++ missing_text name.now) }
+{
+    append(text, "no such key ")?;
+    append_quoted(text, name)?;
     append(text, "\n")
 }
 
@@ -138,17 +151,16 @@ impl Report {
         }
     }
 
-    /// Says that no key has the name, if so.
-    pub(crate) fn say_missing(&mut self, missing: bool) -> Result<(), Memory>
+    /// Says that no key has the name, if one is missing.
+    pub(crate) fn say_missing(&mut self, missing: Option<&str>) -> Result<(), Memory>
         ensures text { OnOk result (self.new.text.items
-            ≡ self.old.text.items ++ missing_line missing) }
+            ≡ self.old.text.items ++ missing_line (option_map (λ name. name.now) missing.entry)) }
         ensures refused { self.new.refused ≡ self.old.refused }
         ensures most { self.new.most ≡ self.old.most }
     {
-        if missing {
-            append(&mut self.text, "no such key\n")
-        } else {
-            Ok(())
+        match missing {
+            None => Ok(()),
+            Some(name) => append_missing(&mut self.text, name),
         }
     }
 
@@ -168,8 +180,11 @@ impl Report {
 }
 
 /// Whether all is as it should be: no key is refused, and none is missing.
-pub fn is_good(refused: usize, missing: bool) -> bool
-    ensures { result ≡ is_good refused missing }
+pub fn is_good(refused: usize, missing: Option<&str>) -> bool
+    ensures { result ≡ is_good refused (option_map (λ name. name.now) missing.entry) }
 {
-    refused == 0 && !missing
+    match missing {
+        None => refused == 0,
+        Some(_) => false,
+    }
 }

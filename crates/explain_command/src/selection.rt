@@ -1,8 +1,9 @@
 //! Which keys are explained.
-ghost use Rattle.std.specs.Prelude.{◌≡◌, filter};
-ghost use Rattle.explain_command.specs.Explanations.{is_missing, named_key};
+ghost use Rattle.std.specs.Prelude.{◌≡◌, filter, option_map};
+ghost use Rattle.explain_command.specs.Explanations.{missing_name, named_key};
 ghost use Rattle.explain_command.specs.KeyExplanations.{is_selected};
 
+use command_line::KeysAsked;
 use parallel_keys::KeyToCheck;
 use tag::Key;
 
@@ -15,7 +16,18 @@ pub struct Selection<'a> {
     pub most: u16,
 }
 
-impl Selection<'_> {
+impl<'a> Selection<'a> {
+    /// The keys that the words ask for.
+    pub fn of(asked: &KeysAsked<'a>) -> Selection<'a>
+        ensures key { result.key ≡ asked.now.key }
+        ensures most { result.most ≡ asked.now.most }
+    {
+        Selection {
+            key: asked.key,
+            most: asked.most,
+        }
+    }
+
     /// Whether the key is selected.
     fn takes(&self, key: &Key) -> bool
         ensures { result ≡ is_selected (named_key self.now) key.now }
@@ -26,14 +38,11 @@ impl Selection<'_> {
         }
     }
 
-    /// Whether a key is named, and so many keys have that name: none.
-    pub fn misses(&self, count: usize) -> bool
-        ensures { result ≡ is_missing (named_key self.now) count }
+    /// The name of the key that is named, if so many keys have that name: none.
+    pub fn missing_key(&self, count: usize) -> Option<&'a str>
+        ensures { option_map (λ name. name.now) result ≡ missing_name (named_key self.now) count }
     {
-        match self.key {
-            None => false,
-            Some(_) => count == 0,
-        }
+        if count == 0 { self.key } else { None }
     }
 
     /// Keeps those of the keys that are selected, in their order.

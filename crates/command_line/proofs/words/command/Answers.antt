@@ -40,12 +40,12 @@ met app is words found r none same makes =
 pub returns-in-Ok-try_get_matches_from-clause-asked : goal.returns-in-Ok-try_get_matches_from-clause-asked
 returns-in-Ok-try_get_matches_from-clause-asked c =
     let clap = c.in-Ok-try_get_matches_from.ensures in
-    (met (app_of c.in-Ok.abd) c.in-Ok.ensures (map string_bytes c.args.words.now) _ c.command_in.result clap.kinds (λ simple. (clap.matches simple).1) c.command_in.ensures).0
+    (met (app_of c.in-Ok.abd) c.in-Ok.ensures (map string_bytes c.args.words.now) _ c.command_in.result clap.kinds (λ simple. (clap.matches simple).1) c.command_in.ensures.makes).0
 
 pub returns-in-Ok-try_get_matches_from-clause-not_asked : goal.returns-in-Ok-try_get_matches_from-clause-not_asked
 returns-in-Ok-try_get_matches_from-clause-not_asked c =
     let clap = c.in-Ok-try_get_matches_from.ensures in
-    (met (app_of c.in-Ok.abd) c.in-Ok.ensures (map string_bytes c.args.words.now) _ c.command_in.result clap.kinds (λ simple. (clap.matches simple).1) c.command_in.ensures).1
+    (met (app_of c.in-Ok.abd) c.in-Ok.ensures (map string_bytes c.args.words.now) _ c.command_in.result clap.kinds (λ simple. (clap.matches simple).1) c.command_in.ensures.makes).1
 
 pub returns-in-Err-clause-not_asked : goal.returns-in-Err-clause-not_asked
 returns-in-Err-clause-not_asked c =
@@ -53,4 +53,4 @@ returns-in-Err-clause-not_asked c =
     let abd_is : app_of c.in-Ok.abd ≡ abd_app = c.in-Ok.ensures in
     let kind = kind_of c.in-Err.error in
     let has : (kind ≡ OutOfMemory) ⊎ IsAmong kind (fault_of (app_of c.in-Ok.abd) words) = c.in-Err.ensures.kinds (ap is_simple_and_free abd_is ∙ is_free) in
-    refused words c.usage_of.result kind c.usage_of.ensures (subst (λ (a : App). (kind ≡ OutOfMemory) ⊎ IsAmong kind (fault_of a words)) abd_is has)
+    refused words c.usage_of.result kind c.usage_of.ensures.kind (subst (λ (a : App). (kind ≡ OutOfMemory) ⊎ IsAmong kind (fault_of a words)) abd_is has)

@@ -1,5 +1,6 @@
 -- The selected keys are judged, and that is what is said and shown of them.
-use Rattle.std.proofs.Common.{◌≡◌, ◌∙◌, ap₂, length, map, arith}
+use Rattle.std.proofs.Common.{◌≡◌, ◌∙◌, ap₂, length, List, ℕ, map, option_map, arith}
+use Rattle.std.specs.Borrow.{Bor}
 use Rattle.parallel_keys.specs.KeysToCheck.{what_of}
 use Rattle.explain_command.specs.Explanations.{is_good}
 use Rattle.draw_command.specs.Judging.{judgement_of}
@@ -24,14 +25,15 @@ returns c =
     let selection = c.selection-selection.result in
     let found = rw c.as_slice.ensures.value at c.in_ok-findings.ensures in
     let counted : c.len.result ≡ length few = omega (arith, c.len.ensures, c.select.new.keys.ok.0) in
-    let missing = missing_is task.drawn selection c.selection-selection.ensures keys few c.select.ensures task.judged found.all found.judged_are c.misses-missing.result c.len.result counted c.misses-missing.ensures in
+    let missed = option_map (λ (name : Bor (List ℕ)). name.now) c.missing_key-missing.result in
+    let missing = missing_is task.drawn selection c.selection-selection.ensures keys few c.select.ensures task.judged found.all found.judged_are missed c.len.result counted c.missing_key-missing.ensures in
     let added = c.in_ok-add_content.ensures in (
       added.0,
       record {
         shown = record {
           keys = found.all;
           keys_are = few_judged task.drawn selection c.selection-selection.ensures keys few c.select.ensures task.judged found.all found.judged_are;
-          content_is = content_of_judged task.judged task.numbered.now task.drawn found.all (map judgement_of c.in_ok-findings.findings.keys.items) c.in_ok-findings.findings.refused c.misses-missing.result added.0
+          content_is = content_of_judged task.judged task.numbered.now task.drawn found.all (map judgement_of c.in_ok-findings.findings.keys.items) c.in_ok-findings.findings.refused missed added.0
               found.ordered.in_order found.ordered.refused missing added.1;
         };
         is = c.is_good.ensures ∙ ap₂ is_good found.ordered.refused missing;

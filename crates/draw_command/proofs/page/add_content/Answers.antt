@@ -1,5 +1,6 @@
 -- What stands above the table, the table, what stands below it, and the sections.
-use Rattle.std.proofs.Common.{ℕ, ◌≡◌, ◌++◌, List, length, map, min, take, ap, subst, sym, ◌∙◌}
+use Rattle.std.proofs.Common.{ℕ, ◌≡◌, ◌≤◌, ◌++◌, List, length, map, option_map, take, ap, subst, sym, ◌∙◌, arith}
+use Rattle.std.specs.Borrow.{Bor}
 use Rattle.std.proofs.lemmas.List.{length-map, take-map}
 use Rattle.std.proofs.lemmas.List.Elements.{All-same, All-take}
 use Rattle.std.proofs.lemmas.Result.{on_ok_weaker}
@@ -9,6 +10,7 @@ use Rattle.draw_command.specs.Judging.{IsDrawable, judgement_of}
 use Rattle.draw_command.specs.Making.{Adds}
 use Rattle.draw_command.specs.declared.finding.JudgedKey.{JudgedKey}
 use Rattle.draw_command.specs.Pages.{IsEach, IsSectionOf, IsTableOf, below_table, front_markup}
+use Rattle.draw_command.specs.Pictured.{ArePictured}
 use Rattle.draw_command.proofs.Framing.{content_added, first_ones}
 use Rattle.draw_command.proofs.page.add_content.Goals as goal
 
@@ -24,9 +26,9 @@ add_sections-requires-clause-drawable c =
 pub returns : goal.returns
 returns c =
     let task = c.args.task.now in
-    let most = task.drawn.most in
+    let n = c.pictured_count-pictured.result in
     let refused = c.args.findings.now.refused in
-    let missing = c.args.missing in
+    let missing = option_map (λ (name : Bor (List ℕ)). name.now) c.args.missing in
     let items = c.args.findings.now.keys.items in
     let keys = map judgement_of items in
     let slice = c.as_slice-keys.result.now in
@@ -37,11 +39,22 @@ returns c =
     let Sections = IsSectionOf task.judged task.numbered.now task.drawn in
     let same : map judgement_of slice ≡ keys = ap (map judgement_of) c.as_slice-keys.ensures.value in
     let count : length slice ≡ length keys = ap length c.as_slice-keys.ensures.value ∙ sym (length-map items judgement_of) in
-    let cut = first_ones judgement_of slice _ most (ap (λ (n : ℕ). take n slice) (c.min.ensures ∙ ap (λ (n : ℕ). min (length slice) n) c.from.ensures)) ∙ ap (λ (js : List Judgement). take most js) same in
+    let cut = first_ones judgement_of slice _ n (ap (λ (k : ℕ). take k slice) c.min.ensures) ∙ ap (λ (js : List Judgement). take n js) same in
     on_ok_weaker c.add_sections.result (λ drawn.
-    let w = content_added (front_markup (length keys) refused missing) (below_table (length keys) refused) (IsTableOf most keys) (IsEach Sections 0 (take most keys)) old headed tabled under c.add_sections.new.page.items
-    (c.in_ok-append_front.ensures ∙ ap (λ (n : ℕ). old ++ rendered (front_markup n refused missing)) (sym (length-map items judgement_of)))
-    (subst (λ (js : List Judgement). Adds (IsTableOf most js) headed tabled) same c.in_ok-add_table.ensures)
-    (c.in_ok-append_below.ensures ∙ ap (λ (n : ℕ). tabled ++ rendered (below_table n refused)) count)
-    (subst (λ (js : List Judgement). Adds (IsEach Sections 0 js) under c.add_sections.new.page.items) cut drawn) in
-    (w.0, record { table = w.1.0; tabled = w.1.2; sections = w.1.1; pictured = w.1.3; is = w.1.4 }, w.2)) c.add_sections.ensures
+    let w = content_added (front_markup (length keys) refused missing) (below_table n (length keys) refused) (IsTableOf n keys) (IsEach Sections 0 (take n keys)) old headed tabled under c.add_sections.new.page.items
+    (c.in_ok-append_front.ensures ∙ ap (λ (m : ℕ). old ++ rendered (front_markup m refused missing)) (sym (length-map items judgement_of)))
+    (subst (λ (js : List Judgement). Adds (IsTableOf n js) headed tabled) same c.in_ok-add_table.ensures)
+    (c.in_ok-append_below.ensures ∙ ap (λ (m : ℕ). tabled ++ rendered (below_table n m refused)) count)
+    (subst (λ (js : List Judgement). Adds (IsEach Sections 0 js) under c.add_sections.new.page.items) cut drawn) in (
+      w.0,
+      record {
+        pictured = n;
+        fitting = subst (λ (js : List Judgement). ArePictured task.drawn js n) same c.pictured_count-pictured.ensures;
+        table = w.1.0;
+        tabled = w.1.2;
+        sections = w.1.1;
+        drawn_are = w.1.3;
+        is = w.1.4;
+      },
+      w.2,
+    )) c.add_sections.ensures

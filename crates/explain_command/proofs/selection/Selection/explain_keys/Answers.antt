@@ -17,5 +17,5 @@ returns c =
     let all = subst (λ (ks : List CheckedKey). IsReportOf c.args.judged c.args.numbered.now ks selection.most c.in_ok-report.report) which report in
     whole c.args.judged c.args.numbered.now (map what_of c.args.keys.items) selection c.in_ok-report.report c.say_missing.new.self c.say_left_out.new.self c.len.result _ all
     (c.len.ensures ∙ sym c.as_slice.ensures.len ∙ ap length c.as_slice.ensures.value ∙ sym (length-map few what_of) ∙ ap length which)
-    (rw c.misses-missing.ensures at c.in_ok-say_missing.ensures.text) c.in_ok-say_missing.ensures.refused c.in_ok-say_missing.ensures.most c.in_ok-say_left_out.ensures.text c.in_ok-say_left_out.ensures.refused
-    (ap (λ v. v.items) c.of_text.ensures.text) (c.of_text.ensures.good ∙ c.is_good-good.ensures ∙ ap (is_good c.say_left_out.new.self.refused) c.misses-missing.ensures) c.of_text.ensures.notes
+    (rw c.missing_key-missing.ensures at c.in_ok-say_missing.ensures.text) c.in_ok-say_missing.ensures.refused c.in_ok-say_missing.ensures.most c.in_ok-say_left_out.ensures.text c.in_ok-say_left_out.ensures.refused
+    (ap (λ v. v.items) c.of_text.ensures.text) (c.of_text.ensures.good ∙ c.is_good-good.ensures ∙ ap (is_good c.say_left_out.new.self.refused) c.missing_key-missing.ensures) c.of_text.ensures.notes
