@@ -1,0 +1,138 @@
+//! What a picture shows, in lines.
+use crate::frames::{Frame, whole};
+use crate::images::Picture;
+use crate::tags::Tag;
+use crate::texts::{say_line, say_text};
+use test_rows::Answer;
+
+/// Says the texts of that class, as a line.
+fn say_all(out: &mut Answer, picture: Picture<'_>, class: &str) {
+    let mut said = false;
+    for piece in picture.text.split('<') {
+        let tag = Tag::read(piece);
+        if tag.is("text", class) {
+            if said {
+                out.push(", ");
+            } else {
+                write!(out, "\n{class}: ");
+            }
+            say_text(out, tag.text);
+            said = true;
+        }
+    }
+}
+
+/// Says the numbers of the dots through which the line goes.
+fn say_path(out: &mut Answer, picture: Picture<'_>, corners: &str) {
+    out.push("\npath:");
+    let mut x = 0;
+    for (place, text) in corners.trim().split(' ').enumerate() {
+        if place % 2 == 0 {
+            x = whole(text);
+        } else {
+            let number = picture.number_at(x, whole(text));
+            write!(out, " {number}");
+        }
+    }
+}
+
+/// The class of a bar or a part of one, or else how its corners are.
+fn shape_of(tag: Tag<'_>) -> &str {
+    match (tag.class(), tag.value("rx")) {
+        ("", "0") => "square",
+        ("", _) => "round",
+        (class, _) => class,
+    }
+}
+
+/// Says where a bar, or a part of one, stands. One that leaves out the side below has no end.
+fn say_bar(out: &mut Answer, picture: Picture<'_>, tag: Tag<'_>) {
+    let frame = Frame::of(tag);
+    let shape = shape_of(tag);
+    let name = picture.name_in(frame.left, frame.right);
+    let first = picture.line_in(frame.top, frame.foot);
+    let last = if tag.name == "polyline" {
+        "no end"
+    } else {
+        picture.last_line_in(frame.top, frame.foot)
+    };
+    write!(out, "\n  {shape} {name}, {first} to {last}");
+}
+
+/// Says in which bar the dot lies, and below which line.
+fn say_dot(out: &mut Answer, picture: Picture<'_>, tag: Tag<'_>) {
+    let (x, y) = (tag.number("cx"), tag.number("cy"));
+    let number = picture.number_at(x, y);
+    let (call, _) = picture.bar_at(x, y).split_once(',').unwrap_or(("-", ""));
+    let above = picture.last_line_in(0, y);
+    write!(out, "\ndot {number}: {call}, below {above}");
+}
+
+/// Says from where to where an arrow goes.
+fn say_arrow(out: &mut Answer, picture: Picture<'_>, tag: Tag<'_>) {
+    let class = tag.class();
+    let (left, right) = (tag.number("x1"), tag.number("x2"));
+    let (from, to) = (picture.name_near(left), picture.name_near(right));
+    let (begin, end) = (tag.number("y1"), tag.number("y2"));
+    let (begins, ends) = (picture.line_in(begin, begin), picture.line_in(end, end));
+    write!(out, "\n  {class} {from} {begins} to {to} {ends}");
+}
+
+/// Says where the line stands at which a call ends since its client stopped.
+fn say_stop(out: &mut Answer, picture: Picture<'_>, tag: Tag<'_>) {
+    let name = picture.name_in(tag.number("x1"), tag.number("x2"));
+    let y = tag.number("y1");
+    let line = picture.line_in(y, y);
+    write!(out, "\n  stop {name} {line}");
+}
+
+/// Says a line of a picture, if it is more than a guide for the eye.
+fn say_stroke(out: &mut Answer, picture: Picture<'_>, tag: Tag<'_>) {
+    match tag.class() {
+        "arriving" | "lost" | "under-way" => say_arrow(out, picture, tag),
+        "stop" => say_stop(out, picture, tag),
+        _ => {}
+    }
+}
+
+/// Says a text of a picture with the line, or the column too, where it stands.
+fn say_placed(out: &mut Answer, picture: Picture<'_>, tag: Tag<'_>) {
+    let line = picture.line_of_text(tag.number("y"));
+    match tag.class() {
+        "does" | "noted" | "answers" => write!(out, "; {line} "),
+        "begin" | "note" | "outcome" | "holds" | "down" => {
+            let name = picture.name_near(tag.number("x"));
+            write!(out, "\n{name} {line}: ");
+        }
+        "command" => write!(out, "\n{line}: "),
+        "label" => out.push(", "),
+        "more" => out.push("\nmore: "),
+        _ => return,
+    }
+    say_text(out, tag.text);
+}
+
+/// Says what the tag shows.
+fn say_mark(out: &mut Answer, picture: Picture<'_>, tag: Tag<'_>) {
+    match tag.name {
+        "title" => say_text(out, tag.text),
+        "g" => say_line(out, tag.class(), ""),
+        "polyline" if tag.class() == "path" => say_path(out, picture, tag.value("points")),
+        "rect" | "polyline" => say_bar(out, picture, tag),
+        "circle" => say_dot(out, picture, tag),
+        "line" => say_stroke(out, picture, tag),
+        "text" => say_placed(out, picture, tag),
+        _ => {}
+    }
+}
+
+/// Says what the picture shows.
+pub fn say_picture(out: &mut Answer, picture: Picture<'_>) {
+    say_all(out, picture, "client");
+    say_all(out, picture, "line");
+    say_all(out, picture, "who");
+    say_line(out, "picture", "");
+    for piece in picture.text.split('<') {
+        say_mark(out, picture, Tag::read(piece));
+    }
+}

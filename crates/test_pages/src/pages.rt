@@ -1,0 +1,99 @@
+//! What a page says and shows, in lines.
+use crate::images::Picture;
+use crate::marks::say_picture;
+use crate::tags::Tag;
+use crate::texts::{say_line, say_text};
+use test_rows::Answer;
+
+/// How much of a page is said: what it says of keys; their pictures, too; or all.
+#[derive(Clone, Copy)]
+pub struct Extent {
+    pub pictures: bool,
+    pub frame: bool,
+}
+
+/// Says a cell of a table.
+fn say_cell(out: &mut Answer, text: &str) {
+    if !text.is_empty() {
+        out.push(" | ");
+        say_text(out, text);
+    }
+}
+
+/// Says what stands around what a page says of keys.
+fn say_frame(out: &mut Answer, tag: Tag<'_>) {
+    match tag.name {
+        "title" | "caption" | "summary" | "pre" => say_line(out, tag.name, tag.text.trim()),
+        "h1" => say_line(out, "heading 1", tag.text),
+        "section" => say_line(out, "section", tag.class()),
+        "tr" if tag.class().is_empty() => out.push("\nheads"),
+        "tr" => {
+            out.push("\n");
+            out.push(tag.class());
+        }
+        "th" | "td" => say_cell(out, tag.text),
+        _ => {}
+    }
+}
+
+/// Whether the tag begins the row of a key in the table of the keys.
+fn is_key(tag: Tag<'_>) -> bool {
+    tag.is("tr", "yes") || tag.is("tr", "no")
+}
+
+/// Whether the tag belongs to the row of a key.
+fn is_of_key(tag: Tag<'_>) -> bool {
+    is_key(tag) || tag.value("scope") == "row" || tag.is("td", "count")
+}
+
+/// Says what the tag shows.
+fn say_tag(out: &mut Answer, extent: Extent, tag: Tag<'_>) {
+    match tag.name {
+        "h2" => say_line(out, "heading 2", tag.text),
+        "p" if !tag.text.is_empty() => say_line(out, tag.class(), tag.text.trim()),
+        "a" => {
+            say_cell(out, tag.text);
+            say_cell(out, tag.value("href"));
+        }
+        _ if extent.frame || is_of_key(tag) => say_frame(out, tag),
+        _ => {}
+    }
+}
+
+/// Says what stands outside of pictures.
+fn say_tags(out: &mut Answer, extent: Extent, text: &str) {
+    for piece in text.split('<') {
+        say_tag(out, extent, Tag::read(piece));
+    }
+}
+
+/// Says only the paragraphs of the page, and how many keys its table has.
+pub fn say_sums(out: &mut Answer, page: &str) {
+    let mut rows = 0u64;
+    for piece in page.split('<') {
+        let tag = Tag::read(piece);
+        if is_key(tag) {
+            rows = rows.saturating_add(1);
+        }
+        if tag.name == "p" && !tag.text.is_empty() {
+            say_line(out, tag.class(), tag.text.trim());
+        }
+    }
+    write!(out, "\nrows: {rows}\n");
+}
+
+/// Says what the page says and shows.
+pub fn say_page(out: &mut Answer, extent: Extent, page: &str) {
+    for part in page.split("<svg ") {
+        match part.split_once("</svg>") {
+            Some((text, rest)) => {
+                if extent.pictures {
+                    say_picture(out, Picture { text });
+                }
+                say_tags(out, extent, rest);
+            }
+            None => say_tags(out, extent, part),
+        }
+    }
+    out.push("\n");
+}
