@@ -17,6 +17,10 @@ pub record Leaves (old new : Option (List ℕ)) (text rest : List ℕ) : Type 0 
 abbrev pub AppendsPrefix : Option (List ℕ) → Option (List ℕ) → List ℕ → Type 0
 AppendsPrefix old new text = (rest : List ℕ) × Leaves old new text rest
 
+-- so many bytes don't wait any longer
+abbrev pub batch_limit : ℕ
+batch_limit = 262144
+
 -- a device's fault comes only where the count of failures grew
 abbrev pub HasFailedBy : WriteFault → ℕ → ℕ → Type 0
 HasFailedBy fault.Device old new = IsOneMore old new

@@ -1,6 +1,7 @@
 //! Texts on their way to a writer.
-ghost use Rattle.std.specs.Prelude.{◌≡◌, [], true, OnOk, OnErr, IfErr};
-ghost use Rattle.counted_devices.specs.Sendings.{FailsBy, FailsByDevice, Sends, SendsBut, SendsStart, pieces_text};
+ghost use Rattle.std.specs.Prelude.{◌≡◌, ◌<◌, [], true, length, OnOk, OnErr, IfErr};
+ghost use Rattle.counted_devices.specs.Sendings.{FailsBy, FailsByDevice, Sends, SendsBut, SendsStart};
+ghost use Rattle.counted_devices.specs.Sendings.{batch_limit, pieces_text};
 
 use crate::{CountedWrite, WriteFault};
 
@@ -25,10 +26,11 @@ fn write_all<W: CountedWrite>(writer: &mut W, bytes: &[u8]) -> Result<(), WriteF
     Ok(())
 }
 
-/// Writes what waits, once it is enough.
+/// Writes what waits, once it is enough: fewer bytes than that wait afterwards.
 pub fn relieve<W: CountedWrite>(batch: &mut Vec<u8>, writer: &mut W) -> Result<(), WriteFault>
     ensures sent { OnOk result
         (SendsBut W.contents writer.old writer.new batch.old.items batch.new.items) }
+    ensures few { OnOk result (length batch.new.items < batch_limit) }
     ensures begun { OnErr result (SendsStart W.contents writer.old writer.new batch.old.items) }
     ensures device { IfErr result (FailsBy W.failures writer.old writer.new) }
     ensures counted { OnOk result (W.failures writer.new ≡ W.failures writer.old) }

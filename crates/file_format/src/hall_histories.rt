@@ -1,8 +1,10 @@
 //! Rows of several halls that follow one another.
-ghost use Rattle.std.specs.Prelude.{◌≡◌, ◌<◌, ◌↔◌, List, [], length, IfOk, OnErr, IsTrue};
+ghost use Rattle.std.specs.Prelude.{◌≡◌, ◌<◌, ◌↔◌, Err, List, [], length, IfOk, OnErr, IsTrue};
 ghost use Rattle.recorder.specs.Halls.{FallsTo};
+ghost use Rattle.counted_devices.specs.declared.read_fault.Stop.TheVariants as stop;
 ghost use Rattle.file_format.specs.FileHeaders.{halls_in, header_with};
 ghost use Rattle.file_format.specs.Formats.{Follows};
+ghost use Rattle.file_format.specs.HallStates.{IsPlacedInHall};
 ghost use Rattle.file_format.specs.HistoriesFormat.{histories_format, MakesHistories, AreHistories};
 ghost use Rattle.file_format.specs.declared.file_header.FileHeader.{FileHeader};
 ghost use Rattle.file_format.specs.declared.hall_row.HallRow.{HallRow};
@@ -63,13 +65,15 @@ impl HallHistories {
         self.header
     }
 
-    /// Adds the row at the end of its hall's rows, or says which fault it has there.
+    /// Adds the row at the end of its hall's rows, or says which fault it has there. `Memory` comes only if
+    /// it has none.
     #[inline(always)]
     pub fn follow(&mut self, item: HallRow) -> Result<(), Stop>
         ensures follows { (header : FileHeader) (items : List HallRow)
             → MakesHistories header items self.old → AreHistories header items
             → Follows histories_format MakesHistories header items item result self.new }
         ensures unchanged { OnErr result (self.new ≡ self.old) }
+        ensures memory { result ≡ Err stop.Memory → IsPlacedInHall self.old.halls item }
     {
         let HallRow { hall, row } = item;
         if hall >= self.header.halls() {

@@ -298,16 +298,31 @@ to_client client (Some (ToReplica number request)) is = absurd is
 to_client client (Some (ToClient name reply)) is = ap (λ n. Some n) is
 
 pub takes_flight : {client : ℕ} {v z : View} {old new : Hall} → ClientTurn client v old new z
-    → (flight : ℕ) (result : Result Effect Refusal)
+    → IsReplay old → IsSound old.world → (flight : ℕ) (result : Result Effect Refusal)
     → DeliversFlight (IsToClient client) old flight result new → TakesFlight (seen client v) flight result (seen client z)
-takes_flight {client} {v} {z} {old} {new} turn flight result delivered =
-    record { before = old; after = new; others = turn.others; delivered = delivered; is = ap (seen client) turn.is }
+takes_flight {client} {v} {z} {old} {new} turn replay sound flight result delivered = record {
+  before = old;
+  after = new;
+  replay = replay;
+  sound = sound;
+  others = turn.others;
+  delivered = delivered;
+  is = ap (seen client) turn.is;
+}
 
 -- a turn in which the hall took a step or refused it
-pub took_turn : {client : ℕ} {v z : View} {old new : Hall} → ClientTurn client v old new z → (step : Step) (result : Result Effect Refusal)
+pub took_turn : {client : ℕ} {v z : View} {old new : Hall} → ClientTurn client v old new z → IsReplay old → IsSound old.world
+    → (step : Step) (result : Result Effect Refusal)
     → TakesOrRefuses old step result new → TakesTurn (seen client v) step result (seen client z)
-took_turn {client} {v} {z} {old} {new} turn step result took =
-    record { before = old; after = new; others = turn.others; took = took; is = ap (seen client) turn.is }
+took_turn {client} {v} {z} {old} {new} turn replay sound step result took = record {
+  before = old;
+  after = new;
+  replay = replay;
+  sound = sound;
+  others = turn.others;
+  took = took;
+  is = ap (seen client) turn.is;
+}
 
 pub delayed : {client : ℕ} {v z : View} {old new : Hall} → ClientTurn client v old new z → (step : Step) (count : ℕ) (delay : Delay)
     → IsReplay old
@@ -316,7 +331,7 @@ delayed {client} {v} {z} {old} {new} turn step count Foreign replay sound held =
     looks_at (subst (λ h. ClientTurn client v old h z) held.1 turn) (λ s. length s.history.rows < count) replay sound held.0
 delayed {client} {v} {z} {old} {new} turn step count (Refused why) replay sound held = (
   subst (λ l. count ≤ length l) (sym (ap (λ (y : View). y.rows) turn.is ∙ ap (λ (h : Hall). h.world.history.rows) held.1.1)) held.0,
-  took_turn turn step (Err why) held.1,
+  took_turn turn replay sound step (Err why) held.1,
 )
 
 pub ended : {client : ℕ} {v z : View} {old new : Hall} → ClientTurn client v old new z → (op : OpId) (returned : Returned) (place : ℕ)
@@ -357,7 +372,8 @@ door_turn client v w step result is turn =
 
 pub turn_seen : (client : ℕ) (v w : View) (step : Step) (result : Result Effect Refusal) → v ≡ seat client v.rows v.is_stopped
     → Turns v step result w → TakesTurn (seen client v) step result (seen client w)
-turn_seen client v w step result is turn = took_turn (door_turn client v w step result is turn) step result turn.took
+turn_seen client v w step result is turn =
+    took_turn (door_turn client v w step result is turn) turn.replay turn.sound step result turn.took
 
 pub quiet_seen : (client : ℕ) (v w : View) (step : Step) (result : Result Effect Refusal) → IsQuiet step
     → v ≡ seat client v.rows v.is_stopped

@@ -1,5 +1,5 @@
 -- What a turn of a pass without a client leaves.
-use Rattle.std.proofs.Common.{◌≡◌, ℕ, List, [], Option, Some, None, option_map, Result, refl, sym, ap, ◌∙◌, subst}
+use Rattle.std.proofs.Common.{◌≡◌, ℕ, List, [], Option, Some, None, option_map, Result, Err, refl, sym, ap, ◌∙◌, subst}
 use Rattle.std.specs.FinMap as finite
 use Rattle.std.specs.Ordering.{nat_cmp}
 use Rattle.tag.proofs.Options.{none_some}
@@ -11,12 +11,13 @@ use Rattle.recorder.specs.declared.row.Row.{Row}
 use Rattle.world_steps.specs.Configs.{Config, config_of}
 use Rattle.world_steps.specs.Lasting.{Grows, HasJoined, HasStopped, receiver}
 use Rattle.world_steps.specs.Refusals.{is_stopped}
+use Rattle.world_steps.specs.SoundSystems.{IsSound}
 use Rattle.world_steps.specs.Systems.{opening}
 use Rattle.world_steps.specs.declared.effect.Effect.{Effect}
 use Rattle.world_steps.specs.declared.refusal.Refusal.{Refusal}
 use Rattle.world_steps.specs.declared.step.Step.{Step}
 use Rattle.world_steps.specs.declared.system.System.{System}
-use Rattle.hall_journal.specs.Halls.{Hall, opening_hall}
+use Rattle.hall_journal.specs.Halls.{Hall, IsReplay, TakesOrRefuses, opening_hall}
 use Rattle.hall_lock.specs.declared.rule.View.{View}
 use Rattle.hall_lock.specs.Turns.{AreRecorded, DeliversFlight, IsCopied, IsTold, IsToReplica, MayReturn, Receives, Returns, ServesFlight}
 use Rattle.hall_lock.specs.Turns.{ServesStep, Turns, guest, maker, view_at_rest}
@@ -48,6 +49,8 @@ pub served : (v w : View) (step : Step) (result : Result Effect Refusal) → Tur
 served v w step result turn = record {
   before = turn.before;
   after = turn.after;
+  replay = turn.replay;
+  sound = turn.sound;
   grown = turn.knows.seen;
   took = turn.took;
   is = ap
@@ -59,14 +62,33 @@ pub guest_turned : (v w : View) (step : Step) (result : Result Effect Refusal) �
 guest_turned v w step result is turn = guest_recorded w turn.after (turn.is ∙ ap (λ y. view_at_rest y turn.after.world) is) turn.recorded
 
 pub served_flight : (v w z : View) (old new : Hall) (replica flight : ℕ) (result : Result Effect Refusal) → Receives v old w
-    → Returns w new z → DeliversFlight (IsToReplica replica) old flight result new → ServesFlight v.rows replica flight result z.rows
-served_flight v w z old new replica flight result received returned delivered = record {
+    → Returns w new z → IsReplay old → IsSound old.world → DeliversFlight (IsToReplica replica) old flight result new
+    → ServesFlight v.rows replica flight result z.rows
+served_flight v w z old new replica flight result received returned replay sound delivered = record {
   before = old;
   after = new;
+  replay = replay;
+  sound = sound;
   grown = received.knows.seen;
   delivered = delivered;
   is = ap (λ (y : View). y.rows) (rested v w z old new received.is returned);
 }
+
+-- the hall refused a step, and was given back
+pub refused : {v w z : View} {old new : Hall} {step : Step} {why : Refusal} → Receives v old w → Returns w new z → IsReplay old
+    → IsSound old.world → TakesOrRefuses old step (Err why) new → (rows : List Row) × ServesStep v.rows step (Err why) rows
+refused {v} {w} {z} {old} {new} {step} {why} received returned replay sound took = (
+  z.rows,
+  record {
+    before = old;
+    after = new;
+    replay = replay;
+    sound = sound;
+    grown = received.knows.seen;
+    took = took;
+    is = ap (λ (y : View). y.rows) (rested v w z old new received.is returned);
+  },
+)
 
 pub grown_by : (v w z : View) (old new : Hall) → Receives v old w → Returns w new z → new ≡ old → Grows v.rows z.rows
 grown_by v w z old new received returned same =

@@ -227,14 +227,16 @@ pub recorded : (hall : Hall) → IsReplay hall → IsSound hall.world → IsWell
 recorded hall replay sound formed = record { hall = hall; replay = replay; sound = sound; is = refl; formed = formed }
 
 pub turned : (v w z : View) (old new : Hall) (step : Step) (result : Result Effect Refusal) → Receives v old w
-    → TakesOrRefuses old step result new
+    → IsReplay old → IsSound old.world → TakesOrRefuses old step result new
     → AreRecorded new.world.history.rows → Returns w new z → KeepsStopped w new.world → Turns v step result z
-turned v w z old new step result received took sound returned keeps = record {
+turned v w z old new step result received replay sound took recorded returned keeps = record {
   before = old;
   after = new;
+  replay = replay;
+  sound = sound;
   knows = received.knows;
   took = took;
   stays = λ client stopped. keeps old.world client (ap (λ (y : View). y.held) received.is) stopped;
-  recorded = sound;
+  recorded = recorded;
   is = rested v w z old new received.is returned;
 }

@@ -237,6 +237,8 @@ pub record AreRecorded (rows : List Row) : Type 0 where
 pub record Turns (v : View) (step : Step) (result : Result Effect Refusal) (w : View) : Type 0 where
   pub before : Hall
   pub after : Hall
+  pub replay : IsReplay before
+  pub sound : IsSound before.world
   pub knows : Knows v before.world
   pub took : TakesOrRefuses before step result after
   pub stays : (client : ℕ) → HasStopped before.world client → HasStopped after.world client
@@ -283,22 +285,26 @@ client_view client s = record {
   is_stopped = is_stopped (phase_at s client);
 }
 
--- one turn: since the client last saw the hall only other clients added rows; then the hall took
--- the step or refused it
+-- one turn with a hall that its journal's steps reach: since the client last saw it only other
+-- clients added rows; then it took the step or refused it
 pub record TakesTurn (old : ClientView) (step : Step) (result : Result Effect Refusal)
     (new : ClientView) : Type 0 where
   pub before : Hall
   pub after : Hall
+  pub replay : IsReplay before
+  pub sound : IsSound before.world
   pub others : OthersAdd old.client old.rows before.world.history.rows
   pub took : TakesOrRefuses before step result after
   pub is : new ≡ client_view old.client after.world
 
--- one turn: since the client last saw the hall only other clients added rows; then the flight was
--- delivered to the client, or wasn't
+-- one turn with a hall that its journal's steps reach: since the client last saw it only other
+-- clients added rows; then the flight was delivered to the client, or wasn't
 pub record TakesFlight (old : ClientView) (flight : ℕ) (result : Result Effect Refusal)
     (new : ClientView) : Type 0 where
   pub before : Hall
   pub after : Hall
+  pub replay : IsReplay before
+  pub sound : IsSound before.world
   pub others : OthersAdd old.client old.rows before.world.history.rows
   pub delivered : DeliversFlight (IsToClient old.client) before flight result after
   pub is : new ≡ client_view old.client after.world
@@ -371,25 +377,34 @@ HasNoCall client rows = (place : ℕ) (op : OpId) (key : List ℕ) (action : Act
 
 -- ---- what contracts say of a pass without a client
 
--- one turn of a pass without a client, which had seen these rows: the hall took the step or refused
--- it
+-- one turn of a pass without a client, which had seen these rows: a hall that its journal's steps
+-- reach took the step or refused it
 pub record ServesStep (old : List Row) (step : Step) (result : Result Effect Refusal)
     (new : List Row) : Type 0 where
   pub before : Hall
   pub after : Hall
+  pub replay : IsReplay before
+  pub sound : IsSound before.world
   pub grown : Grows old before.world.history.rows
   pub took : TakesOrRefuses before step result after
   pub is : new ≡ after.world.history.rows
 
--- one turn of a pass without a client, which had seen these rows: the flight was delivered to the
--- replica, or wasn't
+-- one turn of a pass without a client, which had seen these rows: in a hall that its journal's
+-- steps reach the flight was delivered to the replica, or wasn't
 pub record ServesFlight (old : List Row) (replica flight : ℕ) (result : Result Effect Refusal)
     (new : List Row) : Type 0 where
   pub before : Hall
   pub after : Hall
+  pub replay : IsReplay before
+  pub sound : IsSound before.world
   pub grown : Grows old before.world.history.rows
   pub delivered : DeliversFlight (IsToReplica replica) before flight result after
   pub is : new ≡ after.world.history.rows
+
+-- one turn of a pass that had seen these rows, in which a hall refused that the client joins it
+abbrev pub RefusesJoin : List Row → ℕ → Refusal → Type 0
+RefusesJoin old client why =
+    (new : List Row) × ServesStep old (step.Join client) (Err why) new
 
 -- the history is a copy of a hall's record, which begins with the rows that were seen
 pub record IsCopied (seen : List Row) (history : Recorded) : Type 0 where

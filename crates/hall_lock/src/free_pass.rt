@@ -11,7 +11,7 @@ ghost use Rattle.world_steps.specs.declared.effect.Effect.TheVariants as effect;
 ghost use Rattle.world_steps.specs.declared.step.Step.TheVariants as event;
 ghost use Rattle.hall_journal.specs.Halls.{IsReplay, TakesOrRefuses};
 ghost use Rattle.hall_lock.specs.Turns.{AddsOwnRows, AreRecorded, DeliversFlight, HasNoCall, IsCopied};
-ghost use Rattle.hall_lock.specs.Turns.{IsStepOfNoClient, IsToReplica, IsTold, ServesFlight, ServesStep};
+ghost use Rattle.hall_lock.specs.Turns.{IsStepOfNoClient, IsToReplica, IsTold, RefusesJoin, ServesFlight, ServesStep};
 
 use crate::client_pass::ClientPass;
 use crate::door::{Door, take_in};
@@ -115,11 +115,12 @@ impl FreePass {
         told
     }
 
-    /// One turn: the client joins, and has this pass from now on.
+    /// One turn: the client joins, and has this pass from now on; or the hall refuses that.
     pub fn join(self, rt: &impl Wait, client: ClientId) -> Result<ClientPass, Refusal>
         ensures client { IfOk result (λ pass. pass.client ≡ client) }
         ensures running { IfOk result (λ pass. pass.is_stopped ≡ false) }
         ensures rows { IfOk result (λ pass. Grows self pass.rows × HasNoCall client pass.rows) }
+        ensures why { IfErr result (λ why. RefusesJoin self client why) }
     {
         let FreePass { mut door } = self;
         let mut hall = door.receive(rt);
@@ -178,6 +179,8 @@ fn is_to(message: Option<&Message>, replica: ReplicaId) -> bool
 fn join_in(hall: &mut Hall, client: ClientId) -> Result<(), Refusal>
     ensures joined { OnOk result (TakesOrRefuses hall.old (event.Join client) (Ok effect.Joined) hall.new) }
     ensures refused { OnErr result (hall.new ≡ hall.old) }
+    ensures why { IfErr result (λ why.
+        TakesOrRefuses hall.old (event.Join client) (Err why) hall.new) }
     ensures adds { OnOk result (AddsOwnRows (Some client) hall.old.world hall.new.world) }
 {
     match take_in(hall, Step::Join { client }) {

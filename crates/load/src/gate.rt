@@ -104,6 +104,8 @@ impl<L: Watch> CountingGate<L> {
 }
 
 impl<L: Watch> Gate for CountingGate<L> {
+    ghost answers = { IsPassed };
+
     fn at(&self, place: &Place) -> Pass {
         if let Place::Respond { .. } = place {
             self.watch.answered();

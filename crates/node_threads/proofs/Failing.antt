@@ -5,6 +5,7 @@ use Rattle.tag.specs.declared.actions.Action.{Action}
 use Rattle.seats.specs.declared.errors.CallError.{CallError}
 use Rattle.seats.specs.declared.errors.CallError.TheVariants as fault
 use Rattle.seats.specs.Answers.{CallLeaves, FailsWith, LeavesUnanswered}
+use Rattle.seats.specs.Rounds.{Reach}
 use Rattle.seats.specs.declared.seat.Answer.{Answer}
 use Rattle.seats.specs.Seats.{DidNotBegin, Seat}
 use Rattle.seats.proofs.SeatChanges.{unbegun}
@@ -23,6 +24,6 @@ leaves_unanswered (Ok x) old hall key action new is = tt
 leaves_unanswered (Err error) old hall key action new is = left_unanswered error old hall key action new is
 
 -- the call's hall is that of its key
-pub leaves_in : (old : Seat) (hall other : ℕ) (key : List ℕ) (action : Action) (r : Result Answer CallError) (new : Seat) → hall ≡ other
-    → CallLeaves old hall key action r new → CallLeaves old other key action r new
-leaves_in old hall other key action r new same left = subst (λ h. CallLeaves old h key action r new) same left
+pub leaves_in : {reach : Reach} (old : Seat) (hall other : ℕ) (key : List ℕ) (action : Action) (r : Result Answer CallError) (new : Seat) → hall ≡ other
+    → CallLeaves reach old hall key action r new → CallLeaves reach old other key action r new
+leaves_in {reach} old hall other key action r new same left = subst (λ h. CallLeaves reach old h key action r new) same left

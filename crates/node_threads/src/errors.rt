@@ -1,5 +1,9 @@
 //! Why a store isn't started or joined, or leaves nothing.
 ghost use Rattle.std.specs.Prelude.{◌≡◌};
+ghost use Rattle.node_threads.specs.declared.errors.CloseError.{CloseError};
+ghost use Rattle.node_threads.specs.declared.errors.JoinError.{JoinError};
+ghost use Rattle.node_threads.specs.declared.errors.StartError.{StartError};
+ghost use Rattle.node_threads.specs.Joins.{join_error_of};
 ghost use Rattle.node_threads.specs.Numbers.{close_error_name, close_error_number};
 ghost use Rattle.node_threads.specs.Numbers.{join_error_number, start_error_number};
 
@@ -79,24 +83,32 @@ impl CloseError {
 }
 
 impl From<AllocError> for JoinError {
+    ghost from_gives = { λ _ e. e ≡ JoinError.Memory };
+
     fn from(_: AllocError) -> JoinError {
         JoinError::Memory
     }
 }
 
 impl From<Memory> for JoinError {
+    ghost from_gives = { λ _ e. e ≡ JoinError.Memory };
+
     fn from(_: Memory) -> JoinError {
         JoinError::Memory
     }
 }
 
 impl<T: Drop> From<AllocFailed<T>> for JoinError {
+    ghost from_gives = { λ _ e. e ≡ JoinError.Memory };
+
     fn from(_: AllocFailed<T>) -> JoinError {
         JoinError::Memory
     }
 }
 
 impl From<Refusal> for JoinError {
+    ghost from_gives = { λ why e. e ≡ join_error_of why };
+
     fn from(refusal: Refusal) -> JoinError {
         match refusal {
             Refusal::Memory => JoinError::Memory,
@@ -106,24 +118,32 @@ impl From<Refusal> for JoinError {
 }
 
 impl From<Memory> for CloseError {
+    ghost from_gives = { λ _ e. e ≡ CloseError.Memory };
+
     fn from(_: Memory) -> CloseError {
         CloseError::Memory
     }
 }
 
 impl From<AllocError> for StartError {
+    ghost from_gives = { λ _ e. e ≡ StartError.Memory };
+
     fn from(_: AllocError) -> StartError {
         StartError::Memory
     }
 }
 
 impl From<Memory> for StartError {
+    ghost from_gives = { λ _ e. e ≡ StartError.Memory };
+
     fn from(_: Memory) -> StartError {
         StartError::Memory
     }
 }
 
 impl<T: Drop> From<AllocFailed<T>> for StartError {
+    ghost from_gives = { λ _ e. e ≡ StartError.Memory };
+
     fn from(_: AllocFailed<T>) -> StartError {
         StartError::Memory
     }

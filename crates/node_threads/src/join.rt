@@ -1,6 +1,6 @@
 //! How a client joins the halls of a store, and what is left of it if one refuses.
-ghost use Rattle.std.specs.Prelude.{◌≡◌, ◌+◌, [], length, IfOk, OnErr, OnOk};
-ghost use Rattle.node_threads.specs.Joins.{AreOfClient, AreOfStoppedClient};
+ghost use Rattle.std.specs.Prelude.{◌≡◌, ◌+◌, [], length, IfErr, IfOk, OnErr, OnOk};
+ghost use Rattle.node_threads.specs.Joins.{AreOfClient, AreOfStoppedClient, IsNotJoined};
 ghost use Rattle.seats.specs.Seats.{AreFresh, AreZero};
 
 use crate::errors::JoinError;
@@ -21,6 +21,15 @@ pub(crate) fn none_seen(alloc: Global, halls: usize) -> Result<Vec<usize>, Memor
     Ok(seen)
 }
 
+/// A hall wasn't joined.
+#[derive(Clone, Copy, Debug)]
+pub(crate) struct NotJoined {
+    /// How many halls were joined before it.
+    joined: usize,
+    /// Why it wasn't.
+    pub(crate) error: JoinError,
+}
+
 /// Has the client join all these halls, one after another; their passes come in their order. If one refuses, the
 /// client is stopped in those that it joined.
 pub(crate) fn enter_halls<R: Wait>(
@@ -28,16 +37,17 @@ pub(crate) fn enter_halls<R: Wait>(
     roots: &[Mutex<FreePass>],
     client: ClientId,
     passes: &mut Vec<ClientPass>,
-) -> Result<(), JoinError>
+) -> Result<(), NotJoined>
     requires { passes.old.items ≡ [] }
     ensures fresh { OnOk result (AreFresh client passes.new.items) }
     ensures all { OnOk result (length passes.new.items ≡ length roots.now) }
-    ensures stopped { OnErr result (AreOfStoppedClient client passes.new.items) }
+    ensures stopped { IfErr result (λ not. AreOfStoppedClient client not.joined passes.new.items) }
+    ensures why { IfErr result (λ not. IsNotJoined client not.error) }
 {
-    for root in roots {
+    for (joined, root) in roots.iter().enumerate() {
         if let Err(error) = join_hall(rt, root, passes, client) {
             stop_all(rt, client, passes);
-            return Err(error);
+            return Err(NotJoined { joined, error });
         }
     }
     Ok(())
@@ -54,6 +64,7 @@ fn join_hall<R: Wait>(
     ensures fresh { AreFresh client passes.new.items }
     ensures one { OnOk result (length passes.new.items ≡ length passes.old.items + 1) }
     ensures none { OnErr result (length passes.new.items ≡ length passes.old.items) }
+    ensures why { IfErr result (λ error. IsNotJoined client error) }
 {
     passes.reserve(1)?;
     let free = root.lock(rt).another()?;
@@ -66,8 +77,7 @@ fn join_hall<R: Wait>(
 /// Stops the client in the halls of these passes, which are its own.
 fn stop_all<R: Wait>(rt: &R, client: ClientId, passes: &mut [ClientPass])
     requires { AreOfClient client passes.old }
-    ensures stopped { AreOfStoppedClient client passes.new }
-    ensures count { length passes.new ≡ length passes.old }
+    ensures stopped { AreOfStoppedClient client (length passes.old) passes.new }
 {
     for pass in passes.iter_mut() {
         pass.stop(rt);

@@ -6,9 +6,10 @@ ghost use Rattle.std.specs.Fn.{FnOnceReturnsAt};
 ghost use Rattle.hall_lock.specs.Turns.{IsTold};
 ghost use Rattle.seats.specs.Answers.{FailsWith, LeavesUnanswered, HasReason, IsAnswered, SeesFewer};
 ghost use Rattle.node_threads.specs.Closings.{Closes, HasForeign, IsOfAnotherStore, IsOfStore};
-ghost use Rattle.node_threads.specs.Joins.{IsNewSeat};
+ghost use Rattle.node_threads.specs.Joins.{IsNewSeat, IsNotJoined};
 ghost use Rattle.node_threads.specs.Snapshots.{IsSnapshotFor};
-ghost use Rattle.node_threads.specs.Stores.{replica_count, round_limit};
+ghost use Rattle.node_threads.specs.Stores.{AllTakeOrNeedNot, reach_of, replica_count, round_limit};
+ghost use Rattle.world_steps.specs.declared.step.Step.TheVariants as event;
 
 use crate::closing::{Closed, are_logged, are_of_store, closed_halls, end_replicas, is_of_store};
 use crate::config::StoreConfig;
@@ -46,10 +47,12 @@ impl<G> Model for Store<G> {
     ghost Value = { Store G };
 
     ghost use Rattle.std.specs.Prelude.{◌≡◌, length};
+    ghost use Rattle.node_threads.specs.Stores.{replica_count};
 
     ghost view = { λ s. record { config = s.config; gate = s.gate.value } };
 
-    ghost invariant = { λ s. length s.roots.items ≡ s.config.halls };
+    ghost invariant = { λ s. (length s.roots.items ≡ s.config.halls)
+        × (length s.channels.items ≡ replica_count s.config) };
 }
 
 impl<G: Gate + Send + Sync + Drop + 'static> Store<G> {
@@ -109,14 +112,15 @@ fn start_replicas<R, G>(
 where
     R: Threads + Wait + Copy + Send + 'static,
     G: Gate + Send + Sync + Drop + 'static,
+    requires { length roots.now ≡ config.now.halls }
+    ensures { IfOk result (λ channels. length channels.items ≡ replica_count config.now) }
 {
     let mut channels = Vec::new(alloc);
-    for number in 0..15 {
-        if let Some(replica) = ReplicaId::new(number) {
-            if number < config.world.replicas() {
-                channels.push(start_replica(rt, alloc, replica, roots, gate, ended)?)?;
-            }
-        }
+    for number in 0..config.world.replicas() {
+        let Some(replica) = ReplicaId::new(number) else {
+            unreachable!()
+        };
+        channels.push(start_replica(rt, alloc, replica, config.halls, roots, gate, ended)?)?;
     }
     Ok(channels)
 }
@@ -126,6 +130,7 @@ fn start_replica<R, G>(
     rt: &R,
     alloc: Global,
     replica: ReplicaId,
+    halls: Halls,
     roots: &[Mutex<FreePass>],
     gate: &Arc<G, Global>,
     ended: &Sender<ReplicaId>,
@@ -133,21 +138,37 @@ fn start_replica<R, G>(
 where
     R: Threads + Wait + Copy + Send + 'static,
     G: Gate + Send + Sync + Drop + 'static,
+    requires { length roots.now ≡ halls }
 {
     let (channel, parcels) = unbounded(alloc)?;
     let passes = others(rt, alloc, roots)?;
     let ended = ended.clone()?;
     let own = *rt;
     let theirs = Arc::try_clone(gate)?;
-    let started = thread::spawn(rt, move || {
-        serve(&own, &*theirs, replica, passes, parcels);
-        // Each replica's end has its room from the start, so this neither waits nor takes memory.
-        let _ = ended.send(&own, replica);
-    });
-    if started.is_err() {
-        return Err(StartError::Thread);
-    }
+    let started = thread::spawn(
+        rt,
+        move ||
+            requires { length passes.items ≡ halls }
+        {
+            serve(&own, &*theirs, replica, halls, passes, parcels);
+            // Each replica's end has its room from the start, so this neither waits nor takes memory.
+            let _ = ended.send(&own, replica);
+        },
+    );
+    is_started(started.is_ok())?;
     Ok(channel)
+}
+
+/// Says that a thread wasn't started, where it wasn't.
+fn is_started(has_started: bool) -> Result<(), StartError>
+    ensures started { OnOk result (has_started ≡ true) }
+    ensures why { IfErr result (λ error. (error ≡ StartError.Thread) × (has_started ≡ false)) }
+{
+    if has_started {
+        Ok(())
+    } else {
+        Err(StartError::Thread)
+    }
 }
 
 /// Another pass to each hall.
@@ -155,7 +176,9 @@ fn others<R: Wait>(
     rt: &R,
     alloc: Global,
     roots: &[Mutex<FreePass>],
-) -> Result<Vec<FreePass>, StartError> {
+) -> Result<Vec<FreePass>, StartError>
+    ensures { IfOk result (λ passes. length passes.items ≡ length roots.now) }
+{
     let mut passes = Vec::new(alloc);
     for root in roots {
         passes.push(root.lock(rt).another()?)?;
@@ -167,11 +190,14 @@ impl<G: Gate> Store<G> {
     /// A seat for a new client, in all halls, which it joins one after another. After an error the client
     /// is stopped in the halls below the one that refused, and its name is spent there.
     pub fn join<R: Wait>(&self, rt: &R, alloc: Global, client: ClientId) -> Result<Seat, JoinError>
-        ensures { IfOk result (IsNewSeat self.now.config client) }
+        ensures seat { IfOk result (IsNewSeat self.now.config client) }
+        ensures why { IfErr result (λ error. IsNotJoined client error) }
     {
         let seen = none_seen(alloc, usize::from(self.config.halls.count()))?;
         let mut passes = Vec::new(alloc);
-        enter_halls(rt, &self.roots, client, &mut passes)?;
+        if let Err(not) = enter_halls(rt, &self.roots, client, &mut passes) {
+            return Err(not.error);
+        }
         Ok(new_seat(alloc, self.config.store, client, passes, seen))
     }
 
@@ -200,7 +226,7 @@ impl<G: Gate> Store<G> {
         ensures own { OnOk result (IsOfStore self.now.config seat.old) }
         ensures reason { seat.old.is_spent ≡ false → IsOfStore self.now.config seat.old
             → IfErr result (λ error.
-            HasReason error seat.old (hall_of self.now.config.halls key) key action seat.new) }
+            HasReason (reach_of self.now.config) error seat.old (hall_of self.now.config.halls key) key action seat.new) }
         ensures stale { seat.old.is_spent ≡ false
             → SeesFewer seat.old (hall_of self.now.config.halls key) seat.new
             → (result ≡ Err CallError.Foreign) ⊎ (result ≡ Err CallError.Memory) }
@@ -265,6 +291,8 @@ impl<G: Gate> Store<G> {
         ensures lacks { replica_count self.now.config ≤ replica → result ≡ Err Refusal.NoSuchReplica }
         ensures why { replica < replica_count self.now.config
             → IfErr result (λ why. (why ≡ Refusal.ReplicaDown) ⊎ (why ≡ Refusal.Memory)) }
+        ensures each { OnOk result
+            (AllTakeOrNeedNot self.now.config.halls (event.StopReplica replica)) }
     {
         switch_replica(rt, &self.config, &self.roots, replica, Wanted::Down)
     }
@@ -276,6 +304,8 @@ impl<G: Gate> Store<G> {
         ensures lacks { replica_count self.now.config ≤ replica → result ≡ Err Refusal.NoSuchReplica }
         ensures why { replica < replica_count self.now.config
             → IfErr result (λ why. (why ≡ Refusal.ReplicaUp) ⊎ (why ≡ Refusal.Memory)) }
+        ensures each { OnOk result
+            (AllTakeOrNeedNot self.now.config.halls (event.StartReplica replica)) }
     {
         switch_replica(rt, &self.config, &self.roots, replica, Wanted::Up)
     }

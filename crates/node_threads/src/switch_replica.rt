@@ -1,7 +1,7 @@
 //! How a replica stops, or starts, in each hall of a store.
-ghost use Rattle.std.specs.Prelude.{◌≡◌, ◌<◌, ◌≤◌, ◌+◌, ◌⊎◌, Err, None, length, IfErr, IfOk};
+ghost use Rattle.std.specs.Prelude.{◌≡◌, ◌<◌, ◌≤◌, ◌+◌, ◌⊎◌, Err, None, length, IfErr, IfOk, OnOk};
 ghost use Rattle.hall_lock.specs.Turns.{IsStepOfNoClient};
-ghost use Rattle.node_threads.specs.Stores.{idle_refusal, replica_count};
+ghost use Rattle.node_threads.specs.Stores.{AllTakeOrNeedNot, idle_refusal, replica_count, switch_step};
 
 use crate::config::StoreConfig;
 use hall_lock::FreePass;
@@ -28,7 +28,8 @@ struct Tally {
 impl Wanted {
     /// The step that makes it so.
     fn step(self, replica: ReplicaId) -> Step
-        ensures { IsStepOfNoClient result }
+        ensures step { result ≡ switch_step self replica }
+        ensures free { IsStepOfNoClient result }
     {
         match self {
             Wanted::Down => Step::StopReplica { replica },
@@ -56,7 +57,9 @@ pub(crate) fn switch_replica<R: Wait>(
     replica: ReplicaId,
     wanted: Wanted,
 ) -> Result<(), Refusal>
+    requires { length roots.now ≡ config.now.halls }
     ensures lacks { replica_count config.now ≤ replica → result ≡ Err Refusal.NoSuchReplica }
+    ensures each { OnOk result (AllTakeOrNeedNot config.now.halls (switch_step wanted replica)) }
     ensures why { replica < replica_count config.now
         → IfErr result (λ why. (why ≡ idle_refusal wanted) ⊎ (why ≡ Refusal.Memory)) }
 {
@@ -78,7 +81,9 @@ fn switch_in_each<R: Wait>(
     replica: ReplicaId,
     wanted: Wanted,
 ) -> Result<Tally, Memory>
-    ensures { IfOk result (λ tally. tally.took + tally.idle ≡ length roots.now) }
+    ensures all { IfOk result (λ tally. tally.took + tally.idle ≡ length roots.now) }
+    ensures each { OnOk result
+        (AllTakeOrNeedNot (length roots.now) (switch_step wanted replica)) }
 {
     let mut tally = Tally { took: 0, idle: 0 };
     for root in roots {

@@ -11,6 +11,7 @@ use Rattle.seats.specs.declared.errors.CallError.TheVariants as fault
 use Rattle.seats.specs.declared.errand.Stall.{Stall}
 use Rattle.seats.specs.declared.errand.Stall.TheVariants as stall
 use Rattle.seats.specs.Reasons.{IsHeldBack, IsStalled, delay_error, refusal_error, stall_error}
+use Rattle.seats.specs.Rounds.{Reach}
 
 -- an error of a call that didn't begin: none of a call whose rounds ran out, and none of a spent seat
 abbrev pub MayRefuse : CallError → Type 0
@@ -46,11 +47,12 @@ delay_may (delay.Refused why) = refused_may why
 
 stall_may : (s : Stall) → MayStay (stall_error s)
 stall_may stall.Unavailable = tt
+stall_may stall.Gone = tt
 stall_may stall.Full = tt
 stall_may stall.Memory = tt
 
 pub held_may : (old : ClientView) (key : List ℕ) (action : Action) (seen : ℕ) (error : CallError) (new : ClientView) → IsHeldBack old key action seen error new → MayRefuse error
 held_may old key action seen error new held = subst MayRefuse (sym held.told) (delay_may held.delay)
 
-pub stalled_may : (old : ClientView) (error : CallError) (new : ClientView) → IsStalled old error new → MayStay error
-stalled_may old error new stalled = subst MayStay (sym stalled.told) (stall_may stalled.stall)
+pub stalled_may : {reach : Reach} (old : ClientView) (error : CallError) (new : ClientView) → IsStalled reach old error new → MayStay error
+stalled_may {reach} old error new stalled = subst MayStay (sym stalled.told) (stall_may stalled.stall)

@@ -11,26 +11,27 @@ use Rattle.seats.specs.Answers.{HasReason}
 use Rattle.seats.specs.Answers.HasReason.{HeldBack, Stalled}
 use Rattle.seats.specs.Calls.{BeginsCall}
 use Rattle.seats.specs.Reasons.{IsHeldBack, IsStalled}
+use Rattle.seats.specs.Rounds.{Reach}
 use Rattle.seats.specs.Seats.{Seat}
 
 set_there : {X : Type 0} (xs : List X) (i : ℕ) (v w : X) → slice_get xs i ≡ Some v → slice_get (slice_set xs i w) i ≡ Some w
 set_there xs i v w e = elim (slice_get-set xs i i w (slice_get_within xs i v e)) [ inl here ↦ here.1 | inr other ↦ absurd (other.0 refl) ]
 
 -- the call didn't begin
-pub held_back : (s : Seat) (log : List Entry) (at hall : ℕ) (old new : ClientView) (key : List ℕ) (action : Action) (seen : ℕ) (error : CallError)
+pub held_back : {reach : Reach} (s : Seat) (log : List Entry) (at hall : ℕ) (old new : ClientView) (key : List ℕ) (action : Action) (seen : ℕ) (error : CallError)
     → slice_get s.passes at ≡ Some old → slice_get s.seen at ≡ Some seen → at ≡ hall → IsHeldBack old key action seen error new
-    → HasReason error s hall key action (record { store = s.store; client = s.client; is_spent = s.is_spent; log = log; passes = slice_set s.passes at new; seen = s.seen })
-held_back s log at hall old new key action seen error there saw same held =
-    subst (λ h. HasReason error s h key action (record { store = s.store; client = s.client; is_spent = s.is_spent; log = log; passes = slice_set s.passes at new; seen = s.seen })) same
+    → HasReason reach error s hall key action (record { store = s.store; client = s.client; is_spent = s.is_spent; log = log; passes = slice_set s.passes at new; seen = s.seen })
+held_back {reach} s log at hall old new key action seen error there saw same held =
+    subst (λ h. HasReason reach error s h key action (record { store = s.store; client = s.client; is_spent = s.is_spent; log = log; passes = slice_set s.passes at new; seen = s.seen })) same
     (HeldBack (record { before = old; after = new; was = there; is = set_there s.passes at old new there })
     (subst (λ n. IsHeldBack old key action n error new) (sym (ap (λ o. unwrap_or o 0) saw)) held))
 
 -- it began, and stalled
-pub stalled : (s : Seat) (log : List Entry) (places : List ℕ) (at hall : ℕ) (old mid new : ClientView) (key : List ℕ) (action : Action) (op : OpId) (place : ℕ) (error : CallError) (spent : Bool)
-    → slice_get s.passes at ≡ Some old → at ≡ hall → BeginsCall old key action op place mid → IsStalled mid error new
-    → HasReason error s hall key action (record { store = s.store; client = s.client; is_spent = spent; log = log; passes = slice_set s.passes at new; seen = places })
-stalled s log places at hall old mid new key action op place error spent there same begins stalls =
-    subst (λ h. HasReason error s h key action (record { store = s.store; client = s.client; is_spent = spent; log = log; passes = slice_set s.passes at new; seen = places })) same
+pub stalled : {reach : Reach} (s : Seat) (log : List Entry) (places : List ℕ) (at hall : ℕ) (old mid new : ClientView) (key : List ℕ) (action : Action) (op : OpId) (place : ℕ) (error : CallError) (spent : Bool)
+    → slice_get s.passes at ≡ Some old → at ≡ hall → BeginsCall old key action op place mid → IsStalled reach mid error new
+    → HasReason reach error s hall key action (record { store = s.store; client = s.client; is_spent = spent; log = log; passes = slice_set s.passes at new; seen = places })
+stalled {reach} s log places at hall old mid new key action op place error spent there same begins stalls =
+    subst (λ h. HasReason reach error s h key action (record { store = s.store; client = s.client; is_spent = spent; log = log; passes = slice_set s.passes at new; seen = places })) same
     (Stalled (record { before = old; after = new; was = there; is = set_there s.passes at old new there }) op place mid begins stalls)
 
 -- the pass of that hall is the one that was set

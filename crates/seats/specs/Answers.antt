@@ -7,6 +7,7 @@ use Rattle.recorder.specs.declared.part.Response.{Response}
 use Rattle.hall_lock.specs.Turns.{ClientView}
 use Rattle.seats.specs.Calls.{BeginsCall}
 use Rattle.seats.specs.Reasons.{IsHeldBack, IsStalled}
+use Rattle.seats.specs.Rounds.{Reach}
 use Rattle.seats.specs.Seats.{Calls, DidNotBegin, LeavesPending, Seat, seen_in, value_of}
 use Rattle.recorder.specs.declared.log_entry.Entry.{Entry}
 use Rattle.seats.specs.declared.errors.CallError.{CallError}
@@ -57,16 +58,16 @@ pub record HasPass (old : Seat) (hall : ℕ) (new : Seat) : Type 0 where
 
 -- why a call of the seat in that hall isn't answered, as the error tells: no memory for it before
 -- any turn; or it was held back in one turn; or it began, and stalled
-pub data HasReason (error : CallError) (old : Seat) (hall : ℕ) (key : List ℕ) (action : Action)
-    (new : Seat) : Type 0 where
+pub data HasReason (reach : Reach) (error : CallError) (old : Seat) (hall : ℕ) (key : List ℕ)
+    (action : Action) (new : Seat) : Type 0 where
   NoMemory : error ≡ fault.Memory → new.passes ≡ old.passes
-      → HasReason error old hall key action new
+      → HasReason reach error old hall key action new
   HeldBack : (pass : HasPass old hall new)
       → IsHeldBack pass.before key action (seen_in old hall) error pass.after
-      → HasReason error old hall key action new
+      → HasReason reach error old hall key action new
   Stalled : (pass : HasPass old hall new) (op : OpId) (place : ℕ) (middle : ClientView)
-      → BeginsCall pass.before key action op place middle → IsStalled middle error pass.after
-      → HasReason error old hall key action new
+      → BeginsCall pass.before key action op place middle → IsStalled reach middle error pass.after
+      → HasReason reach error old hall key action new
 
 -- after a call, the seat's pass of that hall knows fewer rows than the seat had seen there before
 abbrev pub SeesFewer : Seat → ℕ → Seat → Type 0
@@ -75,10 +76,10 @@ SeesFewer old hall new = (pass : ClientView) × (slice_get new.passes hall ≡ S
 
 -- what a call of the seat in that hall gives, and what it leaves: an answer, or an error that says
 -- why and what stands; where the record has fewer rows than were seen, `Foreign` or `Memory`
-pub record CallLeaves (old : Seat) (hall : ℕ) (key : List ℕ) (action : Action)
+pub record CallLeaves (reach : Reach) (old : Seat) (hall : ℕ) (key : List ℕ) (action : Action)
     (result : Result Answer CallError) (new : Seat) : Type 0 where
   pub answered : IfOk result (λ answer. IsAnswered old hall key action answer new)
   pub failed : IfErr result (λ error. FailsWith error old hall key action new)
-  pub reason : IfErr result (λ error. HasReason error old hall key action new)
+  pub reason : IfErr result (λ error. HasReason reach error old hall key action new)
   pub stale : SeesFewer old hall new
       → (result ≡ Err fault.Foreign) ⊎ (result ≡ Err fault.Memory)

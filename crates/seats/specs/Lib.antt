@@ -1,5 +1,6 @@
 pub mod Numbers
 pub mod Calls
+pub mod Rounds
 pub mod Reasons
 pub mod Outcomes
 pub mod Parcels

@@ -7,6 +7,7 @@ use Rattle.hall_lock.specs.Halls.{most_elements}
 use Rattle.hall_lock.specs.Turns.{ClientView}
 use Rattle.seats.specs.Calls.{BeginsCall, EndsCall, KeepsLog}
 use Rattle.seats.specs.Reasons.{IsHeldBack, IsStalled}
+use Rattle.seats.specs.Rounds.{Reach}
 use Rattle.seats.specs.declared.errors.CallError.{CallError}
 use Rattle.seats.specs.declared.errand.Outcome.{Outcome}
 use Rattle.seats.specs.declared.errand.Outcome.TheVariants as outcome
@@ -19,12 +20,13 @@ module _ (old : ClientView) (key : List ℕ) (action : Action) (seen : ℕ) wher
     pub begins : BeginsCall old key action begun.op begun.place new
 
   -- the call began, and its client is stopped before an answer; the error tells why
-  pub record CallIsPending (begun : Begun) (error : CallError) (new : ClientView) : Type 0 where
+  pub record CallIsPending (reach : Reach) (begun : Begun) (error : CallError) (new : ClientView)
+      : Type 0 where
     pub middle : ClientView
     pub began : CallBegan begun middle
     pub kept : KeepsLog middle new
     pub stopped : new.is_stopped ≡ true
-    pub why : IsStalled middle error new
+    pub why : IsStalled reach middle error new
 
   -- the call began, and was answered
   pub record CallIsAnswered (begun : Begun) (ended : Ended) (new : ClientView) : Type 0 where
@@ -33,11 +35,11 @@ module _ (old : ClientView) (key : List ℕ) (action : Action) (seen : ℕ) wher
     pub ends : EndsCall middle ended.op ended.returned ended.place new
 
   -- the call didn't begin; or it is pending; or it was answered
-  abbrev pub CallComesTo : Outcome → ClientView → Type 0
-  CallComesTo (outcome.Refused error) new =
+  abbrev pub CallComesTo : Reach → Outcome → ClientView → Type 0
+  CallComesTo reach (outcome.Refused error) new =
       IsHeldBack old key action seen error new × KeepsLog old new
-  CallComesTo (outcome.Pending begun error) new = CallIsPending begun error new
-  CallComesTo (outcome.Done begun ended) new = CallIsAnswered begun ended new
+  CallComesTo reach (outcome.Pending begun error) new = CallIsPending reach begun error new
+  CallComesTo reach (outcome.Done begun ended) new = CallIsAnswered begun ended new
 
 -- places are below the lengths of lists that a program holds, and the copy of an answer is the
 -- answer

@@ -1,5 +1,6 @@
 -- What parcels do to a hall: a request that is sent, its delivery, and its reply.
-use Rattle.std.specs.Prelude.{ℕ, ◌≡◌, List, Result, Ok, Err}
+use Rattle.std.specs.Prelude.{ℕ, ◌≡◌, ◌≤◌, List, Result, Ok, Err}
+use Rattle.tag.specs.declared.numbers.OpId.{OpId}
 use Rattle.recorder.specs.declared.row.Row.{Row}
 use Rattle.world_steps.specs.declared.effect.Effect.{Effect}
 use Rattle.world_steps.specs.declared.effect.Effect.TheVariants as effect
@@ -8,6 +9,8 @@ use Rattle.world_steps.specs.declared.step.Step.TheVariants as step
 use Rattle.hall_lock.specs.Turns.{ClientView, ServesFlight, ServesStep, TakesFlight, TakesTurn}
 use Rattle.seats.specs.declared.gate.Pass.{Pass}
 use Rattle.seats.specs.declared.gate.Pass.TheVariants as answer
+use Rattle.seats.specs.declared.gate.Place.{Place}
+use Rattle.seats.specs.declared.gate.Place.TheVariants as place
 use Rattle.seats.specs.declared.replicas.Report.{Report}
 use Rattle.seats.specs.declared.replicas.Report.TheVariants as report
 
@@ -25,15 +28,20 @@ RequestMeetsGate answer.Drop old flight parcels new =
 RequestMeetsGate answer.Twice old flight parcels new = (result : Result Effect Refusal)
     × TakesTurn old (step.Repeat flight) result new × (parcels ≡ parcels_after result)
 
--- the client's request to a replica: there is no such replica, and no turn; or the send was
--- refused; or it was sent, and its flight met the gate
-pub data SendsRequest (old : ClientView) (replica : ℕ) (new : ClientView) : Type 0 where
-  NoReplica : new ≡ old → SendsRequest old replica new
+-- the client's request to one of so many replicas, of a call in that hall, where the gate answers
+-- so: there is no such replica, and no turn; or the send was refused; or it was sent, and its
+-- flight met what the gate answers of it
+pub data SendsRequest (Answers : Place → Pass → Type 0) (replicas hall : ℕ) (call : OpId)
+    (old : ClientView) (replica : ℕ) (new : ClientView) : Type 0 where
+  NoReplica : replicas ≤ replica → new ≡ old
+      → SendsRequest Answers replicas hall call old replica new
   Refused : (why : Refusal) → TakesTurn old (step.Send old.client replica) (Err why) new
-      → SendsRequest old replica new
+      → SendsRequest Answers replicas hall call old replica new
   Sent : (flight parcels : ℕ) (middle : ClientView) (answer : Pass)
       → TakesTurn old (step.Send old.client replica) (Ok (effect.Sent flight)) middle
-      → RequestMeetsGate answer middle flight parcels new → SendsRequest old replica new
+      → Answers (place.Request hall call replica) answer
+      → RequestMeetsGate answer middle flight parcels new
+      → SendsRequest Answers replicas hall call old replica new
 
 -- one turn, in which the flight was delivered to the client or wasn't
 abbrev pub IsDelivery : ClientView → ℕ → ClientView → Type 0
@@ -61,12 +69,15 @@ ReplyMeetsGate answer.Drop old flight told new =
 ReplyMeetsGate answer.Twice old flight told new = (result : Result Effect Refusal)
     × ServesStep old (step.Repeat flight) result new × (told ≡ report_after flight result)
 
--- a replica's turns for a request's flight: the delivery was refused, and it reports so; or it was
--- taken, and the reply's flight met the gate
-pub data ServesRequest (old : List Row) (replica flight : ℕ) (told : Report) (new : List Row)
-    : Type 0 where
+-- a replica's turns for a request's flight of a call in that hall, where the gate answers so: the
+-- delivery was refused, and it reports so; or it was taken, and the reply's flight met what the
+-- gate answers of it
+pub data ServesRequest (Answers : Place → Pass → Type 0) (hall : ℕ) (call : OpId) (old : List Row)
+    (replica flight : ℕ) (told : Report) (new : List Row) : Type 0 where
   Refused : (why : Refusal) → ServesFlight old replica flight (Err why) new → told ≡ report.Blank
-      → ServesRequest old replica flight told new
+      → ServesRequest Answers hall call old replica flight told new
   Answered : (reply : ℕ) (middle : List Row) (answer : Pass)
       → ServesFlight old replica flight (Ok (effect.Answered reply)) middle
-      → ReplyMeetsGate answer middle reply told new → ServesRequest old replica flight told new
+      → Answers (place.Reply hall call replica) answer
+      → ReplyMeetsGate answer middle reply told new
+      → ServesRequest Answers hall call old replica flight told new

@@ -13,6 +13,7 @@ use Rattle.seats.specs.declared.errors.CallError.TheVariants as fault
 use Rattle.seats.specs.declared.errand.Stall.{Stall}
 use Rattle.seats.specs.declared.errand.Stall.TheVariants as stall
 use Rattle.seats.specs.Calls.{KeepsLog}
+use Rattle.seats.specs.Rounds.{Reach, RunsOut}
 
 -- ---- a call that didn't begin
 
@@ -49,6 +50,7 @@ stall_of other = stall.Unavailable
 -- the error of a call that stalled
 abbrev pub stall_error : Stall → CallError
 stall_error stall.Unavailable = fault.Unavailable
+stall_error stall.Gone = fault.Unavailable
 stall_error stall.Full = fault.Full
 stall_error stall.Memory = fault.Memory
 
@@ -65,19 +67,24 @@ pub record MeetsRefusal (old : ClientView) (why : Refusal) (new : ClientView) : 
   pub turn : IsRefusedTurn before why after
   pub later : KeepsLog after new
 
--- a call may stall so without a refused turn: for want of memory, or as `Unavailable`
+-- a call may stall so without a refused turn, and before its rounds run out: for want of memory for
+-- a parcel, or because the thread of a replica has ended
 abbrev pub IsUnmet : Stall → Type 0
-IsUnmet stall.Full = ⊥
-IsUnmet other = Unit {0}
+IsUnmet stall.Memory = Unit {0}
+IsUnmet stall.Gone = Unit {0}
+IsUnmet other = ⊥
 
--- why a call stalls in these turns: one of them was refused; or no memory for a parcel, or no
--- quorum of replies in all its rounds
-pub data Stalls (old : ClientView) (stall : Stall) (new : ClientView) : Type 0 where
-  Refused : (why : Refusal) → stall ≡ stall_of why → MeetsRefusal old why new → Stalls old stall new
-  Unmet : IsUnmet stall → Stalls old stall new
+-- why a call stalls in these turns: one of them was refused; or no quorum of replies came in all
+-- the rounds of a phase; or a parcel wasn't sent or reported on
+pub data Stalls (reach : Reach) (old : ClientView) (told : Stall) (new : ClientView) : Type 0 where
+  Refused : (why : Refusal) → told ≡ stall_of why → MeetsRefusal old why new
+      → Stalls reach old told new
+  OutOfRounds : told ≡ stall.Unavailable → RunsOut reach old new → Stalls reach old told new
+  Unmet : IsUnmet told → Stalls reach old told new
 
 -- a call stalled in these turns, and the error tells why
-pub record IsStalled (old : ClientView) (error : CallError) (new : ClientView) : Type 0 where
+pub record IsStalled (reach : Reach) (old : ClientView) (error : CallError) (new : ClientView)
+    : Type 0 where
   pub stall : Stall
-  pub stalls : Stalls old stall new
+  pub stalls : Stalls reach old stall new
   pub told : error ≡ stall_error stall

@@ -1,9 +1,11 @@
 //! One call in progress: what its client sends, and what it hears.
 ghost use Rattle.std.specs.Prelude.{◌≡◌, ◌≤◌, ℕ, true, Result, Ok, Err};
-ghost use Rattle.std.specs.Prelude.{IfOk, IfErr, OnOk, OnErr};
+ghost use Rattle.std.specs.Prelude.{IfOk, IfErr, OnOk, OnErr, length};
+ghost use Rattle.tag.specs.Limits.{replica_limit};
+ghost use Rattle.client_phases.specs.declared.outcomes.Phase.{Phase};
 ghost use Rattle.seats.specs.declared.errand.Stall.{Stall};
 ghost use Rattle.hall_lock.specs.Halls.{most_elements};
-ghost use Rattle.hall_lock.specs.Turns.{IsQuiet, IsStepOfClient, TakesTurn};
+ghost use Rattle.hall_lock.specs.Turns.{IsQuiet, IsStepOfClient, LooksAt, StandsIn, TakesTurn};
 ghost use Rattle.world_steps.specs.declared.effect.Effect.TheVariants as effect;
 ghost use Rattle.world_steps.specs.declared.refusal.Refusal.{Refusal};
 ghost use Rattle.world_steps.specs.declared.step.Step.TheVariants as event;
@@ -11,6 +13,7 @@ ghost use Rattle.seats.specs.Calls.{EndsCall, KeepsLog};
 ghost use Rattle.seats.specs.Outcomes.{CallComesTo, IsPlaced};
 ghost use Rattle.seats.specs.Reasons.{IsUnmet, Stalls, delay_error, stall_error, stall_of};
 ghost use Rattle.seats.specs.Parcels.{RequestMeetsGate, HearsReport, IsDelivery, SendsRequest};
+ghost use Rattle.seats.specs.Rounds.{AsksReplica, AsksReplicas, Reach};
 
 use crate::errors::CallError;
 use crate::gate::{Gate, Pass, Place};
@@ -31,8 +34,6 @@ use world_steps::{Effect, Refusal, Step};
 struct Errand<'a, G> {
     transport: &'a Transport<'a, G>,
     call: OpId,
-    /// How many parcels were sent and not reported on.
-    awaited: u64,
 }
 
 /// What became of a call.
@@ -50,6 +51,8 @@ pub(crate) enum Outcome {
 pub(crate) enum Stall {
     /// The rounds of a phase ran out, or the world refused a step otherwise.
     Unavailable,
+    /// The thread of a replica has ended.
+    Gone,
     /// As many messages were sent as may be.
     Full,
     /// An allocation failed.
@@ -66,17 +69,19 @@ impl<'a, G: Gate> Transport<'a, G> {
         action: Action,
         seen: usize,
     ) -> Outcome
-        ensures outcome { CallComesTo pass.old key action seen result pass.new }
+        ensures outcome { CallComesTo pass.old key action seen (record {
+          replicas = length self.now.replicas.now;
+          rounds = self.now.rounds;
+        }) result pass.new }
         ensures placed { IsPlaced result }
     {
         let begun = match pass.invoke(rt, key, action, seen) {
             Ok(begun) => begun,
             Err(delay) => return Outcome::Refused(told_delay(delay)),
         };
-        let mut errand = Errand {
+        let errand = Errand {
             transport: self,
             call: begun.op,
-            awaited: 0,
         };
         match errand.finish(rt, pass) {
             Ok(ended) => Outcome::Done(begun, ended),
@@ -90,13 +95,17 @@ impl<'a, G: Gate> Transport<'a, G> {
 
 impl<'a, G: Gate> Errand<'a, G> {
     /// Carries the call to its end.
-    fn finish<R: Wait>(&mut self, rt: &R, pass: &mut ClientPass) -> Result<Ended, Stall>
+    fn finish<R: Wait>(&self, rt: &R, pass: &mut ClientPass) -> Result<Ended, Stall>
         ensures ended { IfOk result (λ ended.
             EndsCall pass.old ended.op ended.returned ended.place pass.new) }
         ensures placed { IfOk result (λ ended.
             (ended.place ≤ most_elements) × (ended.copy ≡ ended.returned)) }
         ensures failed { OnErr result (KeepsLog pass.old pass.new) }
-        ensures stalled { IfErr result (λ stall. Stalls pass.old stall pass.new) }
+        ensures stalled { IfErr result (λ stall. Stalls (record {
+          replicas = length self.now.transport.now.replicas.now;
+          rounds = self.now.transport.now.rounds;
+        })
+            pass.old stall pass.new) }
     {
         self.make_ready(rt, pass)?;
         let place = Place::Respond {
@@ -111,12 +120,17 @@ impl<'a, G: Gate> Errand<'a, G> {
     }
 
     /// Has the client ask, and then put where it has to.
-    fn make_ready<R: Wait>(&mut self, rt: &R, pass: &mut ClientPass) -> Result<(), Stall>
+    fn make_ready<R: Wait>(&self, rt: &R, pass: &mut ClientPass) -> Result<(), Stall>
         ensures kept { KeepsLog pass.old pass.new }
-        ensures stalled { IfErr result (λ stall. Stalls pass.old stall pass.new) }
+        ensures stalled { IfErr result (λ stall. Stalls (record {
+          replicas = length self.now.transport.now.replicas.now;
+          rounds = self.now.transport.now.rounds;
+        })
+            pass.old stall pass.new) }
     {
-        match self.leave(rt, pass)? {
-            Phase::Put => match self.leave(rt, pass) {
+        let mut awaited = 0;
+        match self.leave(rt, pass, &mut awaited)? {
+            Phase::Put => match self.leave(rt, pass, &mut awaited) {
                 Ok(_) => Ok(()),
                 Err(error) => Err(error),
             },
@@ -125,14 +139,23 @@ impl<'a, G: Gate> Errand<'a, G> {
     }
 
     /// Makes rounds until the phase is over, which has just begun. The phase that follows it.
-    fn leave<R: Wait>(&mut self, rt: &R, pass: &mut ClientPass) -> Result<Phase, Stall>
+    fn leave<R: Wait>(
+        &self,
+        rt: &R,
+        pass: &mut ClientPass,
+        awaited: &mut u64,
+    ) -> Result<Phase, Stall>
         ensures kept { KeepsLog pass.old pass.new }
-        ensures stalled { IfErr result (λ stall. Stalls pass.old stall pass.new) }
+        ensures stalled { IfErr result (λ stall. Stalls (record {
+          replicas = length self.now.transport.now.replicas.now;
+          rounds = self.now.transport.now.rounds;
+        })
+            pass.old stall pass.new) }
     {
         let mut counted = ReplicaSet::empty();
         for _ in 0..self.transport.rounds {
-            self.send_round(rt, pass, counted)?;
-            if let Some(next) = self.hear_round(rt, pass)? {
+            self.send_round(rt, pass, awaited, counted)?;
+            if let Some(next) = self.hear_round(rt, pass, awaited)? {
                 return Ok(next);
             }
             counted = counted_by(rt, pass);
@@ -142,19 +165,27 @@ impl<'a, G: Gate> Errand<'a, G> {
 
     /// Sends the client's request to each replica that it didn't count.
     fn send_round<R: Wait>(
-        &mut self,
+        &self,
         rt: &R,
         pass: &mut ClientPass,
+        awaited: &mut u64,
         counted: ReplicaSet,
     ) -> Result<(), Stall>
         ensures kept { KeepsLog pass.old pass.new }
-        ensures stalled { IfErr result (λ stall. Stalls pass.old stall pass.new) }
+        ensures asked { OnOk result (AsksReplicas (length self.now.transport.now.replicas.now)
+            counted pass.old replica_limit pass.new) }
+        ensures stalled { IfErr result (λ stall. Stalls (record {
+          replicas = length self.now.transport.now.replicas.now;
+          rounds = self.now.transport.now.rounds;
+        })
+            pass.old stall pass.new) }
     {
         for number in 0..15 {
-            if let Some(replica) = ReplicaId::new(number) {
-                if !counted.contains(replica) {
-                    self.send(rt, pass, replica)?;
-                }
+            let Some(replica) = ReplicaId::new(number) else {
+                unreachable!()
+            };
+            if !counted.contains(replica) {
+                self.send(rt, pass, awaited, replica)?;
             }
         }
         Ok(())
@@ -162,14 +193,23 @@ impl<'a, G: Gate> Errand<'a, G> {
 
     /// Sends the client's request to a replica, where there is one of that number, as the gate says.
     fn send<R: Wait>(
-        &mut self,
+        &self,
         rt: &R,
         pass: &mut ClientPass,
+        awaited: &mut u64,
         replica: ReplicaId,
     ) -> Result<(), Stall>
         ensures kept { KeepsLog pass.old pass.new }
-        ensures sent { SendsRequest pass.old replica pass.new }
-        ensures stalled { IfErr result (λ stall. Stalls pass.old stall pass.new) }
+        ensures sent { SendsRequest (G.answers self.now.transport.now.gate.now)
+            (length self.now.transport.now.replicas.now) self.now.transport.now.hall
+            self.now.call pass.old replica pass.new }
+        ensures asked { OnOk result (AsksReplica
+            (length self.now.transport.now.replicas.now) pass.old replica pass.new) }
+        ensures stalled { IfErr result (λ stall. Stalls (record {
+          replicas = length self.now.transport.now.replicas.now;
+          rounds = self.now.transport.now.rounds;
+        })
+            pass.old stall pass.new) }
     {
         let Some(channel) = self.transport.replicas.get(usize::from(replica.get())) else {
             return Ok(());
@@ -184,27 +224,34 @@ impl<'a, G: Gate> Errand<'a, G> {
             replica,
         };
         let parcels = parcels_of(rt, pass, self.transport.gate.at(&place), flight);
-        self.post_all(rt, channel, flight, parcels)
+        self.post_all(rt, channel, awaited, flight, parcels)
     }
 
     /// Posts so many parcels of a flight.
     fn post_all<R: Wait>(
-        &mut self,
+        &self,
         rt: &R,
         channel: &Sender<Parcel>,
+        awaited: &mut u64,
         flight: u32,
         parcels: u64,
     ) -> Result<(), Stall>
         ensures { IfErr result IsUnmet }
     {
         for _ in 0..parcels {
-            self.post(rt, channel, flight)?;
+            self.post(rt, channel, awaited, flight)?;
         }
         Ok(())
     }
 
     /// Posts a parcel of a flight.
-    fn post<R: Wait>(&mut self, rt: &R, channel: &Sender<Parcel>, flight: u32) -> Result<(), Stall>
+    fn post<R: Wait>(
+        &self,
+        rt: &R,
+        channel: &Sender<Parcel>,
+        awaited: &mut u64,
+        flight: u32,
+    ) -> Result<(), Stall>
         ensures { IfErr result IsUnmet }
     {
         let parcel = Parcel {
@@ -215,25 +262,34 @@ impl<'a, G: Gate> Errand<'a, G> {
         };
         match channel.send(rt, parcel) {
             Ok(()) => {
-                self.awaited = u64::saturating_add(self.awaited, 1);
+                *awaited = u64::saturating_add(*awaited, 1);
                 Ok(())
             }
             Err(SendError::OutOfMemory(_)) => Err(Stall::Memory),
-            Err(SendError::Disconnected(_)) => Err(Stall::Unavailable),
+            Err(SendError::Disconnected(_)) => Err(Stall::Gone),
         }
     }
 
     /// Hears what the replicas report until the phase is over or each parcel was reported on. The phase that
     /// follows, where it is over.
-    fn hear_round<R: Wait>(&mut self, rt: &R, pass: &mut ClientPass) -> Result<Option<Phase>, Stall>
+    fn hear_round<R: Wait>(
+        &self,
+        rt: &R,
+        pass: &mut ClientPass,
+        awaited: &mut u64,
+    ) -> Result<Option<Phase>, Stall>
         ensures kept { KeepsLog pass.old pass.new }
-        ensures stalled { IfErr result (λ stall. Stalls pass.old stall pass.new) }
+        ensures stalled { IfErr result (λ stall. Stalls (record {
+          replicas = length self.now.transport.now.replicas.now;
+          rounds = self.now.transport.now.rounds;
+        })
+            pass.old stall pass.new) }
     {
-        for _ in 0..self.awaited {
+        for _ in 0..*awaited {
             let Some(report) = next_message(rt, &self.transport.inbox) else {
-                return Err(Stall::Unavailable);
+                return Err(Stall::Gone);
             };
-            self.awaited = u64::saturating_sub(self.awaited, 1);
+            *awaited = u64::saturating_sub(*awaited, 1);
             let next = hear(rt, pass, report)?;
             if next.is_some() {
                 return Ok(next);
@@ -265,7 +321,8 @@ fn parcels_of<R: Wait>(rt: &R, pass: &mut ClientPass, answer: Pass, flight: u32)
 fn hear<R: Wait>(rt: &R, pass: &mut ClientPass, report: Report) -> Result<Option<Phase>, Stall>
     ensures kept { KeepsLog pass.old pass.new }
     ensures heard { OnOk result (HearsReport report pass.old pass.new) }
-    ensures stalled { IfErr result (λ stall. Stalls pass.old stall pass.new) }
+    ensures stalled { IfErr result (λ stall.
+        (reach : Reach) → Stalls reach pass.old stall pass.new) }
 {
     match report {
         Report::Blank => Ok(None),
@@ -282,7 +339,8 @@ fn hear<R: Wait>(rt: &R, pass: &mut ClientPass, report: Report) -> Result<Option
 fn deliver<R: Wait>(rt: &R, pass: &mut ClientPass, flight: u32) -> Result<Option<Phase>, Stall>
     ensures kept { KeepsLog pass.old pass.new }
     ensures delivered { IsDelivery pass.old flight pass.new }
-    ensures stalled { IfErr result (λ stall. Stalls pass.old stall pass.new) }
+    ensures stalled { IfErr result (λ stall.
+        (reach : Reach) → Stalls reach pass.old stall pass.new) }
 {
     let taken = pass.deliver(rt, flight);
     phase_after(taken)
@@ -304,7 +362,9 @@ fn phase_after(taken: Result<Taken, Refusal>) -> Result<Option<Phase>, Stall>
 
 /// The replicas that the client counted in its phase.
 fn counted_by<R: Wait>(rt: &R, pass: &mut ClientPass) -> ReplicaSet
-    ensures { KeepsLog pass.old pass.new }
+    ensures kept { KeepsLog pass.old pass.new }
+    ensures told { (phase : Phase)
+        × LooksAt pass.old (StandsIn pass.old.client phase result) pass.new }
 {
     pass.standing(rt).counted
 }
@@ -378,7 +438,7 @@ fn told_pending(stall: Stall) -> CallError
     ensures { result ≡ stall_error stall }
 {
     match stall {
-        Stall::Unavailable => CallError::Unavailable,
+        Stall::Unavailable | Stall::Gone => CallError::Unavailable,
         Stall::Full => CallError::Full,
         Stall::Memory => CallError::Memory,
     }

@@ -1,4 +1,6 @@
 //! What may happen to a parcel, and at which points a program is asked.
+ghost use Rattle.std.specs.Prelude.{◌≡◌};
+
 use std::alloc::Global;
 use tag::{OpId, ReplicaId};
 
@@ -38,8 +40,15 @@ pub enum Pass {
 
 /// Is asked at each point of a call. No lock is held meanwhile.
 pub trait Gate {
+    ghost use Rattle.seats.specs.declared.gate.Pass.{Pass};
+    ghost use Rattle.seats.specs.declared.gate.Place.{Place};
+
+    // What it may answer at a place.
+    ghost answers: { Self → Place → Pass → Type 0 };
+
     /// What becomes of the parcel there.
-    fn at(&self, place: &Place) -> Pass;
+    fn at(&self, place: &Place) -> Pass
+        ensures { answers self.now place.now result };
 }
 
 /// Lets each parcel go on.
@@ -47,6 +56,10 @@ pub trait Gate {
 pub struct OpenGate;
 
 impl Gate for OpenGate {
+    ghost use Rattle.seats.specs.declared.gate.Pass.TheVariants.{Go};
+
+    ghost answers = { λ gate place pass. pass ≡ Go };
+
     fn at(&self, place: &Place) -> Pass {
         Pass::Go
     }

@@ -1,10 +1,12 @@
 //! Replicas, each served by a thread of its own.
+ghost use Rattle.std.specs.Prelude.{◌≡◌, length};
 ghost use Rattle.seats.specs.Parcels.{ReplyMeetsGate, ServesRequest};
 
 use crate::gate::{Gate, Pass, Place};
 use crate::patience::next_message;
 use crossbeam_channel::{Receiver, Sender};
 use hall_lock::FreePass;
+use recorder::Halls;
 use std::sync::Wait;
 use tag::{OpId, ReplicaId};
 use world_steps::Step;
@@ -33,21 +35,31 @@ pub enum Report {
     Twice(u32),
 }
 
-/// Serves a replica in all halls as long as there may be parcels.
+/// Serves a replica in all halls, with a pass to each, as long as there may be parcels.
 pub fn serve<R: Wait, G: Gate>(
     rt: &R,
     gate: &G,
     replica: ReplicaId,
+    halls: Halls,
     mut passes: Vec<FreePass>,
     parcels: Receiver<Parcel>,
-) {
+)
+    requires { length passes.items ≡ halls }
+{
     for _ in rt.forever() {
         let Some(parcel) = next_message(rt, &parcels) else {
             return;
         };
-        let report = match passes.get_mut(usize::from(parcel.hall)) {
-            Some(pass) => handle(rt, gate, replica, pass, &parcel),
-            None => Report::Blank,
+        let report = if parcel.hall < halls.count() {
+            handle(
+                rt,
+                gate,
+                replica,
+                &mut passes[usize::from(parcel.hall)],
+                &parcel,
+            )
+        } else {
+            Report::Blank
         };
         // The report has its room (`report_room`), so this neither waits nor takes memory; a caller that
         // has ended hears no more.
@@ -63,7 +75,8 @@ fn handle<R: Wait, G: Gate>(
     pass: &mut FreePass,
     parcel: &Parcel,
 ) -> Report
-    ensures { ServesRequest pass.old replica parcel.now.flight result pass.new }
+    ensures { ServesRequest (G.answers gate.now) parcel.now.hall parcel.now.call pass.old replica
+        parcel.now.flight result pass.new }
 {
     let flight = match pass.deliver(rt, replica, parcel.flight) {
         Ok(flight) => flight,

@@ -5,6 +5,7 @@
 //! `node_threads`, and names nothing of this crate.
 ghost use Rattle.std.specs.Prelude.{◌≡◌, ◌<◌, [], false, length};
 ghost use Rattle.seats.specs.Answers.{CallLeaves};
+ghost use Rattle.seats.specs.Rounds.{Reach};
 ghost use Rattle.seats.specs.Seats.{AreFresh, value_of};
 
 use crate::errand::Outcome;
@@ -61,7 +62,10 @@ pub fn call_on<R: Wait, G: Gate>(
 ) -> Result<Answer, CallError>
     requires unspent { seat.old.is_spent ≡ false }
     requires there { transport.now.hall < length seat.old.passes }
-    ensures { CallLeaves seat.old transport.now.hall key action result seat.new }
+    ensures { CallLeaves (record {
+      replicas = length transport.now.replicas.now;
+      rounds = transport.now.rounds;
+    }) seat.old transport.now.hall key action result seat.new }
 {
     let hall = transport.hall;
     let at = usize::from(hall);

@@ -34,7 +34,7 @@ fn report_room(replicas: usize) -> usize
 }
 
 impl<'a, G: Gate> Transport<'a, G> {
-    /// The transport in that hall. What is reported of the call has its room from now on, so no report needs
+    /// The transport in that hall, with the gate, the replicas and the rounds that are given. What is reported of the call has its room from now on, so no report needs
     /// memory, and none waits.
     pub fn new(
         alloc: Global,
@@ -43,7 +43,10 @@ impl<'a, G: Gate> Transport<'a, G> {
         hall: u8,
         rounds: u16,
     ) -> Result<Transport<'a, G>, Memory>
-        ensures { IfOk result (λ transport. transport.hall ≡ hall) }
+        ensures gate { IfOk result (λ transport. transport.gate.now ≡ gate.now) }
+        ensures replicas { IfOk result (λ transport. transport.replicas.now ≡ replicas.now) }
+        ensures hall { IfOk result (λ transport. transport.hall ≡ hall) }
+        ensures rounds { IfOk result (λ transport. transport.rounds ≡ rounds) }
     {
         let (reports, inbox) = bounded(alloc, report_room(replicas.len()))?;
         Ok(Transport {

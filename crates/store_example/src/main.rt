@@ -22,6 +22,8 @@ struct EveryFifth {
 }
 
 impl Gate for EveryFifth {
+    ghost answers = { λ gate place pass. Unit {0} };
+
     fn at(&self, place: &Place) -> Pass {
         match place {
             Place::Respond { .. } => Pass::Go,

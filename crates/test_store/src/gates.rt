@@ -4,7 +4,8 @@ use node_threads::{Gate, OpenGate, Pass, Place};
 use std::alloc::Global;
 use std::sync::atomic::{AtomicU64, Ordering};
 use std::sync::{Arc, Wait};
-use std::time::Clock;
+use std::thread;
+use std::time::{Clock, Duration};
 use tag::OpId;
 
 /// What a gate does. Places, and parcels, which are requests and replies, are numbered from 1.
@@ -26,6 +27,10 @@ pub enum Manner {
     HoldsAnswer,
     /// Holds each of replicas 0 and 1 at its reply until the other has come there.
     HoldsReplicas,
+    /// Keeps replica 2 at each of its replies for a tenth of a second.
+    KeepsReplica,
+    /// Loses every reply but the first.
+    LosesLaterReplies,
 }
 
 /// A gate of that manner.
@@ -47,6 +52,8 @@ fn next(count: &AtomicU64) -> u64 {
 fn pass_of(manner: Manner, place: &Place, number: u64) -> Pass {
     match manner {
         Manner::LosesReplies if matches!(place, Place::Reply { .. }) => Pass::Drop,
+        Manner::LosesLaterReplies if matches!(place, Place::Reply { .. }) && number > 2 =>
+            Pass::Drop,
         Manner::FifthAndSeventh if number % 5 == 0 => Pass::Drop,
         Manner::FifthAndSeventh if number % 7 == 0 => Pass::Twice,
         Manner::WritesDown(picked, pass) if number == picked => pass,
@@ -77,12 +84,17 @@ impl<R: Wait + Clock> RowGate<R> {
             (Manner::HoldsReplicas, Place::Reply { .. }) => {
                 board.meet(&self.rt, &board.second, &board.first);
             }
+            (Manner::KeepsReplica, Place::Reply { replica, .. }) if replica.get() == 2 => {
+                thread::sleep(&self.rt, Duration::from_millis(100));
+            }
             _ => {}
         }
     }
 }
 
 impl<R: Wait + Clock> Gate for RowGate<R> {
+    ghost answers = { λ gate place pass. Unit {0} };
+
     fn at(&self, place: &Place) -> Pass {
         self.hold(place);
         match (self.manner, place) {

@@ -2,9 +2,9 @@
 use crate::gates::Manner;
 use crate::rows::{QUIET, Row};
 use crate::shape::{PLAIN, Shape};
-use crate::steps::{Deed, Step, Wanted};
+use crate::steps::{Deed, Shown, Step, Wanted};
 use client_phases::ReadMode;
-use node_threads::Pass;
+use node_threads::{CallError, Pass};
 
 /// A row, and which of the texts that its calls leave it is about.
 #[derive(Clone, Copy)]
@@ -22,7 +22,7 @@ pub enum About {
     Places,
     /// The replicas that requests went to, in order, and how many replies came of replicas 0, 1 and 2.
     Parcels,
-    /// How many steps sent, repeated and delivered a message.
+    /// How many steps sent, repeated, delivered and lost a message.
     Counts,
 }
 
@@ -32,6 +32,18 @@ const WRITES_TWICE: [Step; 2] = [
     Step::By(0, Deed::Writes("k0", Wanted::Answered)),
     Step::By(0, Deed::Writes("k0", Wanted::Answered)),
 ];
+
+const WRITES_AND_LOOKS: [Step; 4] = [
+    Step::By(0, Deed::IsShown(0, Shown::Calls(0))),
+    Step::By(0, Deed::Writes("k0", Wanted::Answered)),
+    Step::By(0, Deed::IsShown(0, Shown::Calls(1))),
+    Step::By(0, Deed::SeesRows(0, 3)),
+];
+
+const WRITES_IN_VAIN: [Step; 1] = [Step::By(
+    0,
+    Deed::Writes("k0", Wanted::Fails(CallError::Unavailable)),
+)];
 
 const READS: [Step; 1] = [Step::By(0, Deed::Reads("k0", Wanted::Answered))];
 
@@ -52,7 +64,7 @@ const WRITE: Row = Row {
 };
 
 /// The rows. With one replica and one client each journal but one is the same whatever the schedule.
-pub static JOURNAL_ROWS: [JournalRow; 11] = [
+pub static JOURNAL_ROWS: [JournalRow; 14] = [
     JournalRow {
         row: WRITE,
         about: About::Journal,
@@ -113,6 +125,40 @@ pub static JOURNAL_ROWS: [JournalRow; 11] = [
         row: Row {
             name: "the first request goes twice",
             manner: Manner::WritesDown(1, Pass::Twice),
+            ..WRITE
+        },
+        about: About::Counts,
+    },
+    JournalRow {
+        row: Row {
+            name: "snapshots before a quiet write and after it",
+            opening: &WRITES_AND_LOOKS,
+            ..WRITE
+        },
+        about: About::Journal,
+    },
+    JournalRow {
+        row: Row {
+            name: "every reply lost in each of 20 rounds",
+            shape: Shape {
+                rounds: 20,
+                ..ALONE
+            },
+            manner: Manner::LosesReplies,
+            opening: &WRITES_IN_VAIN,
+            ..WRITE
+        },
+        about: About::Counts,
+    },
+    JournalRow {
+        row: Row {
+            name: "every reply but the first lost, 20 rounds of the second phase",
+            shape: Shape {
+                rounds: 20,
+                ..ALONE
+            },
+            manner: Manner::LosesLaterReplies,
+            opening: &WRITES_IN_VAIN,
             ..WRITE
         },
         about: About::Counts,

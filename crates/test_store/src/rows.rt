@@ -62,6 +62,8 @@ pub const OTHER_ONE: Client = Client {
 pub enum End {
     /// It leaves for each key an order that is one of its calls.
     Closes,
+    /// So it does, and the gate has let so many parcels go by then.
+    ClosesAfter(u64),
     /// So it does, and the record of its only hall is the invocation of one call.
     LeavesCall,
     /// It isn't closed, since a seat is of another.

@@ -109,6 +109,14 @@ impl<R: Wait + Clock, G: Gate> Scene<'_, R, G> {
         }
     }
 
+    /// Whether the seat is shown so many rows of the hall.
+    fn sees_rows(&self, store: &Store<G>, seat: &Seat, hall: u8, rows: usize) -> bool {
+        match store.snapshot(self.rt, self.alloc, seat, hall) {
+            Some(Ok(history)) => history.row_count() == rows,
+            _ => false,
+        }
+    }
+
     /// Whether the halls' records, as the seat is shown them, have 50 calls of its client together, which is
     /// how many it has in its log.
     fn sees_its_calls(&self, store: &Store<G>, seat: &Seat, halls: u8) -> bool {
@@ -143,6 +151,7 @@ impl<R: Wait + Clock, G: Gate> Scene<'_, R, G> {
             Deed::HasLogged(count) => seat.log().len() == count,
             Deed::HasSeen(place) => seat.seen(0) == place,
             Deed::IsShown(hall, shown) => self.shown(store, seat, hall) == shown,
+            Deed::SeesRows(hall, rows) => self.sees_rows(store, seat, hall, rows),
             Deed::Calls => self.makes_calls(store, seat),
             Deed::SeesItsCalls(halls) => self.sees_its_calls(store, seat, halls),
         }

@@ -17,8 +17,18 @@ pub struct Shape {
     pub rounds: u16,
     pub halls: u8,
     pub reads: ReadMode,
-    /// Whether replicas 0, 1 and 2 have 1, 1 and 3 votes, and quorums 3; otherwise majorities are quorums.
-    pub has_votes: bool,
+    pub votes: Votes,
+}
+
+/// Which replicas make a quorum.
+#[derive(Clone, Copy)]
+pub enum Votes {
+    /// A majority of them.
+    Majority,
+    /// Those that have 3 votes together: replicas 0, 1 and 2 have 1, 1 and 3.
+    Uneven,
+    /// All fifteen.
+    All,
 }
 
 /// A store of three replicas and one hall.
@@ -30,16 +40,16 @@ pub const PLAIN: Shape = Shape {
     rounds: 1000,
     halls: 1,
     reads: ReadMode::Full,
-    has_votes: false,
+    votes: Votes::Majority,
 };
 
 /// The configuration of each hall; none outside its ranges.
 fn world_of(shape: &Shape) -> Option<Config> {
     let plain = Config::new(shape.replicas, shape.calls, shape.flights)?.with_reads(shape.reads);
-    if shape.has_votes {
-        plain.with_quorums(Quorums::new(&[1, 1, 3], 3, 3)?)
-    } else {
-        Some(plain)
+    match shape.votes {
+        Votes::Majority => Some(plain),
+        Votes::Uneven => plain.with_quorums(Quorums::new(&[1, 1, 3], 3, 3)?),
+        Votes::All => plain.with_quorums(Quorums::new(&[1; 15], 15, 15)?),
     }
 }
 

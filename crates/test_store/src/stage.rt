@@ -9,6 +9,7 @@ use crate::shape::{Shape, config_of, have_config};
 use crate::texts::{counts_text, parcels_text, places_text, steps_text};
 use node_threads::{CloseError, Closed, Place, Seat, Store};
 use std::alloc::Global;
+use std::sync::atomic::Ordering;
 use std::sync::{Arc, Wait};
 use std::thread::Threads;
 use std::time::Clock;
@@ -107,7 +108,11 @@ where
     fn comes_out_at(&self, row: &Row, number: u64) -> Option<bool> {
         let board = Arc::new(self.alloc, Board::new(self.alloc)).ok()?;
         let played = self.play(row, number, &board)?;
-        Some(played.is_good && !board.missed.is_given() && ends(self.alloc, row, &played.closed))
+        Some(
+            played.is_good
+                && !board.missed.is_given()
+                && ends(self.alloc, row, &board, &played.closed),
+        )
     }
 
     /// Whether the row comes out as it has to, at all its places.
@@ -125,7 +130,7 @@ where
         let board = Arc::new(self.alloc, Board::new(self.alloc)).ok()?;
         let played = self.play(&row.row, 1, &board)?;
         let places = board.places.lock(self.rt);
-        if played.is_good && ends(self.alloc, &row.row, &played.closed) {
+        if played.is_good && ends(self.alloc, &row.row, &board, &played.closed) {
             text_of(self.alloc, row.about, &played.closed, places.as_slice())
         } else {
             None
@@ -134,9 +139,12 @@ where
 }
 
 /// Whether what came of closing the row's store has to come of it.
-fn ends(alloc: Global, row: &Row, closed: &Result<Closed, CloseError>) -> bool {
+fn ends(alloc: Global, row: &Row, board: &Board, closed: &Result<Closed, CloseError>) -> bool {
     match (row.end, closed) {
         (End::Closes, Ok(closed)) => have_config(closed, &row.shape) && are_atomic(alloc, closed),
+        (End::ClosesAfter(parcels), Ok(closed)) => {
+            are_atomic(alloc, closed) && board.parcels.load(Ordering::SeqCst) == parcels
+        }
         (End::LeavesCall, Ok(closed)) => has_one_pending_call(closed) && are_atomic(alloc, closed),
         (End::Mismatches, Err(error)) => *error == CloseError::SeatMismatch,
         _ => false,

@@ -47,6 +47,8 @@ pub enum Deed {
     HasSeen(usize),
     /// Is shown that of the hall.
     IsShown(u8, Shown),
+    /// Is shown so many rows of the hall.
+    SeesRows(u8, usize),
     /// Makes the 50 calls of a caller.
     Calls,
     /// Is shown its 50 calls, in so many halls together.

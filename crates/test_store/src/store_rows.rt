@@ -1,7 +1,7 @@
 //! Rows of hostile gates, seats and stores.
 use crate::gates::Manner;
 use crate::rows::{Client, End, ONE, OTHER_ONE, QUIET, Row, TWO};
-use crate::shape::{PLAIN, Shape};
+use crate::shape::{PLAIN, Shape, Votes};
 use crate::steps::{Deed, Shown, Step, Wanted};
 use node_threads::{CallError, JoinError};
 use world_steps::Refusal;
@@ -69,8 +69,40 @@ const STOPS_TWO: [Step; 9] = [
     Step::By(1, Deed::Reads("x", Wanted::Answered)),
 ];
 
-/// A replica goes down in each of two halls and of four, once, and up again in each, once.
-const STOPS_IN_HALLS: [Step; 3] = [Step::GoesDownAndUp(2), Step::There, Step::GoesDownAndUp(4)];
+/// A replica goes down in each of two halls and of 64, once, and up again in each, once.
+const STOPS_IN_HALLS: [Step; 3] = [Step::GoesDownAndUp(2), Step::There, Step::GoesDownAndUp(64)];
+
+/// Each of fifteen replicas has to answer: with the last of them down a call is unavailable.
+const NEEDS_ALL_REPLICAS: [Step; 6] = [
+    Step::By(0, Deed::Writes("x", Wanted::Answered)),
+    Step::By(1, Deed::Reads("x", Wanted::Gives("a"))),
+    Step::Stops(14, None),
+    Step::By(0, Deed::Reads("x", Wanted::Fails(CallError::Unavailable))),
+    Step::Starts(14, None),
+    Step::By(1, Deed::Reads("x", Wanted::Gives("a"))),
+];
+
+/// Of 64 halls `xG` is in the last, `wG` in the one before it, `H` in hall 8 and `x` in hall 56.
+const CALLS_IN_HALLS: [Step; 9] = [
+    Step::By(0, Deed::Writes("xG", Wanted::Answered)),
+    Step::By(0, Deed::Writes("wG", Wanted::Answered)),
+    Step::By(0, Deed::Writes("H", Wanted::Answered)),
+    Step::By(1, Deed::Reads("xG", Wanted::Gives("a"))),
+    Step::By(1, Deed::Reads("wG", Wanted::Gives("a"))),
+    Step::By(1, Deed::Reads("H", Wanted::Gives("a"))),
+    Step::By(0, Deed::IsShown(63, Shown::Calls(1))),
+    Step::By(0, Deed::IsShown(56, Shown::Calls(0))),
+    Step::By(0, Deed::IsShown(64, Shown::NoHall)),
+];
+
+/// A seat that has made no call is shown the rows of the hall that it asks for: of two halls `k0` is in the second.
+const SEES_HALLS: [Step; 5] = [
+    Step::By(0, Deed::Writes("k0", Wanted::Answered)),
+    Step::By(1, Deed::SeesRows(0, 0)),
+    Step::By(1, Deed::SeesRows(1, 3)),
+    Step::By(0, Deed::SeesRows(0, 0)),
+    Step::By(1, Deed::HasSeen(0)),
+];
 
 /// A seat of a store of one hall makes no call in a store of that number with two halls, is shown no record of it, and
 /// doesn't close it.
@@ -130,7 +162,7 @@ const OF_TWO_STORES: Row = Row {
 };
 
 /// The rows.
-pub static STORE_ROWS: [Row; 10] = [
+pub static STORE_ROWS: [Row; 13] = [
     Row {
         name: "a limit of one call",
         shape: Shape { calls: 1, ..SMALL },
@@ -176,10 +208,33 @@ pub static STORE_ROWS: [Row; 10] = [
     Row {
         name: "a replica stopped in all halls",
         shape: Shape { halls: 2, ..PLAIN },
-        other: Some(Shape { halls: 4, ..PLAIN }),
+        other: Some(Shape { halls: 64, ..PLAIN }),
         clients: &[],
         opening: &STOPS_IN_HALLS,
         ..QUIET
+    },
+    Row {
+        name: "fifteen replicas that all have to answer",
+        shape: Shape {
+            replicas: 15,
+            rounds: 2,
+            votes: Votes::All,
+            ..SMALL
+        },
+        opening: &NEEDS_ALL_REPLICAS,
+        ..OF_TWO
+    },
+    Row {
+        name: "calls in 64 halls",
+        shape: Shape { halls: 64, ..SMALL },
+        opening: &CALLS_IN_HALLS,
+        ..OF_TWO
+    },
+    Row {
+        name: "snapshots of two halls by a seat without a call",
+        shape: Shape { halls: 2, ..SMALL },
+        opening: &SEES_HALLS,
+        ..OF_TWO
     },
     Row {
         name: "a seat of a store with other halls",

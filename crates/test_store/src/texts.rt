@@ -153,22 +153,23 @@ pub fn parcels_text(alloc: Global, places: &[Place]) -> Result<String, AllocErro
     Ok(text)
 }
 
-/// How many steps sent, repeated and delivered a message.
-fn counts_of(steps: &[Step]) -> (u32, u32, u32) {
-    let (mut sent, mut repeated, mut delivered) = (0, 0, 0);
+/// How many steps sent, repeated, delivered and lost a message.
+fn counts_of(steps: &[Step]) -> (u32, u32, u32, u32) {
+    let (mut sent, mut repeated, mut delivered, mut lost) = (0, 0, 0, 0);
     for step in steps {
         match step {
             Step::Send { .. } => sent = u32::saturating_add(sent, 1),
             Step::Repeat { .. } => repeated = u32::saturating_add(repeated, 1),
             Step::Deliver { .. } => delivered = u32::saturating_add(delivered, 1),
+            Step::Lose { .. } => lost = u32::saturating_add(lost, 1),
             _ => {}
         }
     }
-    (sent, repeated, delivered)
+    (sent, repeated, delivered, lost)
 }
 
-/// How many steps sent, repeated and delivered a message.
+/// How many steps sent, repeated, delivered and lost a message.
 pub fn counts_text(alloc: Global, steps: &[Step]) -> Result<String, AllocError> {
-    let (sent, repeated, delivered) = counts_of(steps);
-    format!(in alloc; "{sent} sent, {repeated} repeated, {delivered} delivered")
+    let (sent, repeated, delivered, lost) = counts_of(steps);
+    format!(in alloc; "{sent} sent, {repeated} repeated, {delivered} delivered, {lost} lost")
 }

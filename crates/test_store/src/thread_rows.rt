@@ -1,7 +1,7 @@
 //! Rows of several threads: of four callers, and of two that wait for each other.
 use crate::gates::Manner;
-use crate::rows::{Client, ONE, QUIET, Row, TWO};
-use crate::shape::{PLAIN, Shape};
+use crate::rows::{Client, End, ONE, QUIET, Row, TWO};
+use crate::shape::{PLAIN, Shape, Votes};
 use crate::steps::{Deed, Step, Wanted};
 use client_phases::ReadMode;
 
@@ -39,6 +39,14 @@ const FOUR_CALLERS: Row = Row {
     ..QUIET
 };
 
+/// Each of four callers is shown its calls, in 64 halls.
+const SEE_CALLS_IN_ALL_HALLS: [Step; 4] = [
+    Step::By(0, Deed::SeesItsCalls(64)),
+    Step::By(1, Deed::SeesItsCalls(64)),
+    Step::By(2, Deed::SeesItsCalls(64)),
+    Step::By(3, Deed::SeesItsCalls(64)),
+];
+
 /// A call that is held at its answer.
 const WRITES: [Step; 1] = [Step::By(0, Deed::Writes("x", Wanted::Answered))];
 
@@ -54,6 +62,9 @@ const WRITES_WHILE_THEY_MEET: [Step; 2] = [
     Step::By(0, Deed::Writes("x", Wanted::Answered)),
     Step::HaveMet,
 ];
+
+/// A call that is answered while one replica is at the gate.
+const WRITES_BESIDE_ONE: [Step; 1] = [Step::By(0, Deed::Writes("x", Wanted::Answered))];
 
 /// A call in hall 0 while somebody looks on in hall 1.
 const WRITES_THEN_LETS_GO: [Step; 3] = [
@@ -103,7 +114,7 @@ const STOPPED_AT_PLACES: Row = Row {
 };
 
 /// The rows.
-pub static THREAD_ROWS: [Row; 10] = [
+pub static THREAD_ROWS: [Row; 12] = [
     FOUR_CALLERS,
     Row {
         name: "four callers in four halls",
@@ -122,7 +133,7 @@ pub static THREAD_ROWS: [Row; 10] = [
     Row {
         name: "four callers of replicas with votes",
         shape: Shape {
-            has_votes: true,
+            votes: Votes::Uneven,
             ..PLAIN
         },
         ..FOUR_CALLERS
@@ -130,6 +141,17 @@ pub static THREAD_ROWS: [Row; 10] = [
     Row {
         name: "four callers whose parcels go twice",
         manner: Manner::Doubles,
+        ..FOUR_CALLERS
+    },
+    Row {
+        name: "four callers of fifteen replicas in 64 halls",
+        shape: Shape {
+            replicas: 15,
+            halls: 64,
+            votes: Votes::All,
+            ..PLAIN
+        },
+        closing: &SEE_CALLS_IN_ALL_HALLS,
         ..FOUR_CALLERS
     },
     Row {
@@ -158,6 +180,13 @@ pub static THREAD_ROWS: [Row; 10] = [
         clients: &[ONE, TWO],
         threads: &[&WRITES_THEN_LETS_GO, &LOOKS_ON],
         each: 1,
+        ..QUIET
+    },
+    Row {
+        name: "a store that is closed while a replica is at the gate",
+        manner: Manner::KeepsReplica,
+        opening: &WRITES_BESIDE_ONE,
+        end: End::ClosesAfter(12),
         ..QUIET
     },
     STOPPED_AT_PLACES,

@@ -9,8 +9,8 @@ use std::thread::Threads;
 use tag::{Action, ClientId, Key, Memory, ReplicaId};
 use world_steps::Refusal;
 
-/// How many halls the store has.
-const HALLS: u8 = 4;
+/// How many halls the store has: the most.
+const HALLS: u8 = 64;
 
 /// Reads a key that takes an allocation.
 fn read(

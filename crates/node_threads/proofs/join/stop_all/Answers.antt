@@ -24,11 +24,11 @@ pub returns : goal.returns
 returns g c =
     record {
       stopped = record {
+        count = c.loop-pass.invariant.count;
         own = c.loop-pass.invariant.own;
         stopped = λ k pass at.
             let lt : k < length c.loop-pass.passes = slice_get_within c.loop-pass.passes k pass at in
             let done = c.loop-pass-test.false in
             c.loop-pass.invariant.stopped k pass (omega (arith, lt, done)) at;
       };
-      count = c.loop-pass.invariant.count;
     }

@@ -1,11 +1,15 @@
-use Rattle.std.proofs.Common.{ℕ, ◌≡◌, ◌∙◌, List, Some, length, set, ap, sym, subst, refl, arith}
+use Rattle.std.proofs.Common.{ℕ, ◌≡◌, ◌∙◌, List, Result, Err, Some, length, set, ap, sym, subst, refl, arith}
 use Rattle.std.specs.List.{slice_get}
 use Rattle.std.proofs.lemmas.List.{length-set}
 use Rattle.std.proofs.lemmas.Result.{on_err_weaker}
-use Rattle.recorder.specs.Halls.{RecordedHalls, FallsTo}
+use Rattle.recorder.specs.Halls.{RecordedHalls, FallsTo, hall_calls}
 use Rattle.recorder.specs.Histories.{Recorded}
+use Rattle.recorder.specs.declared.row.Row.{Row}
 use Rattle.file_format.specs.FileHeaders.{halls_in, quorums_in}
-use Rattle.file_format.specs.HallStates.{histories_in}
+use Rattle.file_format.specs.HallStates.{IsPlacedInHall, histories_in}
+use Rattle.file_format.specs.Places.{FollowsAfter, IsPlacedAfter}
+use Rattle.file_format.specs.Faults.{LineStop}
+use Rattle.counted_devices.specs.declared.read_fault.Stop.TheVariants as stop
 use Rattle.file_format.specs.HistoriesFormat.{MakesHistories}
 use Rattle.file_format.proofs.OneRowMore.{given, grows, counted_after, lawful_after, room_after, unchanged_after, follows_after}
 use Rattle.file_format.proofs.RowsAcrossHalls.{IsNext}
@@ -90,3 +94,25 @@ returns-clause-unchanged c =
     let with : List Recorded → RecordedHalls = λ halls. record { halls = halls; quorums = quorums_in c.self.inside.header } in
     on_err_weaker took.result (λ same. ap with same ∙ c.self.view_is)
     (unchanged_after c.self.inside.halls.items c.from.result old took.new.history c.args.item.row took.result g.here g.after)
+
+-- memory was wanted for a row without a fault
+placed_where_refused : (calls : ℕ) (old new : Recorded) (row : Row) (result : Result (Unit {0}) LineStop) → FollowsAfter calls old row result new
+    → result ≡ Err stop.Memory → IsPlacedAfter calls old.rows row
+placed_where_refused calls old new row result follows is = (subst (λ r. FollowsAfter calls old row r new) is follows).0
+
+pub returns-clause-memory : goal.returns-clause-memory
+returns-clause-memory c = λ refused.
+    let inside = c.self.inside in
+    let halls = inside.halls.items in
+    let item = c.args.item in
+    let old = c.index_mut-history.result.now in
+    let took = c.follow_in_hall-result in
+    let g = given inside c.self.invariant c.from.result old took.new.history item.row took.result
+    (omega (arith, c.from.ensures, c.if-hall-halls.false, c.halls.ensures.count))
+    c.index_mut-history.ensures.value took.ensures.follows in
+    subst (λ (now : RecordedHalls). IsPlacedInHall now.halls item) c.self.view_is (record {
+      history = old;
+      there = subst (λ (k : ℕ). slice_get halls k ≡ Some old) c.from.ensures g.here;
+      falls = subst (λ (n : ℕ). FallsTo n item.hall item.row) (sym c.self.invariant.count) (c.falls_to.ensures.0 c.if-not-falls_to.false);
+      placed = placed_where_refused (hall_calls halls) old took.new.history item.row took.result g.after refused;
+    })

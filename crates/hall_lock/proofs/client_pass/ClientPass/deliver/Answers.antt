@@ -24,10 +24,10 @@ returns g c =
       refused = rw (← c.self.view_is) (err_map c.deliver_in-taken.result c.deliver_in-taken.ensures.refused (λ same. left turn same));
       delivered = rw (← c.self.view_is)
           (ok_map c.deliver_in-taken.result c.deliver_in-taken.ensures.took
-          (λ taken took. takes_flight turn c.args.flight (Ok (effect.Taken taken)) (Theirs took.1 took.0)));
+          (λ taken took. takes_flight turn c.receive-hall.ensures.replay c.receive-hall.ensures.sound c.args.flight (Ok (effect.Taken taken)) (Theirs took.1 took.0)));
       kept = rw (← c.self.view_is)
           (err_if c.deliver_in-taken.result c.deliver_in-taken.ensures.why
-          (λ why delivered. takes_flight turn c.args.flight (Err why) delivered));
+          (λ why delivered. takes_flight turn c.receive-hall.ensures.replay c.receive-hall.ensures.sound c.args.flight (Err why) delivered));
     }
 
 pub give_back-requires : goal.give_back-requires

@@ -24,7 +24,7 @@ returns g c =
       delayed = rw (← c.self.view_is) (err_map c.begin_in-begun.result c.begin_in-begun.ensures.delayed (λ same. left turn same));
       turned = rw (← c.self.view_is)
           (ok_map c.begin_in-begun.result c.begin_in-begun.ensures.began
-          (λ b took. took_turn turn (event.Invoke c.self.inside.client c.args.key c.args.action) (Ok (effect.Invoked b.op)) took));
+          (λ b took. took_turn turn c.receive-hall.ensures.replay c.receive-hall.ensures.sound (event.Invoke c.self.inside.client c.args.key c.args.action) (Ok (effect.Invoked b.op)) took));
       why = rw (← c.self.view_is)
           (err_if c.begin_in-begun.result c.begin_in-begun.ensures.why
           (λ delay held. delayed turn (event.Invoke c.self.inside.client c.args.key c.args.action) c.args.seen delay

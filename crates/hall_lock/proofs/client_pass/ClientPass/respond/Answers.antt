@@ -25,10 +25,10 @@ returns g c =
       refused = rw (← c.self.view_is) (err_map c.respond_in-ended.result c.respond_in-ended.ensures.refused (λ same. left turn same));
       turned = rw (← c.self.view_is)
           (ok_map c.respond_in-ended.result c.respond_in-ended.ensures.took
-          (λ e took. took_turn turn (event.Respond c.self.inside.client) (Ok (effect.Responded e.op)) took));
+          (λ e took. took_turn turn c.receive-hall.ensures.replay c.receive-hall.ensures.sound (event.Respond c.self.inside.client) (Ok (effect.Responded e.op)) took));
       why = rw (← c.self.view_is)
           (err_if c.respond_in-ended.result c.respond_in-ended.ensures.why
-          (λ why took. took_turn turn (event.Respond c.self.inside.client) (Err why) took));
+          (λ why took. took_turn turn c.receive-hall.ensures.replay c.receive-hall.ensures.sound (event.Respond c.self.inside.client) (Err why) took));
     }
 
 pub give_back-requires : goal.give_back-requires

@@ -10,5 +10,5 @@ pub returns : goal.returns
 returns g c =
     turned c.args.self.now c.receive-hall.new.self c.give_back.new.self c.receive-hall.result c.take_in-taken.new.hall c.args.step
     c.take_in-taken.result
-    c.receive-hall.ensures.received c.take_in-taken.ensures.takes c.give_back.ensures.recorded c.give_back.ensures.back
+    c.receive-hall.ensures.received c.receive-hall.ensures.replay c.receive-hall.ensures.sound c.take_in-taken.ensures.takes c.give_back.ensures.recorded c.give_back.ensures.back
     c.give_back.ensures.stays

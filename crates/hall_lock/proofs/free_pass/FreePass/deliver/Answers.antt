@@ -18,10 +18,11 @@ pub returns-clause-served : goal.returns-clause-served
 returns-clause-served g c = rw (← c.self.view_is)
     (ok_map c.serve_in-served.result c.serve_in-served.ensures.served (λ reply took. served_flight c.self.inside.door
     c.receive-hall.new.self c.give_back.new.self c.receive-hall.result c.serve_in-served.new.hall c.args.replica c.args.flight
-    (Ok (effect.Answered reply)) c.receive-hall.ensures.received c.give_back.ensures.back (Theirs took.1 took.0)))
+    (Ok (effect.Answered reply)) c.receive-hall.ensures.received c.give_back.ensures.back
+    c.receive-hall.ensures.replay c.receive-hall.ensures.sound (Theirs took.1 took.0)))
 
 pub returns-clause-refused : goal.returns-clause-refused
 returns-clause-refused g c = rw (← c.self.view_is)
     (err_if c.serve_in-served.result c.serve_in-served.ensures.why (λ why delivered. served_flight c.self.inside.door
     c.receive-hall.new.self c.give_back.new.self c.receive-hall.result c.serve_in-served.new.hall c.args.replica c.args.flight
-    (Err why) c.receive-hall.ensures.received c.give_back.ensures.back delivered))
+    (Err why) c.receive-hall.ensures.received c.give_back.ensures.back c.receive-hall.ensures.replay c.receive-hall.ensures.sound delivered))

@@ -3,6 +3,7 @@ use Rattle.recorder.specs.declared.row.Row.{Row}
 use Rattle.world_steps.specs.Lasting.{Grows}
 use Rattle.hall_lock.specs.declared.rule.View.{View}
 use Rattle.hall_lock.specs.Turns.{AreRecorded, HasNoCall, ClientView}
+use Rattle.hall_lock.proofs.FreeTurns.{refused}
 use Rattle.hall_lock.proofs.Joining.{entered, joins_world, seat_rows}
 use Rattle.hall_lock.proofs.Running.{joined_runs}
 use Rattle.hall_lock.proofs.OneTurn.{same_returns}
@@ -37,3 +38,8 @@ pub returns-in-Ok-clause-running : goal.returns-in-Ok-clause-running
 returns-in-Ok-clause-running g c =
     ap (λ (s : ClientView). s.is_stopped) c.new.ensures ∙ ap (λ (y : View). y.is_stopped) c.give_named.ensures.seat ∙ joined_runs
     c.receive-hall.result c.join_in.new.hall c.args.client c.in-Ok.ensures.joined.2
+
+pub returns-in-Err-clause-why : goal.returns-in-Err-clause-why
+returns-in-Err-clause-why g c = rw (← c.self.view_is)
+    (refused c.receive-hall.ensures.received c.give_back.ensures.back c.receive-hall.ensures.replay c.receive-hall.ensures.sound
+    c.in-Err.ensures.why)

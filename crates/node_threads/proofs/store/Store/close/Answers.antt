@@ -10,7 +10,7 @@ use Rattle.node_threads.proofs.store.Store.close.Goals as goal
 pub returns-clause-closed : goal.returns-clause-closed
 returns-clause-closed g c =
     let config : c.self.inside.config ≡ c.args.self.config = ap (λ (s : Store _). s.config) c.self.view_is in
-    let halls : length c.in_ok-halls.halls.items ≡ c.args.self.config.halls = c.in_ok-halls.ensures.count ∙ c.self.invariant ∙ ap
+    let halls : length c.in_ok-halls.halls.items ≡ c.args.self.config.halls = c.in_ok-halls.ensures.count ∙ c.self.invariant.0 ∙ ap
     (λ (o : StoreConfig). o.halls) config in
     let logs : HaveLogs c.in_ok-halls.halls.items c.args.seats.items =
     subst (λ (y : List ClosedHall × List Seat). HaveLogs y.0 y.1) (λ i. (c.deref-2.ensures.value i, c.deref-3.ensures.value i))

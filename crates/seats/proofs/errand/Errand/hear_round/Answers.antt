@@ -6,7 +6,7 @@ use Rattle.seats.proofs.errand.Errand.hear_round.Goals as goal
 pub returns-in_err-next-clause-stalled : goal.returns-in_err-next-clause-stalled
 returns-in_err-next-clause-stalled g c =
     let p = err_from_is_err_and c.from_residual.result c.from_residual.ensures.1 in
-    rw (p.1, p.2) (stalls_then _ _ _ _ c.loop.invariant c.in_err-next.ensures.stalled)
+    rw (p.1, p.2) (stalls_then _ _ _ _ c.loop.invariant (c.in_err-next.ensures.stalled _))
 
 pub returns-in_err-next-clause-kept : goal.returns-in_err-next-clause-kept
 returns-in_err-next-clause-kept g c = keeps_then _ _ _ c.loop.invariant c.hear.ensures.kept
