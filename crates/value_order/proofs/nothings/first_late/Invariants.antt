@@ -1,0 +1,7 @@
+use Rattle.tag_check.specs.Least.{HasPartner}
+use Rattle.tag_check.proofs.Calls.{NoneBelow}
+use Rattle.value_order.specs.Faults.{IsLateNothing}
+use Rattle.value_order.proofs.nothings.first_late.Given as goal
+
+abbrev pub invariant-loop-i : goal.invariant-loop-i
+invariant-loop-i l = NoneBelow l.part (HasPartner l.part IsLateNothing) l.i

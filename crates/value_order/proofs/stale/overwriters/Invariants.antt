@@ -1,0 +1,15 @@
+use Rattle.std.proofs.Common.{ℕ, ◌≡◌, ◌<◌, ◌≤◌, Some, length}
+use Rattle.std.specs.List.{slice_get}
+use Rattle.recorder.specs.declared.part.Call.{Call}
+use Rattle.value_order.specs.declared.keys.SortKey.{SortKey}
+use Rattle.value_order.specs.Ended.{IsGreatestIndex, AreSlowest}
+use Rattle.value_order.proofs.StaleTables.{AreFound, ArePassed}
+use Rattle.value_order.proofs.stale.overwriters.Given as goal
+
+abbrev pub invariant-loop-i : goal.invariant-loop-i
+invariant-loop-i l = record {
+  passed : ArePassed l.part l.keys.items l.before.count l.i;
+  latest : IsGreatestIndex l.keys.items l.before.count l.before.latest;
+  slowest : AreSlowest l.part l.classes l.i l.slowest.items;
+  found : AreFound l.part l.i l.found.items;
+}

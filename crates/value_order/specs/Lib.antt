@@ -1,0 +1,17 @@
+pub mod Writers
+pub mod Families
+pub mod Tables
+pub mod Faults
+pub mod Classes
+pub mod Sources
+pub mod Zones
+pub mod Keys
+pub mod SortKeys
+pub mod Crossing
+pub mod Doubts
+pub mod Nothings
+pub mod Rows
+pub mod Ended
+pub mod Stales
+pub mod Numbers
+pub mod Decisions
