@@ -16,7 +16,7 @@ import sys
 import tempfile
 
 SUITES = ("must-fail", "inner-edits")
-USAGE = "usage: scripts/edits.sh [--since COMMIT] [--gate | --inner] [--alone] [NAME[/EDIT]..]"
+USAGE = "usage: scripts/edits.sh [--since COMMIT] [--gate | --inner] [--alone | --applied] [NAME[/EDIT]..]"
 # How many edits one check tries at most.
 TOGETHER = 6
 FUNCTION = r"(\s*)(pub(\([a-z]+\))? )?(const )?(unsafe )?fn (\w+)"
@@ -262,8 +262,19 @@ def try_crate(name, edits, is_alone):
     return failures
 
 
+def apply_crate(name, edits):
+    """Applies a crate's edits to no file, and returns how many don't apply: of these it says why."""
+    failures = 0
+    for edit in edits:
+        _, why = edited(f"crates/{name}", edit)
+        if why:
+            failures += 1
+            print(f"{edit.removeprefix('crates/')}: BAD EDIT: {why}")
+    return failures
+
+
 def main(words):
-    commit, suites, names, is_alone = None, SUITES, [], False
+    commit, suites, names, is_alone, only_applied = None, SUITES, [], False, False
     while words:
         word = words.pop(0)
         if word == "--since" and words:
@@ -272,6 +283,8 @@ def main(words):
             suites = SUITES[:1] if word == "--gate" else SUITES[1:]
         elif word == "--alone":
             is_alone = True
+        elif word == "--applied":
+            only_applied = True
         elif word.startswith("-"):
             stop(USAGE)
         else:
@@ -287,9 +300,9 @@ def main(words):
         asked = lambda it: not names or crate in names or f"{crate}/{os.path.basename(it)[:-5]}" in names
         edits = [it for it in found if asked(it) and (not commit or has_changed(f"crates/{crate}", it, commit))]
         if edits:
-            failures += try_crate(crate, edits, is_alone)
+            failures += apply_crate(crate, edits) if only_applied else try_crate(crate, edits, is_alone)
             tried += len(edits)
-    print(f"{tried} edits tried, {failures} not refused")
+    print(f"{tried} edits, {failures} don't apply" if only_applied else f"{tried} edits tried, {failures} not refused")
     return 1 if failures else 0
 
 

@@ -5,6 +5,7 @@
 #   scripts/edits.sh --since COMMIT       those whose function, or whose own file, changed since a commit
 #   --gate, --inner                       of these only those in must-fail (the gate tries them too), or only those in inner-edits
 #   --alone                               each in a check of its own, where else one check tries edits of several functions
+#   --applied                             none is tried: of each is seen that its old text stands in its file once, as the gate does
 set -eu
 cd "$(dirname "$0")/.."
 exec python3 scripts/edits.py "$@"

@@ -1,25 +1,39 @@
 #!/usr/bin/env bash
-# Makes abd_VERSION_amd64.deb and abd-VERSION-linux-x86_64.tar.gz in FOLDER (out/), with a file of checksums:
+# Makes abd_VERSION_amd64.deb and abd-VERSION-linux-x86_64.tar.gz in FOLDER (release/), with a file of checksums, in the place of older ones:
 #
-#   scripts/package.sh [FOLDER]
+#   scripts/package.sh [FOLDER]             runs the gate first, without its comparison with the package that this makes
+#   scripts/package.sh --no-gate [FOLDER]   only proves and builds the program, as scripts/verify_release.sh does
 #
-# The gate is run first, and the program is proved and built by `rt run` in crates/abd, so nothing unproved is packed. Made twice from one
-# commit the files are the same, byte for byte: names are sorted, owners are 0, times are the commit's, and gzip writes no name and no time.
+# Nothing unproved is packed. Made twice from one commit by one kit the files are the same, byte for byte: names are sorted, owners are 0,
+# times are the commit's, and gzip writes no name and no time.
 set -euo pipefail
 cd "$(dirname "$0")/.."
 top=$PWD
-to=$(mkdir -p "${1:-out}" && cd "${1:-out}" && pwd)
+is_gated=yes
+if [ "${1:-}" = --no-gate ]; then
+  is_gated=no
+  shift
+fi
+to=$(mkdir -p "${1:-release}" && cd "${1:-release}" && pwd)
 if [ -n "$(git status --porcelain)" ]; then
   echo "package: commit first: the checksums name a commit" >&2
   exit 1
 fi
-gate=$(.ci/run | tail -1)
-(cd crates/abd && rt run -- check ../../examples/two_calls.history ../../examples/two_calls.orders)
 program=$top/crates/abd/out/abd
+gate="not run"
+if [ "$is_gated" = yes ]; then
+  if ! gate=$(.ci/run --without-release | tee /dev/stderr | tail -1); then
+    echo "package: the gate failed" >&2
+    exit 1
+  fi
+else
+  (cd crates/abd && rt run -- --version)
+fi
 version=$("$program" --version | cut -d' ' -f2)
 export SOURCE_DATE_EPOCH
 SOURCE_DATE_EPOCH=$(git log -1 --format=%ct)
 libc=$(objdump -T "$program" | grep -o 'GLIBC_[0-9.]*' | sort -uV | tail -1 | cut -d_ -f2)
+umask 022
 work=$(mktemp -d)
 trap 'rm -rf "$work"' EXIT
 
@@ -52,7 +66,7 @@ cat > "$deb/usr/share/doc/abd/copyright" <<END
 abd, $(git log -1 --format=%H)
 
 Copyright $(git log -1 --format=%cd --date=format:%Y) the maintainers of abd
-No licence was chosen yet: ask the maintainers before you hand it on.
+No licence has been chosen yet.
 END
 printf 'abd (%s) unstable; urgency=medium\n\n  * The state of commit %s.\n\n -- %s  %s\n' "$version" "$(git log -1 --format=%h)" \
   "$(git log -1 --format='%an <%ae>')" "$(date -uRd "@$SOURCE_DATE_EPOCH")" | gzip -9n > "$deb/usr/share/doc/abd/changelog.gz"
@@ -85,5 +99,6 @@ dpkg-deb --root-owner-group -Zxz --build "$deb" "$to/abd_${version}_amd64.deb" >
   cd "$to"
   sha256sum "abd_${version}_amd64.deb" "$name.tar.gz"
 } > "$work/sums"
+find "$to" -maxdepth 1 -name 'abd[-_]*' ! -name "abd[-_]$version[-_.]*" -delete
 mv "$work/sums" "$to/abd-$version.sums"
 cat "$to/abd-$version.sums"

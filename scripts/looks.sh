@@ -1,0 +1,32 @@
+#!/usr/bin/env bash
+# Runs what people look at, with the built program, as .ci/run does after the proofs; of what passes nothing is said:
+#   scripts/looks.sh ABD [--without-release]
+# A check that can't be run fails. It takes a minute.
+set -u
+cd "$(dirname "$0")/.."
+abd=$1
+if [ ! -x "$abd" ]; then
+  echo "looks: there is no program $abd: (cd crates/abd && rt run -- --version) builds it" >&2
+  exit 1
+fi
+checks=(
+  "python3 scripts/words.py $abd"
+  "python3 scripts/explain_rows.py $abd"
+  "python3 scripts/draw_rows.py $abd"
+  "python3 scripts/verbs.py $abd"
+  "python3 scripts/pages.py $abd 20"
+  "scripts/pictures.sh $abd --check"
+  "scripts/recorders.sh $abd python"
+  "scripts/edits.sh --applied"
+)
+failed=0
+for check in "${checks[@]}"; do
+  if ! said=$($check 2>&1); then
+    printf '%s: failed\n%s\n' "$check" "$said"
+    failed=1
+  fi
+done
+if [ "${2:-}" != --without-release ]; then
+  python3 scripts/compare_release.py "$abd" || failed=1
+fi
+exit "$failed"
