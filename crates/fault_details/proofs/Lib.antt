@@ -1,5 +1,6 @@
-mod FaultCases
 mod Pieces
 mod PlainBytes
 mod Quoted
+pub mod Scanning
+pub mod Stops
 mod Votes

@@ -47,6 +47,8 @@ is_answer (Some d) = is_some (as_null d) || is_some (as_str d)
 -- text
 abbrev pub has_kind : Allowed → List ℕ → Data → Bool
 has_kind (allowed.Number least most) name d = is_some (number_at name d)
+has_kind allowed.OfVotes name d = is_some (number_at name d)
+has_kind (allowed.BesideAsk most) name d = is_some (number_at name d)
 has_kind allowed.Votes name d = is_some (numbers_at name d)
 has_kind allowed.Calls name d = is_some (numbers_at name d)
 has_kind allowed.Answer name d = is_answer (get name d)
@@ -88,10 +90,15 @@ abbrev pub is_short : Option (List ℕ) → Bool
 is_short None = true
 is_short (Some text) = is_value text
 
--- the member of that name is in its range
+-- the member of that name is a number between those two
+abbrev pub is_between : ℕ → ℕ → List ℕ → Data → Bool
+is_between least most name d = holds (λ n. nat_le least n && nat_le n most) (number_at name d)
+
+-- the member of that name is in its range; no quorum is, of votes that are out of range
 abbrev pub is_in_range : Allowed → List ℕ → Data → Bool
-is_in_range (allowed.Number least most) name d =
-    holds (λ n. nat_le least n && nat_le n most) (number_at name d)
+is_in_range (allowed.Number least most) name d = is_between least most name d
+is_in_range allowed.OfVotes name d = false
+is_in_range (allowed.BesideAsk most) name d = is_between 1 most name d
 is_in_range allowed.Votes name d = holds are_votes (numbers_at name d)
 is_in_range allowed.Calls name d = holds are_calls (numbers_at name d)
 is_in_range allowed.Answer name d = is_answer (get name d) && is_short (text_at name d)
@@ -116,9 +123,16 @@ unfoldable pub number_text : ℕ → ℕ → List ℕ
 number_text least most = if least == most then codes "the number " ++ grouped least
     else codes "a number from " ++ grouped least ++ codes " to " ++ grouped most
 
+-- a number up to that one, beside an ask quorum that is out of range
+unfoldable pub beside_ask_text : ℕ → List ℕ
+beside_ask_text most = number_text 1 most ++ codes ", and \"ask\" is out of range"
+
 -- the same of any member
 unfoldable pub allowed_text : Allowed → List ℕ
 allowed_text (allowed.Number least most) = number_text least most
+allowed_text allowed.OfVotes =
+    codes "a number from 1 to the sum of \"votes\", and \"votes\" is out of range"
+allowed_text (allowed.BesideAsk most) = beside_ask_text most
 allowed_text allowed.History = codes "\"history\""
 allowed_text allowed.Orders = codes "\"orders\""
 allowed_text allowed.Row = codes "\"invoke\", \"note\" or \"respond\""

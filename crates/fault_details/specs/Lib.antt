@@ -1,7 +1,10 @@
+pub mod Beginnings
 pub mod Demands
 pub mod FileFaults
+pub mod FoundLines
 pub mod LineDetails
 pub mod Needed
 pub mod RowDetails
 pub mod ScriptFaults
 pub mod Shown
+pub mod Written

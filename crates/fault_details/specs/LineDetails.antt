@@ -1,10 +1,9 @@
 -- Why a line by itself has its fault.
 use Rattle.std.specs.Prelude.{ℕ, ◌≡◌, List, [], ◌++◌, Bool, true, false, Option, Some, None, codes}
-use Rattle.std.specs.Prelude.{is_some}
+use Rattle.std.specs.Prelude.{◌∷◌, is_some, not}
 use Rattle.serde_json.specs.Data.{Data}
 use Rattle.serde_json.specs.Find.{get, as_object}
 use Rattle.serde_json.specs.View.{view}
-use Rattle.serde_json.specs.Written.{compact_text, has_float}
 use Rattle.row_members.specs.Values.{IsJson}
 use Rattle.file_format.specs.declared.fault.LineFault.{LineFault}
 use Rattle.file_format.specs.declared.fault.LineFault.TheVariants.{NotJson, NoHeader, Version}
@@ -22,16 +21,18 @@ use Rattle.fault_details.specs.declared.json_line.Broken.{Broken}
 use Rattle.fault_details.specs.declared.json_line.Broken.TheVariants as broken
 use Rattle.fault_details.specs.declared.json_line.Parsed.{Parsed}
 use Rattle.fault_details.specs.declared.json_line.Parsed.TheVariants as parsed
+use Rattle.fault_details.specs.Beginnings.{IsReason}
 use Rattle.fault_details.specs.Demands.{allowed_text, first_failing, name_text}
 use Rattle.fault_details.specs.Needed.{needed}
 use Rattle.fault_details.specs.Shown.{grouped, shown}
+use Rattle.fault_details.specs.Written.{note_text, IsWritten}
 
 -- ---- no JSON
 
--- the line was read as a JSON value, or it is none
+-- the line was read as a JSON value, or it is none for that reason
 abbrev pub Parses : List ℕ → Parsed → Type 0
 Parses line (parsed.Json value) = IsJson line (view value)
-Parses line (parsed.Broken why) = (d : Data) → IsJson line d → ⊥
+Parses line (parsed.Broken why) = ((d : Data) → IsJson line d → ⊥) × IsReason line why
 
 -- at which byte it stops being JSON
 unfoldable pub invalid_text : ℕ → List ℕ
@@ -53,12 +54,11 @@ cut_text false = codes "  the line has no end: the log was cut there, so drop th
 
 -- ---- members
 
--- what stands there in the file: nothing, or the value as a JSON text, which is given for values
--- without a fraction
-abbrev pub Stands : Option Data → List ℕ → Type 0
-Stands None text = text ≡ codes "missing"
-Stands (Some d) text = (written : List ℕ) × (text ≡ shown written)
-    × (has_float d ≡ false → written ≡ compact_text d)
+-- what stands there in the line, where that is allowed: nothing, or the value as it is written
+abbrev pub Stands : List ℕ → Allowed → Option Data → List ℕ → Type 0
+Stands line a None text = text ≡ codes "missing"
+Stands line a (Some d) text = (written : List ℕ) × IsWritten line d written
+    × (text ≡ shown written ++ note_text a d written)
 
 -- the member of that name is that
 unfoldable pub is_text : Name → List ℕ → List ℕ
@@ -73,20 +73,20 @@ abbrev pub demand_line : Demand → List ℕ → List ℕ
 demand_line m stands = is_text m.name stands ++ should_text m.allowed
 
 -- a line on that demand is added
-abbrev pub AddsDemand : Data → Demand → List ℕ → List ℕ → Type 0
-AddsDemand d m old new = (stands : List ℕ) × Stands (get (name_text m.name) d) stands
-    × (new ≡ old ++ demand_line m stands)
+abbrev pub AddsDemand : List ℕ → Data → Demand → List ℕ → List ℕ → Type 0
+AddsDemand line d m old new = (stands : List ℕ)
+    × Stands line m.allowed (get (name_text m.name) d) stands × (new ≡ old ++ demand_line m stands)
 
 -- of a value that is an object or none, and the demand that it fails, what is added
-abbrev pub AddsWrong : Bool → Option Demand → Data → List ℕ → List ℕ → Type 0
-AddsWrong false failing d old new = new ≡ old ++ codes "  the line is no object\n"
-AddsWrong true None d old new = new ≡ old
-AddsWrong true (Some m) d old new = AddsDemand d m old new
+abbrev pub AddsWrong : Bool → Option Demand → List ℕ → Data → List ℕ → List ℕ → Type 0
+AddsWrong false failing line d old new = new ≡ old ++ codes "  the line is no object\n"
+AddsWrong true None line d old new = new ≡ old
+AddsWrong true (Some m) line d old new = AddsDemand line d m old new
 
 -- a line is added on the first member, in the order of the format, that doesn't pass the test
-abbrev pub AddsMember : LineKind → Test → Data → List ℕ → List ℕ → Type 0
-AddsMember line test d old new =
-    AddsWrong (is_some (as_object d)) (first_failing test d (needed line d)) d old new
+abbrev pub AddsMember : LineKind → Test → List ℕ → Data → List ℕ → List ℕ → Type 0
+AddsMember sort test line d old new =
+    AddsWrong (is_some (as_object d)) (first_failing test d (needed sort d)) line d old new
 
 -- ---- the header
 
@@ -100,14 +100,15 @@ header_line other = codes "  a history file begins with {\"abd\":\"history\",\"v
 -- ---- lines
 
 -- the line was read as that, and of a value a line was added on a member
-abbrev pub AddsParsed : LineKind → Test → Parsed → List ℕ → List ℕ → Type 0
-AddsParsed line test (parsed.Json value) old new = AddsMember line test (view value) old new
-AddsParsed line test (parsed.Broken why) old new = new ≡ old
+abbrev pub AddsParsed : LineKind → Test → List ℕ → Parsed → List ℕ → List ℕ → Type 0
+AddsParsed sort test line (parsed.Json value) old new =
+    AddsMember sort test line (view value) old new
+AddsParsed sort test line (parsed.Broken why) old new = new ≡ old
 
 -- a line is added on the first member of the line that doesn't pass the test
 abbrev pub AddsWrongMember : LineKind → Test → List ℕ → List ℕ → List ℕ → Type 0
-AddsWrongMember line test bytes old new =
-    (read : Parsed) × Parses bytes read × AddsParsed line test read old new
+AddsWrongMember sort test line old new =
+    (read : Parsed) × Parses line read × AddsParsed sort test line read old new
 
 -- why the line is no JSON is added, where it is none
 abbrev pub AddsReason : Bool → Parsed → List ℕ → List ℕ → Type 0
@@ -126,6 +127,16 @@ AddsHeader line bytes old new = (with_member : List ℕ)
     × AddsWrongMember line test.Range bytes old with_member
     × (new ≡ with_member ++ header_line line)
 
+-- there is no byte and no end
+abbrev pub is_gone : List ℕ → Bool → Bool
+is_gone [] has_end = not has_end
+is_gone (byte ∷ bytes) has_end = false
+
+-- the same of a line that is there
+abbrev pub AddsNoJson : Bool → List ℕ → Bool → List ℕ → List ℕ → Type 0
+AddsNoJson true bytes has_end old new = new ≡ old
+AddsNoJson false bytes has_end old new = AddsBroken bytes has_end old new
+
 -- how many calls the file of such a line may have
 abbrev pub limit_text : LineKind → List ℕ
 limit_text kind.HistoryHeader = codes "  a history file has at most 1,000,000 calls\n"
@@ -139,7 +150,8 @@ limit_text kind.Piece = codes "  all orders of a file together have at most 1,00
 abbrev pub AddsLine : FaultyLine → LineFault → List ℕ → List ℕ → Type 0
 AddsLine line TooLong old new = new ≡ old ++ codes "  a line has at most 65,536 bytes\n"
 AddsLine line TooManyCalls old new = new ≡ old ++ limit_text line.kind
-AddsLine line NotJson old new = AddsBroken line.bytes.now line.has_end old new
+AddsLine line NotJson old new =
+    AddsNoJson (is_gone line.bytes.now line.has_end) line.bytes.now line.has_end old new
 AddsLine line Member old new = AddsWrongMember line.kind test.Kind line.bytes.now old new
 AddsLine line Range old new = AddsWrongMember line.kind test.Range line.bytes.now old new
 AddsLine line NoHeader old new = AddsHeader line.kind line.bytes.now old new

@@ -1,7 +1,7 @@
 -- Which members a line has to have, in the order in which the format lists them, and what they have
 -- to be.
 use Rattle.std.specs.Prelude.{ℕ, ◌+◌, ◌-◌, List, [], ◌∷◌, ◌++◌, Bool, Option, Some, None}
-use Rattle.std.specs.Prelude.{codes, bytes_eq, unwrap_or, if◌then◌else◌}
+use Rattle.std.specs.Prelude.{◌==◌, ◌&&◌, codes, bytes_eq, nat_le, unwrap_or, if◌then◌else◌}
 use Rattle.serde_json.specs.Data.{Data}
 use Rattle.file_format.specs.FileHeaders.{are_votes}
 use Rattle.file_format.specs.Members.{text_at, number_at, numbers_at}
@@ -68,15 +68,29 @@ abbrev pub vote_sum : Option (List ℕ) → ℕ
 vote_sum None = 0
 vote_sum (Some votes) = if are_votes votes then together votes else 0
 
--- the least votes of a put quorum: together with those of an ask quorum more than all
-abbrev pub least_put : ℕ → Option ℕ → ℕ
-least_put all None = 1
-least_put all (Some ask) = (all + 1) - ask
+-- what an ask quorum may be, of so many votes; 0 where the votes are out of range
+abbrev pub ask_allowed : ℕ → Allowed
+ask_allowed all = if all == 0 then allowed.OfVotes else allowed.Number 1 all
+
+-- what a put quorum may be beside that ask quorum: where that is in its range, both together have
+-- more votes than all replicas
+abbrev pub put_beside : ℕ → ℕ → Allowed
+put_beside all ask = if nat_le 1 ask && nat_le ask all
+    then allowed.Number (all + 1 - ask) all else allowed.BesideAsk all
+
+-- the same, where an ask quorum is told or none is
+abbrev pub put_of : ℕ → Option ℕ → Allowed
+put_of all None = allowed.Number 1 all
+put_of all (Some ask) = put_beside all ask
+
+-- the same of any votes
+abbrev pub put_allowed : ℕ → Option ℕ → Allowed
+put_allowed all ask = if all == 0 then allowed.OfVotes else put_of all ask
 
 -- the quorums of a header of version 2, of so many votes
 abbrev pub quorum_demands : ℕ → Option ℕ → List Demand
 quorum_demands all ask = number name.Halls 1 64 ∷ a name.Votes allowed.Votes
-    ∷ number name.Ask 1 all ∷ number name.Put (least_put all ask) all ∷ []
+    ∷ a name.Ask (ask_allowed all) ∷ a name.Put (put_allowed all ask) ∷ []
 
 -- the members of a history file's header
 unfoldable pub history_demands : Data → List Demand

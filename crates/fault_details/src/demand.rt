@@ -5,8 +5,9 @@ ghost use Rattle.serde_json.specs.Find.{as_array, get};
 ghost use Rattle.serde_json.specs.View.{view, items_view};
 ghost use Rattle.file_format.specs.FileHeaders.{are_votes};
 ghost use Rattle.file_format.specs.Members.{text_at, number_at, numbers_at, numbers_in};
-ghost use Rattle.fault_details.specs.Demands.{allowed_text, are_calls, first_failing, is_answer};
-ghost use Rattle.fault_details.specs.Demands.{is_text_allowed, name_text, number_text, passes};
+ghost use Rattle.fault_details.specs.Demands.{allowed_text, are_calls, beside_ask_text};
+ghost use Rattle.fault_details.specs.Demands.{first_failing, is_answer, is_between, is_text_allowed};
+ghost use Rattle.fault_details.specs.Demands.{name_text, number_text, passes};
 
 use crate::grouped::append_grouped;
 use sentences::append;
@@ -40,6 +41,10 @@ pub(crate) enum Name {
 pub(crate) enum Allowed {
     /// A number between two.
     Number { least: u64, most: u64 },
+    /// A quorum of votes that are out of range themselves.
+    OfVotes,
+    /// A put quorum of so many votes, beside an ask quorum that is out of range itself.
+    BesideAsk { most: u64 },
     /// The text `history`.
     History,
     /// The text `orders`.
@@ -203,6 +208,16 @@ fn are_calls(calls: &[u64]) -> bool
     calls.iter().all(|call| *call < 4_294_967_296)
 }
 
+/// Whether the member of that name is a number between those two.
+fn is_between(value: &Value, name: &str, least: u64, most: u64) -> bool
+    ensures { result ≡ is_between least most name.now (view value.now) }
+{
+    match number_of(value, name) {
+        Some(number) => least <= number && number <= most,
+        None => false,
+    }
+}
+
 impl Demand {
     /// Whether the member is there and of its kind.
     fn has_kind(self, alloc: Global, value: &Value) -> Result<bool, Memory>
@@ -210,7 +225,9 @@ impl Demand {
     {
         let name = self.name.text();
         match self.allowed {
-            Allowed::Number { .. } => Ok(number_of(value, name).is_some()),
+            Allowed::Number { .. } | Allowed::OfVotes | Allowed::BesideAsk { .. } => {
+                Ok(number_of(value, name).is_some())
+            }
             Allowed::Votes | Allowed::Calls => Ok(numbers_of(alloc, value, name)?.is_some()),
             Allowed::Answer => Ok(is_answer(value.get(name))),
             _ => Ok(text_of(value, name).is_some()),
@@ -223,10 +240,9 @@ impl Demand {
     {
         let name = self.name.text();
         match self.allowed {
-            Allowed::Number { least, most } => match number_of(value, name) {
-                Some(number) => Ok(least <= number && number <= most),
-                None => Ok(false),
-            },
+            Allowed::Number { least, most } => Ok(is_between(value, name, least, most)),
+            Allowed::OfVotes => Ok(false),
+            Allowed::BesideAsk { most } => Ok(is_between(value, name, 1, most)),
             Allowed::Votes => match numbers_of(alloc, value, name)? {
                 Some(votes) => Ok(are_votes(votes.as_slice())),
                 None => Ok(false),
@@ -291,6 +307,15 @@ fn append_between(text: &mut Vec<u8>, least: u64, most: u64) -> Result<(), Memor
     append_grouped(text, most)
 }
 
+/// Adds that a number up to that one is allowed, and that the ask quorum is out of range itself.
+#[tactic(auto, unfolding(crate::specs::Demands::beside_ask_text))]
+fn append_beside_ask(text: &mut Vec<u8>, most: u64) -> Result<(), Memory>
+    ensures { OnOk result (text.new.items ≡ text.old.items ++ beside_ask_text most) }
+{
+    append_between(text, 1, most)?;
+    append(text, ", and \"ask\" is out of range")
+}
+
 /// Adds what is allowed, in words.
 #[tactic(auto, unfolding(crate::specs::Demands::allowed_text))]
 pub(crate) fn append_allowed(text: &mut Vec<u8>, allowed: Allowed) -> Result<(), Memory>
@@ -298,6 +323,9 @@ pub(crate) fn append_allowed(text: &mut Vec<u8>, allowed: Allowed) -> Result<(),
 {
     let words = match allowed {
         Allowed::Number { least, most } => return append_between(text, least, most),
+        Allowed::BesideAsk { most } => return append_beside_ask(text, most),
+        Allowed::OfVotes =>
+            "a number from 1 to the sum of \"votes\", and \"votes\" is out of range",
         Allowed::History => "\"history\"",
         Allowed::Orders => "\"orders\"",
         Allowed::Row => "\"invoke\", \"note\" or \"respond\"",

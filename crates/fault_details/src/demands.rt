@@ -3,8 +3,9 @@ ghost use Rattle.std.specs.Prelude.{◌≡◌, ◌≤◌, ◌++◌, codes, true,
 ghost use Rattle.serde_json.specs.View.{view};
 ghost use Rattle.file_format.specs.FileHeaders.{are_votes};
 ghost use Rattle.file_format.specs.Members.{numbers_at};
-ghost use Rattle.fault_details.specs.Needed.{history_demands, invoke_demands, is_text, kind_demands};
-ghost use Rattle.fault_details.specs.Needed.{least_put, needed, together, vote_sum};
+ghost use Rattle.fault_details.specs.Needed.{ask_allowed, history_demands, invoke_demands, is_text};
+ghost use Rattle.fault_details.specs.Needed.{kind_demands, needed, put_allowed, put_beside, put_of};
+ghost use Rattle.fault_details.specs.Needed.{together, vote_sum};
 
 use crate::demand::{Allowed, Demand, Name, are_votes, number_of, numbers_of, text_of};
 use serde_json::Value;
@@ -123,16 +124,66 @@ fn vote_sum(alloc: Global, value: &Value) -> Result<u64, Memory>
     }
 }
 
+/// What an ask quorum may be, of so many votes; 0 where they are out of range.
+fn ask_allowed(all: u64) -> Allowed
+    ensures { result ≡ ask_allowed all }
+{
+    if all == 0 {
+        return Allowed::OfVotes;
+    }
+    Allowed::Number {
+        least: 1,
+        most: all,
+    }
+}
+
+/// What a put quorum may be beside that ask quorum.
+fn put_beside(all: u64, ask: u64) -> Allowed
+    requires { all ≤ 135 }
+    ensures { result ≡ put_beside all ask }
+{
+    if ask >= 1 && ask <= all {
+        Allowed::Number {
+            least: all + 1 - ask,
+            most: all,
+        }
+    } else {
+        Allowed::BesideAsk { most: all }
+    }
+}
+
+/// What a put quorum may be, of so many votes that are in their range, beside the ask quorum if there is one.
+fn put_of(all: u64, ask: Option<u64>) -> Allowed
+    requires { all ≤ 135 }
+    ensures { result ≡ put_of all ask }
+{
+    match ask {
+        Some(ask) => put_beside(all, ask),
+        None => Allowed::Number {
+            least: 1,
+            most: all,
+        },
+    }
+}
+
+/// The same of any votes.
+fn put_allowed(all: u64, ask: Option<u64>) -> Allowed
+    requires { all ≤ 135 }
+    ensures { result ≡ put_allowed all ask }
+{
+    if all == 0 {
+        return Allowed::OfVotes;
+    }
+    put_of(all, ask)
+}
+
 /// The members of a history file's header.
 #[tactic(auto, unfolding(crate::specs::Needed::history_demands))]
 fn history_demands(alloc: Global, value: &Value) -> Result<Vec<Demand>, Memory>
     ensures { IfOk result (λ demands. demands.items ≡ history_demands (view value.now)) }
 {
     let all = vote_sum(alloc, value)?;
-    let least = match number_of(value, "ask") {
-        Some(ask) => (all + 1).saturating_sub(ask),
-        None => 1,
-    };
+    let put = put_allowed(all, number_of(value, "ask"));
     let demands = Vec::from_array(
         alloc,
         [
@@ -140,8 +191,8 @@ fn history_demands(alloc: Global, value: &Value) -> Result<Vec<Demand>, Memory>
             number(Name::Version, 1, 2),
             number(Name::Halls, 1, 64),
             a(Name::Votes, Allowed::Votes),
-            number(Name::Ask, 1, all),
-            number(Name::Put, least, all),
+            a(Name::Ask, ask_allowed(all)),
+            a(Name::Put, put),
         ],
     )?;
     Ok(demands)

@@ -1,8 +1,10 @@
 //! The JSON value that a line is, or why it is none.
-ghost use Rattle.std.specs.Prelude.{◌≡◌, ◌++◌, IfOk, OnOk};
+ghost use Rattle.std.specs.Prelude.{◌≡◌, ◌≤◌, ◌++◌, length, take, IfOk, OnOk};
+ghost use Rattle.fault_details.specs.Beginnings.{has_mark, is_blank, BeginsJson, HasText, IsReason};
 ghost use Rattle.fault_details.specs.LineDetails.{broken_text, cut_text, invalid_text, Parses};
 
 use crate::grouped::append_grouped;
+use crate::json_beginning::json_beginning;
 use sentences::append;
 use serde_json::Value;
 use serde_json::error::Category;
@@ -34,20 +36,47 @@ pub(crate) enum Parsed {
     Broken(Broken),
 }
 
-/// Why a line that isn't JSON is none.
-fn reason_of(line: &[u8], error: &serde_json::Error) -> Broken {
-    if line
-        .iter()
+/// Whether the line has nothing but white space.
+fn is_blank(line: &[u8]) -> bool
+    ensures { result ≡ is_blank line.now }
+{
+    line.iter()
         .all(|byte| *byte == b' ' || *byte == b'\t' || *byte == b'\r')
-    {
-        Broken::Blank
-    } else if line.starts_with(&[0xEF, 0xBB, 0xBF]) {
-        Broken::Mark
-    } else if error.classify() == Category::Eof {
+}
+
+/// Whether the line begins with a byte order mark.
+fn has_mark(line: &[u8]) -> bool
+    ensures { result ≡ has_mark line.now }
+{
+    line.starts_with(&[0xEF, 0xBB, 0xBF])
+}
+
+/// Why a line is no JSON text that is the beginning of one up to that place.
+#[tactic(auto, using(crate::proofs::Stops::ends_early, crate::proofs::Stops::stops_at))]
+fn stop_of(line: &[u8], place: usize) -> Broken
+    requires text { HasText line.now }
+    requires most { place ≤ length line.now }
+    requires begins { BeginsJson (take place line.now) }
+    ensures { IsReason line.now result }
+{
+    if place == line.len() {
         Broken::EndsEarly
     } else {
-        Broken::Invalid(error.column() as u64)
+        Broken::Invalid(place as u64 + 1)
     }
+}
+
+/// Why a line that is UTF-8 but no JSON is none.
+fn reason_of(alloc: Global, line: &[u8]) -> Result<Broken, Memory>
+    ensures { IfOk result (IsReason line.now) }
+{
+    if is_blank(line) {
+        return Ok(Broken::Blank);
+    }
+    if has_mark(line) {
+        return Ok(Broken::Mark);
+    }
+    Ok(stop_of(line, json_beginning(alloc, line)?))
 }
 
 /// Reads the line as a JSON value.
@@ -60,7 +89,7 @@ pub(crate) fn parse(alloc: Global, line: &[u8]) -> Result<Parsed, Memory>
     match Value::from_str(alloc, text) {
         Ok(value) => Ok(Parsed::Json(value)),
         Err(error) if error.classify() == Category::Memory => Err(Memory),
-        Err(error) => Ok(Parsed::Broken(reason_of(line, &error))),
+        Err(_) => Ok(Parsed::Broken(reason_of(alloc, line)?)),
     }
 }
 

@@ -7,18 +7,23 @@
 //! they are long, with no control character as it is.
 #![tactic(auto)]
 
+mod continuation;
 mod demand;
 mod demands;
 mod earlier_rows;
 mod file_faults;
 mod found_line;
 mod grouped;
+mod json_beginning;
 mod json_line;
 pub mod laws;
 mod line_details;
+mod member_text;
 mod row_details;
 mod script_faults;
+mod script_given;
 mod shown;
+mod written;
 
 pub use demands::LineKind;
 pub use earlier_rows::EarlierRows;
@@ -26,3 +31,4 @@ pub use file_faults::{explain_history_fault, explain_orders_fault};
 pub use line_details::{FaultyLine, append_line_details};
 pub use row_details::append_row_details;
 pub use script_faults::explain_script_fault;
+pub use script_given::{explain_script, seems_script};

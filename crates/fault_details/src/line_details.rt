@@ -1,14 +1,15 @@
 //! Why a line by itself has its fault.
-ghost use Rattle.std.specs.Prelude.{◌≡◌, ◌++◌, option_map, IfOk, OnOk};
+ghost use Rattle.std.specs.Prelude.{◌≡◌, ◌++◌, option_map, Some, IfOk, OnOk};
 ghost use Rattle.serde_json.specs.View.{view};
 ghost use Rattle.fault_details.specs.LineDetails.{demand_line, header_line, AddsMember};
 ghost use Rattle.fault_details.specs.LineDetails.{AddsBroken, AddsLine, AddsWrongMember, is_text};
-ghost use Rattle.fault_details.specs.LineDetails.{limit_text, Stands};
+ghost use Rattle.fault_details.specs.LineDetails.{is_gone, limit_text, AddsNoJson, Stands};
 
 use crate::demand::{Demand, Name, Test, append_allowed, first_failing};
 use crate::demands::{LineKind, needed};
 use crate::json_line::{Parsed, append_broken, append_cut, parse};
 use crate::shown::append_shown;
+use crate::written::{append_note, written};
 use file_format::LineFault;
 use sentences::append;
 use serde_json::Value;
@@ -26,16 +27,40 @@ pub struct FaultyLine<'a> {
     pub has_end: bool,
 }
 
-/// What stands there in the file.
-fn standing(alloc: Global, member: Option<&Value>) -> Result<Vec<u8>, Memory>
-    ensures { IfOk result (λ text. Stands (option_map (λ value. view value.now) member.entry) text.items) }
+/// What stands in the line as that value, which was demanded, and that it is no natural number where it should be.
+fn value_standing(
+    alloc: Global,
+    line: &[u8],
+    demand: Demand,
+    value: &Value,
+) -> Result<Vec<u8>, Memory>
+    ensures { IfOk result (λ text. Stands line.now demand.allowed (Some (view value.now)) text.items) }
 {
     let mut text = Vec::new(alloc);
-    match member {
-        None => append(&mut text, "missing")?,
-        Some(value) => append_shown(&mut text, value.to_string(alloc)?.as_bytes())?,
-    }
+    let written = written(alloc, line, demand.name.text(), value)?;
+    append_shown(&mut text, written.as_slice())?;
+    append_note(&mut text, demand.allowed, value, written.as_slice())?;
     Ok(text)
+}
+
+/// What stands in the line as the member that was demanded.
+fn standing(
+    alloc: Global,
+    line: &[u8],
+    demand: Demand,
+    member: Option<&Value>,
+) -> Result<Vec<u8>, Memory>
+    ensures { IfOk result (λ text. Stands line.now demand.allowed
+        (option_map (λ value. view value.now) member.entry) text.items) }
+{
+    match member {
+        Some(value) => value_standing(alloc, line, demand, value),
+        None => {
+            let mut text = Vec::new(alloc);
+            append(&mut text, "missing")?;
+            Ok(text)
+        }
+    }
 }
 
 /// Adds that the member of that name is that.
@@ -64,19 +89,21 @@ fn append_demand_line(text: &mut Vec<u8>, demand: Demand, stands: &[u8]) -> Resu
 fn append_member(
     alloc: Global,
     text: &mut Vec<u8>,
-    kind: LineKind,
+    line: &FaultyLine<'_>,
     test: Test,
     value: &Value,
 ) -> Result<(), Memory>
-    ensures { OnOk result (AddsMember kind test (view value.now) text.old.items text.new.items) }
+    ensures { OnOk result
+        (AddsMember line.now.kind test line.now.bytes.now (view value.now) text.old.items text.new.items) }
 {
     if !value.is_object() {
         return append(text, "  the line is no object\n");
     }
-    let demands = needed(alloc, kind, value)?;
+    let demands = needed(alloc, line.kind, value)?;
     match first_failing(alloc, test, value, demands.as_slice())? {
         Some(demand) => {
-            let stands = standing(alloc, value.get(demand.name.text()))?;
+            let member = value.get(demand.name.text());
+            let stands = standing(alloc, line.bytes, demand, member)?;
             append_demand_line(text, demand, stands.as_slice())
         }
         None => Ok(()),
@@ -110,13 +137,20 @@ fn append_wrong(
     ensures { OnOk result (AddsWrongMember line.now.kind test line.now.bytes.now text.old.items text.new.items) }
 {
     match parse(alloc, line.bytes)? {
-        Parsed::Json(value) => append_member(alloc, text, line.kind, test, &value),
+        Parsed::Json(value) => append_member(alloc, text, line, test, &value),
         Parsed::Broken(_) => Ok(()),
     }
 }
 
+/// Whether nothing is there: no byte, and no end.
+fn is_gone(bytes: &[u8], has_end: bool) -> bool
+    ensures { result ≡ is_gone bytes.now has_end }
+{
+    bytes.is_empty() && !has_end
+}
+
 /// Says why the line is no JSON text.
-fn append_no_json(alloc: Global, text: &mut Vec<u8>, line: &FaultyLine<'_>) -> Result<(), Memory>
+fn append_reason(alloc: Global, text: &mut Vec<u8>, line: &FaultyLine<'_>) -> Result<(), Memory>
     ensures { OnOk result (AddsBroken line.now.bytes.now line.now.has_end text.old.items text.new.items) }
 {
     if let Parsed::Broken(why) = parse(alloc, line.bytes)? {
@@ -124,6 +158,17 @@ fn append_no_json(alloc: Global, text: &mut Vec<u8>, line: &FaultyLine<'_>) -> R
         append_cut(text, line.has_end)?;
     }
     Ok(())
+}
+
+/// The same of a line that is there.
+fn append_no_json(alloc: Global, text: &mut Vec<u8>, line: &FaultyLine<'_>) -> Result<(), Memory>
+    ensures { OnOk result (AddsNoJson (is_gone line.now.bytes.now line.now.has_end)
+        line.now.bytes.now line.now.has_end text.old.items text.new.items) }
+{
+    if is_gone(line.bytes, line.has_end) {
+        return Ok(());
+    }
+    append_reason(alloc, text, line)
 }
 
 /// Says how many calls the file of such a line may have.

@@ -1,15 +1,17 @@
 //! Why a script has its first fault.
-ghost use Rattle.std.specs.Prelude.{◌≡◌, ◌++◌, [], IfOk, OnOk};
-ghost use Rattle.fault_details.specs.Shown.{sentence};
-ghost use Rattle.fault_details.specs.ScriptFaults.{AddsSentence};
+ghost use Rattle.std.specs.Prelude.{IfOk, OnOk};
+ghost use Rattle.counted_devices.specs.DeviceStates.{states};
+ghost use Rattle.fault_details.specs.FileFaults.{Explains};
+ghost use Rattle.fault_details.specs.ScriptFaults.{AddsScript};
 
 use crate::demand::{Allowed, append_allowed};
-use crate::found_line::find_line;
+use crate::file_faults::said;
+use crate::found_line::{FoundLine, find_line};
 use crate::shown::{append_quoted, append_sentence};
+use counted_devices::CountedRead;
 use fault_script::{ErrorKind, LineFault, ScriptError};
 use sentences::append;
 use std::alloc::Global;
-use std::io::Read;
 use std::str;
 use tag::{Memory, is_key};
 
@@ -86,7 +88,10 @@ struct FirstWords<'a> {
 impl<'a> FirstWords<'a> {
     /// The first words of the line.
     fn of(line: &'a str) -> FirstWords<'a> {
-        let mut words = line.split_ascii_whitespace();
+        let line = line.strip_suffix("\r").unwrap_or(line);
+        let mut words = line
+            .split(|letter| letter == ' ' || letter == '\t')
+            .filter(|word| !word.is_empty());
         let verb = words.next().unwrap_or("");
         let first = words.next().unwrap_or("");
         let second = words.next().unwrap_or("");
@@ -107,9 +112,9 @@ impl<'a> FirstWords<'a> {
             ("replicas", 0) => Some(Part::Replicas),
             ("replicas", 1) => Some(Part::Calls),
             ("replicas", 2) => Some(Part::Messages),
-            ("send" | "start", 1) => Some(Part::Replica),
+            ("send", 1) => Some(Part::Replica),
             ("stop", 1) if self.others[0] == "client" => Some(Part::Client),
-            ("stop", 1) => Some(Part::Replica),
+            ("start" | "stop", 1) if self.others[0] == "replica" => Some(Part::Replica),
             ("invoke", 2) => Some(Part::Key),
             _ => None,
         }
@@ -221,25 +226,33 @@ fn words_on(alloc: Global, line: &[u8], fault: LineFault) -> Result<Vec<u8>, Mem
     Ok(text)
 }
 
-/// Why a script has its first fault, in one line after two blanks, with no control character; nothing
-/// where there is nothing to say. The reader gives the script again, from its beginning.
+/// Says why the line has the fault, in one line after two blanks, with no control character.
+fn append_script_line(text: &mut Vec<u8>, line: &FoundLine, fault: LineFault) -> Result<(), Memory>
+    ensures { OnOk result (AddsScript line.now fault text.old.items text.new.items) }
+{
+    let words = words_on(*text.allocator(), line.bytes.as_slice(), fault)?;
+    append_sentence(text, words.as_slice())
+}
+
+/// Why a script has its first fault, in one line after two blanks, with no control character; of a
+/// fault of the device, and of want of memory, nothing. The reader gives the script again, from its
+/// beginning. Where it has the line no more, that is said.
 ///
 /// Which word is named, and the other words of the line, are only tested.
-pub fn explain_script_fault<R: Read>(
+pub fn explain_script_fault<R: CountedRead>(
     alloc: Global,
     reader: &mut R,
     fault: ScriptError,
 ) -> Result<Vec<u8>, Memory>
-    ensures { IfOk result (λ text. AddsSentence [] text.items) }
+    ensures { IfOk result (λ text. Explains AddsScript
+        (states R.remaining R.failures reader.old reader.new) fault.line fault.kind text.items) }
 {
     let mut text = Vec::new(alloc);
     let ErrorKind::Line(kind) = fault.kind else {
         return Ok(text);
     };
-    let Some(line) = find_line(alloc, reader, fault.line)? else {
-        return Ok(text);
-    };
-    let words = words_on(alloc, line.bytes.as_slice(), kind)?;
-    append_sentence(&mut text, words.as_slice())?;
-    Ok(text)
+    if let Some(line) = find_line(alloc, reader, fault.line)? {
+        append_script_line(&mut text, &line, kind)?;
+    }
+    said(text)
 }

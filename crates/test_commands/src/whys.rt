@@ -1,7 +1,9 @@
 //! Rows of faults of files, and why.
 use crate::asked::Asked;
 use counted_devices::Counting;
-use fault_details::{explain_history_fault, explain_orders_fault, explain_script_fault};
+use fault_details::{
+    explain_history_fault, explain_orders_fault, explain_script, explain_script_fault, seems_script,
+};
 use fault_script::parse;
 use history_file::{read_numbered_histories, read_orders};
 use std::str;
@@ -32,8 +34,13 @@ pub fn say_history_why(rt: &(impl Threads + Sync), out: &mut Answer, asked: Aske
     match read_numbered_histories(rt, alloc, &mut Counting::new(Pieces::whole(bytes))) {
         Ok(_) => out.push("no fault\n"),
         Err(fault) => {
-            let (mut reader, again) = (Pieces::whole(bytes), Pieces::whole(bytes));
-            let why = explain_history_fault(rt, alloc, &mut reader, again, fault);
+            let mut reader = Counting::new(Pieces::whole(bytes));
+            let why = if seems_script(fault, bytes) {
+                let mut again = Counting::new(Pieces::whole(bytes));
+                explain_script(rt, alloc, &mut reader, &mut again)
+            } else {
+                explain_history_fault(rt, alloc, &mut reader, Pieces::whole(bytes), fault)
+            };
             write!(out, "{fault}\n");
             say_why(out, why);
         }
@@ -46,7 +53,7 @@ pub fn say_orders_why(rt: &(impl Threads + Sync), out: &mut Answer, asked: Asked
     match read_orders(rt, alloc, &mut Counting::new(Pieces::whole(bytes))) {
         Ok(_) => out.push("no fault\n"),
         Err(fault) => {
-            let why = explain_orders_fault(alloc, &mut Pieces::whole(bytes), fault);
+            let why = explain_orders_fault(alloc, &mut Counting::new(Pieces::whole(bytes)), fault);
             write!(out, "{fault}\n");
             say_why(out, why);
         }
@@ -59,7 +66,7 @@ pub fn say_script_why(rt: &(impl Threads + Sync), out: &mut Answer, asked: Asked
     match parse(rt, alloc, &mut Counting::new(Pieces::whole(bytes))) {
         Ok(_) => out.push("no fault\n"),
         Err(fault) => {
-            let why = explain_script_fault(alloc, &mut Pieces::whole(bytes), fault);
+            let why = explain_script_fault(alloc, &mut Counting::new(Pieces::whole(bytes)), fault);
             write!(out, "{fault}\n");
             say_why(out, why);
         }
