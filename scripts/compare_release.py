@@ -92,7 +92,7 @@ def cases():
 
 def answer(program, words, folder, env):
     try:
-        ran = subprocess.run([program, *words], cwd=folder, capture_output=True, env=env, timeout=60)
+        ran = subprocess.run(["abd", *words], executable=program, cwd=folder, capture_output=True, env=env, timeout=60)
     except ValueError:
         return None
     return ran.returncode, ran.stdout, ran.stderr
