@@ -34,8 +34,8 @@ fn report_room(replicas: usize) -> usize
 }
 
 impl<'a, G: Gate> Transport<'a, G> {
-    /// The transport in that hall, with the gate, the replicas and the rounds that are given. What is reported of the call has its room from now on, so no report needs
-    /// memory, and none waits.
+    /// The transport in that hall, with the gate, the replicas and the rounds that are given. What is
+    /// reported of the call has its room from now on, so no report needs memory, and none waits.
     pub fn new(
         alloc: Global,
         gate: &'a G,

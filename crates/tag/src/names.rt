@@ -65,15 +65,14 @@ pub struct Key {
 }
 
 impl Model for Key {
-    ghost use Rattle.std.specs.Prelude.{◌≡◌, true, List, ℕ};
-    ghost use Rattle.tag.specs.Names.{is_key};
-    ghost use Rattle.tag.specs.KeyTexts.{text_of};
+    ghost use Rattle.std.specs.Prelude.{List, ℕ};
+    ghost use Rattle.tag.specs.KeyTexts.{text_of, IsKeyText};
 
     ghost Value = { List ℕ };
 
     ghost view = { λ k. text_of k.name };
 
-    ghost invariant = { λ k. is_key (text_of k.name) ≡ true };
+    ghost invariant = { IsKeyText };
 }
 
 fn is_key_byte(byte: u8) -> bool
@@ -140,9 +139,10 @@ impl Key {
         }
     }
 
-    /// An equal key.
+    /// An equal key. Only the copy of a key of more than 14 bytes can lack memory.
     pub fn copy(&self) -> Result<Key, Memory>
-        ensures { IfOk result (λ key. key ≡ self.now) }
+        ensures copy { IfOk result (λ key. key ≡ self.now) }
+        ensures short { length self.now ≤ short_limit → IsOk result }
     {
         let name = match &self.name {
             Name::Short(text) => Name::Short(text.copy()),

@@ -11,7 +11,7 @@ loop-index-preserved c =
     let told = rw (c.of_keys-checks.ensures.parts, c.of_keys-checks.ensures.orders) at c.verdict_at.ensures in
     keyed_more keys index _ c.loop-index.keyed.items c.push.new.self.items _ _ own.0 c.loop-index.invariant
     own.1
-    (c.in_ok-copy.ensures ∙ own.2)
+    (c.in_ok-copy.ensures.copy ∙ own.2)
     (verdict_of keys index own.0 _ own.1 told)
     refl
     c.in_ok-push.ensures.items

@@ -45,7 +45,7 @@ invariant_of-seat-in-Pending g c =
     let call = c.in-Pending.ensures.outcome in
     let logged = same_push c.seat.inside.log.items c.reserve.new.self.items c.push_reserved.new.self.items _ c.reserve.ensures.items c.push_reserved.ensures.items ∙ ap (λ (e : Entry). c.seat.inside.log.items ++ e ∷ []) c.entry.ensures in
     pending_is s c.from-at.result c.args.transport.now.hall c.index_mut.result.now c.make_call.new.pass c.args.key c.in_ok-kept_key.kept_key c.args.action c.in_ok-kept_action.kept_action c.in-Pending.begun.op c.in-Pending.begun.place c.index-seen.result.now
-    c.seat.invariant f.there f.saw f.same c.in_ok-kept_key.ensures c.in_ok-kept_action.ensures call.began.later c.push_reserved.new.self.items logged call.middle call.began.begins call.kept
+    c.seat.invariant f.there f.saw f.same c.in_ok-kept_key.ensures.copy c.in_ok-kept_action.ensures call.began.later c.push_reserved.new.self.items logged call.middle call.began.begins call.kept
 
 pub returns-in-Pending : goal.returns-in-Pending
 returns-in-Pending g c =
@@ -53,7 +53,7 @@ returns-in-Pending g c =
     let f = found s _ c.from-at.result c.args.transport.now.hall c.index_mut.result.now c.index-seen.result.now c.seat.invariant c.seat.view_is c.from-at.ensures c.requires.there c.index_mut.ensures.value c.index-seen.ensures in
     let logged = same_push c.seat.inside.log.items c.reserve.new.self.items c.push_reserved.new.self.items _ c.reserve.ensures.items c.push_reserved.ensures.items ∙ ap (λ (e : Entry). c.seat.inside.log.items ++ e ∷ []) c.entry.ensures in
     rw (← c.seat.view_is) (pending_leaves s c.push_reserved.new.self.items c.from-at.result c.args.transport.now.hall c.index_mut.result.now c.make_call.new.pass c.args.key c.in_ok-kept_key.kept_key c.args.action c.in_ok-kept_action.kept_action c.in-Pending.begun c.index-seen.result.now c.in-Pending.error
-    c.seat.invariant f c.in_ok-kept_key.ensures c.in_ok-kept_action.ensures logged c.in-Pending.ensures.outcome)
+    c.seat.invariant f c.in_ok-kept_key.ensures.copy c.in_ok-kept_action.ensures logged c.in-Pending.ensures.outcome)
 
 pub invariant_of-seat-in-Done : goal.invariant_of-seat-in-Done
 invariant_of-seat-in-Done g c =
@@ -63,7 +63,7 @@ invariant_of-seat-in-Done g c =
     let logged = same_push c.seat.inside.log.items c.reserve.new.self.items c.push_reserved-in-Done.new.self.items _ c.reserve.ensures.items c.push_reserved-in-Done.ensures.items
     ∙ ap (λ (e : Entry). c.seat.inside.log.items ++ e ∷ []) (c.entry-in-Done.ensures ∙ ap (answered_entry c.args.transport.now.hall c.in-Done.begun.op c.in_ok-kept_key.kept_key c.in_ok-kept_action.kept_action c.in-Done.begun.place) c.response_of-response.ensures.response) in
     answered_is s c.from-at.result c.args.transport.now.hall c.index_mut.result.now c.make_call.new.pass c.args.key c.in_ok-kept_key.kept_key c.args.action c.in_ok-kept_action.kept_action c.in-Done.begun.op c.in-Done.begun.place c.index-seen.result.now
-    c.seat.invariant f.there f.saw f.same c.in_ok-kept_key.ensures c.in_ok-kept_action.ensures call.began.later c.in-Done.ended.op c.in-Done.ended.returned c.in-Done.ended.place c.push_reserved-in-Done.new.self.items logged
+    c.seat.invariant f.there f.saw f.same c.in_ok-kept_key.ensures.copy c.in_ok-kept_action.ensures call.began.later c.in-Done.ended.op c.in-Done.ended.returned c.in-Done.ended.place c.push_reserved-in-Done.new.self.items logged
     (ap (λ (s : Seat). s.is_spent) c.seat.view_is ∙ c.requires.unspent) call.middle call.began.begins call.ends
 
 pub returns-in-Done : goal.returns-in-Done
@@ -74,7 +74,7 @@ returns-in-Done g c =
     ∙ ap (λ (e : Entry). c.seat.inside.log.items ++ e ∷ []) (c.entry-in-Done.ensures ∙ ap (answered_entry c.args.transport.now.hall c.in-Done.begun.op c.in_ok-kept_key.kept_key c.in_ok-kept_action.kept_action c.in-Done.begun.place) c.response_of-response.ensures.response) in
     rw (← c.seat.view_is) (answered_leaves s c.push_reserved-in-Done.new.self.items c.from-at.result c.args.transport.now.hall c.index_mut.result.now c.make_call.new.pass c.args.key c.in_ok-kept_key.kept_key c.args.action c.in_ok-kept_action.kept_action c.in-Done.begun c.in-Done.ended c.index-seen.result.now
     (record { value = c.response_of-response.result.1; receipt = c.new-receipt.result }) c.seat.invariant (ap (λ (s : Seat). s.is_spent) c.seat.view_is ∙ c.requires.unspent)
-    f c.in_ok-kept_key.ensures c.in_ok-kept_action.ensures logged c.in-Done.ensures.outcome (c.response_of-response.ensures.value ∙ ap value_of c.in-Done.ensures.placed.2) c.new-receipt.ensures)
+    f c.in_ok-kept_key.ensures.copy c.in_ok-kept_action.ensures logged c.in-Done.ensures.outcome (c.response_of-response.ensures.value ∙ ap value_of c.in-Done.ensures.placed.2) c.new-receipt.ensures)
 
 pub returns-in_err-kept_key : goal.returns-in_err-kept_key
 returns-in_err-kept_key g c =

@@ -10,4 +10,4 @@ unreachable-requires c =
 
 pub returns-in_ok-copy-in-Ok : goal.returns-in_ok-copy-in-Ok
 returns-in_ok-copy-in-Ok c =
-    (c.in_ok-copy-in-Ok.ensures, IsOrder-by_tag c.args.part.now c.in-Ok.order c.order_of.ensures.sequence c.requires c.in-Ok.ensures.order)
+    (c.in_ok-copy-in-Ok.ensures.copy, IsOrder-by_tag c.args.part.now c.in-Ok.order c.order_of.ensures.sequence c.requires c.in-Ok.ensures.order)

@@ -8,7 +8,7 @@ pub returns-in_ok-push-in-Ok : goal.returns-in_ok-push-in-Ok
 returns-in_ok-push-in-Ok c = λ before so_far.
     ordered_more before (c.args.key.now, c.args.part.now) (record { key = c.in_ok-key-in-Ok.key; order = c.in-Ok.order })
     c.args.self.now (record { orders = c.push.new.self; left_out = c.args.self.now.left_out }) so_far
-    c.in_ok-key-in-Ok.ensures c.in-Ok.ensures.order c.in_ok-push-in-Ok.ensures.items refl
+    c.in_ok-key-in-Ok.ensures.copy c.in-Ok.ensures.order c.in_ok-push-in-Ok.ensures.items refl
 
 pub returns-in-Err-NoNote : goal.returns-in-Err-NoNote
 returns-in-Err-NoNote c =
