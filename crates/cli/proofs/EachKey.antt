@@ -25,7 +25,7 @@ use Rattle.parallel_keys.proofs.GivenOrders.{given_at}
 use Rattle.cli.specs.Checks.{IsYes, IsNo, IsStatusOf}
 use Rattle.cli.specs.VerdictStatuses.{SaysAll}
 use Rattle.cli.specs.declared.status.Status.{Status}
-use Rattle.cli.specs.declared.status.Status.TheVariants.{Good, Refused, Usage, Format, Failed}
+use Rattle.cli.specs.declared.status.Status.TheVariants.{Good, Refused, Usage, Format, Failed, Undecided}
 use Rattle.cli.proofs.Entries.{contains_nothing, contains_head, contains_tail, found_entry}
 use Rattle.cli.proofs.HallParts.{HaveParts}
 use Rattle.cli.proofs.CheckedKeys.{checked_of, other_at, recorded_at}
@@ -179,5 +179,6 @@ module _ (halls : List Recorded) (parts : KeyParts) (have : HaveParts halls part
     status_is Good all = all_yes all
     status_is Refused some = some_no some
     status_is Usage none = none
+    status_is Undecided none = none
     status_is Format none = none
     status_is Failed none = none

@@ -1,5 +1,5 @@
 -- How a command ends whose outcome is sent.
-use Rattle.std.proofs.Common.{◌≡◌, inl, inr, Bool, true, false, ℕ, Result, Ok, Err, sym, subst, ◌∙◌}
+use Rattle.std.proofs.Common.{◌≡◌, inl, inr, ℕ, Result, Ok, Err, sym, subst, ◌∙◌}
 use Rattle.std.specs.Prelude.{IfOk, IfErr}
 use Rattle.cli.specs.Devices.{FailsOnce, Receives, ReceivesOrFails, ReceivesPrefix, WriterStates, Writes}
 use Rattle.parallel_keys.specs.Workers.{MayFail}
@@ -9,11 +9,13 @@ use Rattle.cli.specs.FailureLines.{failure_line, failure_of}
 use Rattle.cli.specs.Outcomes.{Ends, ended}
 use Rattle.cli.specs.Reports.{StopsKeys}
 use Rattle.cli.specs.Statuses.{status_of}
+use Rattle.cli.specs.declared.outcome.Found.{Found}
+use Rattle.cli.specs.declared.outcome.Found.TheVariants as found
 use Rattle.cli.specs.declared.outcome.Outcome.{Outcome}
 use Rattle.cli.specs.declared.status.Failure.{Failure}
 use Rattle.cli.specs.declared.status.Failure.TheVariants as failure
 use Rattle.cli.specs.declared.status.Status.{Status}
-use Rattle.cli.specs.declared.status.Status.TheVariants.{Good, Refused, Usage, Format, Failed}
+use Rattle.cli.specs.declared.status.Status.TheVariants.{Good, Refused, Usage, Format, Failed, Undecided}
 use Rattle.cli.proofs.Reported.{failure_ends}
 
 -- keys that weren't checked for that reason
@@ -24,10 +26,11 @@ keys_stop workers error.Thread may = may
 module _ {W E : Type 0} (out : WriterStates W) (errors : WriterStates E) where
   module _ (Makes : Outcome → Type 0) (Stops : Failure → Type 0) where
     -- an outcome was sent
-    pub sent : (outcome : Outcome) → Makes outcome → Writes out Receives outcome.text.items → Writes errors ReceivesOrFails outcome.notes.items → (good : Bool) → outcome.good ≡ good
-        → Ends Makes Stops out errors (ended good)
-    sent outcome made text notes true is = record { outcome = outcome; made = made; is = is; text = text; notes = notes }
-    sent outcome made text notes false is = record { outcome = outcome; made = made; is = is; text = text; notes = notes }
+    pub sent : (outcome : Outcome) → Makes outcome → Writes out Receives outcome.text.items → Writes errors ReceivesOrFails outcome.notes.items → (its : Found) → outcome.found ≡ its
+        → Ends Makes Stops out errors (ended its)
+    sent outcome made text notes found.Good is = record { outcome = outcome; made = made; is = is; text = text; notes = notes }
+    sent outcome made text notes found.Refused is = record { outcome = outcome; made = made; is = is; text = text; notes = notes }
+    sent outcome made text notes found.Undecided is = record { outcome = outcome; made = made; is = is; text = text; notes = notes }
 
     -- the output failed
     pub broke_off : (outcome : Outcome) → Makes outcome → ReceivesPrefix out.device outcome.text.items → FailsOnce out.device → (s : Status) → s ≡ Failed
@@ -47,6 +50,7 @@ module _ {W E : Type 0} (out : WriterStates W) (errors : WriterStates E) where
       → (s : Status) → Ends M S out errors s → Ends N T out errors s
   weaker M N S T more also Good e = record { outcome = e.outcome; made = more e.outcome e.made; is = e.is; text = e.text; notes = e.notes }
   weaker M N S T more also Refused e = record { outcome = e.outcome; made = more e.outcome e.made; is = e.is; text = e.text; notes = e.notes }
+  weaker M N S T more also Undecided e = record { outcome = e.outcome; made = more e.outcome e.made; is = e.is; text = e.text; notes = e.notes }
   weaker M N S T more also Usage e = e
   weaker M N S T more also Format e = record { failure = e.failure; ends = e.ends; stops = also e.failure e.stops; quiet = e.quiet; told = e.told }
   weaker M N S T more also Failed (inl e) = inl (record { failure = e.failure; ends = e.ends; stops = also e.failure e.stops; quiet = e.quiet; told = e.told })

@@ -8,9 +8,7 @@ pub mod CheckedKeys
 mod LineSpelling
 mod Tagging
 pub mod Told
-mod Escapes
 mod Justified
-pub mod ShownNames
 pub mod Reported
 pub mod Noted
 pub mod Prefixes

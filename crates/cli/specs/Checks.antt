@@ -49,7 +49,7 @@ module _ (form : Lines) where
   pub record MakesCheck (histories : RecordedHalls) (orders : List KeyOrder) (outcome : Outcome)
       : Type 0 where
     pub is : (pieces : List KeyOrder) → AreJoined pieces orders
-        → IsStatusOf histories.halls pieces (ended outcome.good)
+        → IsStatusOf histories.halls pieces (ended outcome.found)
     pub lines : (pieces : List KeyOrder) → AreJoined pieces orders
         → AreCheckLines form histories.halls pieces outcome.text.items
     pub quiet : outcome.notes.items ≡ []
@@ -61,7 +61,7 @@ module _ (form : Lines) where
     pub pieces : List KeyOrder
     pub history_read : ReadsHistories history histories
     pub orders_read : ReadsPieces orders pieces
-    pub is : IsStatusOf histories.halls pieces (ended outcome.good)
+    pub is : IsStatusOf histories.halls pieces (ended outcome.found)
     pub lines : AreCheckLines form histories.halls pieces outcome.text.items
     pub quiet : outcome.notes.items ≡ []
 

@@ -1,5 +1,5 @@
 -- Orders that the notes of a history give its keys.
-use Rattle.std.specs.Prelude.{ℕ, ◌≡◌, Bool, true, false, List, [], ◌∷◌, ◌++◌, Some, length, codes}
+use Rattle.std.specs.Prelude.{ℕ, ◌≡◌, List, [], ◌∷◌, ◌++◌, Some, length, codes}
 use Rattle.std.specs.Prelude.{decimal, slice_get}
 use Rattle.tag.specs.declared.numbers.OpId.{OpId}
 use Rattle.recorder.specs.declared.part.Call.{Call}
@@ -23,6 +23,8 @@ use Rattle.cli.specs.Outcomes.{Ends}
 use Rattle.cli.specs.Readings.{ReadsHistories}
 use Rattle.cli.specs.Reports.{StopsHistory}
 use Rattle.certificate_check.specs.Texts.{fault_text}
+use Rattle.cli.specs.declared.outcome.Found.{Found}
+use Rattle.cli.specs.declared.outcome.Found.TheVariants as found
 use Rattle.cli.specs.declared.outcome.Outcome.{Outcome}
 
 -- a key with its part
@@ -100,16 +102,17 @@ pub record RefusesFirst (parts : List KeyPart) (text line : List ℕ) : Type 0 w
 
 -- what a justification makes of keys with these parts: it is good if each has an order, with the
 -- text of the orders; or else it refuses the first key without one
-abbrev pub Justifies : List KeyPart → Bool → List ℕ → List ℕ → Type 0
-Justifies parts true text notes = HaveOrders parts text × (notes ≡ [])
-Justifies parts false text notes = RefusesFirst parts text notes
+abbrev pub Justifies : List KeyPart → Found → List ℕ → List ℕ → Type 0
+Justifies parts found.Good text notes = HaveOrders parts text × (notes ≡ [])
+Justifies parts found.Refused text notes = RefusesFirst parts text notes
+Justifies parts found.Undecided text notes = ⊥
 
-module _ (Makes : List KeyPart → Bool → List ℕ → List ℕ → Type 0) where
+module _ (Makes : List KeyPart → Found → List ℕ → List ℕ → Type 0) where
   -- the keys of the histories, hall by hall, have these parts, and that is made of them
   pub record OfHalls (halls : List Recorded) (outcome : Outcome) : Type 0 where
     pub parts : List KeyParts
     pub split : AreHallParts halls parts
-    pub makes : Makes (all_parts parts) outcome.good outcome.text.items outcome.notes.items
+    pub makes : Makes (all_parts parts) outcome.found outcome.text.items outcome.notes.items
 
   -- the file was read, and that is made of its histories
   pub record OfFile (history : DeviceStates) (outcome : Outcome) : Type 0 where

@@ -7,7 +7,6 @@ pub mod Justifications
 pub mod Outcomes
 pub mod Readings
 pub mod Reports
-pub mod ShownNames
 pub mod SimulationEndings
 pub mod Statuses
 pub mod TagOrders

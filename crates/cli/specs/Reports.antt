@@ -91,6 +91,7 @@ module _ (file : FileStates) (out errors : DeviceStates) where
   ReportsSimulation status.Good = Simulates file.reader (λ said text. Receives errors said)
   ReportsSimulation status.Refused = ⊥
   ReportsSimulation status.Usage = ⊥
+  ReportsSimulation status.Undecided = ⊥
   ReportsSimulation status.Format = ReportsFailure (IsOfScript file) errors status.Format
   ReportsSimulation status.Failed =
       ReportsFailure (IsOfScript file) errors status.Failed ⊎ ReportsOutput

@@ -27,6 +27,7 @@ module _ (script out messages : DeviceStates) where
       Simulates script (λ said text. Receives messages said × Receives out text)
   EndsSimulation status.Refused = ⊥
   EndsSimulation status.Usage = ⊥
+  EndsSimulation status.Undecided = ⊥
   EndsSimulation status.Format = IsFaultyScript script
   EndsSimulation status.Failed = ReceivesNothing out
       ⊎ (Simulates script (λ said text. ReceivesPrefix out text) × FailsOnce out)

@@ -6,6 +6,8 @@ use Rattle.recorder.specs.Sound.{IsByTag}
 use Rattle.witness_order.specs.Notes.{IsLeastUnnoted}
 use Rattle.file_format.specs.Texts.{orders_text}
 use Rattle.cli.specs.Justifications.{Justifies, KeyPart, no_note_text}
+use Rattle.cli.specs.Outcomes.{found_of}
+use Rattle.cli.specs.declared.outcome.Found.{Found}
 use Rattle.cli.specs.declared.tag_orders.TagOrders.{TagOrders}
 
 -- what the tags make of a key: an order; or none, since that call on it has no note
@@ -50,16 +52,16 @@ left_out_count (LeftOut key op ∷ tagged) = left_out_count tagged + 1
 
 -- what the tags make of keys with these parts: the text of the orders of those that have one, and a
 -- line for each that is left out; it is good if none is
-pub record OrdersKeys (parts : List KeyPart) (good : Bool) (text notes : List ℕ) : Type 0 where
+pub record OrdersKeys (parts : List KeyPart) (found : Found) (text notes : List ℕ) : Type 0 where
   pub tagged : List Tagged
   pub are : AreTagged parts tagged
-  pub is : good ≡ (left_out_count tagged == 0)
+  pub is : found ≡ found_of (left_out_count tagged == 0)
   pub orders : text ≡ orders_text (orders_of tagged)
   pub lines : notes ≡ left_out_text tagged
 
 -- what `abd justify` makes of keys with these parts: what the tags make, if the orders go
 -- unchecked, and else what a justification makes
-abbrev pub MakesOrders : Bool → List KeyPart → Bool → List ℕ → List ℕ → Type 0
+abbrev pub MakesOrders : Bool → List KeyPart → Found → List ℕ → List ℕ → Type 0
 MakesOrders true = OrdersKeys
 MakesOrders false = Justifies
 

@@ -1,10 +1,11 @@
 -- How the program ends if the words of a command line make no command.
-use Rattle.std.specs.Prelude.{◌≡◌, true, List, ℕ, [], string_bytes}
+use Rattle.std.specs.Prelude.{◌≡◌, List, ℕ, [], string_bytes}
 use Rattle.command_line.specs.declared.asked.Usage.{Usage}
 use Rattle.command_line.specs.declared.asked.Usage.TheVariants as usage
 use Rattle.cli.specs.Devices.{ReceivesOrFails, WriterStates}
 use Rattle.cli.specs.FailureLines.{failure_line}
 use Rattle.cli.specs.Outcomes.{Ends}
+use Rattle.cli.specs.declared.outcome.Found.TheVariants as found
 use Rattle.cli.specs.declared.outcome.Outcome.{Outcome}
 use Rattle.cli.specs.declared.status.Failure.TheVariants as failure
 use Rattle.cli.specs.declared.status.Status.{Status}
@@ -12,7 +13,7 @@ use Rattle.cli.specs.declared.status.Status.TheVariants as status
 
 -- the outcome is good: that text, and nothing for standard error
 pub record IsShown (text : List ℕ) (outcome : Outcome) : Type 0 where
-  pub good : outcome.good ≡ true
+  pub good : outcome.found ≡ found.Good
   pub is : outcome.text.items ≡ text
   pub quiet : outcome.notes.items ≡ []
 

@@ -8,7 +8,7 @@ ghost use Rattle.cli.specs.VerdictLines.{lines_text};
 ghost use Rattle.cli.specs.VerdictStatuses.{SaysAll};
 
 use crate::json_lines::append_line_in;
-use crate::outcome::{Made, Outcome};
+use crate::outcome::{Found, Made, Outcome};
 use certificate_check::Verdict;
 use command_line::Lines;
 use parallel_keys::{NoGate, Workers, check_histories};
@@ -29,17 +29,17 @@ fn lines_of(alloc: Global, form: Lines, verdicts: &[(Key, Verdict)]) -> Result<V
     Ok(text)
 }
 
-/// Whether each key's verdict is yes.
-fn are_yes(verdicts: &[(Key, Verdict)]) -> bool
+/// What the verdicts come to: `Good` if each is yes.
+fn found_in(verdicts: &[(Key, Verdict)]) -> Found
     ensures { SaysAll verdicts.now (ended result) }
 {
     for told in verdicts {
         match told.1 {
             Verdict::Yes => {}
-            Verdict::No(_) => return false,
+            Verdict::No(_) => return Found::Refused,
         }
     }
-    true
+    Found::Good
 }
 
 /// Checks the orders of an order file: a line in that form for each key of the histories and the orders.
@@ -59,5 +59,5 @@ pub(crate) fn check_outcome<R: Threads + Wait>(
     let checked = check_histories(rt, alloc, histories, orders, workers, &NoGate)?;
     let verdicts = checked.as_slice();
     let text = lines_of(alloc, form, verdicts)?;
-    Ok(Outcome::of_text(alloc, text, are_yes(verdicts)))
+    Ok(Outcome::of_text(alloc, text, found_in(verdicts)))
 }

@@ -7,7 +7,7 @@ ghost use Rattle.cli.specs.TagOrders.{MakesOrders};
 ghost use Rattle.cli.specs.declared.status.Failure.TheVariants as failure;
 
 use crate::noted_orders::checked_orders;
-use crate::outcome::{Made, Outcome, conclude};
+use crate::outcome::{Found, Made, Outcome, conclude};
 use crate::sources::{Source, histories_in};
 use crate::status::Status;
 use crate::unchecked::ordered;
@@ -40,7 +40,7 @@ fn justified(alloc: Global, histories: &Histories) -> Made<'static>
     match checked_orders(alloc, parts.as_slice()) {
         Ok(orders) => {
             let text = order_file(alloc, orders.as_slice())?;
-            Ok(Outcome::of_text(alloc, text, true))
+            Ok(Outcome::of_text(alloc, text, Found::Good))
         }
         Err(refusal) => Ok(refusal.outcome(alloc)?),
     }

@@ -8,7 +8,7 @@ ghost use Rattle.cli.specs.Justifications.{IsFirstUnjustified, Refuses, refusal_
 ghost use Rattle.cli.specs.Justifications.{status_of_refusal};
 ghost use Rattle.cli.specs.Devices.{ReceivesOrFails};
 
-use crate::outcome::Outcome;
+use crate::outcome::{Found, Outcome};
 use crate::status::{Failure, Status};
 use crate::verdict_lines::append_fault;
 use certificate_check::{Fault, Verdict, check_part};
@@ -82,7 +82,7 @@ impl Unjustified<'_> {
 
     /// The outcome of a justification that ends so: no text, and why in a line.
     pub(crate) fn outcome(self, alloc: Global) -> Result<Outcome, Memory>
-        ensures bad { IfOk result (λ outcome. outcome.good ≡ false) }
+        ensures bad { IfOk result (λ outcome. outcome.found ≡ Found.Refused) }
         ensures refused { OnOk result (status_of_refusal self.entry ≡ Status.Refused) }
         ensures quiet { IfOk result (λ outcome. outcome.text.items ≡ []) }
         ensures line { IfOk result (λ outcome. outcome.notes.items ≡ refusal_text self.entry) }
@@ -95,7 +95,7 @@ impl Unjustified<'_> {
         Ok(Outcome {
             text: Vec::new(alloc),
             notes,
-            good: false,
+            found: Found::Refused,
         })
     }
 }

@@ -3,11 +3,42 @@ ghost use Rattle.std.specs.Prelude.{◌≡◌, [], OnErr, OnOk, Ok, Err};
 ghost use Rattle.counted_devices.specs.DeviceStates.{states};
 ghost use Rattle.cli.specs.Devices.{FailsOnce, Receives, ReceivesOrFails, ReceivesPrefix};
 ghost use Rattle.cli.specs.Devices.{Writes, writer_states};
-ghost use Rattle.cli.specs.Outcomes.{Ends};
+ghost use Rattle.cli.specs.Outcomes.{Ends, ended, found_of};
 
 use crate::status::{Failure, Status};
 use counted_devices::{CountedWrite, WriteFault, write_text};
 use std::alloc::Global;
+
+/// What a command that ran found of the keys.
+#[derive(Clone, Copy, Debug, PartialEq, Eq)]
+pub enum Found {
+    /// All is as it should be.
+    Good,
+    /// A key is refused.
+    Refused,
+    /// No key is refused; whether one is atomic isn't decided.
+    Undecided,
+}
+
+impl Found {
+    /// `Good`, or else `Refused`.
+    pub fn of(good: bool) -> Found
+        ensures { result ≡ found_of good }
+    {
+        if good { Found::Good } else { Found::Refused }
+    }
+
+    /// How the command ends.
+    fn status(self) -> Status
+        ensures { result ≡ ended self }
+    {
+        match self {
+            Found::Good => Status::Good,
+            Found::Refused => Status::Refused,
+            Found::Undecided => Status::Undecided,
+        }
+    }
+}
 
 /// What a command makes of its files.
 #[derive(Debug, Drop)]
@@ -16,8 +47,8 @@ pub struct Outcome {
     pub text: Vec<u8>,
     /// What goes to standard error then.
     pub notes: Vec<u8>,
-    /// Whether all is as it should be; else a key is refused.
-    pub good: bool,
+    /// What it found.
+    pub found: Found,
 }
 
 /// What a command made of its files, or why it made nothing.
@@ -48,13 +79,13 @@ fn note<E: CountedWrite>(notes: &[u8], errors: &mut E)
 
 impl Outcome {
     /// That text, and nothing for standard error.
-    pub fn of_text(alloc: Global, text: Vec<u8>, good: bool) -> Outcome
+    pub fn of_text(alloc: Global, text: Vec<u8>, found: Found) -> Outcome
         ensures text { result.text ≡ text }
         ensures notes { result.notes.items ≡ [] }
-        ensures good { result.good ≡ good }
+        ensures found { result.found ≡ found }
     {
         let notes = Vec::new(alloc);
-        Outcome { text, notes, good }
+        Outcome { text, notes, found }
     }
 
     /// Writes the text, and then says the notes. A failure of `out` is said on `errors` instead.
@@ -68,11 +99,7 @@ impl Outcome {
             return Failure::Output.report(errors);
         }
         note(self.notes.as_slice(), errors);
-        if self.good {
-            Status::Good
-        } else {
-            Status::Refused
-        }
+        self.found.status()
     }
 }
 

@@ -27,6 +27,8 @@ pub enum Status {
     Format,
     /// Want of memory, a device that failed, or a thread that couldn't be started.
     Failed,
+    /// No key is refused; whether one is atomic isn't decided.
+    Undecided,
 }
 
 impl Status {
@@ -40,6 +42,7 @@ impl Status {
             Status::Usage => 2,
             Status::Format => 3,
             Status::Failed => 4,
+            Status::Undecided => 5,
         }
     }
 }

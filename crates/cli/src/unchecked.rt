@@ -5,7 +5,7 @@ ghost use Rattle.cli.specs.TagOrders.{OrdersKeys};
 ghost use Rattle.cli.specs.declared.status.Failure.TheVariants as failure;
 
 use crate::justify::order_file;
-use crate::outcome::{Made, Outcome};
+use crate::outcome::{Found, Made, Outcome};
 use crate::tag_orders::{TagOrders, tag_orders};
 use parallel_keys::hall_parts;
 use recorder::Histories;
@@ -19,10 +19,10 @@ pub(crate) fn ordered(alloc: Global, histories: &Histories) -> Made<'static>
     let parts = hall_parts(alloc, histories.halls())?;
     let TagOrders { orders, left_out } = tag_orders(alloc, parts.as_slice())?;
     let text = order_file(alloc, orders.as_slice())?;
-    let good = left_out.is_empty();
+    let found = Found::of(left_out.is_empty());
     Ok(Outcome {
         text,
         notes: left_out,
-        good,
+        found,
     })
 }

@@ -5,7 +5,7 @@ ghost use Rattle.cli.specs.Devices.{ReceivesOrFails, writer_states};
 ghost use Rattle.cli.specs.Outcomes.{Ends};
 ghost use Rattle.cli.specs.Usages.{EndsUsage, IsShown};
 
-use crate::outcome::{Outcome, conclude};
+use crate::outcome::{Found, Outcome, conclude};
 use crate::status::{Failure, Status};
 use command_line::Usage;
 use counted_devices::{CountedWrite, write_text};
@@ -15,7 +15,7 @@ use std::alloc::Global;
 fn shown(alloc: Global, text: String) -> Outcome
     ensures { IsShown (string_bytes text) result }
 {
-    Outcome::of_text(alloc, text.into_bytes(), true)
+    Outcome::of_text(alloc, text.into_bytes(), Found::Good)
 }
 
 /// Writes the text.

@@ -1,8 +1,9 @@
 -- A page in the making.
-use Rattle.std.specs.Prelude.{ℕ, ◌≡◌, List, [], ◌++◌}
+use Rattle.std.specs.Prelude.{ℕ, ◌≡◌, Bool, List, [], ◌++◌}
 use Rattle.markup.specs.Markup.{Markup, page_text, rendered}
 use Rattle.history_file.specs.declared.numbered_format.NumberedHistories.{NumberedHistories}
 use Rattle.parallel_keys.specs.CheckedKeys.{CheckedKey}
+use Rattle.cli.specs.Outcomes.{found_of}
 use Rattle.cli.specs.declared.outcome.Outcome.{Outcome}
 use Rattle.draw_command.specs.HistoryPictures.{IsJudgedContent}
 use Rattle.draw_command.specs.Pages.{IsFramed, page_markup}
@@ -17,7 +18,9 @@ module _ (judged : Judged) (drawn : Drawn) where
   -- the page of those of the keys that are selected, and whether it is good
   pub record IsMadeOf (numbered : NumberedHistories) (all : List CheckedKey) (outcome : Outcome)
       : Type 0 where
+    pub good : Bool
+    pub is : outcome.found ≡ found_of good
     pub page : Markup
-    pub page_is : IsFramed page_markup (IsJudgedContent numbered drawn judged all outcome.good) page
+    pub page_is : IsFramed page_markup (IsJudgedContent numbered drawn judged all good) page
     pub text : outcome.text.items ≡ page_text page
     pub quiet : outcome.notes.items ≡ []

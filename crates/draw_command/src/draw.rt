@@ -4,7 +4,7 @@ use crate::frame::{append_styles, begin_content, begin_page, end_page};
 use crate::history_pictures::add_histories;
 use crate::section::Task;
 use crate::words;
-use cli::{Made, Outcome};
+use cli::{Found, Made, Outcome};
 use explain_command::{Files, Judged, Presentation};
 use std::alloc::Global;
 
@@ -30,6 +30,6 @@ impl Presentation for Drawn<'_> {
         begin_content(&mut page, words::TITLE)?;
         let good = add_histories(alloc, &mut page, &task, files.orders.as_slice())?;
         end_page(&mut page)?;
-        Ok(Outcome::of_text(alloc, page, good))
+        Ok(Outcome::of_text(alloc, page, Found::of(good)))
     }
 }

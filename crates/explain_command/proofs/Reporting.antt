@@ -17,6 +17,7 @@ use Rattle.sentences.specs.Words.{quoted_text}
 use Rattle.explanations.specs.Sentences.{order_reason_text, tag_reason_text}
 use Rattle.cli.specs.VerdictLines.{line_text}
 use Rattle.cli.specs.Justifications.{KeyPart}
+use Rattle.cli.specs.Outcomes.{found_of}
 use Rattle.cli.specs.declared.outcome.Outcome.{Outcome}
 use Rattle.explain_command.specs.Endings.{ExplainsKeys}
 use Rattle.explain_command.specs.KeyExplanations.{ExplainsOrder, ExplainsTags, IsHallOfKey, RefusesOrder, RefusesTags, selected_keys, tag_line}
@@ -89,7 +90,7 @@ module _ (judged : Judged) (numbered : NumberedHistories) where
   pub whole : (all : List CheckedKey) (selection : Selection) (first second last : Report) (count : ℕ) (outcome : Outcome) → IsReportOf judged numbered (selected_keys (named_key selection) all) selection.most first
       → count ≡ length (selected_keys (named_key selection) all) → second.text.items ≡ first.text.items ++ missing_line (missing_name (named_key selection) count) → second.refused ≡ first.refused → second.most ≡ first.most
       → last.text.items ≡ second.text.items ++ left_out_line (second.refused - second.most) → last.refused ≡ second.refused
-      → outcome.text.items ≡ last.text.items → outcome.good ≡ is_good last.refused (missing_name (named_key selection) count) → outcome.notes.items ≡ []
+      → outcome.text.items ≡ last.text.items → outcome.found ≡ found_of (is_good last.refused (missing_name (named_key selection) count)) → outcome.notes.items ≡ []
       → ExplainsKeys judged selection numbered all outcome
   unfolding explanations_text
   whole all selection first second last count outcome are counted missing same_refused same_most left kept same_text good quiet =
@@ -101,7 +102,7 @@ module _ (judged : Judged) (numbered : NumberedHistories) where
       record {
         explanations = es;
         explained = are.explained;
-        is = good ∙ ap₂ is_good (kept ∙ refused) misses;
+        is = good ∙ ap found_of (ap₂ is_good (kept ∙ refused) misses);
         text = same_text ∙ left ∙ ap₂ (λ (l : List ℕ) (n : ℕ). l ++ left_out_line n) (missing ∙ ap₂ (λ (l : List ℕ) (missed : Option (List ℕ)). l ++ missing_line missed) are.text misses) (ap₂ (λ (n m : ℕ). n - m) refused most);
         quiet = quiet;
       }

@@ -3,6 +3,7 @@ use Rattle.std.specs.Prelude.{◌≡◌, List, []}
 use Rattle.counted_devices.specs.DeviceStates.{DeviceStates}
 use Rattle.history_file.specs.declared.numbered_format.NumberedHistories.{NumberedHistories}
 use Rattle.parallel_keys.specs.CheckedKeys.{CheckedKey}
+use Rattle.cli.specs.Outcomes.{found_of}
 use Rattle.cli.specs.declared.outcome.Outcome.{Outcome}
 use Rattle.explain_command.specs.Explanations.{Explanation, explanations_text, is_good}
 use Rattle.explain_command.specs.Explanations.{missing_key, named_key, no_count}
@@ -26,7 +27,8 @@ module _ (judged : Judged) (selection : Selection) where
       (outcome : Outcome) : Type 0 where
     pub explanations : List Explanation
     pub explained : ExplainsSelected numbered keys explanations
-    pub is : outcome.good ≡ is_good (no_count explanations) (missing_key selection explanations)
+    pub is : outcome.found
+        ≡ found_of (is_good (no_count explanations) (missing_key selection explanations))
     pub text : outcome.text.items ≡ explanations_text selection explanations
     pub quiet : outcome.notes.items ≡ []
 

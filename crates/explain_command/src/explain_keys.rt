@@ -10,7 +10,7 @@ use crate::judged::Judged;
 use crate::presentation::Presentation;
 use crate::report::{KeyToExplain, Report, is_good};
 use crate::selection::Selection;
-use cli::{Made, Outcome};
+use cli::{Found, Made, Outcome};
 use history_file::NumberedHistories;
 use parallel_keys::{KeyToCheck, hall_parts, keys_to_check};
 use std::alloc::Global;
@@ -52,8 +52,8 @@ impl Selection<'_> {
         let mut report = say_keys(alloc, judged, numbered, keys.as_slice(), self.most)?;
         report.say_missing(missing)?;
         report.say_left_out()?;
-        let good = is_good(report.refused, missing);
-        Ok(Outcome::of_text(alloc, report.text, good))
+        let found = Found::of(is_good(report.refused, missing));
+        Ok(Outcome::of_text(alloc, report.text, found))
     }
 }
 

@@ -18,8 +18,8 @@ pub(crate) fn find<'h>(part: &Part<'h>, op: OpId) -> Option<Call<'h>>
     }
 }
 
-/// The call of that number, where there is one.
-pub(crate) fn call_of<'h>(part: &Part<'h>, op: OpId) -> Call<'h>
+/// The call of that number, where there is one, by a binary search.
+pub fn call_of<'h>(part: &Part<'h>, op: OpId) -> Call<'h>
     requires { (call : Call) × IsCallOf part.now op call }
     ensures { IsCallOf part.now op result }
 {

@@ -12,6 +12,7 @@ mod notes;
 mod order_reasons;
 mod tag_reasons;
 
+pub use find::call_of;
 pub use notes::note_place;
 pub use order_reasons::{OrderReason, PlacedCall, order_reason};
 pub use tag_reasons::{TagReason, tag_reason};

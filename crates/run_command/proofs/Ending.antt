@@ -25,6 +25,7 @@ ends_closed asked out errors status.Good ends = ends
 ends_closed asked out errors status.Refused ends = inl ends
 ends_closed asked out errors status.Usage ends = ends.ends
 ends_closed asked out errors status.Format ends = ends.ends
+ends_closed asked out errors status.Undecided ends = ends.ends
 ends_closed asked out errors status.Failed ends = inl ends
 
 -- it wasn't

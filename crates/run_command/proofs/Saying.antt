@@ -75,6 +75,7 @@ key_status first errors status.Good (none, said) well = sym (ap status_of_check 
 key_status first errors status.Refused (refused, is, told) well = sym (ap status_of_check is)
 key_status first errors status.Usage tells well = absurd tells
 key_status first errors status.Format tells well = absurd tells
+key_status first errors status.Undecided tells well = absurd tells
 key_status first errors status.Failed tells well = absurd (well refl)
 
 -- what was said then
@@ -83,6 +84,7 @@ key_said first errors status.Good (none, said) well = subst (λ (o : Option Refu
 key_said first errors status.Refused (refused, is, told) well = subst (λ (o : Option RefusedKey). ReceivesLines errors (key_lines o)) (sym is) (says_one errors (key_line refused) told)
 key_said first errors status.Usage tells well = absurd tells
 key_said first errors status.Format tells well = absurd tells
+key_said first errors status.Undecided tells well = absurd tells
 key_said first errors status.Failed tells well = absurd (well refl)
 
 -- it was told, and all else is well
@@ -92,4 +94,5 @@ ends_told halls out errors first status.Refused checked (refused, is, told) well
     (key_line refused ∷ [], (refused, subst (λ (o : Option RefusedKey). IsFirstNoOfHalls halls o) is checked, refl), says_one errors (key_line refused) told)
 ends_told halls out errors first status.Usage checked tells well = absurd tells
 ends_told halls out errors first status.Format checked tells well = absurd tells
+ends_told halls out errors first status.Undecided checked tells well = absurd tells
 ends_told halls out errors first status.Failed checked tells well = absurd (well refl)

@@ -42,4 +42,5 @@ key_told key refused errors status.Refused same refuses memory =
     (refused, refl, subst P same refuses.1)
 key_told key refused errors status.Usage same refuses memory = absurd refuses
 key_told key refused errors status.Format same refuses memory = absurd refuses
+key_told key refused errors status.Undecided same refuses memory = absurd refuses
 key_told key refused errors status.Failed same refuses memory = memory refl

@@ -94,6 +94,7 @@ TellsKey first errors status.Refused =
     (refused : RefusedKey) × (first ≡ Some refused) × ReceivesOrFails errors (key_line refused)
 TellsKey first errors status.Usage = ⊥
 TellsKey first errors status.Format = ⊥
+TellsKey first errors status.Undecided = ⊥
 TellsKey first errors status.Failed = ReceivesOrFails errors (failure_line failure.Memory)
 
 -- the line of the first key of the halls that is refused, if there is one
@@ -116,6 +117,7 @@ module _ (halls : List ClosedHall) (out : DeviceStates) where
       × IsFirstNoOfHalls halls (Some refused) × (lines ≡ key_line refused ∷ [])
   AreEnding status.Usage lines = ⊥
   AreEnding status.Format lines = ⊥
+  AreEnding status.Undecided lines = ⊥
   AreEnding status.Failed lines = (keys : List (List ℕ)) × (line : List ℕ)
       × AreFailing keys line × (lines ≡ keys ++ line ∷ [])
 

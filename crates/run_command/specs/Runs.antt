@@ -44,6 +44,7 @@ EndsClosedHalls asked halls out status.Refused = ((refused : RefusedKey)
     × IsFirstNoOfHalls halls (Some refused)) × OfShownText asked halls (Receives out)
 EndsClosedHalls asked halls out status.Usage = ⊥
 EndsClosedHalls asked halls out status.Format = ⊥
+EndsClosedHalls asked halls out status.Undecided = ⊥
 EndsClosedHalls asked halls out status.Failed =
     ReceivesNothing out ⊎ OfShownText asked halls (ReceivesPrefix out)
 
@@ -83,4 +84,5 @@ module _ (asked : RunAsked) (out errors : DeviceStates) where
   EndsRun status.Refused = EndsClosed status.Refused ⊎ IsUnclosed close.SeatMismatch
   EndsRun status.Usage = ⊥
   EndsRun status.Format = ⊥
+  EndsRun status.Undecided = ⊥
   EndsRun status.Failed = EndsClosed status.Failed ⊎ IsUnclosed close.Memory ⊎ IsUnloaded

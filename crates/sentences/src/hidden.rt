@@ -1,10 +1,11 @@
 //! Characters that neither a terminal nor a page shows as they are.
-ghost use Rattle.std.specs.Prelude.{◌≡◌, ◌++◌, OnOk};
+ghost use Rattle.std.specs.Prelude.{◌≡◌, ◌++◌, IfOk, OnOk, string_bytes};
 ghost use Rattle.sentences.specs.Hidden.{is_hidden, moves_text, number_escape, shown_char};
 ghost use Rattle.sentences.specs.Hidden.{shown_text};
 
 use crate::quoted::hex_digit;
 use crate::words::append;
+use std::alloc::Global;
 use tag::Memory;
 
 /// Whether the character breaks a line, or turns the direction in which text is shown.
@@ -52,4 +53,13 @@ pub fn append_shown_text(text: &mut Vec<u8>, words: &str) -> Result<(), Memory>
         append_shown(text, c)?;
     }
     Ok(())
+}
+
+/// The words, each of their characters by `append_shown`.
+pub fn shown_text(alloc: Global, words: &str) -> Result<String, Memory>
+    ensures { IfOk result (λ shown. string_bytes shown ≡ shown_text words.now) }
+{
+    let mut text = Vec::new(alloc);
+    append_shown_text(&mut text, words)?;
+    Ok(unsafe { String::from_utf8_unchecked(text) })
 }

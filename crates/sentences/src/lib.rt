@@ -10,6 +10,6 @@ pub mod laws;
 mod quoted;
 mod words;
 
-pub use hidden::{append_shown, append_shown_text};
+pub use hidden::{append_shown, append_shown_text, shown_text};
 pub use quoted::{append_control, append_quoted, hex_digit};
 pub use words::{append, append_number, append_tag, append_value};

@@ -1,5 +1,5 @@
 -- What a command comes to that makes a text of a script's run.
-use Rattle.std.specs.Prelude.{ℕ, ◌≡◌, ◌⊎◌, true, List, []}
+use Rattle.std.specs.Prelude.{ℕ, ◌≡◌, ◌⊎◌, List, []}
 use Rattle.counted_devices.specs.Deliveries.{ReadsFrom}
 use Rattle.counted_devices.specs.DeviceStates.{DeviceStates}
 use Rattle.markup.specs.Markup.{Markup, page_text}
@@ -8,6 +8,7 @@ use Rattle.fault_script.specs.declared.command.Script.{Script}
 use Rattle.cli.specs.Devices.{FileStates, WriterStates}
 use Rattle.cli.specs.Outcomes.{Ends}
 use Rattle.cli.specs.Reports.{IsScriptFault}
+use Rattle.cli.specs.declared.outcome.Found.TheVariants as found
 use Rattle.cli.specs.declared.outcome.Outcome.{Outcome}
 use Rattle.cli.specs.declared.status.Failure.{Failure}
 use Rattle.cli.specs.declared.status.Failure.TheVariants as failure
@@ -31,7 +32,7 @@ module _ (IsOf : Script → List ℕ → Type 0) where
     pub script : Script
     pub read : ReadsFrom IsScript reader script
     pub text : IsOf script outcome.text.items
-    pub good : outcome.good ≡ true
+    pub good : outcome.found ≡ found.Good
     pub quiet : outcome.notes.items ≡ []
 
   -- how a command ends that makes such a text

@@ -1,5 +1,6 @@
 -- What is said of the verdicts, said of every key.
-use Rattle.std.proofs.Common.{Bool, subst, sym}
+use Rattle.std.proofs.Common.{subst, sym}
+use Rattle.cli.specs.declared.outcome.Found.{Found}
 use Rattle.std.proofs.lemmas.Result.{err_from_is_err_and}
 use Rattle.parallel_keys.specs.CheckedKeys.{all_parts}
 use Rattle.cli.proofs.Endings.{keys_stop}
@@ -22,9 +23,9 @@ returns-clause-made g c =
     let halls = c.args.histories.now.halls in
     let verdicts = c.in_ok-checked.checked.items in
     record {
-      is = λ pieces joined. subst (λ (good : Bool). IsStatusOf halls pieces (ended good)) (sym c.of_text.ensures.good)
-          (status_is halls (all_parts are.parts) (have_parts halls are.parts are.recorded lawful.count.least lawful.keys) pieces c.args.orders.now verdicts joined are.checked (ended c.are_yes.result)
-          (rw c.as_slice-verdicts.ensures.value at c.are_yes.ensures));
+      is = λ pieces joined. subst (λ (found : Found). IsStatusOf halls pieces (ended found)) (sym c.of_text.ensures.found)
+          (status_is halls (all_parts are.parts) (have_parts halls are.parts are.recorded lawful.count.least lawful.keys) pieces c.args.orders.now verdicts joined are.checked (ended c.found_in.result)
+          (rw c.as_slice-verdicts.ensures.value at c.found_in.ensures));
       lines = λ pieces joined. rw c.of_text.ensures.text
           (lines_said c.args.form halls pieces c.args.orders.now verdicts c.in_ok-text.text.items joined are (rw c.as_slice-verdicts.ensures.value at c.in_ok-text.ensures));
       quiet = c.of_text.ensures.notes;

@@ -1,5 +1,5 @@
 use Rattle.cli.proofs.Told.{refused_here, yes_more}
-use Rattle.cli.proofs.check_outcome.are_yes.Goals as goal
+use Rattle.cli.proofs.check_outcome.found_in.Goals as goal
 
 pub loop-told-preserved : goal.loop-told-preserved
 loop-told-preserved c =

@@ -1,5 +1,5 @@
 -- The page is that of the keys of the files.
-use Rattle.std.proofs.Common.{List, refl, subst, sym}
+use Rattle.std.proofs.Common.{List, refl, subst, sym, ◌∙◌}
 use Rattle.recorder.specs.declared.order.KeyOrder.{KeyOrder}
 use Rattle.parallel_keys.specs.CheckedKeys.{AreDistinct}
 use Rattle.draw_command.specs.HistoryPictures.{IsJudgedContent}
@@ -21,5 +21,5 @@ returns-clause-made c =
       numbered = numbered;
       keys = added.0;
       read = record { same = refl; keys_are = added.1 };
-      made = record { page = page.0; page_is = rw c.of_text.ensures.good page.1; text = rw c.of_text.ensures.text page.2; quiet = c.of_text.ensures.notes };
+      made = record { good = c.in_ok-good.good; is = c.of_text.ensures.found ∙ c.of.ensures; page = page.0; page_is = page.1; text = rw c.of_text.ensures.text page.2; quiet = c.of_text.ensures.notes };
     }

@@ -2,6 +2,7 @@ use Rattle.std.proofs.Common.{List, ap, length, map, sym, subst, ◌∙◌}
 use Rattle.std.proofs.lemmas.List.{length-map}
 use Rattle.parallel_keys.specs.CheckedKeys.{CheckedKey}
 use Rattle.parallel_keys.specs.KeysToCheck.{what_of}
+use Rattle.cli.specs.Outcomes.{found_of}
 use Rattle.explain_command.specs.Explanations.{is_good, named_key}
 use Rattle.explain_command.specs.Reports.{IsReportOf}
 use Rattle.explain_command.proofs.Reporting.{whole}
@@ -18,4 +19,4 @@ returns c =
     whole c.args.judged c.args.numbered.now (map what_of c.args.keys.items) selection c.in_ok-report.report c.say_missing.new.self c.say_left_out.new.self c.len.result _ all
     (c.len.ensures ∙ sym c.as_slice.ensures.len ∙ ap length c.as_slice.ensures.value ∙ sym (length-map few what_of) ∙ ap length which)
     (rw c.missing_key-missing.ensures at c.in_ok-say_missing.ensures.text) c.in_ok-say_missing.ensures.refused c.in_ok-say_missing.ensures.most c.in_ok-say_left_out.ensures.text c.in_ok-say_left_out.ensures.refused
-    (ap (λ v. v.items) c.of_text.ensures.text) (c.of_text.ensures.good ∙ c.is_good-good.ensures ∙ ap (is_good c.say_left_out.new.self.refused) c.missing_key-missing.ensures) c.of_text.ensures.notes
+    (ap (λ v. v.items) c.of_text.ensures.text) (c.of_text.ensures.found ∙ c.of-found.ensures ∙ ap found_of (c.is_good.ensures ∙ ap (is_good c.say_left_out.new.self.refused) c.missing_key-missing.ensures)) c.of_text.ensures.notes
