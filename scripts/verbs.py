@@ -1,7 +1,7 @@
 """verbs.py ABD
 
-Runs each command of the program so that it ends with 0, 1, 2, 3 and 4, as far as it can, and `--help` and `--version`. It says which ends
-with another status, says nothing on standard error of a failure or doesn't name what failed, or writes to standard output what it must not.
+Runs each command of the program so that it ends with 0, 1, 2, 3, 4 and 5, as far as it can, and `--help` and `--version`. It says which
+ends with another status, says nothing on standard error of a failure or doesn't name what failed, or writes to standard output what it must not.
 Ends with status 1 then.
 """
 
@@ -13,12 +13,17 @@ import tempfile
 HISTORY = '{"abd":"history","version":1}\n'
 ORDERS = '{"abd":"orders","version":1}\n'
 WRITE = '{"call":0,"client":1,"do":"write","key":"x","row":"invoke","value":"a"}\n'
+READ = '{"call":1,"client":2,"do":"read","key":"x","row":"invoke"}\n'
+AGAIN = '{"call":1,"client":2,"do":"write","key":"x","row":"invoke","value":"a"}\n'
 NOTE = '{"call":0,"number":1,"row":"note","writer":1}\n'
 DONE = '{"call":0,"row":"respond"}\n'
 FILES = {
     "good.history": HISTORY + WRITE + NOTE + DONE,
     "unnoted.history": HISTORY + WRITE + DONE,
     "bad.history": HISTORY + "{\n",
+    "late.history": HISTORY + WRITE + DONE + READ + '{"call":1,"row":"respond","value":null}\n',
+    "doubt.history": HISTORY + WRITE + DONE + AGAIN + '{"call":1,"row":"respond"}\n' + READ.replace(":1,", ":2,", 1)
+    + '{"call":2,"row":"respond","value":"a"}\n',
     "good.orders": ORDERS + '{"key":"x","order":[0]}\n',
     "refused.orders": ORDERS + '{"key":"x","order":[]}\n',
     "bad.orders": ORDERS + "{\n",
@@ -51,7 +56,7 @@ def add_files(command, options=""):
 
 
 def add_all():
-    for command in ("justify", "simulate", "explain", "draw", "trace"):
+    for command in ("justify", "simulate", "decide", "explain", "draw", "trace"):
         add_files(command)
     add_files("trace", " --draw")
     for command in ("check", "explain", "draw"):
@@ -72,6 +77,14 @@ def add_all():
         add(1, f"{command} unnoted.history")
         add(1, f"{command} good.history --key z")
         add(2, f"{command} good.history --most 10001", "error: ")
+    for words in ("decide", "decide --json"):
+        add(0, f"{words} unnoted.history")
+        add(1, f"{words} late.history")
+        add(1, f"{words} good.history --key z")
+        add(5, f"{words} doubt.history")
+        add(4, f"{words} late.history", FULL, full=True)
+    add(2, "decide good.history good.orders", "error: ")
+    add(2, "decide good.history --most 10001", "error: ")
     add(2, "draw good.history --calls 0", "error: ")
     add(2, "draw good.history --around 4294967296", "error: ")
     add(2, "trace good.script --most 4294967296", "error: ")
@@ -82,7 +95,7 @@ def add_all():
     add(2, "run --ask 2", "abd: ")
     add(2, "run good.script", "error: ")
     add(4, "run --callers 1 --calls 2", FULL, full=True)
-    commands = ("check", "draw", "explain", "justify", "run", "simulate", "trace")
+    commands = ("check", "decide", "draw", "explain", "justify", "run", "simulate", "trace")
     for words in ("--help", "--version", *[f"{command} --help" for command in commands], *[f"help {command}" for command in commands]):
         add(0, words)
         add(4, words, FULL, full=True)
@@ -114,7 +127,7 @@ def wrongs(ran, status, errors, full):
         yield f"standard error says {found!r}"
     if full:
         return
-    is_written = status == 0 or (status == 1 and (not errors or "orders" in ran.stdout.decode()))
+    is_written = status in (0, 5) or (status == 1 and (not errors or "orders" in ran.stdout.decode()))
     if is_written != (ran.stdout != b""):
         yield "standard output has something" if ran.stdout else "standard output has nothing"
 

@@ -4,7 +4,7 @@ _abd() {
   local word=${COMP_WORDS[COMP_CWORD]} before=${COMP_WORDS[COMP_CWORD - 1]} command=${COMP_WORDS[1]} options
   COMPREPLY=()
   if [ "$COMP_CWORD" -eq 1 ]; then
-    mapfile -t COMPREPLY < <(compgen -W "check draw explain justify simulate trace run help --help --version" -- "$word")
+    mapfile -t COMPREPLY < <(compgen -W "check decide draw explain justify simulate trace run help --help --version" -- "$word")
     return
   fi
   case $before in
@@ -19,6 +19,7 @@ _abd() {
   case $command in
     check) options="--workers --json --help" ;;
     draw) options="--key --most --calls --around --help" ;;
+    decide) options="--key --most --json --help" ;;
     explain) options="--key --most --help" ;;
     justify) options="--unchecked --help" ;;
     trace) options="--most --draw --help" ;;
@@ -26,7 +27,7 @@ _abd() {
       options="--replicas --callers --calls --keys --rounds --drop --double --halls --show --reads --votes --ask --put --help"
       ;;
     help)
-      mapfile -t COMPREPLY < <(compgen -W "check draw explain justify simulate trace run" -- "$word")
+      mapfile -t COMPREPLY < <(compgen -W "check decide draw explain justify simulate trace run" -- "$word")
       return
       ;;
     *) options="--help" ;;

@@ -1,9 +1,10 @@
 # Completion of abd's words for fish: install it as vendor_completions.d/abd.fish.
 
-set -l commands check draw explain justify simulate trace run help
+set -l commands check decide draw explain justify simulate trace run help
 complete -c abd -n "not __fish_seen_subcommand_from $commands" -f -l help -s h -d "say what abd takes"
 complete -c abd -n "not __fish_seen_subcommand_from $commands" -f -l version -s V -d "say the version"
 complete -c abd -n "not __fish_seen_subcommand_from $commands" -f -a check -d "check whether orders show that a history is atomic"
+complete -c abd -n "not __fish_seen_subcommand_from $commands" -f -a decide -d "decide by the values whether keys are atomic"
 complete -c abd -n "not __fish_seen_subcommand_from $commands" -f -a draw -d "draw the calls of keys, a page for a browser"
 complete -c abd -n "not __fish_seen_subcommand_from $commands" -f -a explain -d "say why orders, or without them tags, are refused"
 complete -c abd -n "not __fish_seen_subcommand_from $commands" -f -a justify -d "make orders from the tags, and check them"
@@ -14,6 +15,9 @@ complete -c abd -n "not __fish_seen_subcommand_from $commands" -f -a help -d "sa
 complete -c abd -n "__fish_seen_subcommand_from $commands" -l help -s h -d "say what it takes"
 complete -c abd -n "__fish_seen_subcommand_from check" -x -l workers -d "threads that check, 1 to 16"
 complete -c abd -n "__fish_seen_subcommand_from check" -l json -d "an object of JSON a key"
+complete -c abd -n "__fish_seen_subcommand_from decide" -x -l key -d "a key to decide"
+complete -c abd -n "__fish_seen_subcommand_from decide" -x -l most -d "keys that are explained"
+complete -c abd -n "__fish_seen_subcommand_from decide" -l json -d "an object of JSON a key"
 complete -c abd -n "__fish_seen_subcommand_from justify" -l unchecked -d "leave the check out"
 complete -c abd -n "__fish_seen_subcommand_from draw" -x -l key -d "the only key"
 complete -c abd -n "__fish_seen_subcommand_from draw" -x -l most -d "keys with a picture"

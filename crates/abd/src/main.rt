@@ -12,7 +12,8 @@ use cli::{
     Counting, Ending, Failure, Source, Status, check_command, justify_command, simulate_command,
     usage_command,
 };
-use command_line::{CheckAsked, Command, DrawAsked, KeysAsked, command};
+use command_line::{CheckAsked, Command, DecideAsked, DrawAsked, KeysAsked, command};
+use decide_command::{Deciding, decide_command};
 use draw_command::Drawn;
 use explain_command::{Presentation, Selection, judge_orders_command, judge_tags_command};
 use run_command::{KeyWatch, NoWatch, Watch, run_command};
@@ -116,6 +117,18 @@ fn check(
         let alloc = rt.alloc();
         check_command(threads, alloc, history, orders, workers, form, out, errors)
     })
+}
+
+/// Decides the history's keys by their values. Of a faulty file it explains what is wrong with it.
+fn decide(rt: &HostRuntime, threads: &(impl Threads + Sync), asked: &DecideAsked<'_>) -> Ending {
+    let deciding = Deciding::of(asked);
+    let ending = on_file(rt, asked.history, |history, out, errors| {
+        decide_command(threads, rt.alloc(), history, &deciding, out, errors)
+    });
+    if ending.has_fault() {
+        explain_faults(rt, threads, asked.history, None);
+    }
+    ending
 }
 
 /// Judges the history's keys by the orders, or without orders by the tags, and shows them so. Of a faulty
@@ -264,6 +277,7 @@ where
 {
     match asked {
         Command::Check(asked) => check(rt, threads, asked),
+        Command::Decide(asked) => decide(rt, threads, asked),
         Command::Draw(asked) => draw(rt, threads, asked),
         Command::Explain(asked) => explain(rt, threads, asked),
         Command::Justify { history, unchecked } => justify(rt, threads, history, *unchecked),

@@ -1,5 +1,5 @@
 //! Names of files, as standard error is told them.
-use cli::shown_name;
+use sentences::shown_text;
 use std::io::IsTerminal;
 use tag::Memory;
 
@@ -8,7 +8,7 @@ use tag::Memory;
 pub struct FileName<'a> {
     /// What the file is opened by.
     pub given: &'a str,
-    /// With escapes for control characters, where standard error is a terminal.
+    /// With an escape for each hidden character, where standard error is a terminal.
     shown: Option<String>,
 }
 
@@ -16,7 +16,7 @@ impl<'a> FileName<'a> {
     /// The name that was given.
     pub fn new(rt: &HostRuntime, given: &'a str) -> Result<FileName<'a>, Memory> {
         let shown = if rt.stderr().is_terminal() {
-            Some(shown_name(rt.alloc(), given)?)
+            Some(shown_text(rt.alloc(), given)?)
         } else {
             None
         };

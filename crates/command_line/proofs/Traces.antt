@@ -21,7 +21,7 @@ module _ (rows : List Row) where
   not_trace : ((script : Text) (most : ℕ) → AsksTrace rows script most → ⊥) → ((script : Text) (most : ℕ) → AsksTracePage rows script most → ⊥)
       → (command : Command) → MakesAs (codes "trace") rows command → ⊥
   not_trace told drawn command makes = by_name (λ c. Makes rows c → ⊥) (codes "trace")
-      (λ a is. absurd (differ _ _ refl is)) (λ a is. absurd (differ _ _ refl is)) (λ a is. absurd (differ _ _ refl is)) (λ h u is. absurd (differ _ _ refl is))
+      (λ a is. absurd (differ _ _ refl is)) (λ a is. absurd (differ _ _ refl is)) (λ a is. absurd (differ _ _ refl is)) (λ a is. absurd (differ _ _ refl is)) (λ h u is. absurd (differ _ _ refl is))
       (λ s is. absurd (differ _ _ refl is)) (λ s m is makes. told s.now m makes) (λ s m is makes. drawn s.now m makes) (λ a is. absurd (differ _ _ refl is))
       command makes.0 makes.1
 

@@ -2,7 +2,7 @@
 use Rattle.std.specs.Prelude.{ℕ, [], ◌∷◌, Some, pos, true, codes}
 use Rattle.std.specs.Str.Parse.{digits_value}
 use Rattle.clap.specs.Words.{App, Rule, Text, new_app, new_rule, with_rule, with_subcommand}
-use Rattle.clap.specs.declared.builder.action.ArgAction.TheVariants.{SetTrue}
+use Rattle.clap.specs.declared.builder.action.ArgAction.TheVariants.{Append, SetTrue}
 use Rattle.clap.specs.declared.builder.value_parser.ValueParser.{ValueParser}
 use Rattle.clap.specs.declared.builder.value_parser.ValueParser.TheVariants as parser
 use Rattle.parallel_keys.specs.Workers.{worker_limit}
@@ -43,6 +43,10 @@ flag name = record (new_rule name) { long = Some name; action = Some SetTrue }
 abbrev pub value_option : Text → Rule
 value_option name = record (new_rule name) { long = Some name; value_names = 1 }
 
+-- an option --name VALUE that may be given more than once
+abbrev pub repeated_option : Text → Rule
+repeated_option name = record (value_option name) { action = Some Append }
+
 -- the numbers from the one to the other
 abbrev within : ℕ → ℕ → ValueParser
 within least most = parser.Signed (pos least) (pos most)
@@ -51,6 +55,10 @@ within least most = parser.Signed (pos least) (pos most)
 abbrev pub number_option : Text → Text → ValueParser → Rule
 number_option name default numbers =
     record (value_option name) { defaults = default ∷ []; parser = Some numbers }
+
+-- the option --most of keys
+abbrev pub most_option : Rule
+most_option = number_option (codes "most") most_word (within 0 most_shown)
 
 -- an option --name N without a default, whatever the number
 abbrev pub any_number_option : Text → Rule
@@ -66,11 +74,15 @@ check_app = with_rule (with_rule (with_rule (file_app (codes "check") (codes "HI
     (required_argument (codes "ORDERS")))
     (number_option (codes "workers") (codes "1") (within 1 worker_limit))) (flag (codes "json"))
 
+-- abd decide HISTORY [--key KEY]... [--most N] [--json]
+abbrev pub decide_app : App
+decide_app = with_rule (with_rule (with_rule (file_app (codes "decide") (codes "HISTORY"))
+    (repeated_option (codes "key"))) most_option) (flag (codes "json"))
+
 -- abd NAME HISTORY [ORDERS] [--key KEY] [--most N]
 abbrev pub keys_app : Text → App
 keys_app name = with_rule (with_rule (with_rule (file_app name (codes "HISTORY"))
-    (new_rule (codes "ORDERS"))) (value_option (codes "key")))
-    (number_option (codes "most") most_word (within 0 most_shown))
+    (new_rule (codes "ORDERS"))) (value_option (codes "key"))) most_option
 
 -- abd draw HISTORY [ORDERS] [--key KEY] [--most N] [--calls N] [--around CALL]
 abbrev pub draw_app : App
@@ -104,5 +116,5 @@ bare_app =
 -- abd with its commands
 abbrev pub abd_app : App
 abd_app = with_subcommand (with_subcommand (with_subcommand (with_subcommand (with_subcommand
-    (with_subcommand (with_subcommand bare_app check_app.top) draw_app.top) explain_app.top)
-    justify_app.top) simulate_app.top) trace_app.top) run_app.top
+    (with_subcommand (with_subcommand (with_subcommand bare_app check_app.top) decide_app.top)
+    draw_app.top) explain_app.top) justify_app.top) simulate_app.top) trace_app.top) run_app.top

@@ -1,9 +1,9 @@
 -- What the words of a command line ask for, by clap's reading of a simple command.
 use Rattle.std.specs.Prelude.{ℕ, ◌≡◌, ◌≤◌, ◌⊎◌, ◌↔◌, Bool, IsTrue, List, []}
 use Rattle.std.specs.Prelude.{Option, Some, None, codes}
-use Rattle.std.specs.Prelude.{MatchOption, length, min, option_map, string_bytes}
+use Rattle.std.specs.Prelude.{MatchOption, length, map, min, option_map, string_bytes, unwrap_or}
 use Rattle.std.specs.Str.Parse.{IsNumeral, digits_value, without_leading_plus}
-use Rattle.clap.specs.Words.{IsAmong, Row, Text, fault_of, first_of, one_of, subcommand_of}
+use Rattle.clap.specs.Words.{IsAmong, Row, Text, all_of, fault_of, first_of, one_of, subcommand_of}
 use Rattle.clap.specs.declared.error.kind.ErrorKind.{ErrorKind}
 use Rattle.clap.specs.declared.error.kind.ErrorKind.TheVariants.{DisplayHelp, DisplayVersion}
 use Rattle.clap.specs.declared.error.kind.ErrorKind.TheVariants.{OutOfMemory}
@@ -12,8 +12,10 @@ use Rattle.run_options.specs.RunWords.{AsksRun}
 use Rattle.command_line.specs.Forms.{abd_app, most_asked, most_shown}
 use Rattle.command_line.specs.declared.asked.Command.{Command}
 use Rattle.command_line.specs.declared.asked.KeysAsked.{KeysAsked}
-use Rattle.command_line.specs.declared.asked.Command.TheVariants.{Check, Draw, Explain, Justify}
-use Rattle.command_line.specs.declared.asked.Command.TheVariants.{Run, Simulate, Trace, TracePage}
+use Rattle.command_line.specs.declared.asked.Command.TheVariants.{Check, Decide, Draw, Explain}
+use Rattle.command_line.specs.declared.asked.Command.TheVariants.{Justify, Run, Simulate, Trace}
+use Rattle.command_line.specs.declared.asked.Command.TheVariants.{TracePage}
+use Rattle.command_line.specs.declared.asked.DecideAsked.{DecideAsked}
 use Rattle.command_line.specs.declared.asked.DrawAsked.{DrawAsked}
 use Rattle.command_line.specs.declared.lines.Lines.{Lines}
 use Rattle.command_line.specs.declared.lines.Lines.TheVariants as form
@@ -51,6 +53,18 @@ GivesFlag name rows = one_of name rows ≡ Some (codes "true")
 abbrev pub AsksForm : List Row → Lines → Type 0
 AsksForm rows form.Plain = GivesFlag (codes "json") rows → ⊥
 AsksForm rows form.Json = GivesFlag (codes "json") rows
+
+-- what stands after each option of that name, in their order
+abbrev pub texts_given : Text → List Row → List Text
+texts_given name rows = unwrap_or (all_of name rows) []
+
+-- the words after `decide` name the history, each key by a `--key` of its own, in their order, and
+-- ask for so many keys, and for lines in that form
+pub record AsksDecision (rows : List Row) (asked : DecideAsked) : Type 0 where
+  pub history : first_of (codes "HISTORY") rows ≡ Some asked.history.now
+  pub keys : map (λ s. s.now) asked.keys.items ≡ texts_given (codes "key") rows
+  pub most : AsksNumber rows (codes "most") 0 most_shown asked.most
+  pub form : AsksForm rows asked.form
 
 -- the words after `justify` name the history, and say by `--unchecked` whether orders go unchecked
 pub record AsksOrders (rows : List Row) (history : Text) (unchecked : Bool) : Type 0 where
@@ -100,6 +114,7 @@ pub record AsksTracePage (rows : List Row) (script : Text) (most : ℕ) : Type 0
 abbrev pub Makes : List Row → Command → Type 0
 Makes rows (Check asked) = NamesFiles rows asked.history.now asked.orders.now
     × AsksWorkers rows asked.workers × AsksForm rows asked.form
+Makes rows (Decide asked) = AsksDecision rows asked
 Makes rows (Draw asked) = AsksDrawing rows asked
 Makes rows (Explain asked) = AsksKeys rows asked
 Makes rows (Justify history unchecked) = AsksOrders rows history.now unchecked
@@ -111,6 +126,7 @@ Makes rows (Run asked) = AsksRun rows asked
 -- the command's name
 abbrev pub name_of : Command → Text
 name_of (Check asked) = codes "check"
+name_of (Decide asked) = codes "decide"
 name_of (Draw asked) = codes "draw"
 name_of (Explain asked) = codes "explain"
 name_of (Justify history unchecked) = codes "justify"

@@ -14,6 +14,18 @@ pub struct CheckAsked<'a> {
     pub form: Lines,
 }
 
+/// What the words of `abd decide` ask for.
+#[derive(Debug, Drop)]
+pub struct DecideAsked<'a> {
+    pub history: &'a str,
+    /// The keys that alone are decided, in the order in which they are named; each key if none is.
+    pub keys: Vec<&'a str>,
+    /// How many keys that aren't atomic are explained: 10,000 at most.
+    pub most: u16,
+    /// The form of the lines that are printed.
+    pub form: Lines,
+}
+
 /// The keys that the words of `abd explain` or `abd draw` ask for.
 #[derive(Clone, Copy, Debug, PartialEq, Eq)]
 pub struct KeysAsked<'a> {
@@ -37,10 +49,12 @@ pub struct DrawAsked<'a> {
 }
 
 /// What a command line asks for.
-#[derive(Clone, Copy, Debug, PartialEq, Eq)]
+#[derive(Debug, Drop)]
 pub enum Command<'a> {
     /// To check the orders of a history's keys, and print a line for each.
     Check(CheckAsked<'a>),
+    /// To decide by the values alone whether there are orders of a history's keys.
+    Decide(DecideAsked<'a>),
     /// To draw the calls of keys, with the points of their orders or of the orders that their tags make.
     Draw(DrawAsked<'a>),
     /// To say why orders, or without them tags, are refused.

@@ -2,10 +2,11 @@
 ghost use Rattle.std.specs.Prelude.{◌≡◌, false, codes, IfOk};
 ghost use Rattle.clap.specs.Words.{App, app_of, new_app, new_rule, rule_of, with_subcommand};
 ghost use Rattle.clap.specs.declared.builder.command.Command.TheViews.{out-Command as fields_of};
-ghost use Rattle.command_line.specs.Forms.{abd_app, any_number_option, bare_app, check_app, draw_app};
-ghost use Rattle.command_line.specs.Forms.{explain_app, file_app, flag, justify_app, keys_app};
-ghost use Rattle.command_line.specs.Forms.{number_option, required_argument, simulate_app, trace_app};
-ghost use Rattle.command_line.specs.Forms.{value_option};
+ghost use Rattle.command_line.specs.Forms.{abd_app, any_number_option, bare_app, check_app};
+ghost use Rattle.command_line.specs.Forms.{decide_app, draw_app, explain_app, file_app, flag};
+ghost use Rattle.command_line.specs.Forms.{justify_app, keys_app, most_option, number_option};
+ghost use Rattle.command_line.specs.Forms.{repeated_option, required_argument, simulate_app};
+ghost use Rattle.command_line.specs.Forms.{trace_app, value_option};
 
 use crate::help;
 use crate::help::CommandHelp;
@@ -44,6 +45,14 @@ fn value_option<'a>(alloc: Global, name: &'a str, value: &'a str, help: &'a str)
         .help(help)
 }
 
+/// An option that takes a value, and that may be given more than once.
+fn repeated_option<'a>(alloc: Global, name: &'a str, value: &'a str, help: &'a str) -> Arg<'a>
+    ensures rule { rule_of result ≡ repeated_option name.entry.now }
+    ensures local { result.global ≡ false }
+{
+    value_option(alloc, name, value, help).action(ArgAction::Append)
+}
+
 /// An option whose value is one of these numbers, and that default where it isn't given.
 fn number_option<'a>(
     alloc: Global,
@@ -59,6 +68,15 @@ fn number_option<'a>(
     value_option(alloc, name, "N", help)
         .default_value(default)
         .value_parser(numbers)
+}
+
+/// The option `--most`, of keys.
+fn most_option<'a>(alloc: Global, help: &'a str) -> Arg<'a>
+    ensures rule { rule_of result ≡ most_option }
+    ensures local { result.global ≡ false }
+{
+    let few = value_parser!(u16).range(0..10001);
+    number_option(alloc, "most", "20", few, help)
 }
 
 /// An option whose value is any number of 32 bits, and that has no default.
@@ -115,6 +133,17 @@ fn check_words<'a>(alloc: Global) -> Result<Command<'a>, AllocError>
     check.arg(flag(alloc, "json", help::JSON))
 }
 
+/// `abd decide HISTORY [--key KEY]... [--most N] [--json]`.
+fn decide_words<'a>(alloc: Global) -> Result<Command<'a>, AllocError>
+    ensures app { IfOk result (λ words. app_of words ≡ decide_app) }
+    ensures local { IfOk result (λ words. (fields_of words).has_globals ≡ false) }
+{
+    let decide = file_words(alloc, "decide", help::DECIDE, "HISTORY", help::HISTORY)?;
+    let decide = decide.arg(repeated_option(alloc, "key", "KEY", help::DECIDED_KEYS))?;
+    let decide = decide.arg(most_option(alloc, help::REASONS))?;
+    decide.arg(flag(alloc, "json", help::JSON))
+}
+
 /// A command that tells of keys of a history: `abd NAME HISTORY [ORDERS] [--key KEY] [--most N]`.
 fn keys_words<'a>(
     alloc: Global,
@@ -129,8 +158,7 @@ fn keys_words<'a>(
     let words = file_words(alloc, name, says, "HISTORY", help::HISTORY)?;
     let words = words.arg(orders_argument(alloc))?;
     let words = words.arg(value_option(alloc, "key", "KEY", key))?;
-    let few = value_parser!(u16).range(0..10001);
-    words.arg(number_option(alloc, "most", "20", few, most))
+    words.arg(most_option(alloc, most))
 }
 
 /// `abd draw HISTORY [ORDERS] [--key KEY] [--most N] [--calls N] [--around CALL]`.
@@ -205,6 +233,7 @@ pub(crate) fn abd_words<'a>(alloc: Global) -> Result<Command<'a>, AllocError>
     ensures { IfOk result (λ words. app_of words ≡ abd_app) }
 {
     let words = with_made(bare_words(alloc), check_words(alloc))?;
+    let words = with_made(words, decide_words(alloc))?;
     let words = with_made(words, draw_words(alloc))?;
     let words = with_made(words, explain_words(alloc))?;
     let words = with_made(words, justify_words(alloc))?;

@@ -10,7 +10,7 @@ pub struct CommandHelp {
 }
 
 /// The version that `abd --version` says.
-pub const VERSION: &str = "0.3.0";
+pub const VERSION: &str = "0.4.0";
 
 /// Of `abd`.
 pub const ABD: CommandHelp = CommandHelp {
@@ -52,6 +52,26 @@ can't be opened or read as its format, 4 memory, a device or a thread.\n\n\
 Example: abd check examples/two_calls.history examples/two_calls.orders",
 };
 
+/// Of the option `--key` of `abd decide`.
+pub const DECIDED_KEYS: &str = "A key to decide; more may be named by further --key";
+
+/// Of the option `--most` of `abd decide`.
+pub const REASONS: &str = "How many keys that aren't atomic are explained, 0 to 10,000";
+
+/// Of `abd decide`.
+pub const DECIDE: CommandHelp = CommandHelp {
+    about: "Decide, key by key, by the values alone whether there is an order at all",
+    after: "\
+Prints one line a key: `KEY: atomic`, `KEY: not atomic` and why no order of its calls is possible, or \
+`KEY: undecided` where a read answers what two writes wrote and no fault is found; keys hall by hall, in each in the \
+order in which the history first sees them. A `not atomic` is final: no other order is one. Below the first such \
+keys stand the calls that show it, with the lines of HISTORY, and how many reads are stale. Notes aren't needed; \
+where values leave a key undecided its tags are tried. HISTORY is of version 1 or 2. It may be /dev/stdin, for what \
+is piped in.\nExit status: 0 all atomic, 1 a key isn't or no such key, 2 usage, 3 the file can't be opened or read as \
+its format, 4 memory or a device, 5 none isn't and one is undecided.\n\n\
+Example: abd decide examples/two_calls.history",
+};
+
 /// Of the option `--key` of `abd draw`.
 pub const DRAWN_KEY: &str = "The only key to draw";
 
@@ -73,9 +93,9 @@ pub const DRAW: CommandHelp = CommandHelp {
 Writes one page of HTML, for any browser, with all pictures in it: a table of the keys, refused ones first, and \
 for each key a picture with a lane a client and a bar a call, from its invocation to its response. A `yes` has a point \
 in each bar, in the order that shows it; a `no` has its calls marked, below the sentences of `abd explain`. Without \
-ORDERS the orders that the tags make are drawn. Of a faulty file standard error says why, as `abd explain` does. HISTORY is of version 1 or 2. One of the files may be /dev/stdin, for \
-what is piped in.\nExit status: 0 all yes, 1 a key refused or no such key, 2 usage, 3 a file can't be opened or read \
-as its format, 4 memory or a device.\n\n\
+ORDERS the orders that the tags make are drawn. Of a faulty file standard error says why, as `abd explain` does. \
+HISTORY is of version 1 or 2. One of the files may be /dev/stdin, for what is piped in.\nExit status: 0 all yes, 1 a \
+key refused or no such key, 2 usage, 3 a file can't be opened or read as its format, 4 memory or a device.\n\n\
 Example: abd draw examples/two_calls.history examples/two_calls.orders > two_calls.html",
 };
 

@@ -10,6 +10,6 @@ mod help;
 mod lines;
 mod words;
 
-pub use asked::{CheckAsked, Command, DrawAsked, KeysAsked, Usage};
+pub use asked::{CheckAsked, Command, DecideAsked, DrawAsked, KeysAsked, Usage};
 pub use lines::Lines;
 pub use words::command;

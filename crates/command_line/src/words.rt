@@ -5,9 +5,10 @@ ghost use Rattle.clap.specs.Words.{first_of, found_of, kind_of, rows_of, subcomm
 ghost use Rattle.command_line.specs.Words.{Asks, AsksAround, AsksForm, AsksKeys, AsksMost};
 ghost use Rattle.command_line.specs.Words.{AsksNothing, AsksNumber, Finds, GivesFlag, HasWords};
 ghost use Rattle.command_line.specs.Words.{IsSaid, IsUsageOf, MakesAs, MakesNothing, MakesOf};
+ghost use Rattle.command_line.specs.Words.{texts_given};
 ghost use Rattle.command_line.specs.declared.asked.Command.{Command};
 
-use crate::asked::{CheckAsked, Command, DrawAsked, KeysAsked, Usage};
+use crate::asked::{CheckAsked, Command, DecideAsked, DrawAsked, KeysAsked, Usage};
 use crate::forms::abd_words;
 use crate::lines::Lines;
 use clap::error::ErrorKind;
@@ -97,6 +98,47 @@ fn check_in<'a>(matches: &ArgMatches<'a>) -> Option<Command<'a>>
         workers,
         form,
     }))
+}
+
+/// The texts after each option of that name, in their order.
+fn texts_in<'a>(
+    alloc: Global,
+    matches: &ArgMatches<'a>,
+    name: &str,
+) -> Result<Vec<&'a str>, AllocError>
+    ensures { IfOk result (λ texts. map (λ text. text.now) texts.items
+        ≡ texts_given name.now (rows_of (found_of matches.now))) }
+{
+    match matches.get_strs(name) {
+        Some(texts) => Vec::from_slice(alloc, texts),
+        None => Ok(Vec::new(alloc)),
+    }
+}
+
+/// `decide`, of the words after its name.
+fn decide_in<'a>(alloc: Global, matches: &ArgMatches<'a>) -> Result<Command<'a>, Usage>
+    ensures makes { MatchResult result (MakesAs (codes "decide") (rows_of (found_of matches.now)))
+        (MakesNothing ((command : Command)
+        → MakesAs (codes "decide") (rows_of (found_of matches.now)) command → ⊥)) }
+    ensures said { IfErr result IsSaid }
+{
+    let Some(history) = text_in(matches, "HISTORY") else {
+        return Err(no_command(alloc));
+    };
+    let Some(count) = number_in(matches, "most", 0, 10000) else {
+        return Err(no_command(alloc));
+    };
+    let most = count as u16;
+    let form = form_in(matches);
+    match texts_in(alloc, matches, "key") {
+        Ok(keys) => Ok(Command::Decide(DecideAsked {
+            history,
+            keys,
+            most,
+            form,
+        })),
+        Err(_) => Err(Usage::Memory),
+    }
 }
 
 /// The number of the call that is named, if one is.
@@ -226,7 +268,8 @@ fn fault_of(alloc: Global, fault: RunFault) -> Usage
 
 /// The command of that name, where it is one that reads files.
 fn made_in<'a>(name: &str, matches: &ArgMatches<'a>) -> Option<Command<'a>>
-    requires { name.now ≡ codes "run" → ⊥ }
+    requires decides { name.now ≡ codes "decide" → ⊥ }
+    requires runs { name.now ≡ codes "run" → ⊥ }
     ensures { Finds result (MakesAs name.now (rows_of (found_of matches.now))) }
 {
     if name == "check" {
@@ -256,6 +299,9 @@ fn command_in<'a>(alloc: Global, matches: &ArgMatches<'a>) -> Result<Command<'a>
     let Some((name, found)) = matches.subcommand() else {
         return Err(no_command(alloc));
     };
+    if name == "decide" {
+        return decide_in(alloc, found);
+    }
     if name == "run" {
         return asked_run(alloc, found);
     }

@@ -220,11 +220,12 @@ fn say_file(rt: &(impl Threads + Wait + Sync), out: &mut Answer, asked: Asked<'_
         file: file.as_slice(),
         orders: &[],
         selection: asked.selection(),
+        decided: asked.value("keys"),
     };
     say_one(rt, out, asked, input);
 }
 
-/// `simulate` and `trace`: each line is a script. `justify` and `explain-tags`: the lines are a history.
+/// `simulate` and `trace`: each line is a script. `justify`, `decide` and `explain-tags`: the lines are a history.
 /// `check` and `explain`: the lines up to `orders:` are a history, those from each such line on are orders.
 pub fn say_command_row(rt: &(impl Threads + Wait + Sync), out: &mut Answer, asked: Asked<'_>) {
     match asked.kind() {
@@ -233,7 +234,7 @@ pub fn say_command_row(rt: &(impl Threads + Wait + Sync), out: &mut Answer, aske
                 say_file(rt, out, asked, line);
             }
         }
-        "justify" | "explain-tags" => say_file(rt, out, asked, asked.lines),
+        "justify" | "decide" | "explain-tags" => say_file(rt, out, asked, asked.lines),
         _ => say_checks(rt, out, asked),
     }
 }
@@ -251,6 +252,7 @@ fn say_orders_checked(
         file,
         orders: orders.as_slice(),
         selection: asked.selection(),
+        decided: asked.value("keys"),
     };
     say_one(rt, out, asked, input);
 }
@@ -302,6 +304,7 @@ fn say_statuses(rt: &(impl Threads + Wait + Sync), out: &mut Answer, lines: &str
         file: script.as_slice(),
         orders: &[],
         selection: ALL_KEYS,
+        decided: "",
     };
     let simulated = run(rt, alloc, "simulate", input, WELL);
     let input = Input {

@@ -56,7 +56,7 @@ fn say_file_row(rt: &(impl Threads + Wait + Sync), out: &mut Answer, asked: Aske
 /// What comes of other rows.
 fn say_row(rt: &(impl Threads + Wait + Sync), out: &mut Answer, asked: Asked<'_>) {
     match asked.kind() {
-        "simulate" | "trace" | "justify" | "check" | "explain" | "explain-tags" => {
+        "simulate" | "trace" | "justify" | "check" | "decide" | "explain" | "explain-tags" => {
             say_command_row(rt, out, asked)
         }
         "seeds" => say_seeds(rt, out, asked),

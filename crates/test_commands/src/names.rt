@@ -1,12 +1,12 @@
 //! Rows of names of files, as a terminal is shown them.
 use crate::notation::bytes_of;
-use cli::shown_name;
+use sentences::shown_text;
 use test_rows::Answer;
 
 /// The name that those bytes are, as a terminal is shown it.
 fn say_name(out: &mut Answer, bytes: &[u8]) {
     match std::str::from_utf8(bytes) {
-        Ok(name) => match shown_name(out.alloc(), name) {
+        Ok(name) => match shown_text(out.alloc(), name) {
             Ok(shown) => out.push(shown.as_str()),
             Err(_) => out.refuse(),
         },

@@ -1,21 +1,24 @@
 //! Runs of single commands.
 use crate::formats::Counting;
 use cli::{Lines, Source, Status, check_command, justify_command, simulate_command};
+use decide_command::{Deciding, decide_command};
 use explain_command::{Selection, judge_orders_command, judge_tags_command};
 use parallel_keys::Workers;
-use std::alloc::Global;
+use std::alloc::{AllocError, Global};
 use std::io::ErrorKind;
 use std::sync::Wait;
 use std::thread::Threads;
 use test_rows::{AMPLE, Outputs, Pieces, Said};
 use trace_command::trace_command;
 
-/// What a command reads: a script or a history, and orders where it needs some; and which keys it explains.
+/// What a command reads: a script or a history, and orders where it needs some; which keys it explains; and the names of
+/// the keys that it decides, with commas between them, or none for all.
 #[derive(Clone, Copy)]
 pub struct Input<'a> {
     pub file: &'a [u8],
     pub orders: &'a [u8],
     pub selection: Selection<'a>,
+    pub decided: &'a str,
 }
 
 /// All keys, and a reason for each of the first ten that are refused.
@@ -69,6 +72,18 @@ fn file<'a>(
     )
 }
 
+/// The names, of which the text has commas between.
+fn names_in(alloc: Global, text: &str) -> Result<Vec<&str>, AllocError> {
+    let mut names = Vec::new(alloc);
+    if text.is_empty() {
+        return Ok(names);
+    }
+    for name in text.split(',') {
+        names.push(name)?;
+    }
+    Ok(names)
+}
+
 /// What comes of the command of that name. A script is named `s`, a history `h`, and orders `o`.
 pub fn run(
     rt: &(impl Threads + Wait + Sync),
@@ -96,6 +111,17 @@ pub fn run(
             judge_orders_command(rt, alloc, &mut first, &mut orders, &keys, out, errors)
         }
         "explain-tags" => judge_tags_command(rt, alloc, &mut first, &keys, out, errors),
+        "decide" => match names_in(alloc, input.decided) {
+            Ok(names) => {
+                let deciding = Deciding {
+                    keys: names.as_slice(),
+                    most: keys.most,
+                    form: way.form,
+                };
+                decide_command(rt, alloc, &mut first, &deciding, out, errors)
+            }
+            Err(_) => Status::Failed,
+        },
         _ => {
             let form = way.form;
             check_command(

@@ -1,6 +1,6 @@
 //! Rows of command lines.
 use client_phases::ReadMode;
-use command_line::{CheckAsked, Command, DrawAsked, KeysAsked, Lines, Usage, command};
+use command_line::{CheckAsked, Command, DecideAsked, DrawAsked, KeysAsked, Lines, Usage, command};
 use run_options::{RunAsked, Shown};
 use std::alloc::{AllocError, Global};
 use test_rows::{Answer, text_said, words_of};
@@ -35,13 +35,18 @@ fn say_run(out: &mut Answer, asked: &RunAsked) {
     }
 }
 
+/// The form of the lines.
+fn form_said(form: Lines) -> &'static str {
+    match form {
+        Lines::Plain => "",
+        Lines::Json => ", JSON",
+    }
+}
+
 /// The files that are to be checked, by how many workers, and the form of the lines.
 fn say_check(out: &mut Answer, asked: &CheckAsked<'_>) {
     let (history, orders, count) = (asked.history, asked.orders, asked.workers.count());
-    let form = match asked.form {
-        Lines::Plain => "",
-        Lines::Json => ", JSON",
-    };
+    let form = form_said(asked.form);
     write!(
         out,
         "check of [{history}] and [{orders}], workers: {count}{form}\n"
@@ -70,9 +75,22 @@ fn say_drawing(out: &mut Answer, asked: &DrawAsked<'_>) {
     out.push("\n");
 }
 
+/// Which keys are decided, how many of them are explained, and in which form.
+fn say_decision(out: &mut Answer, asked: &DecideAsked<'_>) {
+    let (history, most) = (asked.history, asked.most);
+    let form = form_said(asked.form);
+    write!(out, "decide of [{history}]");
+    for key in &asked.keys {
+        write!(out, ", key [{key}]");
+    }
+    write!(out, ", most {most}{form}\n");
+}
+
+/// What the command asks for.
 fn say_asked(out: &mut Answer, asked: &Command<'_>) {
     match asked {
         Command::Check(asked) => say_check(out, asked),
+        Command::Decide(asked) => say_decision(out, asked),
         Command::Draw(asked) => say_drawing(out, asked),
         Command::Explain(asked) => {
             say_keys(out, "explain", asked);

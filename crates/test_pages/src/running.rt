@@ -53,9 +53,12 @@ fn ran(
     first: &str,
     orders: &str,
 ) -> Option<Said<Status>> {
-    match command(alloc, words) {
-        Ok(Command::Draw(asked)) => Some(drawn(rt, alloc, &asked, first, orders)),
-        Ok(Command::TracePage { most, .. }) => Some(traced(rt, alloc, first, most)),
+    let Ok(asked) = command(alloc, words) else {
+        return None;
+    };
+    match &asked {
+        Command::Draw(asked) => Some(drawn(rt, alloc, asked, first, orders)),
+        Command::TracePage { most, .. } => Some(traced(rt, alloc, first, *most)),
         _ => None,
     }
 }

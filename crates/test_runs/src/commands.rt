@@ -24,8 +24,11 @@ pub fn asked_of(out: &mut Answer, line: &str) -> Option<RunAsked> {
 fn asked_in(out: &mut Answer, line: &str) -> Option<RunAsked> {
     let words = words_of(out, line, ' ');
     match command(out.alloc(), words.as_slice()) {
-        Ok(Command::Run(asked)) => Some(asked),
-        _ => None,
+        Ok(asked) => match &asked {
+            Command::Run(asked) => Some(*asked),
+            _ => None,
+        },
+        Err(_) => None,
     }
 }
 

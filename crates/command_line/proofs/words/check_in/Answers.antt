@@ -10,7 +10,7 @@ use Rattle.command_line.proofs.words.check_in.Goals as goal
 -- the rows make no `check`, and so no command of that name
 not_check : (rows : List Row) → ((history orders : Text) (workers : ℕ) → NamesFiles rows history orders → AsksWorkers rows workers → ⊥) → (command : Command) → MakesAs (codes "check") rows command → ⊥
 not_check rows none command makes = by_name (λ c. Makes rows c → ⊥) (codes "check")
-    (λ asked is makes. none asked.history.now asked.orders.now asked.workers makes.0 makes.1) (λ a is. absurd (differ _ _ refl is)) (λ a is. absurd (differ _ _ refl is)) (λ h u is. absurd (differ _ _ refl is))
+    (λ asked is makes. none asked.history.now asked.orders.now asked.workers makes.0 makes.1) (λ a is. absurd (differ _ _ refl is)) (λ a is. absurd (differ _ _ refl is)) (λ a is. absurd (differ _ _ refl is)) (λ h u is. absurd (differ _ _ refl is))
     (λ s is. absurd (differ _ _ refl is)) (λ s m is. absurd (differ _ _ refl is)) (λ s m is. absurd (differ _ _ refl is)) (λ a is. absurd (differ _ _ refl is))
     command makes.0 makes.1
 

@@ -6,13 +6,13 @@ use Rattle.command_line.specs.Words.{AsksAround, AsksDrawing, AsksKeys, AsksNumb
 use Rattle.command_line.specs.declared.asked.Command.{Command}
 use Rattle.command_line.specs.declared.asked.DrawAsked.{DrawAsked}
 use Rattle.command_line.specs.declared.asked.KeysAsked.{KeysAsked}
-use Rattle.command_line.proofs.CommandNames.{by_name, differ}
+use Rattle.command_line.proofs.CommandNames.{by_name, differ, differ_at}
 use Rattle.command_line.proofs.words.draw_in.Goals as goal
 
 -- the rows make no `draw`, and so no command of that name
 not_draw : (rows : List Row) → ((asked : DrawAsked) → AsksDrawing rows asked → ⊥) → (command : Command) → MakesAs (codes "draw") rows command → ⊥
 not_draw rows none command makes = by_name (λ c. Makes rows c → ⊥) (codes "draw")
-    (λ a is. absurd (differ _ _ refl is)) (λ asked is makes. none asked makes) (λ a is. absurd (differ _ _ refl is))
+    (λ a is. absurd (differ _ _ refl is)) (λ a is. absurd (differ_at 1 _ _ refl is)) (λ asked is makes. none asked makes) (λ a is. absurd (differ _ _ refl is))
     (λ h u is. absurd (differ _ _ refl is)) (λ s is. absurd (differ _ _ refl is)) (λ s m is. absurd (differ _ _ refl is)) (λ s m is. absurd (differ _ _ refl is))
     (λ a is. absurd (differ _ _ refl is)) command makes.0 makes.1
 

@@ -10,7 +10,7 @@ use Rattle.command_line.proofs.words.explain_in.Goals as goal
 -- the rows make no `explain`, and so no command of that name
 not_explain : (rows : List Row) → ((asked : KeysAsked) → AsksKeys rows asked → ⊥) → (command : Command) → MakesAs (codes "explain") rows command → ⊥
 not_explain rows none command makes = by_name (λ c. Makes rows c → ⊥) (codes "explain")
-    (λ a is. absurd (differ _ _ refl is)) (λ a is. absurd (differ _ _ refl is)) (λ asked is makes. none asked makes)
+    (λ a is. absurd (differ _ _ refl is)) (λ a is. absurd (differ _ _ refl is)) (λ a is. absurd (differ _ _ refl is)) (λ asked is makes. none asked makes)
     (λ h u is. absurd (differ _ _ refl is)) (λ s is. absurd (differ _ _ refl is)) (λ s m is. absurd (differ _ _ refl is)) (λ s m is. absurd (differ _ _ refl is))
     (λ a is. absurd (differ _ _ refl is)) command makes.0 makes.1
 

@@ -9,7 +9,7 @@ use Rattle.command_line.proofs.words.justify_in.Goals as goal
 
 no_history : (rows : List Row) → first_of (codes "HISTORY") rows ≡ None → (command : Command) → MakesAs (codes "justify") rows command → ⊥
 no_history rows none command makes = by_name (λ c. Makes rows c → ⊥) (codes "justify")
-    (λ a is. absurd (differ _ _ refl is)) (λ a is. absurd (differ _ _ refl is)) (λ a is. absurd (differ _ _ refl is)) (λ h u is makes. none_some (sym none ∙ makes.history_named))
+    (λ a is. absurd (differ _ _ refl is)) (λ a is. absurd (differ _ _ refl is)) (λ a is. absurd (differ _ _ refl is)) (λ a is. absurd (differ _ _ refl is)) (λ h u is makes. none_some (sym none ∙ makes.history_named))
     (λ s is. absurd (differ _ _ refl is)) (λ s m is. absurd (differ _ _ refl is)) (λ s m is. absurd (differ _ _ refl is)) (λ a is. absurd (differ _ _ refl is))
     command makes.0 makes.1
 

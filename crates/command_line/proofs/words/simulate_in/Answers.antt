@@ -9,7 +9,7 @@ use Rattle.command_line.proofs.words.simulate_in.Goals as goal
 
 no_script : (rows : List Row) → first_of (codes "SCRIPT") rows ≡ None → (command : Command) → MakesAs (codes "simulate") rows command → ⊥
 no_script rows none command makes = by_name (λ c. Makes rows c → ⊥) (codes "simulate")
-    (λ a is. absurd (differ _ _ refl is)) (λ a is. absurd (differ _ _ refl is)) (λ a is. absurd (differ _ _ refl is)) (λ h u is. absurd (differ _ _ refl is))
+    (λ a is. absurd (differ _ _ refl is)) (λ a is. absurd (differ _ _ refl is)) (λ a is. absurd (differ _ _ refl is)) (λ a is. absurd (differ _ _ refl is)) (λ h u is. absurd (differ _ _ refl is))
     (λ s is makes. none_some (sym none ∙ makes)) (λ s m is. absurd (differ _ _ refl is)) (λ s m is. absurd (differ _ _ refl is)) (λ a is. absurd (differ _ _ refl is))
     command makes.0 makes.1
 

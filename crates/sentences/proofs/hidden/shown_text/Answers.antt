@@ -8,5 +8,5 @@ pub from_utf8_unchecked-requires : goal.from_utf8_unchecked-requires
 from_utf8_unchecked-requires c =
     let words = c.args.words.now in
     let bytes : c.append_shown_text.new.text.items ≡ shown_text words =
-        c.in_ok-append_shown_text.ensures ∙ ap (λ (l : List ℕ). l ++ shown_text words) c.new-text.ensures.items in
+    c.in_ok-append_shown_text.ensures ∙ ap (λ (l : List ℕ). l ++ shown_text words) c.new-text.ensures.items in
     rw bytes (text_is_shown words c.utf8.words).utf8

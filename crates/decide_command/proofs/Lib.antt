@@ -1,0 +1,7 @@
+mod TagOrders
+mod Spelling
+mod Telling
+mod Reporting
+mod Naming
+mod Whole
+mod Findings

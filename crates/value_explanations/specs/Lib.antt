@@ -1,0 +1,3 @@
+pub mod ValueReasons
+pub mod ValueSentences
+pub mod Pieces
