@@ -1,26 +1,25 @@
 -- Calls sorted by their families are an order, if no two families cross and no read of nothing is late.
-use Rattle.std.proofs.Common.{ℕ, zero, suc, ◌≡◌, ◌≢◌, ◌<◌, ◌≤◌, ◌+◌, ◌*◌, ◌⊎◌, inl, inr, min, List, Option, Some, None, Bool, true, false, true≢false, length, sym, ◌∙◌, ap, subst, refl, arith}
+use Rattle.std.proofs.Common.{ℕ, ◌≡◌, ◌≢◌, ◌<◌, ◌≤◌, ◌+◌, ◌*◌, ◌⊎◌, inl, inr, min, List, Option, Some, None, Bool, true, false, true≢false, length, sym, ◌∙◌, ap, subst, refl, arith}
 use Rattle.std.specs.List.{slice_get, Contains}
 use Rattle.std.proofs.lemmas.Bool.{cases_lt, cases_eq}
-use Rattle.std.proofs.lemmas.Option.{same_Some, slice_get_within, none-some}
-use Rattle.tag.specs.declared.actions.Action.TheVariants.{Read, Write}
-use Rattle.tag.specs.declared.actions.Returned.TheVariants.{Value}
+use Rattle.std.proofs.lemmas.Option.{same_Some, slice_get_within}
+use Rattle.tag.specs.declared.actions.Action.TheVariants.{Read}
 use Rattle.tag.specs.declared.numbers.OpId.{OpId}
 use Rattle.tag.proofs.Lists.{place_of, Contains-slice_get, get_at}
 use Rattle.tag_check.specs.Least.{HasNoPair}
 use Rattle.recorder.specs.declared.part.Call.{Call}
 use Rattle.recorder.specs.declared.part.Response.{Response}
 use Rattle.recorder.specs.Parts.{IsSequence, IsCompleted, IsPending, Precedes}
-use Rattle.recorder.specs.Orders.{StandsAt, WritesAt, NoWriteFrom, IsLastWritten, AnswersLast, IsLegal, IsOrder}
-use Rattle.recorder.specs.Sound.{IsRead, IsWrite}
-use Rattle.recorder.proofs.Sequences.{same_call, same_index}
+use Rattle.recorder.specs.Orders.{StandsAt, NoWriteFrom, IsLegal, IsOrder}
+use Rattle.recorder.specs.Sound.{IsWrite}
+use Rattle.recorder.proofs.Sequences.{same_call}
 use Rattle.value_order.specs.declared.keys.SortKey.{SortKey}
 use Rattle.value_order.specs.declared.zones.Zone.{Zone}
-use Rattle.value_order.specs.Writers.{AnswersValue, AnswersNothing, IsWriter}
+use Rattle.value_order.specs.Writers.{IsWriter}
 use Rattle.value_order.specs.Families.{IsOfFamily, IsAnsweredBy, IsMemberBy}
 use Rattle.value_order.specs.Faults.{ShowsValue, IsLateNothing}
-use Rattle.value_order.specs.Keys.{ComesFirst, HasRank, IsNothingKey, IsMemberKey, IsCallKey, IsListed, IsByFamilies}
-use Rattle.value_order.specs.Zones.{rank_of, IsZone, EndsAt, BeginsAt, AreZones, CrossAt, NoneCross, IsLastRow}
+use Rattle.value_order.specs.Keys.{ComesFirst, HasRank, IsNothingKey, IsMemberKey, IsListed, IsByFamilies}
+use Rattle.value_order.specs.Zones.{rank_of, AreZones, NoneCross, IsLastRow}
 use Rattle.value_order.proofs.Crosses.{cross_by_rank}
 use Rattle.value_order.proofs.KeyOrder.{rank_at_most}
 use Rattle.value_order.proofs.CallKinds.{not_both, not_answered, index_of, call_at}

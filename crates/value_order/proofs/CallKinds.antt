@@ -1,5 +1,5 @@
 -- What a call can't be at once.
-use Rattle.std.proofs.Common.{ℕ, ◌≡◌, ◌≢◌, ◌<◌, ◌≤◌, ◌⊎◌, inl, inr, List, Option, Some, None, sym, ◌∙◌, ap, subst, refl, arith}
+use Rattle.std.proofs.Common.{ℕ, ◌≡◌, ◌⊎◌, inl, inr, List, Option, Some, None, sym, ◌∙◌, ap, subst, refl}
 use Rattle.std.specs.List.{slice_get, Contains}
 use Rattle.std.proofs.lemmas.Option.{same_Some, none-some}
 use Rattle.tag.specs.declared.actions.Action.{Action}
@@ -11,9 +11,9 @@ use Rattle.recorder.specs.Parts.{IsSequence, IsPending}
 use Rattle.recorder.specs.Sound.{IsRead, IsWrite}
 use Rattle.recorder.specs.States.{place_in}
 use Rattle.recorder.proofs.Sequences.{same_index}
-use Rattle.value_order.specs.Writers.{AnswersValue, AnswersNothing, IsWriter, IsOnlyWriter, IsInDoubt}
+use Rattle.value_order.specs.Writers.{AnswersValue, AnswersNothing, IsOnlyWriter, IsInDoubt}
 use Rattle.value_order.specs.Families.{IsOfFamily}
-use Rattle.value_order.specs.Faults.{AnswersUnwritten, EndsTooEarly}
+use Rattle.value_order.specs.Faults.{AnswersUnwritten}
 
 -- a call reads or writes, and not both
 pub read_or_write : (call : Call) → IsRead call ⊎ IsWrite call

@@ -1,10 +1,10 @@
 -- How many calls of a part have a property.
-use Rattle.std.proofs.Common.{ℕ, zero, suc, ◌≡◌, ◌<◌, ◌≤◌, ◌+◌, ◌↔◌, ◌⊎◌, inl, inr, Bool, true, false, true≢false, IsTrue, List, [], ◌∷◌, ◌++◌, Option, Some, None, is_some, min, nat_lt, take, length, add-one, sym, ◌∙◌, ap, subst, refl, arith}
-use Rattle.std.specs.List.{slice_get, Contains}
+use Rattle.std.proofs.Common.{ℕ, ◌≡◌, ◌<◌, ◌≤◌, ◌+◌, ◌↔◌, inl, inr, Bool, true, false, true≢false, IsTrue, List, [], ◌∷◌, ◌++◌, Option, Some, None, is_some, min, nat_lt, take, length, add-one, sym, ◌∙◌, ap, subst, refl, arith}
+use Rattle.std.specs.List.{slice_get}
 use Rattle.std.proofs.lemmas.Bool.{cases_lt, false≢true}
 use Rattle.std.proofs.lemmas.Bool.Decides.{nat_tests}
 use Rattle.std.proofs.lemmas.List.{take_all}
-use Rattle.std.proofs.lemmas.Option.{same_Some, slice_get_within, none-some}
+use Rattle.std.proofs.lemmas.Option.{slice_get_within, none-some}
 use Rattle.tag.proofs.Lists.{place_of, take_push, Contains-slice_get}
 use Rattle.recorder.specs.declared.part.Call.{Call}
 use Rattle.tag.specs.declared.actions.Action.{Action}
@@ -16,7 +16,7 @@ use Rattle.recorder.specs.States.{is_write, place_in}
 use Rattle.value_order.specs.declared.sources.Source.{Source}
 use Rattle.value_order.specs.declared.sources.Source.TheVariants as source
 use Rattle.value_order.specs.Ended.{WriteEnds, IsFirstWriteEnd}
-use Rattle.value_order.specs.Faults.{IsStaleValue, IsStaleNothing, IsStale}
+use Rattle.value_order.specs.Faults.{IsStale}
 use Rattle.value_order.specs.Sources.{IsSource}
 use Rattle.value_order.specs.Stales.{IsOverwriter, IsAnsweredRead, IsCount}
 use Rattle.value_order.specs.Writers.{AnswersNothing}

@@ -9,7 +9,7 @@ use Rattle.value_order.specs.declared.zones.Zone.{Zone}
 use Rattle.value_order.specs.Crossing.{HasCrossing, AreFamilyKeys, AreRanked}
 use Rattle.value_order.specs.Keys.{HasRank, key_cmp}
 use Rattle.value_order.specs.Zones.{rank_of, Cross, CrossAt, NoneCross}
-use Rattle.value_order.proofs.KeyOrder.{AreSorted, are_sorted, rank_at_most}
+use Rattle.value_order.proofs.KeyOrder.{are_sorted, rank_at_most}
 
 -- of two families the one that ranks no lower ends before the other's last begin: then the other does too
 pub cross_by_rank : (end_a last_a end_b last_b : ℕ) → min (2 * last_a + 1) (2 * end_a + 2) ≤ min (2 * last_b + 1) (2 * end_b + 2) → end_b < last_a → end_a < last_b

@@ -1,14 +1,13 @@
 -- What is decided is so.
-use Rattle.std.proofs.Common.{ℕ, ◌≡◌, ◌≢◌, ◌<◌, ◌≤◌, ◌+◌, ◌↔◌, ◌⊎◌, inl, inr, List, Option, Some, None, Result, Ok, Err, IfOk, length, sym, ◌∙◌, ap, subst, refl, arith}
+use Rattle.std.proofs.Common.{ℕ, ◌≡◌, inl, inr, List, Some, Result, Ok, Err, IfOk, refl, arith}
 use Rattle.std.specs.List.{slice_get, Contains}
-use Rattle.std.proofs.lemmas.Option.{same_Some, slice_get_within}
+use Rattle.std.proofs.lemmas.Option.{slice_get_within}
 use Rattle.tag.specs.declared.memory.Memory.{Memory}
 use Rattle.tag.specs.declared.numbers.OpId.{OpId}
 use Rattle.tag.proofs.Lists.{place_of, Contains-slice_get, get_at}
-use Rattle.tag_check.specs.Least.{LacksCall, HasNoPair}
+use Rattle.tag_check.specs.Least.{LacksCall}
 use Rattle.recorder.specs.declared.part.Call.{Call}
-use Rattle.recorder.specs.declared.part.Response.{Response}
-use Rattle.recorder.specs.Orders.{IsOrder, IsLinearizable}
+use Rattle.recorder.specs.Orders.{IsLinearizable}
 use Rattle.recorder.specs.Parts.{IsSequence, IsCompleted}
 use Rattle.value_order.specs.declared.decision.Decision.{Decision}
 use Rattle.value_order.specs.declared.decision.Decision.TheVariants as decision
@@ -17,21 +16,20 @@ use Rattle.value_order.specs.declared.decision.ValueFault.TheVariants as fault
 use Rattle.value_order.specs.declared.sources.Source.{Source}
 use Rattle.value_order.specs.declared.sources.Source.TheVariants as source
 use Rattle.value_order.specs.declared.zones.Zone.{Zone}
-use Rattle.value_order.specs.Decisions.{IsFault, LacksReadFaults, IsDecision, IsAtomic, IsExact, ListsNeeded}
-use Rattle.value_order.specs.Families.{IsOfFamily, IsAnsweredBy, HasNoneOpposed, AreOpposed}
+use Rattle.value_order.specs.Decisions.{IsFault, LacksReadFaults, IsDecision, IsExact}
+use Rattle.value_order.specs.Families.{IsOfFamily, IsAnsweredBy, HasNoneOpposed}
 use Rattle.value_order.specs.Keys.{IsListed, IsByFamilies}
-use Rattle.value_order.specs.Rows.{HasOpposedBy}
 use Rattle.value_order.specs.SortKeys.{HaveZones}
 use Rattle.value_order.specs.Sources.{IsSource, AreSources}
-use Rattle.value_order.specs.Writers.{IsWriter, IsOnlyWriter, IsInDoubt, HasOneWriter}
-use Rattle.value_order.specs.Zones.{IsLastRow, IsZone, EndsAt, AreZones, NoneCross}
+use Rattle.value_order.specs.Writers.{IsWriter, IsOnlyWriter, IsInDoubt}
+use Rattle.value_order.specs.Zones.{IsLastRow, AreZones, NoneCross}
 use Rattle.value_order.proofs.ByFamilies.{order_by_families, needed}
 use Rattle.value_order.proofs.CallKinds.{not_answered}
 use Rattle.value_order.proofs.Members.{two_writers, source_family}
 use Rattle.value_order.proofs.Places.{only_answered}
 use Rattle.value_order.proofs.Refutations.{unwritten_refutes, early_refutes, late_refutes, stale_refutes, opposed_refutes}
 use Rattle.value_order.proofs.ZoneRows.{opposed_by_row, opposed_by_last, first_at_most}
-use Rattle.value_order.proofs.LeastRows.{none_opposed_by, has_opposed}
+use Rattle.value_order.proofs.LeastRows.{none_opposed_by}
 
 only_writer : (part : List Call) (write read : Call) → IsOnlyWriter part write read → IsWriter part write read
 only_writer part write read o = o.writer

@@ -1,23 +1,22 @@
 -- What a fault says of the source of its read.
-use Rattle.std.proofs.Common.{ℕ, ◌≡◌, ◌≢◌, ◌<◌, ◌≤◌, ◌+◌, ◌⊎◌, inl, inr, List, Option, Some, None, length, sym, ◌∙◌, ap, subst, refl, arith}
+use Rattle.std.proofs.Common.{ℕ, ◌≡◌, ◌≢◌, ◌≤◌, inl, inr, List, Some, sym, ◌∙◌, ap, subst, refl, arith}
 use Rattle.std.specs.List.{slice_get, Contains}
 use Rattle.std.proofs.lemmas.Bool.{cases_lt}
-use Rattle.std.proofs.lemmas.Option.{same_Some, slice_get_within}
+use Rattle.std.proofs.lemmas.Option.{same_Some}
 use Rattle.tag.specs.declared.numbers.OpId.{OpId}
-use Rattle.tag.proofs.Lists.{place_of, Contains-slice_get, get_at}
-use Rattle.tag_check.specs.Least.{LacksCall, IsLeastCall, IsLeastPair, HasPartner, HasNoPair}
+use Rattle.tag.proofs.Lists.{place_of, Contains-slice_get}
+use Rattle.tag_check.specs.Least.{IsLeastCall, IsLeastPair, HasPartner}
 use Rattle.tag_check.proofs.Calls.{NoneBelow, first_here}
 use Rattle.recorder.specs.declared.part.Call.{Call}
 use Rattle.recorder.specs.Parts.{IsSequence}
-use Rattle.recorder.specs.Sound.{IsRead, IsWrite}
 use Rattle.value_order.specs.declared.decision.Doubt.{Doubt}
 use Rattle.value_order.specs.declared.sources.Source.{Source}
 use Rattle.value_order.specs.declared.sources.Source.TheVariants as source
 use Rattle.value_order.specs.Doubts.{AreNamed, IsDoubtOf, IsLeastDoubt}
 use Rattle.value_order.specs.Faults.{AnswersUnwritten, EndsTooEarly}
-use Rattle.value_order.specs.Sources.{HasLeastWriters, EndsBefore, IsSource, AreSources}
-use Rattle.value_order.specs.Writers.{AnswersNothing, IsWriter, IsOnlyWriter, IsInDoubt}
-use Rattle.value_order.proofs.CallKinds.{not_both, not_answered, nothing_no_value, nothing_not_unwritten, written_not_unwritten, doubt_not_only, index_of}
+use Rattle.value_order.specs.Sources.{HasLeastWriters, EndsBefore, IsSource}
+use Rattle.value_order.specs.Writers.{IsWriter, IsOnlyWriter, IsInDoubt}
+use Rattle.value_order.proofs.CallKinds.{not_both, not_answered, nothing_no_value, nothing_not_unwritten, written_not_unwritten, doubt_not_only}
 use Rattle.value_order.proofs.Members.{two_writers}
 
 -- 1

@@ -1,6 +1,6 @@
 -- The first read in doubt that is stale.
-use Rattle.std.proofs.Common.{ℕ, ◌≡◌, ◌≢◌, ◌<◌, ◌≤◌, ◌+◌, List, Option, Some, None, length, sym, ◌∙◌, ap, subst, refl, arith}
-use Rattle.std.specs.List.{slice_get, Contains}
+use Rattle.std.proofs.Common.{ℕ, ◌≡◌, List, Some, sym, ◌∙◌, ap, subst, refl}
+use Rattle.std.specs.List.{slice_get}
 use Rattle.tag.specs.declared.numbers.OpId.{OpId}
 use Rattle.tag.proofs.Lists.{Contains-slice_get}
 use Rattle.tag_check.specs.Least.{IsLeastCall}

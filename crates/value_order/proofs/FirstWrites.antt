@@ -1,5 +1,5 @@
 -- The first writes of values, call by call.
-use Rattle.std.proofs.Common.{ℕ, ◌≡◌, ◌≢◌, ◌<◌, ◌≤◌, ◌+◌, inl, inr, List, [], ◌∷◌, ◌++◌, Option, Some, None, Bool, true, false, cond, length, length-append, sym, ◌∙◌, ap, subst, refl, arith}
+use Rattle.std.proofs.Common.{ℕ, ◌≡◌, ◌+◌, inl, inr, List, [], ◌∷◌, ◌++◌, Option, Some, None, Bool, true, false, cond, length, sym, ◌∙◌, ap, subst, refl, arith}
 use Rattle.std.specs.List.{slice_get, Contains}
 use Rattle.std.specs.Option.{is_some}
 use Rattle.std.specs.Map.{update}
@@ -7,19 +7,16 @@ use Rattle.std.specs.Str.{bytes_eq}
 use Rattle.std.proofs.lemmas.Bool.{cases_lt, false≢true}
 use Rattle.std.proofs.lemmas.Slice.Eq.{bytes_eq-Decides}
 use Rattle.std.proofs.lemmas.Option.{same_Some, slice_get_within}
-use Rattle.tag.proofs.Lists.{place_of, Contains-slice_get, push_cases}
-use Rattle.tag.specs.declared.actions.Action.TheVariants.{Read, Write}
-use Rattle.tag.specs.declared.actions.Returned.{Returned}
+use Rattle.tag.proofs.Lists.{place_of, push_cases}
+use Rattle.tag.specs.declared.actions.Action.TheVariants.{Write}
 use Rattle.tag.specs.declared.actions.Returned.TheVariants.{Value, Written}
 use Rattle.recorder.specs.declared.part.Call.{Call}
 use Rattle.recorder.specs.declared.part.Response.{Response}
 use Rattle.recorder.specs.Sound.{IsRead}
 use Rattle.value_order.specs.declared.classes.Class.{Class}
 use Rattle.std.specs.Borrow.{Bor}
-use Rattle.std.specs.BTreeMap.{BTreeMap, get_by}
-use Rattle.std.specs.Cmp.Lexicographic.{slice_cmp}
-use Rattle.std.specs.Ordering.{nat_cmp}
-use Rattle.value_order.specs.Classes.{IsFirstWrite, IsFirstBelow, AreFirsts, IsClass, AreClasses}
+use Rattle.std.specs.HashMap.{HashMap, get_by}
+use Rattle.value_order.specs.Classes.{IsFirstWrite, IsFirstBelow, AreFirsts, IsClass}
 use Rattle.value_order.specs.Faults.{AnswersUnwritten}
 
 -- no call yet
@@ -62,7 +59,7 @@ updated part value text i call old at wrote none before = by (bytes_eq text valu
         subst (λ (b : Bool). IsFirstBelow part value (i + 1) (cond b (Some i) (old value))) (sym e) (below_same part value i call at (old value) other before)
 
 -- what a look-up finds
-pub first_of_get : (part : List Call) (n : ℕ) (firsts : BTreeMap (Bor (List ℕ)) ℕ) (text : List ℕ) → AreFirsts part n firsts → (got : Option ℕ) → got ≡ get_by (λ k. slice_cmp nat_cmp text k.now) firsts → IsFirstBelow part text n got
+pub first_of_get : {S : Type 0} (part : List Call) (n : ℕ) (firsts : HashMap (Bor (List ℕ)) ℕ S) (text : List ℕ) → AreFirsts part n firsts → (got : Option ℕ) → got ≡ get_by (λ k. bytes_eq text k.now) firsts → IsFirstBelow part text n got
 first_of_get part n firsts text are got e = subst (IsFirstBelow part text n) (sym e) (are text)
 
 -- of all calls: a write has a first one

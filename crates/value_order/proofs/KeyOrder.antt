@@ -1,5 +1,5 @@
 -- The order of keys: by rank, by family, a write before a read, then by number.
-use Rattle.std.proofs.Common.{ℕ, ◌≡◌, ◌<◌, ◌≤◌, ◌⊎◌, inl, inr, Bool, true, false, List, IsSorted, IsPermutation, get_or, length, nat_eq, ◌∙◌, ap, refl, arith, rules}
+use Rattle.std.proofs.Common.{ℕ, ◌≡◌, ◌<◌, ◌≤◌, ◌⊎◌, inl, inr, Bool, true, false, List, IsSorted, IsPermutation, get_or, nat_eq, ◌∙◌, ap, refl, arith, rules}
 use Rattle.std.proofs.lemmas.Grind.{common_steps}
 use Rattle.std.proofs.lemmas.Bool.Decides.{nat_tests}
 use Rattle.std.proofs.lemmas.Option.{slice_get_within, slice_get-get_or, get_or_from_slice_get}

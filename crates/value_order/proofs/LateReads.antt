@@ -1,15 +1,14 @@
 -- Reads of nothing, and the first call that ended of those that show a value.
-use Rattle.std.proofs.Common.{ℕ, ◌≡◌, ◌≢◌, ◌<◌, ◌≤◌, ◌+◌, ◌↔◌, ◌⊎◌, inl, inr, Bool, true, false, true≢false, IsTrue, List, Option, Some, None, length, sym, ◌∙◌, ap, subst, refl, arith}
+use Rattle.std.proofs.Common.{ℕ, ◌≡◌, ◌<◌, ◌≤◌, ◌+◌, ◌↔◌, inl, inr, Bool, true, false, true≢false, IsTrue, List, Option, Some, None, length, sym, ◌∙◌, ap, subst, refl, arith}
 use Rattle.std.specs.List.{slice_get, Contains}
 use Rattle.std.proofs.lemmas.Bool.{cases_lt, false≢true}
 use Rattle.std.proofs.lemmas.Option.{same_Some, slice_get_within, none-some}
 use Rattle.tag.specs.declared.numbers.OpId.{OpId}
-use Rattle.tag.proofs.Lists.{place_of, Contains-slice_get, get_at}
+use Rattle.tag.proofs.Lists.{place_of, Contains-slice_get}
 use Rattle.tag_check.specs.Least.{IsLeastCall, HasPartner, HasNoPair}
 use Rattle.tag_check.proofs.Calls.{NoneBelow, first_here}
 use Rattle.recorder.specs.declared.part.Call.{Call}
-use Rattle.recorder.specs.declared.part.Response.{Response}
-use Rattle.recorder.specs.Parts.{IsSequence, Precedes}
+use Rattle.recorder.specs.Parts.{IsSequence}
 use Rattle.recorder.specs.States.{place_in}
 use Rattle.value_order.specs.declared.sources.Source.{Source}
 use Rattle.value_order.specs.declared.sources.Source.TheVariants as source

@@ -1,15 +1,12 @@
 -- At the least row by which two families oppose each other a read of one was answered.
-use Rattle.std.proofs.Common.{Bool, true, false, MatchBool, Result, Ok, Err, IfOk, ℕ, ◌≡◌, ◌≢◌, ◌<◌, ◌≤◌, ◌+◌, ◌-◌, ◌⊎◌, inl, inr, List, Option, Some, None, length, sym, ◌∙◌, ap, subst, refl, arith}
+use Rattle.std.proofs.Common.{Bool, true, false, MatchBool, Result, Ok, Err, IfOk, ℕ, ◌≡◌, ◌<◌, ◌≤◌, ◌+◌, ◌-◌, ◌⊎◌, inl, inr, List, Some, ap, subst, arith}
 use Rattle.std.specs.List.{slice_get, Contains}
 use Rattle.std.proofs.lemmas.Bool.{cases_lt}
-use Rattle.std.proofs.lemmas.Option.{same_Some}
-use Rattle.tag.proofs.Lists.{place_of, Contains-slice_get}
+use Rattle.tag.proofs.Lists.{place_of}
 use Rattle.recorder.specs.declared.part.Call.{Call}
-use Rattle.recorder.specs.declared.part.Response.{Response}
 use Rattle.recorder.specs.Parts.{IsSequence}
-use Rattle.recorder.specs.Sound.{IsWrite}
 use Rattle.value_order.specs.declared.zones.Zone.{Zone}
-use Rattle.value_order.specs.Families.{IsOfFamily, IsAnsweredBy, IsMemberBy, MustPrecedeBy, AreOpposedBy}
+use Rattle.value_order.specs.Families.{IsOfFamily, IsAnsweredBy, IsMemberBy, MustPrecedeBy}
 use Rattle.value_order.specs.Writers.{IsOnlyWriter}
 use Rattle.value_order.specs.Rows.{IsOpposedBy, HasOpposedBy, NoneOpposedBy, NoneOpposedBefore, HasReadAt}
 use Rattle.value_order.specs.Zones.{AreZones, CrossAt, NoneCross}

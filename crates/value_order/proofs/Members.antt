@@ -1,16 +1,15 @@
 -- Sources: which family a call is of.
-use Rattle.std.proofs.Common.{ℕ, ◌≡◌, ◌≢◌, ◌<◌, ◌≤◌, ◌⊎◌, inl, inr, List, [], ◌∷◌, ◌++◌, length, Option, Some, None, sym, ◌∙◌, ap, subst, refl, arith}
-use Rattle.std.specs.List.{slice_get, Contains}
+use Rattle.std.proofs.Common.{ℕ, ◌≡◌, inl, inr, List, [], ◌∷◌, ◌++◌, length, Some, None, sym, ◌∙◌, ap, subst, refl, arith}
+use Rattle.std.specs.List.{slice_get}
 use Rattle.std.proofs.lemmas.Option.{same_Some, none-some}
-use Rattle.tag.proofs.Lists.{place_of, Contains-slice_get, push_cases}
+use Rattle.tag.proofs.Lists.{Contains-slice_get, push_cases}
 use Rattle.recorder.specs.declared.part.Call.{Call}
-use Rattle.recorder.specs.Parts.{IsSequence, IsCompleted}
+use Rattle.recorder.specs.Parts.{IsSequence}
 use Rattle.recorder.specs.Sound.{IsRead, IsWrite}
 use Rattle.value_order.specs.declared.sources.Source.{Source}
 use Rattle.value_order.specs.declared.sources.Source.TheVariants as source
-use Rattle.value_order.specs.Writers.{AnswersNothing, IsWriter, IsOnlyWriter, IsInDoubt}
+use Rattle.value_order.specs.Writers.{IsOnlyWriter, IsInDoubt}
 use Rattle.value_order.specs.Families.{IsOfFamily}
-use Rattle.value_order.specs.Faults.{AnswersUnwritten, EndsTooEarly}
 use Rattle.value_order.specs.Sources.{HasLeastWriters, IsSource, family_of}
 use Rattle.value_order.proofs.CallKinds.{not_both, not_answered, index_of, nothing_no_value, written_not_unwritten}
 

@@ -1,16 +1,14 @@
 -- The families that oppose each other at the least row.
-use Rattle.std.proofs.Common.{ℕ, ◌≡◌, ◌≢◌, ◌<◌, ◌≤◌, ◌+◌, ◌⊎◌, inl, inr, List, Option, Some, None, length, sym, ◌∙◌, ap, subst, refl, arith}
-use Rattle.std.specs.List.{slice_get, Contains}
-use Rattle.std.proofs.lemmas.Bool.{cases_lt}
-use Rattle.std.proofs.lemmas.Option.{same_Some, slice_get_within}
+use Rattle.std.proofs.Common.{ℕ, ◌≡◌, ◌<◌, ◌≤◌, inl, inr, List, Some, None, length, sym, subst, refl, arith}
+use Rattle.std.specs.List.{slice_get}
+use Rattle.std.proofs.lemmas.Option.{slice_get_within}
 use Rattle.tag.proofs.Lists.{place_of, Contains-slice_get}
 use Rattle.recorder.specs.declared.part.Call.{Call}
 use Rattle.recorder.specs.Parts.{IsSequence}
 use Rattle.value_order.specs.declared.decision.Side.{Side}
 use Rattle.value_order.specs.declared.zones.Zone.{Zone}
 use Rattle.value_order.specs.Crossing.{IsFirstCrossing}
-use Rattle.value_order.specs.Families.{IsOfFamily}
-use Rattle.value_order.specs.Rows.{IsOpposedBy, IsLeastRow, HasReadAt, IsPairAt, ArePairAt, HasNoPairAt, NoneOpposedBefore, EndedAt, HasSide, IsSideOf, IsFirstOpposed}
+use Rattle.value_order.specs.Rows.{IsOpposedBy, IsLeastRow, HasReadAt, ArePairAt, HasNoPairAt, NoneOpposedBefore, EndedAt, HasSide, IsSideOf, IsFirstOpposed}
 use Rattle.value_order.specs.Sources.{HasOnlyWriter}
 use Rattle.value_order.specs.Writers.{IsOnlyWriter}
 use Rattle.value_order.specs.Zones.{AreZones, CrossAt}

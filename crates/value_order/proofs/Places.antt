@@ -1,6 +1,5 @@
 -- Where calls stand in an order of their part.
-use Rattle.std.proofs.Common.{ℕ, ◌≡◌, ◌≢◌, ◌<◌, ◌≤◌, ◌+◌, ◌⊎◌, inl, inr, List, Option, Some, None, ap, sym, ◌∙◌, subst, refl, arith}
-use Rattle.std.specs.List.{slice_get, Contains}
+use Rattle.std.proofs.Common.{ℕ, ◌≡◌, ◌≢◌, ◌<◌, ◌+◌, inl, inr, List, Option, Some, None, ap, sym, ◌∙◌, subst, arith}
 use Rattle.std.proofs.lemmas.Bool.{cases_lt}
 use Rattle.std.proofs.lemmas.Option.{slice_get_within}
 use Rattle.tag.specs.declared.actions.Action.TheVariants.{Write}
@@ -9,8 +8,7 @@ use Rattle.tag.specs.declared.numbers.OpId.{OpId}
 use Rattle.recorder.specs.declared.part.Call.{Call}
 use Rattle.recorder.specs.declared.part.Response.{Response}
 use Rattle.recorder.specs.Parts.{IsSequence, IsCompleted, Precedes}
-use Rattle.recorder.specs.Orders.{StandsAt, WritesAt, NoWriteFrom, IsLastWritten, IsOrder}
-use Rattle.recorder.specs.Sound.{IsWrite}
+use Rattle.recorder.specs.Orders.{StandsAt, NoWriteFrom, IsLastWritten, IsOrder}
 use Rattle.recorder.proofs.Sequences.{same_at}
 use Rattle.value_order.specs.Writers.{AnswersValue, AnswersNothing, IsWriter, IsOnlyWriter}
 use Rattle.value_order.specs.Families.{IsOfFamily, MustPrecede, AreOpposed}

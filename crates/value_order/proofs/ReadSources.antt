@@ -1,19 +1,16 @@
 -- The source of a read, by the first two writes of its value.
-use Rattle.std.proofs.Common.{Bool, true, false, IsTrue, ◌↔◌, ℕ, ◌≡◌, ◌≢◌, ◌<◌, ◌≤◌, ◌+◌, ◌⊎◌, inl, inr, List, Option, Some, None, length, sym, ◌∙◌, ap, subst, refl, arith}
-use Rattle.std.specs.List.{slice_get, Contains}
+use Rattle.std.proofs.Common.{Bool, true, false, IsTrue, ◌↔◌, ℕ, ◌≡◌, ◌<◌, ◌≤◌, ◌+◌, inl, inr, List, Some, None, sym, ◌∙◌, ap, subst, refl, arith}
+use Rattle.std.specs.List.{slice_get}
 use Rattle.std.proofs.lemmas.Bool.{cases_lt, false≢true}
-use Rattle.std.proofs.lemmas.Option.{same_Some, slice_get_within}
+use Rattle.std.proofs.lemmas.Option.{slice_get_within}
 use Rattle.tag.proofs.Lists.{place_of, Contains-slice_get, get_at}
 use Rattle.tag.specs.declared.actions.Action.TheVariants.{Write}
 use Rattle.recorder.specs.declared.part.Call.{Call}
-use Rattle.recorder.specs.declared.part.Response.{Response}
 use Rattle.recorder.specs.Parts.{IsSequence}
-use Rattle.recorder.specs.Sound.{IsRead, IsWrite}
 use Rattle.value_order.specs.declared.classes.Class.{Class}
 use Rattle.value_order.specs.declared.classes.Class.TheVariants as class
-use Rattle.value_order.specs.Classes.{IsFirstWrite, IsClass, AreClasses, HasClass, IsWriteFrom, AreNumbered, AreNexts}
-use Rattle.value_order.specs.Writers.{AnswersValue, IsWriter, IsOnlyWriter}
-use Rattle.value_order.specs.Faults.{EndsTooEarly}
+use Rattle.value_order.specs.Classes.{IsFirstWrite, IsClass, AreClasses, IsWriteFrom, AreNumbered}
+use Rattle.value_order.specs.Writers.{AnswersValue, IsWriter}
 use Rattle.value_order.specs.Sources.{HasOnlyWriter, HasLeastWriters, EndsBefore}
 use Rattle.value_order.proofs.CallKinds.{not_both, one_value, one_written, one_place, call_at}
 

@@ -1,16 +1,15 @@
 -- Each fault refutes: no list is an order of the part.
-use Rattle.std.proofs.Common.{ℕ, ◌≡◌, ◌≢◌, ◌<◌, ◌≤◌, ◌+◌, ◌⊎◌, inl, inr, List, Option, Some, None, ap, sym, ◌∙◌, subst, refl, arith}
-use Rattle.std.specs.List.{slice_get, Contains}
+use Rattle.std.proofs.Common.{ℕ, ◌≡◌, inl, inr, List, Option, Some, None, arith}
+use Rattle.std.specs.List.{Contains}
 use Rattle.tag.specs.declared.actions.Returned.TheVariants.{Value}
 use Rattle.tag.specs.declared.numbers.OpId.{OpId}
 use Rattle.recorder.specs.declared.part.Call.{Call}
-use Rattle.recorder.specs.Parts.{IsSequence, Precedes}
-use Rattle.recorder.specs.Orders.{StandsAt, IsLastWritten, IsOrder, IsLinearizable}
-use Rattle.recorder.specs.Sound.{IsWrite}
-use Rattle.value_order.specs.Writers.{AnswersValue, AnswersNothing, IsWriter, IsOnlyWriter}
+use Rattle.recorder.specs.Parts.{IsSequence}
+use Rattle.recorder.specs.Orders.{IsLastWritten, IsOrder, IsLinearizable}
+use Rattle.value_order.specs.Writers.{IsOnlyWriter}
 use Rattle.value_order.specs.Families.{AreOpposed}
 use Rattle.value_order.specs.Tables.{ReadsBy, StandInPieces}
-use Rattle.value_order.specs.Faults.{AnswersUnwritten, EndsTooEarly, ShowsValue, IsLateNothing, IsStaleValue, IsStaleNothing, IsStale}
+use Rattle.value_order.specs.Faults.{AnswersUnwritten, EndsTooEarly, IsLateNothing, IsStaleValue, IsStale}
 use Rattle.value_order.proofs.Places.{last_write, none_before, stands_first, only_pieces, none_opposed}
 
 module _ (part : List Call) (order : List OpId) (is : IsOrder part order) where

@@ -1,25 +1,23 @@
 -- What a family has by a row.
-use Rattle.std.proofs.Common.{ℕ, ◌≡◌, ◌≢◌, ◌<◌, ◌≤◌, ◌+◌, ◌⊎◌, inl, inr, List, Option, Some, None, length, sym, ◌∙◌, ap, subst, refl, arith}
+use Rattle.std.proofs.Common.{ℕ, ◌≡◌, ◌<◌, ◌≤◌, ◌+◌, inl, inr, List, Some, length, sym, ◌∙◌, ap, subst, refl, arith}
 use Rattle.std.specs.List.{slice_get, Contains}
 use Rattle.std.proofs.lemmas.Option.{same_Some, slice_get_within}
 use Rattle.std.proofs.lemmas.Bool.{cases_lt}
 use Rattle.tag.specs.declared.numbers.OpId.{OpId}
 use Rattle.tag.proofs.Lists.{place_of, Contains-slice_get}
 use Rattle.recorder.specs.declared.part.Call.{Call}
-use Rattle.recorder.specs.declared.part.Response.{Response}
 use Rattle.recorder.specs.Parts.{IsSequence}
 use Rattle.value_order.specs.declared.decision.Side.{Side}
 use Rattle.value_order.specs.declared.zones.Zone.{Zone}
-use Rattle.value_order.specs.Families.{IsOfFamily, IsAnsweredBy, IsMemberBy, AreOpposedBy}
+use Rattle.value_order.specs.Families.{IsOfFamily, IsMemberBy}
 use Rattle.value_order.specs.declared.sources.Source.{Source}
 use Rattle.value_order.specs.Sources.{IsSource, family_of}
 use Rattle.value_order.specs.Writers.{IsOnlyWriter}
 use Rattle.value_order.proofs.Members.{source_family}
-use Rattle.value_order.specs.Rows.{IsOpposedBy, HasReadAt, IsPairAt, ArePairAt, EndedAt, HasMember, IsMember, IsFirstEnded, IsLastBegun, HasSide, IsSideOf}
-use Rattle.value_order.specs.Zones.{EndsAt, BeginsAt, IsZone, AreZones, CrossAt}
-use Rattle.value_order.proofs.CallKinds.{one_place, call_at}
+use Rattle.value_order.specs.Rows.{EndedAt, HasMember, IsMember, HasSide, IsSideOf}
+use Rattle.value_order.specs.Zones.{IsZone, AreZones}
+use Rattle.value_order.proofs.CallKinds.{call_at}
 use Rattle.value_order.proofs.ZoneRows.{first_ends, zone_write}
-use Rattle.value_order.proofs.ReadSources.{rise_to}
 
 -- a call of the part with that place of invocation is one
 pub one_begun : (part : List Call) → IsSequence part → (a b : Call) → Contains part a → Contains part b → a.invoked ≡ b.invoked → a ≡ b

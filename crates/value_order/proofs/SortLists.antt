@@ -1,24 +1,23 @@
 -- The listed calls, by their sorted keys.
-use Rattle.std.proofs.Common.{ℕ, ◌≡◌, ◌≢◌, ◌<◌, ◌≤◌, ◌+◌, ◌⊎◌, inl, inr, List, [], ◌∷◌, ◌++◌, Option, Some, None, true, false, IsPermutation, IsSorted, length, length-append, sym, ◌∙◌, ap, subst, refl, arith}
-use Rattle.std.specs.List.{slice_get, Contains}
+use Rattle.std.proofs.Common.{ℕ, ◌≡◌, ◌<◌, ◌≤◌, ◌+◌, inl, inr, List, [], ◌∷◌, ◌++◌, Option, Some, None, IsPermutation, IsSorted, length, length-append, sym, ◌∙◌, ap, subst, refl, arith}
+use Rattle.std.specs.List.{slice_get}
 use Rattle.std.proofs.lemmas.Bool.{cases_lt}
 use Rattle.std.proofs.lemmas.Option.{same_Some, slice_get_within, none-some}
-use Rattle.tag.proofs.Lists.{place_of, Contains-slice_get, get_at, push_cases, slice_get-push_left, slice_get-push_last}
+use Rattle.tag.proofs.Lists.{get_at, push_cases, slice_get-push_left, slice_get-push_last}
 use Rattle.tag.specs.declared.numbers.OpId.{OpId}
 use Rattle.recorder.specs.declared.part.Call.{Call}
 use Rattle.recorder.specs.Parts.{IsSequence}
-use Rattle.recorder.specs.Sound.{IsRead, IsWrite}
 use Rattle.value_order.specs.declared.keys.SortKey.{SortKey}
 use Rattle.value_order.specs.declared.sources.Source.{Source}
 use Rattle.value_order.specs.declared.sources.Source.TheVariants as source
 use Rattle.value_order.specs.declared.zones.Zone.{Zone}
 use Rattle.value_order.specs.Writers.{AnswersNothing, IsOnlyWriter}
 use Rattle.value_order.specs.Families.{IsOfFamily}
-use Rattle.value_order.specs.Keys.{key_cmp, IsNothingKey, IsMemberKey, IsCallKey, IsListed, IsByFamilies}
-use Rattle.value_order.specs.SortKeys.{IsKept, IsFirstKey, IsFamilyKey, IsKeyAt, IsKeyIf, AreSortKeys, AreKeysSorted, AreNumbersOf}
+use Rattle.value_order.specs.Keys.{key_cmp, IsMemberKey, IsCallKey, IsListed, IsByFamilies}
+use Rattle.value_order.specs.SortKeys.{IsKept, IsFamilyKey, IsKeyAt, AreSortKeys, AreKeysSorted, AreNumbersOf}
 use Rattle.value_order.specs.Sources.{IsSource, AreSources, family_of}
 use Rattle.value_order.proofs.CallKinds.{not_both, not_answered, nothing_no_value, nothing_not_unwritten, only_reads, one_family, index_of, call_at}
-use Rattle.value_order.proofs.KeyOrder.{AreSorted, are_sorted}
+use Rattle.value_order.proofs.KeyOrder.{are_sorted}
 use Rattle.value_order.proofs.Members.{source_family, no_family}
 
 -- a call that answers nothing has that source

@@ -1,9 +1,9 @@
 -- The slowest writes of values, and the writes that ended, call by call.
-use Rattle.std.proofs.Common.{ℕ, ◌≡◌, ◌≢◌, ◌<◌, ◌≤◌, ◌+◌, ◌⊎◌, inl, inr, max, Bool, true, false, not, true≢false, List, [], ◌∷◌, ◌++◌, Option, Some, None, IsPermutation, IsSorted, take, length, length-append, length-set, set, sym, ◌∙◌, ap, subst, refl, arith}
-use Rattle.std.specs.List.{slice_get, Contains}
+use Rattle.std.proofs.Common.{ℕ, ◌≡◌, ◌<◌, ◌≤◌, ◌+◌, inl, inr, max, Bool, true, false, not, true≢false, List, [], ◌∷◌, ◌++◌, Option, Some, None, IsPermutation, IsSorted, take, length, length-append, length-set, set, sym, ◌∙◌, ap, subst, refl, arith}
+use Rattle.std.specs.List.{slice_get}
 use Rattle.std.proofs.lemmas.Bool.{cases_lt}
 use Rattle.std.proofs.lemmas.Option.{same_Some, slice_get_within, none-some}
-use Rattle.tag.proofs.Lists.{place_of, Contains-slice_get, get_at, push_cases, slice_get-push_left, slice_get-push_last, slice_get-set}
+use Rattle.tag.proofs.Lists.{get_at, push_cases, slice_get-push_left, slice_get-push_last, slice_get-set}
 use Rattle.recorder.specs.declared.part.Call.{Call}
 use Rattle.recorder.specs.declared.part.Response.{Response}
 use Rattle.recorder.specs.Parts.{IsSequence}

@@ -1,16 +1,16 @@
 -- Opposition by a row, in numbers.
-use Rattle.std.proofs.Common.{ℕ, ◌≡◌, ◌≢◌, ◌<◌, ◌≤◌, ◌+◌, ◌⊎◌, inl, inr, List, Option, Some, None, length, sym, ◌∙◌, ap, subst, refl, arith}
-use Rattle.std.specs.List.{slice_get, Contains}
+use Rattle.std.proofs.Common.{ℕ, ◌≡◌, ◌<◌, ◌≤◌, inl, inr, List, Option, Some, None, sym, ◌∙◌, ap, subst, refl, arith}
+use Rattle.std.specs.List.{slice_get}
 use Rattle.std.proofs.lemmas.Option.{same_Some, slice_get_within, none-some}
-use Rattle.tag.proofs.Lists.{place_of, Contains-slice_get, get_at}
+use Rattle.tag.proofs.Lists.{get_at}
 use Rattle.recorder.specs.declared.part.Call.{Call}
 use Rattle.recorder.specs.declared.part.Response.{Response}
-use Rattle.recorder.specs.Parts.{IsSequence, Precedes}
-use Rattle.recorder.specs.Sound.{IsRead, IsWrite}
+use Rattle.recorder.specs.Parts.{IsSequence}
+use Rattle.recorder.specs.Sound.{IsWrite}
 use Rattle.value_order.specs.declared.zones.Zone.{Zone}
-use Rattle.value_order.specs.Families.{IsOfFamily, IsAnsweredBy, IsMemberBy, MustPrecede, MustPrecedeBy, AreOpposed, AreOpposedBy}
-use Rattle.value_order.specs.Zones.{EndsAt, BeginsAt, IsFirstEnd, IsZone, AreZones, CrossAt, IsLastRow}
-use Rattle.value_order.proofs.CallKinds.{read_or_write, not_both, one_place, index_of}
+use Rattle.value_order.specs.Families.{IsAnsweredBy, IsMemberBy, MustPrecede, MustPrecedeBy, AreOpposed, AreOpposedBy}
+use Rattle.value_order.specs.Zones.{EndsAt, IsFirstEnd, IsZone, AreZones, CrossAt, IsLastRow}
+use Rattle.value_order.proofs.CallKinds.{read_or_write, one_place, index_of}
 
 -- what must precede by a row must precede, and by each later row
 module _ (part : List Call) (Reads : Call → Call → Type 0) where

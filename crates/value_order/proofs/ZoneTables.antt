@@ -1,16 +1,15 @@
 -- Zones of the calls below an index.
-use Rattle.std.proofs.Common.{ℕ, ◌≡◌, ◌≢◌, ◌<◌, ◌≤◌, ◌+◌, ◌⊎◌, inl, inr, min, max, List, [], ◌∷◌, ◌++◌, Option, Some, None, length, length-set, length-append, set, sym, ◌∙◌, ap, subst, refl, arith}
-use Rattle.std.specs.List.{slice_get, Contains}
+use Rattle.std.proofs.Common.{ℕ, ◌≡◌, ◌<◌, ◌≤◌, ◌+◌, ◌⊎◌, inl, inr, List, [], ◌∷◌, ◌++◌, Option, Some, None, length, length-set, length-append, set, sym, ◌∙◌, ap, subst, refl, arith}
+use Rattle.std.specs.List.{slice_get}
 use Rattle.std.proofs.lemmas.Bool.{cases_lt}
 use Rattle.std.proofs.lemmas.Option.{same_Some, slice_get_within, none-some}
-use Rattle.tag.proofs.Lists.{place_of, Contains-slice_get, get_at, slice_get-set, push_cases}
+use Rattle.tag.proofs.Lists.{place_of, Contains-slice_get, slice_get-set, push_cases}
 use Rattle.recorder.specs.declared.part.Call.{Call}
-use Rattle.recorder.specs.declared.part.Response.{Response}
 use Rattle.recorder.specs.Parts.{IsSequence}
 use Rattle.recorder.specs.Sound.{IsRead, IsWrite}
 use Rattle.value_order.specs.declared.zones.Zone.{Zone}
 use Rattle.value_order.specs.Families.{IsOfFamily, IsAnsweredBy, IsMemberBy}
-use Rattle.value_order.specs.Zones.{EndsAt, BeginsAt, IsFirstEnd, IsZone, IsZoneWith, AreBegins, AreZones}
+use Rattle.value_order.specs.Zones.{EndsAt, BeginsAt, IsFirstEnd, IsZoneWith, AreBegins, AreZones}
 use Rattle.value_order.proofs.CallKinds.{not_both, index_of, one_place}
 
 -- what a zone says of the family's calls below index i

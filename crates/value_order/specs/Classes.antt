@@ -2,9 +2,8 @@
 use Rattle.std.specs.Prelude.{ℕ, ◌≡◌, ◌<◌, ◌≤◌, ◌+◌, ◌⊎◌, List, Option, Some, None, length}
 use Rattle.std.specs.Prelude.{slice_get}
 use Rattle.std.specs.Borrow.{Bor}
-use Rattle.std.specs.BTreeMap.{BTreeMap, get_by}
-use Rattle.std.specs.Cmp.Lexicographic.{slice_cmp}
-use Rattle.std.specs.Ordering.{nat_cmp}
+use Rattle.std.specs.HashMap.{HashMap, get_by}
+use Rattle.std.specs.Str.{bytes_eq}
 use Rattle.tag.specs.declared.actions.Action.TheVariants.{Write}
 use Rattle.recorder.specs.declared.part.Call.{Call}
 use Rattle.recorder.specs.Parts.{IsPending}
@@ -29,9 +28,9 @@ IsFirstBelow part value n None = (j : ℕ) (other : Call) → j < n → slice_ge
 IsFirstBelow part value n (Some k) = IsFirstWrite part value k
 
 -- the same of each value, by a map
-abbrev pub AreFirsts : List Call → ℕ → BTreeMap (Bor (List ℕ)) ℕ → Type 0
+abbrev pub AreFirsts : {S : Type 0} → List Call → ℕ → HashMap (Bor (List ℕ)) ℕ S → Type 0
 AreFirsts part n firsts = (value : List ℕ) → IsFirstBelow part value n
-    (get_by (λ text. slice_cmp nat_cmp value text.now) firsts)
+    (get_by (λ text. bytes_eq value text.now) firsts)
 
 -- the class of a call
 abbrev pub IsClass : List Call → Call → Class → Type 0

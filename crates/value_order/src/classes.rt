@@ -5,7 +5,8 @@ ghost use Rattle.value_order.specs.Classes.{AreClasses, AreFirsts, IsClass};
 
 use recorder::Part;
 use std::alloc::Global;
-use std::collections::BTreeMap;
+use std::collections::HashMap;
+use std::hash::{BuildHasherDefault, DefaultHasher};
 use tag::Memory;
 
 /// What a call says of values. A number is the index of the value's first write.
@@ -22,11 +23,14 @@ pub(crate) enum Class {
     Pending,
 }
 
-/// The index of the first write of each value.
-fn first_writes<'h>(alloc: Global, part: &Part<'h>) -> Result<BTreeMap<&'h str, usize>, Memory>
+/// The index of the first write of each value, found by a hash of the value.
+type Firsts<'h> = HashMap<&'h str, usize, BuildHasherDefault<DefaultHasher>>;
+
+/// The first write of each value.
+fn first_writes<'h>(alloc: Global, part: &Part<'h>) -> Result<Firsts<'h>, Memory>
     ensures { IfOk result (λ firsts. AreFirsts part.now (length part.now) firsts) }
 {
-    let mut firsts = BTreeMap::new(alloc);
+    let mut firsts = HashMap::with_hasher(alloc, BuildHasherDefault::new());
     for i in 0..part.len() {
         let call = part.call(i);
         if let Some(value) = call.action.written() {
@@ -40,7 +44,7 @@ fn first_writes<'h>(alloc: Global, part: &Part<'h>) -> Result<BTreeMap<&'h str, 
 }
 
 /// The class of the call at index `i`.
-fn class_at(part: &Part<'_>, i: usize, firsts: &BTreeMap<&str, usize>) -> Class
+fn class_at(part: &Part<'_>, i: usize, firsts: &Firsts<'_>) -> Class
     requires inside { i < length part.now }
     requires firsts { AreFirsts part.now (length part.now) firsts.now }
     ensures { (call : Call) × (slice_get part.now i ≡ Some call) × IsClass part.now call result }

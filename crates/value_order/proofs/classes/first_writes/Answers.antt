@@ -1,9 +1,8 @@
 use Rattle.std.proofs.Common.{ℕ, ◌+◌, Option, Some, List, sym, ◌∙◌, ap, subst}
-use Rattle.std.specs.BTreeMap.{get_by}
-use Rattle.std.specs.Cmp.Lexicographic.{slice_cmp}
+use Rattle.std.specs.HashMap.{get_by}
+use Rattle.std.specs.Str.{bytes_eq}
 use Rattle.std.specs.Option.{is_some}
-use Rattle.std.specs.Ordering.{nat_cmp}
-use Rattle.std.proofs.lemmas.Map.Text.{btree_map_updates_str}
+use Rattle.std.proofs.lemmas.Map.Text.{hash_map_updates_str}
 use Rattle.tag.specs.declared.actions.Action.TheVariants.{Write}
 use Rattle.value_order.specs.Classes.{IsFirstBelow}
 use Rattle.value_order.proofs.CallKinds.{one_written}
@@ -17,12 +16,12 @@ loop-i-preserved c =
     let i = c.loop-i.i in
     let call = c.call-call.result in
     let at = c.call-call.ensures in
-    let old : List ℕ → Option ℕ = λ ds. get_by (λ k. slice_cmp nat_cmp ds k.now) c.loop-i.firsts in
+    let old : List ℕ → Option ℕ = λ ds. get_by (λ k. bytes_eq ds k.now) c.loop-i.firsts in
     elim c.match-written.branch [
       | in-Some+then-not-contains_key+in_ok-insert w ↦
           let text = w.as_str-text.result.now in
           let wrote = w.in-Some.ensures.write ∙ ap Write (sym w.as_str-text.ensures.text) in
-          rw w.firsts-is (λ value. subst (IsFirstBelow part value (i + 1)) (sym (btree_map_updates_str text c.loop-i.firsts w.insert.new.self (Some i) w.in_ok-insert.ensures.updates value))
+          rw w.firsts-is (λ value. subst (IsFirstBelow part value (i + 1)) (sym (hash_map_updates_str text c.loop-i.firsts w.insert.new.self (Some i) w.in_ok-insert.ensures.updates value))
           (updated part value text i call old at wrote (sym w.contains_key.ensures ∙ w.if-not-contains_key.true) (c.loop-i.invariant value)))
       | in-Some+else-not-contains_key w ↦
           let text = w.as_str-text.result.now in

@@ -1,4 +1,4 @@
-use Rattle.std.proofs.Common.{ℕ, ◌≡◌, ◌<◌, ◌+◌, Option, List, Some, refl, length, sym, ◌∙◌, ap, subst, arith}
+use Rattle.std.proofs.Common.{ℕ, ◌≡◌, ◌+◌, Option, List, refl, length, sym, ◌∙◌, ap, subst, arith}
 use Rattle.recorder.specs.declared.part.Call.{Call}
 use Rattle.value_order.specs.Ended.{IsLatestBefore, AreSlowest}
 use Rattle.value_order.proofs.CallKinds.{call_at}

@@ -1,7 +1,3 @@
-use Rattle.std.proofs.Common.{ℕ, ◌≡◌, ◌<◌, ◌≤◌, Some, length}
-use Rattle.std.specs.List.{slice_get}
-use Rattle.recorder.specs.declared.part.Call.{Call}
-use Rattle.value_order.specs.declared.keys.SortKey.{SortKey}
 use Rattle.value_order.specs.Ended.{IsGreatestIndex, AreSlowest}
 use Rattle.value_order.proofs.StaleTables.{AreFound, ArePassed}
 use Rattle.value_order.proofs.stale.overwriters.Given as goal
