@@ -51,8 +51,8 @@ module _ {W E : Type 0} (Makes : Outcome → Type 0) (Stops : Failure → Type 0
     pub fails : FailsOnce out.device
     pub told : ReceivesOrFails errors.device (failure_line failure.Output)
 
-  -- what the status says. Good, refused or undecided: an outcome of that kind was sent. Format: none
-  -- was made, since a file isn't of its format. Failed: none was made, or the output failed
+  -- what the status says. Good, refused or undecided: an outcome of that kind was sent. Format:
+  -- none was made, since a file isn't of its format. Failed: none was made, or the output failed
   abbrev pub Ends : Status → Type 0
   Ends status.Good = SendsOutcome found.Good
   Ends status.Refused = SendsOutcome found.Refused
