@@ -1,16 +1,21 @@
-"""layers.py
+"""layers.py [--check]
 
-Run it at the top when crates.txt has changed. It writes, from crates.txt:
+Run it at the top when crates.txt or the first sentence of a crate has changed. From crates.txt, and from the first sentence of each crate's root
+file, it makes
 
-- the column "Stands on" of docs/LAYERS.md. A row that names several crates, or none of crates.txt, is left as it is, and a crate that has no row is
-  named;
-- docs/layers.svg: a band for each group of crates.txt (its comments), the lowest at the bottom, and in each crate's box the crates right below it:
-  those that no other crate below it stands on.
+- the tables of docs/LAYERS.md, one for each group of crates.txt (its comments), between its two marks;
+- docs/layers.svg: a band for each group, the lowest at the bottom, and in each crate's box the crates right below it: those that no other crate
+  below it stands on.
+
+With --check it only says which of the two isn't what it would make, and ends with 1 then.
 """
 
+import os
 import re
+import sys
 from xml.sax.saxutils import escape
 
+BEGIN, END = "<!-- made by scripts/layers.py -->", "<!-- so far -->"
 WIDTH, LEFT, GAP, BOX, LINE = 1000, 150, 10, 200, 14
 STYLE = """
   text { font: 13px sans-serif; fill: #1a1a1a }
@@ -98,30 +103,52 @@ def draw(groups, below):
     return "\n".join([head, '<title id="title">The crates by layer, the lowest at the bottom</title>', f"<style>{STYLE}</style>", *shapes, "</svg>", ""])
 
 
-def write_column(below):
-    """Writes the column of docs/LAYERS.md."""
-    with open("docs/LAYERS.md", encoding="utf-8") as file:
-        lines = file.read().split("\n")
-    seen = set()
-    for at, line in enumerate(lines):
-        cells = line.split(" | ")
-        found = re.match(r"\| `(\w+)`$", cells[0])
-        if found and found[1] in below and len(cells) == 4:
-            seen.add(found[1])
-            cells[2] = ", ".join(f"`{it}`" if it in below else it for it in below[found[1]]) or "std"
-            lines[at] = " | ".join(cells)
-    with open("docs/LAYERS.md", "w", encoding="utf-8") as file:
-        file.write("\n".join(lines))
-    for crate in below:
-        if crate not in seen:
-            print(f"docs/LAYERS.md has no row for {crate}")
+def first_sentence(crate):
+    """The first sentence of the crate's root file, without its end."""
+    root = next(path for path in (f"crates/{crate}/src/{name}.rt" for name in ("lib", "main")) if os.path.exists(path))
+    words = []
+    with open(root, encoding="utf-8") as file:
+        for line in file:
+            if not line.startswith("//!") or not line[3:].strip():
+                break
+            words.append(line[3:].strip())
+    return re.split(r"\.(?: |$)", " ".join(words), maxsplit=1)[0]
+
+
+def tables(groups, below):
+    """The tables of docs/LAYERS.md."""
+    for name, crates in groups:
+        yield f"## {name[0].upper()}{name[1:]}\n\n| Crate | What it is | Stands on |\n|---|---|---|"
+        for crate in crates:
+            on = ", ".join(f"`{it}`" if it in below else it for it in below[crate]) or "std"
+            yield f"| `{crate}` | {first_sentence(crate)} | {on} |"
+        yield ""
+
+
+def layers(groups, below):
+    """The text of docs/LAYERS.md."""
+    text = read("docs/LAYERS.md")
+    before, rest = text.split(BEGIN)
+    after = rest.split(END)[1]
+    return "\n".join([before + BEGIN, "", *tables(groups, below), END + after])
+
+
+def read(path):
+    with open(path, encoding="utf-8") as file:
+        return file.read()
 
 
 def main():
     groups, below = read_groups()
-    write_column(below)
-    with open("docs/layers.svg", "w", encoding="utf-8") as file:
-        file.write(draw(groups, below))
+    made = {"docs/LAYERS.md": layers(groups, below), "docs/layers.svg": draw(groups, below)}
+    old = [path for path, text in made.items() if read(path) != text]
+    if "--check" in sys.argv:
+        for path in old:
+            print(f"{path} isn't what scripts/layers.py makes of crates.txt and of the first sentences of the crates")
+        sys.exit(1 if old else 0)
+    for path in old:
+        with open(path, "w", encoding="utf-8") as file:
+            file.write(made[path])
 
 
 if __name__ == "__main__":

@@ -19,6 +19,8 @@ checks=(
   "scripts/pictures.sh $abd --check"
   "scripts/recorders.sh $abd python"
   "scripts/edits.sh --applied"
+  "python3 scripts/layers.py --check"
+  "python3 scripts/definitions.py --check"
 )
 failed=0
 for check in "${checks[@]}"; do
