@@ -1,22 +1,28 @@
 #!/usr/bin/env bash
-# Four threads record calls with each recorder of docs/using, and `abd` justifies and checks what they wrote:
+# Tests what docs/using has to record with, by the built program; what a recorder has to refuse is tested by its own test:
 #   scripts/recorders.sh ABD            Python; Java, Go and Rust where their compilers are (javac, go, rustc)
-#   scripts/recorders.sh ABD python     Python alone
+#   scripts/recorders.sh ABD python     Python alone: the recorder, and what makes histories of other files
 set -eu
 abd=$(realpath "$1")
 only=${2:-}
 cd "$(dirname "$0")/../docs/using"
+export PYTHONDONTWRITEBYTECODE=1
 room=$(mktemp -d)
 trap 'rm -rf "$room"' EXIT
 
-# Justifies and checks what stands in the history of that language.
+# Has four threads' history of that language justified and checked, and decided without its notes.
 judge() {
   "$abd" justify "$room/$1.history" > "$room/$1.orders"
   "$abd" check "$room/$1.history" "$room/$1.orders" | sed "s/^/$1: /"
+  grep -v '"row":"note"' "$room/$1.history" > "$room/$1.bare"
+  "$abd" decide "$room/$1.bare" | sed "s/^/$1: /"
 }
 
-PYTHONDONTWRITEBYTECODE=1 python3 recorder_test.py > "$room/python.history"
+python3 recorder_test.py > "$room/python.history"
 judge python
+python3 load_test.py "$abd"
+python3 jepsen_test.py
+python3 rank_tags_test.py "$abd"
 if [ "$only" = python ]; then
   exit 0
 fi
