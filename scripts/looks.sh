@@ -18,6 +18,8 @@ checks=(
   "python3 scripts/pages.py $abd 20"
   "scripts/pictures.sh $abd --check"
   "scripts/recorders.sh $abd python"
+  "python3 scripts/using.py $abd --without-servers"
+  "scripts/snippets.sh"
   "scripts/edits.sh --applied"
   "python3 scripts/layers.py --check"
   "python3 scripts/definitions.py --check"

@@ -33,13 +33,13 @@ MAKES = [
      op(":invoke", 0, ":write", 1) + op(":invoke", 1, ":write", 2) + op(":fail", 0, ":write", 1) + op(":ok", 1, ":write", 2)
      + op(":invoke", 0, ":read", "nil") + op(":fail", 0, ":read", "nil") + op(":invoke", 0, ":write", 3), None,
      [invoke(0, 1, "write", "2"), answer(0), invoke(1, 2, "write", "3")], ["Calls that failed, and went: 2"]),
-    ("after :info a call is open, and its process another client, whether its number is new or not",
+    ("after :info a call is pending, and its process another client, whether its number is new or not",
      op(":invoke", 0, ":write", 1) + op(":info", 0, ":write", 1, ', :error "timeout"') + op(":invoke", 0, ":read", "nil")
      + op(":ok", 0, ":read", 1), None,
      [invoke(0, 1, "write", "1"), invoke(1, 2, "read"), answer(1, "1")], []),
     ("the nemesis, comments, commas, tags, discarded items, and a vector around all",
-     "; a run\n[" + op(":info", ":nemesis", ":kill", '["n1"]') + "#jepsen.history.Op" + WRITTEN.replace("\n", ",", 1) + "#_ {:a #_ #_ 1 2}]",
-     None, [invoke(0, 1, "write", "1"), answer(0)], []),
+     "; a run\n[" + op(":info", ":nemesis", ":kill", '["n1"]') + "#jepsen.history.Op" + WRITTEN.replace("\n", ",", 1)
+     + "#_ {:a #_ #_ 1 2}]", None, [invoke(0, 1, "write", "1"), answer(0)], []),
     ("keys of their own", op(":invoke", 0, ":write", "[3 1]") + op(":invoke", 1, ":read", "[:x nil]") + op(":ok", 1, ":read", "[:x nil]")
      + op(":invoke", 1, ":read", "[3 nil]") + op(":ok", 1, ":read", "[3 1]"), None,
      [invoke(0, 1, "write", "1", "3"), invoke(1, 2, "read", key="x"), answer(1, None), invoke(2, 2, "read", key="3"), answer(2, "1")], []),
@@ -60,7 +60,8 @@ REFUSES = [
     (WRITTEN + op(":invoke", 0, ":cas", "[1 2]"), "line 3: a compare-and-set reads and writes at once, which no call of a register does: "
      "leave :cas out of the test's generator"),
     (op(":invoke", 0, ":txn", "[[:r 1 nil]]"), "line 1: :txn is no call of a register: :read and :write are"),
-    (op(":invoke", 0, ":write", "nil"), "line 1: nil is what a read of an absent key answers, so nothing can write it: write another value"),
+    (op(":invoke", 0, ":write", "nil"),
+     "line 1: nil is what a read of an absent key answers, so nothing can write it: write another value"),
     (op(":invoke", 0, ":read", "nil") * 2, "line 2: process 0 begins a call before its last one has ended"),
     (op(":ok", 0, ":read", "nil"), "line 1: process 0 ends a call that it hasn't begun"),
     (op(":invoke", 0, ":write", "[3 1]") + op(":invoke", 1, ":write", "2"),

@@ -5,7 +5,7 @@ What the nemesis does is passed over. If the values are pairs `[key value]`, as 
 own; else there is one, of the name `register`.
 
 - A call that ends with `:fail` did nothing, and goes.
-- A call that ends with `:info` stays open. Its process goes on under a new client's name.
+- A call that ends with `:info` stays pending. Its process goes on under a new client's name.
 - A compare-and-set reads and writes at once, which no call of a register does: `:f :cas` is refused. So is a write of nil.
 """
 

@@ -1,9 +1,9 @@
-"""Clients that call a store at once, and record their calls for `abd`: `run_load(connect)`, where `connect()` makes a connection to your store.
+"""Clients that call a store at once, and record their calls for `abd`: `run_load(connect)`.
 
-A connection has `read(key)`, which answers a text, or None if the key is absent, and `write(key, value)`. What they raise says how a call
-ended. After `Refused` it surely did nothing: it is tried again, inside the same call. After any other exception it may take effect, now or
-later: it stays open, and the thread goes on as a new client. It takes a new connection too, since the old one may still bring the answer,
-which would be taken for the next call's.
+`connect()` makes a connection to your store. It has `read(key)`, which answers a text, or None if the key is absent, and `write(key,
+value)`. What they raise says how a call ended. After `Refused` it surely did nothing: it is tried again, inside the same call. After any
+other exception it may take effect, now or later: it stays pending, and the thread goes on as a new client. It takes a new connection too,
+since the old one may still bring the answer, which would be taken for the next call's.
 
 A store with tags: a connection that has a `tag` after a call, a pair of numbers, has it noted before the response. At the end the writes
 without an answer get the tags that reads of their values had.
@@ -31,15 +31,15 @@ class Load:
         self.recorder = Recorder(file)
         self.end = time.monotonic() + seconds
         self.refused, self.unanswered, self.mistakes = [], [], []
-        self.open_writes, self.tags = {}, {}
+        self.pending_writes, self.tags = {}, {}
 
     def is_over(self):
         """Whether the time is up, or a thread has found a mistake in the test."""
         return time.monotonic() >= self.end or len(self.mistakes) > 0
 
-    def note_open_writes(self):
+    def note_pending_writes(self):
         """Notes the tags of writes without an answer, as far as reads have shown them."""
-        for written, call in self.open_writes.items():
+        for written, call in self.pending_writes.items():
             if self.tags.get(written) is not None:
                 self.recorder.note(call, *self.tags[written])
 
@@ -83,7 +83,7 @@ class Caller(threading.Thread):
             self.note(call)
             self.load.recorder.respond_write(call)
         else:
-            self.load.open_writes[key, value] = call
+            self.load.pending_writes[key, value] = call
             self.go_on_as_another()
 
     def read(self, key):
@@ -138,7 +138,7 @@ def require_absent(connection, keys):
             raise ValueError(f"key {key} holds {value!r} before the first call: empty the store, or take keys that are new")
 
 
-def run_load(connect, file=sys.stdout, clients=4, keys=("x", "y"), calls=250, writes=0.3, pause=0.001, seconds=60.0):
+def run_load(connect, file=sys.stdout, clients=8, keys=("x", "y"), calls=2500, writes=0.3, pause=0.0, seconds=60.0):
     """Each client makes so many calls, a share of them writes, with pauses of about so long, until the time is up. Writes the history."""
     require_absent(connect(), keys)
     load = Load(connect, file, keys, calls, writes, pause, seconds)
@@ -147,7 +147,7 @@ def run_load(connect, file=sys.stdout, clients=4, keys=("x", "y"), calls=250, wr
         thread.start()
     for thread in threads:
         thread.join()
-    load.note_open_writes()
+    load.note_pending_writes()
     load.tell()
     if load.mistakes:
         raise load.mistakes[0]

@@ -42,7 +42,7 @@ def recorded(connect, **options):
     """The history of a run with empty maps."""
     Map.values.clear()
     file = io.StringIO()
-    run_load(connect, file, **{"pause": 0.0, **options})
+    run_load(connect, file, **{"clients": 4, "calls": 250, **options})
     return file.getvalue()
 
 

@@ -12,7 +12,7 @@ NUMBERS = {1: 1_731_234_567_890_123, 2: 1_731_234_567_890_124, 3: 9_223_372_036_
 
 
 def recorded(numbers):
-    """Three writes and reads of them, the last write open, and a read of an absent key, with these numbers for 1, 2 and 3."""
+    """Three writes and reads of them, the last write pending, and a read of an absent key, with these numbers for 1, 2 and 3."""
     file = io.StringIO()
     log = Recorder(file)
     reader = log.new_client()

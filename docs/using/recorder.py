@@ -143,7 +143,7 @@ def require_key(key):
 def require_value(value):
     """Raises a ValueError if no history takes the value."""
     if not isinstance(value, str):
-        raise ValueError(f"value {value!r} should be a text")
+        raise ValueError(f"value {value!r} should be a text, a str")
     try:
         size = len(value.encode())
     except UnicodeEncodeError:

@@ -1,4 +1,4 @@
-"""What the recorder refuses, and four threads that call a map with one lock: python3 recorder_test.py > run.history && abd justify run.history
+"""What the recorder refuses, and four threads that call a map with one lock: python3 recorder_test.py > run.history
 
 One call in twenty gets no answer: it may have taken effect, and its thread goes on as a new client.
 """
@@ -42,9 +42,9 @@ def refusals():
     refused(lambda: log.invoke_read(1, "x\n"), "key 'x\\n' should be 1 to 64 letters, digits, '.', '_' or '-'")
     refused(lambda: log.invoke_read(1, "x" * 65), f"key '{'x' * 65}' should be 1 to 64 letters, digits, '.', '_' or '-'")
     refused(lambda: log.invoke_write(1, "x", "é" * 128 + "e"), "a value has 257 bytes, and should have at most 256")
-    refused(lambda: log.invoke_write(1, "x", 17), "value 17 should be a text")
+    refused(lambda: log.invoke_write(1, "x", 17), "value 17 should be a text, a str")
     refused(lambda: log.invoke_write(1, "x", "\ud800"), "value '\\ud800' has no UTF-8")
-    refused(lambda: log.respond_read(read, b"a"), "value b'a' should be a text")
+    refused(lambda: log.respond_read(read, b"a"), "value b'a' should be a text, a str")
     refused(lambda: log.respond_write(read), "call 0 is a read, not a write")
     refused(lambda: log.respond_read(write, None), "call 1 is a write, not a read")
     refused(lambda: log.respond_write(2), "call 2 isn't pending")

@@ -2,6 +2,7 @@
 """A toy store of replicated registers, recorded as a history file for `abd`: python3 toy_store.py [--bug BUG] > run.history
 
 Five replicas, each a thread with its inbox; eight clients, each a thread, make 10,000 calls on four keys. One message in ten is lost.
+Each call notes its tag, so `abd explain` says which rule of the algorithm a bug breaks.
 """
 
 import argparse
@@ -13,7 +14,7 @@ import time
 
 from recorder import Recorder
 
-REPLICAS, CLIENTS, CALLS, KEYS = 5, 8, 10_000, ("a", "b", "c", "d")
+REPLICAS, CLIENTS, KEYS = 5, 8, ("a", "b", "c", "d")
 LOST, SLOW = 0.1, 0.02
 LEAST = ((0, 0), None)
 BUGS = {
@@ -51,14 +52,14 @@ class Replica(threading.Thread):
 class Client(threading.Thread):
     """Makes its share of the calls, one at a time."""
 
-    def __init__(self, name, replicas, recorder, bug):
+    def __init__(self, name, calls, replicas, recorder, bug):
         super().__init__()
-        self.number, self.replicas, self.recorder, self.bug = name, replicas, recorder, bug
+        self.number, self.calls, self.replicas, self.recorder, self.bug = name, calls, replicas, recorder, bug
         self.quorum = REPLICAS // 2 + (0 if bug == "small-majority" else 1)
         self.inbox, self.phase = queue.SimpleQueue(), 0
 
     def run(self):
-        for turn in range(CALLS // CLIENTS):
+        for turn in range(self.calls):
             key = random.choice(KEYS)
             if random.random() < 0.3:
                 self.write(key, f"{self.number}.{turn}")
@@ -106,10 +107,11 @@ def main():
     bugs = "\n".join(f"  {name}: {what}" for name, what in BUGS.items())
     parser = argparse.ArgumentParser(description=__doc__, epilog=f"bugs:\n{bugs}", formatter_class=argparse.RawDescriptionHelpFormatter)
     parser.add_argument("--bug", choices=BUGS)
-    bug = parser.parse_args().bug
-    replicas = [Replica(bug) for _ in range(REPLICAS)]
+    parser.add_argument("--calls", type=int, default=10_000, help="how many calls are made (10,000)")
+    words = parser.parse_args()
+    replicas = [Replica(words.bug) for _ in range(REPLICAS)]
     recorder = Recorder(sys.stdout)
-    clients = [Client(name, replicas, recorder, bug) for name in range(1, CLIENTS + 1)]
+    clients = [Client(name, words.calls // CLIENTS, replicas, recorder, words.bug) for name in range(1, CLIENTS + 1)]
     for thread in replicas + clients:
         thread.start()
     for client in clients:
