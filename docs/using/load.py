@@ -126,8 +126,10 @@ class Caller(threading.Thread):
         return self.connection
 
     def go_on_as_another(self):
+        """A new client, and not at once: names are few, and a store that is down has no answer for a while."""
         self.connection = None
         self.client = self.load.recorder.new_client()
+        time.sleep(0.05)
 
 
 def require_absent(connection, keys):

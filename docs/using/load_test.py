@@ -53,7 +53,7 @@ def verdict(abd, history):
 
 def atomic_whatever_happens(abd):
     """Refusals and calls without an answer make no atomic store another."""
-    for refuses, is_silent in ((0.0, 0.0), (0.2, 0.0), (0.0, 0.1), (0.1, 0.1)):
+    for refuses, is_silent in ((0.0, 0.0), (0.2, 0.0), (0.0, 0.03), (0.1, 0.03)):
         first = [Map()]  # the connection that looks whether the keys are absent is a sound one
         history = recorded(lambda: first.pop() if first else Map(refuses, is_silent))
         assert sorted(verdict(abd, history).splitlines()) == ["x: atomic", "y: atomic"]
