@@ -18,7 +18,7 @@ and the lines may end.
 - the row programs: each row alone. What is said of it is what is expected, up to a line that names memory, or that a thread couldn't be
   started for want of it, or a step that the program couldn't make, or to the program's end.
 - store_example: a key that it names has the verdict yes, whatever was refused.
-- test_memory and test_threads: each test of a refused allocation. It passes (it calls again after a refused one, and compares whole
+- test_resources: each test of a refused allocation. It passes (it calls again after a refused one, and compares whole
   worlds, pools, replicas, clients and histories as they were before the call and after it, and verdicts), or it ends early, since an allocation
   of its own was refused.
 - test_twin: its test ends early, and names memory.
@@ -61,7 +61,7 @@ WANT = (
 )
 ROWS = ["test_commands", "test_protocol", "test_records", "test_runs"]
 # The tests that are gone over, by what their names have, and whether all allocations of each are refused.
-TESTS = {"test_memory": ("refused_growth", True), "test_threads": ("refused_growth", True), "test_twin": ("both_worlds", False)}
+TESTS = {"test_resources": ("refused_growth", True), "test_twin": ("both_worlds", False)}
 
 
 class Wrong(Exception):
