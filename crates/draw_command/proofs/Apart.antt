@@ -10,8 +10,8 @@ use Rattle.recorder.specs.Histories.{Recorded}
 use Rattle.parallel_keys.specs.CheckedKeys.{CheckedKey, KeyParts, all_parts, checked_keys, is_other, other_key, recorded_key}
 use Rattle.parallel_keys.specs.Histories.{AreHallParts}
 use Rattle.cli.proofs.Entries.{contains_nothing}
-use Rattle.scenes.specs.Points.{AreApart}
-use Rattle.scenes.proofs.RunningPoints.{apart}
+use Rattle.linearization_points.specs.Points.{AreApart}
+use Rattle.linearization_points.proofs.RunningPoints.{apart}
 use Rattle.draw_command.specs.Findings.{AreJudged, IsFinding, Judgement, is_no, refused_first}
 use Rattle.draw_command.specs.Judging.{IsDrawable, judgement_of}
 use Rattle.draw_command.specs.declared.finding.JudgedKey.{JudgedKey}

@@ -6,7 +6,7 @@ use Rattle.tag.specs.declared.numbers.OpId.{OpId}
 use Rattle.recorder.specs.declared.part.Call.{Call}
 use Rattle.parallel_keys.specs.CheckedKeys.{CheckedKey}
 use Rattle.explanations.specs.declared.hall_rows.HallRows.{HallRows}
-use Rattle.scenes.specs.Points.{ArePoints}
+use Rattle.linearization_points.specs.Points.{ArePoints}
 use Rattle.scenes.specs.declared.scene.Scene.{Scene}
 use Rattle.scenes.proofs.ShownCalls.{places_up}
 use Rattle.pictures.specs.Layout.{IsInOrder}

@@ -6,7 +6,7 @@ use Rattle.std.proofs.lemmas.List.Elements.{All-filter, All-same}
 use Rattle.parallel_keys.specs.CheckedKeys.{CheckedKey}
 use Rattle.parallel_keys.specs.KeysToCheck.{what_of}
 use Rattle.parallel_keys.specs.declared.collect_keys.KeyToCheck.{KeyToCheck}
-use Rattle.scenes.specs.Points.{AreApart}
+use Rattle.linearization_points.specs.Points.{AreApart}
 use Rattle.explain_command.specs.Explanations.{missing_name, named_key as name_in}
 use Rattle.explain_command.specs.KeyExplanations.{is_selected, selected_keys}
 use Rattle.explain_command.specs.declared.selection.Selection.{Selection}

@@ -15,7 +15,7 @@ use Rattle.reasons.specs.declared.tag_reasons.TagReason.{TagReason}
 use Rattle.reasons.specs.declared.tag_reasons.TagReason.TheVariants as tag_reason
 use Rattle.explanations.specs.declared.hall_rows.HallRows.{HallRows}
 use Rattle.explanations.specs.Sentences.{order_reason_text, tag_reason_text}
-use Rattle.scenes.specs.Points.{ArePoints}
+use Rattle.linearization_points.specs.Points.{ArePoints}
 use Rattle.scenes.specs.Scenes.{IsRisingListOf, IsSceneOf}
 use Rattle.scenes.specs.Windows.{IsToShow, IsWindowAround}
 use Rattle.scenes.specs.declared.scene.Scene.{Scene}

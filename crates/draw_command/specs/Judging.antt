@@ -2,7 +2,7 @@
 use Rattle.std.specs.Prelude.{◌≡◌, List, map}
 use Rattle.parallel_keys.specs.CheckedKeys.{CheckedKey}
 use Rattle.parallel_keys.specs.KeysToCheck.{what_of}
-use Rattle.scenes.specs.Points.{AreApart}
+use Rattle.linearization_points.specs.Points.{AreApart}
 use Rattle.draw_command.specs.Findings.{AreJudged, IsFinding, Judgement, refused_count}
 use Rattle.draw_command.specs.Findings.{refused_first}
 use Rattle.draw_command.specs.declared.finding.Findings.{Findings}

@@ -2,7 +2,7 @@
 ghost use Rattle.std.specs.Prelude.{All, IfOk, List, OnOk, map};
 ghost use Rattle.parallel_keys.specs.CheckedKeys.{AreDistinct, CheckedKey};
 ghost use Rattle.parallel_keys.specs.KeysToCheck.{what_of};
-ghost use Rattle.scenes.specs.Points.{AreApart};
+ghost use Rattle.linearization_points.specs.Points.{AreApart};
 ghost use Rattle.explain_command.specs.Files.{HaveKeys};
 ghost use Rattle.explain_command.specs.KeyExplanations.{HasLinesOfEach};
 ghost use Rattle.draw_command.specs.HistoryPictures.{IsContentOfTags, IsJudgedContent};

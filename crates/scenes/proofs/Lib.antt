@@ -1,4 +1,3 @@
-pub mod RunningPoints
 pub mod Rising
 pub mod Just
 pub mod ShownCalls

@@ -21,7 +21,7 @@ use Rattle.scenes.proofs.Rising.{rises_in, rises_from, rises_mapped}
 use Rattle.scenes.specs.declared.scene.Bar.{Bar}
 use Rattle.scenes.specs.declared.scene.Dot.{Dot}
 use Rattle.scenes.specs.declared.scene.Scene.{Scene}
-use Rattle.scenes.specs.Points.{ArePoints}
+use Rattle.linearization_points.specs.Points.{ArePoints}
 use Rattle.scenes.specs.Scenes.{IsSelection, HasCallOf, IsBarOf, AreBarsOf, IsDotOf, IsPlaceIn, IsSceneOf}
 
 -- the clients of one call more

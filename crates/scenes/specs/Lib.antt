@@ -1,4 +1,3 @@
-pub mod Points
 pub mod Scenes
 pub mod Windows
 pub mod Overlaps

@@ -7,16 +7,13 @@
 
 mod bars;
 mod dots;
-mod find;
 mod lanes;
 pub mod laws;
 mod overlap;
-mod points;
 mod scene;
 mod ticks;
 mod windows;
 
 pub use overlap::most_at_once;
-pub use points::points_of;
 pub use scene::{Bar, Dot, Scene, scene_of};
 pub use windows::{Window, shown_calls, window_around};

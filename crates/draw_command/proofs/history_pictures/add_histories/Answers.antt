@@ -6,7 +6,7 @@ use Rattle.recorder.specs.Histories.{Recorded}
 use Rattle.recorder.specs.Records.{KeyedParts}
 use Rattle.parallel_keys.specs.CheckedKeys.{CheckedKey, all_parts, checked_keys}
 use Rattle.parallel_keys.specs.Histories.{AreHallParts}
-use Rattle.scenes.specs.Points.{AreApart}
+use Rattle.linearization_points.specs.Points.{AreApart}
 use Rattle.draw_command.specs.HistoryPictures.{IsJudgedContent}
 use Rattle.draw_command.specs.Making.{Adds}
 use Rattle.draw_command.proofs.Apart.{checked_apart}

@@ -1,5 +1,5 @@
-use Rattle.scenes.proofs.RunningPoints.{points_there, kept}
-use Rattle.scenes.proofs.laws.precedence_is_kept_where_there_are_points.Goals as goal
+use Rattle.linearization_points.proofs.RunningPoints.{points_there, kept}
+use Rattle.linearization_points.proofs.laws.precedence_is_kept_where_there_are_points.Goals as goal
 
 pub returns : goal.returns
 returns c part order sequence apart known = (

@@ -17,7 +17,7 @@ use Rattle.recorder.specs.declared.part.Response.{Response}
 use Rattle.recorder.specs.Orders.{StandsAt}
 use Rattle.recorder.specs.Parts.{IsSequence}
 use Rattle.recorder.specs.Records.{IsPart}
-use Rattle.scenes.specs.Points.{IsWithin, AreApart, AreCalls, KeepsPrecedence, ArePoints}
+use Rattle.linearization_points.specs.Points.{IsWithin, AreApart, AreCalls, KeepsPrecedence, ArePoints}
 
 -- in a history a row is either an invocation or a response
 pub apart : (rows : List Row) (key : List ℕ) (part : List Call) → IsPart rows key part → AreApart part
