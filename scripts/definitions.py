@@ -46,7 +46,8 @@ To read a definition in its file:
 # The definitions to read first: what they are about, and each as crate.NAME.
 FIRST = (
     ("Tags and records", "tag.Tag tag.IsBelow recorder.IsWellFormed recorder.IsPart recorder.Precedes"),
-    ("Orders and tags", "recorder.IsLegal recorder.IsOrder recorder.IsLinearizable recorder.TagSound recorder.IsByTag"),
+    ("Orders and tags", "recorder.IsLegal recorder.IsOrder recorder.IsLinearizable recorder.TagSound recorder.IsByTag"
+     " store_orders.IsStoreOrder"),
     ("Verdicts", "certificate_check.IsVerdict tag_check.IsTagVerdict parallel_keys.AreVerdictsOnHistory"),
     ("The protocol", "quorum.IsAskQuorum quorum.IsPutQuorum world_steps.System world_steps.Steps world_steps.Sound world_steps.IsSound"),
     ("The running store", "hall_lock.HasOneHall recorder.IsLog seats.IsAnswered node_threads.IsClosed node_threads.Closes"),

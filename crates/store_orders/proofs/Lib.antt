@@ -1,0 +1,11 @@
+mod Recorded
+mod Turns
+mod KeyTurns
+mod TimedOrders
+mod Merged
+mod AddedCalls
+mod Sorted
+mod OfOrders
+mod Insertion
+mod Exists
+mod AllCalls

@@ -1,0 +1,3 @@
+pub mod StoreOrders
+pub mod Turns
+pub mod TimedCalls
