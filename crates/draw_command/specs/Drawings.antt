@@ -34,15 +34,20 @@ default_drawn =
 
 -- ---- why a key is refused
 
+-- the number of a call, if there is one
+abbrev pub call_numbers : Option Call → List OpId
+call_numbers None = []
+call_numbers (Some call) = call.op ∷ []
+
 -- the calls of the reason why a list is no order
 abbrev pub order_calls : OrderReason → List OpId
 order_calls (order_reason.UnknownCall place op) = []
 order_calls (order_reason.CallTwice earlier place call) = call.op ∷ []
 order_calls (order_reason.MissingCall call) = call.op ∷ []
 order_calls (order_reason.PendingRead read) = read.call.op ∷ []
-order_calls (order_reason.WrongAnswer read None) = read.call.op ∷ []
-order_calls (order_reason.WrongAnswer read (Some last)) =
-    read.call.op ∷ last.call.op ∷ []
+order_calls (order_reason.WrongAnswer read None unnoted) = read.call.op ∷ call_numbers unnoted
+order_calls (order_reason.WrongAnswer read (Some last) unnoted) =
+    read.call.op ∷ last.call.op ∷ call_numbers unnoted
 order_calls (order_reason.OrderBroken earlier later) =
     earlier.call.op ∷ later.call.op ∷ []
 
@@ -52,9 +57,10 @@ tag_calls (tag_reason.NoNote call) = call.op ∷ []
 tag_calls (tag_reason.LeastTag write) = write.op ∷ []
 tag_calls (tag_reason.SameTag earlier later) = earlier.op ∷ later.op ∷ []
 tag_calls (tag_reason.NotAbove earlier later) = earlier.op ∷ later.op ∷ []
-tag_calls (tag_reason.NoWrite read) = read.op ∷ []
-tag_calls (tag_reason.OtherValue read None) = read.op ∷ []
-tag_calls (tag_reason.OtherValue read (Some write)) = read.op ∷ write.op ∷ []
+tag_calls (tag_reason.NoWrite read unnoted) = read.op ∷ call_numbers unnoted
+tag_calls (tag_reason.OtherValue read None unnoted) = read.op ∷ call_numbers unnoted
+tag_calls (tag_reason.OtherValue read (Some write) unnoted) =
+    read.op ∷ write.op ∷ call_numbers unnoted
 
 module _ (hall : HallRows) where
   -- why a key is refused: the sentences of its reason, and the calls that these name; of a yes none

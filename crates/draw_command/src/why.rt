@@ -1,13 +1,14 @@
 //! Why a key is refused.
-ghost use Rattle.std.specs.Prelude.{◌≡◌, IfOk};
+ghost use Rattle.std.specs.Prelude.{◌≡◌, ◌++◌, IfOk};
 ghost use Rattle.parallel_keys.specs.KeysToCheck.{what_of};
-ghost use Rattle.draw_command.specs.Drawings.{IsWhy, order_calls, tag_calls};
+ghost use Rattle.draw_command.specs.Drawings.{IsWhy, call_numbers, order_calls, tag_calls};
 ghost use Rattle.draw_command.specs.Findings.{IsFinding};
 
 use crate::finding::{Finding, JudgedKey};
 use explain_command::Judged;
 use explanations::{HallRows, append_order_reason, append_tag_reason};
 use reasons::{OrderReason, TagReason, order_reason, tag_reason};
+use recorder::Call;
 use std::alloc::Global;
 use tag::{Memory, OpId};
 
@@ -20,47 +21,65 @@ pub(crate) struct Why {
     pub(crate) faulty: Vec<OpId>,
 }
 
+/// The calls, and after them the write, if there is one.
+fn with_write(alloc: Global, calls: &[OpId], write: &Option<Call<'_>>) -> Result<Vec<OpId>, Memory>
+    ensures { IfOk result (λ all. all.items ≡ calls.now ++ call_numbers write.now) }
+{
+    let mut all = Vec::from_slice(alloc, calls)?;
+    if let Some(write) = write {
+        all.push(write.op)?;
+    }
+    Ok(all)
+}
+
 /// The calls of the reason.
 fn order_calls(alloc: Global, reason: &OrderReason<'_>) -> Result<Vec<OpId>, Memory>
     ensures { IfOk result (λ calls. calls.items ≡ order_calls reason.now) }
 {
-    let calls = match reason {
-        OrderReason::UnknownCall { .. } => Vec::from_slice(alloc, &[]),
+    match reason {
+        OrderReason::UnknownCall { .. } => Ok(Vec::new(alloc)),
         OrderReason::CallTwice { call, .. } | OrderReason::MissingCall { call } => {
-            Vec::from_slice(alloc, &[call.op])
+            Ok(Vec::from_slice(alloc, &[call.op])?)
         }
-        OrderReason::PendingRead { read } => Vec::from_slice(alloc, &[read.call.op]),
-        OrderReason::WrongAnswer { read, last: None } => { Vec::from_slice(alloc, &[read.call.op]) }
+        OrderReason::PendingRead { read } => Ok(Vec::from_slice(alloc, &[read.call.op])?),
+        OrderReason::WrongAnswer {
+            read,
+            last: None,
+            unnoted,
+        } => with_write(alloc, &[read.call.op], unnoted),
         OrderReason::WrongAnswer {
             read,
             last: Some(last),
-        } => Vec::from_slice(alloc, &[read.call.op, last.call.op]),
+            unnoted,
+        } => with_write(alloc, &[read.call.op, last.call.op], unnoted),
         OrderReason::OrderBroken { earlier, later } => {
-            Vec::from_slice(alloc, &[earlier.call.op, later.call.op])
+            Ok(Vec::from_slice(alloc, &[earlier.call.op, later.call.op])?)
         }
-    };
-    Ok(calls?)
+    }
 }
 
 /// The calls of the reason.
 fn tag_calls(alloc: Global, reason: &TagReason<'_>) -> Result<Vec<OpId>, Memory>
     ensures { IfOk result (λ calls. calls.items ≡ tag_calls reason.now) }
 {
-    let calls = match reason {
-        TagReason::NoNote { call } => Vec::from_slice(alloc, &[call.op]),
-        TagReason::LeastTag { write } => Vec::from_slice(alloc, &[write.op]),
+    match reason {
+        TagReason::NoNote { call } => Ok(Vec::from_slice(alloc, &[call.op])?),
+        TagReason::LeastTag { write } => Ok(Vec::from_slice(alloc, &[write.op])?),
         TagReason::SameTag { earlier, later } | TagReason::NotAbove { earlier, later } => {
-            Vec::from_slice(alloc, &[earlier.op, later.op])
+            Ok(Vec::from_slice(alloc, &[earlier.op, later.op])?)
         }
-        TagReason::NoWrite { read } | TagReason::OtherValue { read, write: None } => {
-            Vec::from_slice(alloc, &[read.op])
-        }
+        TagReason::NoWrite { read, unnoted }
+        | TagReason::OtherValue {
+            read,
+            write: None,
+            unnoted,
+        } => with_write(alloc, &[read.op], unnoted),
         TagReason::OtherValue {
             read,
             write: Some(write),
-        } => Vec::from_slice(alloc, &[read.op, write.op]),
-    };
-    Ok(calls?)
+            unnoted,
+        } => with_write(alloc, &[read.op, write.op], unnoted),
+    }
 }
 
 /// Why the key is refused; nothing if it isn't.

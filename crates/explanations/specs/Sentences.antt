@@ -131,6 +131,13 @@ module _ (key : List ℕ) (hall : HallRows) where
       ++ placed_line key hall (codes "  the last write before it in the order is at place ")
       last.place last.call ++ due_line (last_value (Some last))
 
+  -- the write without a note that the read may have read, if there is one
+  unfoldable pub unnoted_text : Option Call → List ℕ
+  unnoted_text None = []
+  unnoted_text (Some write) = call_line key hall
+      (codes "  the read answers what this write wrote, which was neither noted nor answered: ")
+      write
+
   -- two calls stand against their precedence: the later was answered before the earlier began
   unfoldable pub order_broken_text : PlacedCall → PlacedCall → List ℕ
   order_broken_text earlier later =
@@ -148,7 +155,8 @@ module _ (key : List ℕ) (hall : HallRows) where
   order_reason_text (order_reason.CallTwice earlier place call) = twice_text earlier place call
   order_reason_text (order_reason.MissingCall call) = missing_text call
   order_reason_text (order_reason.PendingRead read) = pending_text read
-  order_reason_text (order_reason.WrongAnswer read last) = wrong_answer_text read last
+  order_reason_text (order_reason.WrongAnswer read last unnoted) =
+      wrong_answer_text read last ++ unnoted_text unnoted
   order_reason_text (order_reason.OrderBroken earlier later) = order_broken_text earlier later
 
 -- ---- tags
@@ -207,8 +215,10 @@ module _ (key : List ℕ) (hall : HallRows) where
   broken_text (tag_reason.LeastTag write) = least_tag_text write
   broken_text (tag_reason.SameTag earlier later) = same_tag_text earlier later
   broken_text (tag_reason.NotAbove earlier later) = not_above_text earlier later
-  broken_text (tag_reason.NoWrite read) = no_write_text read
-  broken_text (tag_reason.OtherValue read write) = other_value_text read write
+  broken_text (tag_reason.NoWrite read unnoted) =
+      no_write_text read ++ unnoted_text key hall unnoted
+  broken_text (tag_reason.OtherValue read write unnoted) =
+      other_value_text read write ++ unnoted_text key hall unnoted
 
 -- what may have broken the rule
 abbrev pub hint_text : TagReason → List ℕ
@@ -221,9 +231,9 @@ hint_text (tag_reason.SameTag earlier later) =
 hint_text (tag_reason.NotAbove earlier later) =
     codes "a read without its write-back, quorums that do not meet, a tag taken without asking, "
     ++ codes "stale replies that are counted, or a replica that forgets"
-hint_text (tag_reason.NoWrite read) =
+hint_text (tag_reason.NoWrite read unnoted) =
     codes "a value or a tag that no recorded write stored, or a log that lost a line"
-hint_text (tag_reason.OtherValue read write) =
+hint_text (tag_reason.OtherValue read write unnoted) =
     codes "an answer from elsewhere, such as a value that was stored without its tag"
 
 -- why the tags of the key's calls aren't sound

@@ -2,6 +2,7 @@
 ghost use Rattle.std.specs.Prelude.{◌≡◌, ◌++◌, OnOk};
 ghost use Rattle.explanations.specs.Sentences.{action_text, call_line, call_text, note_text};
 ghost use Rattle.explanations.specs.Sentences.{placed_line, response_text, returned_text};
+ghost use Rattle.explanations.specs.Sentences.{unnoted_text};
 
 use crate::hall_rows::HallRows;
 use crate::pieces::Subject;
@@ -108,6 +109,26 @@ impl Subject<'_, '_> {
         append(text, words)?;
         self.append_call(text, call)?;
         append(text, "\n")
+    }
+
+    /// Says which write without a note the read may have read, if there is one.
+    #[tactic(auto, unfolding(crate::specs::Sentences::unnoted_text))]
+    pub(crate) fn say_unnoted(
+        &self,
+        text: &mut Vec<u8>,
+        write: &Option<Call<'_>>,
+    ) -> Result<(), Memory>
+        ensures { OnOk result (text.new.items
+            ≡ text.old.items ++ unnoted_text self.now.key.now self.now.hall write.now) }
+    {
+        match write {
+            None => Ok(()),
+            Some(write) => {
+                let words =
+                    "  the read answers what this write wrote, which was neither noted nor answered: ";
+                self.append_line(text, words, write)
+            }
+        }
     }
 
     /// Adds the words, the place, and the call that stands there.

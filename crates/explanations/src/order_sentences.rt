@@ -131,7 +131,14 @@ pub fn append_order_reason(
             let placed = Piece::Placed("  place ", read.place, &read.call);
             subject.say(text, &[placed, Piece::Words(due)])
         }
-        OrderReason::WrongAnswer { read, last } => subject.say_wrong_answer(text, read, last),
+        OrderReason::WrongAnswer {
+            read,
+            last,
+            unnoted,
+        } => {
+            subject.say_wrong_answer(text, read, last)?;
+            subject.say_unnoted(text, unnoted)
+        }
         OrderReason::OrderBroken { earlier, later } => subject.say_broken(text, earlier, later),
     }
 }

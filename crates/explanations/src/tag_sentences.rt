@@ -113,8 +113,18 @@ impl Subject<'_, '_> {
                 )
             }
             TagReason::NotAbove { earlier, later } => self.say_not_above(text, earlier, later),
-            TagReason::NoWrite { read } => self.say_no_write(text, read),
-            TagReason::OtherValue { read, write } => self.say_other_value(text, read, write),
+            TagReason::NoWrite { read, unnoted } => {
+                self.say_no_write(text, read)?;
+                self.say_unnoted(text, unnoted)
+            }
+            TagReason::OtherValue {
+                read,
+                write,
+                unnoted,
+            } => {
+                self.say_other_value(text, read, write)?;
+                self.say_unnoted(text, unnoted)
+            }
         }
     }
 }

@@ -65,7 +65,7 @@ module _ (part : List Call) (order : List OpId) where
         let there = good.complete call shows.0 shows.1 in
         shows.2 there.0 there.1
     no_order (reason.PendingRead read) shows good = good.writes read.place read.call shows.0 shows.1 shows.2
-    no_order (reason.WrongAnswer read last) shows good =
+    no_order (reason.WrongAnswer read last unnoted) shows good =
         let wrong = shows.2 in
         let right = good.legal read.place read.call wrong.1.0 shows.0 wrong.0 wrong.1.1 in
         let same : right.0 ≡ last_value last = same_last part order sequence read.place right.0 (last_value last) right.2 (last_written part order read.place last shows.1) in

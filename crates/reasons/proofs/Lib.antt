@@ -3,3 +3,4 @@ pub mod NotePlaces
 pub mod ListedCalls
 pub mod Faults
 pub mod Rules
+pub mod UnnotedWrites

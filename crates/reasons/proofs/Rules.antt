@@ -96,9 +96,9 @@ module _ (part : List Call) (sound : TagSound part) where
   no_rule (reason.NotAbove earlier later) breaks =
       let broken = breaks.2 in
       not_above earlier later broken breaks.0 breaks.1 broken.s broken.t broken.first broken.second broken.low
-  no_rule (reason.NoWrite read) breaks =
+  no_rule (reason.NoWrite read unnoted) breaks =
       let broken = breaks.1 in
       let answered = broken.answered in
       let right = sound.answers read answered.1.0 broken.tag answered.0 (record { recorded = breaks.0; noted = answered.2 }) broken.other answered.1.1 in
       broken.unwritten right.0 right.2.recorded ((right.1, right.3), right.2.noted)
-  no_rule (reason.OtherValue read write) breaks = other_value read write breaks.0 breaks.1 breaks.2
+  no_rule (reason.OtherValue read write unnoted) breaks = other_value read write breaks.0 breaks.1 breaks.2

@@ -9,6 +9,7 @@ use Rattle.certificate_check.specs.Verdicts.{IsLeast}
 use Rattle.certificate_check.specs.declared.verdict.Fault.{Fault}
 use Rattle.certificate_check.specs.declared.verdict.Fault.TheVariants as fault
 use Rattle.reasons.specs.Calls.{IsCallOf, AnswersNot, written_by}
+use Rattle.reasons.specs.Unnoted.{IsFirstUnnoted}
 use Rattle.reasons.specs.declared.order_reasons.OrderReason.{OrderReason}
 use Rattle.reasons.specs.declared.order_reasons.OrderReason.TheVariants as reason
 use Rattle.reasons.specs.declared.order_reasons.PlacedCall.{PlacedCall}
@@ -19,7 +20,7 @@ fault_of (reason.UnknownCall place op) = fault.UnknownCall place
 fault_of (reason.CallTwice earlier place call) = fault.CallTwice place
 fault_of (reason.MissingCall call) = fault.MissingCall call.op
 fault_of (reason.PendingRead read) = fault.PendingRead read.place
-fault_of (reason.WrongAnswer read last) = fault.WrongAnswer read.place
+fault_of (reason.WrongAnswer read last unnoted) = fault.WrongAnswer read.place
 fault_of (reason.OrderBroken earlier later) = fault.OrderBroken earlier.place later.place
 
 -- the value of a register after its last write; without one, absent
@@ -57,8 +58,9 @@ module _ (part : List Call) (order : List OpId) where
   ShowsNoOrder (reason.PendingRead read) =
       Stands read × IsPending read.call × IsRead read.call
   -- the read doesn't answer what the last write before it wrote
-  ShowsNoOrder (reason.WrongAnswer read last) = Stands read × IsLastWriteBefore read.place last
-      × AnswersNot read.call (last_value last)
+  ShowsNoOrder (reason.WrongAnswer read last unnoted) = Stands read
+      × IsLastWriteBefore read.place last × AnswersNot read.call (last_value last)
+      × IsFirstUnnoted part read.call unnoted
   -- the call that stands later was answered before the earlier one began
   ShowsNoOrder (reason.OrderBroken earlier later) = (earlier.place < later.place)
       × Stands earlier × Stands later × Precedes later.call earlier.call

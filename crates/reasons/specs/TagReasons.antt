@@ -8,6 +8,7 @@ use Rattle.tag_check.specs.declared.rule.BrokenRule.TheVariants as rule
 use Rattle.tag_check.specs.Rules.{LacksNote, IsLeastWrite, ShareTag, IsNotAbove, AnswersNoWrite}
 use Rattle.tag_check.specs.Rules.{IsWriteOf}
 use Rattle.reasons.specs.Calls.{AnswersNot, written_by}
+use Rattle.reasons.specs.Unnoted.{IsFirstUnnoted}
 use Rattle.reasons.specs.declared.tag_reasons.TagReason.{TagReason}
 use Rattle.reasons.specs.declared.tag_reasons.TagReason.TheVariants as reason
 
@@ -22,8 +23,8 @@ rule_of (reason.NoNote call) = rule.NoNote call.op
 rule_of (reason.LeastTag write) = rule.LeastTag write.op
 rule_of (reason.SameTag earlier later) = rule.SameTag earlier.op later.op
 rule_of (reason.NotAbove earlier later) = rule.NotAbove earlier.op later.op
-rule_of (reason.NoWrite read) = rule.NoWrite read.op
-rule_of (reason.OtherValue read write) = rule.OtherValue read.op (number_of write)
+rule_of (reason.NoWrite read unnoted) = rule.NoWrite read.op
+rule_of (reason.OtherValue read write unnoted) = rule.OtherValue read.op (number_of write)
 
 -- the value that the tag of a write stands for; without one, absent
 abbrev pub tag_value : Option Call → Option (List ℕ)
@@ -45,9 +46,11 @@ module _ (part : List Call) where
       Contains part earlier × Contains part later × ShareTag earlier later
   BreaksRule (reason.NotAbove earlier later) =
       Contains part earlier × Contains part later × IsNotAbove earlier later
-  BreaksRule (reason.NoWrite read) = Contains part read × AnswersNoWrite part read
-  BreaksRule (reason.OtherValue read write) = Contains part read
+  BreaksRule (reason.NoWrite read unnoted) =
+      Contains part read × AnswersNoWrite part read × IsFirstUnnoted part read unnoted
+  BreaksRule (reason.OtherValue read write unnoted) = Contains part read
       × IsWriteOfTag read write × AnswersNot read (tag_value write)
+      × IsFirstUnnoted part read unnoted
 
   -- the reason is one for the rule, and its calls break it
   abbrev pub IsTagReason : BrokenRule → TagReason → Type 0

@@ -3,6 +3,7 @@ ghost use Rattle.std.specs.Prelude.{◌≡◌, ◌<◌, ℕ, List, length, IfSom
 ghost use Rattle.recorder.specs.Parts.{IsSequence};
 
 use crate::find::{call_of, find};
+use crate::unnoted::unnoted_writer;
 use crate::{OrderReason, PlacedCall};
 use certificate_check::Fault;
 use recorder::{Call, Part};
@@ -52,14 +53,25 @@ impl<'a, 'h> Listed<'a, 'h> {
             Fault::PendingRead(place) => OrderReason::PendingRead {
                 read: self.placed(place),
             },
-            Fault::WrongAnswer(place) => OrderReason::WrongAnswer {
-                read: self.placed(place),
-                last: self.last_write_before(place),
-            },
+            Fault::WrongAnswer(place) => self.wrong_answer(place),
             Fault::OrderBroken(earlier, later) => OrderReason::OrderBroken {
                 earlier: self.placed(earlier),
                 later: self.placed(later),
             },
+        }
+    }
+
+    /// The read that answers another value than the last write before it wrote.
+    fn wrong_answer(&self, place: usize) -> OrderReason<'h>
+        requires { IsFault self.now.part.now self.now.order.now (Fault.WrongAnswer place) }
+        ensures { IsOrderReason self.now.part.now self.now.order.now (Fault.WrongAnswer place) result }
+    {
+        let read = self.placed(place);
+        let unnoted = unnoted_writer(self.part, &read.call);
+        OrderReason::WrongAnswer {
+            read,
+            last: self.last_write_before(place),
+            unnoted,
         }
     }
 

@@ -37,10 +37,12 @@ pub enum OrderReason<'h> {
         read: PlacedCall<'h>,
     },
     /// The read answers another value than the last write before it wrote, or, where no write
-    /// stands before it, a value.
+    /// stands before it, a value. `unnoted` is the first write that it may have read of those that
+    /// have neither a response nor a note.
     WrongAnswer {
         read: PlacedCall<'h>,
         last: Option<PlacedCall<'h>>,
+        unnoted: Option<Call<'h>>,
     },
     /// The later call was answered before the earlier one began.
     OrderBroken {
@@ -51,7 +53,8 @@ pub enum OrderReason<'h> {
 
 /// The calls that show the fault, which is the verdict on the order.
 ///
-/// It takes time in proportion to the order and the logarithm of the calls' count.
+/// It takes time in proportion to the order and the logarithm of the calls' count; of a wrong answer,
+/// also to the calls that began before it.
 pub fn order_reason<'h>(part: &Part<'h>, order: &[OpId], fault: Fault) -> OrderReason<'h>
     requires { IsFault part.now order.now fault }
     ensures { IsOrderReason part.now order.now fault result }

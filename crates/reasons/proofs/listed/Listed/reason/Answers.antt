@@ -3,7 +3,7 @@ use Rattle.std.proofs.lemmas.Option.{slice_get-get_or}
 use Rattle.tag.specs.declared.numbers.OpId.{OpId}
 use Rattle.certificate_check.specs.declared.verdict.Fault.TheVariants as fault
 use Rattle.reasons.proofs.ListedCalls.{stands}
-use Rattle.reasons.proofs.Faults.{known, within, missing_found, pending_found, wrong_found, broken_found}
+use Rattle.reasons.proofs.Faults.{known, within, missing_found, pending_found, broken_found}
 use Rattle.reasons.proofs.listed.Listed.reason.Goals as goal
 
 pub call_at-requires-clause-known : goal.call_at-requires-clause-known
@@ -16,17 +16,6 @@ placed-requires-clause-within c =
     let s = c.args.self.now in
     let read = (rw c.in-PendingRead.is at c.requires).shown in
     within s.part.now s.order.now c.in-PendingRead.place read.0 read.1
-
-pub placed-requires-in-WrongAnswer-clause-within : goal.placed-requires-in-WrongAnswer-clause-within
-placed-requires-in-WrongAnswer-clause-within c =
-    let s = c.args.self.now in
-    let wrong = (rw c.in-WrongAnswer.is at c.requires).shown in
-    within s.part.now s.order.now c.in-WrongAnswer.place wrong.0 wrong.2
-
-pub last_write_before-requires : goal.last_write_before-requires
-last_write_before-requires c =
-    let s = c.args.self.now in
-    within s.part.now s.order.now c.in-WrongAnswer.place c.placed-in-WrongAnswer.result.call c.placed-in-WrongAnswer.ensures.call
 
 pub placed-requires-in-OrderBroken-clause-within : goal.placed-requires-in-OrderBroken-clause-within
 placed-requires-in-OrderBroken-clause-within c =
@@ -60,14 +49,6 @@ returns-in-PendingRead c =
     let pending = (rw c.in-PendingRead.is at c.requires).shown in
     let found = pending_found s.part.now s.order.now s.sequence c.in-PendingRead.place c.placed.result.call pending c.placed.ensures.call in
     (ap (λ (n : ℕ). fault.PendingRead n) c.placed.ensures.place ∙ sym c.in-PendingRead.is, rw c.placed.ensures.place (c.placed.ensures.call, found.0, found.1))
-
-pub returns-in-WrongAnswer : goal.returns-in-WrongAnswer
-returns-in-WrongAnswer c =
-    let s = c.args.self.now in
-    let wrong = (rw c.in-WrongAnswer.is at c.requires).shown in
-    let read = c.placed-in-WrongAnswer in
-    let answers = wrong_found s.part.now s.order.now s.sequence c.in-WrongAnswer.place read.result.call c.last_write_before.result wrong read.ensures.call c.last_write_before.ensures in
-    (ap (λ (n : ℕ). fault.WrongAnswer n) read.ensures.place ∙ sym c.in-WrongAnswer.is, rw read.ensures.place (read.ensures.call, c.last_write_before.ensures, answers))
 
 pub returns-in-OrderBroken : goal.returns-in-OrderBroken
 returns-in-OrderBroken c =
