@@ -1,0 +1,11 @@
+pub mod ByRows
+pub mod Forgetting
+pub mod Pieces
+pub mod Numbers
+pub mod Bounds
+pub mod Continuing
+pub mod GoingOn
+pub mod Instances
+pub mod Sorting
+pub mod ZonesExist
+pub mod Orders
