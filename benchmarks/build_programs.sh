@@ -24,4 +24,5 @@ build write_speed "counted_devices file_format history_file" "$here/../examples/
 build order_speed "tag recorder counted_devices history_file parallel_keys" "$here/../examples/two_calls.history" "$here/../examples/two_calls.orders"
 build check_speed "tag recorder counted_devices history_file parallel_keys" "$here/../examples/two_calls.history" "$here/../examples/two_calls.orders"
 build store_speed "tag recorder certificate_check world_steps seats node_threads" 4 50 2 3 5 7
+build merge_speed "tag recorder witness_order world_steps fault_script store_orders" 1000 100
 build step_speed "tag world_steps random_steps"
