@@ -1,23 +1,32 @@
 -- A caller's log, call by call.
 use Rattle.std.proofs.Common.{◌≡◌, ◌<◌, ◌+◌, ℕ, List, [], ◌∷◌, ◌++◌, Some, None, length, length-append, slice_get, inl, inr, sym, ap}
 use Rattle.std.proofs.Common.{subst, ◌∙◌, arith}
+use Rattle.std.proofs.lemmas.List.{length-set}
 use Rattle.std.proofs.lemmas.Option.{same_Some}
 use Rattle.tag.proofs.Options.{none_some}
 use Rattle.tag.proofs.Lists.{each_push}
 use Rattle.recorder.specs.declared.part.Response.{Response}
-use Rattle.seats.specs.Seats.{Seat}
+use Rattle.seats.specs.Seats.{IsEntryOf, Seat}
 use Rattle.recorder.specs.declared.log_entry.Entry.{Entry}
 use Rattle.seats.specs.declared.errors.CallError.{CallError}
-use Rattle.load.specs.Callers.{AreOfTurns, EndsRefused, HasCalled, HasMade, IsFreshSeat, IsOfTurn, LeavesCall, MakesCall, RefusesTurn}
-use Rattle.load.specs.Callers.{turn_of}
+use Rattle.node_threads.specs.Joins.{IsNewSeat}
+use Rattle.node_threads.specs.declared.config.StoreConfig.{StoreConfig}
+use Rattle.run_options.specs.Turns.{action_at, key_at}
+use Rattle.run_options.specs.declared.turns.Turn.{Turn}
+use Rattle.load.specs.Callers.{AreOfTurns, EndsRefused, HasCalled, HasMade, IsOfTurn, IsOpenSeat, LeavesCall, MakesCall, RefusesTurn}
+use Rattle.load.specs.Callers.{reach_in, turn_of}
 use Rattle.load.specs.declared.callers.Work.{Work}
 
-pub made_none : (work : Work) (s : Seat) → IsFreshSeat work.caller s → HasMade work 0 s
-made_none work s fresh = record {
-  client = fresh.client;
-  turns = λ number entry at. none_some (subst (λ (l : List Entry). slice_get l number ≡ Some entry) fresh.log at);
-  count_is = ap length fresh.log;
-  answered = λ k entry at. none_some (subst (λ (l : List Entry). slice_get l k ≡ Some entry) fresh.log at);
+-- a new seat's calls may begin
+pub open_new : (config : StoreConfig) (client : ℕ) (s : Seat) → IsNewSeat config client s → IsOpenSeat config s
+open_new config client s new = record { own = record { store = new.store; halls = new.halls }; unspent = new.unspent }
+
+pub made_none : (config : StoreConfig) (work : Work) (s : Seat) → IsNewSeat config work.caller s → HasMade work 0 s
+made_none config work s new = record {
+  client = new.client;
+  turns = λ number entry at. none_some (subst (λ (l : List Entry). slice_get l number ≡ Some entry) new.log at);
+  count_is = ap length new.log;
+  answered = λ k entry at. none_some (subst (λ (l : List Entry). slice_get l k ≡ Some entry) new.log at);
 }
 
 longer : (log now : List Entry) (entry : Entry) (count : ℕ) → length log ≡ count → now ≡ log ++ entry ∷ [] → length now ≡ count + 1
@@ -29,15 +38,35 @@ of_turns_more : (work : Work) (log now : List Entry) (entry : Entry) (count : �
 of_turns_more work log now entry count so_far len has is = each_push (λ number one. IsOfTurn (turn_of work number) one) log now entry
     so_far is (subst (λ n. IsOfTurn (turn_of work n) entry) (sym len) has)
 
-pub made_more : (work : Work) (count : ℕ) (old new : Seat) → HasMade work count old → MakesCall (turn_of work count) old new
-    → HasMade work (count + 1) new
-made_more work count old new made call = record {
-  client = call.client ∙ made.client;
-  turns = of_turns_more work old.log new.log call.entry count made.turns made.count_is call.of call.log;
-  count_is = longer old.log new.log call.entry count made.count_is call.log;
-  answered = each_push (λ k one. (response : Response) × (one.response ≡ Some response)) old.log new.log call.entry made.answered call.log
-      (call.response, call.answered);
-}
+of_turn : (s : Seat) (hall : ℕ) (turn : Turn) (entry : Entry) → IsEntryOf s hall (key_at turn) (action_at turn) entry → IsOfTurn turn entry
+of_turn s hall turn entry of = record { key = of.key_is; action = of.action_is }
+
+pub made_more : (halls : ℕ) (work : Work) (count : ℕ) (old new : Seat) → HasMade work count old
+    → MakesCall halls (turn_of work count) old new → HasMade work (count + 1) new
+made_more halls work count old new made call =
+    let given = call.1 in
+    let log : new.log ≡ old.log ++ given.entry ∷ [] = ap (λ s. s.log) given.calls.is in
+    record {
+      client = ap (λ s. s.client) given.calls.is ∙ made.client;
+      turns = of_turns_more work old.log new.log given.entry count made.turns made.count_is
+          (of_turn old _ (turn_of work count) given.entry given.calls.of) log;
+      count_is = longer old.log new.log given.entry count made.count_is log;
+      answered = each_push (λ k one. (response : Response) × (one.response ≡ Some response)) old.log new.log given.entry made.answered log
+          (given.response, given.calls.answered);
+    }
+
+-- the seat may make further calls
+pub open_more : (config : StoreConfig) (halls : ℕ) (turn : Turn) (old new : Seat) → IsOpenSeat config old → MakesCall halls turn old new
+    → IsOpenSeat config new
+open_more config halls turn old new seat call =
+    let given = call.1 in
+    record {
+      own = record {
+        store = ap (λ s. s.store) given.calls.is ∙ seat.own.store;
+        halls = ap (λ s. length s.passes) given.calls.is ∙ length-set old.passes _ given.calls.after ∙ seat.own.halls;
+      };
+      unspent = ap (λ s. s.is_spent) given.calls.is ∙ seat.unspent;
+    }
 
 -- all were made
 pub called_all : (work : Work) (s : Seat) → HasMade work work.calls s → HasCalled work s None
@@ -55,26 +84,33 @@ some_none e = absurd (cc)
 
 -- one was refused
 pub called_some : (work : Work) (count : ℕ) (old new : Seat) (error : CallError) → count < work.calls → HasMade work count old
-    → LeavesCall (turn_of work count) old new
-    → RefusesTurn (turn_of work count) error old new → HasCalled work new (Some error)
-called_some work count old new error below made left refuses = elim left.log [
-  | inl same ↦ record {
-    client = left.client ∙ made.client;
-    turns = subst (AreOfTurns work) (sym same) made.turns;
-    most = let len : length new.log ≡ count = ap length same ∙ made.count_is in omega (arith, len, below);
-    all = λ e. some_none e;
-    answered = λ e. some_none e;
-    refused = λ other is. subst (λ (e : CallError). EndsRefused work e new) (same_Some error other is)
-        (record { count = count; fewer = below; before = old; made = made; refused = refuses });
-  }
-  | inr more ↦ record {
-    client = left.client ∙ made.client;
-    turns = of_turns_more work old.log new.log more.entry count made.turns made.count_is more.of more.log;
-    most = let len : length new.log ≡ count + 1 = longer old.log new.log more.entry count made.count_is more.log in omega
-        (arith, len, below);
-    all = λ e. some_none e;
-    answered = λ e. some_none e;
-    refused = λ other is. subst (λ (e : CallError). EndsRefused work e new) (same_Some error other is)
-        (record { count = count; fewer = below; before = old; made = made; refused = refuses });
-  }
-]
+    → LeavesCall work.halls (turn_of work count) old new
+    → RefusesTurn (reach_in work) work.halls (turn_of work count) error old new → HasCalled work new (Some error)
+called_some work count old new error below made left refuses =
+    let ends : (other : CallError) → Some error ≡ Some other → EndsRefused work other new =
+    λ other is. subst (λ (e : CallError). EndsRefused work e new) (same_Some error other is)
+    (record { count = count; fewer = below; before = old; made = made; refused = refuses }) in
+    elim left [
+      | inl not ↦ record {
+        client = not.client ∙ made.client;
+        turns = subst (AreOfTurns work) (sym not.log) made.turns;
+        most = let len : length new.log ≡ count = ap length not.log ∙ made.count_is in omega (arith, len, below);
+        all = λ e. some_none e;
+        answered = λ e. some_none e;
+        refused = ends;
+      }
+      | inr stays ↦
+          let entry = stays.0 in
+          let pending = stays.1 in
+          let log : new.log ≡ old.log ++ entry ∷ [] = ap (λ s. s.log) pending.is in
+          record {
+            client = ap (λ s. s.client) pending.is ∙ made.client;
+            turns = of_turns_more work old.log new.log entry count made.turns made.count_is
+                (of_turn old _ (turn_of work count) entry pending.of) log;
+            most = let len : length new.log ≡ count + 1 = longer old.log new.log entry count made.count_is log in omega
+                (arith, len, below);
+            all = λ e. some_none e;
+            answered = λ e. some_none e;
+            refused = ends;
+          }
+    ]

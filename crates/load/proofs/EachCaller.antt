@@ -15,6 +15,10 @@ more f g xs now x y rest left all so_far step is same =
     (map g left)
     ∙ ap (λ w. map f xs ++ w ∷ map g left) same ∙ ap (λ r. map f xs ++ map g r) (sym step) ∙ so_far
 
+-- at first all are left
+pub none_yet : {X Y W : Type 0} (f : X → W) (g : Y → W) (xs : List X) (rest all : List Y) → xs ≡ [] → rest ≡ all → map f xs ++ map g rest ≡ map g all
+none_yet f g xs rest all none same = ap (λ l. map f l ++ map g rest) none ∙ ap (map g) same
+
 -- the seats before, and those that are left
 pub seats_more : (seats now : List Seat) (called : Called) (rest left : List Called) (all : List Seat)
     → seats ++ map (λ (c : Called). c.seat) rest ≡ all → rest ≡ called ∷ left → now ≡ seats ++ called.seat ∷ []

@@ -1,13 +1,19 @@
 -- What a caller's calls come to.
-use Rattle.std.specs.Prelude.{ℕ, ◌≡◌, ◌<◌, ◌≤◌, ◌+◌, ◌⊎◌, List, [], ◌∷◌, ◌++◌, Option, Some, None}
-use Rattle.std.specs.Prelude.{length, slice_get}
-use Rattle.recorder.specs.declared.part.Response.{Response}
+use Rattle.std.specs.Prelude.{ℕ, ◌≡◌, ◌<◌, ◌≤◌, ◌+◌, ◌⊎◌, false, List, Option, Some, None, length}
+use Rattle.std.specs.Prelude.{slice_get}
+use Rattle.recorder.specs.Halls.{hall_of}
 use Rattle.recorder.specs.Logs.{AreAnswered}
-use Rattle.seats.specs.Seats.{Seat}
 use Rattle.recorder.specs.declared.log_entry.Entry.{Entry}
-use Rattle.seats.specs.Answers.{FailsWith}
+use Rattle.seats.specs.Answers.{FailsWith, HasReason, IsAnswered, LeavesUnanswered}
+use Rattle.seats.specs.Rounds.{Reach}
+use Rattle.seats.specs.Seats.{Seat}
 use Rattle.seats.specs.declared.errors.CallError.{CallError}
 use Rattle.seats.specs.declared.errors.CallError.TheVariants as fault
+use Rattle.seats.specs.declared.seat.Answer.{Answer}
+use Rattle.node_threads.specs.Closings.{IsOfStore}
+use Rattle.node_threads.specs.Joins.{IsNewSeat}
+use Rattle.node_threads.specs.Stores.{reach_of}
+use Rattle.node_threads.specs.declared.config.StoreConfig.{StoreConfig}
 use Rattle.run_options.specs.Loads.{load_limits}
 use Rattle.run_options.specs.Turns.{action_at, key_at}
 use Rattle.run_options.specs.declared.load.LoadOptions.{LoadOptions}
@@ -20,6 +26,31 @@ pub record AreKeys (keys : ℕ) : Type 0 where
   pub least : 1 ≤ keys
   pub most : keys ≤ load_limits.keys
 
+-- the work of a caller of the load, in the load's store
+abbrev pub work_of : LoadOptions → ℕ → Work
+work_of load caller = record {
+  keys = load.keys;
+  calls = load.calls;
+  caller = caller;
+  halls = load.halls;
+  replicas = length load.quorums.votes;
+  rounds = load.rounds;
+}
+
+-- what a call of the work has to reach its replicas
+abbrev pub reach_in : Work → Reach
+reach_in work = record { replicas = work.replicas; rounds = work.rounds }
+
+-- the work is done in a store that is so configured
+pub record IsDoneIn (config : StoreConfig) (work : Work) : Type 0 where
+  pub halls : config.halls ≡ work.halls
+  pub reach : reach_of config ≡ reach_in work
+
+-- the seat may make calls in that store
+pub record IsOpenSeat (config : StoreConfig) (s : Seat) : Type 0 where
+  pub own : IsOfStore config s
+  pub unspent : s.is_spent ≡ false
+
 -- the turn of that number
 abbrev pub turn_of : Work → ℕ → Turn
 turn_of work number = record { keys = work.keys; caller = work.caller; number = number }
@@ -29,46 +60,39 @@ pub record IsOfTurn (turn : Turn) (entry : Entry) : Type 0 where
   pub key : entry.key ≡ key_at turn
   pub action : entry.action ≡ action_at turn
 
--- the turn's call was answered: the log has one entry more
-pub record MakesCall (turn : Turn) (old new : Seat) : Type 0 where
-  pub entry : Entry
-  pub response : Response
-  pub of : IsOfTurn turn entry
-  pub answered : entry.response ≡ Some response
-  pub log : new.log ≡ old.log ++ entry ∷ []
-  pub client : new.client ≡ old.client
+-- the turn's call was answered, in the hall of its key
+abbrev pub MakesCall : ℕ → Turn → Seat → Seat → Type 0
+MakesCall halls turn old new = (answer : Answer)
+    × IsAnswered old (hall_of halls (key_at turn)) (key_at turn) (action_at turn) answer new
 
--- the log has one entry more, of the turn's call
-pub record GrowsBy (turn : Turn) (old new : Seat) : Type 0 where
-  pub entry : Entry
-  pub of : IsOfTurn turn entry
-  pub log : new.log ≡ old.log ++ entry ∷ []
+-- the turn's call wasn't answered: it didn't begin, or it is pending
+abbrev pub LeavesCall : ℕ → Turn → Seat → Seat → Type 0
+LeavesCall halls turn old new =
+    LeavesUnanswered old (hall_of halls (key_at turn)) (key_at turn) (action_at turn) new
 
--- the turn's call wasn't answered: it didn't begin, or the log has one entry more
-pub record LeavesCall (turn : Turn) (old new : Seat) : Type 0 where
-  pub client : new.client ≡ old.client
-  pub log : (new.log ≡ old.log) ⊎ GrowsBy turn old new
+module _ (reach : Reach) (halls : ℕ) (turn : Turn) where
+  -- the store refused the turn's call: the error says what it left, and has its reason
+  pub record RefusesCall (error : CallError) (old new : Seat) : Type 0 where
+    pub failed :
+        FailsWith error old (hall_of halls (key_at turn)) (key_at turn) (action_at turn) new
+    pub reason : HasReason reach error old (hall_of halls (key_at turn)) (key_at turn)
+        (action_at turn) new
 
--- the turn's call was refused with that error: the store refused it so; or there was no memory to
--- make it, and the seat is as it was
-abbrev pub RefusesTurn : Turn → CallError → Seat → Seat → Type 0
-RefusesTurn turn error old new = ((hall : ℕ)
-    × FailsWith error old hall (key_at turn) (action_at turn) new)
-    ⊎ ((error ≡ fault.Memory) × (new ≡ old))
+  -- the turn's call was refused with that error: by the store; or there was no memory to make it,
+  -- and the seat is as it was
+  abbrev pub RefusesTurn : CallError → Seat → Seat → Type 0
+  RefusesTurn error old new =
+      RefusesCall error old new ⊎ ((error ≡ fault.Memory) × (new ≡ old))
 
--- the client has just joined
-pub record IsFreshSeat (caller : ℕ) (s : Seat) : Type 0 where
-  pub client : s.client ≡ caller
-  pub log : s.log ≡ []
+-- each of the seats is its client's new one in that store
+abbrev pub AreNew : StoreConfig → List Seat → Type 0
+AreNew config seats =
+    (k : ℕ) (s : Seat) → slice_get seats k ≡ Some s → IsNewSeat config s.client s
 
--- no client has made a call
-abbrev pub AreNew : List Seat → Type 0
-AreNew seats = (k : ℕ) (s : Seat) → slice_get seats k ≡ Some s → s.log ≡ []
-
--- clients 1, 2 and so on, so many, have just joined
-pub record AreSeated (callers : ℕ) (seats : List Seat) : Type 0 where
+-- clients 1, 2 and so on, so many, have just joined that store
+pub record AreSeated (config : StoreConfig) (callers : ℕ) (seats : List Seat) : Type 0 where
   pub count : length seats ≡ callers
-  pub each : (k : ℕ) (s : Seat) → slice_get seats k ≡ Some s → IsFreshSeat (k + 1) s
+  pub each : (k : ℕ) (s : Seat) → slice_get seats k ≡ Some s → IsNewSeat config (k + 1) s
 
 -- the entries are of the caller's turns, from the first on, in order
 abbrev pub AreOfTurns : Work → List Entry → Type 0
@@ -88,7 +112,7 @@ pub record EndsRefused (work : Work) (error : CallError) (s : Seat) : Type 0 whe
   pub fewer : count < work.calls
   pub before : Seat
   pub made : HasMade work count before
-  pub refused : RefusesTurn (turn_of work count) error before s
+  pub refused : RefusesTurn (reach_in work) work.halls (turn_of work count) error before s
 
 -- the caller made the calls of its turns, in order: all of them, each answered, unless one was
 -- refused, which was its last
@@ -104,18 +128,15 @@ pub record HasCalled (work : Work) (s : Seat) (refusal : Option CallError) : Typ
 abbrev pub IsCalled : Work → Called → Type 0
 IsCalled work called = HasCalled work called.seat called.refusal
 
--- the work of a caller
-abbrev pub work_of : ℕ → ℕ → ℕ → Work
-work_of keys calls caller = record { keys = keys; calls = calls; caller = caller }
-
 -- the callers of these seats, in their order, and each made its calls
-pub record AreOfSeats (keys calls : ℕ) (seats : List Seat) (callers : List Called) : Type 0 where
-  pub count : length callers ≡ length seats
-  pub each : (k : ℕ) (called : Called) (s : Seat) → slice_get callers k ≡ Some called
-      → slice_get seats k ≡ Some s → IsCalled (work_of keys calls s.client) called
+pub record AreOfSeats (load : LoadOptions) (seats : List Seat) (callers : List Called) : Type 0
+  where
+    pub count : length callers ≡ length seats
+    pub each : (k : ℕ) (called : Called) (s : Seat) → slice_get callers k ≡ Some called
+        → slice_get seats k ≡ Some s → IsCalled (work_of load s.client) called
 
 -- as many callers as the load has: 1, 2 and so on, and each made its calls
 pub record AreCalled (load : LoadOptions) (callers : List Called) : Type 0 where
   pub count : length callers ≡ load.callers
   pub each : (k : ℕ) (called : Called) → slice_get callers k ≡ Some called
-      → IsCalled (work_of load.keys load.calls (k + 1)) called
+      → IsCalled (work_of load (k + 1)) called

@@ -1,11 +1,14 @@
 //! Callers, each with a seat and a thread of its own.
 ghost use Rattle.std.specs.Prelude.{◌≡◌, ◌++◌, ◌∷◌, [], ◌⊎◌, Err, map, IfErr, IfOk, OnErr, OnOk};
-ghost use Rattle.load.specs.Callers.{AreKeys, AreNew, AreOfSeats, AreSeated, IsCalled};
-ghost use Rattle.load.specs.Callers.{IsFreshSeat, LeavesCall, MakesCall, RefusesTurn, work_of};
+ghost use Rattle.node_threads.specs.Joins.{IsNewSeat};
+ghost use Rattle.node_threads.specs.Stores.{reach_of};
+ghost use Rattle.load.specs.Callers.{AreKeys, AreNew, AreOfSeats, AreSeated, IsCalled, IsDoneIn};
+ghost use Rattle.load.specs.Callers.{IsOpenSeat, LeavesCall, MakesCall, RefusesTurn, work_of};
+ghost use Rattle.load.specs.LoadStores.{settings_of};
 
 use crate::error::LoadError;
 use node_threads::{CallError, Gate, Seat, Store};
-use run_options::{Turn, call_at};
+use run_options::{LoadOptions, Turn, call_at};
 use std::alloc::Global;
 use std::sync::Wait;
 use std::thread;
@@ -21,7 +24,8 @@ pub struct Called {
     pub refusal: Option<CallError>,
 }
 
-/// What a caller's thread has to do. As a promise it says what the caller's log then has.
+/// What a caller's thread has to do. As a promise it says what the caller's log then has, and why its last
+/// call was refused.
 #[derive(Clone, Copy)]
 pub(crate) struct Work {
     /// How many keys there are.
@@ -30,6 +34,12 @@ pub(crate) struct Work {
     pub calls: u16,
     /// The caller.
     pub caller: u32,
+    /// How many halls the store has.
+    pub halls: u8,
+    /// How many replicas it has.
+    pub replicas: u8,
+    /// How many rounds of messages a phase of a call makes.
+    pub rounds: u16,
 }
 
 impl Promise<Called> for Work {
@@ -54,10 +64,12 @@ fn call_once<R: Wait, G: Gate>(
     seat: &mut Seat,
     turn: Turn,
 ) -> Result<(), CallError>
-    requires { AreKeys turn.keys }
-    ensures made { OnOk result (MakesCall turn seat.old seat.new) }
-    ensures left { OnErr result (LeavesCall turn seat.old seat.new) }
-    ensures refused { IfErr result (λ error. RefusesTurn turn error seat.old seat.new) }
+    requires keys { AreKeys turn.keys }
+    requires open_seat { IsOpenSeat store.now.config seat.old }
+    ensures made { OnOk result (MakesCall store.now.config.halls turn seat.old seat.new) }
+    ensures left { OnErr result (LeavesCall store.now.config.halls turn seat.old seat.new) }
+    ensures refused { IfErr result (λ error. RefusesTurn (reach_of store.now.config)
+        store.now.config.halls turn error seat.old seat.new) }
 {
     let (key, action) = call_at(alloc, turn)?;
     store.call(rt, alloc, seat, key, action)?;
@@ -73,7 +85,8 @@ fn make_calls<R: Wait, G: Gate>(
     work: Work,
 ) -> Called
     requires keys { AreKeys work.keys }
-    requires fresh { IsFreshSeat work.caller seat }
+    requires of { IsDoneIn store.now.config work }
+    requires new { IsNewSeat store.now.config work.caller seat }
     ensures { IsCalled work result }
 {
     for number in 0..work.calls {
@@ -105,20 +118,36 @@ fn start<'s, 'e: 's, R: Wait + Sync, G: Gate + Send + Sync>(
     work: Work,
 ) -> Result<PromisedHandle<Called, Work>, LoadError>
     requires keys { AreKeys work.keys }
-    requires fresh { IsFreshSeat work.caller seat }
+    requires of { IsDoneIn store.now.config work }
+    requires new { IsNewSeat store.now.config work.caller seat }
     ensures started { IfOk result (λ started. started.promise ≡ work) }
     ensures thread { IfErr result (λ error. error ≡ LoadError.Thread) }
 {
     let started = scope.spawn_with(
         work,
         move || -> Called
-            requires { AreKeys work.keys × IsFreshSeat work.caller seat }
+            requires { AreKeys work.keys × IsDoneIn store.now.config work
+                × IsNewSeat store.now.config work.caller seat }
             ensures { IsCalled work result }
         { make_calls(rt, alloc, store, seat, work) },
     );
     match started {
         Ok(started) => Ok(started),
         Err(_) => Err(LoadError::Thread),
+    }
+}
+
+/// The work of a caller of the load.
+fn work_of(load: &LoadOptions, caller: u32) -> Work
+    ensures { result ≡ work_of load.now caller }
+{
+    Work {
+        keys: load.keys,
+        calls: load.calls,
+        caller,
+        halls: load.halls.count(),
+        replicas: load.quorums.replicas(),
+        rounds: load.rounds,
     }
 }
 
@@ -129,23 +158,19 @@ fn start_all<'s, 'e: 's, R: Wait + Sync, G: Gate + Send + Sync>(
     alloc: Global,
     store: &'e Store<G>,
     seats: Vec<Seat>,
-    keys: u8,
-    calls: u16,
+    load: &LoadOptions,
 ) -> Result<Vec<PromisedHandle<Called, Work>>, LoadError>
-    requires keys { AreKeys keys }
-    requires fresh { AreNew seats.items }
+    requires keys { AreKeys load.now.keys }
+    requires of { store.now.config ≡ settings_of load.now }
+    requires new { AreNew store.now.config seats.items }
     ensures started { IfOk result (λ started. map (λ h. h.promise) started.items
-        ≡ map (λ s. work_of keys calls s.client) seats.items) }
+        ≡ map (λ s. work_of load.now s.client) seats.items) }
     ensures why { IfErr result (λ error. (error ≡ LoadError.Thread) ⊎ (error ≡ LoadError.Memory)) }
 {
     let mut started = Vec::new(alloc);
     for seat in seats {
         let caller = seat.client().get();
-        let work = Work {
-            keys,
-            calls,
-            caller,
-        };
+        let work = work_of(load, caller);
         add(&mut started, start(rt, scope, alloc, store, seat, work)?)?;
     }
     Ok(started)
@@ -157,28 +182,29 @@ pub(crate) fn call_together<R, G>(
     alloc: Global,
     store: &Store<G>,
     seats: Vec<Seat>,
-    keys: u8,
-    calls: u16,
+    load: &LoadOptions,
 ) -> Result<Vec<Called>, LoadError>
 where
     R: Threads + Wait + Sync,
     G: Gate + Send + Sync,
-    requires keys { AreKeys keys }
-    requires fresh { AreNew seats.items }
-    ensures called { IfOk result (λ callers. AreOfSeats keys calls seats.items callers.items) }
+    requires keys { AreKeys load.now.keys }
+    requires of { store.now.config ≡ settings_of load.now }
+    requires new { AreNew store.now.config seats.items }
+    ensures called { IfOk result (λ callers. AreOfSeats load.now seats.items callers.items) }
     ensures why { IfErr result (λ error. (error ≡ LoadError.Thread) ⊎ (error ≡ LoadError.Memory)) }
 {
     thread::scope(
         thread::scope_env(),
         rt,
         |scope| -> Result<Vec<Called>, LoadError>
-            requires { AreKeys keys × AreNew seats.items }
+            requires { AreKeys load.now.keys × (store.now.config ≡ settings_of load.now)
+                × AreNew store.now.config seats.items }
             ensures called { IfOk result (λ callers.
-                AreOfSeats keys calls seats.items callers.items) }
+                AreOfSeats load.entry.now seats.items callers.items) }
             ensures why { IfErr result (λ error.
                 (error ≡ LoadError.Thread) ⊎ (error ≡ LoadError.Memory)) }
         {
-            let started = start_all(rt, scope, alloc, store, seats, keys, calls)?;
+            let started = start_all(rt, scope, alloc, store, seats, load)?;
             match join_promised(rt, started) {
                 Ok(callers) => Ok(callers),
                 Err(_) => Err(LoadError::Memory),
@@ -194,7 +220,7 @@ pub(crate) fn join_all<R: Wait, G: Gate>(
     store: &Store<G>,
     callers: u8,
 ) -> Result<Vec<Seat>, LoadError>
-    ensures seated { IfOk result (λ seats. AreSeated callers seats.items) }
+    ensures seated { IfOk result (λ seats. AreSeated store.now.config callers seats.items) }
     ensures why { IfErr result (λ error.
         (error ≡ LoadError.ClientTaken) ⊎ (error ≡ LoadError.Memory)) }
 {

@@ -1,6 +1,7 @@
 //! A load, from the start of its store to its end.
 ghost use Rattle.std.specs.Prelude.{◌≡◌, ◌++◌, map, IfOk, OnOk};
-ghost use Rattle.load.specs.Loads.{IsLoaded, gate_of, refusals_of, refused_of, store_of, world_of};
+ghost use Rattle.load.specs.LoadStores.{gate_of, store_of, world_of};
+ghost use Rattle.load.specs.Loads.{IsLoaded, refusals_of, refused_of};
 ghost use Rattle.run_options.specs.Loads.{IsWithinLimits};
 
 use crate::callers::{Called, add, call_together, join_all};
@@ -119,10 +120,9 @@ where
     ensures { IfOk result (λ loaded. IsLoaded load loaded) }
 {
     let options = load.options();
-    let (count, keys, calls) = (options.callers, options.keys, options.calls);
     let store = start(rt, alloc, &options, watch)?;
-    let seats = join_all(rt, alloc, &store, count)?;
-    let callers = call_together(rt, alloc, &store, seats, keys, calls)?;
+    let seats = join_all(rt, alloc, &store, options.callers)?;
+    let callers = call_together(rt, alloc, &store, seats, &options)?;
     let (seats, refusals) = split_callers(alloc, callers)?;
     Ok(LoadOutcome {
         refusals,

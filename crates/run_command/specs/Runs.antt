@@ -9,7 +9,8 @@ use Rattle.node_threads.specs.declared.closing.ClosedHall.{ClosedHall}
 use Rattle.node_threads.specs.declared.errors.CloseError.{CloseError}
 use Rattle.node_threads.specs.declared.errors.CloseError.TheVariants as close
 use Rattle.run_options.specs.declared.asked.RunAsked.{RunAsked}
-use Rattle.load.specs.Loads.{IsLoaded, world_of}
+use Rattle.load.specs.LoadStores.{world_of}
+use Rattle.load.specs.Loads.{IsLoaded}
 use Rattle.load.specs.declared.error.LoadError.{LoadError}
 use Rattle.load.specs.declared.load_run.LoadOutcome.{LoadOutcome}
 use Rattle.run_command.specs.Messages.{AreEnding, ReceivesLines, close_line, load_line}

@@ -4,9 +4,13 @@ use Rattle.seats.specs.Seats.{Seat}
 use Rattle.node_threads.specs.declared.config.StoreConfig.{StoreConfig}
 use Rattle.run_options.specs.declared.load.LoadOptions.{LoadOptions}
 use Rattle.load.specs.Callers.{AreCalled}
-use Rattle.load.specs.Loads.{settings_of}
-use Rattle.load.proofs.Seating.{called}
+use Rattle.load.specs.LoadStores.{settings_of}
+use Rattle.load.proofs.Seating.{called, seated_new}
 use Rattle.load.proofs.load_run.run_load.Goals as goal
+
+pub call_together-requires-clause-new : goal.call_together-requires-clause-new
+call_together-requires-clause-new g c κs within = seated_new c.in_ok-store.store.config c.options-options.result.callers c.in_ok-seats.seats.items
+    c.in_ok-seats.ensures.seated
 
 pub returns : goal.returns
 returns g c =
@@ -16,8 +20,8 @@ returns g c =
     let callers = c.in_ok-callers.callers.items in
     record {
       callers = callers;
-      called = subst (λ (o : LoadOptions). AreCalled o callers) is (called options seats callers c.in_ok-seats.ensures.seated
-          c.in_ok-callers.ensures.called);
+      called = subst (λ (o : LoadOptions). AreCalled o callers) is (called c.in_ok-store.store.config options seats callers
+          c.in_ok-seats.ensures.seated c.in_ok-callers.ensures.called);
       refusals = c.in_ok-seats-2.ensures.refused;
       closed = subst (λ (all : List Seat). IfOk c.close.result (λ closed. Closes (settings_of c.args.load) all closed.halls.items))
           c.in_ok-seats-2.ensures.seats

@@ -9,7 +9,7 @@ returns-in-Ok g c =
     let len = c.in-Ok.ensures.len in
     let held = handles.ok.0 in
     record {
-      called = kept (λ h. h.promise) c.captures.keys c.captures.calls handles.items c.captures.seats.items callers.items
+      called = kept (λ h. h.promise) c.captures.load.now handles.items c.captures.seats.items callers.items
           c.in_ok-started.ensures.started (let given = callers.ok.0 in omega (arith, len, held, given))
           (λ i d below. let one = (c.in-Ok.ensures.each i d (omega (arith, below, held))).1
           in (one.handle, one.handle_is, one.kept));
