@@ -1,0 +1,5 @@
+pub mod Changes
+pub mod Pruning
+pub mod Finding
+pub mod Maps
+pub mod Steps

@@ -1,0 +1,7 @@
+use Rattle.kept_zones.proofs.Finding.{two_there}
+use Rattle.kept_zones.proofs.zones.Zones.spent.Goals as goal
+
+pub returns-else-is_spent-2 : goal.returns-else-is_spent-2
+returns-else-is_spent-2 c =
+    two_there c.args.self.now c.args.place (c.in_ok-first.first, c.in_ok-first.field-0-1) (c.in_ok-second.second, c.in_ok-second.field-0-1)
+    (rw (← c.self.view_is) c.in_ok-first.ensures) c.if-is_spent.ensures (rw (← c.self.view_is) c.in_ok-second.ensures) c.if-is_spent-2.ensures

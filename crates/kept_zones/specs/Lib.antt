@@ -1,0 +1,3 @@
+pub mod Overwriting
+pub mod Nearest
+pub mod Indexes
