@@ -3,9 +3,10 @@ use Rattle.std.specs.Prelude.{ℕ}
 use Rattle.markup.specs.Markup.{Markup, both}
 use Rattle.sentences.specs.Words.{numbered}
 use Rattle.labels.specs.Labels.{label_markup, line_markup}
-use Rattle.fault_script.specs.declared.command.Command.{Command}
-use Rattle.fault_script.specs.declared.command.NumberedCommand.{NumberedCommand}
+use Rattle.world_steps.specs.declared.step.Step.{Step}
+use Rattle.script_runs.specs.declared.origin.CommandKind.{CommandKind}
 use Rattle.message_scenes.specs.declared.scene.MessageScene.{MessageScene}
+use Rattle.message_scenes.specs.declared.scene.StepRow.{StepRow}
 use Rattle.diagrams.specs.declared.sizes.TheConstants.{COMMAND_LEFT, COMMAND_LETTERS, LINE_LETTERS}
 use Rattle.diagrams.specs.declared.sizes.TheConstants.{LINE_RIGHT, MOMENT, RIGHT, STEP_LEFT}
 use Rattle.diagrams.specs.declared.sizes.TheConstants.{TEXT_BASE}
@@ -18,14 +19,14 @@ abbrev pub source_at : ℕ → ℕ → Markup
 source_at y line = label_markup SOURCE.now LINE_RIGHT y LINE_LETTERS (numbered LINE_WORD.now line)
 
 -- the words of its command
-abbrev pub command_at : ℕ → Command → Markup
-command_at y command =
-    label_markup COMMAND.now COMMAND_LEFT y COMMAND_LETTERS (command_words command)
+abbrev pub command_at : ℕ → CommandKind → Step → Markup
+command_at y kind step =
+    label_markup COMMAND.now COMMAND_LEFT y COMMAND_LETTERS (command_words kind step)
 
 -- the line of the script that the step of that index belongs to
-abbrev pub row_words : ℕ → NumberedCommand → Markup
-row_words index source = both (source_at (down TEXT_BASE index) source.line)
-    (command_at (down TEXT_BASE index) source.command)
+abbrev pub row_words : ℕ → StepRow → Markup
+row_words index row = both (source_at (down TEXT_BASE index) row.origin.line)
+    (command_at (down TEXT_BASE index) row.origin.kind row.step)
 
 module _ (scene : MessageScene) where
   -- a line over all columns, in the row of that index
@@ -38,5 +39,5 @@ module _ (scene : MessageScene) where
   })
 
   -- the row of that index
-  abbrev pub row_markup : ℕ → NumberedCommand → Markup
-  row_markup index source = both (row_line index) (row_words index source)
+  abbrev pub row_markup : ℕ → StepRow → Markup
+  row_markup index row = both (row_line index) (row_words index row)

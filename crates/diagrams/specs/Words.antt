@@ -14,8 +14,8 @@ use Rattle.network.specs.declared.messages.Message.{Message}
 use Rattle.network.specs.declared.messages.Message.TheVariants.{ToClient, ToReplica}
 use Rattle.world_steps.specs.declared.step.Step.{Step}
 use Rattle.world_steps.specs.declared.step.Step.TheVariants as step
-use Rattle.fault_script.specs.declared.command.Command.{Command}
-use Rattle.fault_script.specs.declared.command.Command.TheVariants as command
+use Rattle.script_runs.specs.declared.origin.CommandKind.{CommandKind}
+use Rattle.script_runs.specs.declared.origin.CommandKind.TheVariants as kind
 use Rattle.message_scenes.specs.declared.calls.CallBar.{CallBar}
 use Rattle.message_scenes.specs.declared.replicas.Change.{Change}
 use Rattle.diagrams.specs.declared.style.TheConstants.{ANSWERS, ASKS, BLANK, CALL_SIGN, DELIVER}
@@ -39,11 +39,11 @@ step_words (step.StopClient name) = numbered STOP_CLIENT.now name
 step_words (step.StopReplica replica) = numbered STOP_REPLICA.now replica
 step_words (step.StartReplica replica) = numbered START_REPLICA.now replica
 
--- the first words of a command
-unfoldable pub command_words : Command → List ℕ
-command_words (command.Step one) = step_words one
-command_words (command.Finish name) = numbered FINISH.now name
-command_words (command.Random seed count) = numbered RANDOM.now seed ++ numbered BLANK.now count
+-- the first words of the command that a step belongs to
+unfoldable pub command_words : CommandKind → Step → List ℕ
+command_words kind.Step one = step_words one
+command_words (kind.Finish name) one = numbered FINISH.now name
+command_words (kind.Random seed count) one = numbered RANDOM.now seed ++ numbered BLANK.now count
 
 -- ---- messages
 

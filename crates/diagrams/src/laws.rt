@@ -1,6 +1,7 @@
 //! Laws of diagrams, each the contract of a function that does nothing.
 ghost use Rattle.std.specs.Prelude.{ℕ, ◌≡◌, ◌<◌, true};
-ghost use Rattle.fault_script.specs.declared.command.Script.{Script};
+ghost use Rattle.script_runs.specs.declared.command.Script.{Script};
+ghost use Rattle.world_steps.specs.declared.system.System.{System};
 ghost use Rattle.message_scenes.specs.Scenes.{IsSceneOf};
 ghost use Rattle.message_scenes.specs.declared.scene.MessageScene.{MessageScene};
 ghost use Rattle.message_scenes.specs.declared.arrows.Arrow.{Arrow};
@@ -15,8 +16,8 @@ ghost use Rattle.diagrams.specs.Readable.{command_phrases, legend_words, other_w
 
 /// The scene of a script's run has its clients in order, as a diagram needs it.
 pub fn a_scene_has_clients_in_order()
-    ensures { (script : Script) (most : ℕ) (scene : MessageScene) → IsSceneOf script most scene
-        → HasClientsInOrder scene }
+    ensures { (script : Script) (most : ℕ) (last : System) (scene : MessageScene)
+        → IsSceneOf script most last scene → HasClientsInOrder scene }
 {}
 
 /// Each client has a column of its own: that of its index among the clients.

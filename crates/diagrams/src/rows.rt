@@ -7,9 +7,8 @@ use crate::sizes::{
 };
 use crate::style::{COMMAND, LINE_WORD, SOURCE, STEP};
 use crate::words::say_command;
-use fault_script::NumberedCommand;
 use labels::{IndexedShape, Spot, Way, append_label, append_line, append_numbered};
-use message_scenes::MessageScene;
+use message_scenes::{MessageScene, StepRow};
 use std::alloc::Global;
 use tag::Memory;
 
@@ -21,18 +20,13 @@ pub(crate) struct Rows<'a> {
 }
 
 impl IndexedShape for Rows<'_> {
-    type Item = NumberedCommand;
+    type Item = StepRow;
 
     ghost can_append = { λ rows index. Unit {0} };
 
     ghost shape = { λ rows. row_markup rows.scene.now };
 
-    fn append(
-        &self,
-        page: &mut Vec<u8>,
-        index: usize,
-        item: &NumberedCommand,
-    ) -> Result<(), Memory> {
+    fn append(&self, page: &mut Vec<u8>, index: usize, item: &StepRow) -> Result<(), Memory> {
         let right = replica_x(self.scene, RIGHT, self.scene.replicas);
         append_line(
             page,
@@ -41,9 +35,9 @@ impl IndexedShape for Rows<'_> {
         )?;
         let y = down(TEXT_BASE, index);
         let line = Spot::new(SOURCE, LINE_RIGHT, y, LINE_LETTERS);
-        append_numbered(self.alloc, page, &line, LINE_WORD, item.line)?;
+        append_numbered(self.alloc, page, &line, LINE_WORD, item.origin.line)?;
         let mut words = Vec::new(self.alloc);
-        say_command(&mut words, &item.command)?;
+        say_command(&mut words, &item.origin.kind, &item.step)?;
         let command = Spot::new(COMMAND, COMMAND_LEFT, y, COMMAND_LETTERS);
         append_label(self.alloc, page, &command, &words)
     }

@@ -9,10 +9,10 @@ use crate::style::{
     LOSE, NOTES, PUTS, RANDOM, READS, REPEAT, RESPOND, SEND, START_REPLICA, STOP_CLIENT,
     STOP_REPLICA, WRITES,
 };
-use fault_script::Command;
 use message_scenes::{CallBar, Change};
 use network::Message;
 use replica::{Reply, Request};
+use script_runs::CommandKind;
 use sentences::{append, append_number, append_tag, append_value};
 use tag::{Action, Key, Memory, Returned, Tag, Value};
 use world_steps::Step;
@@ -43,15 +43,20 @@ fn say_step(words: &mut Vec<u8>, step: &Step) -> Result<(), Memory>
     }
 }
 
-/// Adds the first words of a command.
+/// Adds the first words of the command that a step belongs to.
 #[tactic(auto, unfolding(crate::specs::Words::command_words))]
-pub(crate) fn say_command(words: &mut Vec<u8>, command: &Command) -> Result<(), Memory>
-    ensures { OnOk result (words.new.items ≡ words.old.items ++ command_words command.now) }
+pub(crate) fn say_command(
+    words: &mut Vec<u8>,
+    kind: &CommandKind,
+    step: &Step,
+) -> Result<(), Memory>
+    ensures { OnOk result
+        (words.new.items ≡ words.old.items ++ command_words kind.now step.now) }
 {
-    match command {
-        Command::Step(step) => say_step(words, step),
-        Command::Finish(client) => append_number(words, FINISH, u64::from(client.get())),
-        Command::Random { seed, count } => {
+    match kind {
+        CommandKind::Step => say_step(words, step),
+        CommandKind::Finish(client) => append_number(words, FINISH, u64::from(client.get())),
+        CommandKind::Random { seed, count } => {
             append_number(words, RANDOM, *seed)?;
             append_number(words, BLANK, u64::from(*count))
         }

@@ -7,7 +7,7 @@ use Rattle.counted_devices.specs.Deliveries.{ReadsFrom}
 use Rattle.counted_devices.specs.FaultTexts.{kind_text}
 use Rattle.counted_devices.specs.Numbers.{fault_number}
 use Rattle.counted_devices.specs.FirstFaults.{StopsFrom}
-use Rattle.fault_script.specs.declared.command.Script.{Script}
+use Rattle.script_runs.specs.declared.command.Script.{Script}
 use Rattle.fault_script.specs.declared.fault.LineFault as script
 use Rattle.fault_script.specs.Faults.{ScriptError}
 use Rattle.fault_script.specs.Numbers.{line_fault_number, line_fault_text}

@@ -7,8 +7,8 @@ use Rattle.tag.specs.declared.actions.Action.TheVariants.{Read, Write}
 use Rattle.tag.specs.Names.{is_key, is_value}
 use Rattle.world_steps.specs.declared.step.Step.{Step}
 use Rattle.world_steps.specs.declared.step.Step.TheVariants as step
-use Rattle.fault_script.specs.declared.command.Command.{Command}
-use Rattle.fault_script.specs.declared.command.Command.TheVariants as command
+use Rattle.script_runs.specs.declared.command.Command.{Command}
+use Rattle.script_runs.specs.declared.command.Command.TheVariants as command
 use Rattle.fault_script.specs.declared.fault.LineFault.{LineFault}
 use Rattle.fault_script.specs.declared.fault.LineFault.TheVariants.{UnknownCommand, Range}
 use Rattle.fault_script.specs.Words.{words, behind_three, is_numeral, decimal_value, u64_of, number_of}

@@ -4,7 +4,7 @@ use Rattle.std.proofs.Common.{String, Global, bytes_eq, codes, slice_index, refl
 use Rattle.std.specs.Prelude.{string_bytes}
 use Rattle.std.specs.Cmp.Lexicographic.{bytes_decides}
 use Rattle.std.proofs.lemmas.Bool.{false_from_ne_true}
-use Rattle.fault_script.specs.declared.command.Command.{Command}
+use Rattle.script_runs.specs.declared.command.Command.{Command}
 use Rattle.fault_script.specs.declared.fault.LineFault.{LineFault}
 use Rattle.fault_script.specs.declared.parse_line.ConfigSoFar.{ConfigSoFar}
 use Rattle.fault_script.specs.declared.shown.Setting.{Setting}

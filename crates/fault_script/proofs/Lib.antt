@@ -12,8 +12,5 @@ mod SaidBack
 mod FormFaults
 mod LineFaults
 mod ReadOnce
-pub mod RunSteps
-pub mod Walking
-mod RunsOfSteps
+mod RunLemmas
 mod RunTexts
-mod RunsOnce

@@ -4,7 +4,7 @@ use Rattle.std.proofs.Common.{Ok, refl, sym, ap, ◌∙◌, subst, arith, length
 use Rattle.std.specs.Prelude.{option_map}
 use Rattle.counted_devices.specs.Cuts.{last_lines}
 use Rattle.counted_devices.proofs.CutOnce.{splits_once}
-use Rattle.fault_script.specs.declared.command.Script.{Script}
+use Rattle.script_runs.specs.declared.command.Script.{Script}
 use Rattle.fault_script.specs.declared.parse_line.ConfigSoFar.{ConfigSoFar}
 use Rattle.fault_script.specs.declared.parse_line.Said.{Said}
 use Rattle.fault_script.specs.declared.fault.LineFault.{LineFault}

@@ -1,6 +1,7 @@
 -- Texts of a script's run.
 use Rattle.std.proofs.Common.{ℕ, ◌≡◌, true, false, List, Result, Ok, Err, MatchResult, IfOk, IfErr, is_ok, sym, ap, ◌∙◌, subst}
 use Rattle.world_steps.specs.Systems.{opening}
+use Rattle.world_steps.specs.declared.system.System.{System}
 use Rattle.recorder.specs.Histories.{Recorded}
 use Rattle.recorder.specs.Records.{IsPart}
 use Rattle.recorder.specs.Sound.{TagSound}
@@ -12,23 +13,22 @@ use Rattle.file_format.specs.ReadAgain.{IsTextOf}
 use Rattle.file_format.specs.Texts.{history_text}
 use Rattle.fault_script.specs.Faults.{ScriptError}
 use Rattle.fault_script.specs.Scripts.{IsScript}
-use Rattle.fault_script.specs.Running.{IsRunSoFar}
+use Rattle.fault_script.specs.ScriptRuns.{RunsAll}
 use Rattle.fault_script.specs.Simulations.{IsSoundRun, Simulates}
-use Rattle.fault_script.specs.declared.command.Script.{Script}
-use Rattle.fault_script.specs.declared.script_run.ScriptRun.{ScriptRun}
+use Rattle.script_runs.specs.declared.command.Script.{Script}
 
 -- the run of all commands, and the text of its record
-pub run_of : (script : Script) (run : ScriptRun) (history : Recorded) (text : List ℕ)
-    → IsRunSoFar (opening script.config) script.commands.items run
-    → history ≡ run.world.history → ((key : List ℕ) (part : List Call) → IsPart run.world.history.rows key part → TagSound part)
+pub run_of : (script : Script) (last : System) (messages : List ℕ) (history : Recorded) (text : List ℕ)
+    → RunsAll (opening script.config) script.commands.items last messages
+    → history ≡ last.history → ((key : List ℕ) (part : List Call) → IsPart last.history.rows key part → TagSound part)
     → text ≡ history_text history.rows → IsTextOf text history.rows
-    → (rows : List Row) × IsSoundRun script rows run.messages.items × (text ≡ history_text rows)
-run_of script run history text so_far is sound written read =
+    → (rows : List Row) × IsSoundRun script rows messages × (text ≡ history_text rows)
+run_of script last messages history text runs is sound written read =
     let P : List ℕ → Type 0 = λ t. IsTextOf t history.rows in
     let Q : Recorded → Type 0 = λ h. (key : List ℕ) (part : List Call) → IsPart h.rows key part → TagSound part in (
       history.rows,
       record {
-        run = record { last = run.world; runs = so_far; recorded = ap (λ (h : Recorded). h.rows) (sym is) };
+        run = record { last = last; runs = runs; recorded = ap (λ (h : Recorded). h.rows) (sym is) };
         text = subst P written read;
         sound = subst Q (sym is) sound;
       },

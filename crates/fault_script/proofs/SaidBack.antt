@@ -6,8 +6,8 @@ use Rattle.quorum.specs.Quorums.{Quorums}
 use Rattle.world_steps.specs.Configs.{Config}
 use Rattle.world_steps.specs.declared.step.Step.{Step}
 use Rattle.world_steps.specs.declared.step.Step.TheVariants as step
-use Rattle.fault_script.specs.declared.command.Command.{Command}
-use Rattle.fault_script.specs.declared.command.Command.TheVariants as command
+use Rattle.script_runs.specs.declared.command.Command.{Command}
+use Rattle.script_runs.specs.declared.command.Command.TheVariants as command
 use Rattle.fault_script.specs.declared.parse_line.Last.{Last}
 use Rattle.fault_script.specs.declared.parse_line.Last.TheVariants as last
 use Rattle.fault_script.specs.declared.parse_line.ConfigSoFar.{ConfigSoFar}

@@ -6,8 +6,8 @@ use Rattle.tag.specs.Limits.{client_limit}
 use Rattle.tag.specs.Names.{is_key, is_value}
 use Rattle.world_steps.specs.declared.step.Step.{Step}
 use Rattle.world_steps.specs.declared.step.Step.TheVariants as step
-use Rattle.fault_script.specs.declared.command.Command.{Command}
-use Rattle.fault_script.specs.declared.command.Command.TheVariants as command
+use Rattle.script_runs.specs.declared.command.Command.{Command}
+use Rattle.script_runs.specs.declared.command.Command.TheVariants as command
 use Rattle.fault_script.specs.Commands.{last_seed, random_step_limit}
 use Rattle.fault_script.specs.Says.{last_flight, last_replica}
 use Rattle.fault_script.specs.Words.{is_numeral, decimal_value}

@@ -14,5 +14,5 @@ pub mod Scripts
 pub mod Drafts
 pub mod MessageTexts
 pub mod ScriptRuns
+pub mod Telling
 pub mod Simulations
-pub mod Running

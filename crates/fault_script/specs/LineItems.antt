@@ -2,7 +2,7 @@
 use Rattle.std.specs.Prelude.{ℕ, ◌≡◌, List, Option, Some, None, Result, Ok, Err, codes, nat_le}
 use Rattle.std.specs.Prelude.{string_bytes, if◌then◌else◌}
 use Rattle.counted_devices.specs.Answers.{◌>>=◌}
-use Rattle.fault_script.specs.declared.command.Command.{Command}
+use Rattle.script_runs.specs.declared.command.Command.{Command}
 use Rattle.fault_script.specs.declared.parse_line.ConfigSoFar.{ConfigSoFar}
 use Rattle.fault_script.specs.declared.parse_line.Said.{Said}
 use Rattle.fault_script.specs.declared.parse_line.Said.TheVariants.{Runs}

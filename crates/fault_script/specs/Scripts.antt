@@ -3,8 +3,8 @@ use Rattle.std.specs.Prelude.{ℕ, ◌≡◌, ◌+◌, List, [], ◌∷◌, ◌+
 use Rattle.std.specs.Prelude.{option_map, fold, filter_map}
 use Rattle.counted_devices.specs.Cuts.{Splits, last_lines}
 use Rattle.counted_devices.specs.FirstFaults.{LineFaults, LineRules, faults_by}
-use Rattle.fault_script.specs.declared.command.NumberedCommand.{NumberedCommand}
-use Rattle.fault_script.specs.declared.command.Script.{Script}
+use Rattle.script_runs.specs.declared.command.NumberedCommand.{NumberedCommand}
+use Rattle.script_runs.specs.declared.command.Script.{Script}
 use Rattle.fault_script.specs.declared.parse_line.Last.TheVariants.{Other}
 use Rattle.fault_script.specs.declared.parse_line.ConfigSoFar.{ConfigSoFar}
 use Rattle.fault_script.specs.declared.parse_line.Said.{Said}

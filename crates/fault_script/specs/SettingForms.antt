@@ -6,7 +6,7 @@ use Rattle.client_phases.specs.declared.rules.ReadMode.{ReadMode}
 use Rattle.client_phases.specs.declared.rules.ReadMode.TheVariants.{Full, Short}
 use Rattle.quorum.specs.Quorums.{Quorums, IsLawful}
 use Rattle.world_steps.specs.Configs.{Config, config_of, message_limit}
-use Rattle.fault_script.specs.declared.command.Command.{Command}
+use Rattle.script_runs.specs.declared.command.Command.{Command}
 use Rattle.fault_script.specs.declared.parse_line.Last.{Last}
 use Rattle.fault_script.specs.declared.parse_line.Last.TheVariants as last
 use Rattle.fault_script.specs.declared.parse_line.ConfigSoFar.{ConfigSoFar}

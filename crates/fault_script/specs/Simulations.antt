@@ -13,7 +13,7 @@ use Rattle.recorder.specs.declared.part.Call.{Call}
 use Rattle.recorder.specs.declared.row.Row.{Row}
 use Rattle.fault_script.specs.Scripts.{IsScript}
 use Rattle.fault_script.specs.ScriptRuns.{IsRunOf}
-use Rattle.fault_script.specs.declared.command.Script.{Script}
+use Rattle.script_runs.specs.declared.command.Script.{Script}
 use Rattle.fault_script.specs.Faults.{ScriptError}
 use Rattle.fault_script.specs.declared.simulate_script.SimulateError.{SimulateError}
 use Rattle.fault_script.specs.declared.simulate_script.SimulateError.TheVariants as error

@@ -4,16 +4,16 @@ ghost use Rattle.fault_script.specs.LineItems.{ScriptLineShows};
 ghost use Rattle.fault_script.specs.LineMeanings.{command_limit};
 ghost use Rattle.fault_script.specs.Lines.{is_long};
 ghost use Rattle.fault_script.specs.Scripts.{IsScript, SaidLine, opened_after, opened_of, script_rules};
-ghost use Rattle.fault_script.specs.declared.command.Command.{Command};
+ghost use Rattle.script_runs.specs.declared.command.Command.{Command};
 ghost use Rattle.fault_script.specs.declared.fault.LineFault.TheVariants.{TooLong};
 
-use crate::command::{Command, NumberedCommand, Script};
 use crate::fault::Stop;
 use crate::lines::{LineJudgement, judge_lines};
 use crate::parse_line::{ConfigSoFar, Last, Said, says_after};
 use crate::shown::Shown;
 use crate::{LineFault, ScriptError};
 use line_files::Contents;
+use script_runs::{Command, NumberedCommand, Script};
 use std::alloc::Global;
 use tag::Memory;
 

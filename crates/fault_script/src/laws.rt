@@ -1,5 +1,5 @@
 //! Laws of the definitions, each the contract of a function that does nothing.
-ghost use Rattle.std.specs.Prelude.{ℕ, ◌≡◌, ◌≤◌, ◌↔◌, List, Ok, Err, Option};
+ghost use Rattle.std.specs.Prelude.{ℕ, ◌≡◌, ◌≤◌, ◌↔◌, List, Ok, Err, Option, flat_map};
 ghost use Rattle.tag.specs.Limits.{call_limit};
 ghost use Rattle.quorum.specs.Quorums.{IsLawful};
 ghost use Rattle.recorder.specs.Records.{IsPart};
@@ -10,22 +10,23 @@ ghost use Rattle.world_steps.specs.Runs.{after};
 ghost use Rattle.world_steps.specs.Systems.{opening};
 ghost use Rattle.world_steps.specs.declared.step.Step.{Step};
 ghost use Rattle.world_steps.specs.declared.system.System.{System};
+ghost use Rattle.script_runs.specs.Events.{Event, HappensAll};
 ghost use Rattle.file_format.specs.LineFaults.{FaultsAre};
 ghost use Rattle.fault_script.specs.Commands.{command_in};
 ghost use Rattle.fault_script.specs.Forms.{SaysCommand, HasForm};
 ghost use Rattle.fault_script.specs.LineFaults.{HasWordFault};
 ghost use Rattle.fault_script.specs.LineMeanings.{said_in};
-ghost use Rattle.fault_script.specs.ScriptRuns.{RunsAll, IsRunOf};
+ghost use Rattle.fault_script.specs.ScriptRuns.{RunsAll, IsRunOf, message_of};
 ghost use Rattle.fault_script.specs.Scripts.{IsScript};
 ghost use Rattle.fault_script.specs.SettingForms.{SaysAfter};
 ghost use Rattle.fault_script.specs.Words.{words, behind_three};
-ghost use Rattle.fault_script.specs.declared.command.Command.{Command};
-ghost use Rattle.fault_script.specs.declared.command.Script.{Script};
+ghost use Rattle.script_runs.specs.declared.command.Command.{Command};
+ghost use Rattle.script_runs.specs.declared.command.Script.{Script};
 ghost use Rattle.fault_script.specs.declared.fault.LineFault.TheVariants.{UnknownCommand, Range};
 ghost use Rattle.fault_script.specs.declared.parse_line.ConfigSoFar.{ConfigSoFar};
 ghost use Rattle.fault_script.specs.declared.parse_line.Said.{Said};
 
-use world_settle::laws::the_steps_are_one_list;
+use script_runs::laws::{commands_have_one_run, every_run_is_one_of_steps};
 use world_steps::laws::every_run_has_sound_tags;
 
 /// A line is read as a command exactly where its words say the command.
@@ -64,12 +65,21 @@ pub fn bytes_are_read_as_one_script()
         → (a.config ≡ b.config) × (a.commands.items ≡ b.commands.items) }
 {}
 
+/// What happens in a script's run says the messages of the run.
+pub fn what_happens_is_a_run()
+    ensures { (script : Script) (last : System) (events : List Event)
+        → HappensAll (opening script.config) script.commands.items last events
+        → RunsAll (opening script.config) script.commands.items last (flat_map message_of events) }
+{}
+
 /// What a script leaves is what some list of steps leaves.
 pub fn every_script_run_is_one_of_steps()
     ensures { (script : Script) (last : System) (messages : List ℕ)
         → RunsAll (opening script.config) script.commands.items last messages
         → (steps : List Step) × (last ≡ after script.config steps) }
-{}
+{
+    every_run_is_one_of_steps();
+}
 
 /// In each run of every script each key's part of the record has sound tags, so that its calls
 /// sorted by tag are an order of it.
@@ -78,6 +88,7 @@ pub fn every_script_run_has_sound_tags()
         (part : List Call) → IsLawful script.config.quorums → script.config.calls ≤ call_limit
         → IsRunOf script rows messages → IsPart rows key part → TagSound part }
 {
+    every_run_is_one_of_steps();
     every_run_has_sound_tags();
 }
 
@@ -87,5 +98,5 @@ pub fn a_script_has_one_run()
         → IsRunOf script rows messages → IsRunOf script others said
         → (rows ≡ others) × (messages ≡ said) }
 {
-    the_steps_are_one_list();
+    commands_have_one_run();
 }

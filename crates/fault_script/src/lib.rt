@@ -8,7 +8,6 @@
 //! that show its record atomic.
 #![tactic(auto)]
 
-mod command;
 mod draft;
 mod fault;
 pub mod laws;
@@ -20,13 +19,12 @@ mod parse_line;
 mod parse_setting;
 mod reading;
 mod run_with_orders;
-mod script_run;
 mod shown;
 mod simulate_script;
 mod words;
 
-pub use command::{Command, NumberedCommand, Script};
 pub use fault::{ErrorKind, LineFault, ScriptError};
 pub use reading::parse;
 pub use run_with_orders::justified_run;
+pub use script_runs::{Command, NumberedCommand, Script};
 pub use simulate_script::{SimulateError, simulate};

@@ -7,12 +7,12 @@ ghost use Rattle.fault_script.specs.Commands.{invoke_in, send_in, stopped_in, st
 ghost use Rattle.fault_script.specs.Commands.{random_in, client_step_in, step_in, command_in};
 
 use crate::LineFault;
-use crate::command::Command;
 use crate::fault::Stop;
 use crate::numbers::{
     client_of, flight_of, key_of, needed_number, one_number, replica_of, value_of, within,
 };
 use crate::words::{is, needed_text, needed_word, nothing_more};
+use script_runs::Command;
 use std::alloc::Global;
 use tag::{Action, ClientId, ReplicaId};
 use world_steps::Step;

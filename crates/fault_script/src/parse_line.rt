@@ -7,10 +7,10 @@ ghost use Rattle.fault_script.specs.LineMeanings.{reads_said, votes_set, votes_s
 ghost use Rattle.fault_script.specs.Words.{words};
 
 use crate::LineFault;
-use crate::command::Command;
 use crate::fault::Stop;
 use crate::parse_setting::{reads_in, replicas_in, votes_in};
 use crate::shown::{Setting, Shown};
+use script_runs::Command;
 use world_steps::Config;
 
 /// The most commands of a script.

@@ -7,10 +7,10 @@ ghost use Rattle.counted_devices.specs.ReadFaults.{FailsFrom};
 ghost use Rattle.fault_script.specs.Scripts.{IsScript, script_faults};
 
 use crate::ScriptError;
-use crate::command::Script;
 use crate::draft::Draft;
 use counted_devices::CountedRead;
 use line_files::read_file;
+use script_runs::Script;
 use std::alloc::Global;
 use std::thread::Threads;
 

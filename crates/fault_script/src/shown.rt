@@ -4,10 +4,10 @@ ghost use Rattle.fault_script.specs.Commands.{command_in};
 ghost use Rattle.fault_script.specs.LineItems.{IsSettingWord, TextShows, setting_word};
 
 use crate::LineFault;
-use crate::command::Command;
 use crate::fault::Stop;
 use crate::parse_command::command_in;
 use crate::words::{is, next_word};
+use script_runs::Command;
 use std::alloc::Global;
 use tag::Memory;
 

@@ -9,11 +9,11 @@ ghost use Rattle.fault_script.specs.Simulations.{AreTextsOf, FailsAfterStart, If
 ghost use Rattle.fault_script.specs.Simulations.{Simulates, TakesText};
 ghost use Rattle.fault_script.specs.declared.simulate_script.SimulateError.{SimulateError};
 
-use crate::command::Script;
-use crate::script_run::ScriptRun;
+use crate::messages::Messages;
 use crate::{ScriptError, parse};
 use counted_devices::{CountedRead, CountedWrite, write_text};
 use file_format::history_text;
+use script_runs::{Script, observe};
 use std::alloc::Global;
 use std::thread::Threads;
 use tag::Memory;
@@ -65,9 +65,12 @@ struct Texts {
 fn texts_of(alloc: Global, script: Script) -> Result<Texts, Memory>
     ensures { IfOk result (λ texts. AreTextsOf script texts.messages.items texts.history.items) }
 {
-    let ScriptRun { world, messages } = ScriptRun::of(alloc, script)?;
-    let history = history_text(alloc, &world.into_history())?;
-    Ok(Texts { messages, history })
+    let run = observe(alloc, script, Messages::new(alloc))?;
+    let history = history_text(alloc, &run.world.into_history())?;
+    Ok(Texts {
+        messages: run.observer.text,
+        history,
+    })
 }
 
 /// Writes the messages, and then the history.

@@ -1,20 +1,20 @@
 -- Steps, drawn one after another.
-use Rattle.std.proofs.Common.{ℕ, ◌≡◌, true, false, List, [], ◌∷◌, ◌++◌, flat_map, Option, None, Some, is_some}
-use Rattle.std.proofs.Common.{refl, sym, ap, ◌∙◌, subst, append-nil}
+use Rattle.std.proofs.Common.{ℕ, ◌≡◌, List, [], ◌∷◌, ◌++◌, length, Option, None, Some, IsSome, refl, sym, ap, ◌∙◌, subst, append-nil}
 use Rattle.world_steps.specs.Refusals.{refusal_of}
+use Rattle.world_steps.specs.Systems.{system_after}
 use Rattle.world_steps.specs.declared.refusal.Refusal.{Refusal}
 use Rattle.world_steps.specs.declared.step.Step.{Step}
 use Rattle.world_steps.specs.declared.system.System.{System}
-use Rattle.fault_script.specs.declared.command.NumberedCommand.{NumberedCommand}
-use Rattle.fault_script.specs.declared.command.Script.{Script}
-use Rattle.observed_runs.specs.Events.{notices, tries}
-use Rattle.observed_runs.specs.Observing.{ObservesRun}
-use Rattle.observed_runs.specs.declared.notice.Notice.{Notice}
-use Rattle.observed_runs.proofs.Observing.{all_added}
-use Rattle.observed_runs.proofs.Quotas.{GoesOn, HasRoom, IsFull, one_omitted, one_shown}
+use Rattle.script_runs.specs.declared.origin.Origin.{Origin}
+use Rattle.script_runs.specs.Events.{notices, tries}
+use Rattle.script_runs.specs.declared.notice.Notice.{Notice}
+use Rattle.script_runs.specs.Quotas.{GoesOn, HasRoom, IsFull}
+use Rattle.script_runs.specs.declared.quota.Quota.{Quota}
+use Rattle.script_runs.proofs.Quotas.{one_omitted, one_shown}
 use Rattle.message_scenes.specs.Shapes.{Shapes, no_shapes, with_step, with_steps}
-use Rattle.message_scenes.specs.Sketches.{Draws, DrawsOn, IsDrawing, IsSketched, IsSketchOf, frame_of, shapes_of}
-use Rattle.message_scenes.specs.Taken.{TakenStep, taken_in, taken_of, taken_step, taken_unless}
+use Rattle.message_scenes.specs.Sketches.{Draws, DrawsOn, IsComing, IsDrawing, IsSketched, LeavesOut, WillDraw, shapes_of}
+use Rattle.message_scenes.specs.Taken.{TakenStep, taken_of, taken_step, taken_unless}
+use Rattle.message_scenes.specs.declared.scene.ComingStep.{ComingStep}
 use Rattle.message_scenes.specs.declared.scene.MessageScene.{MessageScene}
 use Rattle.message_scenes.specs.declared.sketch.Sketch.{Sketch}
 
@@ -41,32 +41,44 @@ module _ (old new : Sketch) (t : TakenStep) (on : GoesOn old.quota new.quota) wh
       (λ shown is. subst (λ (scene : MessageScene). IsDrawing frame.replicas scene shown) (sym same) is)
 
 -- a step that is refused isn't drawn
-pub refused_unseen : (old : Sketch) (command : NumberedCommand) (s : System) (step : Step) (found : Option Refusal)
-    → found ≡ refusal_of s step → is_some found ≡ true → DrawsOn old (tries command s step) old
+refused_by : (old : Sketch) (origin : Origin) (s : System) (step : Step) (found : Option Refusal) → refusal_of s step ≡ found → IsSome found
+    → DrawsOn old (tries origin s step) old
 unfolding taken_of
-refused_unseen old command s step None is refused = absurd cc
-refused_unseen old command s step (Some why) is refused = λ frame taken sketched.
+refused_by old origin s step None is refused = absurd cc
+refused_by old origin s step (Some why) is refused = λ frame taken sketched.
     subst (λ (all : List TakenStep). IsSketched frame all old)
-    (sym (append-nil taken) ∙ ap (λ (o : Option Refusal). taken ++ taken_unless command s step o) is) sketched
+    (sym (append-nil taken) ∙ ap (λ (o : Option Refusal). taken ++ taken_unless origin s step o) (sym is)) sketched
+
+pub refused_unseen : (old : Sketch) (origin : Origin) (s : System) (step : Step) → IsSome (refusal_of s step) → DrawsOn old (tries origin s step) old
+refused_unseen old origin s step refused = refused_by old origin s step (refusal_of s step) refl refused
 
 -- one that is taken is
-pub taken_seen : (old new : Sketch) (command : NumberedCommand) (s : System) (step : Step) (found : Option Refusal)
-    → found ≡ refusal_of s step → is_some found ≡ false → Draws old (taken_step command s step) new → DrawsOn old (tries command s step) new
+taken_seen : (old new : Sketch) (origin : Origin) (s : System) (step : Step) → refusal_of s step ≡ None → Draws old (taken_step origin s step) new
+    → DrawsOn old (tries origin s step) new
 unfolding taken_of
-taken_seen old new command s step None is none draws = λ frame taken sketched.
-    subst (λ (o : Option Refusal). IsSketched frame (taken ++ taken_unless command s step o) new) is (draws frame taken sketched)
-taken_seen old new command s step (Some why) is none draws = absurd cc
+taken_seen old new origin s step none draws = λ frame taken sketched.
+    subst (λ (o : Option Refusal). IsSketched frame (taken ++ taken_unless origin s step o) new) (sym none) (draws frame taken sketched)
+
+pub step_left_out : (old new : Sketch) (origin : Origin) (s : System) (step : Step) → LeavesOut old new → refusal_of s step ≡ None
+    → DrawsOn old (tries origin s step) new
+step_left_out old new origin s step left none =
+    taken_seen old new origin s step none (step_omitted old new (taken_step origin s step) left.on left.full left.same)
+
+pub step_added : (old mid new : Sketch) (origin : Origin) (s after : System) (step : Step) (coming : ComingStep) → WillDraw old origin s step mid coming
+    → (IsComing (length mid.scene.rows.items) s coming → after ≡ system_after s coming.step
+    → shapes_of new.scene ≡ with_step (shapes_of mid.scene) (taken_step coming.origin s coming.step))
+    → new.scene.replicas ≡ mid.scene.replicas → new.quota ≡ mid.quota → refusal_of s step ≡ None → after ≡ system_after s step
+    → DrawsOn old (tries origin s step) new
+step_added old mid new origin s after step coming will adds count quota none moved =
+    let is : IsComing (length mid.scene.rows.items) s coming =
+    subst (λ (scene : MessageScene). IsComing (length scene.rows.items) s coming) (sym will.same) will.is in
+    let shapes : shapes_of new.scene ≡ with_step (shapes_of old.scene) (taken_step origin s step) =
+    adds is (moved ∙ ap (system_after s) (sym will.step_is))
+    ∙ (λ i. with_step (shapes_of (will.same i)) (taken_step (will.origin_is i) s (will.step_is i))) in
+    taken_seen old new origin s step none (step_drawn old new (taken_step origin s step)
+    (subst (λ (q : Quota). GoesOn old.quota q) (sym quota) will.on) will.room shapes (count ∙ ap (λ (m : MessageScene). m.replicas) will.same))
 
 -- a notice adds no step
 pub notice_unseen : (old : Sketch) (line : ℕ) (notice : Notice) → DrawsOn old (notices line notice) old
 notice_unseen old line notice = λ frame taken sketched.
     subst (λ (all : List TakenStep). IsSketched frame all old) (sym (append-nil taken)) sketched
-
--- a script is drawn
-pub script_drawn : (script : Script) (most : ℕ) (last : System) (old new : Sketch) → IsSketched (frame_of script most) [] old
-    → ObservesRun DrawsOn script last old new → IsSketchOf script most last new
-script_drawn script most last old new none run = record {
-  taken = flat_map taken_in run.events;
-  takes = record { events = run.events; happen = run.happen; are = refl };
-  sketched = all_added IsSketched taken_in old new run.events run.observes (frame_of script most) [] none;
-}

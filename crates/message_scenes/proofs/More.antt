@@ -6,7 +6,7 @@ use Rattle.std.specs.List.{find, position, slice_get}
 use Rattle.message_scenes.specs.Arrows.{arrows_after, arrows_by, copy_arrow, is_under_way}
 use Rattle.message_scenes.specs.Calls.{calls_after, calls_by}
 use Rattle.message_scenes.specs.Replicas.{change_of, downs_after}
-use Rattle.message_scenes.specs.Shapes.{joined_after, with_step}
+use Rattle.message_scenes.specs.Shapes.{joined_after, row_of, with_step}
 use Rattle.message_scenes.specs.Sketches.{shapes_of}
 use Rattle.message_scenes.specs.Taken.{TakenStep}
 use Rattle.message_scenes.specs.declared.arrows.Arrow.{Arrow}
@@ -15,7 +15,7 @@ use Rattle.message_scenes.proofs.Changed.{find_here, find_none}
 
 pub shapes_more : (old new : MessageScene) (t : TakenStep) (row sent recorded : ℕ)
     → row ≡ length old.rows.items → sent ≡ t.before.pool.sent → recorded ≡ length t.before.history.rows
-    → new.rows.items ≡ old.rows.items ++ t.command ∷ [] → new.clients.items ≡ joined_after t.step old.clients.items
+    → new.rows.items ≡ old.rows.items ++ row_of t ∷ [] → new.clients.items ≡ joined_after t.step old.clients.items
     → new.arrows.items ≡ arrows_by row t.step sent (message_of t.after.pool.flights sent) old.arrows.items
     → new.calls.items ≡ calls_by row t.step (slice_get t.after.history.rows recorded) old.calls.items
     → new.changes.items ≡ old.changes.items ++ option_to_list (change_of row t.before t.step)

@@ -1,15 +1,11 @@
--- A sketch of a run is the script's scene, and its world has the history of the run.
-use Rattle.std.proofs.Common.{ℕ, ◌≡◌, List, ap, ◌∙◌, subst}
+-- A sketch of a run is the script's scene.
+use Rattle.std.proofs.Common.{ℕ, ◌≡◌, List, [], flat_map, refl, ap, ◌∙◌, subst}
 use Rattle.std.specs.Prelude.{take}
-use Rattle.recorder.specs.Histories.{Recorded}
-use Rattle.recorder.specs.Records.{IsPart}
-use Rattle.recorder.specs.Sound.{TagSound}
-use Rattle.recorder.specs.declared.part.Call.{Call}
-use Rattle.world_steps.specs.declared.system.System.{System}
-use Rattle.fault_script.specs.declared.command.Script.{Script}
-use Rattle.message_scenes.specs.Scenes.{IsRecordedScene, IsRisingOf, Shows}
+use Rattle.script_runs.proofs.Observing.{all_added}
+use Rattle.message_scenes.specs.Scenes.{IsRisingOf, Shows}
 use Rattle.message_scenes.specs.Shapes.{Shapes, no_shapes, with_steps}
-use Rattle.message_scenes.specs.Sketches.{IsSketchOf, shapes_of}
+use Rattle.message_scenes.specs.Sketches.{IsSceneFrom, IsSketched, frame_of, shapes_of}
+use Rattle.message_scenes.specs.Taken.{TakenStep, taken_in}
 use Rattle.message_scenes.specs.declared.scene.MessageScene.{MessageScene}
 use Rattle.message_scenes.specs.declared.sketch.Sketch.{Sketch}
 
@@ -25,19 +21,16 @@ shows shapes old new count is others risen = record {
   downs = ap (λ (s : MessageScene). s.downs.items) others ∙ ap (λ (s : Shapes). s.downs) is;
 }
 
-pub all_recorded : (script : Script) (most : ℕ) (last : System) (sketch : Sketch) (scene : MessageScene) (history : Recorded)
-    → IsSketchOf script most last sketch → scene ≡ record sketch.scene { clients = scene.clients; omitted = sketch.quota.omitted }
-    → IsRisingOf sketch.scene.clients.items scene.clients.items → history ≡ last.history
-    → ((key : List ℕ) (part : List Call) → IsPart last.history.rows key part → TagSound part) → IsRecordedScene script most scene history
-all_recorded script most last sketch scene history all others risen same sound = record {
-  scene_is = record {
-    last = last;
-    taken = all.taken;
-    takes = all.takes;
-    replicas = ap (λ (s : MessageScene). s.replicas) others ∙ all.sketched.shows.count;
-    shows = shows (with_steps no_shapes (take most all.taken)) sketch.scene scene sketch.quota.omitted all.sketched.shows.shapes others risen;
-    omitted = ap (λ (s : MessageScene). s.omitted) others ∙ all.sketched.counted.omitted;
-  };
-  recorded = same;
-  sound = λ key part is. sound key part (subst (λ (h : Recorded). IsPart h.rows key part) same is);
-}
+pub scene_from : (sketch : Sketch) (scene : MessageScene) → scene ≡ record sketch.scene { clients = scene.clients; omitted = sketch.quota.omitted }
+    → IsRisingOf sketch.scene.clients.items scene.clients.items → IsSceneFrom sketch scene
+scene_from sketch scene others risen = λ script most last first none run.
+    let taken : List TakenStep = flat_map taken_in run.events in
+    let all : IsSketched (frame_of script most) taken sketch =
+    all_added IsSketched taken_in first sketch run.events run.observes (frame_of script most) [] none in
+    record {
+      taken = taken;
+      takes = record { events = run.events; happen = run.happen; are = refl };
+      replicas = ap (λ (s : MessageScene). s.replicas) others ∙ all.shows.count;
+      shows = shows (with_steps no_shapes (take most taken)) sketch.scene scene sketch.quota.omitted all.shows.shapes others risen;
+      omitted = ap (λ (s : MessageScene). s.omitted) others ∙ all.counted.omitted;
+    }

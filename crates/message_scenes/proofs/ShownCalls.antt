@@ -31,7 +31,8 @@ use Rattle.world_steps.specs.declared.nodes.Node.{Node}
 use Rattle.world_steps.specs.declared.step.Step.{Step}
 use Rattle.world_steps.specs.declared.step.Step.TheVariants as step
 use Rattle.world_steps.specs.declared.system.System.{System}
-use Rattle.fault_script.specs.declared.command.NumberedCommand.{NumberedCommand}
+use Rattle.script_runs.specs.declared.command.NumberedCommand.{NumberedCommand}
+use Rattle.script_runs.specs.declared.origin.Origin.{Origin}
 use Rattle.message_scenes.specs.CallBars.{ShowCalls, invocation_of, is_invocation, recorded_after}
 use Rattle.message_scenes.specs.Calls.{calls_after, calls_with, closed, is_of_call, is_pending_of, noted}
 use Rattle.message_scenes.specs.Lists.{change_first}
@@ -147,44 +148,44 @@ up_rows s number is_up None = inl refl
 up_rows s number is_up (Some node) = inl refl
 
 -- ---- steps
-calls_on : (row : ℕ) (command : NumberedCommand) (s : System) (bars : List CallBar) (x : Step) → ShowCalls s.history.rows bars
-    → ShowCalls (system_after s x).history.rows (calls_after row (taken_step command s x) bars)
+calls_on : (row : ℕ) (origin : Origin) (s : System) (bars : List CallBar) (x : Step) → ShowCalls s.history.rows bars
+    → ShowCalls (system_after s x).history.rows (calls_after row (taken_step origin s x) bars)
 unfolding calls_after
-calls_on row command s bars (step.Join name) shown = grown_calls row s.history.rows s.history.rows bars (inl refl) shown
-calls_on row command s bars (step.Invoke name key action) shown =
+calls_on row origin s bars (step.Join name) shown = grown_calls row s.history.rows s.history.rows bars (inl refl) shown
+calls_on row origin s bars (step.Invoke name key action) shown =
     grown_calls row s.history.rows (system_after s (step.Invoke name key action)).history.rows bars
     (invoke_rows s name key action (finite.get s.members.clients name)) shown
-calls_on row command s bars (step.Send name replica) shown =
+calls_on row origin s bars (step.Send name replica) shown =
     grown_calls row s.history.rows (system_after s (step.Send name replica)).history.rows bars
     (send_rows s replica (finite.get s.members.clients name)) shown
-calls_on row command s bars (step.Deliver flight) shown =
+calls_on row origin s bars (step.Deliver flight) shown =
     grown_calls row s.history.rows (system_after s (step.Deliver flight)).history.rows bars
     (arrive_rows s flight (message_of s.pool.flights flight)) shown
-calls_on row command s bars (step.Lose flight) shown = grown_calls row s.history.rows s.history.rows bars (inl refl) shown
-calls_on row command s bars (step.Repeat flight) shown = grown_calls row s.history.rows s.history.rows bars (inl refl) shown
-calls_on row command s bars (step.Respond name) shown =
+calls_on row origin s bars (step.Lose flight) shown = grown_calls row s.history.rows s.history.rows bars (inl refl) shown
+calls_on row origin s bars (step.Repeat flight) shown = grown_calls row s.history.rows s.history.rows bars (inl refl) shown
+calls_on row origin s bars (step.Respond name) shown =
     grown_calls row s.history.rows (system_after s (step.Respond name)).history.rows bars
     (respond_rows s name (finite.get s.members.clients name)) shown
-calls_on row command s bars (step.StopClient name) shown =
+calls_on row origin s bars (step.StopClient name) shown =
     calls_kept (is_pending_of name) (closed (ending.Stopped row)) (λ bar. refl) bars ∙ shown
     ∙ ap (filter is_invocation) (sym (stop_rows s name (finite.get s.members.clients name)))
-calls_on row command s bars (step.StopReplica number) shown =
+calls_on row origin s bars (step.StopReplica number) shown =
     grown_calls row s.history.rows (system_after s (step.StopReplica number)).history.rows bars
     (up_rows s number false (slice_get s.nodes number)) shown
-calls_on row command s bars (step.StartReplica number) shown =
+calls_on row origin s bars (step.StartReplica number) shown =
     grown_calls row s.history.rows (system_after s (step.StartReplica number)).history.rows bars
     (up_rows s number true (slice_get s.nodes number)) shown
 
-step_on : (command : NumberedCommand) (s : System) (x : Step) (shapes : Shapes) → ShowCalls s.history.rows shapes.calls
-    → ShowCalls (system_after s x).history.rows (with_step shapes (taken_step command s x)).calls
+step_on : (origin : Origin) (s : System) (x : Step) (shapes : Shapes) → ShowCalls s.history.rows shapes.calls
+    → ShowCalls (system_after s x).history.rows (with_step shapes (taken_step origin s x)).calls
 unfolding with_step
-step_on command s x shapes shown = calls_on (length shapes.rows) command s shapes.calls x shown
+step_on origin s x shapes shown = calls_on (length shapes.rows) origin s shapes.calls x shown
 
 all_on : (s last : System) (taken : List TakenStep) (shapes : Shapes) → AreChained s taken last → ShowCalls s.history.rows shapes.calls
     → ShowCalls (recorded_after s.history.rows taken) (with_steps shapes taken).calls
 all_on s last taken shapes (ends a) shown = shown
-all_on s last taken shapes (begins command a x others end none rest) shown =
-    all_on (system_after a x) end others (with_step shapes (taken_step command a x)) rest (step_on command a x shapes shown)
+all_on s last taken shapes (begins origin a x others end none rest) shown =
+    all_on (system_after a x) end others (with_step shapes (taken_step origin a x)) rest (step_on origin a x shapes shown)
 
 pub calls_shown : (config : Config) (commands : List NumberedCommand) (last : System) (taken : List TakenStep) (most : ℕ)
     → TakesAll (opening config) commands last taken

@@ -13,10 +13,11 @@ use Rattle.world_steps.specs.Refusals.{refusal_of}
 use Rattle.world_steps.specs.Systems.{opening, system_after}
 use Rattle.world_steps.specs.declared.step.Step.{Step}
 use Rattle.world_steps.specs.declared.system.System.{System}
-use Rattle.fault_script.specs.declared.command.NumberedCommand.{NumberedCommand}
+use Rattle.script_runs.specs.declared.command.NumberedCommand.{NumberedCommand}
+use Rattle.script_runs.specs.declared.origin.Origin.{Origin}
 use Rattle.message_scenes.specs.Arrows.{arrows_after}
 use Rattle.message_scenes.specs.Copies.{ShowCopies}
-use Rattle.message_scenes.specs.Shapes.{Shapes, no_shapes, with_step, with_steps}
+use Rattle.message_scenes.specs.Shapes.{Shapes, no_shapes, row_of, with_step, with_steps}
 use Rattle.message_scenes.specs.Taken.{TakenStep, TakesAll, taken_step}
 use Rattle.message_scenes.proofs.Chain.{AreChained, chain_all, chain_first}
 use Rattle.message_scenes.proofs.Chain.AreChained.{begins, ends}
@@ -24,27 +25,27 @@ use Rattle.message_scenes.proofs.Copying.{Shown}
 use Rattle.message_scenes.proofs.Stepping.{step_shown}
 
 -- one step more
-shapes_on : (earlier : List TakenStep) (command : NumberedCommand) (s : System) (step : Step) (shapes : Shapes)
+shapes_on : (earlier : List TakenStep) (origin : Origin) (s : System) (step : Step) (shapes : Shapes)
     → Shown earlier (length shapes.rows) s.pool shapes.arrows → refusal_of s step ≡ None
-    → Shown (earlier ++ taken_step command s step ∷ []) (length (with_step shapes (taken_step command s step)).rows) (system_after s step).pool
-    (with_step shapes (taken_step command s step)).arrows
+    → Shown (earlier ++ taken_step origin s step ∷ []) (length (with_step shapes (taken_step origin s step)).rows) (system_after s step).pool
+    (with_step shapes (taken_step origin s step)).arrows
 unfolding with_step arrows_after
-shapes_on earlier command s step shapes so_far none =
-    let t : TakenStep = taken_step command s step in
-    let grows = length-append shapes.rows (command ∷ []) in
-    let long : length shapes.rows + 1 ≡ length (shapes.rows ++ command ∷ []) = omega (arith, grows) in
+shapes_on earlier origin s step shapes so_far none =
+    let t : TakenStep = taken_step origin s step in
+    let grows = length-append shapes.rows (row_of t ∷ []) in
+    let long : length shapes.rows + 1 ≡ length (shapes.rows ++ row_of t ∷ []) = omega (arith, grows) in
     subst (λ (n : ℕ). Shown (earlier ++ t ∷ []) n (system_after s step).pool (with_step shapes t).arrows) long
-    (step_shown earlier (length shapes.rows) command s shapes.arrows so_far step none)
+    (step_shown earlier (length shapes.rows) origin s shapes.arrows so_far step none)
 
 -- all of them
 all_on : (s last : System) (earlier taken : List TakenStep) (shapes : Shapes) → AreChained s taken last
     → Shown earlier (length shapes.rows) s.pool shapes.arrows → ShowCopies (earlier ++ taken) (with_steps shapes taken).arrows
 all_on s last earlier taken shapes (ends a) so_far =
     subst (λ (all : List TakenStep). ShowCopies all shapes.arrows) (sym (append-nil earlier)) so_far.copies
-all_on s last earlier taken shapes (begins command a step others end none rest) so_far =
-    let t : TakenStep = taken_step command a step in
+all_on s last earlier taken shapes (begins origin a step others end none rest) so_far =
+    let t : TakenStep = taken_step origin a step in
     subst (λ (all : List TakenStep). ShowCopies all (with_steps (with_step shapes t) others).arrows) (append_assoc earlier (t ∷ []) others)
-    (all_on (system_after a step) end (earlier ++ t ∷ []) others (with_step shapes t) rest (shapes_on earlier command a step shapes so_far none))
+    (all_on (system_after a step) end (earlier ++ t ∷ []) others (with_step shapes t) rest (shapes_on earlier origin a step shapes so_far none))
 
 -- before the first
 none_there : (q : ℕ) (x : Flight) → finite.get {X = Flight} {R = nat_cmp} finite.empty q ≡ Some x → ⊥

@@ -26,7 +26,7 @@ use Rattle.world_steps.specs.declared.step.Step.{Step}
 use Rattle.world_steps.specs.declared.step.Step.TheVariants as step
 use Rattle.world_steps.specs.declared.system.System.{System}
 use Rattle.world_steps.proofs.Passed.{passed, send_passed}
-use Rattle.fault_script.specs.declared.command.NumberedCommand.{NumberedCommand}
+use Rattle.script_runs.specs.declared.origin.Origin.{Origin}
 use Rattle.message_scenes.specs.Arrows.{arrows_by, copy_arrow, end_flight, replier, reply_arrow, request_arrow}
 use Rattle.message_scenes.specs.Taken.{TakenStep}
 use Rattle.message_scenes.specs.declared.arrows.Arrow.{Arrow}
@@ -87,10 +87,10 @@ abbrev reply_from : ℕ → ℕ → ℕ → Reply → Arrow
 reply_from row flight name reply =
     record { flight = flight; client = name; replica = replier reply; message = ToClient name reply; begins = row; end = ending.Open }
 
-module _ (earlier : List TakenStep) (row : ℕ) (command : NumberedCommand) (s : System) (arrows : List Arrow) (so_far : Shown earlier row s.pool arrows) where
+module _ (earlier : List TakenStep) (row : ℕ) (origin : Origin) (s : System) (arrows : List Arrow) (so_far : Shown earlier row s.pool arrows) where
   -- a step, taken
   abbrev taken : Step → System → TakenStep
-  taken step after = record { command = command; before = s; step = step; after = after }
+  taken step after = record { origin = origin; before = s; step = step; after = after }
 
   -- the arrows after it
   abbrev arrows_then : Step → System → List Arrow

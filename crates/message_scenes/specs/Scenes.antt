@@ -7,8 +7,8 @@ use Rattle.recorder.specs.Sound.{TagSound}
 use Rattle.recorder.specs.declared.part.Call.{Call}
 use Rattle.world_steps.specs.Systems.{opening}
 use Rattle.world_steps.specs.declared.system.System.{System}
-use Rattle.fault_script.specs.declared.command.Script.{Script}
-use Rattle.observed_runs.specs.Quotas.{last_count}
+use Rattle.script_runs.specs.declared.command.Script.{Script}
+use Rattle.script_runs.specs.Quotas.{last_count}
 use Rattle.message_scenes.specs.Shapes.{Shapes, no_shapes, with_steps}
 use Rattle.message_scenes.specs.Taken.{TakenStep, TakesAll}
 use Rattle.message_scenes.specs.declared.scene.MessageScene.{MessageScene}
@@ -27,20 +27,21 @@ pub record Shows (shapes : Shapes) (scene : MessageScene) : Type 0 where
   pub changes : scene.changes.items ≡ shapes.changes
   pub downs : scene.downs.items ≡ shapes.downs
 
--- the scene is that of a run of the script: it shows at most so many of the steps that were taken,
--- and says how many it leaves out
-pub record IsSceneOf (script : Script) (most : ℕ) (scene : MessageScene) : Type 0 where
-  pub last : System
-  pub taken : List TakenStep
-  pub takes : TakesAll (opening script.config) script.commands.items last taken
-  pub replicas : scene.replicas ≡ length script.config.quorums.votes
-  pub shows : Shows (with_steps no_shapes (take most taken)) scene
-  pub omitted : scene.omitted ≡ min (length taken - most) last_count
+-- the scene is that of a run of the script which leaves that system: it shows at most so many of
+-- the steps that were taken, and says how many it leaves out
+pub record IsSceneOf (script : Script) (most : ℕ) (last : System) (scene : MessageScene) : Type 0
+  where
+    pub taken : List TakenStep
+    pub takes : TakesAll (opening script.config) script.commands.items last taken
+    pub replicas : scene.replicas ≡ length script.config.quorums.votes
+    pub shows : Shows (with_steps no_shapes (take most taken)) scene
+    pub omitted : scene.omitted ≡ min (length taken - most) last_count
 
 -- the scene is that of a run of the script, and the history is what that run records; the tags of
 -- each of its parts are sound
 pub record IsRecordedScene (script : Script) (most : ℕ) (scene : MessageScene) (history : Recorded)
     : Type 0 where
-  pub scene_is : IsSceneOf script most scene
-  pub recorded : history ≡ scene_is.last.history
+  pub last : System
+  pub scene_is : IsSceneOf script most last scene
+  pub recorded : history ≡ last.history
   pub sound : (key : List ℕ) (part : List Call) → IsPart history.rows key part → TagSound part

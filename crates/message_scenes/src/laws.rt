@@ -2,20 +2,11 @@
 ghost use Rattle.std.specs.Prelude.{ℕ, List, [], take};
 ghost use Rattle.world_steps.specs.Systems.{opening};
 ghost use Rattle.world_steps.specs.declared.system.System.{System};
-ghost use Rattle.fault_script.specs.ScriptRuns.{RunsAll};
-ghost use Rattle.fault_script.specs.declared.command.Script.{Script};
+ghost use Rattle.script_runs.specs.declared.command.Script.{Script};
 ghost use Rattle.message_scenes.specs.CallBars.{ShowCalls, recorded_after};
 ghost use Rattle.message_scenes.specs.Copies.{ShowCopies};
 ghost use Rattle.message_scenes.specs.Shapes.{no_shapes, with_steps};
 ghost use Rattle.message_scenes.specs.Taken.{TakenStep, TakesAll};
-
-/// The steps of a script's scene are those of a run of the script: the system at the end is the one
-/// that the run leaves.
-pub fn a_scene_is_of_a_run()
-    ensures { (script : Script) (last : System) (taken : List TakenStep)
-        → TakesAll (opening script.config) script.commands.items last taken → (messages : List ℕ)
-        × RunsAll (opening script.config) script.commands.items last messages }
-{}
 
 /// Each copy of a message that a script's run sends has one arrow: from the row of the step that
 /// sent it, or repeated its message, to the row of the step that delivered that copy or lost it.

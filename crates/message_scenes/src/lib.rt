@@ -13,11 +13,10 @@ pub mod laws;
 mod lists;
 mod replicas;
 mod scene;
-mod script_scene;
 mod sketch;
 
 pub use arrows::{Arrow, ArrowEnd};
 pub use calls::{CallBar, CallEnd, PlacedNote};
 pub use replicas::{Change, DownTime};
-pub use scene::MessageScene;
-pub use script_scene::{RecordedScene, message_scene, recorded_scene};
+pub use scene::{ComingStep, MessageScene, StepRow};
+pub use sketch::Sketch;

@@ -1,19 +1,18 @@
 //! Scenes.
-ghost use Rattle.std.specs.Prelude.{◌≡◌, ◌++◌, IfOk, OnOk, None, option_to_list, slice_get};
+ghost use Rattle.std.specs.Prelude.{◌≡◌, ◌++◌, IfOk, OnOk, length, option_to_list, slice_get};
 ghost use Rattle.network.specs.Flights.{message_of};
-ghost use Rattle.world_steps.specs.Refusals.{refusal_of};
 ghost use Rattle.world_steps.specs.Systems.{system_after};
+ghost use Rattle.world_steps.specs.declared.system.System.{System};
 ghost use Rattle.message_scenes.specs.Arrows.{arrows_by};
 ghost use Rattle.message_scenes.specs.Calls.{calls_by};
-ghost use Rattle.message_scenes.specs.Replicas.{change_of, downs_after};
+ghost use Rattle.message_scenes.specs.Replicas.{downs_after};
 ghost use Rattle.message_scenes.specs.Shapes.{joined_after, no_shapes, with_step};
-ghost use Rattle.message_scenes.specs.Sketches.{shapes_of};
 ghost use Rattle.message_scenes.specs.Taken.{taken_step};
 
 use crate::arrows::{Arrow, add_arrows};
 use crate::calls::{CallBar, add_calls, row_at};
 use crate::replicas::{Change, DownTime, add_downs, change_of};
-use fault_script::{Command, NumberedCommand};
+use script_runs::Origin;
 use std::alloc::Global;
 use tag::{ClientId, Memory};
 use world_steps::{Step, World};
@@ -25,8 +24,7 @@ pub struct MessageScene {
     pub replicas: u8,
     /// The clients that joined, in rising order.
     pub clients: Vec<ClientId>,
-    /// For each row the command that its step belongs to: a step, or one that takes several.
-    pub rows: Vec<NumberedCommand>,
+    pub rows: Vec<StepRow>,
     /// An arrow for each copy of a message, in the order of the rows at which they begin.
     pub arrows: Vec<Arrow>,
     /// A bar for each call, in the order of their invocations.
@@ -37,46 +35,31 @@ pub struct MessageScene {
     pub omitted: u64,
 }
 
-/// An equal command.
-pub(crate) fn copy_command(numbered: &NumberedCommand) -> Result<NumberedCommand, Memory>
-    ensures { IfOk result (λ copy. copy ≡ numbered.now) }
-{
-    let command = match &numbered.command {
-        Command::Step(step) => Command::Step(step.copy()?),
-        Command::Finish(client) => Command::Finish(*client),
-        Command::Random { seed, count } => Command::Random {
-            seed: *seed,
-            count: *count,
-        },
-    };
-    Ok(NumberedCommand {
-        line: numbered.line,
-        command,
-    })
+/// A row: a step that was taken, and the command that it belongs to.
+#[derive(Debug, Drop)]
+pub struct StepRow {
+    pub origin: Origin,
+    pub step: Step,
 }
 
-/// Takes a step that isn't refused.
-pub(crate) fn take(world: &mut World, step: Step) -> Result<(), Memory>
-    requires { refusal_of world.old step ≡ None }
-    ensures { OnOk result (world.new ≡ system_after world.old step) }
-{
-    match world.step(step) {
-        Ok(_) => Ok(()),
-        Err(_) => Err(Memory),
-    }
+/// A step that is about to be taken and to be drawn, and what a scene needs of the world before it.
+#[derive(Debug, Drop)]
+pub struct ComingStep {
+    origin: Origin,
+    step: Step,
+    /// What a replica comes to hold by it.
+    change: Option<Change>,
+    /// How many messages were sent.
+    sent: u32,
+    /// How many rows the record has.
+    recorded: usize,
 }
 
-/// Adds what a replica comes to hold by the step of the row, which isn't taken yet.
-fn add_change(
-    changes: &mut Vec<Change>,
-    world: &World,
-    row: usize,
-    step: &Step,
-) -> Result<(), Memory>
-    ensures { OnOk result (changes.new.items
-        ≡ changes.old.items ++ option_to_list (change_of row world.now step.now)) }
+/// Adds the change, if there is one.
+fn add_change(changes: &mut Vec<Change>, change: Option<Change>) -> Result<(), Memory>
+    ensures { OnOk result (changes.new.items ≡ changes.old.items ++ option_to_list change) }
 {
-    if let Some(change) = change_of(world, row, step)? {
+    if let Some(change) = change {
         changes.push(change)?;
     }
     Ok(())
@@ -94,6 +77,8 @@ fn add_joined(names: &mut Vec<ClientId>, step: &Step) -> Result<(), Memory>
 }
 
 impl MessageScene {
+    ghost use Rattle.message_scenes.specs.Sketches.{IsComing, shapes_of};
+
     /// Without a row.
     pub(crate) fn new(alloc: Global, replicas: u8) -> MessageScene
         ensures shapes { shapes_of result ≡ no_shapes }
@@ -112,31 +97,50 @@ impl MessageScene {
         }
     }
 
-    /// Takes a step that isn't refused, and adds its row and its shapes.
-    pub(crate) fn add(
-        &mut self,
-        world: &mut World,
-        command: &NumberedCommand,
-        step: Step,
-    ) -> Result<(), Memory>
-        requires { refusal_of world.old step ≡ None }
-        ensures shapes { OnOk result (shapes_of self.new
-            ≡ with_step (shapes_of self.old) (taken_step command.now world.old step)) }
-        ensures system { OnOk result (world.new ≡ system_after world.old step) }
+    /// The step that is about to be taken, as the next row needs it.
+    pub(crate) fn coming(
+        &self,
+        world: &World,
+        origin: &Origin,
+        step: &Step,
+    ) -> Result<ComingStep, Memory>
+        ensures origin { IfOk result (λ coming. coming.origin ≡ origin.now) }
+        ensures step { IfOk result (λ coming. coming.step ≡ step.now) }
+        ensures is { IfOk result (IsComing (length self.now.rows.items) world.now) }
+    {
+        Ok(ComingStep {
+            origin: *origin,
+            step: step.copy()?,
+            change: change_of(world, self.rows.len(), step)?,
+            sent: world.pool().sent(),
+            recorded: world.history().row_count(),
+        })
+    }
+
+    /// Adds the row and the shapes of the step, in the world after it.
+    pub(crate) fn add(&mut self, world: &World, coming: ComingStep) -> Result<(), Memory>
+        ensures shapes { OnOk result ((s : System) → IsComing (length self.old.rows.items) s coming
+            → world.now ≡ system_after s coming.step → shapes_of self.new
+            ≡ with_step (shapes_of self.old) (taken_step coming.origin s coming.step)) }
         ensures replicas { OnOk result (self.new.replicas ≡ self.old.replicas) }
         ensures omitted { OnOk result (self.new.omitted ≡ self.old.omitted) }
     {
+        let ComingStep {
+            origin,
+            step,
+            change,
+            sent,
+            recorded,
+        } = coming;
         let row = self.rows.len();
-        let (sent, recorded) = (world.pool().sent(), world.history().row_count());
-        add_change(&mut self.changes, world, row, &step)?;
-        take(world, step.copy()?)?;
-        self.add_after(world, row, &step, sent, recorded)?;
-        self.rows.push(copy_command(command)?)?;
+        self.add_shapes(world, row, &step, sent, recorded)?;
+        add_change(&mut self.changes, change)?;
+        self.rows.push(StepRow { origin, step })?;
         Ok(())
     }
 
     /// Adds the shapes of the step of the row but changes, after it is taken.
-    fn add_after(
+    fn add_shapes(
         &mut self,
         world: &World,
         row: usize,

@@ -1,9 +1,8 @@
 //! A source of random steps.
-ghost use Rattle.std.specs.Prelude.{◌≡◌, ◌++◌, IfOk, OnErr, OnOk, codes, decimal, is_none};
+ghost use Rattle.std.specs.Prelude.{ℕ, ◌≡◌, ◌++◌, true, IfOk, IsSome, MatchOption, codes, decimal};
 ghost use Rattle.random_steps.specs.Choices.{action_of, client_at, draw, flight_at, generator_of};
 ghost use Rattle.random_steps.specs.Choices.{key_of, kind_of, replica_at, step_by, step_of};
 ghost use Rattle.world_steps.specs.Refusals.{is_idle, phase_at, refusal_of};
-ghost use Rattle.world_steps.specs.Runs.{next};
 
 use client_phases::Phase;
 use itoa::Buffer;
@@ -12,7 +11,7 @@ use rand_pcg::Lcg64Xsh32;
 use std::alloc::Global;
 use std::marker::Model;
 use tag::{Action, ClientId, Key, Memory, NameError, ReplicaId, Value};
-use world_steps::{Refusal, Step, World};
+use world_steps::{Step, World};
 
 /// A source of random steps, of a generator.
 #[derive(Drop)]
@@ -168,19 +167,6 @@ fn step_by(
     }
 }
 
-/// Takes the step, and answers whether it was taken.
-fn try_step(world: &mut World, step: Step) -> Result<bool, Memory>
-    ensures system { OnOk result (world.new ≡ next world.old step) }
-    ensures taken { IfOk result (λ taken. taken ≡ is_none (refusal_of world.old step)) }
-    ensures err { OnErr result (world.new ≡ world.old) }
-{
-    match world.step(step) {
-        Ok(_) => Ok(true),
-        Err(Refusal::Memory) => Err(Memory),
-        Err(_) => Ok(false),
-    }
-}
-
 /// Whether a client of that name joined and is idle.
 fn is_idle(world: &World, client: ClientId) -> bool
     ensures { result ≡ is_idle (phase_at world.now client) }
@@ -191,41 +177,14 @@ fn is_idle(world: &World, client: ClientId) -> bool
     }
 }
 
-/// Takes the invocation that two words choose, and answers whether it was taken. Its texts are made only
-/// if its client is idle.
-fn try_invocation(alloc: Global, world: &mut World, second: u32, third: u32) -> Result<bool, Memory>
-    ensures system { OnOk result
-        (world.new ≡ next world.old (step_by world.old Kind.Invoke second third)) }
-    ensures taken { IfOk result (λ taken. taken
-        ≡ is_none (refusal_of world.old (step_by world.old Kind.Invoke second third))) }
-    ensures err { OnErr result (world.new ≡ world.old) }
-{
-    if !is_idle(world, client_at(world, second)) {
-        return Ok(false);
-    }
-    let step = step_by(alloc, world, Kind::Invoke, second, third)?;
-    try_step(world, step)
-}
-
-/// Takes the step of that kind that two words choose, and answers whether it was taken.
-fn try_chosen(
-    alloc: Global,
-    world: &mut World,
-    kind: Kind,
-    second: u32,
-    third: u32,
-) -> Result<bool, Memory>
-    ensures system { OnOk result (world.new ≡ next world.old (step_by world.old kind second third)) }
-    ensures taken { IfOk result (λ taken. taken
-        ≡ is_none (refusal_of world.old (step_by world.old kind second third))) }
-    ensures err { OnErr result (world.new ≡ world.old) }
+/// Whether two words choose the invocation of a client that isn't idle.
+fn is_busy(world: &World, kind: Kind, second: u32) -> bool
+    ensures { (third : ℕ) → result ≡ true
+        → IsSome (refusal_of world.now (step_by world.now kind second third)) }
 {
     match kind {
-        Kind::Invoke => try_invocation(alloc, world, second, third),
-        _ => {
-            let step = step_by(alloc, world, kind, second, third)?;
-            try_step(world, step)
-        }
+        Kind::Invoke => !is_idle(world, client_at(world, second)),
+        _ => false,
     }
 }
 
@@ -262,17 +221,19 @@ impl RandomSteps {
         step_by(alloc, world, kind_of(first), second, third)
     }
 
-    /// Takes the next step, and answers whether it was taken: a step that is refused changes nothing. The
-    /// three words are drawn whatever comes of it; `Memory` comes only if an allocation was refused, and
-    /// leaves the world as it was.
-    pub fn take_next(&mut self, alloc: Global, world: &mut World) -> Result<bool, Memory>
-        ensures system { OnOk result (world.new ≡ next world.old (step_of world.old (draw self.old))) }
-        ensures taken { IfOk result (λ taken. taken
-            ≡ is_none (refusal_of world.old (step_of world.old (draw self.old)))) }
+    /// The next step as `next` answers it, but none if it is the invocation of a client that isn't
+    /// idle. Such a step is refused, and its texts aren't made.
+    pub fn next_unless_busy(&mut self, alloc: Global, world: &World) -> Result<Option<Step>, Memory>
+        ensures step { IfOk result (λ next. MatchOption next
+            (IsSome (refusal_of world.now (step_of world.now (draw self.old))))
+            (λ step. step ≡ step_of world.now (draw self.old))) }
         ensures drawn { self.new ≡ (draw self.old).rest }
-        ensures err { OnErr result (world.new ≡ world.old) }
     {
         let (first, second, third) = self.draw();
-        try_chosen(alloc, world, kind_of(first), second, third)
+        let kind = kind_of(first);
+        if is_busy(world, kind, second) {
+            return Ok(None);
+        }
+        Ok(Some(step_by(alloc, world, kind, second, third)?))
     }
 }

@@ -5,7 +5,7 @@ use Rattle.std.proofs.lemmas.Result.{IfErr-at_err, IfOk-at_ok}
 use Rattle.counted_devices.specs.DeviceStates.{DeviceStates}
 use Rattle.counted_devices.specs.Deliveries.{ReadsFrom}
 use Rattle.fault_script.specs.Scripts.{IsScript}
-use Rattle.fault_script.specs.declared.command.Script.{Script}
+use Rattle.script_runs.specs.declared.command.Script.{Script}
 use Rattle.cli.specs.Devices.{WriterStates}
 use Rattle.cli.specs.Outcomes.{Ends}
 use Rattle.cli.specs.declared.outcome.Found.TheVariants as found

@@ -4,7 +4,7 @@ use Rattle.counted_devices.specs.Deliveries.{ReadsFrom}
 use Rattle.counted_devices.specs.DeviceStates.{DeviceStates}
 use Rattle.markup.specs.Markup.{Markup, page_text}
 use Rattle.fault_script.specs.Scripts.{IsScript}
-use Rattle.fault_script.specs.declared.command.Script.{Script}
+use Rattle.script_runs.specs.declared.command.Script.{Script}
 use Rattle.cli.specs.Devices.{FileStates, WriterStates}
 use Rattle.cli.specs.Outcomes.{Ends}
 use Rattle.cli.specs.Reports.{IsScriptFault}

@@ -10,7 +10,7 @@ use Rattle.markup.specs.declared.names.Element.TheVariants as tag
 use Rattle.file_format.specs.Texts.{rows_from}
 use Rattle.history_file.specs.NumberedRows.{lines_of}
 use Rattle.history_file.specs.declared.numbered_format.NumberedHistories.{NumberedHistories}
-use Rattle.fault_script.specs.declared.command.Script.{Script}
+use Rattle.script_runs.specs.declared.command.Script.{Script}
 use Rattle.traces.specs.Traces.{IsTraceText}
 use Rattle.message_scenes.specs.Scenes.{IsRecordedScene}
 use Rattle.message_scenes.specs.declared.scene.MessageScene.{MessageScene}

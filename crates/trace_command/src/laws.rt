@@ -3,7 +3,7 @@ ghost use Rattle.std.specs.Prelude.{ℕ, ◌≡◌};
 ghost use Rattle.recorder.specs.Histories.{Recorded};
 ghost use Rattle.markup.specs.Markup.{Markup};
 ghost use Rattle.history_file.specs.declared.numbered_format.NumberedHistories.{NumberedHistories};
-ghost use Rattle.fault_script.specs.declared.command.Script.{Script};
+ghost use Rattle.script_runs.specs.declared.command.Script.{Script};
 ghost use Rattle.message_scenes.specs.Scenes.{IsRecordedScene};
 ghost use Rattle.message_scenes.specs.declared.scene.MessageScene.{MessageScene};
 ghost use Rattle.draw_command.specs.Findings.{refused_count};

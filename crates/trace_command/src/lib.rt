@@ -7,6 +7,7 @@
 
 pub mod laws;
 mod numbered;
+mod observed;
 mod page;
 mod scripts;
 mod texts;

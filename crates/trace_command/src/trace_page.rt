@@ -4,17 +4,16 @@ ghost use Rattle.cli.specs.Devices.{file_states, writer_states};
 ghost use Rattle.trace_command.specs.Endings.{EndsOnScript, IsTracePageText};
 
 use crate::numbered::numbered_of;
+use crate::observed::{Observed, observe_run};
 use crate::page::{RunShown, page_of};
 use crate::scripts::{made_of, script_in};
 use cli::{Source, Status, conclude};
 use counted_devices::{CountedRead, CountedWrite};
 use draw_command::Drawn;
 use fault_script::Script;
-use message_scenes::{RecordedScene, recorded_scene};
 use std::alloc::Global;
 use std::thread::Threads;
 use tag::Memory;
-use traces::trace_text;
 
 /// Runs the script, and makes its page.
 fn page_of_script(
@@ -25,8 +24,11 @@ fn page_of_script(
 ) -> Result<Vec<u8>, Memory>
     ensures { IfOk result (λ page. IsTracePageText most drawn.entry script page.items) }
 {
-    let RecordedScene { scene, history } = recorded_scene(alloc, &script, most)?;
-    let trace = trace_text(alloc, script, most)?;
+    let Observed {
+        scene,
+        trace,
+        history,
+    } = observe_run(alloc, script, most)?;
     let numbered = numbered_of(alloc, history)?;
     let shown = RunShown {
         scene: &scene,

@@ -6,13 +6,13 @@ use Rattle.world_settle.specs.declared.errors.SettleError.{SettleError}
 use Rattle.world_steps.specs.Systems.{opening}
 use Rattle.world_steps.specs.declared.step.Step.{Step}
 use Rattle.world_steps.specs.declared.system.System.{System}
-use Rattle.fault_script.specs.declared.command.Command.{Command}
-use Rattle.fault_script.specs.declared.command.Command.TheVariants as command
-use Rattle.fault_script.specs.declared.command.Script.{Script}
-use Rattle.observed_runs.specs.Events.{Event, HappensAll, notices, tries}
-use Rattle.observed_runs.specs.Quotas.{last_count}
-use Rattle.observed_runs.specs.declared.notice.Notice.{Notice}
-use Rattle.observed_runs.specs.declared.notice.Notice.TheVariants as notice
+use Rattle.script_runs.specs.declared.command.Script.{Script}
+use Rattle.script_runs.specs.Events.{Event, HappensAll, notices, tries}
+use Rattle.script_runs.specs.Quotas.{last_count}
+use Rattle.script_runs.specs.declared.notice.Notice.{Notice}
+use Rattle.script_runs.specs.declared.notice.Notice.TheVariants as notice
+use Rattle.script_runs.specs.declared.origin.CommandKind.{CommandKind}
+use Rattle.script_runs.specs.declared.origin.CommandKind.TheVariants as kind
 use Rattle.traces.specs.StepLines.{step_text}
 use Rattle.traces.specs.Words.{unsettled_text}
 
@@ -67,8 +67,8 @@ walked_line taken count =
     numbered (codes "  took ") taken ++ numbered (codes " of ") count ++ codes "\n"
 
 -- the number of the line of a command that is one step
-abbrev pub own_line : ℕ → Command → Option ℕ
-own_line number (command.Step step) = Some number
+abbrev pub own_line : ℕ → CommandKind → Option ℕ
+own_line number kind.Step = Some number
 own_line number other = None
 
 -- the line of what there is to say of the command of that line
@@ -81,7 +81,7 @@ notice_line number (notice.Randomized taken count) = walked_line taken count
 
 -- the line that tells what happens
 abbrev pub event_line : Event → List ℕ
-event_line (tries command s step) = step_line (own_line command.line command.command) s step
+event_line (tries origin s step) = step_line (own_line origin.line origin.kind) s step
 event_line (notices number notice) = notice_line number notice
 
 -- ---- the trace of a script

@@ -9,7 +9,6 @@
 mod acts;
 mod counts;
 mod effects;
-pub mod laws;
 mod script_trace;
 mod step_words;
 mod steps;
@@ -17,3 +16,4 @@ mod telling;
 mod words;
 
 pub use script_trace::trace_text;
+pub use telling::Telling;

@@ -1,22 +1,11 @@
 //! The text of a script's trace.
 ghost use Rattle.std.specs.Prelude.{IfOk};
-ghost use Rattle.traces.specs.Running.{IsTellingOf};
 ghost use Rattle.traces.specs.Traces.{IsTraceText};
 
 use crate::telling::Telling;
-use fault_script::Script;
-use observed_runs::observe;
+use script_runs::{Script, observe};
 use std::alloc::Global;
 use tag::Memory;
-
-/// Runs the script, and tells all that happens.
-fn tell_script(alloc: Global, script: Script, most: u32) -> Result<Telling, Memory>
-    ensures { IfOk result (λ telling. IsTellingOf script most telling) }
-{
-    let mut telling = Telling::new(alloc, most);
-    observe(alloc, &mut telling, &script)?;
-    Ok(telling)
-}
 
 /// The trace of the script: a line for each step of its run, in the order of the steps.
 ///
@@ -26,5 +15,6 @@ fn tell_script(alloc: Global, script: Script, most: u32) -> Result<Telling, Memo
 pub fn trace_text(alloc: Global, script: Script, most: u32) -> Result<Vec<u8>, Memory>
     ensures { IfOk result (λ text. IsTraceText script most text.items) }
 {
-    tell_script(alloc, script, most)?.into_text()
+    let run = observe(alloc, script, Telling::new(alloc, most))?;
+    run.observer.into_text()
 }

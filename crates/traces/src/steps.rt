@@ -1,47 +1,16 @@
-//! Taking a step, told or not.
-ghost use Rattle.std.specs.Prelude.{◌≡◌, ◌++◌, None, IfOk, OnOk, is_none};
-ghost use Rattle.world_steps.specs.Refusals.{refusal_of};
-ghost use Rattle.world_steps.specs.Runs.{next};
-ghost use Rattle.world_steps.specs.Systems.{effect_of};
-ghost use Rattle.traces.specs.StepLines.{step_text, told};
-ghost use Rattle.traces.specs.Traces.{head_text, step_line};
+//! The line of a step, told before the step is taken and after it.
+ghost use Rattle.std.specs.Prelude.{◌≡◌, ◌++◌, codes, OnOk};
+ghost use Rattle.traces.specs.StepLines.{act_text, effect_text, step_words};
+ghost use Rattle.traces.specs.Traces.{head_text};
+ghost use Rattle.traces.specs.Words.{refusal_text};
 
 use crate::acts::append_act;
-use crate::counts::count_of;
+use crate::counts::Count;
 use crate::effects::append_effect;
 use crate::step_words::append_refused;
 use sentences::{append, append_number};
 use tag::Memory;
-use world_steps::{Refusal, Step, World};
-
-/// Takes a step that isn't refused, and tells it.
-fn tell_taken(text: &mut Vec<u8>, world: &mut World, step: Step) -> Result<(), Memory>
-    requires { refusal_of world.old step ≡ None }
-    ensures told { OnOk result (text.new.items
-        ≡ text.old.items ++ told world.old step None (effect_of world.old step)) }
-    ensures system { OnOk result (world.new ≡ next world.old step) }
-{
-    let count = count_of(world, &step);
-    append_act(text, world, &step)?;
-    match world.step(step) {
-        Ok(effect) => append_effect(text, &count, effect),
-        Err(_) => Err(Memory),
-    }
-}
-
-/// Takes the step, if nothing refuses it, and tells it; answers whether it was taken.
-fn tell(text: &mut Vec<u8>, world: &mut World, step: Step) -> Result<bool, Memory>
-    ensures told { OnOk result (text.new.items ≡ text.old.items ++ step_text world.old step) }
-    ensures system { OnOk result (world.new ≡ next world.old step) }
-    ensures taken { IfOk result (λ taken. taken ≡ is_none (refusal_of world.old step)) }
-{
-    if let Some(why) = world.refusal(&step) {
-        append_refused(text, &step, why)?;
-        return Ok(false);
-    }
-    tell_taken(text, world, step)?;
-    Ok(true)
-}
+use world_steps::{Effect, Refusal, Step, World};
 
 /// Adds how a line begins.
 #[tactic(auto, unfolding(crate::specs::Traces::head_text, crate::specs::Traces::line_head))]
@@ -57,33 +26,44 @@ pub(crate) fn append_head(text: &mut Vec<u8>, number: Option<u64>) -> Result<(),
     }
 }
 
-/// Takes the step, if nothing refuses it, and adds its line; answers whether it was taken.
-#[tactic(auto, unfolding(crate::specs::Traces::step_line))]
-pub(crate) fn tell_step(
+/// Adds what is told of a step before it is taken.
+pub(crate) fn append_before(
     text: &mut Vec<u8>,
-    world: &mut World,
+    world: &World,
     number: Option<u64>,
-    step: Step,
-) -> Result<bool, Memory>
-    ensures told { OnOk result
-        (text.new.items ≡ text.old.items ++ step_line number world.old step) }
-    ensures system { OnOk result (world.new ≡ next world.old step) }
-    ensures taken { IfOk result (λ taken. taken ≡ is_none (refusal_of world.old step)) }
+    step: &Step,
+) -> Result<(), Memory>
+    ensures { OnOk result (text.new.items
+        ≡ text.old.items ++ (head_text number ++ act_text world.now step.now)) }
 {
     append_head(text, number)?;
-    let taken = tell(text, world, step)?;
-    append(text, "\n")?;
-    Ok(taken)
+    append_act(text, world, step)
 }
 
-/// Takes the step, if nothing refuses it, and answers whether it was taken.
-pub(crate) fn take_untold(world: &mut World, step: Step) -> Result<bool, Memory>
-    ensures system { OnOk result (world.new ≡ next world.old step) }
-    ensures taken { IfOk result (λ taken. taken ≡ is_none (refusal_of world.old step)) }
+/// Adds what is told of the step after it was taken.
+pub(crate) fn append_after(
+    text: &mut Vec<u8>,
+    count: &Option<Count>,
+    effect: &Effect,
+) -> Result<(), Memory>
+    ensures { OnOk result (text.new.items
+        ≡ text.old.items ++ (effect_text count.now effect.now ++ codes "\n")) }
 {
-    match world.step(step) {
-        Ok(_) => Ok(true),
-        Err(Refusal::Memory) => Err(Memory),
-        Err(_) => Ok(false),
-    }
+    append_effect(text, count, *effect)?;
+    append(text, "\n")
+}
+
+/// Adds the line of a step that is refused.
+pub(crate) fn append_refusal(
+    text: &mut Vec<u8>,
+    number: Option<u64>,
+    step: &Step,
+    why: Refusal,
+) -> Result<(), Memory>
+    ensures { OnOk result (text.new.items ≡ text.old.items
+        ++ (head_text number ++ (step_words step.now ++ refusal_text why) ++ codes "\n")) }
+{
+    append_head(text, number)?;
+    append_refused(text, step, why)?;
+    append(text, "\n")
 }

@@ -39,7 +39,8 @@ use Rattle.world_settle.specs.declared.errors.SettleError.{SettleError}
 use Rattle.world_settle.proofs.Brings.{majorities_most}
 use Rattle.world_settle.proofs.CandidateLemmas.{Candidate, candidate_first, candidates_rest}
 use Rattle.world_settle.proofs.LeastCounts.{fewer_needed, least_once, some_candidate}
-use Rattle.world_settle.proofs.Forward.{Ahead, ahead, settled_within}
+use Rattle.world_settle.specs.StepsLeft.{AreLeftAfter}
+use Rattle.world_settle.proofs.Forward.{ahead, round_more, settled_within}
 use Rattle.world_settle.proofs.Plans.{StepsKeepSound, asking_row, made_by, ready_or_asking, up_after}
 use Rattle.world_settle.proofs.Replies.{held_counts, not_ask}
 use Rattle.world_settle.proofs.Rounds.{MayRound, asking_or_putting, handled_nodes, round_is, third_system}
@@ -129,9 +130,9 @@ rounds keeps s sound name a agree room further steps settles =
     ∙ ap (λ p. is_agreed rules (asking_by s (asking_with asking replica p) (take m others))) (sym told)
     ∙ sym (ap (λ cs. is_agreed rules (asking_by s asking (take a cs))) found ∙ ap (λ k. is_agreed rules (asking_by s asking (take k (replica ∷ others)))) is)
     ∙ agree.agreed in
-    let going : Ahead s name steps replica =
-    ahead name s steps replica others settles (asking_or_putting s name replica client (query_of asking) node may)
-    (ap (λ o. candidates s (option_map_or counted_by o finite.empty)) agree.is ∙ found) in
+    let going : AreLeftAfter name s (round s name replica) steps =
+    ahead name s replica others steps (asking_or_putting s name replica client (query_of asking) node may)
+    (ap (λ o. candidates s (option_map_or counted_by o finite.empty)) agree.is ∙ found) settles in
     let sent : t.pool.sent ≡ s.pool.sent + 1 + 1 = refl in
     let limit : t.pool.limit ≡ s.pool.limit = refl in
     let few : Few t name m =
@@ -140,8 +141,8 @@ rounds keeps s sound name a agree room further steps settles =
     (Agreed more.best.tag) (Noted (pair_to_put rules.name asking.call.action more.best).tag)
     (subst (λ cs. IsLeastCount (IsAskQuorum s.config.quorums) more.counted cs m) (sym left) rest) agreed further (omega (arith, is)) (omega (arith, room, is, sent, limit))
     (is_ask_quorum rules.quorums more.counted) (is_agreed rules more) refl refl here in
-    let fewer = few going.steps (subst (λ u. AreSettleSteps name u going.steps) after going.onward) in
-    let long : length steps ≡ suc (suc (suc (length going.steps))) = ap length going.splits in
+    let fewer = few going.others (subst (λ u. AreSettleSteps name u going.others) after going.onward) in
+    let long = round_more name s replica steps going in
     omega (arith, fewer, long, is)
 
 agreed_within : StepsKeepSound → (n : ℕ) (s : System) → IsSound s → (name a : ℕ) → RepliesAgree s name a → a ≤ n → s.pool.sent + 2 * a ≤ s.pool.limit → Few s name a

@@ -1,6 +1,6 @@
--- Taking the steps of a round, and of a call, one after another.
-use Rattle.std.proofs.Common.{◌≡◌, ◌≢◌, ℕ, suc, ◌+◌, ◌<◌, ◌≤◌, true, List, [], ◌∷◌, ◌++◌, length, None, Result, Ok, Err, refl, sym, ◌∙◌, ap, subst, arith, append_assoc, append-nil, length-append}
-use Rattle.std.specs.Prelude.{IfOk, IfErr, OnOk, OnErr}
+-- Taking the steps of a call, one after another.
+use Rattle.std.proofs.Common.{◌≡◌, ℕ, suc, ◌+◌, ◌<◌, ◌≤◌, true, List, [], ◌∷◌, ◌++◌, length, None, Some, Result, Ok, Err, refl, sym, ◌∙◌, ap, subst, arith, append_assoc, append-nil, length-append}
+use Rattle.std.specs.Prelude.{IfOk, OnOk}
 use Rattle.quorum.specs.Quorums.{IsLawful, IsAskQuorum, IsPutQuorum}
 use Rattle.std.specs.FinSet as finite
 use Rattle.client_phases.specs.declared.states.State.{State}
@@ -16,9 +16,12 @@ use Rattle.world_steps.proofs.Passed.{send_passed}
 use Rattle.world_settle.specs.Settling.{AreSettleSteps, candidates, counted_at, round}
 use Rattle.world_settle.specs.Settling.AreSettleSteps.{answers, asks}
 use Rattle.world_settle.specs.Refusing.{MaySettle, Needs, NeedsAt}
-use Rattle.world_settle.specs.SettleAnswers.{Completes, IsWithin, KeepsEarlier, SettlesBy, TakesSteps, TakesAll, TakesSome}
+use Rattle.world_settle.specs.SettleAnswers.{Completes, IsWithin, KeepsEarlier, SettlesBy}
+use Rattle.world_settle.specs.StepsLeft.{AreLeft, AreLeftAfter, BeginsAt, IsNext}
 use Rattle.world_settle.specs.declared.errors.SettleError.{SettleError}
 use Rattle.world_settle.specs.declared.errors.SettleError.TheVariants as error
+use Rattle.world_settle.specs.declared.settle_steps.SettleSteps.{SettleSteps}
+use Rattle.world_settle.specs.declared.settle_steps.Stage.TheVariants.{Between}
 use Rattle.world_settle.proofs.LeastCounts.{few_candidates, least_within}
 use Rattle.world_settle.proofs.Earlier.{keeps_earlier}
 use Rattle.world_settle.proofs.Plans.{Plan, StepsKeepSound, plan_of, ready_or_asking, steps_once, within_of}
@@ -26,53 +29,71 @@ use Rattle.world_steps.proofs.Onward.{after_append}
 use Rattle.world_steps.proofs.StepAnswers.{next_moved}
 use Rattle.world_settle.proofs.Rounds.{sent_by}
 
--- ---- a round
+-- ---- the next step
 
 -- a request that isn't refused takes the next number
-pub sent_next : (s : System) (name replica : ℕ) → refusal_of s (step.Send name replica) ≡ None → (next s (step.Send name replica)).pool.sent ≡ s.pool.sent + 1
+sent_next : (s : System) (name replica : ℕ) → refusal_of s (step.Send name replica) ≡ None → (next s (step.Send name replica)).pool.sent ≡ s.pool.sent + 1
 sent_next s name replica none =
     let (client, request, is, sends, room) = send_passed s name replica none in
     ap (λ (t : System). t.pool.sent) (next_moved s (step.Send name replica) none ∙ ap (send s replica) is ∙ sent_by s replica client request sends)
 
-pub stopped_second : (s t u : System) (name replica count k : ℕ) (why : SettleError) → t ≡ next s (step.Send name replica) → k ≡ count + 1 → why ≡ error.Memory k → u ≡ t
-    → TakesSome s (round s name replica) count why u
-stopped_second s t u name replica count k why first counted is same = record {
-  taken = step.Send name replica ∷ [];
-  rest = step.Deliver s.pool.sent ∷ step.Deliver (s.pool.sent + 1) ∷ [];
-  are = refl;
-  some_left = λ e. absurd cc;
-  counted = is ∙ ap error.Memory counted;
-  after_some = same ∙ first;
-}
-
-pub ended_third : (s t u v : System) (name replica count k j reply : ℕ) (result : Result ℕ SettleError) → t ≡ next s (step.Send name replica) → k ≡ count + 1
-    → u ≡ next t (step.Deliver s.pool.sent) → j ≡ k + 1 → reply ≡ s.pool.sent + 1
-    → IfOk result (λ after. after ≡ j + 1) → OnOk result (v ≡ next u (step.Deliver reply)) → IfErr result (λ why. why ≡ error.Memory j) → OnErr result (v ≡ u)
-    → TakesSteps s (round s name replica) count result v
-ended_third s t u v name replica count k j reply (Ok after) first one second two third counted is memory same =
-    let before : u ≡ next (next s (step.Send name replica)) (step.Deliver s.pool.sent) = second ∙ ap (λ x. next x (step.Deliver s.pool.sent)) first in
-    record { counted = omega (arith, one, two, counted); after_all = is ∙ ap (λ n. next u (step.Deliver n)) third ∙ ap (λ x. next x (step.Deliver (s.pool.sent + 1))) before }
-ended_third s t u v name replica count k j reply (Err why) first one second two third counted is memory same =
-    let both : j ≡ count + 2 = omega (arith, one, two) in
+-- after a round to the first candidate further steps complete the call
+pub ahead : (name : ℕ) (s : System) (replica : ℕ) (others : List ℕ) (steps : List Step) → has_request (phase_at s name) ≡ true
+    → candidates s (counted_at s name) ≡ replica ∷ others → AreSettleSteps name s steps → AreLeftAfter name s (round s name replica) steps
+ahead name s replica others steps requests found (answers t r) = absurd (ready_or_asking (phase_at s name) r requests)
+ahead name s replica others steps requests found (asks t first others' further asking found' more) =
+    let same : first ≡ replica = cc in
     record {
-      taken = step.Send name replica ∷ step.Deliver s.pool.sent ∷ [];
-      rest = step.Deliver (s.pool.sent + 1) ∷ [];
-      are = refl;
-      some_left = λ e. absurd cc;
-      counted = memory ∙ ap error.Memory both;
-      after_some = same ∙ second ∙ ap (λ x. next x (step.Deliver s.pool.sent)) first;
+      others = further;
+      are = ap (λ n. round s name n ++ further) same;
+      onward = subst (λ n. AreSettleSteps name (after_from s (round s name n)) further) same more;
     }
 
+pub round_more : (name : ℕ) (s : System) (replica : ℕ) (steps : List Step) (left : AreLeftAfter name s (round s name replica) steps)
+    → length steps ≡ suc (suc (suc (length left.others)))
+round_more name s replica steps left = ap length left.are
+
+-- a round begins with its request
+pub request_next : (name : ℕ) (s : System) (replica sent : ℕ) (steps : List Step) → sent ≡ s.pool.sent
+    → AreLeftAfter name s (round s name replica) steps → AreAccepted s steps
+    → (rest : List Step) × (steps ≡ step.Send name replica ∷ rest) × AreLeftAfter name (next s (step.Send name replica))
+    (step.Deliver sent ∷ step.Deliver (next s (step.Send name replica)).pool.sent ∷ []) rest
+request_next name s replica sent steps is left accepted =
+    let first : System = next s (step.Send name replica) in
+    let reply : s.pool.sent + 1 ≡ first.pool.sent = sym (sent_next s name replica (subst (AreAccepted s) left.are accepted).0) in (
+      step.Deliver s.pool.sent ∷ step.Deliver (s.pool.sent + 1) ∷ left.others,
+      left.are,
+      record {
+        others = left.others;
+        are = λ i. step.Deliver (sym is i) ∷ step.Deliver (reply i) ∷ left.others;
+        onward = subst (λ (t : System). AreSettleSteps name t left.others)
+            (λ i. next (next first (step.Deliver (sym is i))) (step.Deliver (reply i))) left.onward;
+      },
+    )
+
+-- the request arrives, and the reply is next
+pub arrival_next : (name : ℕ) (s : System) (request reply : ℕ) (steps : List Step) → reply ≡ s.pool.sent
+    → AreLeftAfter name s (step.Deliver request ∷ step.Deliver s.pool.sent ∷ []) steps
+    → (rest : List Step) × (steps ≡ step.Deliver request ∷ rest) × AreLeftAfter name (next s (step.Deliver request)) (step.Deliver reply ∷ []) rest
+arrival_next name s request reply steps is left = (
+  step.Deliver s.pool.sent ∷ left.others,
+  left.are,
+  record {
+    others = left.others;
+    are = λ i. step.Deliver (sym is i) ∷ left.others;
+    onward = subst (λ n. AreSettleSteps name (next (next s (step.Deliver request)) (step.Deliver n)) left.others) (sym is) left.onward;
+  },
+)
+
 -- ---- a call: the steps that are taken, and those that are left
-pub record Going (old : System) (name : ℕ) (current : System) (count : ℕ) : Type 0 where
+pub record Going (old : System) (name : ℕ) (current : System) (settling : SettleSteps) (count : ℕ) : Type 0 where
   pub taken : List Step
   pub rest : List Step
   pub settles : AreSettleSteps name old (taken ++ rest)
   pub there : current ≡ after_from old taken
   pub counted : count ≡ length taken
-  pub onward : AreSettleSteps name current rest
+  pub left : AreLeft settling current rest
   pub accepted : AreAccepted current rest
-  pub sound : IsSound current
   pub few : length taken + length rest ≤ 91
 
 needs_few : (s : System) (name a b : ℕ) → IsLawful s.config.quorums → NeedsAt s name a b → a + b ≤ 30
@@ -96,132 +117,101 @@ needs_few s name a b lawful needs = by needs.client.state needs.needs
     by Idle n = absurd n
     by Stopped n = absurd n
 
-pub going_none : StepsKeepSound → (s : System) (name : ℕ) → IsSound s → MaySettle s name → Going s name s 0
-going_none keeps s name sound may =
+-- where a call can be completed, all of its steps are left
+pub begins : StepsKeepSound → (s : System) (name : ℕ) → IsSound s → MaySettle s name → BeginsAt s name (record { client = name; stage = Between })
+begins keeps s name sound may =
     let plan : Plan s name may.room.asked may.room.kept = plan_of keeps s sound name may in
     let few = plan.few in
     let most = needs_few s name may.room.asked may.room.kept sound.sound.lawful may.room.needs in
-    record { taken = []; rest = plan.steps; settles = plan.settles; there = refl; counted = refl; onward = plan.settles; accepted = plan.taken; sound = sound; few = omega (arith, few, most) }
+    record { may = may; steps = plan.steps; settles = plan.settles; accepted = plan.taken; few = omega (arith, few, most); left = plan.settles }
 
-some_first : (xs ys : List Step) → xs ≢ [] → xs ++ ys ≢ []
-some_first [] ys some e = absurd (some refl)
-some_first (x ∷ xs) ys some e = absurd cc
+pub going_none : (s : System) (name : ℕ) (settling : SettleSteps) → BeginsAt s name settling → Going s name s settling 0
+going_none s name settling b = record {
+  taken = [];
+  rest = b.steps;
+  settles = b.settles;
+  there = refl;
+  counted = refl;
+  left = b.left;
+  accepted = b.accepted;
+  few = let few = b.few in omega (arith, few);
+}
 
--- after a round to the first candidate these steps are left
-pub record Ahead (s : System) (name : ℕ) (rest : List Step) (replica : ℕ) : Type 0 where
-  pub steps : List Step
-  pub splits : rest ≡ round s name replica ++ steps
-  pub onward : AreSettleSteps name (after_from s (round s name replica)) steps
+pub going_none-taken : (s : System) (name : ℕ) (settling : SettleSteps) (b : BeginsAt s name settling) → (going_none s name settling b).taken ≡ []
+unfolding going_none
+going_none-taken s name settling b = refl
 
-pub ahead : (name : ℕ) (s : System) (rest : List Step) (replica : ℕ) (others : List ℕ) → AreSettleSteps name s rest → has_request (phase_at s name) ≡ true → candidates s (counted_at s name) ≡ replica ∷ others → Ahead s name rest replica
-ahead name s rest replica others (answers t r) h e = absurd (ready_or_asking (phase_at s name) r h)
-ahead name s rest replica others (asks t first others' steps requests found more) h e =
-    let same : first ≡ replica = cc in
-    record {
-      steps = steps;
-      splits = ap (λ n. round s name n ++ steps) same;
-      onward = subst (λ n. AreSettleSteps name (after_from s (round s name n)) steps) same more;
-    }
+module _ (old : System) (name : ℕ) (current : System) (settling : SettleSteps) (count : ℕ) (going : Going old name current settling count) where
+  module _ (first : Step) (new : SettleSteps) (is : IsNext settling current (Some first) new) where
+    onward : (others : List Step) × (going.rest ≡ first ∷ others) × AreLeft new (next current first) others
+    onward = is going.rest going.left going.accepted
 
--- where no candidate is asked, the response is left
-last_one : (name : ℕ) (s : System) (rest : List Step) → AreSettleSteps name s rest
-    → ((replica : ℕ) (others : List ℕ) → has_request (phase_at s name) ≡ true → candidates s (counted_at s name) ≡ replica ∷ others → ⊥) → rest ≡ step.Respond name ∷ []
-last_one name s rest (answers t r) none = refl
-last_one name s rest (asks t first others steps requests found more) none = absurd (none first others requests found)
+    accepted_on : AreAccepted current (first ∷ onward.0)
+    accepted_on = subst (AreAccepted current) onward.1 going.accepted
 
-module _ (old : System) (name : ℕ) (current : System) (count : ℕ) (going : Going old name current count) where
-  module _ (replica : ℕ) (others : List ℕ) (requests : has_request (phase_at current name) ≡ true) (found : candidates current (counted_at current name) ≡ replica ∷ others) where
-    next_round : Ahead current name going.rest replica
-    next_round = ahead name current going.rest replica others going.onward requests found
+    pub going_taken : refusal_of current first ≡ None
+    going_taken = accepted_on.0
 
-    round_first : AreAccepted current (round current name replica ++ next_round.steps)
-    round_first = subst (AreAccepted current) next_round.splits going.accepted
+    long : length going.rest ≡ suc (length onward.0)
+    long = ap length onward.1
 
-    pub going_taken : AreAccepted current (round current name replica)
-    going_taken = let h = round_first in (h.0, (h.1.0, (h.1.1.0, tt)))
-
-    pub going_few : count < 900
+    pub going_few : count < 100
     going_few = let few = going.few in let counted = going.counted in omega (arith, few, counted)
 
-    all_steps : (first : List Step) (second : List Step) → first ++ second ≡ round current name replica → AreSettleSteps name old ((going.taken ++ first) ++ (second ++ next_round.steps))
-    all_steps first second e =
-        subst (AreSettleSteps name old)
-        (ap (λ xs. going.taken ++ xs) (next_round.splits ∙ ap (λ xs. xs ++ next_round.steps) (sym e) ∙ append_assoc first second next_round.steps) ∙ sym (append_assoc going.taken first (second ++ next_round.steps)))
-        going.settles
+    all : AreSettleSteps name old (going.taken ++ first ∷ onward.0)
+    all = subst (λ xs. AreSettleSteps name old (going.taken ++ xs)) onward.1 going.settles
 
-    after_first : (first : List Step) → after_from current first ≡ after_from old (going.taken ++ first)
-    after_first first = ap (λ s. after_from s first) going.there ∙ sym (after_append old going.taken first)
-
-    -- a round is taken
-    pub going_on : (after : ℕ) (new : System) → TakesAll current (round current name replica) count after new → IsSound new → Going old name new after
-    going_on after new takes sound =
-        let steps = next_round.steps in
-        let h = round_first in
+    -- the next step is taken
+    pub going_on : (after : System) → after ≡ next current first → Going old name after new (count + 1)
+    going_on after moved =
         let counted = going.counted in
-        let added = takes.counted in
         let few = going.few in
-        let long = length-append going.taken (round current name replica) in
-        let split : length going.rest ≡ suc (suc (suc (length steps))) = ap length next_round.splits in
+        let longer = length-append going.taken (first ∷ []) in
+        let split = long in
         record {
-          taken = going.taken ++ round current name replica;
-          rest = steps;
-          settles = all_steps (round current name replica) [] (append-nil (round current name replica));
-          there = takes.after_all ∙ after_first (round current name replica);
-          counted = omega (arith, counted, added, long);
-          onward = subst (λ s. AreSettleSteps name s steps) (sym takes.after_all) next_round.onward;
-          accepted = subst (λ s. AreAccepted s steps) (sym takes.after_all) h.1.1.1;
-          sound = sound;
-          few = omega (arith, few, long, split);
+          taken = going.taken ++ first ∷ [];
+          rest = onward.0;
+          settles = subst (AreSettleSteps name old) (sym (append_assoc going.taken (first ∷ []) onward.0)) all;
+          there = moved ∙ ap (λ s. next s first) going.there ∙ sym (after_append old going.taken (first ∷ []));
+          counted = omega (arith, counted, longer);
+          left = subst (λ s. AreLeft new s onward.0) (sym moved) onward.2;
+          accepted = subst (λ s. AreAccepted s onward.0) (sym moved) accepted_on.1;
+          few = omega (arith, few, longer, split);
         }
 
-    -- an allocation is refused in a round
-    pub going_stopped : (why : SettleError) (new : System) → MaySettle old name → TakesSome current (round current name replica) count why new → SettlesBy old name (Err why) new
-    going_stopped why new may takes =
-        let counted = going.counted in
-        let long = length-append going.taken takes.taken in
-        subst (λ w. SettlesBy old name (Err w) new) (sym takes.counted) (record {
-          may = may;
-          taken = going.taken ++ takes.taken;
-          rest = takes.rest ++ next_round.steps;
-          settles = all_steps takes.taken takes.rest takes.are;
-          some_left = some_first takes.rest next_round.steps takes.some_left;
-          counted = omega (arith, counted, long);
-          after = takes.after_some ∙ after_first takes.taken;
-        })
+    pub going_on-taken : (after : System) (moved : after ≡ next current first) → (going_on after moved).taken ≡ going.taken ++ first ∷ []
+    unfolding going_on
+    going_on-taken after moved = refl
 
-  -- the response is left
-  module _ (none : (replica : ℕ) (others : List ℕ) → has_request (phase_at current name) ≡ true → candidates current (counted_at current name) ≡ replica ∷ others → ⊥) where
-    last_is : going.rest ≡ step.Respond name ∷ []
-    last_is = last_one name current going.rest going.onward none
-
-    pub last_taken : refusal_of current (step.Respond name) ≡ None
-    last_taken = (subst (AreAccepted current) last_is going.accepted).0
-
-    last_settles : AreSettleSteps name old (going.taken ++ step.Respond name ∷ [])
-    last_settles = subst (λ xs. AreSettleSteps name old (going.taken ++ xs)) last_is going.settles
-
-    pub going_ended : (result : Result ℕ SettleError) (new : System) → MaySettle old name → IfOk result (λ after. after ≡ count + 1) → OnOk result (new ≡ next current (step.Respond name))
-        → IfErr result (λ why. why ≡ error.Memory count) → OnErr result (new ≡ current) → SettlesBy old name result new
-    going_ended (Ok after) new may counted is memory same =
-        let before = going.counted in
-        let long = length-append going.taken (step.Respond name ∷ []) in
-        record {
-          may = may;
-          steps = going.taken ++ step.Respond name ∷ [];
-          settles = last_settles;
-          counted = omega (arith, counted, before, long);
-          after = is ∙ ap (λ s. next s (step.Respond name)) going.there ∙ sym (after_append old going.taken (step.Respond name ∷ []));
-        }
-    going_ended (Err why) new may counted is memory same =
-        subst (λ w. SettlesBy old name (Err w) new) (sym memory) (record {
+    -- an allocation is refused
+    pub going_stopped : (why : SettleError) (after : System) → MaySettle old name → why ≡ error.Memory count → after ≡ current → SettlesBy old name (Err why) after
+    going_stopped why after may memory same =
+        subst (λ w. SettlesBy old name (Err w) after) (sym memory) (record {
           may = may;
           taken = going.taken;
-          rest = step.Respond name ∷ [];
-          settles = last_settles;
+          rest = first ∷ onward.0;
+          settles = all;
           some_left = λ e. absurd cc;
           counted = sym going.counted;
           after = same ∙ going.there;
         })
+
+  pub going_sound : StepsKeepSound → IsSound old → IsSound current
+  going_sound keeps sound = subst IsSound (sym going.there) (keeps old going.taken sound)
+
+  -- no step is left
+  pub going_all : (new : SettleSteps) → IsNext settling current None new → AreSettleSteps name old going.taken
+  going_all new is =
+      subst (AreSettleSteps name old) (ap (λ xs. going.taken ++ xs) (is going.rest going.left going.accepted) ∙ append-nil going.taken) going.settles
+
+  pub going_ended : (new : SettleSteps) → MaySettle old name → IsNext settling current None new → SettlesBy old name (Ok count) current
+  going_ended new may is = record {
+    may = may;
+    steps = going.taken;
+    settles = going_all new is;
+    counted = sym going.counted;
+    after = going.there;
+  }
 
 -- ---- what is answered, and what it leaves
 pub settled_earlier : (old : System) (name : ℕ) (result : Result ℕ SettleError) (new : System) → SettlesBy old name result new → KeepsEarlier old new

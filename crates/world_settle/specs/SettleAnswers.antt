@@ -45,27 +45,6 @@ SettlesBy old name (Err error.NoMajority) new = IsUnsettled old name error.NoMaj
 SettlesBy old name (Err error.NotPending) new = IsUnsettled old name error.NotPending × (new ≡ old)
 SettlesBy old name (Err error.Room) new = IsUnsettled old name error.Room × (new ≡ old)
 
--- all of these steps are taken, after so many
-pub record TakesAll (old : System) (steps : List Step) (before after : ℕ) (new : System) : Type 0
-  where
-    pub counted : after ≡ before + length steps
-    pub after_all : new ≡ after_from old steps
-
--- the first of these steps are taken and not all, after so many
-pub record TakesSome (old : System) (steps : List Step) (before : ℕ) (why : SettleError)
-    (new : System) : Type 0 where
-  pub taken : List Step
-  pub rest : List Step
-  pub are : taken ++ rest ≡ steps
-  pub some_left : rest ≢ []
-  pub counted : why ≡ error.Memory (before + length taken)
-  pub after_some : new ≡ after_from old taken
-
--- the steps are taken, after so many, until an allocation fails
-abbrev pub TakesSteps : System → List Step → ℕ → Result ℕ SettleError → System → Type 0
-TakesSteps old steps before (Ok after) new = TakesAll old steps before after new
-TakesSteps old steps before (Err why) new = TakesSome old steps before why new
-
 -- flights that were sent earlier keep the copies that they had
 abbrev pub KeepsEarlier : System → System → Type 0
 KeepsEarlier old new = (flight : ℕ) → flight < old.pool.sent → copies_of new.pool.flights flight

@@ -79,7 +79,7 @@ pub(crate) fn counted_at(world: &World, client: ClientId) -> ReplicaSet
 }
 
 /// The replica that the client's next request goes to; none if it neither asks nor puts.
-pub fn next_replica(world: &World, client: ClientId) -> Option<ReplicaId>
+pub(crate) fn next_replica(world: &World, client: ClientId) -> Option<ReplicaId>
     ensures { MatchOption result
         ((replica : ℕ) (others : List ℕ) → has_request (phase_at world.now client) ≡ true
         → candidates world.now (counted_at world.now client) ≡ replica ∷ others → ⊥)

@@ -9,9 +9,9 @@ mod candidates;
 mod errors;
 pub mod laws;
 mod refusing;
+mod settle_steps;
 mod settling;
 
-pub use candidates::next_replica;
 pub use errors::SettleError;
-pub use refusing::refuse;
+pub use settle_steps::SettleSteps;
 pub use settling::settle;

@@ -34,7 +34,7 @@ fn replicas_needed(world: &World, client: ClientId) -> Option<u32>
 }
 
 /// Whether the client's pending call can be completed, and if not, why.
-pub fn refuse(world: &World, client: ClientId) -> Result<(), SettleError>
+pub(crate) fn refuse(world: &World, client: ClientId) -> Result<(), SettleError>
     ensures settles { MatchResult result (λ _. MaySettle world.now client)
         (λ why. IsUnsettled world.now client why) }
     ensures sound { IsSound world.now }

@@ -1,18 +1,15 @@
 //! Completing a pending call.
 ghost use Rattle.std.specs.Prelude.{◌≡◌, ◌<◌, ◌+◌, None, IfOk, IfErr, OnOk, OnErr};
 ghost use Rattle.world_steps.specs.Refusals.{refusal_of};
-ghost use Rattle.world_steps.specs.Runs.{AreAccepted, next};
+ghost use Rattle.world_steps.specs.Runs.{next};
 ghost use Rattle.world_steps.specs.SoundSystems.{IsSound};
-ghost use Rattle.world_settle.specs.Refusing.{MaySettle};
 ghost use Rattle.world_settle.specs.SettleAnswers.{Completes, IsWithin, IsWithinForMajorities};
 ghost use Rattle.world_settle.specs.SettleAnswers.{IsWithinIfAgreed, KeepsEarlier, SettlesBy};
-ghost use Rattle.world_settle.specs.SettleAnswers.{TakesSteps};
-ghost use Rattle.world_settle.specs.Settling.{round};
+ghost use Rattle.world_settle.specs.StepsLeft.{BeginsAt};
 
 use crate::SettleError;
-use crate::candidates::next_replica;
-use crate::refusing::refuse;
-use tag::{ClientId, ReplicaId};
+use crate::settle_steps::SettleSteps;
+use tag::ClientId;
 use world_steps::{Step, World, laws};
 
 /// Takes a step that isn't refused, and answers how many were taken with it.
@@ -23,7 +20,6 @@ fn take(world: &mut World, step: Step, count: u32) -> Result<u32, SettleError>
     ensures next { OnOk result (world.new ≡ next world.old step) }
     ensures memory { IfErr result (λ why. why ≡ SettleError.Memory count) }
     ensures err { OnErr result (world.new ≡ world.old) }
-    ensures sound { IsSound world.new }
 {
     match world.take(step) {
         Ok(_) => Ok(count + 1),
@@ -31,39 +27,19 @@ fn take(world: &mut World, step: Step, count: u32) -> Result<u32, SettleError>
     }
 }
 
-/// Has the client's request go to the replica and its reply come back, and answers how many steps
-/// were taken with these three.
-fn round(
-    world: &mut World,
-    client: ClientId,
-    replica: ReplicaId,
-    count: u32,
-) -> Result<u32, SettleError>
-    requires taken { AreAccepted world.old (round world.old client replica) }
-    requires few { count < 900 }
-    ensures takes { TakesSteps world.old (round world.old client replica) count result world.new }
-    ensures sound { IsSound world.new }
-{
-    let request = world.pool().sent();
-    let count = take(world, Step::Send { client, replica }, count)?;
-    let reply = world.pool().sent();
-    let count = take(world, Step::Deliver { flight: request }, count)?;
-    take(world, Step::Deliver { flight: reply }, count)
-}
-
-/// Completes a pending call that can be completed.
-fn complete(world: &mut World, client: ClientId) -> Result<u32, SettleError>
-    requires may { MaySettle world.old client }
+/// Takes the steps.
+fn take_all(world: &mut World, client: ClientId, mut steps: SettleSteps) -> Result<u32, SettleError>
+    requires begins { BeginsAt world.old client steps }
     requires sound { IsSound world.old }
     ensures settles { SettlesBy world.old client result world.new }
     ensures sound { IsSound world.new }
 {
     laws::steps_keep_a_system_sound();
     let mut count = 0;
-    while let Some(replica) = next_replica(world, client) {
-        count = round(world, client, replica, count)?;
+    while let Some(step) = steps.next(world) {
+        count = take(world, step, count)?;
     }
-    take(world, Step::Respond { client }, count)
+    Ok(count)
 }
 
 /// Completes the client's pending call, and answers how many steps it took.
@@ -86,6 +62,6 @@ pub fn settle(world: &mut World, client: ClientId) -> Result<u32, SettleError>
     ensures agreed { IfOk result (λ count. IsWithinIfAgreed world.old client count) }
 {
     laws::steps_keep_a_system_sound();
-    refuse(world, client)?;
-    complete(world, client)
+    let steps = SettleSteps::new(world, client)?;
+    take_all(world, client, steps)
 }

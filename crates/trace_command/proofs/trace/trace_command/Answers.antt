@@ -1,6 +1,6 @@
 -- The trace was sent, or why there is none is said.
 use Rattle.std.proofs.Common.{List, ℕ, inl, inr, refl}
-use Rattle.fault_script.specs.declared.command.Script.{Script}
+use Rattle.script_runs.specs.declared.command.Script.{Script}
 use Rattle.traces.specs.Traces.{IsTraceText}
 use Rattle.cli.proofs.Endings.{stopped}
 use Rattle.trace_command.proofs.Ending.{of_script}

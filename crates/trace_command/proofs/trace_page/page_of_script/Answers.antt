@@ -5,7 +5,7 @@ use Rattle.trace_command.proofs.Numbering.{lines_of_each}
 use Rattle.trace_command.proofs.trace_page.page_of_script.Goals as goal
 
 pub page_of-requires-clause-clients : goal.page_of-requires-clause-clients
-page_of-requires-clause-clients c = c.in_ok-scene.ensures.scene_is.shows.clients.rises
+page_of-requires-clause-clients c = c.in_ok-scene.ensures.scene.scene_is.shows.clients.rises
 
 pub page_of-requires-clause-lines : goal.page_of-requires-clause-lines
 page_of-requires-clause-lines c = lines_of_each _ c.in_ok-numbered.numbered c.in_ok-numbered.ensures
@@ -20,9 +20,9 @@ returns c =
       record {
         scene = scene;
         history = made_of.history;
-        run = c.in_ok-scene.ensures;
-        trace = c.in_ok-trace.trace.items;
-        told = c.in_ok-trace.ensures;
+        run = c.in_ok-scene.ensures.scene;
+        trace = made_of.trace.items;
+        told = c.in_ok-scene.ensures.trace;
         numbered = numbered;
         numbered_is = c.in_ok-numbered.ensures;
         is = subst (λ (trace : List ℕ). IsPageOf scene trace numbered c.args.drawn made.0) c.as_slice.ensures.value made.1;

@@ -1,6 +1,7 @@
-use Rattle.traces.proofs.Lines.{text_told}
+use Rattle.std.proofs.lemmas.Result.{IfOk-weaker}
 use Rattle.traces.proofs.script_trace.trace_text.Goals as goal
 
 pub returns : goal.returns
 returns c =
-    text_told c.args.script c.args.most c.in_ok-tell_script.field-0 c.into_text.result c.in_ok-tell_script.ensures c.into_text.ensures
+    IfOk-weaker c.into_text.result _ _ (λ text is. is c.args.script c.args.most c.in_ok-run.run'.world c.new.result c.new.ensures
+    c.in_ok-run.ensures) c.into_text.ensures

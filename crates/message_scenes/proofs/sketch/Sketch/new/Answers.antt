@@ -1,4 +1,4 @@
-use Rattle.observed_runs.proofs.Quotas.{none_shown}
+use Rattle.script_runs.proofs.Quotas.{none_shown}
 use Rattle.message_scenes.specs.Sketches.{IsDrawing}
 use Rattle.message_scenes.proofs.sketch.Sketch.new.Goals as goal
 

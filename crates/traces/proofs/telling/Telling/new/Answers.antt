@@ -1,4 +1,4 @@
-use Rattle.observed_runs.proofs.Quotas.{none_shown}
+use Rattle.script_runs.proofs.Quotas.{none_shown}
 use Rattle.traces.specs.Running.{IsText}
 use Rattle.traces.proofs.telling.Telling.new.Goals as goal
 

@@ -1,6 +1,0 @@
-use Rattle.fault_script.specs.MessageTexts.{refused_message}
-use Rattle.fault_script.proofs.messages.message_refused.Goals as goal
-
-pub returns-clause-said : goal.returns-clause-said
-unfolding refused_message
-returns-clause-said c = rw (← c.number.ensures, ← c.name.ensures) c.append_reason.ensures

@@ -1,5 +1,0 @@
-pub mod Events
-pub mod Chains
-pub mod Observing
-pub mod Running
-pub mod Quotas

@@ -1,0 +1,9 @@
+pub mod Walking
+pub mod Observing
+pub mod SettleSteps
+pub mod Strides
+pub mod Commands
+pub mod Pairs
+pub mod RunsOnce
+pub mod Chains
+pub mod Quotas
