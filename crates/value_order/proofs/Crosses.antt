@@ -1,215 +1,31 @@
--- Two zones cross exactly if, in order of rank, one ends before an earlier one has begun for the last time.
-use Rattle.std.proofs.Common.{ℕ, ◌≡◌, ◌≢◌, ◌<◌, ◌≤◌, ◌+◌, ◌*◌, inl, inr, min, max, List, [], ◌∷◌, ◌++◌, Option, Some, None, IsPermutation, IsSorted, length, sym, ◌∙◌, ap, subst, refl, arith}
+-- Two zones cross exactly if one of them shows it at a begin, from the last call back, to the zone that is nearest above.
+use Rattle.std.proofs.Common.{ℕ, ◌≡◌, ◌≢◌, ◌<◌, ◌≤◌, ◌+◌, ◌*◌, ◌⊎◌, inl, inr, min, List, Option, Some, None, length, sym, ◌∙◌, ap, subst, refl, arith}
 use Rattle.std.specs.List.{slice_get}
-use Rattle.std.proofs.lemmas.Bool.{cases_lt}
+use Rattle.std.proofs.lemmas.Bool.{cases_lt, cases_eq}
 use Rattle.std.proofs.lemmas.Option.{same_Some, slice_get_within, none-some}
-use Rattle.tag.proofs.Lists.{push_cases, slice_get-push_left, slice_get-push_last}
-use Rattle.value_order.specs.declared.keys.SortKey.{SortKey}
+use Rattle.tag.proofs.Lists.{place_of, get_at}
+use Rattle.recorder.specs.declared.part.Call.{Call}
+use Rattle.recorder.specs.Parts.{IsSequence}
+use Rattle.value_order.specs.declared.sources.Source.{Source}
 use Rattle.value_order.specs.declared.zones.Zone.{Zone}
-use Rattle.value_order.specs.Crossing.{HasCrossing, AreFamilyKeys, AreRanked}
-use Rattle.value_order.specs.Keys.{HasRank, key_cmp}
-use Rattle.value_order.specs.Zones.{rank_of, Cross, CrossAt, NoneCross}
-use Rattle.value_order.proofs.KeyOrder.{are_sorted, rank_at_most}
+use Rattle.value_order.specs.Crossing.{IsWithin}
+use Rattle.value_order.specs.Sources.{AreSources, family_of}
+use Rattle.value_order.specs.Writers.{IsOnlyWriter}
+use Rattle.value_order.specs.Zones.{AreZones, Cross, CrossAt, NoneCross}
+use Rattle.value_order.proofs.CallKinds.{read_or_write}
+use Rattle.value_order.proofs.SortLists.{family_is}
 
 -- of two families the one that ranks no lower ends before the other's last begin: then the other does too
 pub cross_by_rank : (end_a last_a end_b last_b : ℕ) → min (2 * last_a + 1) (2 * end_a + 2) ≤ min (2 * last_b + 1) (2 * end_b + 2) → end_b < last_a → end_a < last_b
 cross_by_rank end_a last_a end_b last_b low less = omega arith
 
--- ---- keys of families
-
-module _ (zones : List Zone) (n : ℕ) (zone : Zone) (at : slice_get zones n ≡ Some zone) where
-  -- a family without an end adds no key
-  pub families_same : (keys : List SortKey) → zone.first_end ≡ None → AreFamilyKeys zones n keys → AreFamilyKeys zones (n + 1) keys
-  families_same keys none are = record {
-    each = are.each;
-    own = are.own;
-    below = λ i key here. let less : key.index < n = are.below i key here in omega arith;
-    all = λ k z end less there ends. elim (cases_lt k n) [
-      | inl h ↦ are.all k z end h there ends
-      | inr h ↦
-          let here : k ≡ n = omega arith in
-          let same : z ≡ zone = same_Some z zone (sym there ∙ (ap (slice_get zones) here ∙ at)) in
-          absurd (none-some end (sym none ∙ (ap (λ (x : Zone). x.first_end) (sym same) ∙ ends)))
-    ];
-    rise = are.rise;
-  }
-
-  -- one with an end adds its own
-  pub families_more : (keys : List SortKey) (key : SortKey) → HasRank zones key → key.family ≡ n → key.index ≡ n → AreFamilyKeys zones n keys → AreFamilyKeys zones (n + 1) (keys ++ key ∷ [])
-  families_more keys key ranked family index are = record {
-    each = λ i k here. elim (push_cases keys key i k here) [ inl h ↦ are.each i k h | inr h ↦ subst (HasRank zones) h.1 ranked ];
-    own = λ i k here. elim (push_cases keys key i k here) [ inl h ↦ are.own i k h | inr h ↦ subst (λ (x : SortKey). x.index ≡ x.family) h.1 (index ∙ sym family) ];
-    below = λ i k here. elim (push_cases keys key i k here) [
-      | inl h ↦ (let less : k.index < n = are.below i k h in omega arith)
-      | inr h ↦ (let same : key.index ≡ k.index = ap (λ (x : SortKey). x.index) h.1 in omega arith)
-    ];
-    all = λ k z end less there ends. elim (cases_lt k n) [
-      | inl h ↦ (let a = are.all k z end h there ends in (a.0, a.1, slice_get-push_left keys key a.0 a.1 a.2, a.3))
-      | inr h ↦ (let here : k ≡ n = omega arith in (length keys, key, slice_get-push_last keys key, family ∙ sym here))
-    ];
-    rise = λ i j a b less at_i at_j. elim (push_cases keys key j b at_j) [
-      | inl h ↦ are.rise i j a b less (old i j a b less at_i h) h
-      | inr h ↦
-          let same : key.index ≡ b.index = ap (λ (x : SortKey). x.index) h.1 in
-          let there = front i j a less at_i h.0 in
-          let low : a.index < n = are.below i a there in
-          omega arith
-    ];
-  }
-    where
-      front : (i j : ℕ) (a : SortKey) → i < j → slice_get (keys ++ key ∷ []) i ≡ Some a → j ≡ length keys → slice_get keys i ≡ Some a
-      front i j a less at_i last = elim (push_cases keys key i a at_i) [ inl h ↦ h | inr h ↦ absurd (omega (arith, h.0)) ]
-
-      old : (i j : ℕ) (a b : SortKey) → i < j → slice_get (keys ++ key ∷ []) i ≡ Some a → slice_get keys j ≡ Some b → slice_get keys i ≡ Some a
-      old i j a b less at_i at_j = elim (push_cases keys key i a at_i) [
-        | inl h ↦ h
-        | inr h ↦ absurd (let small = slice_get_within keys j b at_j in omega (arith, h.0))
-      ]
-
-pub families_none : (zones : List Zone) (keys : List SortKey) → keys ≡ [] → AreFamilyKeys zones 0 keys
-families_none zones keys none =
-    let empty : (i : ℕ) (key : SortKey) → slice_get keys i ≡ Some key → ⊥ = λ i key at. (let at : slice_get [] i ≡ Some key = subst (λ (l : List SortKey). slice_get l i ≡ Some key) none at in none-some key at) in
-    record {
-      each = λ i key at. absurd (empty i key at);
-      own = λ i key at. absurd (empty i key at);
-      below = λ i key at. absurd (empty i key at);
-      all = λ k zone end less at ends. absurd (omega arith);
-      rise = λ i j a b less at_i at_j. absurd (empty i a at_i);
-    }
-
--- sorted, they stand by rank
-pub ranked_from_sorted : (zones : List Zone) (n : ℕ) (made keys : List SortKey) → length zones ≤ n → AreFamilyKeys zones n made → IsPermutation made keys → IsSorted key_cmp keys → AreRanked zones keys
-ranked_from_sorted zones n made keys past are moved up =
-    let sorted = are_sorted made keys are.rise moved up in
-    record {
-      each = λ i key at. let k = sorted.each i key at in are.each k.0 key k.1;
-      all = λ k zone end at ends.
-          let a = are.all k zone end (omega (arith, slice_get_within zones k zone at)) at ends in
-          let i = sorted.all a.0 a.1 a.2 in
-          (i.0, a.1, i.1, a.3);
-      rises = λ i j a b less at_i at_j. rank_at_most a b (sorted.rises i j a b less at_i at_j);
-      apart = λ i j a b less at_i at_j same.
-          let k = sorted.each i a at_i in
-          let m = sorted.each j b at_j in
-          sorted.apart i j a b less at_i at_j (are.own k.0 a k.1 ∙ (same ∙ sym (are.own m.0 b m.1)));
-    }
-
--- ---- the scan
-
--- one of the first i families begins for the last time after that place
-pub record Reaches (zones : List Zone) (keys : List SortKey) (i place : ℕ) : Type 0 where
-  pub m : ℕ
-  pub key : SortKey
-  pub less : m < i
-  pub at : slice_get keys m ≡ Some key
-  pub ranked : HasRank zones key
-  pub later : place < ranked.zone.last_begin
-
--- of the first i families none ends before an earlier one's last begin, of which `latest` is the greatest
-pub record IsScanned (zones : List Zone) (keys : List SortKey) (i latest : ℕ) : Type 0 where
-  pub reached : (place : ℕ) → place < latest → Reaches zones keys i place
-  pub covered : (m : ℕ) (key : SortKey) (x : HasRank zones key) → m < i → slice_get keys m ≡ Some key → x.zone.last_begin ≤ latest
-  pub clear : (m n : ℕ) (a b : SortKey) (x : HasRank zones a) (y : HasRank zones b) → m < n → n < i → slice_get keys m ≡ Some a → slice_get keys n ≡ Some b → x.zone.last_begin ≤ y.end
+-- ---- zones of a list
 
 one_zone : (zones : List Zone) (k m : ℕ) (a b : Zone) → k ≡ m → slice_get zones k ≡ Some a → slice_get zones m ≡ Some b → a ≡ b
 one_zone zones k m a b same at_a at_b = same_Some a b (sym at_a ∙ (ap (slice_get zones) same ∙ at_b))
 
 one_end : (a b : Zone) (e f : ℕ) → a ≡ b → a.first_end ≡ Some e → b.first_end ≡ Some f → e ≡ f
 one_end a b e f same p q = same_Some e f (sym p ∙ (ap (λ (z : Zone). z.first_end) same ∙ q))
-
-pub scanned_none : (zones : List Zone) (keys : List SortKey) → IsScanned zones keys 0 0
-scanned_none zones keys = record {
-  reached = λ place less. absurd (omega arith);
-  covered = λ m key x less at. absurd (omega arith);
-  clear = λ m n a b x y less below at_m at_n. absurd (omega arith);
-}
-
-module _ (zones : List Zone) (keys : List SortKey) (ranked : AreRanked zones keys) (i latest : ℕ) (key : SortKey) (zone : Zone) (at : slice_get keys i ≡ Some key) (at_zone : slice_get zones key.family ≡ Some zone) where
-  own_zone : (other : SortKey) (x : HasRank zones other) (m : ℕ) → m ≡ i → slice_get keys m ≡ Some other → x.zone ≡ zone
-  own_zone other x m here at_m =
-      let same : other ≡ key = same_Some other key (sym at_m ∙ (ap (slice_get keys) here ∙ at)) in
-      one_zone zones other.family key.family x.zone zone (ap (λ (k : SortKey). k.family) same) x.at at_zone
-
-  pub scanned_more : (later : ℕ) → later ≡ max latest zone.last_begin → ((end : ℕ) → zone.first_end ≡ Some end → latest ≤ end) → IsScanned zones keys i latest → IsScanned zones keys (i + 1) later
-  scanned_more later is high was = record {
-    reached = λ place less. elim (cases_lt place latest) [
-      | inl h ↦ (let r = was.reached place h in record { m = r.m; key = r.key; less = omega (arith, r.less); at = r.at; ranked = r.ranked; later = r.later })
-      | inr h ↦
-          let own = ranked.each i key at in
-          let same : own.zone.last_begin ≡ zone.last_begin = ap (λ (z : Zone). z.last_begin) (one_zone zones key.family key.family own.zone zone refl own.at at_zone) in
-          record { m = i; key = key; less = omega arith; at = at; ranked = own; later = omega arith }
-    ];
-    covered = λ m other x less at_m. elim (cases_lt m i) [
-      | inl h ↦ (let low = was.covered m other x h at_m in omega arith)
-      | inr h ↦
-          let here : m ≡ i = omega arith in
-          let same : x.zone.last_begin ≡ zone.last_begin = ap (λ (z : Zone). z.last_begin) (own_zone other x m here at_m) in
-          omega arith
-    ];
-    clear = λ m n a b x y less below at_m at_n. elim (cases_lt n i) [
-      | inl h ↦ was.clear m n a b x y less h at_m at_n
-      | inr h ↦
-          let here : n ≡ i = omega arith in
-          let same = own_zone b y n here at_n in
-          let low : x.zone.last_begin ≤ latest = was.covered m a x (omega arith) at_m in
-          let top : latest ≤ y.end = high y.end (ap (λ (z : Zone). z.first_end) (sym same) ∙ y.ends) in
-          omega arith
-    ];
-  }
-
-  pub cross_here : (end : ℕ) → zone.first_end ≡ Some end → end < latest → IsScanned zones keys i latest → HasCrossing zones
-  cross_here end ends less was =
-      let r = was.reached end less in
-      let x = r.ranked in
-      let y = ranked.each i key at in
-      let same = one_zone zones key.family key.family y.zone zone refl y.at at_zone in
-      let ends_y : y.end ≡ end = one_end y.zone zone y.end end same y.ends ends in
-      let last_y : y.zone.last_begin ≡ zone.last_begin = ap (λ (z : Zone). z.last_begin) same in
-      let low : r.key.rank ≤ key.rank = ranked.rises r.m i r.key key r.less r.at at in
-      let low : min (2 * x.zone.last_begin + 1) (2 * x.end + 2) ≤ min (2 * y.zone.last_begin + 1) (2 * y.end + 2) = subst (λ (p : ℕ). p ≤ rank_of y.end y.zone.last_begin) x.rank (subst (λ (q : ℕ). r.key.rank ≤ q) y.rank low) in
-      let back : y.end < x.zone.last_begin = omega (arith, r.later) in (
-        r.key.family,
-        key.family,
-        record {
-          a = x.zone;
-          b = y.zone;
-          end_a = x.end;
-          end_b = y.end;
-          apart = ranked.apart r.m i r.key key r.less r.at at;
-          at_a = x.at;
-          at_b = y.at;
-          ends_a = x.ends;
-          ends_b = y.ends;
-          there = cross_by_rank x.end x.zone.last_begin y.end y.zone.last_begin low back;
-          back = back;
-        },
-      )
-
--- after all families none cross
-pub none_cross : (zones : List Zone) (keys : List SortKey) → AreRanked zones keys → (i latest : ℕ) → length keys ≤ i → IsScanned zones keys i latest → NoneCross zones
-none_cross zones keys ranked i latest past was k m c =
-    let p = ranked.all k c.a c.end_a c.at_a c.ends_a in
-    let q = ranked.all m c.b c.end_b c.at_b c.ends_b in
-    let x = ranked.each p.0 p.1 p.2 in
-    let y = ranked.each q.0 q.1 q.2 in
-    let same_a = one_zone zones p.1.family k x.zone c.a p.3 x.at c.at_a in
-    let same_b = one_zone zones q.1.family m y.zone c.b q.3 y.at c.at_b in
-    let last_a : x.zone.last_begin ≡ c.a.last_begin = ap (λ (z : Zone). z.last_begin) same_a in
-    let last_b : y.zone.last_begin ≡ c.b.last_begin = ap (λ (z : Zone). z.last_begin) same_b in
-    let end_a : x.end ≡ c.end_a = one_end x.zone c.a x.end c.end_a same_a x.ends c.ends_a in
-    let end_b : y.end ≡ c.end_b = one_end y.zone c.b y.end c.end_b same_b y.ends c.ends_b in
-    let small_p = slice_get_within keys p.0 p.1 p.2 in
-    let small_q = slice_get_within keys q.0 q.1 q.2 in
-    elim (cases_lt p.0 q.0) [
-      | inl h ↦ (let low = was.clear p.0 q.0 p.1 q.1 x y h (omega arith) p.2 q.2 in omega (arith, c.back))
-      | inr h ↦ elim (cases_lt q.0 p.0) [
-        | inl g ↦ (let low = was.clear q.0 p.0 q.1 p.1 y x g (omega arith) q.2 p.2 in omega (arith, c.there))
-        | inr g ↦
-            let here : p.0 ≡ q.0 = omega arith in
-            let same : p.1 ≡ q.1 = same_Some p.1 q.1 (sym p.2 ∙ (ap (slice_get keys) here ∙ q.2)) in
-            c.apart (sym p.3 ∙ (ap (λ (s : SortKey). s.family) same ∙ q.3))
-      ]
-    ]
 
 -- two zones of the list
 pub cross_at : (zones : List Zone) (k m : ℕ) (a b : Zone) → k ≢ m → slice_get zones k ≡ Some a → slice_get zones m ≡ Some b → Cross a b → CrossAt zones k m
@@ -223,6 +39,217 @@ crossed zones k m a b at_k at_m c =
     let last_b : c.b.last_begin ≡ b.last_begin = ap (λ (z : Zone). z.last_begin) same_b in
     (c.end_a, c.end_b, ap (λ (z : Zone). z.first_end) (sym same_a) ∙ c.ends_a, ap (λ (z : Zone). z.first_end) (sym same_b) ∙ c.ends_b, omega (arith, c.there), omega (arith, c.back))
 
-pub none_by : (o : Option ℕ) → ((end : ℕ) → o ≡ Some end → ⊥) → o ≡ None
-none_by None not = refl
-none_by (Some end) not = absurd (not end refl)
+abbrev flipped : (zones : List Zone) (k m : ℕ) → CrossAt zones k m → CrossAt zones m k
+flipped zones k m c = record { a = c.b; b = c.a; end_a = c.end_b; end_b = c.end_a; apart = λ e. c.apart (sym e); at_a = c.at_b; at_b = c.at_a; ends_a = c.ends_b; ends_b = c.ends_a; there = c.back; back = c.there }
+
+abbrev moved : (zones : List Zone) (a b f : ℕ) → b ≡ f → CrossAt zones a b → CrossAt zones a f
+moved zones a b f e c = record { a = c.a; b = c.b; end_a = c.end_a; end_b = c.end_b; apart = λ same. c.apart (same ∙ sym e); at_a = c.at_a; at_b = ap (slice_get zones) (sym e) ∙ c.at_b; ends_a = c.ends_a; ends_b = c.ends_b; there = c.there; back = c.back }
+
+-- ---- begins of families
+
+-- the call of index i is of family k, and began at that place
+pub record Begins (part : List Call) (sources : List Source) (i k place : ℕ) : Type 0 where
+  pub call : Call
+  pub at : slice_get part i ≡ Some call
+  pub begun : call.invoked ≡ place
+  pub from : Source
+  pub named : slice_get sources i ≡ Some from
+  pub of : family_of i from ≡ Some k
+
+-- it began within its family's zone
+pub record BeginsWithin (part : List Call) (sources : List Source) (zones : List Zone) (i k : ℕ) : Type 0 where
+  pub place : ℕ
+  pub begins : Begins part sources i k place
+  pub zone : Zone
+  pub at : slice_get zones k ≡ Some zone
+  pub within : IsWithin zone place
+
+-- the zone of g ends no sooner than that of h begins for the last time
+pub record IsOver (zones : List Zone) (g h : ℕ) : Type 0 where
+  pub a : Zone
+  pub b : Zone
+  pub end : ℕ
+  pub at_a : slice_get zones g ≡ Some a
+  pub at_b : slice_get zones h ≡ Some b
+  pub ends : a.first_end ≡ Some end
+  pub over : b.last_begin ≤ end
+
+-- of the calls from index i on: `nearest` is the family of the first that began within its zone; the zones of others that did are over
+-- by the last begin of that one; and a zone that begins there for the last time isn't crossed by one that does so later
+pub record IsScanned (part : List Call) (sources : List Source) (zones : List Zone) (i : ℕ) (nearest : Option ℕ) : Type 0 where
+  pub own : (h : ℕ) → nearest ≡ Some h → (j : ℕ) × (i ≤ j) × BeginsWithin part sources zones j h
+  pub over : (j g : ℕ) → i ≤ j → BeginsWithin part sources zones j g → (h : ℕ) × (nearest ≡ Some h) × ((g ≡ h) ⊎ IsOver zones g h)
+  pub clear : (j b : ℕ) (zone : Zone) → i ≤ j → slice_get zones b ≡ Some zone → Begins part sources j b zone.last_begin → (a : ℕ) (c : CrossAt zones a b) → zone.last_begin < c.a.last_begin → ⊥
+
+module _ (part : List Call) (sequence : IsSequence part) (sources : List Source) where
+  -- a call is of one family
+  one_begun : (i j k m p q : ℕ) → i ≡ j → Begins part sources i k p → Begins part sources j m q → (k ≡ m) × (p ≡ q)
+  one_begun i j k m p q here a b =
+      let call : a.call ≡ b.call = same_Some a.call b.call (sym a.at ∙ (ap (slice_get part) here ∙ b.at)) in
+      let from : a.from ≡ b.from = same_Some a.from b.from (sym a.named ∙ (ap (slice_get sources) here ∙ b.named)) in
+      let of : family_of i a.from ≡ Some m = ap (family_of i) from ∙ (ap (λ (x : ℕ). family_of x b.from) here ∙ b.of) in
+      (same_Some k m (sym a.of ∙ of), sym a.begun ∙ (ap (λ (c : Call). c.invoked) call ∙ b.begun))
+
+  -- a call that began later has a greater index
+  later_index : (i j k m p q : ℕ) → Begins part sources i k p → Begins part sources j m q → p < q → i < j
+  later_index i j k m p q a b less = elim (cases_lt i j) [
+    | inl h ↦ h
+    | inr h ↦ elim (cases_eq i j) [
+      | inl same ↦ absurd (let e : p ≡ q = (one_begun i j k m p q same a b).1 in omega arith)
+      | inr other ↦ absurd (let up : b.call.invoked < a.call.invoked = sequence.places j i b.call a.call (omega (arith, h, other)) b.at a.at in omega (arith, a.begun, b.begun))
+    ]
+  ]
+
+  later_place : (i j k m p q : ℕ) → Begins part sources i k p → Begins part sources j m q → i < j → p < q
+  later_place i j k m p q a b less = (let up : a.call.invoked < b.call.invoked = sequence.places i j a.call b.call less a.at b.at in omega (arith, a.begun, b.begun))
+
+  module _ (are_sources : AreSources part sources) (zones : List Zone) (row : ℕ) (are : AreZones part (IsOnlyWriter part) row zones) where
+    -- a zone that has an end has its last begin at a call of its family
+    last_begins : (k : ℕ) (zone : Zone) (end : ℕ) → slice_get zones k ≡ Some zone → zone.first_end ≡ Some end → (i : ℕ) × Begins part sources i k zone.last_begin
+    last_begins k zone end at ends =
+        let write = get_at part k (omega (arith, slice_get_within zones k zone at, are.all)) in
+        elim (read_or_write write.0) [
+          | inl reads ↦ absurd (none-some end (sym (are.reads k write.0 zone write.1 reads at) ∙ ends))
+          | inr writes ↦
+              let last = (are.writes k write.0 zone write.1 writes at).last.0 in
+              let i = place_of part last.call last.member.of.recorded in
+              let from = get_at sources i.0 (omega (arith, slice_get_within part i.0 last.call i.1, are_sources.all)) in
+              (i.0, record { call = last.call; at = i.1; begun = last.at; from = from.0; named = from.1; of = family_is part sequence i.0 k last.call write.0 from.0 i.1 write.1 (are_sources.each i.0 last.call from.0 i.1 from.1) last.member.of })
+        ]
+
+    -- ---- the scan, from the last call back
+
+    pub scanned_none : (n : ℕ) → length part ≤ n → IsScanned part sources zones n None
+    scanned_none n past = record {
+      own = λ h e. absurd (none-some h e);
+      over = λ j g le w. absurd (let small = slice_get_within part j w.begins.call w.begins.at in omega arith);
+      clear = λ j b zone le at begins a c less. let small = slice_get_within part j begins.call begins.at in omega arith;
+    }
+
+    module _ (n : ℕ) (nearest : Option ℕ) (was : IsScanned part sources zones (n + 1) nearest) where
+      old_own : (h : ℕ) → nearest ≡ Some h → (j : ℕ) × (n ≤ j) × BeginsWithin part sources zones j h
+      old_own h e = (let o = was.own h e in (o.0, omega (arith, o.1), o.2))
+
+      -- a call of no family
+      pub scanned_same : ((k place : ℕ) → Begins part sources n k place → ⊥) → IsScanned part sources zones n nearest
+      scanned_same none = record {
+        own = old_own;
+        over = λ j g le w. elim (cases_lt n j) [
+          | inl h ↦ was.over j g (omega arith) w
+          | inr h ↦ (let here : j ≡ n = omega arith in absurd (none g w.place (subst (λ (x : ℕ). Begins part sources x g w.place) here w.begins)))
+        ];
+        clear = λ j b zone le at begins a c less. elim (cases_lt n j) [
+          | inl h ↦ was.clear j b zone (omega arith) at begins a c less
+          | inr h ↦ (let here : j ≡ n = omega arith in none b zone.last_begin (subst (λ (x : ℕ). Begins part sources x b zone.last_begin) here begins))
+        ];
+      }
+
+      module _ (f place : ℕ) (here : Begins part sources n f place) (zone : Zone) (at : slice_get zones f ≡ Some zone) (free : (other : ℕ) → nearest ≡ Some other → CrossAt zones other f → ⊥) where
+        -- what begins there for the last time isn't crossed by a zone that does so later: that would be the nearest
+        clear_here : place ≡ zone.last_begin → (a : ℕ) (c : CrossAt zones a f) → zone.last_begin < c.a.last_begin → ⊥
+        clear_here last a c less =
+            let same = one_zone zones f f c.b zone refl c.at_b at in
+            let last_b : c.b.last_begin ≡ zone.last_begin = ap (λ (z : Zone). z.last_begin) same in
+            let j = last_begins a c.a c.end_a c.at_a c.ends_a in
+            let later = later_index n j.0 f a place c.a.last_begin here j.1 (omega (arith, last)) in
+            let w : BeginsWithin part sources zones j.0 a = record { place = c.a.last_begin; begins = j.1; zone = c.a; at = c.at_a; within = (c.end_a, c.ends_a, omega (arith, c.there), omega arith) } in
+            let o = was.over j.0 a (omega arith) w in
+            elim o.2 [
+              | inl own ↦ free a (o.1 ∙ ap Some (sym own)) c
+              | inr over ↦
+                  let m = was.own o.0 o.1 in
+                  let up = later_place n m.0 f o.0 place m.2.place here m.2.begins (omega (arith, m.1)) in
+                  let same_a = one_zone zones a a over.a c.a refl over.at_a c.at_a in
+                  let end : over.end ≡ c.end_a = one_end over.a c.a over.end c.end_a same_a over.ends c.ends_a in
+                  let same_h = one_zone zones o.0 o.0 over.b m.2.zone refl over.at_b m.2.at in
+                  let last_h : over.b.last_begin ≡ m.2.zone.last_begin = ap (λ (z : Zone). z.last_begin) same_h in
+                  omega (arith, over.over, m.2.within.3, c.there, last)
+            ]
+
+        clear_more : (j b : ℕ) (z : Zone) → n ≤ j → slice_get zones b ≡ Some z → Begins part sources j b z.last_begin → (a : ℕ) (c : CrossAt zones a b) → z.last_begin < c.a.last_begin → ⊥
+        clear_more j b z le at_b begins a c less = elim (cases_lt n j) [
+          | inl h ↦ was.clear j b z (omega arith) at_b begins a c less
+          | inr h ↦
+              let e : j ≡ n = omega arith in
+              let one = one_begun j n b f z.last_begin place e begins here in
+              let same = one_zone zones b f z zone one.0 at_b at in
+              let last : z.last_begin ≡ zone.last_begin = ap (λ (x : Zone). x.last_begin) same in
+              clear_here (sym one.1 ∙ last) a (moved zones a b f one.0 c) (omega (arith, last))
+        ]
+
+        -- a call that began outside of its family's zone
+        pub scanned_outside : (IsWithin zone place → ⊥) → IsScanned part sources zones n nearest
+        scanned_outside outside = record {
+          own = old_own;
+          over = λ j g le w. elim (cases_lt n j) [
+            | inl h ↦ was.over j g (omega arith) w
+            | inr h ↦
+                let e : j ≡ n = omega arith in
+                let one = one_begun j n g f w.place place e w.begins here in
+                let same = one_zone zones g f w.zone zone one.0 w.at at in
+                absurd (outside (subst (IsWithin zone) one.1 (subst (λ (z : Zone). IsWithin z w.place) same w.within)))
+          ];
+          clear = clear_more;
+        }
+
+        -- one that began within it
+        pub scanned_within : IsWithin zone place → IsScanned part sources zones n (Some f)
+        scanned_within inside = record {
+          own = λ h e. (n, omega arith, subst (BeginsWithin part sources zones n) (same_Some f h e) own_here);
+          over = λ j g le w. elim (cases_lt n j) [
+            | inl h ↦ (f, refl, over_old j g h w)
+            | inr h ↦ (let e : j ≡ n = omega arith in (f, refl, inl (one_begun j n g f w.place place e w.begins here).0))
+          ];
+          clear = clear_more;
+        }
+          where
+            own_here : BeginsWithin part sources zones n f
+            own_here = record { place = place; begins = here; zone = zone; at = at; within = inside }
+
+            -- the zone that was nearest is over by now
+            nearest_over : (h : ℕ) → nearest ≡ Some h → (h ≡ f → ⊥) → IsOver zones h f
+            nearest_over h e other =
+                let m = was.own h e in
+                let up = later_place n m.0 f h place m.2.place here m.2.begins (omega (arith, m.1)) in
+                elim (cases_lt m.2.within.0 zone.last_begin) [
+                  | inl less ↦ absurd (free h e (record { a = m.2.zone; b = zone; end_a = m.2.within.0; end_b = inside.0; apart = other; at_a = m.2.at; at_b = at; ends_a = m.2.within.1; ends_b = inside.1; there = less; back = omega (arith, inside.2, m.2.within.3) }))
+                  | inr more ↦ record { a = m.2.zone; b = zone; end = m.2.within.0; at_a = m.2.at; at_b = at; ends = m.2.within.1; over = more }
+                ]
+
+            over_old : (j g : ℕ) → n < j → BeginsWithin part sources zones j g → (g ≡ f) ⊎ IsOver zones g f
+            over_old j g less w =
+                let o = was.over j g (omega arith) w in
+                elim (cases_eq o.0 f) [
+                  | inl same ↦ elim o.2 [ inl own ↦ inl (own ∙ same) | inr over ↦ inr (subst (IsOver zones g) same over) ]
+                  | inr other ↦
+                      let by = nearest_over o.0 o.1 other in
+                      elim o.2 [
+                        | inl own ↦ inr (subst (λ (x : ℕ). IsOver zones x f) (sym own) by)
+                        | inr over ↦
+                            let m = was.own o.0 o.1 in
+                            let same_b = one_zone zones o.0 o.0 over.b m.2.zone refl over.at_b m.2.at in
+                            let last_b : over.b.last_begin ≡ m.2.zone.last_begin = ap (λ (z : Zone). z.last_begin) same_b in
+                            let same_a = one_zone zones o.0 o.0 by.a m.2.zone refl by.at_a m.2.at in
+                            let end : by.end ≡ m.2.within.0 = one_end by.a m.2.zone by.end m.2.within.0 same_a by.ends m.2.within.1 in
+                            inr (record { a = over.a; b = by.b; end = over.end; at_a = over.at_a; at_b = by.at_b; ends = over.ends; over = omega (arith, over.over, by.over, m.2.within.2, m.2.within.3) })
+                      ]
+                ]
+
+    -- after all calls none cross
+    pub none_cross : (nearest : Option ℕ) → IsScanned part sources zones 0 nearest → NoneCross zones
+    none_cross nearest all k m c =
+        let i = last_begins k c.a c.end_a c.at_a c.ends_a in
+        let j = last_begins m c.b c.end_b c.at_b c.ends_b in
+        elim (cases_lt c.b.last_begin c.a.last_begin) [
+          | inl h ↦ all.clear j.0 m c.b (omega arith) c.at_b j.1 k c h
+          | inr h ↦ elim (cases_lt c.a.last_begin c.b.last_begin) [
+            | inl g ↦ all.clear i.0 k c.a (omega arith) c.at_a i.1 m (flipped zones k m c) g
+            | inr g ↦ elim (cases_lt i.0 j.0) [
+              | inl less ↦ (let up = later_place i.0 j.0 k m c.a.last_begin c.b.last_begin i.1 j.1 less in omega arith)
+              | inr more ↦ elim (cases_lt j.0 i.0) [
+                | inl less ↦ (let up = later_place j.0 i.0 m k c.b.last_begin c.a.last_begin j.1 i.1 less in omega arith)
+                | inr same ↦ c.apart (one_begun i.0 j.0 k m c.a.last_begin c.b.last_begin (omega arith) i.1 j.1).0
+              ]
+            ]
+          ]
+        ]

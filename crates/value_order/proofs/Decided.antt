@@ -1,5 +1,5 @@
 -- What is decided is so.
-use Rattle.std.proofs.Common.{ℕ, ◌≡◌, inl, inr, List, Some, Result, Ok, Err, IfOk, refl, arith}
+use Rattle.std.proofs.Common.{ℕ, ◌≡◌, inl, inr, List, Some, Result, Ok, Err, IfOk, subst, refl, arith}
 use Rattle.std.specs.List.{slice_get, Contains}
 use Rattle.std.proofs.lemmas.Option.{slice_get_within}
 use Rattle.tag.specs.declared.memory.Memory.{Memory}
@@ -13,11 +13,15 @@ use Rattle.value_order.specs.declared.decision.Decision.{Decision}
 use Rattle.value_order.specs.declared.decision.Decision.TheVariants as decision
 use Rattle.value_order.specs.declared.decision.ValueFault.{ValueFault}
 use Rattle.value_order.specs.declared.decision.ValueFault.TheVariants as fault
+use Rattle.value_order.specs.declared.decide.Families.{Families}
+use Rattle.value_order.specs.declared.decision.ValueVerdict.{ValueVerdict}
+use Rattle.value_order.specs.declared.decision.ValueVerdict.TheVariants as verdict
 use Rattle.value_order.specs.declared.sources.Source.{Source}
 use Rattle.value_order.specs.declared.sources.Source.TheVariants as source
 use Rattle.value_order.specs.declared.zones.Zone.{Zone}
-use Rattle.value_order.specs.Decisions.{IsFault, LacksReadFaults, IsDecision, IsExact}
+use Rattle.value_order.specs.Decisions.{IsFault, LacksReadFaults, IsDecision, IsExact, IsVerdict, IsExactVerdict}
 use Rattle.value_order.specs.Families.{IsOfFamily, IsAnsweredBy, HasNoneOpposed}
+use Rattle.value_order.specs.Found.{AreApart}
 use Rattle.value_order.specs.Keys.{IsListed, IsByFamilies}
 use Rattle.value_order.specs.SortKeys.{HaveZones}
 use Rattle.value_order.specs.Sources.{IsSource, AreSources}
@@ -27,6 +31,7 @@ use Rattle.value_order.proofs.ByFamilies.{order_by_families, needed}
 use Rattle.value_order.proofs.CallKinds.{not_answered}
 use Rattle.value_order.proofs.Members.{two_writers, source_family}
 use Rattle.value_order.proofs.Places.{only_answered}
+use Rattle.value_order.proofs.SomeOrder.{some_order}
 use Rattle.value_order.proofs.Refutations.{unwritten_refutes, early_refutes, late_refutes, stale_refutes, opposed_refutes}
 use Rattle.value_order.proofs.ZoneRows.{opposed_by_row, opposed_by_last, first_at_most}
 use Rattle.value_order.proofs.LeastRows.{none_opposed_by}
@@ -95,3 +100,23 @@ have_zones part sources of row zones are i k from at family =
     let call = get_at part i (omega (arith, slice_get_within sources i from at, of.all)) in
     let w = source_family part i k call.0 from call.1 (of.each i call.0 from call.1 at) family in
     omega (arith, slice_get_within part k w.0 w.1, are.all)
+
+-- ---- what was found
+
+-- families that are apart have an order
+pub apart_ordered : (part : List Call) → IsSequence part → (families : Families) → AreApart part families → IsLinearizable part
+apart_ordered part sequence families are =
+    let have = have_zones part families.sources.items are.sources are.row families.zones.items are.zones in
+    let order = some_order part sequence families.sources.items are.sources families.zones.items have in
+    (order.0, (atomic part sequence families.sources.items are.sources are.row are.last families.zones.items are.zones are.free are.reads are.sure order.0 order.1).0)
+
+-- and the calls by their families are one
+pub apart_decision : (part : List Call) → IsSequence part → (families : Families) → AreApart part families → (order : List OpId) → IsByFamilies families.part (IsOnlyWriter families.part) families.zones.items order → IsDecision part (decision.Atomic order)
+apart_decision part sequence families are order by =
+    atomic part sequence families.sources.items are.sources are.row are.last families.zones.items are.zones are.free are.reads are.sure order
+    (subst (λ (calls : List Call). IsByFamilies calls (IsOnlyWriter calls) families.zones.items order) are.is by)
+
+pub exact_verdict : (part : List Call) → IsSequence part → (v : ValueVerdict) → IsVerdict part v → IsExactVerdict part v
+exact_verdict part sequence verdict.Atomic h one = (λ yes. h, λ l. tt)
+exact_verdict part sequence (verdict.NotAtomic f) h one = (λ no. absurd no, λ l. fault_refutes part sequence f h.0 l)
+exact_verdict part sequence (verdict.Undecided doubt) h one = (λ no. absurd no, λ l. (let d = h.0.least in d.has.apart (one d.has.one d.has.two d.call d.recorded d.has.first d.has.second)))

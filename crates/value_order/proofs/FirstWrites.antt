@@ -1,11 +1,6 @@
 -- The first writes of values, call by call.
-use Rattle.std.proofs.Common.{ℕ, ◌≡◌, ◌+◌, inl, inr, List, [], ◌∷◌, ◌++◌, Option, Some, None, Bool, true, false, cond, length, sym, ◌∙◌, ap, subst, refl, arith}
+use Rattle.std.proofs.Common.{ℕ, ◌≡◌, inl, inr, List, [], ◌∷◌, ◌++◌, Option, Some, None, length, sym, ◌∙◌, ap, subst, arith}
 use Rattle.std.specs.List.{slice_get, Contains}
-use Rattle.std.specs.Option.{is_some}
-use Rattle.std.specs.Map.{update}
-use Rattle.std.specs.Str.{bytes_eq}
-use Rattle.std.proofs.lemmas.Bool.{cases_lt, false≢true}
-use Rattle.std.proofs.lemmas.Slice.Eq.{bytes_eq-Decides}
 use Rattle.std.proofs.lemmas.Option.{same_Some, slice_get_within}
 use Rattle.tag.proofs.Lists.{place_of, push_cases}
 use Rattle.tag.specs.declared.actions.Action.TheVariants.{Write}
@@ -14,53 +9,8 @@ use Rattle.recorder.specs.declared.part.Call.{Call}
 use Rattle.recorder.specs.declared.part.Response.{Response}
 use Rattle.recorder.specs.Sound.{IsRead}
 use Rattle.value_order.specs.declared.classes.Class.{Class}
-use Rattle.std.specs.Borrow.{Bor}
-use Rattle.std.specs.HashMap.{HashMap, get_by}
-use Rattle.value_order.specs.Classes.{IsFirstWrite, IsFirstBelow, AreFirsts, IsClass}
+use Rattle.value_order.specs.Classes.{IsFirstWrite, IsFirstBelow, IsClass}
 use Rattle.value_order.specs.Faults.{AnswersUnwritten}
-
--- no call yet
-pub below_none : (part : List Call) (value : List ℕ) (o : Option ℕ) → o ≡ None → IsFirstBelow part value 0 o
-below_none part value o e = subst (IsFirstBelow part value 0) (sym e) (λ j other less. absurd (omega arith))
-
-module _ (part : List Call) (value : List ℕ) (i : ℕ) (call : Call) (at : slice_get part i ≡ Some call) where
-  -- a call that doesn't write the value, or one after the first that does
-  pub below_same : (o : Option ℕ) → (call.action ≡ Write value → is_some o ≡ true) → IsFirstBelow part value i o → IsFirstBelow part value (i + 1) o
-  below_same (Some k) has first = first
-  below_same None has none = λ j other less at_j wrote. elim (cases_lt j i) [
-    | inl h ↦ none j other h at_j wrote
-    | inr h ↦
-        let here : j ≡ i = omega arith in
-        let same : call ≡ other = same_Some call other (sym at ∙ (ap (slice_get part) (sym here) ∙ at_j)) in
-        false≢true (has (ap (λ (c : Call). c.action) same ∙ wrote))
-  ]
-
-  -- the first that does
-  pub below_first : (o : Option ℕ) → is_some o ≡ false → call.action ≡ Write value → IsFirstBelow part value i o → IsFirstWrite part value i
-  below_first (Some k) none wrote first = absurd (false≢true (sym none))
-  below_first None none wrote before = record {
-    write = call;
-    at = at;
-    writes = wrote;
-    least = λ j other at_j writes. elim (cases_lt j i) [ inl h ↦ absurd (before j other h at_j writes) | inr h ↦ h ];
-  }
-
--- the map with one value more
-pub updated : (part : List Call) (value text : List ℕ) (i : ℕ) (call : Call) (old : List ℕ → Option ℕ) → slice_get part i ≡ Some call → call.action ≡ Write text → is_some (old text) ≡ false → IsFirstBelow part value i (old value) → IsFirstBelow part value (i + 1) (update bytes_eq old text (Some i) value)
-updated part value text i call old at wrote none before = by (bytes_eq text value) refl
-  where
-    by : (b : Bool) → bytes_eq text value ≡ b → IsFirstBelow part value (i + 1) (cond (bytes_eq text value) (Some i) (old value))
-    by true e =
-        let same : text ≡ value = (bytes_eq-Decides text value).0 e in
-        let first : IsFirstWrite part value i = below_first part value i call at (old value) (ap (λ (v : List ℕ). is_some (old v)) (sym same) ∙ none) (wrote ∙ ap Write same) before in
-        subst (λ (b : Bool). IsFirstBelow part value (i + 1) (cond b (Some i) (old value))) (sym e) first
-    by false e =
-        let other : call.action ≡ Write value → is_some (old value) ≡ true = λ w. (let same : text ≡ value = cc (wrote, w) in absurd (false≢true (sym e ∙ (bytes_eq-Decides text value).1 same))) in
-        subst (λ (b : Bool). IsFirstBelow part value (i + 1) (cond b (Some i) (old value))) (sym e) (below_same part value i call at (old value) other before)
-
--- what a look-up finds
-pub first_of_get : {S : Type 0} (part : List Call) (n : ℕ) (firsts : HashMap (Bor (List ℕ)) ℕ S) (text : List ℕ) → AreFirsts part n firsts → (got : Option ℕ) → got ≡ get_by (λ k. bytes_eq text k.now) firsts → IsFirstBelow part text n got
-first_of_get part n firsts text are got e = subst (IsFirstBelow part text n) (sym e) (are text)
 
 -- of all calls: a write has a first one
 pub first_there : (part : List Call) (value : List ℕ) (call : Call) (o : Option ℕ) → Contains part call → call.action ≡ Write value → IsFirstBelow part value (length part) o → o ≡ None → ⊥

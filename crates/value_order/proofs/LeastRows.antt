@@ -1,5 +1,5 @@
 -- At the least row by which two families oppose each other a read of one was answered.
-use Rattle.std.proofs.Common.{Bool, true, false, MatchBool, Result, Ok, Err, IfOk, ℕ, ◌≡◌, ◌<◌, ◌≤◌, ◌+◌, ◌-◌, ◌⊎◌, inl, inr, List, Some, ap, subst, arith}
+use Rattle.std.proofs.Common.{Bool, true, false, MatchBool, ℕ, ◌≡◌, ◌<◌, ◌≤◌, ◌+◌, ◌-◌, ◌⊎◌, inl, inr, List, Some, ap, subst, arith}
 use Rattle.std.specs.List.{slice_get, Contains}
 use Rattle.std.proofs.lemmas.Bool.{cases_lt}
 use Rattle.tag.proofs.Lists.{place_of}
@@ -11,7 +11,6 @@ use Rattle.value_order.specs.Writers.{IsOnlyWriter}
 use Rattle.value_order.specs.Rows.{IsOpposedBy, HasOpposedBy, NoneOpposedBy, NoneOpposedBefore, HasReadAt}
 use Rattle.value_order.specs.Zones.{AreZones, CrossAt, NoneCross}
 use Rattle.value_order.proofs.CallKinds.{one_place, only_recorded}
-use Rattle.tag.specs.declared.memory.Memory.{Memory}
 use Rattle.value_order.specs.Crossing.{HasCrossing}
 use Rattle.value_order.proofs.ZoneRows.{later_opposed, cross_from_opposed, opposed_from_cross}
 
@@ -109,10 +108,9 @@ module _ (part : List Call) (row : ℕ) (zones : List Zone) (are : AreZones part
   none_opposed_by none x y o = (let c = crossing x y o in none c.0 c.1 c.4)
 
 -- the answer of a scan
-pub opposed_ok : (part : List Call) → IsSequence part → (row : ℕ) (zones : List Zone) → AreZones part (IsOnlyWriter part) row zones → (r : Result Bool Memory) → IfOk r (λ b. MatchBool b (HasCrossing zones) (NoneCross zones)) → IfOk r (λ b. MatchBool b (HasOpposedBy part row) (NoneOpposedBy part row))
-opposed_ok part sequence row zones are (Ok true) h = has_opposed part row zones are sequence h
-opposed_ok part sequence row zones are (Ok false) h = none_opposed_by part row zones are h
-opposed_ok part sequence row zones are (Err e) h = tt
+pub opposed_by_scan : (part : List Call) → IsSequence part → (row : ℕ) (zones : List Zone) → AreZones part (IsOnlyWriter part) row zones → (b : Bool) → MatchBool b (HasCrossing zones) (NoneCross zones) → MatchBool b (HasOpposedBy part row) (NoneOpposedBy part row)
+opposed_by_scan part sequence row zones are true h = has_opposed part row zones are sequence h
+opposed_by_scan part sequence row zones are false h = none_opposed_by part row zones are h
 
 -- below a row by which none are opposed
 pub none_below : (part : List Call) (middle : ℕ) → NoneOpposedBy part middle → NoneOpposedBefore part (middle + 1)

@@ -1,4 +1,5 @@
 pub mod Places
+pub mod Indexes
 pub mod Refutations
 pub mod KeyOrder
 pub mod CallKinds
@@ -9,7 +10,11 @@ pub mod ZoneTables
 pub mod NextWrites
 pub mod ReadSources
 pub mod FirstWrites
+pub mod Slots
+pub mod KnownFirsts
+pub mod CallClasses
 pub mod SortLists
+pub mod SomeOrder
 pub mod ByFamilies
 pub mod LeastRows
 pub mod Sides

@@ -1,13 +1,10 @@
 -- What a call says of values: the value is named by the index of its first write.
 use Rattle.std.specs.Prelude.{ℕ, ◌≡◌, ◌<◌, ◌≤◌, ◌+◌, ◌⊎◌, List, Option, Some, None, length}
 use Rattle.std.specs.Prelude.{slice_get}
-use Rattle.std.specs.Borrow.{Bor}
-use Rattle.std.specs.HashMap.{HashMap, get_by}
-use Rattle.std.specs.Str.{bytes_eq}
 use Rattle.tag.specs.declared.actions.Action.TheVariants.{Write}
 use Rattle.recorder.specs.declared.part.Call.{Call}
 use Rattle.recorder.specs.Parts.{IsPending}
-use Rattle.recorder.specs.Sound.{IsRead}
+use Rattle.recorder.specs.Sound.{IsRead, IsWrite}
 use Rattle.value_order.specs.declared.classes.Class.{Class}
 use Rattle.value_order.specs.declared.classes.Class.TheVariants as class
 use Rattle.value_order.specs.Writers.{AnswersValue, AnswersNothing}
@@ -27,11 +24,6 @@ IsFirstBelow part value n None = (j : ℕ) (other : Call) → j < n → slice_ge
     → other.action ≡ Write value → ⊥
 IsFirstBelow part value n (Some k) = IsFirstWrite part value k
 
--- the same of each value, by a map
-abbrev pub AreFirsts : {S : Type 0} → List Call → ℕ → HashMap (Bor (List ℕ)) ℕ S → Type 0
-AreFirsts part n firsts = (value : List ℕ) → IsFirstBelow part value n
-    (get_by (λ text. bytes_eq value text.now) firsts)
-
 -- the class of a call
 abbrev pub IsClass : List Call → Call → Class → Type 0
 IsClass part call (class.Writes k) =
@@ -41,6 +33,16 @@ IsClass part call (class.Answers k) =
 IsClass part call class.Unwritten = AnswersUnwritten part call
 IsClass part call class.Nothing = AnswersNothing call
 IsClass part call class.Pending = IsRead call × IsPending call
+
+-- the class of the call at that index, if it is a write; that of a read is still open
+abbrev pub IsWriteClass : List Call → ℕ → Class → Type 0
+IsWriteClass part i own = (call : Call) × (slice_get part i ≡ Some call)
+    × ((IsWrite call × IsClass part call own) ⊎ (IsRead call × (own ≡ class.Pending)))
+
+-- beside each call that
+pub record AreWriteClasses (part : List Call) (classes : List Class) : Type 0 where
+  pub all : length classes ≡ length part
+  pub each : (i : ℕ) (class : Class) → slice_get classes i ≡ Some class → IsWriteClass part i class
 
 -- beside each call its class
 pub record AreClasses (part : List Call) (classes : List Class) : Type 0 where

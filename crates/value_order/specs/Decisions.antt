@@ -9,6 +9,8 @@ use Rattle.value_order.specs.declared.decision.Decision.{Decision}
 use Rattle.value_order.specs.declared.decision.Decision.TheVariants as decision
 use Rattle.value_order.specs.declared.decision.ValueFault.{ValueFault}
 use Rattle.value_order.specs.declared.decision.ValueFault.TheVariants as fault
+use Rattle.value_order.specs.declared.decision.ValueVerdict.{ValueVerdict}
+use Rattle.value_order.specs.declared.decision.ValueVerdict.TheVariants as verdict
 use Rattle.value_order.specs.Doubts.{IsLeastDoubt}
 use Rattle.value_order.specs.Families.{HasNoneOpposed}
 use Rattle.value_order.specs.Faults.{AnswersUnwritten, EndsTooEarly, IsLateNothing, IsStaleDoubt}
@@ -59,6 +61,12 @@ module _ (part : List Call) where
   IsDecision (decision.NotAtomic f) = IsFault f × LacksFaultsBefore f
   IsDecision (decision.Undecided doubt) = IsLeastDoubt part (IsInDoubt part) doubt × LacksFaults
 
+  -- the same without an order
+  abbrev pub IsVerdict : ValueVerdict → Type 0
+  IsVerdict verdict.Atomic = IsLinearizable part
+  IsVerdict (verdict.NotAtomic f) = IsFault f × LacksFaultsBefore f
+  IsVerdict (verdict.Undecided doubt) = IsLeastDoubt part (IsInDoubt part) doubt × LacksFaults
+
 -- an order is answered
 abbrev pub IsAtomic : Decision → Type 0
 IsAtomic (decision.Atomic order) = Unit {0}
@@ -68,3 +76,13 @@ IsAtomic (decision.Undecided doubt) = ⊥
 -- where each read has one writer at most, an order is answered exactly if there is one
 abbrev pub IsExact : List Call → Decision → Type 0
 IsExact part decided = HasOneWriter part → IsAtomic decided ↔ IsLinearizable part
+
+-- the verdict is that there is an order
+abbrev pub SaysAtomic : ValueVerdict → Type 0
+SaysAtomic verdict.Atomic = Unit {0}
+SaysAtomic (verdict.NotAtomic f) = ⊥
+SaysAtomic (verdict.Undecided doubt) = ⊥
+
+-- where each read has one writer at most, that is said exactly if there is one
+abbrev pub IsExactVerdict : List Call → ValueVerdict → Type 0
+IsExactVerdict part said = HasOneWriter part → SaysAtomic said ↔ IsLinearizable part

@@ -2,7 +2,9 @@ pub mod Writers
 pub mod Families
 pub mod Tables
 pub mod Faults
+pub mod Placed
 pub mod Classes
+pub mod Firsts
 pub mod Sources
 pub mod Zones
 pub mod Keys
@@ -15,3 +17,4 @@ pub mod Ended
 pub mod Stales
 pub mod Numbers
 pub mod Decisions
+pub mod Found

@@ -1,20 +1,23 @@
 //! What a call says of values: the value is named by the index of its first write.
-ghost use Rattle.std.specs.Prelude.{◌<◌, IfOk, IfSome, length, slice_get, ◌≡◌, Some};
+ghost use Rattle.std.specs.Prelude.{◌≡◌, ◌<◌, ◌+◌, IfOk, OnOk, length, slice_get, Some};
+ghost use Rattle.recorder.specs.Sound.{IsRead};
 ghost use Rattle.recorder.specs.declared.part.Call.{Call};
-ghost use Rattle.value_order.specs.Classes.{AreClasses, AreFirsts, IsClass};
+ghost use Rattle.value_order.specs.Classes.{AreClasses, AreWriteClasses, IsClass, IsWriteClass};
+ghost use Rattle.value_order.specs.Firsts.{AreFirsts};
+ghost use Rattle.value_order.specs.Placed.{ArePlaces};
 
+use crate::firsts::Firsts;
+use crate::placed::{PlacedPart, Places, places_of, short_index};
 use recorder::Part;
 use std::alloc::Global;
-use std::collections::HashMap;
-use std::hash::{BuildHasherDefault, DefaultHasher};
 use tag::Memory;
 
 /// What a call says of values. A number is the index of the value's first write.
 #[derive(Clone, Copy)]
 pub(crate) enum Class {
-    Writes(usize),
+    Writes(u32),
     /// The read answers that value.
-    Answers(usize),
+    Answers(u32),
     /// The read answers what no write writes.
     Unwritten,
     /// The read answers nothing.
@@ -23,45 +26,65 @@ pub(crate) enum Class {
     Pending,
 }
 
-/// The index of the first write of each value, found by a hash of the value.
-type Firsts<'h> = HashMap<&'h str, usize, BuildHasherDefault<DefaultHasher>>;
-
-/// The first write of each value.
-fn first_writes<'h>(alloc: Global, part: &Part<'h>) -> Result<Firsts<'h>, Memory>
-    ensures { IfOk result (λ firsts. AreFirsts part.now (length part.now) firsts) }
-{
-    let mut firsts = HashMap::with_hasher(alloc, BuildHasherDefault::new());
-    for i in 0..part.len() {
-        let call = part.call(i);
-        if let Some(value) = call.action.written() {
-            let text = value.as_str();
-            if !firsts.contains_key(text) {
-                firsts.insert(text, i)?;
-            }
-        }
-    }
-    Ok(firsts)
+/// What a pass over the writes of a part finds.
+#[derive(Drop)]
+struct Writes<'h> {
+    places: Vec<Places>,
+    /// The classes of writes; those of reads are still open.
+    classes: Vec<Class>,
+    firsts: Firsts<'h>,
 }
 
-/// The class of the call at index `i`.
-fn class_at(part: &Part<'_>, i: usize, firsts: &Firsts<'_>) -> Class
+/// The class of the call at index `i`, if it is a write, which the first writes then know; else `Pending`.
+fn class_of_write<'h>(part: &Part<'h>, i: usize, firsts: &mut Firsts<'h>) -> Result<Class, Memory>
     requires inside { i < length part.now }
-    requires firsts { AreFirsts part.now (length part.now) firsts.now }
+    requires firsts { AreFirsts part.now i firsts.old.slots.items firsts.old.others }
+    ensures class { IfOk result (IsWriteClass part.now i) }
+    ensures kept { OnOk result (AreFirsts part.now (i + 1) firsts.new.slots.items firsts.new.others) }
+{
+    match part.call(i).action.written() {
+        Some(value) => {
+            let first = firsts.number(part, short_index(part, i), value.as_str())?;
+            Ok(Class::Writes(first))
+        }
+        None => Ok(Class::Pending),
+    }
+}
+
+/// The classes of writes.
+fn classes_of_writes<'h>(alloc: Global, part: &Part<'h>) -> Result<Writes<'h>, Memory>
+    ensures places { IfOk result (λ writes. ArePlaces part.now writes.places.items) }
+    ensures classes { IfOk result (λ writes. AreWriteClasses part.now writes.classes.items) }
+    ensures firsts { IfOk result (λ writes. AreFirsts part.now (length part.now)
+        writes.firsts.slots.items writes.firsts.others) }
+{
+    let mut places = Vec::with_capacity(alloc, part.len())?;
+    let mut classes = Vec::with_capacity(alloc, part.len())?;
+    let mut firsts = Firsts::new(alloc, part.len())?;
+    for i in 0..part.len() {
+        places.push(places_of(part, i))?;
+        classes.push(class_of_write(part, i, &mut firsts)?)?;
+    }
+    Ok(Writes {
+        places,
+        classes,
+        firsts,
+    })
+}
+
+/// The class of the call at index `i`, which is a read.
+fn class_of_read<'h>(part: &Part<'h>, i: usize, firsts: &Firsts<'h>) -> Class
+    requires inside { i < length part.now }
+    requires read { (call : Call) → slice_get part.now i ≡ Some call → IsRead call }
+    requires firsts { AreFirsts part.now (length part.now) firsts.now.slots.items firsts.now.others }
     ensures { (call : Call) × (slice_get part.now i ≡ Some call) × IsClass part.now call result }
 {
-    let call = part.call(i);
-    if let Some(value) = call.action.written() {
-        return match firsts.get(value.as_str()) {
-            Some(first) => Class::Writes(*first),
-            None => unreachable!(),
-        };
-    }
-    let Some(response) = &call.response else {
+    let Some(response) = part.call(i).response else {
         return Class::Pending;
     };
     match response.returned.answered() {
-        Some(Some(value)) => match firsts.get(value.as_str()) {
-            Some(first) => Class::Answers(*first),
+        Some(Some(value)) => match firsts.find(part, value.as_str()) {
+            Some(first) => Class::Answers(first),
             None => Class::Unwritten,
         },
         Some(None) => Class::Nothing,
@@ -69,14 +92,32 @@ fn class_at(part: &Part<'_>, i: usize, firsts: &Firsts<'_>) -> Class
     }
 }
 
-/// The class of each call.
-pub(crate) fn classes(alloc: Global, part: &Part<'_>) -> Result<Vec<Class>, Memory>
-    ensures { IfOk result (λ classes. AreClasses part.now classes.items) }
+/// Fills in the classes of reads.
+fn fill_in_reads<'h>(part: &Part<'h>, firsts: &Firsts<'h>, classes: &mut [Class])
+    requires firsts { AreFirsts part.now (length part.now) firsts.now.slots.items firsts.now.others }
+    requires writes { AreWriteClasses part.now classes.old }
+    ensures { AreClasses part.now classes.new }
 {
-    let firsts = first_writes(alloc, part)?;
-    let mut classes = Vec::with_capacity(alloc, part.len())?;
     for i in 0..part.len() {
-        classes.push(class_at(part, i, &firsts))?;
+        if let Class::Pending = classes[i] {
+            classes[i] = class_of_read(part, i, firsts);
+        }
     }
-    Ok(classes)
+}
+
+/// The part with its places, and the class of each call.
+pub(crate) fn classes<'p, 'h>(
+    alloc: Global,
+    part: &'p Part<'h>,
+) -> Result<(PlacedPart<'p, 'h>, Vec<Class>), Memory>
+    ensures part { IfOk result (λ pair. pair.0 ≡ part.now) }
+    ensures classes { IfOk result (λ pair. AreClasses part.now pair.1.items) }
+{
+    let Writes {
+        places,
+        mut classes,
+        firsts,
+    } = classes_of_writes(alloc, part)?;
+    fill_in_reads(part, &firsts, &mut classes);
+    Ok((PlacedPart::new(part, places), classes))
 }

@@ -103,7 +103,7 @@ pub fn stale_reads(alloc: Global, part: &Part<'_>) -> Result<usize, Memory>
     let values = read_values(alloc, part)?;
     let found = overwriters(
         alloc,
-        part,
+        &values.part,
         values.classes.as_slice(),
         values.nexts.as_slice(),
     )?;

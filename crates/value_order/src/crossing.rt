@@ -1,65 +1,13 @@
 //! Whether two zones cross: each ends before the other's last begin.
-ghost use Rattle.std.specs.Prelude.{◌<◌, ◌↔◌, IfOk, IsTrue, MatchBool, length};
-ghost use Rattle.value_order.specs.Crossing.{AreFamilyKeys, AreRanked, HasCrossing, IsFirstCrossing};
-ghost use Rattle.value_order.specs.Zones.{Cross, NoneCross};
+ghost use Rattle.std.specs.Prelude.{◌≡◌, ◌<◌, ◌↔◌, ℕ, IsTrue, MatchBool, Some, length};
+ghost use Rattle.value_order.specs.Crossing.{HasCrossing, IsFirstCrossing, IsWithin};
+ghost use Rattle.value_order.specs.Sources.{AreSources};
+ghost use Rattle.value_order.specs.Writers.{IsOnlyWriter};
+ghost use Rattle.value_order.specs.Zones.{AreZones, Cross, CrossAt, NoneCross};
 
-use crate::keys::SortKey;
-use crate::zones::{Zone, rank};
-use std::alloc::Global;
-use tag::Memory;
-
-/// What the families that have an end are sorted by.
-fn family_keys(alloc: Global, zones: &[Zone]) -> Result<Vec<SortKey>, Memory>
-    ensures { IfOk result (λ keys. AreFamilyKeys zones.now (length zones.now) keys.items) }
-{
-    let mut keys = Vec::new(alloc);
-    for family in 0..zones.len() {
-        if let Some(end) = zones[family].first_end {
-            keys.push(SortKey {
-                rank: rank(end, zones[family].last_begin),
-                family,
-                is_read: false,
-                index: family,
-            })?;
-        }
-    }
-    Ok(keys)
-}
-
-/// The same, sorted.
-fn ranked_keys(alloc: Global, zones: &[Zone]) -> Result<Vec<SortKey>, Memory>
-    ensures { IfOk result (λ keys. AreRanked zones.now keys.items) }
-{
-    let mut keys = family_keys(alloc, zones)?;
-    keys.sort_unstable();
-    Ok(keys)
-}
-
-/// Whether a family of these ends before one that ranks no higher begins for the last time.
-fn some_cross(zones: &[Zone], keys: &[SortKey]) -> bool
-    requires { AreRanked zones.now keys.now }
-    ensures { MatchBool result (HasCrossing zones.now) (NoneCross zones.now) }
-{
-    let mut latest = 0;
-    for i in 0..keys.len() {
-        let zone = zones[keys[i].family];
-        if let Some(end) = zone.first_end {
-            if end < latest {
-                return true;
-            }
-        }
-        latest = latest.max(zone.last_begin);
-    }
-    false
-}
-
-/// Whether two zones cross.
-pub(crate) fn have_crossing(alloc: Global, zones: &[Zone]) -> Result<bool, Memory>
-    ensures { IfOk result (λ cross. MatchBool cross (HasCrossing zones.now) (NoneCross zones.now)) }
-{
-    let keys = ranked_keys(alloc, zones)?;
-    Ok(some_cross(zones, keys.as_slice()))
-}
+use crate::placed::PlacedPart;
+use crate::sources::{Source, family_of};
+use crate::zones::Zone;
 
 /// Whether the two zones cross.
 fn do_cross(a: Zone, b: Zone) -> bool
@@ -69,6 +17,55 @@ fn do_cross(a: Zone, b: Zone) -> bool
         (Some(end_a), Some(end_b)) => end_a < b.last_begin && end_b < a.last_begin,
         _ => false,
     }
+}
+
+/// Whether the place is within the zone: after its first end, and not after its last begin.
+fn is_within(zone: Zone, place: u32) -> bool
+    ensures { IsTrue result ↔ IsWithin zone place }
+{
+    match zone.first_end {
+        Some(end) => end < place && place <= zone.last_begin,
+        None => false,
+    }
+}
+
+/// Whether the zone of the family crosses that one, if there is one.
+fn crosses(zones: &[Zone], nearest: Option<usize>, family: usize) -> bool
+    requires nearest { (other : ℕ) → nearest ≡ Some other → other < length zones.now }
+    requires family { family < length zones.now }
+    ensures { MatchBool result
+        ((other : ℕ) × (nearest ≡ Some other) × CrossAt zones.now other family)
+        ((other : ℕ) → nearest ≡ Some other → CrossAt zones.now other family → ⊥) }
+{
+    match nearest {
+        Some(other) => other != family && do_cross(zones[other], zones[family]),
+        None => false,
+    }
+}
+
+/// Whether two zones cross.
+///
+/// It goes from the last call to the first, with the family whose zone had the latest of the begins that are within
+/// their zones. A zone that crosses that one shows at a begin of its own; any other zone is over by then.
+pub(crate) fn have_crossing(part: &PlacedPart<'_, '_>, sources: &[Source], zones: &[Zone]) -> bool
+    requires sources { AreSources part.now sources.now }
+    requires zones { (row : ℕ) × AreZones part.now (IsOnlyWriter part.now) row zones.now }
+    ensures { MatchBool result (HasCrossing zones.now) (NoneCross zones.now) }
+{
+    let mut nearest: Option<usize> = None;
+    let mut i = part.len();
+    'calls: while i > 0 {
+        i -= 1;
+        if let Some(family) = family_of(i, sources[i]) {
+            if crosses(zones, nearest, family) {
+                return true;
+            }
+            if is_within(zones[family], part.places(i).invoked) {
+                nearest = Some(family);
+            }
+        }
+    }
+    false
 }
 
 /// The first zone that crosses that one.

@@ -57,6 +57,17 @@ pub enum Decision {
     Undecided(Doubt),
 }
 
+/// What values say of a part, without its order.
+#[derive(Clone, Copy, Debug, PartialEq, Eq)]
+pub enum ValueVerdict {
+    /// Its calls have an order.
+    Atomic,
+    /// No list is an order of its calls.
+    NotAtomic(ValueFault),
+    /// A read has two writers, and there is no fault; the least such read.
+    Undecided(Doubt),
+}
+
 impl ValueFault {
     /// Its number in the order of the faults, 1 to 5.
     pub fn number(self) -> u8

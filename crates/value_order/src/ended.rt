@@ -3,12 +3,12 @@ ghost use Rattle.std.specs.Prelude.{◌≡◌, ◌≤◌, ◌<◌, ℕ, IfOk, Ma
 ghost use Rattle.value_order.specs.Ended.{AreByEnd, AreEndKeys, IsGreatestIndex, IsPassed, WriteEnds};
 
 use crate::keys::SortKey;
-use recorder::Part;
+use crate::placed::PlacedPart;
 use std::alloc::Global;
 use tag::Memory;
 
 /// The key of the call at index `i`, if it is a write that has a response.
-fn end_key(part: &Part<'_>, i: usize) -> Option<SortKey>
+fn end_key(part: &PlacedPart<'_, '_>, i: usize) -> Option<SortKey>
     requires { i < length part.now }
     ensures { MatchOption result ((end : ℕ) → WriteEnds part.now i end → ⊥)
         (λ key. (key.index ≡ i) × WriteEnds part.now i key.rank) }
@@ -27,7 +27,7 @@ fn end_key(part: &Part<'_>, i: usize) -> Option<SortKey>
 }
 
 /// Keys of the writes that have a response, each by its end.
-fn end_keys(alloc: Global, part: &Part<'_>) -> Result<Vec<SortKey>, Memory>
+fn end_keys(alloc: Global, part: &PlacedPart<'_, '_>) -> Result<Vec<SortKey>, Memory>
     ensures { IfOk result (λ keys. AreEndKeys part.now (length part.now) keys.items) }
 {
     let mut keys = Vec::new(alloc);
@@ -40,7 +40,10 @@ fn end_keys(alloc: Global, part: &Part<'_>) -> Result<Vec<SortKey>, Memory>
 }
 
 /// The same, sorted.
-pub(crate) fn writes_by_end(alloc: Global, part: &Part<'_>) -> Result<Vec<SortKey>, Memory>
+pub(crate) fn writes_by_end(
+    alloc: Global,
+    part: &PlacedPart<'_, '_>,
+) -> Result<Vec<SortKey>, Memory>
     ensures { IfOk result (λ keys. AreByEnd part.now keys.items) }
 {
     let mut keys = end_keys(alloc, part)?;

@@ -6,9 +6,10 @@ ghost use Rattle.value_order.specs.SortKeys.{AreSortKeys, HaveZones, IsKeyIf, Ar
 ghost use Rattle.value_order.specs.Sources.{AreSources, family_of};
 ghost use Rattle.value_order.specs.Writers.{IsOnlyWriter};
 
+use crate::placed::PlacedPart;
 use crate::sources::{Source, family_of};
 use crate::zones::{Zone, rank};
-use recorder::{Order, Part};
+use recorder::Order;
 use std::alloc::Global;
 use tag::{Memory, OpId};
 
@@ -72,7 +73,7 @@ fn sorted_keys(alloc: Global, sources: &[Source], zones: &[Zone]) -> Result<Vec<
 }
 
 /// The numbers of the calls with these keys.
-fn numbers(alloc: Global, part: &Part<'_>, keys: &[SortKey]) -> Result<Vec<OpId>, Memory>
+fn numbers(alloc: Global, part: &PlacedPart<'_, '_>, keys: &[SortKey]) -> Result<Vec<OpId>, Memory>
     requires { (p : ℕ) (key : SortKey) → slice_get keys.now p ≡ Some key
         → key.index < length part.now }
     ensures { IfOk result (λ ops. AreNumbersOf part.now keys.now (length keys.now) ops.items) }
@@ -87,7 +88,7 @@ fn numbers(alloc: Global, part: &Part<'_>, keys: &[SortKey]) -> Result<Vec<OpId>
 /// The calls by their families.
 pub(crate) fn sorted_order(
     alloc: Global,
-    part: &Part<'_>,
+    part: &PlacedPart<'_, '_>,
     sources: &[Source],
     zones: &[Zone],
 ) -> Result<Order, Memory>
@@ -96,7 +97,7 @@ pub(crate) fn sorted_order(
     ensures { IfOk result
         (λ order. IsByFamilies part.now (IsOnlyWriter part.now) zones.now order) }
 {
-    let _sequence = part.len();
+    part.attest();
     let keys = sorted_keys(alloc, sources, zones)?;
     Ok(Order::from_vec(numbers(alloc, part, keys.as_slice())?))
 }

@@ -1,7 +1,8 @@
 //! Orders from values alone, without tags.
 //!
-//! `order_by_values` decides whether the calls of a part are linearizable by the values that reads answer and
-//! writes write, in `n log n` steps; nothing is searched. Where no read has two writers, it decides exactly.
+//! `decide_by_values` decides whether the calls of a part are linearizable by the values that reads answer and
+//! writes write; nothing is searched, and nothing sorted. `order_by_values` does so too, and makes an order in
+//! `n log n` steps. Where no read has two writers, they decide exactly.
 #![tactic(auto)]
 
 mod classes;
@@ -11,17 +12,19 @@ mod decide;
 mod decision;
 mod ended;
 mod faults;
+mod firsts;
 mod keys;
 pub mod laws;
 mod nexts;
 mod nothings;
 mod opposed;
 mod overwritten;
+mod placed;
 mod sources;
 mod stale;
 mod values;
 mod zones;
 
 pub use counts::{reads, stale_reads};
-pub use decide::order_by_values;
-pub use decision::{Decision, Doubt, Side, ValueFault};
+pub use decide::{decide_by_values, order_by_values};
+pub use decision::{Decision, Doubt, Side, ValueFault, ValueVerdict};

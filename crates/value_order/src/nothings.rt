@@ -7,8 +7,8 @@ ghost use Rattle.value_order.specs.Nothings.{IsFirstShown, IsLeastLate, ShowsAt}
 ghost use Rattle.value_order.specs.Sources.{AreSources, shows_value};
 ghost use Rattle.value_order.specs.Writers.{AnswersNothing};
 
+use crate::placed::PlacedPart;
 use crate::sources::Source;
-use recorder::Part;
 use tag::OpId;
 
 /// Whether a call of that source writes or answers a value that is written.
@@ -22,14 +22,14 @@ fn shows_value(source: Source) -> bool
 }
 
 /// Where the call at index `i` ended, if it did, and if it writes or answers a value.
-fn shown_end(part: &Part<'_>, sources: &[Source], i: usize) -> Option<u32>
+fn shown_end(part: &PlacedPart<'_, '_>, sources: &[Source], i: usize) -> Option<u32>
     requires sources { AreSources part.now sources.now }
     requires written { LacksCall part.now (AnswersUnwritten part.now) }
     requires inside { i < length part.now }
     ensures { (end : ℕ) → (result ≡ Some end) ↔ ShowsAt part.now i end }
 {
     if shows_value(sources[i]) {
-        part.state(i).response
+        part.places(i).response
     } else {
         None
     }
@@ -46,7 +46,7 @@ fn is_sooner(end: u32, first: Option<(usize, u32)>) -> bool
 }
 
 /// The index and the end of the call that ended first of those that write or answer a value.
-fn first_shown(part: &Part<'_>, sources: &[Source]) -> Option<(usize, u32)>
+fn first_shown(part: &PlacedPart<'_, '_>, sources: &[Source]) -> Option<(usize, u32)>
     requires sources { AreSources part.now sources.now }
     requires written { LacksCall part.now (AnswersUnwritten part.now) }
     ensures { IsFirstShown part.now (length part.now) result }
@@ -63,7 +63,7 @@ fn first_shown(part: &Part<'_>, sources: &[Source]) -> Option<(usize, u32)>
 }
 
 /// Whether the call at index `i` is a read that answers nothing and began after that place.
-fn is_late(part: &Part<'_>, sources: &[Source], end: u32, i: usize) -> bool
+fn is_late(part: &PlacedPart<'_, '_>, sources: &[Source], end: u32, i: usize) -> bool
     requires sources { AreSources part.now sources.now }
     requires inside { i < length part.now }
     ensures { (call : Call) × (slice_get part.now i ≡ Some call)
@@ -72,12 +72,12 @@ fn is_late(part: &Part<'_>, sources: &[Source], end: u32, i: usize) -> bool
     let Source::Nothing = sources[i] else {
         return false;
     };
-    end < part.state(i).invoked
+    end < part.places(i).invoked
 }
 
 /// The first read that answers nothing and began after such a call had ended, and the first of these
 /// that ended.
-pub(crate) fn first_late(part: &Part<'_>, sources: &[Source]) -> Option<(OpId, OpId)>
+pub(crate) fn first_late(part: &PlacedPart<'_, '_>, sources: &[Source]) -> Option<(OpId, OpId)>
     requires sources { AreSources part.now sources.now }
     requires written { LacksCall part.now (AnswersUnwritten part.now) }
     ensures { MatchOption result (HasNoPair part.now IsLateNothing)

@@ -10,9 +10,9 @@ ghost use Rattle.value_order.specs.Zones.{AreZones};
 
 use crate::crossing::{first_crossing, have_crossing};
 use crate::decision::Side;
+use crate::placed::PlacedPart;
 use crate::sources::{Source, family_of};
 use crate::zones::{Zone, zones};
-use recorder::Part;
 use std::alloc::Global;
 use tag::{Memory, OpId};
 
@@ -27,30 +27,40 @@ fn is_of(i: usize, source: Source, family: usize) -> bool
 }
 
 /// Whether the call at index `i` ended at the place.
-fn ends_at(part: &Part<'_>, i: usize, place: u32) -> bool
+fn ends_at(part: &PlacedPart<'_, '_>, i: usize, place: u32) -> bool
     requires { i < length part.now }
     ensures { (call : Call) × (slice_get part.now i ≡ Some call)
         × (IsTrue result ↔ EndedAt call place) }
 {
-    match part.state(i).response {
+    match part.places(i).response {
         Some(end) => end == place,
         None => false,
     }
 }
 
 /// Whether two families oppose each other by the row.
-fn opposed_by(alloc: Global, part: &Part<'_>, sources: &[Source], row: u32) -> Result<bool, Memory>
+fn opposed_by(
+    alloc: Global,
+    part: &PlacedPart<'_, '_>,
+    sources: &[Source],
+    row: u32,
+) -> Result<bool, Memory>
     requires { AreSources part.now sources.now }
     ensures { IfOk result
         (λ opposed. MatchBool opposed (HasOpposedBy part.now row) (NoneOpposedBy part.now row)) }
 {
-    let _sequence = part.len();
+    part.attest();
     let zones = zones(alloc, part, sources, row)?;
-    have_crossing(alloc, zones.as_slice())
+    Ok(have_crossing(part, sources, zones.as_slice()))
 }
 
 /// The least row by which two do, where two do by row `last`.
-fn least_row(alloc: Global, part: &Part<'_>, sources: &[Source], last: u32) -> Result<u32, Memory>
+fn least_row(
+    alloc: Global,
+    part: &PlacedPart<'_, '_>,
+    sources: &[Source],
+    last: u32,
+) -> Result<u32, Memory>
     requires sources { AreSources part.now sources.now }
     requires opposed { HasOpposedBy part.now last }
     ensures { IfOk result (λ row. IsLeastRow part.now row) }
@@ -71,7 +81,7 @@ fn least_row(alloc: Global, part: &Part<'_>, sources: &[Source], last: u32) -> R
 /// The family of the read at index `i`, if that was answered at the row, and the first family that is
 /// opposed to it by then, if one is.
 fn pair_of(
-    part: &Part<'_>,
+    part: &PlacedPart<'_, '_>,
     sources: &[Source],
     zones: &[Zone],
     row: u32,
@@ -90,12 +100,18 @@ fn pair_of(
     if !ends_at(part, i, row) {
         return None;
     }
+    let family = family as usize;
     let other = first_crossing(zones, family)?;
     Some((family, other))
 }
 
 /// The family of a read that was answered at the row, and the first that is opposed to it by then.
-fn pair_at(part: &Part<'_>, sources: &[Source], zones: &[Zone], row: u32) -> (usize, usize)
+fn pair_at(
+    part: &PlacedPart<'_, '_>,
+    sources: &[Source],
+    zones: &[Zone],
+    row: u32,
+) -> (usize, usize)
     requires sources { AreSources part.now sources.now }
     requires zones { AreZones part.now (IsOnlyWriter part.now) row zones.now }
     requires least { IsLeastRow part.now row }
@@ -110,7 +126,7 @@ fn pair_at(part: &Part<'_>, sources: &[Source], zones: &[Zone], row: u32) -> (us
 }
 
 /// The call of the family that ended at the place.
-fn ended_at(part: &Part<'_>, sources: &[Source], family: usize, place: u32) -> OpId
+fn ended_at(part: &PlacedPart<'_, '_>, sources: &[Source], family: usize, place: u32) -> OpId
     requires sources { AreSources part.now sources.now }
     requires there { HasMember part.now family (λ call. EndedAt call place) }
     ensures { IsMember part.now family (λ call. EndedAt call place) result }
@@ -124,13 +140,13 @@ fn ended_at(part: &Part<'_>, sources: &[Source], family: usize, place: u32) -> O
 }
 
 /// The call of the family that began at the place.
-fn begun_at(part: &Part<'_>, sources: &[Source], family: usize, place: u32) -> OpId
+fn begun_at(part: &PlacedPart<'_, '_>, sources: &[Source], family: usize, place: u32) -> OpId
     requires sources { AreSources part.now sources.now }
     requires there { HasMember part.now family (λ call. call.invoked ≡ place) }
     ensures { IsMember part.now family (λ call. call.invoked ≡ place) result }
 {
     for i in 0..part.len() {
-        if is_of(i, sources[i], family) && part.state(i).invoked == place {
+        if is_of(i, sources[i], family) && part.places(i).invoked == place {
             return part.op(i);
         }
     }
@@ -138,14 +154,14 @@ fn begun_at(part: &Part<'_>, sources: &[Source], family: usize, place: u32) -> O
 }
 
 /// What the family has by the row.
-fn side(part: &Part<'_>, sources: &[Source], zones: &[Zone], family: usize) -> Side
+fn side(part: &PlacedPart<'_, '_>, sources: &[Source], zones: &[Zone], family: usize) -> Side
     requires sources { AreSources part.now sources.now }
     requires there { HasSide part.now zones.now family }
     ensures { (row : ℕ) → AreZones part.now (IsOnlyWriter part.now) row zones.now
         → (write : Call) × (slice_get part.now family ≡ Some write)
         × IsSideOf part.now row write result }
 {
-    let _sequence = part.len();
+    part.attest();
     let zone = zones[family];
     let Some(end) = zone.first_end else {
         unreachable!()
@@ -160,7 +176,7 @@ fn side(part: &Part<'_>, sources: &[Source], zones: &[Zone], family: usize) -> S
 /// The two families that oppose each other first, where two do by row `last`.
 pub(crate) fn first_opposed(
     alloc: Global,
-    part: &Part<'_>,
+    part: &PlacedPart<'_, '_>,
     sources: &[Source],
     last: u32,
 ) -> Result<(Side, Side), Memory>
@@ -168,7 +184,7 @@ pub(crate) fn first_opposed(
     requires opposed { HasOpposedBy part.now last }
     ensures { IfOk result (λ sides. IsFirstOpposed part.now sides.0 sides.1) }
 {
-    let _sequence = part.len();
+    part.attest();
     let row = least_row(alloc, part, sources, last)?;
     let zones = zones(alloc, part, sources, row)?;
     let (a, b) = pair_at(part, sources, zones.as_slice(), row);

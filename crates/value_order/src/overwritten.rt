@@ -8,14 +8,14 @@ ghost use Rattle.value_order.specs.Stales.{AreOverwriters, IsLeastOverwritten, I
 
 use crate::decision::Doubt;
 use crate::faults::doubt_at;
+use crate::placed::PlacedPart;
 use crate::sources::Source;
-use recorder::Part;
 use tag::OpId;
 
 /// The doubt of the read at index `i` and a write between it and each of its writers, if it has two
 /// writers and is stale.
 fn overwritten_at(
-    part: &Part<'_>,
+    part: &PlacedPart<'_, '_>,
     sources: &[Source],
     found: &[Option<usize>],
     i: usize,
@@ -31,7 +31,7 @@ fn overwritten_at(
         return None;
     };
     let between = found[i]?;
-    let doubt = doubt_at(part, i, first, second);
+    let doubt = doubt_at(part, i, first as usize, second as usize);
     let call = part.op(between);
     Some((doubt, call))
 }
@@ -39,7 +39,7 @@ fn overwritten_at(
 /// The first read that has two writers and is stale, with its first two; and a write between it and
 /// each of its writers.
 pub(crate) fn first_overwritten(
-    part: &Part<'_>,
+    part: &PlacedPart<'_, '_>,
     sources: &[Source],
     found: &[Option<usize>],
 ) -> Option<(Doubt, OpId)>

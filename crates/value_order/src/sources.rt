@@ -6,7 +6,7 @@ ghost use Rattle.value_order.specs.Classes.{AreClasses, AreNexts};
 ghost use Rattle.value_order.specs.Sources.{AreSources, IsSource, family_of};
 
 use crate::classes::Class;
-use recorder::Part;
+use crate::placed::PlacedPart;
 use std::alloc::Global;
 use tag::Memory;
 
@@ -16,11 +16,11 @@ pub(crate) enum Source {
     /// The call is a write.
     Write,
     /// The read's only writer.
-    Only(usize),
+    Only(u32),
     /// The two writers of the read with the least numbers.
-    Doubt(usize, usize),
+    Doubt(u32, u32),
     /// The read was answered before any write of its value began, of which that is the first.
-    Early(usize),
+    Early(u32),
     /// The read answers what no write writes.
     Unwritten,
     /// The read answers nothing.
@@ -35,7 +35,7 @@ pub(crate) fn family_of(i: usize, source: Source) -> Option<usize>
 {
     match source {
         Source::Write => Some(i),
-        Source::Only(write) => Some(write),
+        Source::Only(write) => Some(write as usize),
         Source::Doubt(_, _)
         | Source::Early(_)
         | Source::Unwritten
@@ -45,21 +45,21 @@ pub(crate) fn family_of(i: usize, source: Source) -> Option<usize>
 }
 
 /// Whether the call at index `j` began no later than the place.
-fn began_by(part: &Part<'_>, j: usize, place: u32) -> bool
+fn began_by(part: &PlacedPart<'_, '_>, j: u32, place: u32) -> bool
     requires { j < length part.now }
     ensures { (call : Call) × (slice_get part.now j ≡ Some call)
         × (IsTrue result ↔ (call.invoked ≤ place)) }
 {
-    part.state(j).invoked <= place
+    part.places(j as usize).invoked <= place
 }
 
 /// The source of the read at index `i`, which answers the value whose first write has index `first`.
 fn source_of_read(
-    part: &Part<'_>,
+    part: &PlacedPart<'_, '_>,
     classes: &[Class],
-    nexts: &[Option<usize>],
+    nexts: &[Option<u32>],
     i: usize,
-    first: usize,
+    first: u32,
 ) -> Source
     requires sequence { IsSequence part.now }
     requires classes { AreClasses part.now classes.now }
@@ -69,13 +69,13 @@ fn source_of_read(
     requires read { slice_get classes.now i ≡ Some (Class.Answers first) }
     ensures { (call : Call) × (slice_get part.now i ≡ Some call) × IsSource part.now call result }
 {
-    let Some(place) = part.state(i).response else {
+    let Some(place) = part.places(i).response else {
         return Source::Pending;
     };
     if !began_by(part, first, place) {
         return Source::Early(first);
     }
-    match nexts[first] {
+    match nexts[first as usize] {
         Some(second) => {
             if began_by(part, second, place) {
                 Source::Doubt(first, second)
@@ -88,7 +88,12 @@ fn source_of_read(
 }
 
 /// The source of the call at index `i`.
-fn source_at(part: &Part<'_>, classes: &[Class], nexts: &[Option<usize>], i: usize) -> Source
+fn source_at(
+    part: &PlacedPart<'_, '_>,
+    classes: &[Class],
+    nexts: &[Option<u32>],
+    i: usize,
+) -> Source
     requires sequence { IsSequence part.now }
     requires classes { AreClasses part.now classes.now }
     requires nexts { AreNexts classes.now nexts.now }
@@ -107,9 +112,9 @@ fn source_at(part: &Part<'_>, classes: &[Class], nexts: &[Option<usize>], i: usi
 /// The source of each call.
 pub(crate) fn sources(
     alloc: Global,
-    part: &Part<'_>,
+    part: &PlacedPart<'_, '_>,
     classes: &[Class],
-    nexts: &[Option<usize>],
+    nexts: &[Option<u32>],
 ) -> Result<Vec<Source>, Memory>
     requires classes { AreClasses part.now classes.now }
     requires nexts { AreNexts classes.now nexts.now }

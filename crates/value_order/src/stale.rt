@@ -9,13 +9,13 @@ ghost use Rattle.value_order.specs.Stales.{AreOverwriters, IsOverwriter};
 
 use crate::classes::Class;
 use crate::ended::{Passed, ended_before, writes_by_end};
-use recorder::Part;
+use crate::placed::PlacedPart;
 use std::alloc::Global;
 use tag::Memory;
 
 /// Of the call at index `i` and the slowest before it, if there is one, the call that ends last; a
 /// pending one does.
-fn slower(part: &Part<'_>, slowest: Option<usize>, i: usize) -> usize
+fn slower(part: &PlacedPart<'_, '_>, slowest: Option<usize>, i: usize) -> usize
     requires inside { i < length part.now }
     requires slowest { (slow : ℕ) → slowest ≡ Some slow → slow < length part.now }
     ensures { IsSlower part.now slowest i result }
@@ -23,30 +23,30 @@ fn slower(part: &Part<'_>, slowest: Option<usize>, i: usize) -> usize
     let Some(slow) = slowest else {
         return i;
     };
-    let Some(end) = part.state(slow).response else {
+    let Some(end) = part.places(slow).response else {
         return slow;
     };
-    match part.state(i).response {
+    match part.places(i).response {
         Some(other) => { if other > end { i } else { slow } }
         None => i,
     }
 }
 
 /// Whether the call at index `k` was answered before that at index `m` began.
-fn precedes(part: &Part<'_>, k: usize, m: usize) -> bool
+fn precedes(part: &PlacedPart<'_, '_>, k: usize, m: usize) -> bool
     requires first { k < length part.now }
     requires second { m < length part.now }
     ensures { IsTrue result ↔ PrecedesAt part.now k m }
 {
-    let begun = part.state(m).invoked;
-    match part.state(k).response {
+    let begun = part.places(m).invoked;
+    match part.places(k).response {
         Some(end) => end < begun,
         None => false,
     }
 }
 
 /// Whether the next call, if there is one, began before the call at index `i` was answered.
-fn begins_during(part: &Part<'_>, next: Option<usize>, i: usize) -> bool
+fn begins_during(part: &PlacedPart<'_, '_>, next: Option<u32>, i: usize) -> bool
     requires inside { i < length part.now }
     requires next { (n : ℕ) → next ≡ Some n → n < length part.now }
     ensures { IsTrue result ↔ BeginsDuring part.now next i }
@@ -54,8 +54,8 @@ fn begins_during(part: &Part<'_>, next: Option<usize>, i: usize) -> bool
     let Some(next) = next else {
         return false;
     };
-    match part.state(i).response {
-        Some(end) => part.state(next).invoked <= end,
+    match part.places(i).response {
+        Some(end) => part.places(next as usize).invoked <= end,
         None => false,
     }
 }
@@ -64,11 +64,11 @@ fn begins_during(part: &Part<'_>, next: Option<usize>, i: usize) -> bool
 /// stale: `slowest` is the write of its value before it that ends last, `next` the first one after it,
 /// and `latest` the last write that ended before it began.
 fn overwriter(
-    part: &Part<'_>,
+    part: &PlacedPart<'_, '_>,
     classes: &[Class],
-    first: usize,
+    first: u32,
     slowest: Option<usize>,
-    next: Option<usize>,
+    next: Option<u32>,
     latest: Option<usize>,
     i: usize,
 ) -> Option<usize>
@@ -97,9 +97,9 @@ fn overwriter(
 
 /// The same of the call at index `i`, whatever it is; `slowest` has the slowest write of each value.
 fn overwriter_at(
-    part: &Part<'_>,
+    part: &PlacedPart<'_, '_>,
     classes: &[Class],
-    nexts: &[Option<usize>],
+    nexts: &[Option<u32>],
     slowest: &[Option<usize>],
     latest: Option<usize>,
     i: usize,
@@ -117,17 +117,26 @@ fn overwriter_at(
     let Class::Answers(first) = classes[i] else {
         return None;
     };
-    overwriter(part, classes, first, slowest[first], nexts[i], latest, i)
+    overwriter(
+        part,
+        classes,
+        first,
+        slowest[first as usize],
+        nexts[i],
+        latest,
+        i,
+    )
 }
 
 /// Takes the call at index `i` for the slowest write of its value, if it is.
-fn note_write(part: &Part<'_>, classes: &[Class], slowest: &mut [Option<usize>], i: usize)
+fn note_write(part: &PlacedPart<'_, '_>, classes: &[Class], slowest: &mut [Option<usize>], i: usize)
     requires classes { AreClasses part.now classes.now }
     requires slowest { AreSlowest part.now classes.now i slowest.old }
     requires inside { i < length part.now }
     ensures { AreSlowest part.now classes.now (i + 1) slowest.new }
 {
     if let Class::Writes(first) = classes[i] {
+        let first = first as usize;
         slowest[first] = Some(slower(part, slowest[first], i));
     }
 }
@@ -136,9 +145,9 @@ fn note_write(part: &Part<'_>, classes: &[Class], slowest: &mut [Option<usize>],
 /// that precedes it.
 pub(crate) fn overwriters(
     alloc: Global,
-    part: &Part<'_>,
+    part: &PlacedPart<'_, '_>,
     classes: &[Class],
-    nexts: &[Option<usize>],
+    nexts: &[Option<u32>],
 ) -> Result<Vec<Option<usize>>, Memory>
     requires classes { AreClasses part.now classes.now }
     requires nexts { AreNexts classes.now nexts.now }
@@ -152,7 +161,7 @@ pub(crate) fn overwriters(
     let mut slowest: Vec<Option<usize>> = vec![in alloc; None; part.len()]?;
     let mut found = Vec::with_capacity(alloc, part.len())?;
     for i in 0..part.len() {
-        before = ended_before(keys.as_slice(), before, part.state(i).invoked);
+        before = ended_before(keys.as_slice(), before, part.places(i).invoked);
         found.push(overwriter_at(part, classes, nexts, slowest.as_slice(), before.latest, i))?;
         note_write(part, classes, &mut slowest, i);
     }

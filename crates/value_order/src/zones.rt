@@ -4,8 +4,8 @@ ghost use Rattle.value_order.specs.Sources.{AreSources};
 ghost use Rattle.value_order.specs.Writers.{IsOnlyWriter};
 ghost use Rattle.value_order.specs.Zones.{AreBegins, AreZones, IsLastRow, IsZoneWith, rank_of};
 
+use crate::placed::PlacedPart;
 use crate::sources::{Source, family_of};
-use recorder::{CallState, Part};
 use std::alloc::Global;
 use tag::Memory;
 
@@ -43,14 +43,14 @@ fn zone_with(zone: Zone, end: u32, begin: u32) -> Zone
 }
 
 /// Beside each call a zone of its invocation alone.
-fn begin_zones(alloc: Global, part: &Part<'_>) -> Result<Vec<Zone>, Memory>
+fn begin_zones(alloc: Global, part: &PlacedPart<'_, '_>) -> Result<Vec<Zone>, Memory>
     ensures { IfOk result (λ zones. AreBegins part.now (length part.now) zones.items) }
 {
     let mut zones = Vec::with_capacity(alloc, part.len())?;
     for i in 0..part.len() {
         zones.push(Zone {
             first_end: None,
-            last_begin: part.state(i).invoked,
+            last_begin: part.places(i).invoked,
         })?;
     }
     Ok(zones)
@@ -59,7 +59,7 @@ fn begin_zones(alloc: Global, part: &Part<'_>) -> Result<Vec<Zone>, Memory>
 /// Beside each write the zone of its family, of the calls that were answered by the row.
 pub(crate) fn zones(
     alloc: Global,
-    part: &Part<'_>,
+    part: &PlacedPart<'_, '_>,
     sources: &[Source],
     row: u32,
 ) -> Result<Vec<Zone>, Memory>
@@ -69,10 +69,10 @@ pub(crate) fn zones(
     let mut zones = begin_zones(alloc, part)?;
     for i in 0..part.len() {
         if let Some(family) = family_of(i, sources[i]) {
-            let state = part.state(i);
-            if let Some(end) = state.response {
+            let own = part.places(i);
+            if let Some(end) = own.response {
                 if end <= row {
-                    zones[family] = zone_with(zones[family], end, state.invoked);
+                    zones[family] = zone_with(zones[family], end, own.invoked);
                 }
             }
         }
@@ -81,12 +81,12 @@ pub(crate) fn zones(
 }
 
 /// The greatest place of a response.
-pub(crate) fn last_row(part: &Part<'_>) -> u32
+pub(crate) fn last_row(part: &PlacedPart<'_, '_>) -> u32
     ensures { IsLastRow part.now result }
 {
     let mut last = 0;
     for i in 0..part.len() {
-        if let Some(end) = part.state(i).response {
+        if let Some(end) = part.places(i).response {
             last = last.max(end);
         }
     }

@@ -7,4 +7,4 @@ numbers-requires c = rw c.as_slice.ensures.value (index_within c.args.part.now c
 pub returns : goal.returns
 returns c =
     let numbers = rw c.as_slice.ensures.value at c.in_ok-numbers.ensures in
-    rw c.from_vec.ensures (numbers_all c.args.part.now c.len-sequence.ensures.sequence c.args.sources.now c.args.zones.now c.in_ok-keys.keys.items _ c.requires.sources c.in_ok-keys.ensures numbers)
+    rw c.from_vec.ensures (numbers_all c.args.part.now c.attest.ensures c.args.sources.now c.args.zones.now c.in_ok-keys.keys.items _ c.requires.sources c.in_ok-keys.ensures numbers)

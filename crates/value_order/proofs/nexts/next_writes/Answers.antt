@@ -3,6 +3,7 @@ use Rattle.std.proofs.lemmas.Option.{same_Some, slice_get-get_or}
 use Rattle.tag.proofs.Lists.{item_at}
 use Rattle.value_order.specs.declared.classes.Class.{Class}
 use Rattle.value_order.specs.declared.classes.Class.TheVariants as class
+use Rattle.value_order.proofs.ReadSources.{numbered}
 use Rattle.value_order.proofs.NextWrites.{AreNextsFrom, nexts_same, nexts_read, nexts_write}
 use Rattle.value_order.proofs.nexts.next_writes.Goals as goal
 
@@ -14,14 +15,14 @@ pub index-requires : goal.index-requires
 index-requires c =
     let within : c.calls.i - 1 < length c.args.classes.now = omega (arith, c.calls.invariant.within, c.calls-test.true) in
     let at = slice_get-get_or c.args.classes.now (c.calls.i - 1) _ within ∙ ap Some c.in-Writes.is in
-    let less = c.requires (c.calls.i - 1) c.in-Writes.first (inl at) in
+    let less = numbered c.args.part.now c.args.classes.now c.requires (c.calls.i - 1) c.in-Writes.first (inl at) in
     omega (arith, c.calls.invariant.are.width, c.calls.following.ok.0)
 
 pub index_mut-requires-in-Writes : goal.index_mut-requires-in-Writes
 index_mut-requires-in-Writes c =
     let within : c.calls.i - 1 < length c.args.classes.now = omega (arith, c.calls.invariant.within, c.calls-test.true) in
     let at = slice_get-get_or c.args.classes.now (c.calls.i - 1) _ within ∙ ap Some c.in-Writes.is in
-    let less = c.requires (c.calls.i - 1) c.in-Writes.first (inl at) in
+    let less = numbered c.args.part.now c.args.classes.now c.requires (c.calls.i - 1) c.in-Writes.first (inl at) in
     omega (arith, c.calls.invariant.are.width, c.calls.following.ok.0)
 
 pub calls-preserved-in-Writes : goal.calls-preserved-in-Writes
@@ -30,19 +31,19 @@ calls-preserved-in-Writes c =
     let classes = c.args.classes.now in
     let within : l.i - 1 < length classes = omega (arith, l.invariant.within, c.calls-test.true) in
     let at = slice_get-get_or classes (l.i - 1) _ within ∙ ap Some c.in-Writes.is in
-    let less = c.requires (l.i - 1) c.in-Writes.first (inl at) in
+    let less = numbered c.args.part.now c.args.classes.now c.requires (l.i - 1) c.in-Writes.first (inl at) in
     let was = from_next classes l.i l.nexts.items l.following.items c.calls-test.true l.invariant.are in
     let here = item_at l.following.items c.in-Writes.first c.index.result.now (omega (arith, l.invariant.are.width)) c.index.ensures in
-    record {
+    rw c.short_index.ensures (record {
       within = omega (arith, within);
       are = nexts_write classes (l.i - 1) l.nexts.items l.following.items was c.in-Writes.first c.index.result.now (inl at) within here at;
-    }
+    })
 
 pub index-requires-in-Answers : goal.index-requires-in-Answers
 index-requires-in-Answers c =
     let within : c.calls.i - 1 < length c.args.classes.now = omega (arith, c.calls.invariant.within, c.calls-test.true) in
     let at = slice_get-get_or c.args.classes.now (c.calls.i - 1) _ within ∙ ap Some c.in-Answers.is in
-    let less = c.requires (c.calls.i - 1) c.in-Answers.first (inr at) in
+    let less = numbered c.args.part.now c.args.classes.now c.requires (c.calls.i - 1) c.in-Answers.first (inr at) in
     omega (arith, c.calls.invariant.are.width, c.calls.following.ok.0)
 
 pub calls-preserved-in-Answers : goal.calls-preserved-in-Answers
@@ -51,7 +52,7 @@ calls-preserved-in-Answers c =
     let classes = c.args.classes.now in
     let within : l.i - 1 < length classes = omega (arith, l.invariant.within, c.calls-test.true) in
     let at = slice_get-get_or classes (l.i - 1) _ within ∙ ap Some c.in-Answers.is in
-    let less = c.requires (l.i - 1) c.in-Answers.first (inr at) in
+    let less = numbered c.args.part.now c.args.classes.now c.requires (l.i - 1) c.in-Answers.first (inr at) in
     let was = from_next classes l.i l.nexts.items l.following.items c.calls-test.true l.invariant.are in
     let here = item_at l.following.items c.in-Answers.first c.index-in-Answers.result.now (omega (arith, l.invariant.are.width)) c.index-in-Answers.ensures in
     record {

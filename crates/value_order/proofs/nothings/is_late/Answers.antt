@@ -18,7 +18,7 @@ returns-in_default c =
 
 pub returns : goal.returns
 returns c =
-    let of = c.state.ensures in
+    let of = c.places.ensures in
     let within : c.args.i < length c.args.sources.now = omega (arith, c.requires.inside, c.requires.sources.all) in
     let nothing = c.requires.sources.each c.args.i of.0 source.Nothing of.1 (slice_get-get_or c.args.sources.now c.args.i _ within ∙ ap Some c.in-Nothing.is) in
-    (of.0, of.1, (λ t. (nothing, subst (λ (p : ℕ). c.args.end < p) of.2.invoked ((less_test c.args.end c.state.result.invoked).0 t)), λ h. (less_test c.args.end c.state.result.invoked).1 (subst (λ (p : ℕ). c.args.end < p) (sym of.2.invoked) h.1)))
+    (of.0, of.1, (λ t. (nothing, subst (λ (p : ℕ). c.args.end < p) of.2.invoked ((less_test c.args.end c.places.result.invoked).0 t)), λ h. (less_test c.args.end c.places.result.invoked).1 (subst (λ (p : ℕ). c.args.end < p) (sym of.2.invoked) h.1)))

@@ -5,10 +5,10 @@ pub pair_at-a-requires-clause-zones : goal.pair_at-a-requires-clause-zones
 pair_at-a-requires-clause-zones c = rw c.as_slice.ensures.value c.in_ok-zones.ensures
 
 pub side-requires-clause-there : goal.side-requires-clause-there
-side-requires-clause-there c = rw c.as_slice-2.ensures.value (pair_sides c.args.part.now c.len-sequence.ensures.sequence c.in_ok-row.row c.in_ok-zones.zones.items c.in_ok-zones.ensures _ _ c.pair_at-a.ensures).0
+side-requires-clause-there c = rw c.as_slice-2.ensures.value (pair_sides c.args.part.now c.attest.ensures c.in_ok-row.row c.in_ok-zones.zones.items c.in_ok-zones.ensures _ _ c.pair_at-a.ensures).0
 
 pub side-requires-2-clause-there : goal.side-requires-2-clause-there
-side-requires-2-clause-there c = rw c.as_slice-3.ensures.value (pair_sides c.args.part.now c.len-sequence.ensures.sequence c.in_ok-row.row c.in_ok-zones.zones.items c.in_ok-zones.ensures _ _ c.pair_at-a.ensures).1
+side-requires-2-clause-there c = rw c.as_slice-3.ensures.value (pair_sides c.args.part.now c.attest.ensures c.in_ok-row.row c.in_ok-zones.zones.items c.in_ok-zones.ensures _ _ c.pair_at-a.ensures).1
 
 pub returns : goal.returns
 returns c =

@@ -38,4 +38,4 @@ returns c row are =
     let h = c.requires.there in
     let at = slice_get-get_or c.args.zones.now c.args.family (record { first_end = None; last_begin = 0 }) (slice_get_within c.args.zones.now c.args.family h.2 h.5) in
     let op = c.op.ensures in
-    (op.0, op.1, side_of c.args.part.now c.args.family c.args.zones.now c.len-sequence.ensures.sequence row are _ c.in-Some.end op.0 (record { write = c.op.result; first_ended = c.ended_at.result; last_begun = c.begun_at.result }) at c.in-Some.is op.1 (sym op.2) c.ended_at.ensures c.begun_at.ensures)
+    (op.0, op.1, side_of c.args.part.now c.args.family c.args.zones.now c.attest.ensures row are _ c.in-Some.end op.0 (record { write = c.op.result; first_ended = c.ended_at.result; last_begun = c.begun_at.result }) at c.in-Some.is op.1 (sym op.2) c.ended_at.ensures c.begun_at.ensures)

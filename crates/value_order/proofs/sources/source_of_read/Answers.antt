@@ -8,7 +8,7 @@ use Rattle.value_order.proofs.sources.source_of_read.Goals as goal
 
 pub returns-in_default : goal.returns-in_default
 returns-in_default c =
-    let of = c.state.ensures in
+    let of = c.places.ensures in
     let h = c.requires.classes.each c.args.i of.0 (class.Answers c.args.first) of.1 c.requires.read in
     absurd (c.in_default.not-Some h.1.response.place (of.2.response ∙ ap place_in h.1.responds))
 
@@ -18,9 +18,9 @@ began_by-requires c = omega (arith, c.requires.first, c.requires.nexts.all, c.re
 pub returns-then-not-began_by : goal.returns-then-not-began_by
 returns-then-not-began_by c =
     let part = c.args.part.now in
-    let of = c.state.ensures in
+    let of = c.places.ensures in
     let h = c.requires.classes.each c.args.i of.0 (class.Answers c.args.first) of.1 c.requires.read in
-    let same = place_is of.0 h.1.response c.state.result.response c.in-Some.place of.2.response c.in-Some.is h.1.responds in (
+    let same = place_is of.0 h.1.response c.places.result.response c.in-Some.place of.2.response c.in-Some.is h.1.responds in (
       of.0,
       of.1,
       ends_before part c.args.classes.now c.requires.classes c.requires.sequence of.0 h.0 h.1 c.args.first h.2
@@ -30,7 +30,7 @@ returns-then-not-began_by c =
 pub began_by-requires-in-Some-nexts : goal.began_by-requires-in-Some-nexts
 began_by-requires-in-Some-nexts c =
     let part = c.args.part.now in
-    let of = c.state.ensures in
+    let of = c.places.ensures in
     let h = c.requires.classes.each c.args.i of.0 (class.Answers c.args.first) of.1 c.requires.read in
     let own = class_of_write part c.args.classes.now c.requires.classes c.args.first h.2.write h.0 c.args.first h.2.at h.2.writes h.2 in
     let next = c.requires.nexts.each c.args.first c.args.first (Some c.in-Some-nexts.second) (inl own) (slice_get-get_or c.args.nexts.now c.args.first _ c.requires.first ∙ ap Some c.in-Some-nexts.is) in
@@ -39,9 +39,9 @@ began_by-requires-in-Some-nexts c =
 pub returns-then-began_by : goal.returns-then-began_by
 returns-then-began_by c =
     let part = c.args.part.now in
-    let of = c.state.ensures in
+    let of = c.places.ensures in
     let h = c.requires.classes.each c.args.i of.0 (class.Answers c.args.first) of.1 c.requires.read in
-    let same = place_is of.0 h.1.response c.state.result.response c.in-Some.place of.2.response c.in-Some.is h.1.responds in
+    let same = place_is of.0 h.1.response c.places.result.response c.in-Some.place of.2.response c.in-Some.is h.1.responds in
     let own = class_of_write part c.args.classes.now c.requires.classes c.args.first h.2.write h.0 c.args.first h.2.at h.2.writes h.2 in
     let next = c.requires.nexts.each c.args.first c.args.first (Some c.in-Some-nexts.second) (inl own) (slice_get-get_or c.args.nexts.now c.args.first _ c.requires.first ∙ ap Some c.in-Some-nexts.is) in
     let second = c.began_by-in-Some-nexts.ensures in (
@@ -55,9 +55,9 @@ returns-then-began_by c =
 pub returns-else-began_by : goal.returns-else-began_by
 returns-else-began_by c =
     let part = c.args.part.now in
-    let of = c.state.ensures in
+    let of = c.places.ensures in
     let h = c.requires.classes.each c.args.i of.0 (class.Answers c.args.first) of.1 c.requires.read in
-    let same = place_is of.0 h.1.response c.state.result.response c.in-Some.place of.2.response c.in-Some.is h.1.responds in
+    let same = place_is of.0 h.1.response c.places.result.response c.in-Some.place of.2.response c.in-Some.is h.1.responds in
     let own = class_of_write part c.args.classes.now c.requires.classes c.args.first h.2.write h.0 c.args.first h.2.at h.2.writes h.2 in
     let next = c.requires.nexts.each c.args.first c.args.first (Some c.in-Some-nexts.second) (inl own) (slice_get-get_or c.args.nexts.now c.args.first _ c.requires.first ∙ ap Some c.in-Some-nexts.is) in
     let second = c.began_by-in-Some-nexts.ensures in (
@@ -71,9 +71,9 @@ returns-else-began_by c =
 pub returns-in-None : goal.returns-in-None
 returns-in-None c =
     let part = c.args.part.now in
-    let of = c.state.ensures in
+    let of = c.places.ensures in
     let h = c.requires.classes.each c.args.i of.0 (class.Answers c.args.first) of.1 c.requires.read in
-    let same = place_is of.0 h.1.response c.state.result.response c.in-Some.place of.2.response c.in-Some.is h.1.responds in
+    let same = place_is of.0 h.1.response c.places.result.response c.in-Some.place of.2.response c.in-Some.is h.1.responds in
     let own = class_of_write part c.args.classes.now c.requires.classes c.args.first h.2.write h.0 c.args.first h.2.at h.2.writes h.2 in
     let next = c.requires.nexts.each c.args.first c.args.first None (inl own) (slice_get-get_or c.args.nexts.now c.args.first _ c.requires.first ∙ ap Some c.in-None.is) in (
       of.0,

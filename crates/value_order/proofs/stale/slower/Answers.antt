@@ -11,10 +11,10 @@ returns-in_default c = record { is = inl refl; new = ends_itself c.args.part.now
 pub returns-then-other-end : goal.returns-then-other-end
 returns-then-other-end c =
     let part = c.args.part.now in
-    let a = c.state.ensures in
-    let b = c.state-2.ensures in
-    let p = has_place a.0 c.state.result.response c.in-Some-response.end a.2.response c.in-Some-response.is in
-    let q = has_place b.0 c.state-2.result.response c.in-Some-response-2.other b.2.response c.in-Some-response-2.is in
+    let a = c.places.ensures in
+    let b = c.places-2.ensures in
+    let p = has_place a.0 c.places.result.response c.in-Some-response.end a.2.response c.in-Some-response.is in
+    let q = has_place b.0 c.places-2.result.response c.in-Some-response-2.other b.2.response c.in-Some-response-2.is in
     record {
       is = inl refl;
       new = ends_itself part c.args.i;
@@ -24,10 +24,10 @@ returns-then-other-end c =
 pub returns-else-other-end : goal.returns-else-other-end
 returns-else-other-end c =
     let part = c.args.part.now in
-    let a = c.state.ensures in
-    let b = c.state-2.ensures in
-    let p = has_place a.0 c.state.result.response c.in-Some-response.end a.2.response c.in-Some-response.is in
-    let q = has_place b.0 c.state-2.result.response c.in-Some-response-2.other b.2.response c.in-Some-response-2.is in
+    let a = c.places.ensures in
+    let b = c.places-2.ensures in
+    let p = has_place a.0 c.places.result.response c.in-Some-response.end a.2.response c.in-Some-response.is in
+    let q = has_place b.0 c.places-2.result.response c.in-Some-response-2.other b.2.response c.in-Some-response-2.is in
     record {
       is = inr c.in-Some.is;
       new = ends_by part c.args.i c.in-Some.slow b.0 a.0 q.0 p.0 b.1 a.1 q.1 p.1 (omega (arith, p.2, q.2, c.if-other-end.false));

@@ -41,19 +41,19 @@ loop-i-preserved c =
     let source_at = slice_get-get_or c.args.sources.now i _ within in
     elim c.match-family_of.branch [
       | in-Some+in-Some-response+then-end-row w ↦
-          let of = w.state-state.ensures in
+          let of = w.places-own.ensures in
           let f = source_family part i w.in-Some.family of.0 _ of.1 (c.requires.each i of.0 _ of.1 source_at) (sym c.family_of.ensures ∙ w.in-Some.is) in
-          let r = has_place of.0 w.state-state.result.response w.in-Some-response.end of.2.response w.in-Some-response.is in
+          let r = has_place of.0 w.places-own.result.response w.in-Some-response.end of.2.response w.in-Some-response.is in
           let small = slice_get_within part w.in-Some.family f.0 f.1 in
           let here = item_at zones w.in-Some.family w.index.result.now (omega (arith, small, c.loop-i.invariant.all)) w.index.ensures in
           rw w.zones-is (zones_more part (IsOnlyWriter part) row i zones of.0 of.1 sequence (λ x y. one_family part x y of.0) w.in-Some.family f.0 w.index.result.now w.zone_with.result f.1 here f.2
           (record { response = r.0; responds = r.1; by = omega (arith, r.2, w.if-end-row.true) })
-          (answered_at w.index.result.now w.zone_with.result w.in-Some-response.end w.state-state.result.invoked r.0.place of.0.invoked r.2 of.2.invoked w.zone_with.ensures) c.loop-i.invariant)
+          (answered_at w.index.result.now w.zone_with.result w.in-Some-response.end w.places-own.result.invoked r.0.place of.0.invoked r.2 of.2.invoked w.zone_with.ensures) c.loop-i.invariant)
       | in-Some+in-Some-response+else-end-row w ↦
-          let of = w.state-state.ensures in
-          rw w.zones-is (zones_same part (IsOnlyWriter part) row i zones of.0 of.1 (λ write f a. (let p = place_is of.0 a.response w.state-state.result.response w.in-Some-response.end of.2.response w.in-Some-response.is a.responds in omega (arith, a.by, w.if-end-row.false))) c.loop-i.invariant)
+          let of = w.places-own.ensures in
+          rw w.zones-is (zones_same part (IsOnlyWriter part) row i zones of.0 of.1 (λ write f a. (let p = place_is of.0 a.response w.places-own.result.response w.in-Some-response.end of.2.response w.in-Some-response.is a.responds in omega (arith, a.by, w.if-end-row.false))) c.loop-i.invariant)
       | in-Some+in_default-response w ↦
-          let of = w.state-state.ensures in
+          let of = w.places-own.ensures in
           rw w.zones-is (zones_same part (IsOnlyWriter part) row i zones of.0 of.1 (λ write f a. w.in_default-response.not-Some a.response.place (of.2.response ∙ ap place_in a.responds)) c.loop-i.invariant)
       | in_default w ↦
           let call = get_at part i inside in
