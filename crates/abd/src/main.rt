@@ -13,9 +13,10 @@ use cli::{
     usage_command,
 };
 use command_line::{CheckAsked, Command, DecideAsked, DrawAsked, KeysAsked, command};
-use decide_command::{Deciding, decide_command};
+use decide_command::Deciding;
 use draw_command::Drawn;
-use explain_command::{Presentation, Selection, judge_orders_command, judge_tags_command};
+use explain_command::Explaining;
+use judged_keys::{Presentation, Selection, judge_history_command, judge_orders_command};
 use run_command::{KeyWatch, NoWatch, Watch, run_command};
 use run_options::RunAsked;
 use std::fs::File;
@@ -119,48 +120,45 @@ fn check(
     })
 }
 
-/// Decides the history's keys by their values. Of a faulty file it explains what is wrong with it.
-fn decide(rt: &HostRuntime, threads: &(impl Threads + Sync), asked: &DecideAsked<'_>) -> Ending {
-    let deciding = Deciding::of(asked);
-    let ending = on_file(rt, asked.history, |history, out, errors| {
-        decide_command(threads, rt.alloc(), history, &deciding, out, errors)
-    });
+/// Judges the keys of the history, by the orders if there are some, and shows them so. Of a faulty file it
+/// explains what is wrong with it.
+fn judge(
+    rt: &HostRuntime,
+    threads: &(impl Threads + Sync),
+    history: &str,
+    orders: Option<&str>,
+    shown: &impl Presentation,
+) -> Ending {
+    let ending = match orders {
+        Some(orders) => on_both(rt, history, orders, |history, orders, out, errors| {
+            judge_orders_command(threads, rt.alloc(), history, orders, shown, out, errors)
+        }),
+        None => on_file(rt, history, |history, out, errors| {
+            judge_history_command(threads, rt.alloc(), history, shown, out, errors)
+        }),
+    };
     if ending.has_fault() {
-        explain_faults(rt, threads, asked.history, None);
+        explain_faults(rt, threads, history, orders);
     }
     ending
 }
 
-/// Judges the history's keys by the orders, or without orders by the tags, and shows them so. Of a faulty
-/// file it explains what is wrong with it.
-fn judge(
-    rt: &HostRuntime,
-    threads: &(impl Threads + Sync),
-    keys: &KeysAsked<'_>,
-    shown: &impl Presentation,
-) -> Ending {
-    let ending = match keys.orders {
-        Some(orders) => on_both(rt, keys.history, orders, |history, orders, out, errors| {
-            judge_orders_command(threads, rt.alloc(), history, orders, shown, out, errors)
-        }),
-        None => on_file(rt, keys.history, |history, out, errors| {
-            judge_tags_command(threads, rt.alloc(), history, shown, out, errors)
-        }),
-    };
-    if ending.has_fault() {
-        explain_faults(rt, threads, keys.history, keys.orders);
-    }
-    ending
+/// Decides the history's keys by their values.
+fn decide(rt: &HostRuntime, threads: &(impl Threads + Sync), asked: &DecideAsked<'_>) -> Ending {
+    judge(rt, threads, asked.history, None, &Deciding::of(asked))
 }
 
 /// Explains the history's keys.
 fn explain(rt: &HostRuntime, threads: &(impl Threads + Sync), asked: &KeysAsked<'_>) -> Ending {
-    judge(rt, threads, asked, &Selection::of(asked))
+    let selection = Selection::of(asked);
+    let explaining = Explaining { selection };
+    judge(rt, threads, asked.history, asked.orders, &explaining)
 }
 
 /// Draws the calls of the history's keys.
 fn draw(rt: &HostRuntime, threads: &(impl Threads + Sync), asked: &DrawAsked<'_>) -> Ending {
-    judge(rt, threads, &asked.keys, &Drawn::of(asked))
+    let keys = &asked.keys;
+    judge(rt, threads, keys.history, keys.orders, &Drawn::of(asked))
 }
 
 /// Justifies the history, or writes the orders that its tags make.

@@ -31,4 +31,4 @@ pub use simulate::simulate_command;
 pub use sources::{Source, orders_in};
 pub use status::{Failure, Status, say};
 pub use usage::usage_command;
-pub use verdict_lines::append_line;
+pub use verdict_lines::append_verdict;

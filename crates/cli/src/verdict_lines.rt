@@ -19,8 +19,8 @@ pub(crate) fn append_fault(text: &mut Vec<u8>, fault: Fault) -> Result<(), Memor
     }
 }
 
-/// Says the verdict.
-fn append_verdict(text: &mut Vec<u8>, verdict: Verdict) -> Result<(), Memory>
+/// Says the verdict. Without memory a beginning of it may have been added.
+pub fn append_verdict(text: &mut Vec<u8>, verdict: Verdict) -> Result<(), Memory>
     ensures { OnOk result (text.new.items ≡ text.old.items ++ verdict_text verdict) }
 {
     append(text, verdict.word())?;
@@ -32,7 +32,7 @@ fn append_verdict(text: &mut Vec<u8>, verdict: Verdict) -> Result<(), Memory>
 
 /// Says the verdict on a key's order, on a line of its own.
 #[tactic(auto, unfolding(crate::specs::VerdictLines::line_text))]
-pub fn append_line(text: &mut Vec<u8>, key: &Key, verdict: Verdict) -> Result<(), Memory>
+pub(crate) fn append_line(text: &mut Vec<u8>, key: &Key, verdict: Verdict) -> Result<(), Memory>
     ensures { OnOk result (text.new.items ≡ text.old.items ++ line_text key.now verdict) }
 {
     append(text, key.as_str())?;

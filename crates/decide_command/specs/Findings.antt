@@ -9,9 +9,8 @@ use Rattle.value_order.specs.declared.decision.Doubt.{Doubt}
 use Rattle.cli.specs.Checks.{IsHallPart}
 use Rattle.cli.specs.declared.outcome.Found.{Found}
 use Rattle.cli.specs.declared.outcome.Found.TheVariants as found
-use Rattle.decide_command.specs.KeyVerdicts.{IsUndecided}
-use Rattle.decide_command.specs.Selected.{is_missing, is_selected, names_of}
-use Rattle.decide_command.specs.declared.deciding.Deciding.{Deciding}
+use Rattle.judged_keys.specs.Findings.{IsUndecided}
+use Rattle.judged_keys.specs.Selected.{is_missing, is_selected}
 
 module _ (halls : List Recorded) (key : List ℕ) where
   -- the key's calls have an order
@@ -33,16 +32,16 @@ module _ (halls : List Recorded) (key : List ℕ) where
     pub doubt : Doubt
     pub undecided : IsUndecided part doubt
 
--- a selected key is such
-abbrev pub HasSelected : Deciding → (List ℕ → Type 0) → Type 0
-HasSelected deciding Is = (key : List ℕ) × (is_selected (names_of deciding) key ≡ true) × Is key
+module _ (names : List (List ℕ)) where
+  -- a key of these names is such, each key if none is given
+  abbrev pub HasSelected : (List ℕ → Type 0) → Type 0
+  HasSelected Is = (key : List ℕ) × (is_selected names key ≡ true) × Is key
 
-module _ (deciding : Deciding) (halls : List Recorded) (keys : List CheckedKey) where
-  -- good: each selected key has an order. Refused: one has none, or a name is no key's.
-  -- Undecided: one is
-  abbrev pub Finds : Found → Type 0
-  Finds found.Good =
-      (key : List ℕ) → is_selected (names_of deciding) key ≡ true → HasOrder halls key
-  Finds found.Refused = HasSelected deciding (HasNoOrder halls)
-      ⊎ (list_any (is_missing keys) (names_of deciding) ≡ true)
-  Finds found.Undecided = HasSelected deciding (IsLeftOpen halls)
+  module _ (halls : List Recorded) (keys : List CheckedKey) where
+    -- good: each selected key has an order. Refused: one has none, or a name is no key's.
+    -- Undecided: one is
+    abbrev pub Finds : Found → Type 0
+    Finds found.Good = (key : List ℕ) → is_selected names key ≡ true → HasOrder halls key
+    Finds found.Refused = HasSelected (HasNoOrder halls)
+        ⊎ (list_any (is_missing keys) names ≡ true)
+    Finds found.Undecided = HasSelected (IsLeftOpen halls)

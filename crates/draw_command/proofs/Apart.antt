@@ -12,10 +12,13 @@ use Rattle.parallel_keys.specs.Histories.{AreHallParts}
 use Rattle.cli.proofs.Entries.{contains_nothing}
 use Rattle.linearization_points.specs.Points.{AreApart}
 use Rattle.linearization_points.proofs.RunningPoints.{apart}
-use Rattle.draw_command.specs.Findings.{AreJudged, IsFinding, Judgement, is_no, refused_first}
-use Rattle.draw_command.specs.Judging.{IsDrawable, judgement_of}
-use Rattle.draw_command.specs.declared.finding.JudgedKey.{JudgedKey}
-use Rattle.explain_command.specs.declared.judged.Judged.{Judged}
+use Rattle.judged_keys.specs.Findings.{IsFinding, is_refused}
+use Rattle.judged_keys.specs.Files.{HaveKeys}
+use Rattle.recorder.specs.Halls.{RecordedHalls}
+use Rattle.judged_keys.specs.Judgements.{AreJudged, Judgement, judgement_of, refused_first}
+use Rattle.judged_keys.specs.declared.finding.JudgedKey.{JudgedKey}
+use Rattle.judged_keys.specs.declared.judged.Judged.{Judged}
+use Rattle.draw_command.specs.Drawings.{IsDrawable}
 
 nothing_apart : AreApart []
 nothing_apart = λ a b response first second is same. contains_nothing a first
@@ -32,7 +35,7 @@ entries_apart (history ∷ halls) (own ∷ parts) are =
     (entries_apart halls parts (record { all = let same = are.all in omega (arith, same); each = λ hall later mine at_history at_own. are.each (suc hall) later mine at_history at_own }))
 
 -- each key that is checked
-pub checked_apart : (halls : List Recorded) (parts : List KeyParts) (orders : List KeyOrder) → AreHallParts halls parts → All (λ (one : CheckedKey). AreApart one.part) (checked_keys (all_parts parts) orders)
+checked_apart : (halls : List Recorded) (parts : List KeyParts) (orders : List KeyOrder) → AreHallParts halls parts → All (λ (one : CheckedKey). AreApart one.part) (checked_keys (all_parts parts) orders)
 checked_apart halls parts orders are =
     let P = λ (one : CheckedKey). AreApart one.part in
     let entries = all_parts parts in
@@ -41,25 +44,29 @@ checked_apart halls parts orders are =
     (All-map P (recorded_key orders) entries (entries_apart halls parts are))
     (All-map P other_key others (All-weaker (Contains others) (λ (one : KeyOrder). AreApart []) (λ one h. nothing_apart) others (All-contains_itself others)))
 
+-- each of the keys of histories
+pub keys_apart : (histories : RecordedHalls) (orders : List KeyOrder) (keys : List CheckedKey) → HaveKeys histories orders keys → All (λ (one : CheckedKey). AreApart one.part) keys
+keys_apart histories orders keys have = All-same (λ (one : CheckedKey). AreApart one.part) keys (checked_keys (all_parts have.parts) orders) have.are (checked_apart histories.halls have.parts orders have.recorded)
+
 -- keys that were judged can be drawn
 drawable_each : (judged : Judged) (js : List Judgement) → All (λ (j : Judgement). IsFinding judged j.one j.finding) js → All (λ (one : CheckedKey). AreApart one.part) (map (λ (j : Judgement). j.one) js)
-    → All (IsDrawable judged) js
-drawable_each judged [] found apart_all = All-nil (IsDrawable judged)
+    → All IsDrawable js
+drawable_each judged [] found apart_all = All-nil IsDrawable
 drawable_each judged (j ∷ js) found apart_all =
     let F = λ (k : Judgement). IsFinding judged k.one k.finding in
     let A = λ (one : CheckedKey). AreApart one.part in
     let rest = map (λ (k : Judgement). k.one) js in
-    All-cons (IsDrawable judged) j js (record { found = All-head F j js found; apart = All-head A j.one rest apart_all })
+    All-cons IsDrawable j js (record { found = (All-head F j js found).so; apart = All-head A j.one rest apart_all })
     (drawable_each judged js (All-tail F j js found) (All-tail A j.one rest apart_all))
 
 pub drawable : (judged : Judged) (keys : List CheckedKey) (all : List Judgement) (ordered : List JudgedKey) → AreJudged judged keys all → All (λ (one : CheckedKey). AreApart one.part) keys
-    → map judgement_of ordered ≡ refused_first all → All (IsDrawable judged) (map judgement_of ordered)
+    → map judgement_of ordered ≡ refused_first all → All IsDrawable (map judgement_of ordered)
 drawable judged keys all ordered are apart_all in_order =
-    let D = IsDrawable judged in
+    let D = IsDrawable in
     let each = drawable_each judged all are.found (All-same (λ (one : CheckedKey). AreApart one.part) (map (λ (j : Judgement). j.one) all) keys are.each_key apart_all) in
     All-same D (map judgement_of ordered) (refused_first all) in_order
-    (All-append D (filter (λ (j : Judgement). is_no j.finding) all) (filter (λ (j : Judgement). not (is_no j.finding)) all)
-    (All-filter (λ (j : Judgement). is_no j.finding) D all each) (All-filter (λ (j : Judgement). not (is_no j.finding)) D all each))
+    (All-append D (filter (λ (j : Judgement). is_refused j.finding) all) (filter (λ (j : Judgement). not (is_refused j.finding)) all)
+    (All-filter (λ (j : Judgement). is_refused j.finding) D all each) (All-filter (λ (j : Judgement). not (is_refused j.finding)) D all each))
 
 -- what holds of each judged key holds of the one that was read
 pub read_one : (P : Judgement → Type 0) (keys : List JudgedKey) (n : ℕ) (key : JudgedKey) → All P (map judgement_of keys) → n < length keys → key ≡ get_or keys n key → P (judgement_of key)

@@ -5,11 +5,10 @@ use Rattle.std.proofs.Math.ListN.{get_or-map}
 use Rattle.std.proofs.lemmas.Bool.{cases_lt}
 use Rattle.std.proofs.lemmas.List.{length-map, length-take, length-take-le, take-map, take-take, take_all}
 use Rattle.std.proofs.lemmas.List.Sums.{sum_by-take-le, sum_by_more}
-use Rattle.draw_command.specs.Findings.{Judgement}
-use Rattle.draw_command.specs.Judging.{judgement_of}
+use Rattle.judged_keys.specs.Judgements.{Judgement, judgement_of}
+use Rattle.judged_keys.specs.declared.finding.JudgedKey.{JudgedKey}
 use Rattle.draw_command.specs.Pictured.{ArePictured, Fit, page_calls, window_size}
 use Rattle.draw_command.specs.declared.drawn.Drawn.{Drawn}
-use Rattle.draw_command.specs.declared.finding.JudgedKey.{JudgedKey}
 
 -- the calls of the first so many, with one key more
 pub one_more : (f : Judgement → ℕ) (keys : List JudgedKey) (n : ℕ) (key : JudgedKey) → n < length keys → key ≡ get_or keys n key
@@ -33,7 +32,7 @@ module _ (drawn : Drawn) (keys : List JudgedKey) where
   front n m le = ap (λ (l : List Judgement). take n l) (sym (take-map judgement_of m keys)) ∙ take-take n m (map judgement_of keys) le
 
   -- a page has room for the first n, and none for one more
-  pub no_room : (m n : ℕ) → m ≤ drawn.most → n < length (take m keys) → sum_by (window_size drawn) (take n (map judgement_of (take m keys))) ≤ page_calls
+  pub no_room : (m n : ℕ) → m ≤ drawn.selection.most → n < length (take m keys) → sum_by (window_size drawn) (take n (map judgement_of (take m keys))) ≤ page_calls
       → page_calls < sum_by (window_size drawn) (take (n + 1) (map judgement_of (take m keys))) → ArePictured drawn (map judgement_of keys) n
   unfolding js
   no_room m n asked within room none = record { fit = record { asked = omega (arith, asked, below); there = omega (arith, below, all); room = subst (λ (l : List Judgement). sum_by (window_size drawn) l ≤ page_calls) (front n m (omega (arith, below))) room }; most = most }
@@ -54,7 +53,7 @@ module _ (drawn : Drawn) (keys : List JudgedKey) where
       ]
 
   -- a page has room for all that are to be drawn
-  pub all_fit : (m n : ℕ) → m ≡ min (length keys) drawn.most → length (take m keys) ≤ n → sum_by (window_size drawn) (take n (map judgement_of (take m keys))) ≤ page_calls
+  pub all_fit : (m n : ℕ) → m ≡ min (length keys) drawn.selection.most → length (take m keys) ≤ n → sum_by (window_size drawn) (take n (map judgement_of (take m keys))) ≤ page_calls
       → ArePictured drawn (map judgement_of keys) (length (take m keys))
   unfolding js
   all_fit m n is over room = subst (ArePictured drawn (map judgement_of keys)) (sym counted) (record { fit = record { asked = omega (arith, is); there = omega (arith, is, all); room = fits }; most = λ k fit. let at = fit.asked in let there = fit.there in omega (arith, is, all, at, there) })

@@ -8,8 +8,7 @@ use Rattle.markup.specs.declared.names.Element.TheVariants as tag
 use Rattle.draw_command.specs.Frames.{above_content, above_styles, below_content, language, metas_markup, page_frame}
 use Rattle.history_file.specs.declared.numbered_format.NumberedHistories.{NumberedHistories}
 use Rattle.pictures.specs.declared.picture.Picture.{Picture}
-use Rattle.explain_command.specs.declared.judged.Judged.{Judged}
-use Rattle.draw_command.specs.Findings.{Judgement}
+use Rattle.judged_keys.specs.Judgements.{Judgement}
 use Rattle.draw_command.specs.Making.{Adds}
 use Rattle.draw_command.specs.Pages.{IsFramed, IsPictureOf, IsSectionOf, section_markup}
 use Rattle.draw_command.specs.declared.drawn.Drawn.{Drawn}
@@ -56,6 +55,6 @@ content_added front below IsTable IsSections old a b d new first tabled under dr
     (all.0, (t.0, t.3.0, t.2, t.3.1, all.1.2 ∙ ap (λ (m : Markup). both front m) (t.4 ∙ ap (λ (m : Markup). both t.0 m) t.3.2)), all.2)
 
 -- the section of a picture
-pub section_added : (judged : Judged) (numbered : NumberedHistories) (drawn : Drawn) (n : ℕ) (key : Judgement) (words : List ℕ) (picture : Picture) → IsPictureOf judged numbered drawn key words picture
-    → (old new : List ℕ) → new ≡ old ++ rendered (section_markup n key words picture) → Adds (IsSectionOf judged numbered drawn n key) old new
-section_added judged numbered drawn n key words picture is old new added = (section_markup n key words picture, (words, picture, is, refl), added)
+pub section_added : (numbered : NumberedHistories) (drawn : Drawn) (n : ℕ) (key : Judgement) (words : List ℕ) (picture : Picture) → IsPictureOf numbered drawn key words picture
+    → (old new : List ℕ) → new ≡ old ++ rendered (section_markup n key words picture) → Adds (IsSectionOf numbered drawn n key) old new
+section_added numbered drawn n key words picture is old new added = (section_markup n key words picture, (words, picture, is, refl), added)

@@ -1,36 +1,44 @@
 -- What is drawn of a key: the calls that are shown, the linearization points of a key that isn't
 -- refused, and of a refused one the calls that show why, with the sentences that say it.
 use Rattle.std.specs.Prelude.{ℕ, ◌≡◌, List, [], ◌∷◌, Option, None, Some, nat_lt, slice_get}
-use Rattle.std.specs.Prelude.{if◌then◌else◌}
+use Rattle.std.specs.Prelude.{unwrap_or, if◌then◌else◌}
 use Rattle.command_line.specs.Forms.{default_calls, default_most}
 use Rattle.tag.specs.declared.numbers.OpId.{OpId}
 use Rattle.recorder.specs.declared.part.Call.{Call}
 use Rattle.recorder.specs.Sound.{IsByTag}
 use Rattle.parallel_keys.specs.CheckedKeys.{CheckedKey}
-use Rattle.reasons.specs.OrderReasons.{IsOrderReason}
-use Rattle.reasons.specs.TagReasons.{IsTagReason}
 use Rattle.reasons.specs.declared.order_reasons.OrderReason.{OrderReason}
 use Rattle.reasons.specs.declared.order_reasons.OrderReason.TheVariants as order_reason
 use Rattle.reasons.specs.declared.tag_reasons.TagReason.{TagReason}
 use Rattle.reasons.specs.declared.tag_reasons.TagReason.TheVariants as tag_reason
 use Rattle.explanations.specs.declared.hall_rows.HallRows.{HallRows}
-use Rattle.explanations.specs.Sentences.{order_reason_text, tag_reason_text}
-use Rattle.linearization_points.specs.Points.{ArePoints}
+use Rattle.value_explanations.specs.declared.value_reasons.ValueReason.{ValueReason}
+use Rattle.value_explanations.specs.declared.value_reasons.ValueReason.TheVariants as value_reason
+use Rattle.linearization_points.specs.Points.{AreApart, ArePoints}
 use Rattle.scenes.specs.Scenes.{IsRisingListOf, IsSceneOf}
 use Rattle.scenes.specs.Windows.{IsToShow, IsWindowAround}
 use Rattle.scenes.specs.declared.scene.Scene.{Scene}
 use Rattle.scenes.specs.declared.windows.Window.{Window}
-use Rattle.draw_command.specs.Findings.{Judgement}
+use Rattle.judged_keys.specs.Findings.{IsSo}
+use Rattle.judged_keys.specs.Judgements.{Judgement}
+use Rattle.judged_keys.specs.Selected.{names_of}
+use Rattle.judged_keys.specs.declared.finding.Finding.{Finding}
+use Rattle.judged_keys.specs.declared.finding.Finding.TheVariants as finding
+use Rattle.judged_keys.specs.declared.judged.Judged.TheVariants as judged
+use Rattle.explain_command.specs.Reasons.{IsReason, reason_text}
+use Rattle.explain_command.specs.declared.reason.Reason.{Reason}
+use Rattle.explain_command.specs.declared.reason.Reason.TheVariants as reason
 use Rattle.draw_command.specs.declared.drawn.Drawn.{Drawn}
-use Rattle.draw_command.specs.declared.finding.Finding.{Finding}
-use Rattle.draw_command.specs.declared.finding.Finding.TheVariants as finding
-use Rattle.explain_command.specs.declared.judged.Judged.{Judged}
-use Rattle.explain_command.specs.declared.judged.Judged.TheVariants as judged
+use Rattle.draw_command.specs.declared.key_scene.DrawnOrder.{DrawnOrder}
+use Rattle.draw_command.specs.declared.key_scene.DrawnOrder.TheVariants as drawn_order
 
 -- what is drawn where nothing else is asked for
-abbrev pub default_drawn : Drawn
-default_drawn =
-    record { key = None; most = default_most; calls = default_calls; around = None }
+pub record IsDefault (drawn : Drawn) : Type 0 where
+  pub judged_by : drawn.selection.judged ≡ judged.Tags
+  pub all : names_of drawn.selection ≡ []
+  pub most : drawn.selection.most ≡ default_most
+  pub calls : drawn.calls ≡ default_calls
+  pub around : drawn.around ≡ None
 
 -- ---- why a key is refused
 
@@ -62,16 +70,33 @@ tag_calls (tag_reason.OtherValue read None unnoted) = read.op ∷ call_numbers u
 tag_calls (tag_reason.OtherValue read (Some write) unnoted) =
     read.op ∷ write.op ∷ call_numbers unnoted
 
-module _ (hall : HallRows) where
-  -- why a key is refused: the sentences of its reason, and the calls that these name; of a yes none
-  abbrev pub IsWhy : CheckedKey → Finding → List ℕ → List OpId → Type 0
-  IsWhy one finding.Yes text calls = (text ≡ []) × (calls ≡ [])
-  IsWhy one (finding.OrderFault fault) text calls = (reason : OrderReason)
-      × IsOrderReason one.part one.order fault reason
-      × (text ≡ order_reason_text one.key hall reason) × (calls ≡ order_calls reason)
-  IsWhy one (finding.TagFault rule) text calls = (reason : TagReason)
-      × IsTagReason one.part rule reason
-      × (text ≡ tag_reason_text one.key hall reason) × (calls ≡ tag_calls reason)
+-- the calls of the reason why values give no order
+abbrev pub value_calls : ValueReason → List OpId
+value_calls (value_reason.NoWrite read) = read.op ∷ []
+value_calls (value_reason.Early read write) = read.op ∷ write.op ∷ []
+value_calls (value_reason.LateNothing read earlier) = read.op ∷ earlier.op ∷ []
+value_calls (value_reason.Opposed one other) = one.first_ended.op ∷ other.last_begun.op
+    ∷ other.first_ended.op ∷ one.last_begun.op ∷ []
+value_calls (value_reason.Overwritten read first second between) =
+    read.op ∷ first.op ∷ second.op ∷ between.op ∷ []
+
+-- the calls of a reason
+abbrev pub reason_calls : Reason → List OpId
+reason_calls (reason.Order r) = order_calls r
+reason_calls (reason.Tags r) = tag_calls r
+reason_calls (reason.Values r stale reads) = value_calls r
+
+-- the sentences of the reason, if there is one, and the calls that these name
+abbrev pub NamesCalls : HallRows → List ℕ → Option Reason → List ℕ → List OpId → Type 0
+NamesCalls hall key None text calls = (text ≡ []) × (calls ≡ [])
+NamesCalls hall key (Some r) text calls =
+    (text ≡ reason_text key hall r) × (calls ≡ reason_calls r)
+
+-- why a key is refused: the sentences of its reason, and the calls that these name; of any other
+-- key none
+abbrev pub IsWhy : HallRows → Judgement → List ℕ → List OpId → Type 0
+IsWhy hall j text calls =
+    (r : Option Reason) × IsReason j r × NamesCalls hall j.one.key r text calls
 
 -- ---- which calls are shown, and with which points
 
@@ -85,32 +110,40 @@ abbrev pub center : Option ℕ → List OpId → Option OpId
 center (Some n) faulty = numbered_call n
 center None faulty = slice_get faulty 0
 
--- the order that shows a key to be a yes: the one that was judged, or the one that the tags make
-abbrev pub ShowsYes : Judged → CheckedKey → List OpId → Type 0
-ShowsYes judged.Orders one order = order ≡ one.order
-ShowsYes judged.Tags one order = IsByTag one.part order
+-- an order that is drawn, if one is
+abbrev pub order_in : DrawnOrder → Option (List OpId)
+order_in (drawn_order.Given order) = Some order.now
+order_in (drawn_order.Made order) = Some order
+order_in drawn_order.Nothing = None
 
--- the points of a picture, with the order whose they are: linearization points of the order that
--- shows the key to be a yes; of a refused key none
-abbrev pub AreDrawnPoints : Judged → CheckedKey → Finding → List OpId → List ℕ → Type 0
-AreDrawnPoints judged one finding.Yes order points =
-    ShowsYes judged one order × ArePoints one.part order points
-AreDrawnPoints judged one f order points = (order ≡ []) × (points ≡ [])
+-- the order that is drawn of a key of which that was found: the key's own, which is one of its
+-- calls, or the one that its sound tags make; of any other key none
+abbrev pub IsDrawnOrder : CheckedKey → Finding → Option (List OpId) → Type 0
+IsDrawnOrder one finding.Ordered drawn = drawn ≡ Some one.order
+IsDrawnOrder one finding.Sound drawn =
+    (order : List OpId) × IsByTag one.part order × (drawn ≡ Some order)
+IsDrawnOrder one f drawn = drawn ≡ None
 
--- the scene of a part's calls around one of them, and of those that show why its key is refused,
--- with those points of that order
-pub record IsSceneAround (drawn : Drawn) (hall : HallRows) (part : List Call) (faulty : List OpId)
-    (order : List OpId) (points : List ℕ) (scene : Scene) : Type 0 where
-  pub window : Window
-  pub around : IsWindowAround part drawn.calls (center drawn.around faulty) window
-  pub shown : List ℕ
-  pub calls : IsRisingListOf (IsToShow part window faulty) shown
-  pub is : IsSceneOf part shown hall.history.now.rows order points scene
+-- the linearization points of the order that is drawn; of none no points
+abbrev pub AreDrawnPoints : List Call → Option (List OpId) → List ℕ → Type 0
+AreDrawnPoints part (Some order) points = ArePoints part order points
+AreDrawnPoints part None points = points ≡ []
 
--- the scene of a key that was judged
-pub record IsKeyScene (judged : Judged) (drawn : Drawn) (hall : HallRows) (key : Judgement)
-    (faulty : List OpId) (scene : Scene) : Type 0 where
-  pub order : List OpId
+-- the scene of a key that was judged: of its calls around one of them, and of those that show why
+-- it is refused, with the points of the order that is drawn
+pub record IsKeyScene (drawn : Drawn) (hall : HallRows) (key : Judgement) (faulty : List OpId)
+    (scene : Scene) : Type 0 where
+  pub order : Option (List OpId)
+  pub chosen : IsDrawnOrder key.one key.finding order
   pub points : List ℕ
-  pub drawn_points : AreDrawnPoints judged key.one key.finding order points
-  pub is : IsSceneAround drawn hall key.one.part faulty order points scene
+  pub points_are : AreDrawnPoints key.one.part order points
+  pub window : Window
+  pub around : IsWindowAround key.one.part drawn.calls (center drawn.around faulty) window
+  pub shown : List ℕ
+  pub calls : IsRisingListOf (IsToShow key.one.part window faulty) shown
+  pub is : IsSceneOf key.one.part shown hall.history.now.rows (unwrap_or order []) points scene
+
+-- that was found of the key, and no call begins where another one ends
+pub record IsDrawable (key : Judgement) : Type 0 where
+  pub found : IsSo key.one key.finding
+  pub apart : AreApart key.one.part

@@ -1,5 +1,3 @@
-pub mod Findings
-pub mod Judging
 pub mod Counts
 pub mod Drawings
 pub mod Pictured

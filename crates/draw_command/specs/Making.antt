@@ -1,26 +1,21 @@
 -- A page in the making.
-use Rattle.std.specs.Prelude.{ℕ, ◌≡◌, Bool, List, [], ◌++◌}
+use Rattle.std.specs.Prelude.{ℕ, ◌≡◌, List, [], ◌++◌}
 use Rattle.markup.specs.Markup.{Markup, page_text, rendered}
 use Rattle.history_file.specs.declared.numbered_format.NumberedHistories.{NumberedHistories}
 use Rattle.parallel_keys.specs.CheckedKeys.{CheckedKey}
-use Rattle.cli.specs.Outcomes.{found_of}
 use Rattle.cli.specs.declared.outcome.Outcome.{Outcome}
 use Rattle.draw_command.specs.HistoryPictures.{IsJudgedContent}
 use Rattle.draw_command.specs.Pages.{IsFramed, page_markup}
 use Rattle.draw_command.specs.declared.drawn.Drawn.{Drawn}
-use Rattle.explain_command.specs.declared.judged.Judged.{Judged}
 
 -- something of which that holds was added to the page
 abbrev pub Adds : (Markup → Type 0) → List ℕ → List ℕ → Type 0
 Adds Is old new = (markup : Markup) × Is markup × (new ≡ old ++ rendered markup)
 
-module _ (judged : Judged) (drawn : Drawn) where
-  -- the page of those of the keys that are selected, and whether it is good
-  pub record IsMadeOf (numbered : NumberedHistories) (all : List CheckedKey) (outcome : Outcome)
-      : Type 0 where
-    pub good : Bool
-    pub is : outcome.found ≡ found_of good
-    pub page : Markup
-    pub page_is : IsFramed page_markup (IsJudgedContent numbered drawn judged all good) page
-    pub text : outcome.text.items ≡ page_text page
-    pub quiet : outcome.notes.items ≡ []
+-- the page of those of the keys that are selected, and what was found of all
+pub record IsMadeOf (drawn : Drawn) (numbered : NumberedHistories) (all : List CheckedKey)
+    (outcome : Outcome) : Type 0 where
+  pub page : Markup
+  pub page_is : IsFramed page_markup (IsJudgedContent numbered drawn all outcome.found) page
+  pub text : outcome.text.items ≡ page_text page
+  pub quiet : outcome.notes.items ≡ []

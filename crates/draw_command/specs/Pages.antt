@@ -1,5 +1,5 @@
 -- The page: a table of the keys, and for each of the first of them a section with its picture.
-use Rattle.std.specs.Prelude.{ℕ, zero, suc, ◌≡◌, ◌+◌, ◌-◌, List, [], ◌∷◌, ◌++◌, Option, None, Some}
+use Rattle.std.specs.Prelude.{ℕ, zero, suc, ◌≡◌, ◌+◌, ◌-◌, List, [], ◌∷◌, ◌++◌}
 use Rattle.std.specs.Prelude.{cond, decimal, length, nat_lt, take}
 use Rattle.std.specs.Str.Lines.{lines}
 use Rattle.std.specs.Str.Lossy.{utf8_lossy}
@@ -12,17 +12,17 @@ use Rattle.pictures.specs.Pictures.{picture_markup}
 use Rattle.pictures.specs.Sheets.{legend, style}
 use Rattle.pictures.specs.Tables.{table_markup as call_table}
 use Rattle.pictures.specs.declared.picture.Picture.{Picture}
-use Rattle.explain_command.specs.Explanations.{missing_text}
-use Rattle.explain_command.specs.KeyExplanations.{IsHallOfKey}
+use Rattle.judged_keys.specs.Findings.{is_refused}
+use Rattle.judged_keys.specs.Halls.{IsHallOfKey}
+use Rattle.judged_keys.specs.Judgements.{Judgement}
+use Rattle.judged_keys.specs.declared.finding.Finding.{Finding}
+use Rattle.explain_command.specs.Lines.{finding_line, missing_text}
 use Rattle.draw_command.specs.Counts.{AreCountsOf}
 use Rattle.draw_command.specs.Drawings.{IsKeyScene, IsWhy}
-use Rattle.draw_command.specs.Findings.{Judgement, finding_line, is_no}
 use Rattle.draw_command.specs.Frames.{page_frame}
 use Rattle.draw_command.specs.Pictured.{ArePictured}
 use Rattle.draw_command.specs.declared.counts.KeyCounts.{KeyCounts}
 use Rattle.draw_command.specs.declared.drawn.Drawn.{Drawn}
-use Rattle.draw_command.specs.declared.finding.Finding.{Finding}
-use Rattle.explain_command.specs.declared.judged.Judged.{Judged}
 use Rattle.draw_command.specs.declared.words.TheConstants as word
 
 -- ---- pieces
@@ -46,7 +46,7 @@ finding_said key = said (finding_line key.one.key key.finding)
 
 -- the class of a key that is refused, and of any other
 abbrev pub verdict_class : Finding → List ℕ
-verdict_class finding = cond (is_no finding) word.NO.now word.YES.now
+verdict_class finding = cond (is_refused finding) word.NO.now word.YES.now
 
 -- ---- the table
 
@@ -103,22 +103,17 @@ table_markup rows =
 abbrev pub table_size : ℕ
 table_size = 1000
 
--- how many keys have no row, and how many of these are refused, if any has none
-abbrev pub rest_line : ℕ → ℕ → Markup
-rest_line zero refused = nothing
-rest_line (suc count) refused =
-    counted word.REST.now word.MORE.now (suc count) word.MORE_REFUSED.now refused
-
--- how many keys have no picture, and how many of these are refused, if any has none
-abbrev pub undrawn_line : ℕ → ℕ → Markup
-undrawn_line zero refused = nothing
-undrawn_line (suc count) refused =
-    counted word.REST.now word.UNDRAWN.now (suc count) word.MORE_REFUSED.now refused
+-- after those words how many keys are left out, and how many of these are refused, if any is
+abbrev pub rest_line : List ℕ → ℕ → ℕ → Markup
+rest_line words zero refused = nothing
+rest_line words (suc count) refused =
+    counted word.REST.now words (suc count) word.MORE_REFUSED.now refused
 
 -- how many of so many keys, of which so many are refused, have no row, and how many no picture
 abbrev pub left_out : ℕ → ℕ → ℕ → Markup
-left_out pictured count refused = both (rest_line (count - table_size) (refused - table_size))
-    (undrawn_line (count - pictured) (refused - pictured))
+left_out pictured count refused =
+    both (rest_line word.MORE.now (count - table_size) (refused - table_size))
+    (rest_line word.UNDRAWN.now (count - pictured) (refused - pictured))
 
 -- what stands below the table: that, and what the pictures' signs mean
 abbrev pub below_table : ℕ → ℕ → ℕ → Markup
@@ -162,20 +157,14 @@ abbrev pub styles_markup : Markup
 styles_markup = both style (plain tag.Style word.STYLE.now)
 
 -- the line that says that no key has the name
-abbrev pub missing_name_line : List ℕ → Markup
-missing_name_line name = element tag.P (of_class word.MISSING.now) (said (missing_text name))
+abbrev pub missing_line : List ℕ → Markup
+missing_line name = element tag.P (of_class word.MISSING.now) (said (missing_text name))
 
--- the same of the name that is missing, if one is
-abbrev pub missing_line : Option (List ℕ) → Markup
-missing_line None = nothing
-missing_line (Some name) = missing_name_line name
-
--- what stands above the table: how many keys were judged and refused, and the key that was named,
--- if it is missing
-abbrev pub front_markup : ℕ → ℕ → Option (List ℕ) → Markup
+-- what stands above the table: how many keys were judged and refused, and the names that no key has
+abbrev pub front_markup : ℕ → ℕ → List (List ℕ) → Markup
 front_markup count refused missing = both
     (counted word.SUM.now word.KEYS_JUDGED.now count word.REFUSED.now refused)
-    (missing_line missing)
+    (each missing_line missing)
 
 -- the page around what it says and shows of keys
 abbrev pub page_markup : Markup → Markup
@@ -201,15 +190,15 @@ abbrev pub IsTableOf : ℕ → List Judgement → Markup → Type 0
 IsTableOf drawn keys table =
     IsFramed table_markup (IsEach (IsRowOf drawn) 0 (take table_size keys)) table
 
-module _ (judged : Judged) (numbered : NumberedHistories) (drawn : Drawn) where
+module _ (numbered : NumberedHistories) (drawn : Drawn) where
   -- the picture of a key's scene, in which the calls are marked that show why the key is refused;
   -- the words say why
   pub record IsPictureOf (key : Judgement) (words : List ℕ) (picture : Picture) : Type 0 where
     pub of_key : picture.key.now ≡ key.one.key
     pub of_part : picture.part.now ≡ key.one.part
     pub hall : IsHallOfKey numbered key.one.key picture.hall
-    pub why : IsWhy picture.hall key.one key.finding words picture.faulty.now
-    pub scene : IsKeyScene judged drawn picture.hall key picture.faulty.now picture.scene.now
+    pub why : IsWhy picture.hall key words picture.faulty.now
+    pub scene : IsKeyScene drawn picture.hall key picture.faulty.now picture.scene.now
 
   -- the section of the key that has that number in the table
   abbrev pub IsSectionOf : ℕ → Judgement → Markup → Type 0
@@ -218,7 +207,7 @@ module _ (judged : Judged) (numbered : NumberedHistories) (drawn : Drawn) where
 
   -- what a page says and shows of these keys: how many there are, and of them how many are refused;
   -- a table of the first; and for as many as a page has room for a section
-  pub record IsContentOf (keys : List Judgement) (refused : ℕ) (missing : Option (List ℕ))
+  pub record IsContentOf (keys : List Judgement) (refused : ℕ) (missing : List (List ℕ))
       (content : Markup) : Type 0 where
     pub pictured : ℕ
     pub fitting : ArePictured drawn keys pictured

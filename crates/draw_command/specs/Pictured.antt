@@ -1,6 +1,6 @@
 -- How many keys have pictures: a page has room for so many calls.
 use Rattle.std.specs.Prelude.{ℕ, ◌≤◌, List, length, min, sum_by, take}
-use Rattle.draw_command.specs.Findings.{Judgement}
+use Rattle.judged_keys.specs.Judgements.{Judgement}
 use Rattle.draw_command.specs.declared.drawn.Drawn.{Drawn}
 
 -- how many calls a page has room for, beside those that show why keys are refused
@@ -15,7 +15,7 @@ module _ (drawn : Drawn) (keys : List Judgement) where
   -- the first so many of the keys may have pictures: no more than are to be drawn, and a page has
   -- room for their calls
   pub record Fit (count : ℕ) : Type 0 where
-    pub asked : count ≤ drawn.most
+    pub asked : count ≤ drawn.selection.most
     pub there : count ≤ length keys
     pub room : sum_by (window_size drawn) (take count keys) ≤ page_calls
 

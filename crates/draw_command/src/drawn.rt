@@ -1,18 +1,17 @@
 //! Which keys are drawn, and how much of each.
-ghost use Rattle.std.specs.Prelude.{◌≡◌};
-ghost use Rattle.draw_command.specs.Drawings.{center, default_drawn, numbered_call};
+ghost use Rattle.std.specs.Prelude.{◌≡◌, is_some, option_map, option_to_list};
+ghost use Rattle.judged_keys.specs.Selected.{judged_without_values, names_of};
+ghost use Rattle.draw_command.specs.Drawings.{IsDefault, center, numbered_call};
 
 use command_line::DrawAsked;
-use explain_command::Selection;
+use judged_keys::{Judged, Names, Selection};
 use tag::OpId;
 
 /// Which keys are judged, how many of them have a picture, and how many calls it shows.
 #[derive(Clone, Copy, Debug)]
 pub struct Drawn<'a> {
-    /// The key that alone is judged, if one is named.
-    pub key: Option<&'a str>,
-    /// How many keys have a picture, at most.
-    pub most: u16,
+    /// Which keys are judged, by what, and how many of them have a picture, at most.
+    pub selection: Selection<'a>,
     /// How many calls of a key are shown, at most, beside those that show why it is refused.
     pub calls: u32,
     /// The number of the call around which calls are shown, if one is given.
@@ -22,11 +21,14 @@ pub struct Drawn<'a> {
 impl<'a> Drawn<'a> {
     /// What is drawn where nothing else is asked for: what `abd draw` draws without options.
     pub fn by_default() -> Drawn<'a>
-        ensures { result ≡ default_drawn }
+        ensures { IsDefault result }
     {
         Drawn {
-            key: None,
-            most: 20,
+            selection: Selection {
+                judged: Judged::Tags,
+                keys: Names::of(None),
+                most: 20,
+            },
             calls: 200,
             around: None,
         }
@@ -34,8 +36,11 @@ impl<'a> Drawn<'a> {
 
     /// What the words ask for.
     pub fn of(asked: &DrawAsked<'a>) -> Drawn<'a>
-        ensures key { result.key ≡ asked.now.keys.key }
-        ensures most { result.most ≡ asked.now.keys.most }
+        ensures judged { result.selection.judged
+            ≡ judged_without_values (is_some asked.now.keys.orders) }
+        ensures keys { names_of result.selection
+            ≡ option_to_list (option_map (λ name. name.now) asked.now.keys.key) }
+        ensures most { result.selection.most ≡ asked.now.keys.most }
         ensures calls { result.calls ≡ asked.now.calls }
         ensures around { result.around ≡ asked.now.around }
     {
@@ -44,20 +49,9 @@ impl<'a> Drawn<'a> {
             Some(call) => Some(u64::from(call)),
         };
         Drawn {
-            key: asked.keys.key,
-            most: asked.keys.most,
+            selection: Selection::of(&asked.keys),
             calls: u32::from(asked.calls),
             around,
-        }
-    }
-
-    /// Which keys are judged.
-    pub(crate) fn selection(&self) -> Selection<'a>
-        ensures { result.key ≡ self.now.key }
-    {
-        Selection {
-            key: self.key,
-            most: self.most,
         }
     }
 

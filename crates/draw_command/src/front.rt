@@ -1,13 +1,13 @@
 //! What stands above a page's table: its sums.
-ghost use Rattle.std.specs.Prelude.{◌≡◌, ◌++◌, length, option_map, OnOk};
-ghost use Rattle.markup.specs.Markup.{rendered};
-ghost use Rattle.draw_command.specs.Pages.{front_markup, missing_line, missing_name_line, said};
-ghost use Rattle.explain_command.specs.Explanations.{missing_text};
+ghost use Rattle.std.specs.Prelude.{◌≡◌, ◌++◌, length, map, OnOk};
+ghost use Rattle.markup.specs.Markup.{each, rendered};
+ghost use Rattle.explain_command.specs.Lines.{missing_text};
+ghost use Rattle.draw_command.specs.Pages.{front_markup, missing_line, said};
 
-use crate::finding::Findings;
 use crate::texts::{append_counted, append_said};
 use crate::words;
 use explain_command::append_missing as append_name_missing;
+use judged_keys::Findings;
 use markup::{Attribute, AttributeName, Element, append_closing, append_opening};
 use std::alloc::Global;
 use tag::Memory;
@@ -26,7 +26,7 @@ fn append_words(alloc: Global, page: &mut Vec<u8>, name: &str) -> Result<(), Mem
 #[tactic(auto, unfolding(markup::specs::Markup::rendered))]
 fn append_name(alloc: Global, page: &mut Vec<u8>, name: &str) -> Result<(), Memory>
     ensures { OnOk result
-        (page.new.items ≡ page.old.items ++ rendered (missing_name_line name.now)) }
+        (page.new.items ≡ page.old.items ++ rendered (missing_line name.now)) }
 {
     let class = Attribute::Words(AttributeName::Class, words::MISSING);
     append_opening(page, Element::P, &[class])?;
@@ -34,30 +34,28 @@ fn append_name(alloc: Global, page: &mut Vec<u8>, name: &str) -> Result<(), Memo
     append_closing(page, Element::P)
 }
 
-/// Says that no key has the name, if one is missing.
-#[tactic(auto, unfolding(markup::specs::Markup::rendered))]
-fn append_missing(alloc: Global, page: &mut Vec<u8>, missing: Option<&str>) -> Result<(), Memory>
+/// Says of each of the names that no key has it.
+fn append_missing(alloc: Global, page: &mut Vec<u8>, names: &[&str]) -> Result<(), Memory>
     ensures { OnOk result (page.new.items ≡ page.old.items
-        ++ rendered (missing_line (option_map (λ name. name.now) missing.entry))) }
+        ++ rendered (each missing_line (map (λ name. name.now) names.now))) }
 {
-    match missing {
-        None => Ok(()),
-        Some(name) => append_name(alloc, page, name),
+    for name in names {
+        append_name(alloc, page, name)?;
     }
+    Ok(())
 }
 
-/// Adds how many keys were judged and how many of them are refused, and the name that was given, if no
-/// key has it.
+/// Adds how many keys were judged and how many of them are refused, and the names that no key has.
 #[tactic(auto, unfolding(markup::specs::Markup::rendered))]
 pub(crate) fn append_front(
     alloc: Global,
     page: &mut Vec<u8>,
     findings: &Findings<'_>,
-    missing: Option<&str>,
+    missing: &[&str],
 ) -> Result<(), Memory>
     ensures { OnOk result (page.new.items ≡ page.old.items ++ rendered (front_markup
         (length findings.now.keys.items) findings.now.refused
-        (option_map (λ name. name.now) missing.entry))) }
+        (map (λ name. name.now) missing.now))) }
 {
     let judged = (words::KEYS_JUDGED, findings.keys.as_slice().len() as u64);
     let refused = (words::REFUSED, findings.refused as u64);

@@ -8,7 +8,6 @@
 mod counts;
 mod draw;
 mod drawn;
-mod finding;
 mod frame;
 mod front;
 mod history_pictures;

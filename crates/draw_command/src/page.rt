@@ -1,14 +1,15 @@
 //! What a page says and shows of judged keys.
-ghost use Rattle.std.specs.Prelude.{All, OnOk, map, option_map};
-ghost use Rattle.explain_command.specs.KeyExplanations.{HasLinesOfEach};
-ghost use Rattle.draw_command.specs.Judging.{IsDrawable, judgement_of};
+ghost use Rattle.std.specs.Prelude.{All, OnOk, map};
+ghost use Rattle.judged_keys.specs.Halls.{HasLinesOfEach};
+ghost use Rattle.judged_keys.specs.Judgements.{judgement_of};
+ghost use Rattle.draw_command.specs.Drawings.{IsDrawable};
 ghost use Rattle.draw_command.specs.Making.{Adds};
 ghost use Rattle.draw_command.specs.Pages.{IsContentOf};
 
-use crate::finding::Findings;
 use crate::front::append_front;
 use crate::section::{Task, add_sections};
 use crate::table::{add_table, append_below};
+use judged_keys::Findings;
 use std::alloc::Global;
 use tag::Memory;
 
@@ -18,14 +19,13 @@ pub(crate) fn add_content(
     page: &mut Vec<u8>,
     task: &Task<'_>,
     findings: &Findings<'_>,
-    missing: Option<&str>,
+    missing: &[&str],
 ) -> Result<(), Memory>
     requires lines { HasLinesOfEach task.now.numbered.now }
-    requires drawable { All (IsDrawable task.now.judged)
-        (map judgement_of findings.now.keys.items) }
-    ensures { OnOk result (Adds (IsContentOf task.now.judged task.now.numbered.now task.now.drawn
+    requires drawable { All IsDrawable (map judgement_of findings.now.keys.items) }
+    ensures { OnOk result (Adds (IsContentOf task.now.numbered.now task.now.drawn
         (map judgement_of findings.now.keys.items) findings.now.refused
-        (option_map (λ name. name.now) missing.entry)) page.old.items page.new.items) }
+        (map (λ name. name.now) missing.now)) page.old.items page.new.items) }
 {
     let keys = findings.keys.as_slice();
     let pictured = task.drawn.pictured_count(keys);

@@ -1,10 +1,10 @@
 //! How many keys have pictures.
 ghost use Rattle.std.specs.Prelude.{◌≡◌, map};
-ghost use Rattle.draw_command.specs.Judging.{judgement_of};
+ghost use Rattle.judged_keys.specs.Judgements.{judgement_of};
 ghost use Rattle.draw_command.specs.Pictured.{ArePictured, window_size};
 
 use crate::drawn::Drawn;
-use crate::finding::JudgedKey;
+use judged_keys::JudgedKey;
 
 /// How many calls a page has room for, beside those that show why keys are refused.
 const PAGE_CALLS: usize = 20_000;
@@ -22,7 +22,7 @@ impl Drawn<'_> {
     pub(crate) fn pictured_count(&self, keys: &[JudgedKey<'_>]) -> usize
         ensures { ArePictured self.now (map judgement_of keys.now) result }
     {
-        let first = &keys[..keys.len().min(usize::from(self.most))];
+        let first = &keys[..keys.len().min(usize::from(self.selection.most))];
         let mut calls = 0usize;
         for (n, key) in first.iter().enumerate() {
             let size = self.window_size(key);

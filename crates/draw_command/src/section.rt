@@ -2,30 +2,29 @@
 ghost use Rattle.std.specs.Prelude.{◌≡◌, ◌++◌, All, map, OnOk};
 ghost use Rattle.markup.specs.Markup.{rendered};
 ghost use Rattle.pictures.specs.Layout.{IsInOrder};
-ghost use Rattle.explain_command.specs.KeyExplanations.{HasLinesOfEach};
-ghost use Rattle.draw_command.specs.Judging.{IsDrawable, judgement_of};
+ghost use Rattle.judged_keys.specs.Halls.{HasLinesOfEach};
+ghost use Rattle.judged_keys.specs.Judgements.{judgement_of};
+ghost use Rattle.draw_command.specs.Drawings.{IsDrawable};
 ghost use Rattle.draw_command.specs.Making.{Adds};
 ghost use Rattle.draw_command.specs.Pages.{IsEach, IsSectionOf, saying_markup, section_markup};
 ghost use Rattle.draw_command.specs.Pages.{showing_markup, shown_line, why_lines, why_markup};
 
 use crate::drawn::Drawn;
-use crate::finding::JudgedKey;
 use crate::key_scene::scene_of_key;
 use crate::table::verdict_class;
 use crate::texts::{append_counted, append_finding};
 use crate::why::why_of;
 use crate::words;
-use explain_command::{Judged, hall_of};
 use history_file::NumberedHistories;
+use judged_keys::{JudgedKey, hall_of};
 use markup::{Attribute, AttributeName, Element, append_closing, append_opening, append_worded};
 use pictures::{Picture, append_call_table, append_picture};
 use std::alloc::Global;
 use tag::Memory;
 
-/// What is drawn: of which history, by what its keys were judged, and how much of them.
+/// What is drawn: of which history, and how much of its keys.
 #[derive(Clone, Copy)]
 pub(crate) struct Task<'a> {
-    pub(crate) judged: Judged,
     pub(crate) numbered: &'a NumberedHistories,
     pub(crate) drawn: Drawn<'a>,
 }
@@ -117,15 +116,14 @@ fn add_section(
     key: &JudgedKey<'_>,
 ) -> Result<(), Memory>
     requires lines { HasLinesOfEach task.now.numbered.now }
-    requires drawable { IsDrawable task.now.judged (judgement_of key.now) }
-    ensures { OnOk result
-        (Adds (IsSectionOf task.now.judged task.now.numbered.now task.now.drawn n
+    requires drawable { IsDrawable (judgement_of key.now) }
+    ensures { OnOk result (Adds (IsSectionOf task.now.numbered.now task.now.drawn n
         (judgement_of key.now)) page.old.items page.new.items) }
 {
     let hall = hall_of(task.numbered, key.one.key);
-    let why = why_of(alloc, task.judged, &hall, key)?;
+    let why = why_of(alloc, &hall, key)?;
     let faulty = why.faulty.as_slice();
-    let scene = scene_of_key(alloc, task.judged, &task.drawn, &hall, key, faulty)?;
+    let scene = scene_of_key(alloc, &task.drawn, &hall, key, faulty)?;
     let picture = Picture {
         key: key.one.key,
         hall,
@@ -144,9 +142,8 @@ pub(crate) fn add_sections(
     keys: &[JudgedKey<'_>],
 ) -> Result<(), Memory>
     requires lines { HasLinesOfEach task.now.numbered.now }
-    requires drawable { All (IsDrawable task.now.judged) (map judgement_of keys.now) }
-    ensures { OnOk result
-        (Adds (IsEach (IsSectionOf task.now.judged task.now.numbered.now task.now.drawn) 0
+    requires drawable { All IsDrawable (map judgement_of keys.now) }
+    ensures { OnOk result (Adds (IsEach (IsSectionOf task.now.numbered.now task.now.drawn) 0
         (map judgement_of keys.now)) page.old.items page.new.items) }
 {
     for (n, key) in keys.iter().enumerate() {

@@ -1,18 +1,18 @@
 //! The table of the keys.
 ghost use Rattle.std.specs.Prelude.{◌≡◌, ◌++◌, map, OnOk};
 ghost use Rattle.markup.specs.Markup.{rendered};
-ghost use Rattle.draw_command.specs.Judging.{judgement_of};
+ghost use Rattle.judged_keys.specs.Judgements.{judgement_of};
 ghost use Rattle.draw_command.specs.Making.{Adds};
 ghost use Rattle.draw_command.specs.Pages.{IsRowOf, IsTableOf, column_head, columns_markup};
 ghost use Rattle.draw_command.specs.Pages.{count_cell, count_cells, finding_cell, finding_link};
 ghost use Rattle.draw_command.specs.Pages.{below_table, left_out, rest_line, row_markup};
-ghost use Rattle.draw_command.specs.Pages.{table_front, undrawn_line, verdict_class};
+ghost use Rattle.draw_command.specs.Pages.{table_front, verdict_class};
 
 use crate::counts::{KeyCounts, counts_of};
-use crate::finding::{Finding, JudgedKey};
 use crate::texts::{append_counted, append_finding};
 use crate::words;
 use itoa::Buffer;
+use judged_keys::{Finding, JudgedKey};
 use markup::{
     Attribute, AttributeName, Element, append_closing, append_opening, append_plain, append_text,
     append_worded,
@@ -28,7 +28,7 @@ const TABLE_SIZE: usize = 1000;
 pub(crate) fn verdict_class(finding: Finding) -> &'static str
     ensures { result.now ≡ verdict_class finding }
 {
-    if finding.is_no() {
+    if finding.is_refused() {
         words::NO
     } else {
         words::YES
@@ -176,40 +176,17 @@ pub(crate) fn add_table(
     append_closing(page, Element::Table)
 }
 
-/// Says how many keys have no row, and how many of these are refused, if any has none.
+/// Says after those words how many keys are left out, and how many of these are refused, if any is.
 #[tactic(auto, unfolding(markup::specs::Markup::rendered))]
-fn append_rest(page: &mut Vec<u8>, count: usize, refused: usize) -> Result<(), Memory>
+fn append_rest(page: &mut Vec<u8>, words: &str, count: usize, refused: usize) -> Result<(), Memory>
     ensures { OnOk result (page.new.items
-        ≡ page.old.items ++ rendered (rest_line count refused)) }
+        ≡ page.old.items ++ rendered (rest_line words.now count refused)) }
 {
     if count == 0 {
         return Ok(());
     }
-    let more = (words::MORE, count as u64);
-    append_counted(
-        page,
-        words::REST,
-        more,
-        (words::MORE_REFUSED, refused as u64),
-    )
-}
-
-/// Says how many keys have no picture, and how many of these are refused, if any has none.
-#[tactic(auto, unfolding(markup::specs::Markup::rendered))]
-fn append_undrawn(page: &mut Vec<u8>, count: usize, refused: usize) -> Result<(), Memory>
-    ensures { OnOk result (page.new.items
-        ≡ page.old.items ++ rendered (undrawn_line count refused)) }
-{
-    if count == 0 {
-        return Ok(());
-    }
-    let undrawn = (words::UNDRAWN, count as u64);
-    append_counted(
-        page,
-        words::REST,
-        undrawn,
-        (words::MORE_REFUSED, refused as u64),
-    )
+    let refused = (words::MORE_REFUSED, refused as u64);
+    append_counted(page, words::REST, (words, count as u64), refused)
 }
 
 /// Says how many keys have no row, and how many no picture.
@@ -224,11 +201,13 @@ fn append_left_out(
 {
     append_rest(
         page,
+        words::MORE,
         count.saturating_sub(TABLE_SIZE),
         refused.saturating_sub(TABLE_SIZE),
     )?;
-    append_undrawn(
+    append_rest(
         page,
+        words::UNDRAWN,
         count.saturating_sub(pictured),
         refused.saturating_sub(pictured),
     )

@@ -2,10 +2,11 @@
 ghost use Rattle.std.specs.Prelude.{◌≡◌, ◌++◌, OnOk};
 ghost use Rattle.std.specs.Str.Lines.{lines};
 ghost use Rattle.markup.specs.Markup.{each, rendered, text};
-ghost use Rattle.draw_command.specs.Judging.{judgement_of};
+ghost use Rattle.judged_keys.specs.Judgements.{judgement_of};
 ghost use Rattle.draw_command.specs.Pages.{counted, finding_said, said};
 
-use crate::finding::JudgedKey;
+use explain_command::append_finding as append_finding_line;
+use judged_keys::JudgedKey;
 use markup::{
     Attribute, AttributeName, Element, append_closing, append_number, append_opening, append_text,
 };
@@ -62,6 +63,6 @@ pub(crate) fn append_finding(
         ≡ page.old.items ++ rendered (finding_said (judgement_of key.now))) }
 {
     let mut line = Vec::new(alloc);
-    key.append_line(&mut line)?;
+    append_finding_line(&mut line, key.one.key, key.finding)?;
     append_said(alloc, page, line.as_slice())
 }

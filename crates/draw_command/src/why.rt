@@ -1,16 +1,18 @@
 //! Why a key is refused.
 ghost use Rattle.std.specs.Prelude.{◌≡◌, ◌++◌, IfOk};
-ghost use Rattle.parallel_keys.specs.KeysToCheck.{what_of};
-ghost use Rattle.draw_command.specs.Drawings.{IsWhy, call_numbers, order_calls, tag_calls};
-ghost use Rattle.draw_command.specs.Findings.{IsFinding};
+ghost use Rattle.judged_keys.specs.Findings.{IsSo};
+ghost use Rattle.judged_keys.specs.Judgements.{judgement_of};
+ghost use Rattle.draw_command.specs.Drawings.{IsWhy, call_numbers, order_calls, reason_calls};
+ghost use Rattle.draw_command.specs.Drawings.{tag_calls, value_calls};
 
-use crate::finding::{Finding, JudgedKey};
-use explain_command::Judged;
-use explanations::{HallRows, append_order_reason, append_tag_reason};
-use reasons::{OrderReason, TagReason, order_reason, tag_reason};
+use explain_command::{Reason, append_reason, reason_of};
+use explanations::HallRows;
+use judged_keys::JudgedKey;
+use reasons::{OrderReason, TagReason};
 use recorder::Call;
 use std::alloc::Global;
 use tag::{Memory, OpId};
+use value_explanations::ValueReason;
 
 /// Why a key is refused.
 #[derive(Drop)]
@@ -82,35 +84,54 @@ fn tag_calls(alloc: Global, reason: &TagReason<'_>) -> Result<Vec<OpId>, Memory>
     }
 }
 
-/// Why the key is refused; nothing if it isn't.
-pub(crate) fn why_of(
-    alloc: Global,
-    judged: Judged,
-    hall: &HallRows<'_>,
-    key: &JudgedKey<'_>,
-) -> Result<Why, Memory>
-    requires { IsFinding judged (what_of key.now.one.now) key.now.finding }
-    ensures { IfOk result (λ why.
-        IsWhy hall.now (what_of key.now.one.now) key.now.finding why.text.items why.faulty.items) }
+/// The calls of the reason.
+fn value_calls(alloc: Global, reason: &ValueReason<'_>) -> Result<Vec<OpId>, Memory>
+    ensures { IfOk result (λ calls. calls.items ≡ value_calls reason.now) }
 {
-    let one = key.one;
-    let mut text = Vec::new(alloc);
-    match key.finding {
-        Finding::Yes => {
-            let faulty = Vec::new(alloc);
-            Ok(Why { text, faulty })
+    let calls = match reason {
+        ValueReason::NoWrite { read } => Vec::from_slice(alloc, &[read.op]),
+        ValueReason::Early { read, write } => Vec::from_slice(alloc, &[read.op, write.op]),
+        ValueReason::LateNothing { read, earlier } => {
+            Vec::from_slice(alloc, &[read.op, earlier.op])
         }
-        Finding::OrderFault(fault) => {
-            let reason = order_reason(&one.part, one.order, fault);
-            let faulty = order_calls(alloc, &reason)?;
-            append_order_reason(&mut text, one.key, hall, &reason)?;
-            Ok(Why { text, faulty })
+        ValueReason::Opposed { one, other } => {
+            let (there, back) = (other.last_begun.op, one.last_begun.op);
+            let calls = [one.first_ended.op, there, other.first_ended.op, back];
+            Vec::from_slice(alloc, &calls)
         }
-        Finding::TagFault(rule) => {
-            let reason = tag_reason(&one.part, rule);
-            let faulty = tag_calls(alloc, &reason)?;
-            append_tag_reason(&mut text, one.key, hall, &reason)?;
-            Ok(Why { text, faulty })
-        }
+        ValueReason::Overwritten {
+            read,
+            first,
+            second,
+            between,
+        } => Vec::from_slice(alloc, &[read.op, first.op, second.op, between.op]),
+    };
+    Ok(calls?)
+}
+
+/// The calls of the reason.
+fn reason_calls(alloc: Global, reason: &Reason<'_>) -> Result<Vec<OpId>, Memory>
+    ensures { IfOk result (λ calls. calls.items ≡ reason_calls reason.now) }
+{
+    match reason {
+        Reason::Order(reason) => order_calls(alloc, reason),
+        Reason::Tags(reason) => tag_calls(alloc, reason),
+        Reason::Values(reason, _, _) => value_calls(alloc, reason),
     }
+}
+
+/// Why the key is refused; nothing if it isn't.
+pub(crate) fn why_of(alloc: Global, hall: &HallRows<'_>, key: &JudgedKey<'_>) -> Result<Why, Memory>
+    requires { let j = judgement_of key.now in IsSo j.one j.finding }
+    ensures { IfOk result (λ why.
+        IsWhy hall.now (judgement_of key.now) why.text.items why.faulty.items) }
+{
+    let mut text = Vec::new(alloc);
+    let Some(reason) = reason_of(alloc, key)? else {
+        let faulty = Vec::new(alloc);
+        return Ok(Why { text, faulty });
+    };
+    append_reason(&mut text, key.one.key, hall, &reason)?;
+    let faulty = reason_calls(alloc, &reason)?;
+    Ok(Why { text, faulty })
 }

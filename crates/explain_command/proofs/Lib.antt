@@ -1,6 +1,3 @@
-mod ExplanationLines
-pub mod Selecting
-mod Reporting
-pub mod Ending
+pub mod Spelling
 mod SoundKeys
 mod CheckStatus

@@ -1,40 +1,28 @@
--- The tags of keys that are a yes.
-use Rattle.std.proofs.Common.{ℕ, ◌≡◌, Bool, true, false, cond, ◌⊎◌, inl, inr, List, [], ◌∷◌, Option, Some, None, filter, refl, sym, ap, subst, ◌∙◌, arith}
-use Rattle.std.specs.List.{Contains}
+-- The tags of keys that aren't refused.
+use Rattle.std.proofs.Common.{ℕ, ◌≡◌, true, false, List, [], Option, Some, None, refl, sym, subst, ◌∙◌}
+use Rattle.std.specs.List.{All, Contains}
 use Rattle.std.specs.Str.{bytes_eq}
 use Rattle.std.specs.Map.{lookup}
-use Rattle.counted_devices.specs.DeviceStates.{DeviceStates}
+use Rattle.std.proofs.lemmas.List.Elements.{All-contains, All-contains_itself, All-weaker}
 use Rattle.recorder.specs.declared.part.Call.{Call}
+use Rattle.recorder.specs.Halls.{RecordedHalls}
 use Rattle.recorder.specs.Sound.{TagSound}
-use Rattle.recorder.specs.Histories.{Recorded}
-use Rattle.parallel_keys.specs.CheckedKeys.{CheckedKey, KeyParts, all_parts}
-use Rattle.cli.proofs.Entries.{contains_cases, contains_nothing, found_entry}
+use Rattle.parallel_keys.specs.CheckedKeys.{CheckedKey, KeyParts, all_parts, checked_keys}
+use Rattle.cli.proofs.Entries.{contains_nothing, found_entry}
 use Rattle.cli.proofs.HallParts.{have_parts, HaveParts}
-use Rattle.cli.specs.Justifications.{KeyPart}
-use Rattle.explain_command.specs.Endings.{AreOfTags}
-use Rattle.explain_command.specs.Explanations.{Explanation, Yes, No, named_key, no_count}
-use Rattle.explain_command.specs.Files.{HaveKeys}
-use Rattle.explain_command.specs.KeyExplanations.{AreExplained, ExplainsTags, HasSoundTags, is_selected, selected_keys, selected_parts}
-use Rattle.explain_command.specs.Reports.{Explains}
-use Rattle.explain_command.specs.declared.judged.Judged.TheVariants.{Tags}
-use Rattle.explain_command.proofs.Selecting.{selected_tags}
-use Rattle.explain_command.specs.declared.selection.Selection.{Selection}
-
--- what a yes says holds of each that passes, where none is a no
-each_yes : {X : Type 0} (Explains : X → Explanation → Type 0) (P : X → Type 0) (p : X → Bool) → ((x : X) (line : List ℕ) → Explains x (Yes line) → P x)
-    → (xs : List X) (es : List Explanation) → AreExplained Explains (filter p xs) es → no_count es ≡ 0 → (x : X) → Contains xs x → p x ≡ true → P x
-each_yes Explains P p holds [] es are none x h passes = absurd (contains_nothing x h)
-each_yes {X} Explains P p holds (y ∷ xs) es are none x h passes =
-    by (p y) refl es are none (contains_cases y xs x h) (λ fs later without w. each_yes Explains P p holds xs fs later without x w passes)
-  where
-    by : (b : Bool) → p y ≡ b → (es : List Explanation) → AreExplained Explains (cond b (y ∷ filter p xs) (filter p xs)) es → no_count es ≡ 0 → (y ≡ x) ⊎ Contains xs x
-        → ((fs : List Explanation) → AreExplained Explains (filter p xs) fs → no_count fs ≡ 0 → Contains xs x → P x) → P x
-    by true is [] are none at later = absurd are
-    by true is (Yes line ∷ es) are none (inl same) later = subst P same (holds y line are.0)
-    by true is (Yes line ∷ es) are none (inr w) later = later es are.1 none w
-    by true is (No line reason ∷ es) are none at later = absurd (omega (arith, none))
-    by false is es are none (inl same) later = let fails : p x ≡ false = sym (ap p same) ∙ is in absurd (cc)
-    by false is es are none (inr w) later = later es are none w
+use Rattle.judged_keys.specs.Files.{HaveKeys}
+use Rattle.judged_keys.specs.Findings.{IsFinding, is_refused}
+use Rattle.judged_keys.specs.Judgements.{AreJudged, Judgement, refused_count}
+use Rattle.judged_keys.specs.Selected.{is_selected, names_of, selected_keys}
+use Rattle.judged_keys.specs.Tellings.{AreFound}
+use Rattle.judged_keys.specs.declared.finding.Finding.{Finding}
+use Rattle.judged_keys.specs.declared.finding.Finding.TheVariants as finding
+use Rattle.judged_keys.specs.declared.judged.Judged.{Judged}
+use Rattle.judged_keys.specs.declared.judged.Judged.TheVariants.{Tags}
+use Rattle.judged_keys.specs.declared.selection.Selection.{Selection}
+use Rattle.judged_keys.proofs.Judgements.{none_refused}
+use Rattle.judged_keys.proofs.Selecting.{each_entry}
+use Rattle.explain_command.specs.SoundTags.{HasSoundTags}
 
 -- no call has sound tags
 sound_nothing : TagSound []
@@ -48,31 +36,33 @@ sound_nothing = record {
   answers = λ a response tag reads noted other answered. absurd (contains_nothing a noted.recorded);
 }
 
-pub sound_keys : (selection : Selection) (history : DeviceStates) (es : List Explanation) (are : AreOfTags selection history es) → no_count es ≡ 0
-    → (key : List ℕ) → is_selected (named_key selection) key ≡ true → HasSoundTags are.numbered.histories.halls key
-sound_keys selection history es are none key passes = by (lookup (bytes_eq key) parts) refl (have_parts halls has.parts has.recorded has.lawful.count.least has.lawful.keys)
+-- what was found by tags, and isn't a no
+are_sound : (one : CheckedKey) (f : Finding) → IsFinding Tags one f → is_refused f ≡ false → TagSound one.part
+are_sound one finding.Sound h good = h.so
+are_sound one (finding.TagFault rule) h good = absurd (cc)
+are_sound one finding.Ordered h good = let other = h.by in absurd (cc)
+are_sound one (finding.OrderFault fault) h good = absurd (cc)
+are_sound one finding.Atomic h good = let other = h.by in absurd (cc)
+are_sound one (finding.ValueFault fault) h good = absurd (cc)
+are_sound one (finding.Undecided doubt) h good = let other = h.by in absurd (cc)
+
+pub sound_keys : (selection : Selection) (histories : RecordedHalls) (keys : List CheckedKey) (js : List Judgement) → selection.judged ≡ Tags → HaveKeys histories [] keys → AreFound selection keys js → refused_count js ≡ 0
+    → (key : List ℕ) → is_selected (names_of selection) key ≡ true → HasSoundTags histories.halls key
+sound_keys selection histories keys js by_tags has are none key passes = by (lookup (bytes_eq key) parts) refl (have_parts histories.halls has.parts has.recorded has.lawful.count.least has.lawful.keys)
   where
-    halls : List Recorded
-    halls = are.numbered.histories.halls
-
-    has : HaveKeys are.numbered.histories [] are.keys
-    has = are.read.keys_are
-
     parts : KeyParts
     parts = all_parts has.parts
 
-    explained : AreExplained (ExplainsTags are.numbered) (selected_parts (named_key selection) parts) es
-    explained =
-        selected_tags are.numbered (named_key selection) parts es
-        (subst (λ (ks : List CheckedKey). AreExplained (Explains Tags are.numbered) (selected_keys (named_key selection) ks) es) has.are are.explained)
+    found : AreJudged Tags (selected_keys (names_of selection) (checked_keys parts [])) js
+    found = subst (λ (ks : List CheckedKey). AreJudged Tags (selected_keys (names_of selection) ks) js) has.are (subst (λ (judged : Judged). AreJudged judged (selected_keys (names_of selection) keys) js) by_tags are)
 
-    by : (o : Option (List Call)) → lookup (bytes_eq key) parts ≡ o → HaveParts halls parts → HasSoundTags halls key
+    sound : All (λ (j : Judgement). TagSound j.one.part) js
+    sound =
+        All-weaker (Contains js) (λ (j : Judgement). TagSound j.one.part) (λ j h. are_sound j.one j.finding (All-contains (λ (k : Judgement). IsFinding Tags k.one k.finding) js j found.found h) (All-contains (λ (k : Judgement). is_refused k.finding ≡ false) js j (none_refused js none) h))
+        js (All-contains_itself js)
+
+    by : (o : Option (List Call)) → lookup (bytes_eq key) parts ≡ o → HaveParts histories.halls parts → HasSoundTags histories.halls key
     by None is have = record { part = []; recorded = have.none key is; sound = sound_nothing }
     by (Some part) is have =
         let h = found_entry parts key part is in
-        let name = named_key selection in
-        record {
-          part = part;
-          recorded = have.each key part h;
-          sound = each_yes (ExplainsTags are.numbered) (λ (entry : KeyPart). TagSound entry.1) (λ (entry : KeyPart). is_selected name entry.0) (λ entry line says. says.0) parts es explained none (key, part) h passes;
-        }
+        record { part = part; recorded = have.each key part h; sound = each_entry Tags (names_of selection) parts js found (λ (one : CheckedKey). TagSound one.part) sound key part h passes }

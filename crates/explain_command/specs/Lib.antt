@@ -1,5 +1,4 @@
-pub mod Explanations
-pub mod KeyExplanations
-pub mod Files
-pub mod Reports
-pub mod Endings
+pub mod Lines
+pub mod Reasons
+pub mod Explained
+pub mod SoundTags

@@ -1,29 +1,38 @@
 //! Laws of explanations, each the contract of a function that does nothing.
-ghost use Rattle.std.specs.Prelude.{◌≡◌, ◌≤◌, ℕ, List, None, true};
-ghost use Rattle.counted_devices.specs.DeviceStates.{DeviceStates};
+ghost use Rattle.std.specs.Prelude.{◌≡◌, ◌≤◌, ℕ, List, [], true};
+ghost use Rattle.recorder.specs.declared.order.KeyOrder.{KeyOrder};
+ghost use Rattle.recorder.specs.Halls.{RecordedHalls};
+ghost use Rattle.file_format.specs.OrderFormat.{AreJoined};
+ghost use Rattle.parallel_keys.specs.CheckedKeys.{CheckedKey};
 ghost use Rattle.cli.specs.Checks.{IsStatusOf};
 ghost use Rattle.cli.specs.declared.status.Status.TheVariants.{Good, Refused};
-ghost use Rattle.explain_command.specs.declared.selection.Selection.{Selection};
-ghost use Rattle.explain_command.specs.Endings.{AreOfOrders, AreOfTags};
-ghost use Rattle.explain_command.specs.Explanations.{Explanation, named_key, no_count};
-ghost use Rattle.explain_command.specs.KeyExplanations.{HasSoundTags, is_selected};
+ghost use Rattle.judged_keys.specs.Files.{HaveKeys};
+ghost use Rattle.judged_keys.specs.Judgements.{Judgement, refused_count};
+ghost use Rattle.judged_keys.specs.Selected.{is_selected, names_of};
+ghost use Rattle.judged_keys.specs.Tellings.{AreFound};
+ghost use Rattle.judged_keys.specs.declared.judged.Judged.TheVariants.{Orders, Tags};
+ghost use Rattle.judged_keys.specs.declared.selection.Selection.{Selection};
+ghost use Rattle.explain_command.specs.SoundTags.{HasSoundTags};
 
-/// Where no selected key is a no by its tags, each of them has sound tags.
+/// Where no selected key is refused for its tags, each of them has sound tags.
 pub fn keys_that_are_a_yes_have_sound_tags()
-    ensures { (selection : Selection) (history : DeviceStates) (explanations : List Explanation)
-        (are : AreOfTags selection history explanations) → no_count explanations ≡ 0
-        → (key : List ℕ) → is_selected (named_key selection) key ≡ true
-        → HasSoundTags are.numbered.histories.halls key }
+    ensures { (selection : Selection) (histories : RecordedHalls) (keys : List CheckedKey)
+        (all : List Judgement) → selection.judged ≡ Tags → HaveKeys histories [] keys
+        → AreFound selection keys all → refused_count all ≡ 0
+        → (key : List ℕ) → is_selected (names_of selection) key ≡ true
+        → HasSoundTags histories.halls key }
 {}
 
-/// Where no key is named, no key is a no exactly where `abd check` says yes of all keys.
+/// Where no key is named, no key is refused for its order exactly where `abd check` says yes of all keys.
 pub fn orders_are_explained_as_they_are_checked()
-    ensures good { (selection : Selection) (history orders : DeviceStates)
-        (explanations : List Explanation) (are : AreOfOrders selection history orders explanations)
-        → selection.key ≡ None → no_count explanations ≡ 0
-        → IsStatusOf are.numbered.histories.halls are.read.pieces Good }
-    ensures refused { (selection : Selection) (history orders : DeviceStates)
-        (explanations : List Explanation) (are : AreOfOrders selection history orders explanations)
-        → selection.key ≡ None → 1 ≤ no_count explanations
-        → IsStatusOf are.numbered.histories.halls are.read.pieces Refused }
+    ensures good { (selection : Selection) (histories : RecordedHalls)
+        (pieces joined : List KeyOrder) (keys : List CheckedKey) (all : List Judgement)
+        → selection.judged ≡ Orders → names_of selection ≡ [] → AreJoined pieces joined
+        → HaveKeys histories joined keys → AreFound selection keys all
+        → refused_count all ≡ 0 → IsStatusOf histories.halls pieces Good }
+    ensures refused { (selection : Selection) (histories : RecordedHalls)
+        (pieces joined : List KeyOrder) (keys : List CheckedKey) (all : List Judgement)
+        → selection.judged ≡ Orders → names_of selection ≡ [] → AreJoined pieces joined
+        → HaveKeys histories joined keys → AreFound selection keys all
+        → 1 ≤ refused_count all → IsStatusOf histories.halls pieces Refused }
 {}

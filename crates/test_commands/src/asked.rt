@@ -1,5 +1,5 @@
 //! What a row asks for.
-use explain_command::Selection;
+use judged_keys::{Judged, Names, Selection};
 use std::io::ErrorKind;
 
 /// A row's input: its first line, which is a kind and its options, and the lines below it.
@@ -69,12 +69,17 @@ impl<'a> Asked<'a> {
         if workers.is_empty() { "1" } else { workers }
     }
 
-    /// Which keys are explained: all, or that of the option `key`; and a reason for each of the first ten refused
-    /// ones, or as many as the option `most` says.
+    /// Which keys are explained, by what: all, or that of the option `key`; and a reason for each of the first ten
+    /// refused ones, or as many as the option `most` says.
     pub fn selection(self) -> Selection<'a> {
         let name = self.value("key");
+        let judged = match self.kind() {
+            "explain-tags" => Judged::Tags,
+            _ => Judged::Orders,
+        };
         Selection {
-            key: if name.is_empty() { None } else { Some(name) },
+            judged,
+            keys: Names::of(if name.is_empty() { None } else { Some(name) }),
             most: u16::try_from(self.number("most", 10)).unwrap_or(10),
         }
     }

@@ -1,8 +1,9 @@
 //! Runs of single commands.
 use crate::formats::Counting;
 use cli::{Lines, Source, Status, check_command, justify_command, simulate_command};
-use decide_command::{Deciding, decide_command};
-use explain_command::{Selection, judge_orders_command, judge_tags_command};
+use decide_command::Deciding;
+use explain_command::Explaining;
+use judged_keys::{Judged, Names, Selection, judge_history_command, judge_orders_command};
 use parallel_keys::Workers;
 use std::alloc::{AllocError, Global};
 use std::io::ErrorKind;
@@ -23,7 +24,8 @@ pub struct Input<'a> {
 
 /// All keys, and a reason for each of the first ten that are refused.
 pub const ALL_KEYS: Selection<'static> = Selection {
-    key: None,
+    judged: Judged::Orders,
+    keys: Names::Several(&[]),
     most: 10,
 };
 
@@ -102,23 +104,25 @@ pub fn run(
     };
     let mut first = file(first, input.file, way.size, way.failure);
     let mut orders = file("o", input.orders, way.size, None);
-    let (keys, out, errors) = (input.selection, &mut outputs.out, &mut outputs.errors);
+    let (out, errors) = (&mut outputs.out, &mut outputs.errors);
+    let selection = input.selection;
+    let explaining = Explaining { selection };
     let status = match name {
         "simulate" => simulate_command(rt, alloc, &mut first, out, errors),
         "trace" => trace_command(rt, alloc, &mut first, way.most, out, errors),
         "justify" => justify_command(rt, alloc, &mut first, way.unchecked, out, errors),
         "explain" => {
-            judge_orders_command(rt, alloc, &mut first, &mut orders, &keys, out, errors)
+            judge_orders_command(rt, alloc, &mut first, &mut orders, &explaining, out, errors)
         }
-        "explain-tags" => judge_tags_command(rt, alloc, &mut first, &keys, out, errors),
+        "explain-tags" => judge_history_command(rt, alloc, &mut first, &explaining, out, errors),
         "decide" => match names_in(alloc, input.decided) {
             Ok(names) => {
                 let deciding = Deciding {
-                    keys: names.as_slice(),
-                    most: keys.most,
+                    keys: Names::Several(names.as_slice()),
+                    most: selection.most,
                     form: way.form,
                 };
-                decide_command(rt, alloc, &mut first, &deciding, out, errors)
+                judge_history_command(rt, alloc, &mut first, &deciding, out, errors)
             }
             Err(_) => Status::Failed,
         },

@@ -3,7 +3,7 @@ use crate::notation::written;
 use cli::{Counting, Source, Status};
 use command_line::{Command, DrawAsked, command};
 use draw_command::Drawn;
-use explain_command::{judge_orders_command, judge_tags_command};
+use judged_keys::{judge_history_command, judge_orders_command};
 use std::alloc::Global;
 use std::thread::Threads;
 use test_rows::{AMPLE, Answer, Outputs, Pieces, Said, words_of};
@@ -30,7 +30,7 @@ fn drawn(
         let mut orders = file("o", orders);
         judge_orders_command(rt, alloc, &mut history, &mut orders, &shown, out, errors)
     } else {
-        judge_tags_command(rt, alloc, &mut history, &shown, out, errors)
+        judge_history_command(rt, alloc, &mut history, &shown, out, errors)
     };
     outputs.said(status)
 }

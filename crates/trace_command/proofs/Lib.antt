@@ -1,2 +1,3 @@
+mod NoRefusal
 mod Numbering
 mod Ending

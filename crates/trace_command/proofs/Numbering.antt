@@ -9,7 +9,7 @@ use Rattle.file_format.specs.declared.hall_row.HallRow.{HallRow}
 use Rattle.file_format.specs.Texts.{rows_from}
 use Rattle.history_file.specs.NumberedRows.{line_in, lines_of}
 use Rattle.history_file.specs.declared.numbered_format.NumberedHistories.{NumberedHistories}
-use Rattle.explain_command.specs.KeyExplanations.{HasLinesOfEach}
+use Rattle.judged_keys.specs.Halls.{HasLinesOfEach}
 use Rattle.trace_command.specs.TracePages.{IsNumbered}
 
 -- ---- lines

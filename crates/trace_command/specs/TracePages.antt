@@ -16,7 +16,7 @@ use Rattle.message_scenes.specs.Scenes.{IsRecordedScene}
 use Rattle.message_scenes.specs.declared.scene.MessageScene.{MessageScene}
 use Rattle.diagrams.specs.Diagrams.{diagram, diagram_legend, diagram_style}
 use Rattle.draw_command.specs.Frames.{page_frame}
-use Rattle.draw_command.specs.HistoryPictures.{IsContentOfTags}
+use Rattle.draw_command.specs.HistoryPictures.{IsContentOfHistory}
 use Rattle.draw_command.specs.Pages.{IsFramed, styles_markup}
 use Rattle.draw_command.specs.declared.drawn.Drawn.{Drawn}
 use Rattle.trace_command.specs.declared.words.TheConstants as word
@@ -70,7 +70,7 @@ page_markup content = page_frame word.TITLE.now all_styles content
 -- the page of that scene and trace, and of the pictures of that history
 abbrev pub IsPageOf : MessageScene → List ℕ → NumberedHistories → Drawn → Markup → Type 0
 IsPageOf scene trace numbered drawn page = IsFramed page_markup
-    (IsFramed (both (run_markup scene trace)) (IsContentOfTags numbered drawn)) page
+    (IsFramed (both (run_markup scene trace)) (IsContentOfHistory numbered drawn)) page
 
 -- the history, and the lines of its rows in the file that `abd simulate` writes of it
 pub record IsNumbered (history : Recorded) (numbered : NumberedHistories) : Type 0 where

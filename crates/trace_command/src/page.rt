@@ -2,7 +2,7 @@
 ghost use Rattle.std.specs.Prelude.{◌≡◌, ◌++◌, IfOk, OnOk};
 ghost use Rattle.markup.specs.Markup.{Markup, page_text, rendered};
 ghost use Rattle.diagrams.specs.Layout.{HasClientsInOrder};
-ghost use Rattle.explain_command.specs.KeyExplanations.{HasLinesOfEach};
+ghost use Rattle.judged_keys.specs.Halls.{HasLinesOfEach};
 ghost use Rattle.trace_command.specs.TracePages.{IsPageOf, all_styles, left_out};
 ghost use Rattle.trace_command.specs.TracePages.{messages_markup, run_markup, steps_line};
 ghost use Rattle.trace_command.specs.TracePages.{trace_markup};

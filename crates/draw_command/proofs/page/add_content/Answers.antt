@@ -1,14 +1,14 @@
 -- What stands above the table, the table, what stands below it, and the sections.
-use Rattle.std.proofs.Common.{ℕ, ◌≡◌, ◌≤◌, ◌++◌, List, length, map, option_map, take, ap, subst, sym, ◌∙◌, arith}
+use Rattle.std.proofs.Common.{ℕ, ◌≡◌, ◌≤◌, ◌++◌, List, length, map, take, ap, subst, sym, ◌∙◌, arith}
 use Rattle.std.specs.Borrow.{Bor}
 use Rattle.std.proofs.lemmas.List.{length-map, take-map}
 use Rattle.std.proofs.lemmas.List.Elements.{All-same, All-take}
 use Rattle.std.proofs.lemmas.Result.{on_ok_weaker}
 use Rattle.markup.specs.Markup.{rendered}
-use Rattle.draw_command.specs.Findings.{Judgement}
-use Rattle.draw_command.specs.Judging.{IsDrawable, judgement_of}
+use Rattle.judged_keys.specs.Judgements.{Judgement, judgement_of}
+use Rattle.judged_keys.specs.declared.finding.JudgedKey.{JudgedKey}
+use Rattle.draw_command.specs.Drawings.{IsDrawable}
 use Rattle.draw_command.specs.Making.{Adds}
-use Rattle.draw_command.specs.declared.finding.JudgedKey.{JudgedKey}
 use Rattle.draw_command.specs.Pages.{IsEach, IsSectionOf, IsTableOf, below_table, front_markup}
 use Rattle.draw_command.specs.Pictured.{ArePictured}
 use Rattle.draw_command.proofs.Framing.{content_added, first_ones}
@@ -19,7 +19,7 @@ add_sections-requires-clause-drawable c =
     let n = c.min.result in
     let slice = c.as_slice-keys.result.now in
     let keys = map judgement_of c.args.findings.now.keys.items in
-    let Drawable = IsDrawable c.args.task.now.judged in
+    let Drawable = IsDrawable in
     All-same Drawable (map judgement_of (take n slice)) (take n keys)
     (sym (take-map judgement_of n slice) ∙ ap (λ (items : List JudgedKey). take n (map judgement_of items)) c.as_slice-keys.ensures.value) (All-take Drawable n keys c.requires.drawable)
 
@@ -28,7 +28,7 @@ returns c =
     let task = c.args.task.now in
     let n = c.pictured_count-pictured.result in
     let refused = c.args.findings.now.refused in
-    let missing = option_map (λ (name : Bor (List ℕ)). name.now) c.args.missing in
+    let missing = map (λ (name : Bor (List ℕ)). name.now) c.args.missing.now in
     let items = c.args.findings.now.keys.items in
     let keys = map judgement_of items in
     let slice = c.as_slice-keys.result.now in
@@ -36,7 +36,7 @@ returns c =
     let headed = c.append_front.new.page.items in
     let tabled = c.add_table.new.page.items in
     let under = c.append_below.new.page.items in
-    let Sections = IsSectionOf task.judged task.numbered.now task.drawn in
+    let Sections = IsSectionOf task.numbered.now task.drawn in
     let same : map judgement_of slice ≡ keys = ap (map judgement_of) c.as_slice-keys.ensures.value in
     let count : length slice ≡ length keys = ap length c.as_slice-keys.ensures.value ∙ sym (length-map items judgement_of) in
     let cut = first_ones judgement_of slice _ n (ap (λ (k : ℕ). take k slice) c.min.ensures) ∙ ap (λ (js : List Judgement). take n js) same in

@@ -1,9 +1,8 @@
 use Rattle.std.proofs.Common.{ℕ, List, refl, subst, sym}
 use Rattle.std.proofs.lemmas.Result.{on_ok_weaker}
 use Rattle.tag.specs.declared.numbers.OpId.{OpId}
-use Rattle.parallel_keys.specs.KeysToCheck.{what_of}
 use Rattle.draw_command.specs.Drawings.{IsWhy}
-use Rattle.draw_command.specs.Judging.{judgement_of}
+use Rattle.judged_keys.specs.Judgements.{judgement_of}
 use Rattle.draw_command.proofs.Framing.{section_added}
 use Rattle.draw_command.proofs.SceneOrder.{in_order}
 use Rattle.draw_command.proofs.section.add_section.Goals as goal
@@ -11,7 +10,7 @@ use Rattle.draw_command.proofs.section.add_section.Goals as goal
 pub append_section-requires : goal.append_section-requires
 append_section-requires c =
     let task = c.args.task.now in
-    in_order task.judged task.drawn c.hall_of-hall.result (judgement_of c.args.key.now) c.as_slice-faulty.result.now c.in_ok-scene.scene c.in_ok-scene.ensures
+    in_order task.drawn c.hall_of-hall.result (judgement_of c.args.key.now) c.as_slice-faulty.result.now c.in_ok-scene.scene c.in_ok-scene.ensures
 
 pub returns : goal.returns
 returns c =
@@ -19,13 +18,13 @@ returns c =
     let hall = c.hall_of-hall.result in
     let key = c.args.key.now in
     on_ok_weaker c.append_section.result
-    (section_added task.judged task.numbered.now task.drawn c.args.n (judgement_of key) c.as_slice.result.now
+    (section_added task.numbered.now task.drawn c.args.n (judgement_of key) c.as_slice.result.now
     (record { key = key.one.now.key; hall = hall; part = record { ref_ptr = (0, 0); now = key.one.now.part }; scene = record { ref_ptr = (0, 0); now = c.in_ok-scene.scene }; faulty = c.as_slice-faulty.result })
     (record {
       of_key = refl;
       of_part = refl;
       hall = c.hall_of-hall.ensures;
-      why = subst (λ (t : List ℕ). IsWhy hall (what_of key.one.now) key.finding t c.as_slice-faulty.result.now) (sym c.as_slice.ensures.value)
-          (subst (λ (calls : List OpId). IsWhy hall (what_of key.one.now) key.finding c.in_ok-why.why.text.items calls) (sym c.as_slice-faulty.ensures.value) c.in_ok-why.ensures);
+      why = subst (λ (t : List ℕ). IsWhy hall (judgement_of key) t c.as_slice-faulty.result.now) (sym c.as_slice.ensures.value)
+          (subst (λ (calls : List OpId). IsWhy hall (judgement_of key) c.in_ok-why.why.text.items calls) (sym c.as_slice-faulty.ensures.value) c.in_ok-why.ensures);
       scene = c.in_ok-scene.ensures;
     }) _ _) c.append_section.ensures

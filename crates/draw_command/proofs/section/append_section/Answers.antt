@@ -1,7 +1,7 @@
 use Rattle.std.proofs.lemmas.Result.{on_ok_weaker}
 use Rattle.markup.specs.Markup.{both}
 use Rattle.markup.specs.declared.names.Element.TheVariants as tag
-use Rattle.draw_command.specs.Judging.{judgement_of}
+use Rattle.judged_keys.specs.Judgements.{judgement_of}
 use Rattle.draw_command.specs.Pages.{saying_markup, showing_markup}
 use Rattle.draw_command.proofs.Adding.{both_added, element_added}
 use Rattle.draw_command.proofs.section.append_section.Goals as goal

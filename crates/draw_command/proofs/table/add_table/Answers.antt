@@ -5,8 +5,7 @@ use Rattle.markup.specs.Markup.{Markup, both, element}
 use Rattle.markup.specs.declared.names.AttributeName.TheVariants as name
 use Rattle.markup.specs.declared.names.Element.TheVariants as tag
 use Rattle.parallel_keys.proofs.Fronts.{mapped_more}
-use Rattle.draw_command.specs.Findings.{Judgement}
-use Rattle.draw_command.specs.Judging.{judgement_of}
+use Rattle.judged_keys.specs.Judgements.{Judgement, judgement_of}
 use Rattle.draw_command.specs.Making.{Adds}
 use Rattle.draw_command.specs.Pages.{IsEach, IsFramed, IsRowOf, table_front, table_size}
 use Rattle.draw_command.specs.declared.words.TheConstants.{KEYS}

@@ -1,5 +1,5 @@
 use Rattle.std.proofs.Common.{map, take}
-use Rattle.draw_command.specs.Judging.{judgement_of}
+use Rattle.judged_keys.specs.Judgements.{judgement_of}
 use Rattle.draw_command.specs.Making.{Adds}
 use Rattle.draw_command.specs.Pages.{IsEach, IsRowOf}
 use Rattle.draw_command.proofs.table.add_table.Given as goal

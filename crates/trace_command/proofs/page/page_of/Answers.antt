@@ -1,6 +1,6 @@
 -- What is said and shown of the run, and then the pictures, in the page's frame.
 use Rattle.markup.specs.Markup.{both}
-use Rattle.draw_command.specs.HistoryPictures.{IsContentOfTags}
+use Rattle.draw_command.specs.HistoryPictures.{IsContentOfHistory}
 use Rattle.draw_command.specs.Pages.{IsFramed}
 use Rattle.draw_command.proofs.Adding.{adds_after}
 use Rattle.draw_command.proofs.Framing.{page_framed}
@@ -12,7 +12,7 @@ pub returns : goal.returns
 returns c =
     let shown = c.args.shown.now in
     let run = run_markup shown.scene.now shown.trace.now in
-    let Pictures = IsContentOfTags shown.numbered.now shown.drawn in
+    let Pictures = IsContentOfHistory shown.numbered.now shown.drawn in
     let opened = c.begin_content.new.page.items in
     let drawn = c.add_history_pictures.new.page.items in
     let content = adds_after Pictures run opened c.append_run.new.page.items drawn c.in_ok-append_run.ensures c.in_ok-add_history_pictures.ensures in

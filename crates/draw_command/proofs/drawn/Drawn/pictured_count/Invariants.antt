@@ -1,6 +1,6 @@
 use Rattle.std.proofs.Common.{◌≡◌, ◌≤◌, map, take}
 use Rattle.std.specs.Prelude.{sum_by}
-use Rattle.draw_command.specs.Judging.{judgement_of}
+use Rattle.judged_keys.specs.Judgements.{judgement_of}
 use Rattle.draw_command.specs.Pictured.{page_calls, window_size}
 use Rattle.draw_command.proofs.drawn.Drawn.pictured_count.Given as goal
 

@@ -1,0 +1,5 @@
+pub mod Ending
+pub mod Selecting
+pub mod Judgements
+mod TagOrders
+mod Saying
