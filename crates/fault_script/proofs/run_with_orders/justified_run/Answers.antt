@@ -10,3 +10,8 @@ justified_orders-requires c = λ key part is.
 
 pub returns-clause-history : goal.returns-clause-history
 returns-clause-history c = search rules
+
+pub returns-clause-store : goal.returns-clause-store
+returns-clause-store c =
+    c.justified_records_are_of_a_linearizable_store.ensures c.into_history-history.result.rows c.in_ok-orders.orders.items
+    c.row_count-formed.ensures.formed c.in_ok-orders.ensures
