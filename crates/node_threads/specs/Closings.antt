@@ -3,17 +3,19 @@ use Rattle.std.specs.Prelude.{ℕ, ◌≡◌, ◌≢◌, ◌⊎◌, List, Some, 
 use Rattle.world_steps.specs.Runs.{AreAccepted, after}
 use Rattle.world_steps.specs.Systems.{opening}
 use Rattle.witness_order.specs.RecordOrders.{Justify}
+use Rattle.store_orders.specs.StoreOrders.{IsLinearizableStore}
 use Rattle.node_threads.specs.declared.closing.ClosedHall.{ClosedHall}
 use Rattle.recorder.specs.Logs.{IsLog, of_hall}
 use Rattle.seats.specs.Seats.{Seat}
 use Rattle.node_threads.specs.declared.config.StoreConfig.{StoreConfig}
 
--- the record is what the steps make of the opening world, each of them was accepted, and the orders
--- show the record atomic
+-- the record is what the steps make of the opening world, each of them was accepted, the orders
+-- show the record atomic, and all its calls together have one order
 pub record IsClosed (closed : ClosedHall) : Type 0 where
   pub is : closed.history ≡ (after closed.config closed.journal.items).history
   pub accepted : AreAccepted (opening closed.config) closed.journal.items
   pub atomic : Justify closed.history.rows closed.orders.items
+  pub store : IsLinearizableStore closed.history.rows
 
 -- each of the halls is closed so
 abbrev pub AreClosed : List ClosedHall → Type 0

@@ -11,6 +11,7 @@ use recorder::{History, KeyOrder};
 use seats::{Parcel, Seat, entries_of_hall, is_log};
 use std::alloc::Global;
 use std::sync::{Mutex, Wait};
+use store_orders::laws::justified_records_are_of_a_linearizable_store;
 use tag::{Memory, ReplicaId};
 use witness_order::justified_orders;
 use world_steps::{Config, Step};
@@ -93,8 +94,10 @@ pub(crate) fn closed_halls<R: Wait>(
 fn closed_hall(alloc: Global, hall: Hall) -> Result<ClosedHall, Memory>
     ensures { IfOk result (λ closed. IsClosed closed) }
 {
+    justified_records_are_of_a_linearizable_store();
     let (config, world, journal) = hall.into_parts();
     let history = world.into_history();
+    let _formed = history.row_count();
     let orders = justified_orders(alloc, &history)?;
     Ok(ClosedHall {
         config,
