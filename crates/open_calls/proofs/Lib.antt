@@ -1,0 +1,9 @@
+mod Maps
+mod OneRow
+mod Fresh
+mod Keeping
+mod Indexing
+mod Answers
+mod Views
+mod Once
+mod Reasons

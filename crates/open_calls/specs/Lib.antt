@@ -1,0 +1,5 @@
+pub mod Open
+pub mod Rows
+pub mod Reasons
+pub mod Steps
+pub mod Indexes
