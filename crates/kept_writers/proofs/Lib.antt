@@ -1,0 +1,2 @@
+pub mod Overwriters
+pub mod Greatest
