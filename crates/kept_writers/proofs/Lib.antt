@@ -1,2 +1,3 @@
 pub mod Overwriters
 pub mod Greatest
+pub mod Choosing

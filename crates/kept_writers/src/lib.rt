@@ -5,6 +5,8 @@
 
 mod ends;
 mod fresh;
+mod readable;
 
 pub use ends::Ends;
 pub use fresh::{FreshEnds, fresh_ends};
+pub use readable::{Begins, Candidates, readable_writes};
