@@ -21,6 +21,7 @@ use Rattle.value_order.specs.declared.sources.Source.TheVariants as source
 use Rattle.value_order.specs.declared.zones.Zone.{Zone}
 use Rattle.value_order.specs.Decisions.{IsFault, LacksReadFaults, IsDecision, IsExact, IsVerdict, IsExactVerdict}
 use Rattle.value_order.specs.Families.{IsOfFamily, IsAnsweredBy, HasNoneOpposed}
+use Rattle.value_order.specs.FamilyOrders.{IsFamilyOrder}
 use Rattle.value_order.specs.Found.{AreApart}
 use Rattle.value_order.specs.Keys.{IsListed, IsByFamilies}
 use Rattle.value_order.specs.SortKeys.{HaveZones}
@@ -115,6 +116,17 @@ pub apart_decision : (part : List Call) → IsSequence part → (families : Fami
 apart_decision part sequence families are order by =
     atomic part sequence families.sources.items are.sources are.row are.last families.zones.items are.zones are.free are.reads are.sure order
     (subst (λ (calls : List Call). IsByFamilies calls (IsOnlyWriter calls) families.zones.items order) are.is by)
+
+-- and they are sorted by their families
+pub family_order : (part : List Call) → (families : Families) → AreApart part families → (order : List OpId) → IsByFamilies families.part (IsOnlyWriter families.part) families.zones.items order → IsFamilyOrder part order
+family_order part families are order by = record {
+  sure = are.sure;
+  row = are.row;
+  last = are.last;
+  zones = families.zones.items;
+  are_zones = are.zones;
+  sorted = subst (λ (calls : List Call). IsByFamilies calls (IsOnlyWriter calls) families.zones.items order) are.is by;
+}
 
 pub exact_verdict : (part : List Call) → IsSequence part → (v : ValueVerdict) → IsVerdict part v → IsExactVerdict part v
 exact_verdict part sequence verdict.Atomic h one = (λ yes. h, λ l. tt)

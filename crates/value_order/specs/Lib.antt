@@ -17,4 +17,5 @@ pub mod Ended
 pub mod Stales
 pub mod Numbers
 pub mod Decisions
+pub mod FamilyOrders
 pub mod Found

@@ -5,6 +5,7 @@ ghost use Rattle.value_order.specs.Classes.{AreClasses, AreNexts};
 ghost use Rattle.value_order.specs.Decisions.{IsDecision, IsExact, IsExactVerdict, IsFault, IsVerdict, LacksFaultsBefore};
 ghost use Rattle.value_order.specs.Decisions.{LacksReadFaults};
 ghost use Rattle.value_order.specs.Families.{HasNoneOpposed};
+ghost use Rattle.value_order.specs.FamilyOrders.{AnswersFamilyOrder, IsSureVerdict};
 ghost use Rattle.value_order.specs.Found.{IsDoubted, IsFound};
 ghost use Rattle.value_order.specs.Sources.{AreSources};
 ghost use Rattle.value_order.specs.Writers.{IsInDoubt, IsOnlyWriter};
@@ -160,12 +161,13 @@ fn decide<'p, 'h>(alloc: Global, part: &'p Part<'h>) -> Result<Found<'p, 'h>, Me
 /// Whether the calls of a part are linearizable, by the values that they write and answer.
 ///
 /// A fault is final, whatever else is in doubt: of several the first in their order is said. `Undecided`
-/// comes only where a read has two writers and there is no fault. Where no read has two, the answer is
-/// `Atomic` exactly where there is an order, which isn't made. The time grows with the count of calls and
+/// comes only where a read has two writers and there is no fault, `Atomic` only where no read has two. There
+/// the answer is `Atomic` exactly where there is an order, which isn't made. The time grows with the count of calls and
 /// the bytes of values; with chosen values, by `n log n`. `Memory` comes only where an allocation was refused.
 pub fn decide_by_values(alloc: Global, part: &Part<'_>) -> Result<ValueVerdict, Memory>
     ensures verdict { IfOk result (IsVerdict part.now) }
     ensures exact { IfOk result (IsExactVerdict part.now) }
+    ensures sure { IfOk result (IsSureVerdict part.now) }
 {
     attest(part);
     match decide(alloc, part)? {
@@ -177,10 +179,12 @@ pub fn decide_by_values(alloc: Global, part: &Part<'_>) -> Result<ValueVerdict, 
 
 /// The same with an order, where there is one.
 ///
-/// It takes `n log n` steps: an order is sorted. `Memory` comes only where an allocation was refused.
+/// The order has the calls family by family, a write and then its reads, sorted by where the families end
+/// or begin. It takes `n log n` steps. `Memory` comes only where an allocation was refused.
 pub fn order_by_values(alloc: Global, part: &Part<'_>) -> Result<Decision, Memory>
     ensures decision { IfOk result (IsDecision part.now) }
     ensures exact { IfOk result (IsExact part.now) }
+    ensures families { IfOk result (AnswersFamilyOrder part.now) }
 {
     attest(part);
     match decide(alloc, part)? {
