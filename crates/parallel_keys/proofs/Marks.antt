@@ -8,14 +8,6 @@ use Rattle.certificate_check.specs.declared.verdict.Verdict.{Verdict}
 use Rattle.certificate_check.specs.declared.verdict.Verdict.TheVariants.{Yes, No}
 use Rattle.parallel_keys.specs.VerdictLists.{verdict_for, verdict_of}
 
--- a mark that isn't 0 has the fault before its place
-pub verdict_later : (faults : List Fault) (mark : ℕ) → (mark ≡ 0 → ⊥)
-    → verdict_of faults mark ≡ verdict_for (slice_get faults (mark - 1))
-verdict_later faults zero later = absurd (later refl)
-verdict_later faults (suc place) later =
-    let same : place ≡ suc place - 1 = omega arith in
-    ap (λ (n : ℕ). verdict_for (slice_get faults n)) same
-
 -- each mark has its fault
 abbrev pub Have : List ℕ → ℕ → Type 0
 Have marks count = (i mark : ℕ) → slice_get marks i ≡ Some mark → mark ≤ count

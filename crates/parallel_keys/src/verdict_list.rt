@@ -1,5 +1,5 @@
 //! Verdicts in little room.
-ghost use Rattle.std.specs.Prelude.{◌≡◌, ◌<◌, ◌∷◌, ◌++◌, [], Some, length, OnOk};
+ghost use Rattle.std.specs.Prelude.{◌≡◌, ◌<◌, ◌≤◌, ◌∷◌, ◌++◌, [], Some, length, OnOk};
 ghost use Rattle.std.specs.List.{slice_get};
 ghost use Rattle.parallel_keys.specs.VerdictLists.{verdict_of};
 
@@ -31,14 +31,13 @@ impl Model for VerdictList {
 
 /// The verdict of that mark.
 fn verdict_of(faults: &[Fault], mark: usize) -> Verdict
+    requires { mark ≤ length faults.now }
     ensures { result ≡ verdict_of faults.now mark }
 {
     if mark == 0 {
-        return Verdict::Yes;
-    }
-    match faults.get(mark - 1) {
-        Some(fault) => Verdict::No(*fault),
-        None => Verdict::Yes,
+        Verdict::Yes
+    } else {
+        Verdict::No(faults[mark - 1])
     }
 }
 

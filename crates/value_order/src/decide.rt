@@ -162,8 +162,9 @@ fn decide<'p, 'h>(alloc: Global, part: &'p Part<'h>) -> Result<Found<'p, 'h>, Me
 ///
 /// A fault is final, whatever else is in doubt: of several the first in their order is said. `Undecided`
 /// comes only where a read has two writers and there is no fault, `Atomic` only where no read has two. There
-/// the answer is `Atomic` exactly where there is an order, which isn't made. The time grows with the count of calls and
-/// the bytes of values; with chosen values, by `n log n`. `Memory` comes only where an allocation was refused.
+/// the answer is `Atomic` exactly where there is an order, which isn't made. The time grows with the count of
+/// calls and the bytes of values; with a doubt, or with chosen values, by `n log n`. `Memory` comes only where
+/// an allocation was refused.
 pub fn decide_by_values(alloc: Global, part: &Part<'_>) -> Result<ValueVerdict, Memory>
     ensures verdict { IfOk result (IsVerdict part.now) }
     ensures exact { IfOk result (IsExactVerdict part.now) }
@@ -177,7 +178,7 @@ pub fn decide_by_values(alloc: Global, part: &Part<'_>) -> Result<ValueVerdict, 
     }
 }
 
-/// The same with an order, where there is one.
+/// The same, with an order if it is `Atomic`.
 ///
 /// The order has the calls family by family, a write and then its reads, sorted by where the families end
 /// or begin. It takes `n log n` steps. `Memory` comes only where an allocation was refused.

@@ -1,8 +1,9 @@
 //! Orders from values alone, without tags.
 //!
 //! `decide_by_values` decides whether the calls of a part are linearizable by the values that reads answer and
-//! writes write; nothing is searched, and nothing sorted. `order_by_values` does so too, and makes an order in
-//! `n log n` steps. Where no read has two writers, they decide exactly.
+//! writes write; no order is searched for, and where no fault and no doubt shows, nothing is sorted.
+//! `order_by_values` does so too, and makes an order in `n log n` steps. Where no read has two writers, they
+//! decide exactly.
 #![tactic(auto)]
 
 mod classes;
