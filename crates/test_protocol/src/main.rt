@@ -4,6 +4,7 @@
 //! Its words name the files. It ends well where each row is as expected.
 #![tactic(auto)]
 
+mod all_keys;
 mod clients;
 mod messages;
 mod networks;

@@ -1,4 +1,5 @@
 //! Steps of a world.
+use crate::all_keys::say_store_order;
 use crate::texts::{say_row, say_step, say_taken};
 use crate::words::Words;
 use random_steps::RandomSteps;
@@ -191,6 +192,7 @@ pub fn world_answers(out: &mut Answer, (world, steps): (&mut World, &mut RandomS
         "settle" => settle_call(out, world, words.client()),
         "seen?" => say_seen(out, world),
         "rows?" => say_rows(out, world.history()),
+        "order?" => say_store_order(out, world),
         "phase?" => say_phase(out, world, words.client()),
         "copies?" => say_copies(out, world, words.number().unwrap_or(0)),
         "draw" => draw(out, world, steps),
