@@ -1,3 +1,4 @@
 pub mod Overwriters
 pub mod Greatest
 pub mod Choosing
+pub mod Standing

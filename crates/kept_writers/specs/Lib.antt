@@ -1,3 +1,4 @@
 pub mod Ends
 pub mod Fresh
 pub mod Candidates
+pub mod Written

@@ -6,7 +6,9 @@
 mod ends;
 mod fresh;
 mod readable;
+mod writers;
 
 pub use ends::Ends;
 pub use fresh::{FreshEnds, fresh_ends};
 pub use readable::{Begins, Candidates, readable_writes};
+pub use writers::Writers;
