@@ -46,8 +46,8 @@ abbrev pub IsTableOf : List Call → (ℕ → Option ℕ) → Type 0
 IsTableOf part source = (number target : ℕ) → source number ≡ Some target → (write : Call)
     × (read : Call) × ReadsBy part source write read × (read.op.0 ≡ number)
 
--- the later table has the entries of the other, and new ones of reads alone that were answered after
--- the row
+-- the later table has the entries of the other, and new ones of reads alone that were answered
+-- after the row
 pub record Extends (row : ℕ) (after : List Call) (source later : ℕ → Option ℕ) : Type 0 where
   pub grows : (number target : ℕ) → source number ≡ Some target → later number ≡ Some target
   pub fresh : (read : Call) (target : ℕ) → Contains after read → IsAnsweredBy row read

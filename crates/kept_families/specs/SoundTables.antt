@@ -8,8 +8,8 @@ use Rattle.value_order.specs.Families.{IsOfFamily, IsAnsweredBy, MustPrecedeBy}
 use Rattle.value_order.specs.Writers.{AnswersValue, AnswersNothing, IsWriter}
 
 module _ (part : List Call) (Reads : Call → Call → Type 0) where
-  -- write u was overwritten by write w before the place: its family must precede that of w, of which
-  -- a call was answered by the row, before that place
+  -- write u was overwritten by write w before the place: its family must precede that of w, of
+  -- which a call was answered by the row, before that place
   pub record IsOverwrittenBy (row place : ℕ) (w u : Call) : Type 0 where
     pub apart : u ≢ w
     pub precedes : MustPrecedeBy part Reads row u w
