@@ -18,7 +18,7 @@ import tempfile
 DATA = os.path.join(os.path.dirname(os.path.abspath(__file__)), "..", "crates", "test_pages", "data")
 LEADS = {"title": "title", "h1": "heading 1", "h2": "heading 2"}
 NOT_DRAWN = "Keys that are not drawn (--most says how many are, up to 20,000 calls on a page; --key draws one)"
-PARAGRAPHS = {"sum", "missing", "rest", "why", "shown"}
+PARAGRAPHS = {"hint", "sum", "missing", "rest", "why", "shown"}
 
 
 def left_out(kind):

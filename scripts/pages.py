@@ -1,15 +1,19 @@
 """pages.py ABD [COUNT]
 
 Reads pages of `abd draw` as XML, and compares what they show with the history, read here by other means. The histories are those of COUNT
-random scripts (100 if not given), drawn by their tags and by their orders, and one with values that look like markup.
+random scripts (100 if not given), drawn by their tags, by their orders and by their values, the same where some reads answer something
+else, by their values, and one with values that look like markup.
 
-Of each key it compares the calls, their clients and columns, the rows where they begin and end, and the points of a `yes`; so it does on
-the page of a script, whose messages it compares with the trace. A text stays a text, no element is a script, each link has its place on
-the page, and a page has one title and leaves out no level of headings.
+Of each key it compares the calls, their clients and columns, the rows where they begin and end, and the points of a `yes`; so it does of
+all keys together (`--whole`), whose one order it makes of the keys' orders, and on the page of a script, whose messages it compares with
+the trace. By values it compares the points of an atomic key with the order that `abd justify --by values` writes, which has to be one, and
+the red calls of any other with those that `abd decide` names. A text stays a text, no element is a script, each link has its place on the
+page, and a page has one title and leaves out no level of headings.
 """
 
 import json
 import os
+import random
 import re
 import subprocess
 import sys
@@ -32,20 +36,21 @@ def expect(is_so, *what):
 
 def run(abd, *words):
     ran = subprocess.run([abd, *words], capture_output=True)
-    expect(ran.returncode in (0, 1, 3), "status", ran.returncode, "of", *words)
+    expect(ran.returncode in (0, 1, 3, 5), "status", ran.returncode, "of", *words)
     return ran.returncode, ran.stdout.decode()
 
 
 def calls_of(path):
-    """The calls of a history of version 1, by number: each with its key, client, kind and lines."""
+    """The calls of a history of version 1, by number: each with its key, client, kind, value and lines."""
     calls = {}
     with open(path, encoding="utf-8") as file:
         for line, text in enumerate(file.read().split("\n"), 1):
             row = json.loads(text) if text else {}
             if row.get("row") == "invoke":
-                calls[row["call"]] = {"key": row["key"], "client": row["client"], "kind": row["do"], "begins": line, "ends": None}
+                call = {"key": row["key"], "client": row["client"], "kind": row["do"], "begins": line, "ends": None}
+                calls[row["call"]] = {**call, "value": row.get("value")}
             elif row.get("row") == "respond":
-                calls[row["call"]]["ends"] = line
+                calls[row["call"]].update(ends=line, value=row.get("value", calls[row["call"]]["value"]))
     return calls
 
 
@@ -92,23 +97,68 @@ def check_points(picture, bars, order):
         expect(left < x < right and top < y and (bottom is None or y < bottom), "point of", call)
 
 
-def check_key(section, calls, orders):
-    key, verdict = section.find("h2").text.split(": ", 1)
+def check_order(own, order):
+    """The order has each completed call once, each read answers the last write, and none stands before one that ended earlier."""
+    expect(len(set(order)) == len(order) and set(order) <= set(own), "calls of the order", order)
+    expect(all(op in order for op, call in own.items() if call["ends"]), "completed calls of the order", order)
+    last, latest = None, 0
+    for op in order:
+        expect(own[op]["kind"] == "write" or own[op]["value"] == last, "answer of", op)
+        last = own[op]["value"]
+        latest = max(latest, own[op]["begins"])
+        expect(own[op]["ends"] is None or latest < own[op]["ends"], "place of", op)
+
+
+def check_calls(section, own, most, of):
+    """The picture of a section shows these calls, or as many as it may. The picture, and its bars by call."""
     picture = next(section.iter("svg"))
     shown, total = [int(it) for it in elements(section, "p", "shown")[0].text.split(": ")[1].split(" of ")]
-    own = {op: call for op, call in calls.items() if call["key"] == key}
     bars = {named(it)[0]: it for it in picture.iter("g")}
-    expect(total == len(own) and shown == len(bars) and shown == len(elements(picture, "g")), "calls of", key)
-    expect(set(bars) <= set(own) and (shown == 200 or set(bars) == set(own)), "calls shown of", key)
+    expect(total == len(own) and shown == len(bars) and shown == len(elements(picture, "g")), "calls of", of)
+    expect(set(bars) <= set(own) and (shown == most or set(bars) == set(own)), "calls shown of", of)
     client_at = {int(it.text[7:]): number(it, "x") for it in elements(picture, "text", "client")}
     row_of = {int(it.text[5:]): number(it, "y") - 4 for it in elements(picture, "text", "line")}
     for op, bar in bars.items():
         expect(own[op]["kind"] in bar.get("class"), "kind of", op)
         check_bar(bar, own[op], client_at, row_of)
-    expect(len(elements(section, "tr")) == shown + 1, "table of", key)
-    if verdict == "yes":
+    expect(len(elements(section, "tr")) == shown + 1, "table of", of)
+    return picture, bars
+
+
+def check_key(section, calls, orders):
+    key, verdict = section.find("h2").text.split(": ", 1)
+    own = {op: call for op, call in calls.items() if call["key"] == key}
+    picture, bars = check_calls(section, own, 200, key)
+    if verdict in ("yes", "atomic"):
+        check_order(own, orders[key])
         check_points(picture, bars, orders[key])
+    else:
+        expect(not elements(picture, "circle"), "points of", key)
     return key
+
+
+def store_order(calls, orders):
+    """One order of all calls: by the line at which each and all before it on its key have begun, place on its key, number."""
+    timed = []
+    for order in orders.values():
+        latest = 0
+        for place, call in enumerate(order):
+            latest = max(latest, calls[call]["begins"])
+            timed.append((latest, place, call))
+    return [call for _, _, call in sorted(timed)]
+
+
+def check_whole(text, history, orders):
+    """The picture of all keys has all calls, each with its key, and the points of one order."""
+    calls = calls_of(history)
+    sections = list(read_page(text).iter("section"))
+    expect(len(sections) == 1 and sections[0].find("h2").text == "all keys: one order of all calls", "sections", len(sections))
+    picture, bars = check_calls(sections[0], calls, 10000, "all keys")
+    for op, bar in bars.items():
+        expect(f" {calls[op]['key']} " in bar.find("title").text, "key of", op)
+        said, name = bar.find("text").text.rstrip("\u2026"), f"#{op} {calls[op]['key']}: "
+        expect(said[:len(name)] == name[:len(said)], "name of the key of", op)
+    check_points(picture, bars, store_order(calls, orders))
 
 
 def check_headings(root):
@@ -142,13 +192,68 @@ def check_page(text, history, orders):
     expect(len(drawn) == min(len(keys), 20) and drawn <= keys, "keys", drawn)
 
 
+def red_calls(section):
+    """The calls in the refusal's colour."""
+    return {named(bar)[0] for bar in elements(next(section.iter("svg")), "g", "faulty")}
+
+
+def check_values(abd, history):
+    """The page by values has the points of the orders that are found by values, and the calls of each line of `decide` in red."""
+    orders = orders_in(run(abd, "justify", "--by", "values", "--unchecked", history)[1])
+    status, lines = run(abd, "decide", "--json", history)
+    decided = {it["key"]: it for it in map(json.loads, lines.splitlines())}
+    expect({key for key, it in decided.items() if it["verdict"] == "atomic"} == set(orders), "keys with orders", orders)
+    drawn_status, page = run(abd, "draw", "--by", "values", history)
+    expect(drawn_status == status, "status", drawn_status)
+    check_page(page, history, orders)
+    for section in read_page(page).iter("section"):
+        key = section.find("h2").text.partition(": ")[0]
+        is_refused = decided[key]["verdict"] == "not atomic"
+        expect(red_calls(section) == (set(decided[key]["calls"]) if is_refused else set()), "red calls of", key)
+
+
+def check_whole_values(abd, history):
+    """The picture of all keys by values has the points of one order; or the red calls of the first key that isn't atomic."""
+    orders = orders_in(run(abd, "justify", "--by", "values", "--unchecked", history)[1])
+    status, lines = run(abd, "decide", "--json", history)
+    decided = list(map(json.loads, lines.splitlines()))
+    drawn_status, page = run(abd, "draw", "--whole", "--by", "values", "--calls", "10000", history)
+    expect(drawn_status == status, "status", drawn_status)
+    if all(it["verdict"] == "atomic" for it in decided):
+        check_whole(page, history, orders)
+        return
+    section = next(read_page(page).iter("section"))
+    refused = [it for it in decided if it["verdict"] == "not atomic"]
+    expect(section.find("h2").text == "all keys: a key is " + ("refused" if refused else "undecided"), "heading", section.find("h2").text)
+    expect(red_calls(section) == (set(refused[0]["calls"]) if refused else set()), "red calls of all keys")
+    expect(not elements(next(section.iter("svg")), "circle"), "points of all keys")
+
+
+def spoil(history, seed):
+    """Some reads answer what another one answers, or nothing."""
+    chance = random.Random(seed)
+    with open(history, encoding="utf-8") as file:
+        rows = [json.loads(line) for line in file]
+    answers = [row["value"] for row in rows if row.get("row") == "respond" and "value" in row] + [None]
+    with open(history, "w", encoding="utf-8") as file:
+        for row in rows:
+            if row.get("row") == "respond" and "value" in row and chance.random() < 0.1:
+                row["value"] = chance.choice(answers)
+            file.write(json.dumps(row, sort_keys=True, separators=(",", ":"), ensure_ascii=False) + "\n")
+
+
 def orders_of(path):
     """The calls of each key in the order of the file."""
-    orders = {}
     with open(path, encoding="utf-8") as file:
-        for text in file.read().split("\n")[1:-1]:
-            piece = json.loads(text)
-            orders.setdefault(piece["key"], []).extend(piece["order"])
+        return orders_in(file.read())
+
+
+def orders_in(text):
+    """The same of the file's text."""
+    orders = {}
+    for line in text.split("\n")[1:-1]:
+        piece = json.loads(line)
+        orders.setdefault(piece["key"], []).extend(piece["order"])
     return orders
 
 
@@ -159,6 +264,7 @@ def check_history(abd, place, history):
     orders = orders_of(order_file)
     for words in ([], [order_file]):
         check_page(run(abd, "draw", history, *words)[1], history, orders)
+        check_whole(run(abd, "draw", "--whole", "--calls", "10000", history, *words)[1], history, orders)
     return orders
 
 
@@ -180,6 +286,43 @@ def count(trace, pattern):
     return len(re.findall(pattern, trace, re.M))
 
 
+def texts(diagram, kind):
+    return ["".join(it.itertext()).strip() for it in elements(diagram, "text", kind)]
+
+
+def check_said(diagram, trace):
+    """Numbers of messages, votes, and reasons of what was refused are those of the trace, in its order."""
+    numbers = [int(one or other) for one, other in re.findall(r": message (\d+)$|message (\d+) gets one more copy$", trace, re.M)]
+    arrows = [it for it in diagram.iter("g") if it.get("class") in ("request", "reply")]
+    expect([int(re.match(r"message (\d+): ", it.find("title").text).group(1)) for it in arrows] == numbers, "numbers of messages")
+    expect([int("".join(it.find("text").itertext()).split(" ")[0]) for it in arrows] == numbers, "numbers at arrows")
+    reasons = re.findall(r" (is refused: .*)$", trace, re.M)
+    expect(texts(diagram, "reason") == reasons and len(elements(diagram, "text", "refused")) == len(reasons), "refused rows", reasons)
+    votes = [one or "enough votes" for one in re.findall(r": (\d+ of \d+ votes)$|: a put quorum; its call is ready$", trace, re.M)]
+    expect(texts(diagram, "counted") == votes, "votes", texts(diagram, "counted"), "of", votes)
+    expect(texts(diagram, "ignored") == ["stale: counts nothing"] * count(trace, r"; the reply is stale"), "stale replies")
+    expect(len(elements(diagram, "text", "keeps")) == count(trace, r", which it keeps, and answers: "), "pairs that are kept")
+
+
+def check_curtains(diagram, trace):
+    """The curtain of each row hides the rows after its own, links to those before and after it, and says what the trace tells of it."""
+    rows = [number(it, "y1") for it in elements(diagram, "line", "step")]
+    curtains = elements(diagram, "g", "curtain")
+    expect(len(curtains) == (len(rows) if len(rows) <= 1000 else 0), "curtains of", len(rows), "rows")
+    for place, curtain in enumerate(curtains):
+        box = curtain.find("rect")
+        top, foot = number(box, "y"), number(box, "y") + number(box, "height")
+        hidden = [row for row in rows if top < row < foot]
+        expect(hidden == rows[place + 1:] and curtain.get("id") == f"step-{place}", "curtain", place)
+        near = [f"#step-{it}" for it in (place - 1, place + 1) if 0 <= it < len(rows)]
+        expect([it.get("href") for it in curtain.iter("a")] == near + ["#messages"], "links of curtain", place)
+    lines = re.findall(r"^(?:  |line \d+: )(?!(?:finish \d+|random \d+ \d+):$|took \d+ )(.*)$", trace, re.M)
+    said = texts(diagram, "sentence")
+    expect(len(said) == (len(lines) if curtains else 0), "sentences", said, "of", lines)
+    for one, line in zip(said, lines):
+        expect(one == line or one.endswith("…") and line.startswith(one[:-1]), "sentence", one, "of", line)
+
+
 def check_trace(abd, script, history, orders):
     """The messages of a trace's page are those of the trace in words, and the pictures those of the history."""
     page = run(abd, "trace", script, "--draw", "--most", "10000")[1]
@@ -194,10 +337,14 @@ def check_trace(abd, script, history, orders):
     arrows = elements(diagram, "g", "request") + elements(diagram, "g", "reply")
     ends = [it.find("line").get("class") for it in arrows]
     expect(len(arrows) == count(trace, r": message \d+$") + count(trace, r"gets one more copy$"), "messages")
-    expect(ends.count("arriving") == count(trace, r"^( |line \d+: )*message \d+ arrives: "), "messages that arrive")
+    arrived = ends.count("arriving") + ends.count("stale")
+    expect(arrived == count(trace, r"^( |line \d+: )*message \d+ arrives: "), "messages that arrive")
+    expect(ends.count("stale") == count(trace, r"; the reply is stale and changes nothing$"), "stale replies")
     expect(ends.count("lost") == count(trace, r"a copy of message \d+ is lost$"), "messages that are lost")
     bars = elements(diagram, "g", "reading") + elements(diagram, "g", "writing")
     expect(len(bars) == count(trace, r": call \d+; it asks$"), "calls of a trace")
+    check_said(diagram, trace)
+    check_curtains(diagram, trace)
 
 
 def check_script(abd, place, seed):
@@ -210,6 +357,11 @@ def check_script(abd, place, seed):
         with open(history, "w", encoding="utf-8") as file:
             file.write(text)
         check_trace(abd, script, history, check_history(abd, place, history))
+        check_values(abd, history)
+        check_whole_values(abd, history)
+        spoil(history, seed)
+        check_values(abd, history)
+        check_whole_values(abd, history)
     return status == 0
 
 

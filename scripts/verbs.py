@@ -87,9 +87,29 @@ def add_all():
     add(2, "decide good.history --most 10001", "error: ")
     add(2, "draw good.history --calls 0", "error: ")
     add(2, "draw good.history --around 4294967296", "error: ")
+    add(0, "draw good.history good.orders --whole")
+    add(1, "draw good.history refused.orders --whole")
+    add(1, "draw unnoted.history --whole")
+    add(2, "draw good.history --whole --key x", "abd: ")
+    add(2, "draw good.history --whole --most 20", "abd: ")
+    add(4, "draw good.history good.orders --whole", FULL, full=True)
     add(2, "trace good.script --most 4294967296", "error: ")
     add(1, "justify unnoted.history", "abd: key x: no note for call 0")
     add(1, "justify unnoted.history --unchecked", "abd: key x: no note for call 0")
+    for words in ("justify --by values", "justify --by=values --unchecked"):
+        add_files(words)
+        add(0, f"{words} unnoted.history")
+        add(1, f"{words} late.history", "x: not atomic 3 read 1 answers nothing, but call 0 had ended before it began")
+        add(5, f"{words} doubt.history", "x: undecided: writes 0 and 1 wrote what read 2 answers")
+    add_files("draw --by values")
+    add(0, "draw unnoted.history --by values")
+    add(1, "draw late.history --by values")
+    add(5, "draw doubt.history --by values")
+    add(1, "draw good.history --by values --key z")
+    for words in ("justify good.history --by", "justify good.history --by both", "draw good.history --by both", "explain good.history --by values"):
+        add(2, words, "error: " if words.endswith("--by") or "explain" in words else "abd: ")
+    for by in ("tags", "values"):
+        add(2, f"draw good.history good.orders --by {by}", "abd: ")
     add(0, "run --callers 1 --calls 2")
     add(2, "run --replicas 16", "error: ")
     add(2, "run --ask 2", "abd: ")
@@ -127,7 +147,7 @@ def wrongs(ran, status, errors, full):
         yield f"standard error says {found!r}"
     if full:
         return
-    is_written = status in (0, 5) or (status == 1 and (not errors or "orders" in ran.stdout.decode()))
+    is_written = status == 0 or (status in (1, 5) and (not errors or "orders" in ran.stdout.decode()))
     if is_written != (ran.stdout != b""):
         yield "standard output has something" if ran.stdout else "standard output has nothing"
 

@@ -12,16 +12,20 @@ _abd() {
       mapfile -t COMPREPLY < <(compgen -W "full short" -- "$word")
       return
       ;;
+    --by)
+      mapfile -t COMPREPLY < <(compgen -W "tags values" -- "$word")
+      return
+      ;;
     --workers | --key | --most | --around | --replicas | --callers | --calls | --keys | --rounds | --drop | --double | --halls | --show | --votes | --ask | --put)
       return
       ;;
   esac
   case $command in
     check) options="--workers --json --help" ;;
-    draw) options="--key --most --calls --around --help" ;;
+    draw) options="--by --key --most --calls --around --whole --help" ;;
     decide) options="--key --most --json --help" ;;
     explain) options="--key --most --help" ;;
-    justify) options="--unchecked --help" ;;
+    justify) options="--by --unchecked --help" ;;
     trace) options="--most --draw --help" ;;
     run)
       options="--replicas --callers --calls --keys --rounds --drop --double --halls --show --reads --votes --ask --put --help"

@@ -12,13 +12,15 @@ use cli::{
     Counting, Ending, Failure, Source, Status, check_command, justify_command, simulate_command,
     usage_command,
 };
-use command_line::{CheckAsked, Command, DecideAsked, DrawAsked, KeysAsked, command};
+use command_line::{
+    By, CheckAsked, Command, DecideAsked, DrawAsked, JustifyAsked, KeysAsked, RunAsked, command,
+};
 use decide_command::Deciding;
 use draw_command::Drawn;
 use explain_command::Explaining;
 use judged_keys::{Presentation, Selection, judge_history_command, judge_orders_command};
-use run_command::{KeyWatch, NoWatch, Watch, run_command};
-use run_options::RunAsked;
+use justify_by_values::Justifying;
+use run_command::{NoWatch, Watch, run_command};
 use std::fs::File;
 use std::io::{ErrorKind, IsTerminal, Stderr, Stdout};
 use std::process::ExitCode;
@@ -26,6 +28,7 @@ use std::sync::Wait;
 use std::thread::Threads;
 use std::{env, fs};
 use trace_command::{trace_command, trace_page_command};
+use whole_pictures::Whole;
 
 /// A file that was opened, whose failures are counted.
 type Opened<'a> = Source<'a, Counting<File>>;
@@ -157,20 +160,47 @@ fn explain(rt: &HostRuntime, threads: &(impl Threads + Sync), asked: &KeysAsked<
 
 /// Draws the calls of the history's keys.
 fn draw(rt: &HostRuntime, threads: &(impl Threads + Sync), asked: &DrawAsked<'_>) -> Ending {
-    let keys = &asked.keys;
-    judge(rt, threads, keys.history, keys.orders, &Drawn::of(asked))
+    let (history, orders) = (asked.keys.history, asked.keys.orders);
+    if asked.whole {
+        judge(rt, threads, history, orders, &Whole::of(asked))
+    } else {
+        judge(rt, threads, history, orders, &Drawn::of(asked))
+    }
 }
 
-/// Justifies the history, or writes the orders that its tags make.
-fn justify(
+/// Justifies the history by its tags, or writes the orders that its tags make. Only a terminal is told what makes
+/// orders of a history without notes.
+fn justify_by_tags(
     rt: &HostRuntime,
     threads: &(impl Threads + Sync),
     history: &str,
     unchecked: bool,
 ) -> Ending {
+    let people = rt.stderr().is_terminal();
     on_file(rt, history, |history, out, errors| {
-        justify_command(threads, rt.alloc(), history, unchecked, out, errors)
+        justify_command(threads, rt.alloc(), history, unchecked, people, out, errors)
     })
+}
+
+/// Writes the orders of the history that are found by its values.
+fn justify_by_values(
+    rt: &HostRuntime,
+    threads: &(impl Threads + Sync),
+    history: &str,
+    unchecked: bool,
+) -> Ending {
+    let justifying = Justifying { unchecked };
+    on_file(rt, history, |history, out, errors| {
+        judge_history_command(threads, rt.alloc(), history, &justifying, out, errors)
+    })
+}
+
+/// Writes orders of the history's keys.
+fn justify(rt: &HostRuntime, threads: &(impl Threads + Sync), asked: &JustifyAsked<'_>) -> Ending {
+    match asked.by {
+        By::Tags => justify_by_tags(rt, threads, asked.history, asked.unchecked),
+        By::Values => justify_by_values(rt, threads, asked.history, asked.unchecked),
+    }
 }
 
 /// Simulates the script.
@@ -201,57 +231,22 @@ fn trace_page(
 }
 
 /// Runs a store under a load that is watched.
-fn run_watched<R, L>(
-    rt: &HostRuntime,
-    threads: &R,
-    asked: RunAsked,
-    watch: L,
-    key_watch: &impl KeyWatch,
-) -> Status
+fn run_watched<R, L>(rt: &HostRuntime, threads: &R, asked: RunAsked, watch: &L) -> Status
 where
     R: Threads + Wait + Copy + Send + Sync + 'static,
     L: Watch + Send + Sync + Drop + 'static,
 {
     let (mut out, mut errors) = outputs(rt);
-    run_command(
-        threads,
-        rt.alloc(),
-        asked,
-        watch,
-        key_watch,
-        &mut out,
-        &mut errors,
-    )
+    let alloc = rt.alloc();
+    run_command(threads, alloc, asked, watch, &mut out, &mut errors)
 }
 
-/// A progress of the run, twice: for its load and for its end. None where its clock can't be read or
-/// memory is wanted.
-fn progress_of(
-    rt: &HostRuntime,
-    asked: &RunAsked,
-) -> Option<(SharedProgress<HostRuntime>, SharedProgress<HostRuntime>)> {
+/// A progress of the run. None where its clock can't be read or memory is wanted.
+fn progress_of(rt: &HostRuntime, asked: &RunAsked) -> Option<SharedProgress<HostRuntime>> {
     let load = asked.load.options();
     let calls = u32::from(load.callers) * u32::from(load.calls);
     let progress = Progress::new(*rt, calls).ok()?;
-    let own = SharedProgress::new(rt.alloc(), progress).ok()?;
-    let watch = own.again().ok()?;
-    Some((own, watch))
-}
-
-/// Runs a store under a load, and says how it ended.
-fn run_to_end<R>(
-    rt: &HostRuntime,
-    threads: &R,
-    asked: RunAsked,
-    progress: SharedProgress<HostRuntime>,
-    watch: SharedProgress<HostRuntime>,
-) -> Status
-where
-    R: Threads + Wait + Copy + Send + Sync + 'static,
-{
-    let status = run_watched(rt, threads, asked, watch, &progress);
-    progress.say_end();
-    status
+    SharedProgress::new(rt.alloc(), progress).ok()
 }
 
 /// Runs a store under a load. Only a terminal is told how far it is, and how it ended.
@@ -260,12 +255,14 @@ where
     R: Threads + Wait + Copy + Send + Sync + 'static,
 {
     if !rt.stderr().is_terminal() {
-        return run_watched(rt, threads, asked, NoWatch, &NoWatch);
+        return run_watched(rt, threads, asked, &NoWatch);
     }
-    match progress_of(rt, &asked) {
-        Some((progress, watch)) => run_to_end(rt, threads, asked, progress, watch),
-        None => run_watched(rt, threads, asked, NoWatch, &NoWatch),
-    }
+    let Some(progress) = progress_of(rt, &asked) else {
+        return run_watched(rt, threads, asked, &NoWatch);
+    };
+    let status = run_watched(rt, threads, asked, &progress);
+    progress.say_end();
+    status
 }
 
 /// Does what was asked for.
@@ -278,7 +275,7 @@ where
         Command::Decide(asked) => decide(rt, threads, asked),
         Command::Draw(asked) => draw(rt, threads, asked),
         Command::Explain(asked) => explain(rt, threads, asked),
-        Command::Justify { history, unchecked } => justify(rt, threads, history, *unchecked),
+        Command::Justify(asked) => justify(rt, threads, asked),
         Command::Simulate { script } => simulate(rt, threads, script),
         Command::Trace { script, most } => trace(rt, threads, script, *most),
         Command::TracePage { script, most } => trace_page(rt, threads, script, *most),

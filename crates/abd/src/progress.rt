@@ -1,5 +1,5 @@
 //! How far the load of `abd run` is, and how the run ended.
-use run_command::{KeyWatch, Watch};
+use run_command::Watch;
 use std::alloc::Global;
 use std::io;
 use std::io::Eprint;
@@ -93,13 +93,6 @@ impl<R: Drop> SharedProgress<R> {
             shared: Arc::new(alloc, progress)?,
         })
     }
-
-    /// The same progress once more.
-    pub fn again(&self) -> Result<SharedProgress<R>, Memory> {
-        Ok(SharedProgress {
-            shared: Arc::try_clone(&self.shared)?,
-        })
-    }
 }
 
 impl<R: Clock + Eprint> SharedProgress<R> {
@@ -109,13 +102,17 @@ impl<R: Clock + Eprint> SharedProgress<R> {
     }
 }
 
-impl<R: Clock + Eprint> Watch for SharedProgress<R> {
+impl<R: Clock + Eprint + Drop> Watch for SharedProgress<R> {
+    fn again(&self) -> Result<SharedProgress<R>, Memory> {
+        Ok(SharedProgress {
+            shared: Arc::try_clone(&self.shared)?,
+        })
+    }
+
     fn answered(&self) {
         self.shared.count_answer();
     }
-}
 
-impl<R> KeyWatch for SharedProgress<R> {
     fn checked(&self, keys: usize, yes: usize) {
         self.shared.keys.store(keys, Ordering::SeqCst);
         self.shared.yes.store(yes, Ordering::SeqCst);

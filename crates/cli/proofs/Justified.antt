@@ -1,23 +1,16 @@
 -- What is made of a history's keys.
-use Rattle.std.proofs.Common.{ℕ, zero, suc, ◌≡◌, ◌≤◌, List, [], ◌∷◌, length, refl, sym, ap, subst, ◌∙◌, arith}
+use Rattle.std.proofs.Common.{ℕ, zero, suc, ◌≡◌, ◌≤◌, List, [], ◌∷◌, length, refl, sym, ap, ◌∙◌, arith}
 use Rattle.std.specs.Prelude.{◌==◌}
 use Rattle.std.proofs.Math.Dec.{eqb-suc-zero}
-use Rattle.recorder.specs.Histories.{Recorded}
 use Rattle.recorder.specs.Halls.{RecordedHalls}
-use Rattle.recorder.specs.declared.order.KeyOrder.{KeyOrder}
 use Rattle.counted_devices.specs.DeviceStates.{DeviceStates}
 use Rattle.file_format.specs.Texts.{orders_text}
-use Rattle.parallel_keys.specs.CheckedKeys.{KeyParts, all_parts}
-use Rattle.parallel_keys.specs.Histories.{AreHallParts}
-use Rattle.cli.specs.Justifications.{AreJustified, IsFirstUnjustified, Justifies, KeyPart, OfFile, OfHalls, refusal_text, status_of_refusal}
+use Rattle.cli.specs.Justifications.{KeyPart, OfFile, OfHalls}
 use Rattle.cli.specs.Readings.{ReadsHistories}
 use Rattle.cli.specs.TagOrders.{AreMade, OrdersKeys, Tagged, left_out_count, left_out_text}
-use Rattle.cli.specs.declared.noted_orders.Unjustified.{Unjustified}
 use Rattle.cli.specs.Outcomes.{found_of}
 use Rattle.cli.specs.declared.outcome.Found.{Found}
-use Rattle.cli.specs.declared.outcome.Found.TheVariants as found
 use Rattle.cli.specs.declared.outcome.Outcome.{Outcome}
-use Rattle.cli.specs.declared.status.Status.TheVariants.{Refused}
 use Rattle.cli.specs.declared.tag_orders.TagOrders.{TagOrders}
 use Rattle.cli.proofs.Tagging.{none_left_out, some_left_out}
 
@@ -36,38 +29,16 @@ counted tagged n long = same_test n (left_out_count tagged)
     (λ none. none_left_out tagged (no_length (left_out_text tagged) (sym long ∙ none)))
     (λ some. some_left_out tagged (λ empty. absurd (omega (arith, some, long ∙ ap length empty))))
 
-module _ (halls : List Recorded) (parts : List KeyParts) (split : AreHallParts halls parts) (outcome : Outcome) where
-  -- each key has its order
-  pub all_justified : (orders : List KeyOrder) → AreJustified (all_parts parts) orders → outcome.found ≡ found.Good → outcome.text.items ≡ orders_text orders → outcome.notes.items ≡ [] → OfHalls Justifies halls outcome
-  all_justified orders each good text notes = record {
-    parts = parts;
-    split = split;
-    makes = subst (λ (b : Found). Justifies (all_parts parts) b outcome.text.items outcome.notes.items) (sym good) (record { orders = orders; justified = each; is = text }, notes);
-  }
-
-  -- the first key without an order is refused
-  pub first_refused : (refusal : Unjustified) → IsFirstUnjustified (all_parts parts) refusal → outcome.found ≡ found.Refused → status_of_refusal refusal ≡ Refused → outcome.text.items ≡ [] → outcome.notes.items ≡ refusal_text refusal
-      → OfHalls Justifies halls outcome
-  first_refused refusal first good refused quiet line = record {
-    parts = parts;
-    split = split;
-    makes = subst (λ (b : Found). Justifies (all_parts parts) b outcome.text.items outcome.notes.items) (sym good) (record { refusal = refusal; first = first; refused = refused; quiet = quiet; is = line });
-  }
-
-  -- the tags' orders, and the lines of the keys that are left out
-  pub ordered_keys : (made : TagOrders) → AreMade (all_parts parts) made → outcome.text.items ≡ orders_text made.orders.items → outcome.notes.items ≡ made.left_out.items
-      → (n : ℕ) → n ≡ length made.left_out.items → outcome.found ≡ found_of (n == 0) → OfHalls OrdersKeys halls outcome
-  ordered_keys made are text notes n long good = record {
-    parts = parts;
-    split = split;
-    makes = record {
-      tagged = are.tagged;
-      are = are.are;
-      is = good ∙ ap found_of (counted are.tagged n (long ∙ ap length are.lines));
-      orders = text ∙ ap orders_text are.orders;
-      lines = notes ∙ are.lines;
-    };
-  }
+-- the tags' orders, and the lines of the keys that are left out
+pub ordered_keys : (parts : List KeyPart) (made : TagOrders) → AreMade parts made → (f : Found) (text notes : List ℕ) → text ≡ orders_text made.orders.items → notes ≡ made.left_out.items
+    → (n : ℕ) → n ≡ length made.left_out.items → f ≡ found_of (n == 0) → OrdersKeys parts f text notes
+ordered_keys parts made are f text notes is lines n long good = record {
+  tagged = are.tagged;
+  are = are.are;
+  is = good ∙ ap found_of (counted are.tagged n (long ∙ ap length are.lines));
+  orders = is ∙ ap orders_text are.orders;
+  lines = lines ∙ are.lines;
+}
 
 -- the file's histories are those of which that is made
 pub of_file : (Makes : List KeyPart → Found → List ℕ → List ℕ → Type 0) (history : DeviceStates) (histories : RecordedHalls) → ReadsHistories history histories → (outcome : Outcome) → OfHalls Makes histories.halls outcome → OfFile Makes history outcome

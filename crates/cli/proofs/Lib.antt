@@ -9,6 +9,8 @@ mod LineSpelling
 mod Tagging
 pub mod Told
 mod Justified
+mod AnyNote
+mod Hinting
 pub mod Reported
 pub mod Noted
 pub mod Prefixes

@@ -10,5 +10,6 @@ pub mod Reports
 pub mod SimulationEndings
 pub mod Statuses
 pub mod TagOrders
+pub mod Hints
 pub mod VerdictLines
 pub mod Usages

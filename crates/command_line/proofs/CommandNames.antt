@@ -1,43 +1,37 @@
 -- Commands by their names.
-use Rattle.std.proofs.Common.{ℕ, ◌≡◌, Bool, eqb, false, ap, codes, slice_index}
-use Rattle.std.proofs.lemmas.Bool.{eqb-false}
-use Rattle.std.specs.Borrow.{Bor}
-use Rattle.clap.specs.Words.{Text}
-use Rattle.run_options.specs.declared.asked.RunAsked.{RunAsked}
-use Rattle.command_line.specs.Words.{name_of}
-use Rattle.command_line.specs.declared.asked.Command.{Command}
+use Rattle.std.proofs.Common.{◌≡◌, codes, List, rules, sym}
+use Rattle.clap.specs.Words.{Row, Text, first_of}
+use Rattle.std.specs.Prelude.{Some}
+use Rattle.command_line.specs.Reading.{IsNone}
+use Rattle.command_line.specs.RunWords.{AsksRun}
+use Rattle.command_line.specs.Words.{AsksCheck, AsksDecision, AsksDrawing, AsksKeys, AsksOrders, AsksTrace, AsksTracePage, MakesAs}
 use Rattle.command_line.specs.declared.asked.Command.TheVariants.{Check, Decide, Draw, Explain, Justify, Run, Simulate, Trace, TracePage}
-use Rattle.command_line.specs.declared.asked.CheckAsked.{CheckAsked}
-use Rattle.command_line.specs.declared.asked.DecideAsked.{DecideAsked}
-use Rattle.command_line.specs.declared.asked.DrawAsked.{DrawAsked}
-use Rattle.command_line.specs.declared.asked.KeysAsked.{KeysAsked}
 
--- names that have different bytes at a place are different
-pub differ_at : (place : ℕ) (a b : Text) → eqb (slice_index a place) (slice_index b place) ≡ false → a ≡ b → ⊥
-differ_at place a b other same =
-    eqb-false (slice_index a place) (slice_index b place) other (ap (λ (name : Text). slice_index name place) same)
+-- of the command of that name, if there is one, nothing is asked for
+pub record AsksNone (name : Text) (rows : List Row) : Type 0 where
+  pub check : name ≡ codes "check" → IsNone (AsksCheck rows)
+  pub decide : name ≡ codes "decide" → IsNone (AsksDecision rows)
+  pub draw : name ≡ codes "draw" → IsNone (AsksDrawing rows)
+  pub explain : name ≡ codes "explain" → IsNone (AsksKeys rows)
+  pub justify : name ≡ codes "justify" → IsNone (AsksOrders rows)
+  pub simulate : name ≡ codes "simulate" → (script : Text) → first_of (codes "SCRIPT") rows ≡ Some script → ⊥
+  pub trace : name ≡ codes "trace" → (script : Text) → IsNone (AsksTrace rows script)
+  pub page : name ≡ codes "trace" → (script : Text) → IsNone (AsksTracePage rows script)
+  pub run : name ≡ codes "run" → IsNone (AsksRun rows)
 
--- as those that begin with different bytes
-pub differ : (a b : Text) → eqb (slice_index a 0) (slice_index b 0) ≡ false → a ≡ b → ⊥
-differ = differ_at 0
+-- so the words make no command
+pub none_made : (name : Text) (rows : List Row) → AsksNone name rows → IsNone (MakesAs name rows)
+none_made name rows none (Check asked) makes = none.check (sym makes.0) asked makes.1
+none_made name rows none (Decide asked) makes = none.decide (sym makes.0) asked makes.1
+none_made name rows none (Draw asked) makes = none.draw (sym makes.0) asked makes.1
+none_made name rows none (Explain asked) makes = none.explain (sym makes.0) asked makes.1
+none_made name rows none (Justify asked) makes = none.justify (sym makes.0) asked makes.1
+none_made name rows none (Simulate script) makes = none.simulate (sym makes.0) script.now makes.1
+none_made name rows none (Trace script most) makes = none.trace (sym makes.0) script.now most makes.1
+none_made name rows none (TracePage script most) makes = none.page (sym makes.0) script.now most makes.1
+none_made name rows none (Run asked) makes = none.run (sym makes.0) asked makes.1
 
--- what holds of each command of a name
-module _ (P : Command → Type 0) (name : Text) where
-  pub by_name : ((asked : CheckAsked) → codes "check" ≡ name → P (Check asked))
-      → ((asked : DecideAsked) → codes "decide" ≡ name → P (Decide asked))
-      → ((asked : DrawAsked) → codes "draw" ≡ name → P (Draw asked))
-      → ((asked : KeysAsked) → codes "explain" ≡ name → P (Explain asked))
-      → ((history : Bor Text) (unchecked : Bool) → codes "justify" ≡ name → P (Justify history unchecked))
-      → ((script : Bor Text) → codes "simulate" ≡ name → P (Simulate script))
-      → ((script : Bor Text) (most : ℕ) → codes "trace" ≡ name → P (Trace script most))
-      → ((script : Bor Text) (most : ℕ) → codes "trace" ≡ name → P (TracePage script most))
-      → ((asked : RunAsked) → codes "run" ≡ name → P (Run asked)) → (command : Command) → name_of command ≡ name → P command
-  by_name check decide draw explain justify simulate trace page run (Check asked) is = check asked is
-  by_name check decide draw explain justify simulate trace page run (Decide asked) is = decide asked is
-  by_name check decide draw explain justify simulate trace page run (Draw asked) is = draw asked is
-  by_name check decide draw explain justify simulate trace page run (Explain asked) is = explain asked is
-  by_name check decide draw explain justify simulate trace page run (Justify history unchecked) is = justify history unchecked is
-  by_name check decide draw explain justify simulate trace page run (Simulate script) is = simulate script is
-  by_name check decide draw explain justify simulate trace page run (Trace script most) is = trace script most is
-  by_name check decide draw explain justify simulate trace page run (TracePage script most) is = page script most is
-  by_name check decide draw explain justify simulate trace page run (Run asked) is = run asked is
+-- of a trace
+pub none_traced : (rows : List Row) → ((script : Text) → IsNone (AsksTrace rows script)) → ((script : Text) → IsNone (AsksTracePage rows script))
+    → AsksNone (codes "trace") rows
+none_traced rows told drawn = search rules

@@ -1,3 +1,4 @@
 mod CommandNames
-mod Traces
+mod Digits
+mod Numbers
 pub mod Unmade

@@ -1,2 +1,5 @@
+pub mod CommandWords
 pub mod Forms
+pub mod Reading
+pub mod RunWords
 pub mod Words

@@ -1,123 +1,128 @@
 -- What the words of a command line ask for, by clap's reading of a simple command.
 use Rattle.std.specs.Prelude.{ℕ, ◌≡◌, ◌≤◌, ◌⊎◌, ◌↔◌, Bool, IsTrue, List, []}
 use Rattle.std.specs.Prelude.{Option, Some, None, codes}
-use Rattle.std.specs.Prelude.{MatchOption, length, map, min, option_map, string_bytes, unwrap_or}
-use Rattle.std.specs.Str.Parse.{IsNumeral, digits_value, without_leading_plus}
-use Rattle.clap.specs.Words.{IsAmong, Row, Text, all_of, fault_of, first_of, one_of, subcommand_of}
+use Rattle.std.specs.Prelude.{length, map, min, option_map, string_bytes}
+use Rattle.clap.specs.Words.{IsAmong, Row, Text, fault_of, first_of, subcommand_of}
 use Rattle.clap.specs.declared.error.kind.ErrorKind.{ErrorKind}
 use Rattle.clap.specs.declared.error.kind.ErrorKind.TheVariants.{DisplayHelp, DisplayVersion}
 use Rattle.clap.specs.declared.error.kind.ErrorKind.TheVariants.{OutOfMemory}
-use Rattle.parallel_keys.specs.Workers.{worker_limit}
-use Rattle.run_options.specs.RunWords.{AsksRun}
-use Rattle.command_line.specs.Forms.{abd_app, most_asked, most_shown}
+use Rattle.load.specs.declared.ranges.NumberRange.{NumberRange}
+use Rattle.command_line.specs.Forms.{abd_app, any_number, default_most, most_shown, shown_calls}
+use Rattle.command_line.specs.Forms.{shown_keys, workers_range}
+use Rattle.command_line.specs.Reading.{AsksNumber, GivesFlag, Names, texts_given}
+use Rattle.command_line.specs.RunWords.{AsksRun}
+use Rattle.command_line.specs.declared.asked.By.{By}
+use Rattle.command_line.specs.declared.asked.By.TheVariants as by
+use Rattle.command_line.specs.declared.asked.CheckAsked.{CheckAsked}
 use Rattle.command_line.specs.declared.asked.Command.{Command}
-use Rattle.command_line.specs.declared.asked.KeysAsked.{KeysAsked}
 use Rattle.command_line.specs.declared.asked.Command.TheVariants.{Check, Decide, Draw, Explain}
 use Rattle.command_line.specs.declared.asked.Command.TheVariants.{Justify, Run, Simulate, Trace}
 use Rattle.command_line.specs.declared.asked.Command.TheVariants.{TracePage}
 use Rattle.command_line.specs.declared.asked.DecideAsked.{DecideAsked}
 use Rattle.command_line.specs.declared.asked.DrawAsked.{DrawAsked}
-use Rattle.command_line.specs.declared.lines.Lines.{Lines}
-use Rattle.command_line.specs.declared.lines.Lines.TheVariants as form
+use Rattle.command_line.specs.declared.asked.JustifyAsked.{JustifyAsked}
+use Rattle.command_line.specs.declared.asked.KeysAsked.{KeysAsked}
 use Rattle.command_line.specs.declared.asked.Usage.{Usage}
 use Rattle.command_line.specs.declared.asked.Usage.TheVariants as usage
+use Rattle.command_line.specs.declared.lines.Lines.{Lines}
+use Rattle.command_line.specs.declared.lines.Lines.TheVariants as form
 
--- the answer is one that fits, or none if none does
-abbrev pub Finds : {X : Type 0} → Option X → (X → Type 0) → Type 0
-Finds {X} found Fits = MatchOption found ((x : X) → Fits x → ⊥) Fits
-
--- the files that the words after `check` name
-pub record NamesFiles (rows : List Row) (history orders : Text) : Type 0 where
-  pub history_named : first_of (codes "HISTORY") rows ≡ Some history
-  pub orders_named : first_of (codes "ORDERS") rows ≡ Some orders
-
--- the words ask for that number, within the range, by the option of that name: it is what stands
--- after the option, or else the option's default
-pub record AsksNumber (rows : List Row) (name : Text) (least most number : ℕ) : Type 0 where
-  pub text : Text
-  pub given : one_of name rows ≡ Some text
-  pub is_numeral : IsNumeral 10 (without_leading_plus text)
-  pub value : digits_value 10 (without_leading_plus text) ≡ number
-  pub from : least ≤ number
-  pub upto : number ≤ most
-
--- the words after `check` ask for so many workers
-abbrev pub AsksWorkers : List Row → ℕ → Type 0
-AsksWorkers rows workers = AsksNumber rows (codes "workers") 1 worker_limit workers
-
--- the words give the flag of that name
-abbrev pub GivesFlag : Text → List Row → Type 0
-GivesFlag name rows = one_of name rows ≡ Some (codes "true")
-
--- the words after `check` ask for lines in that form: for objects of JSON if they give `--json`
+-- the words after `check` or `decide` ask for lines in that form: for objects of JSON if they give
+-- `--json`
 abbrev pub AsksForm : List Row → Lines → Type 0
-AsksForm rows form.Plain = GivesFlag (codes "json") rows → ⊥
-AsksForm rows form.Json = GivesFlag (codes "json") rows
+AsksForm rows form.Plain = GivesFlag rows (codes "json") → ⊥
+AsksForm rows form.Json = GivesFlag rows (codes "json")
 
--- what stands after each option of that name, in their order
-abbrev pub texts_given : Text → List Row → List Text
-texts_given name rows = unwrap_or (all_of name rows) []
+-- the words after `check` name the files, and ask for so many workers, and for lines in that form
+pub record AsksCheck (rows : List Row) (asked : CheckAsked) : Type 0 where
+  pub history : Names rows (codes "HISTORY") asked.history
+  pub orders : Names rows (codes "ORDERS") asked.orders
+  pub workers : AsksNumber rows (codes "workers") workers_range asked.workers
+  pub form : AsksForm rows asked.form
 
 -- the words after `decide` name the history, each key by a `--key` of its own, in their order, and
 -- ask for so many keys, and for lines in that form
 pub record AsksDecision (rows : List Row) (asked : DecideAsked) : Type 0 where
-  pub history : first_of (codes "HISTORY") rows ≡ Some asked.history.now
-  pub keys : map (λ s. s.now) asked.keys.items ≡ texts_given (codes "key") rows
-  pub most : AsksNumber rows (codes "most") 0 most_shown asked.most
+  pub history : Names rows (codes "HISTORY") asked.history
+  pub keys : map (λ s. s.now) asked.keys.items ≡ texts_given rows (codes "key")
+  pub most : AsksNumber rows (codes "most") shown_keys asked.most
   pub form : AsksForm rows asked.form
 
--- the words after `justify` name the history, and say by `--unchecked` whether orders go unchecked
-pub record AsksOrders (rows : List Row) (history : Text) (unchecked : Bool) : Type 0 where
-  pub history_named : first_of (codes "HISTORY") rows ≡ Some history
-  pub way : IsTrue unchecked ↔ GivesFlag (codes "unchecked") rows
+-- the words say by `--by` what orders are made by, or keys judged by: by tags where they have no
+-- such option
+abbrev pub AsksBy : List Row → By → Type 0
+AsksBy rows by.Tags = (first_of (codes "by") rows ≡ None)
+    ⊎ (first_of (codes "by") rows ≡ Some (codes "tags"))
+AsksBy rows by.Values = first_of (codes "by") rows ≡ Some (codes "values")
+
+-- the words after `justify` name the history, and say by `--by` what orders are made by, and by
+-- `--unchecked` whether they go unchecked
+pub record AsksOrders (rows : List Row) (asked : JustifyAsked) : Type 0 where
+  pub history : Names rows (codes "HISTORY") asked.history
+  pub by : AsksBy rows asked.by
+  pub way : IsTrue asked.unchecked ↔ GivesFlag rows (codes "unchecked")
+
+-- the words ask by `--most` for so many, a number in that range, or for so many where they have no
+-- such option
+abbrev pub AsksMost : List Row → NumberRange → ℕ → ℕ → Type 0
+AsksMost rows range default most = AsksNumber rows (codes "most") range most
+    ⊎ ((first_of (codes "most") rows ≡ None) × (most ≡ default))
 
 -- the words after `explain` or `draw` name the files and the key, and ask for so many keys
 pub record AsksKeys (rows : List Row) (asked : KeysAsked) : Type 0 where
-  pub history : first_of (codes "HISTORY") rows ≡ Some asked.history.now
+  pub history : Names rows (codes "HISTORY") asked.history
   pub orders : first_of (codes "ORDERS") rows ≡ option_map (λ s. s.now) asked.orders
   pub key : first_of (codes "key") rows ≡ option_map (λ s. s.now) asked.key
-  pub most : AsksNumber rows (codes "most") 0 most_shown asked.most
+  pub most : AsksMost rows shown_keys default_most asked.most
 
 -- the words give a call's number after `--around`, or have no such option
 abbrev pub AsksAround : List Row → Option ℕ → Type 0
 AsksAround rows None = first_of (codes "around") rows ≡ None
-AsksAround rows (Some call) = AsksNumber rows (codes "around") 0 most_asked call
+AsksAround rows (Some call) = AsksNumber rows (codes "around") any_number call
 
--- the words after `draw` ask for keys as those after `explain` do, for so many calls, and for
--- those around a call
+-- the words after `draw` say by `--by` what keys are judged by, and have no such option beside
+-- orders
+pub record AsksDrawnBy (rows : List Row) (by : By) : Type 0 where
+  pub says : AsksBy rows by
+  pub alone : (first_of (codes "by") rows ≡ None) ⊎ (first_of (codes "ORDERS") rows ≡ None)
+
+-- the words after `draw` ask by `--whole` for one picture of all keys, and then choose no keys
+pub record AsksWhole (rows : List Row) (whole : Bool) : Type 0 where
+  pub says : IsTrue whole ↔ GivesFlag rows (codes "whole")
+  pub keys : IsTrue whole → first_of (codes "key") rows ≡ None
+  pub most : IsTrue whole → first_of (codes "most") rows ≡ None
+
+-- the words after `draw` ask for keys as those after `explain` do, say what these are judged by,
+-- ask for so many calls, and for those around a call, and for one picture of all keys
 pub record AsksDrawing (rows : List Row) (asked : DrawAsked) : Type 0 where
   pub keys : AsksKeys rows asked.keys
-  pub calls : AsksNumber rows (codes "calls") 1 most_shown asked.calls
+  pub by : AsksDrawnBy rows asked.by
+  pub calls : AsksNumber rows (codes "calls") shown_calls asked.calls
   pub around : AsksAround rows asked.around
-
--- the words ask for so many by `--most`, or for so many where they have no such option
-abbrev pub AsksMost : List Row → ℕ → ℕ → Type 0
-AsksMost rows default most = AsksNumber rows (codes "most") 0 most_asked most
-    ⊎ ((first_of (codes "most") rows ≡ None) × (most ≡ default))
+  pub whole : AsksWhole rows asked.whole
 
 -- the words after `trace` name the script, and ask for so many lines of it
 pub record AsksTrace (rows : List Row) (script : Text) (most : ℕ) : Type 0 where
-  pub told : GivesFlag (codes "draw") rows → ⊥
+  pub told : GivesFlag rows (codes "draw") → ⊥
   pub script_named : first_of (codes "SCRIPT") rows ≡ Some script
-  pub lines : AsksMost rows 10000 most
+  pub lines : AsksMost rows any_number 10000 most
 
 -- the words after `trace` name the script, and ask by `--draw` for a page with so many steps of it,
 -- or the most that a page draws if they ask for more
 pub record AsksTracePage (rows : List Row) (script : Text) (most : ℕ) : Type 0 where
-  pub drawn : GivesFlag (codes "draw") rows
+  pub drawn : GivesFlag rows (codes "draw")
   pub script_named : first_of (codes "SCRIPT") rows ≡ Some script
   pub asked : ℕ
-  pub steps : AsksMost rows 1000 asked
+  pub steps : AsksMost rows any_number 1000 asked
   pub few : most ≡ min asked most_shown
 
 -- the words after the command's name make it that command
 abbrev pub Makes : List Row → Command → Type 0
-Makes rows (Check asked) = NamesFiles rows asked.history.now asked.orders.now
-    × AsksWorkers rows asked.workers × AsksForm rows asked.form
+Makes rows (Check asked) = AsksCheck rows asked
 Makes rows (Decide asked) = AsksDecision rows asked
 Makes rows (Draw asked) = AsksDrawing rows asked
 Makes rows (Explain asked) = AsksKeys rows asked
-Makes rows (Justify history unchecked) = AsksOrders rows history.now unchecked
+Makes rows (Justify asked) = AsksOrders rows asked
 Makes rows (Simulate script) = first_of (codes "SCRIPT") rows ≡ Some script.now
 Makes rows (Trace script most) = AsksTrace rows script.now most
 Makes rows (TracePage script most) = AsksTracePage rows script.now most
@@ -129,7 +134,7 @@ name_of (Check asked) = codes "check"
 name_of (Decide asked) = codes "decide"
 name_of (Draw asked) = codes "draw"
 name_of (Explain asked) = codes "explain"
-name_of (Justify history unchecked) = codes "justify"
+name_of (Justify asked) = codes "justify"
 name_of (Simulate script) = codes "simulate"
 name_of (Trace script most) = codes "trace"
 name_of (TracePage script most) = codes "trace"

@@ -1,7 +1,7 @@
 //! What a command line asks for.
 use crate::lines::Lines;
+use load::Load;
 use parallel_keys::Workers;
-use run_options::RunAsked;
 
 /// What the words of `abd check` ask for.
 #[derive(Clone, Copy, Debug, PartialEq, Eq)]
@@ -38,14 +38,55 @@ pub struct KeysAsked<'a> {
     pub most: u16,
 }
 
+/// What orders are made by, and keys judged by that are given none.
+#[derive(Clone, Copy, Debug, PartialEq, Eq)]
+pub enum By {
+    /// The tags of the calls.
+    Tags,
+    /// The values of the calls.
+    Values,
+}
+
+/// What the words of `abd justify` ask for.
+#[derive(Clone, Copy, Debug, PartialEq, Eq)]
+pub struct JustifyAsked<'a> {
+    pub history: &'a str,
+    /// What the orders are made by.
+    pub by: By,
+    /// Whether orders by tags go unchecked, and keys without an order are left out.
+    pub unchecked: bool,
+}
+
 /// What the words of `abd draw` ask for.
 #[derive(Clone, Copy, Debug, PartialEq, Eq)]
 pub struct DrawAsked<'a> {
     pub keys: KeysAsked<'a>,
+    /// What keys are judged by; with orders these.
+    pub by: By,
     /// How many calls of a key are shown, 1 to 10,000.
     pub calls: u16,
     /// The number of the call around which calls are shown, if one is given.
     pub around: Option<u32>,
+    /// Whether all keys have one picture.
+    pub whole: bool,
+}
+
+/// Which histories `abd run` writes.
+#[derive(Clone, Copy, Debug, PartialEq, Eq)]
+pub enum Shown {
+    /// That of one hall.
+    Hall(u8),
+    /// Those of all halls, by hall.
+    All,
+}
+
+/// What the words of `abd run` ask for.
+#[derive(Clone, Copy, Debug, PartialEq, Eq)]
+pub struct RunAsked {
+    /// The load.
+    pub load: Load,
+    /// Which of its histories are written.
+    pub shown: Shown,
 }
 
 /// What a command line asks for.
@@ -59,8 +100,8 @@ pub enum Command<'a> {
     Draw(DrawAsked<'a>),
     /// To say why orders, or without them tags, are refused.
     Explain(KeysAsked<'a>),
-    /// To make the orders of a history's keys from its notes, checked or as the tags make them.
-    Justify { history: &'a str, unchecked: bool },
+    /// To make the orders of a history's keys, by its tags or by its values.
+    Justify(JustifyAsked<'a>),
     /// To run a script and write the history of its run.
     Simulate { script: &'a str },
     /// To run a script and tell the steps of its run, in so many lines at most.

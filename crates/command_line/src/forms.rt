@@ -1,243 +1,149 @@
 //! The commands of `abd`, as clap takes them.
-ghost use Rattle.std.specs.Prelude.{◌≡◌, false, codes, IfOk};
-ghost use Rattle.clap.specs.Words.{App, app_of, new_app, new_rule, rule_of, with_subcommand};
-ghost use Rattle.clap.specs.declared.builder.command.Command.TheViews.{out-Command as fields_of};
-ghost use Rattle.command_line.specs.Forms.{abd_app, any_number_option, bare_app, check_app};
-ghost use Rattle.command_line.specs.Forms.{decide_app, draw_app, explain_app, file_app, flag};
-ghost use Rattle.command_line.specs.Forms.{justify_app, keys_app, most_option, number_option};
-ghost use Rattle.command_line.specs.Forms.{repeated_option, required_argument, simulate_app};
-ghost use Rattle.command_line.specs.Forms.{trace_app, value_option};
+ghost use Rattle.std.specs.Prelude.{◌≡◌, IfOk};
+ghost use Rattle.clap.specs.Words.{app_of};
+ghost use Rattle.command_line.specs.CommandWords.{IsForm};
+ghost use Rattle.command_line.specs.Forms.{abd_app, bare_app, check_app, decide_app, draw_app};
+ghost use Rattle.command_line.specs.Forms.{explain_app, justify_app, run_app, simulate_app, trace_app};
 
-use crate::help;
-use crate::help::CommandHelp;
-use clap::builder::ValueParser;
-use clap::{Arg, ArgAction, Command, value_parser};
-use run_options::run_words;
+use crate::defaults::{CALLS_WORD, KEYS_WORD};
+use crate::ranges::{
+    ANY_NUMBER, HALLS, REPLICAS, SHOWN_CALLS, SHOWN_HALL, SHOWN_KEYS, VOTES, WORKERS,
+};
+use crate::word::Takes::{Argument, FreeArgument, Nothing, Number, Text, Texts};
+use crate::word::{Word, command_of};
+use crate::{help, run_help as run};
+use clap::Command;
+use load::ranges::{CALLERS, CALLS, FAULTS, KEYS, ROUNDS};
 use std::alloc::{AllocError, Global};
-
-/// An argument that has to be there, with what help says of it.
-fn required_argument<'a>(alloc: Global, name: &'a str, help: &'a str) -> Arg<'a>
-    ensures rule { rule_of result ≡ required_argument name.entry.now }
-    ensures local { result.global ≡ false }
-{
-    Arg::new(alloc, name).required(true).help(help)
-}
-
-/// An option that takes no value.
-fn flag<'a>(alloc: Global, name: &'a str, help: &'a str) -> Arg<'a>
-    ensures rule { rule_of result ≡ flag name.entry.now }
-    ensures local { result.global ≡ false }
-{
-    Arg::new(alloc, name)
-        .long(name)
-        .action(ArgAction::SetTrue)
-        .help(help)
-}
-
-/// An option that takes a value, which help calls so.
-fn value_option<'a>(alloc: Global, name: &'a str, value: &'a str, help: &'a str) -> Arg<'a>
-    ensures rule { rule_of result ≡ value_option name.entry.now }
-    ensures local { result.global ≡ false }
-{
-    Arg::new(alloc, name)
-        .long(name)
-        .value_name(value)
-        .help(help)
-}
-
-/// An option that takes a value, and that may be given more than once.
-fn repeated_option<'a>(alloc: Global, name: &'a str, value: &'a str, help: &'a str) -> Arg<'a>
-    ensures rule { rule_of result ≡ repeated_option name.entry.now }
-    ensures local { result.global ≡ false }
-{
-    value_option(alloc, name, value, help).action(ArgAction::Append)
-}
-
-/// An option whose value is one of these numbers, and that default where it isn't given.
-fn number_option<'a>(
-    alloc: Global,
-    name: &'a str,
-    default: &'a str,
-    numbers: ValueParser<'a>,
-    help: &'a str,
-) -> Arg<'a>
-    ensures rule { rule_of result
-        ≡ number_option name.entry.now default.entry.now numbers.entry }
-    ensures local { result.global ≡ false }
-{
-    value_option(alloc, name, "N", help)
-        .default_value(default)
-        .value_parser(numbers)
-}
-
-/// The option `--most`, of keys.
-fn most_option<'a>(alloc: Global, help: &'a str) -> Arg<'a>
-    ensures rule { rule_of result ≡ most_option }
-    ensures local { result.global ≡ false }
-{
-    let few = value_parser!(u16).range(0..10001);
-    number_option(alloc, "most", "20", few, help)
-}
-
-/// An option whose value is any number of 32 bits, and that has no default.
-fn any_number_option<'a>(alloc: Global, name: &'a str, value: &'a str, help: &'a str) -> Arg<'a>
-    ensures rule { rule_of result ≡ any_number_option name.entry.now }
-    ensures local { result.global ≡ false }
-{
-    let numbers = value_parser!(u32).range(0..4_294_967_296);
-    value_option(alloc, name, value, help).value_parser(numbers)
-}
-
-/// The order file where it may be missing.
-fn orders_argument<'a>(alloc: Global) -> Arg<'a>
-    ensures rule { rule_of result ≡ new_rule (codes "ORDERS") }
-    ensures local { result.global ≡ false }
-{
-    Arg::new(alloc, "ORDERS").help(help::ORDERS)
-}
-
-/// A command of that name, with what help says of it, and no words yet.
-fn command_of<'a>(alloc: Global, name: &'a str, says: CommandHelp) -> Command<'a>
-    ensures app { app_of result ≡ new_app name.entry.now }
-    ensures local { (fields_of result).has_globals ≡ false }
-{
-    Command::new(alloc, name)
-        .about(says.about)
-        .after_help(says.after)
-}
-
-/// A command that reads one file: `abd NAME FILE`.
-fn file_words<'a>(
-    alloc: Global,
-    name: &'a str,
-    says: CommandHelp,
-    file: &'a str,
-    told: &'a str,
-) -> Result<Command<'a>, AllocError>
-    ensures app { IfOk result (λ words. app_of words ≡ file_app name.entry.now file.entry.now) }
-    ensures local { IfOk result (λ words. (fields_of words).has_globals ≡ false) }
-{
-    let argument = required_argument(alloc, file, told);
-    command_of(alloc, name, says).arg(argument)
-}
 
 /// `abd check HISTORY ORDERS [--workers N] [--json]`.
 fn check_words<'a>(alloc: Global) -> Result<Command<'a>, AllocError>
-    ensures app { IfOk result (λ words. app_of words ≡ check_app) }
-    ensures local { IfOk result (λ words. (fields_of words).has_globals ≡ false) }
+    ensures { IfOk result (IsForm check_app) }
 {
-    let check = file_words(alloc, "check", help::CHECK, "HISTORY", help::HISTORY)?;
-    let check = check.arg(required_argument(alloc, "ORDERS", help::ORDERS))?;
-    let few = value_parser!(u8).range(1..17);
-    let check = check.arg(number_option(alloc, "workers", "1", few, help::WORKERS))?;
-    check.arg(flag(alloc, "json", help::JSON))
+    let words = [
+        Word::new("HISTORY", Argument, help::HISTORY),
+        Word::new("ORDERS", Argument, help::ORDERS),
+        Word::option("workers", "N", Some("1"), Number(WORKERS), help::WORKERS),
+        Word::new("json", Nothing, help::JSON),
+    ];
+    command_of(alloc, "check", help::CHECK, &words)
 }
 
 /// `abd decide HISTORY [--key KEY]... [--most N] [--json]`.
 fn decide_words<'a>(alloc: Global) -> Result<Command<'a>, AllocError>
-    ensures app { IfOk result (λ words. app_of words ≡ decide_app) }
-    ensures local { IfOk result (λ words. (fields_of words).has_globals ≡ false) }
+    ensures { IfOk result (IsForm decide_app) }
 {
-    let decide = file_words(alloc, "decide", help::DECIDE, "HISTORY", help::HISTORY)?;
-    let decide = decide.arg(repeated_option(alloc, "key", "KEY", help::DECIDED_KEYS))?;
-    let decide = decide.arg(most_option(alloc, help::REASONS))?;
-    decide.arg(flag(alloc, "json", help::JSON))
+    let words = [
+        Word::new("HISTORY", Argument, help::HISTORY),
+        Word::option("key", "KEY", None, Texts, help::DECIDED_KEYS),
+        Word::option("most", "N", KEYS_WORD, Number(SHOWN_KEYS), help::REASONS),
+        Word::new("json", Nothing, help::JSON),
+    ];
+    command_of(alloc, "decide", help::DECIDE, &words)
 }
 
-/// A command that tells of keys of a history: `abd NAME HISTORY [ORDERS] [--key KEY] [--most N]`.
-fn keys_words<'a>(
-    alloc: Global,
-    name: &'a str,
-    says: CommandHelp,
-    key: &'a str,
-    most: &'a str,
-) -> Result<Command<'a>, AllocError>
-    ensures app { IfOk result (λ words. app_of words ≡ keys_app name.entry.now) }
-    ensures local { IfOk result (λ words. (fields_of words).has_globals ≡ false) }
-{
-    let words = file_words(alloc, name, says, "HISTORY", help::HISTORY)?;
-    let words = words.arg(orders_argument(alloc))?;
-    let words = words.arg(value_option(alloc, "key", "KEY", key))?;
-    words.arg(most_option(alloc, most))
-}
-
-/// `abd draw HISTORY [ORDERS] [--key KEY] [--most N] [--calls N] [--around CALL]`.
+/// `abd draw HISTORY [ORDERS] [--by HOW] [--key KEY] [--most N] [--calls N] [--around CALL] [--whole]`.
 fn draw_words<'a>(alloc: Global) -> Result<Command<'a>, AllocError>
-    ensures app { IfOk result (λ words. app_of words ≡ draw_app) }
-    ensures local { IfOk result (λ words. (fields_of words).has_globals ≡ false) }
+    ensures { IfOk result (IsForm draw_app) }
 {
-    let draw = keys_words(alloc, "draw", help::DRAW, help::DRAWN_KEY, help::PICTURES)?;
-    let few = value_parser!(u16).range(1..10001);
-    let draw = draw.arg(number_option(alloc, "calls", "200", few, help::CALLS))?;
-    draw.arg(any_number_option(alloc, "around", "CALL", help::AROUND))
+    let words = [
+        Word::new("HISTORY", Argument, help::HISTORY),
+        Word::new("ORDERS", FreeArgument, help::ORDERS),
+        Word::option("by", "HOW", None, Text, help::DRAWN_BY),
+        Word::option("key", "KEY", None, Text, help::DRAWN_KEY),
+        Word::option("most", "N", None, Number(SHOWN_KEYS), help::PICTURES),
+        Word::option("calls", "N", CALLS_WORD, Number(SHOWN_CALLS), help::CALLS),
+        Word::option("around", "CALL", None, Number(ANY_NUMBER), help::AROUND),
+        Word::new("whole", Nothing, help::WHOLE),
+    ];
+    command_of(alloc, "draw", help::DRAW, &words)
 }
 
 /// `abd explain HISTORY [ORDERS] [--key KEY] [--most N]`.
 fn explain_words<'a>(alloc: Global) -> Result<Command<'a>, AllocError>
-    ensures app { IfOk result (λ words. app_of words ≡ explain_app) }
-    ensures local { IfOk result (λ words. (fields_of words).has_globals ≡ false) }
+    ensures { IfOk result (IsForm explain_app) }
 {
-    keys_words(alloc, "explain", help::EXPLAIN, help::KEY, help::MOST)
+    let words = [
+        Word::new("HISTORY", Argument, help::HISTORY),
+        Word::new("ORDERS", FreeArgument, help::ORDERS),
+        Word::option("key", "KEY", None, Text, help::KEY),
+        Word::option("most", "N", None, Number(SHOWN_KEYS), help::MOST),
+    ];
+    command_of(alloc, "explain", help::EXPLAIN, &words)
 }
 
-/// `abd justify HISTORY [--unchecked]`.
+/// `abd justify HISTORY [--by HOW] [--unchecked]`.
 fn justify_words<'a>(alloc: Global) -> Result<Command<'a>, AllocError>
-    ensures app { IfOk result (λ words. app_of words ≡ justify_app) }
-    ensures local { IfOk result (λ words. (fields_of words).has_globals ≡ false) }
+    ensures { IfOk result (IsForm justify_app) }
 {
-    let justify = file_words(alloc, "justify", help::JUSTIFY, "HISTORY", help::NOTED)?;
-    justify.arg(flag(alloc, "unchecked", help::UNCHECKED))
+    let words = [
+        Word::new("HISTORY", Argument, help::NOTED),
+        Word::option("by", "HOW", None, Text, help::MADE_BY),
+        Word::new("unchecked", Nothing, help::UNCHECKED),
+    ];
+    command_of(alloc, "justify", help::JUSTIFY, &words)
 }
 
 /// `abd simulate SCRIPT`.
 fn simulate_words<'a>(alloc: Global) -> Result<Command<'a>, AllocError>
-    ensures app { IfOk result (λ words. app_of words ≡ simulate_app) }
-    ensures local { IfOk result (λ words. (fields_of words).has_globals ≡ false) }
+    ensures { IfOk result (IsForm simulate_app) }
 {
-    file_words(alloc, "simulate", help::SIMULATE, "SCRIPT", help::SCRIPT)
+    let words = [Word::new("SCRIPT", Argument, help::SCRIPT)];
+    command_of(alloc, "simulate", help::SIMULATE, &words)
 }
 
 /// `abd trace SCRIPT [--most N] [--draw]`.
 fn trace_words<'a>(alloc: Global) -> Result<Command<'a>, AllocError>
-    ensures app { IfOk result (λ words. app_of words ≡ trace_app) }
-    ensures local { IfOk result (λ words. (fields_of words).has_globals ≡ false) }
+    ensures { IfOk result (IsForm trace_app) }
 {
-    let trace = file_words(alloc, "trace", help::TRACE, "SCRIPT", help::SCRIPT)?;
-    let trace = trace.arg(any_number_option(alloc, "most", "N", help::LINES))?;
-    trace.arg(flag(alloc, "draw", help::MESSAGES))
+    let words = [
+        Word::new("SCRIPT", Argument, help::SCRIPT),
+        Word::option("most", "N", None, Number(ANY_NUMBER), help::LINES),
+        Word::new("draw", Nothing, help::MESSAGES),
+    ];
+    command_of(alloc, "trace", help::TRACE, &words)
+}
+
+/// `abd run` with its options.
+fn run_words<'a>(alloc: Global) -> Result<Command<'a>, AllocError>
+    ensures { IfOk result (IsForm run_app) }
+{
+    let words = [
+        Word::option("replicas", "N", Some("3"), Number(REPLICAS), run::REPLICAS),
+        Word::option("callers", "C", Some("4"), Number(CALLERS), run::CALLERS),
+        Word::option("calls", "T", Some("50"), Number(CALLS), run::CALLS),
+        Word::option("keys", "K", Some("2"), Number(KEYS), run::KEYS),
+        Word::option("rounds", "R", Some("1000"), Number(ROUNDS), run::ROUNDS),
+        Word::option("drop", "D", Some("0"), Number(FAULTS), run::DROP),
+        Word::option("double", "E", Some("0"), Number(FAULTS), run::DOUBLE),
+        Word::option("halls", "H", Some("1"), Number(HALLS), run::HALLS),
+        Word::option("show", "N", None, Number(SHOWN_HALL), run::SHOW),
+        Word::option("reads", "HOW", Some("full"), Text, run::READS),
+        Word::option("votes", "DIGITS", None, Text, run::VOTES),
+        Word::option("ask", "A", None, Number(VOTES), run::ASK),
+        Word::option("put", "P", None, Number(VOTES), run::PUT),
+    ];
+    command_of(alloc, "run", run::RUN, &words)
 }
 
 /// `abd` by itself.
-fn bare_words<'a>(alloc: Global) -> Command<'a>
-    ensures { app_of result ≡ bare_app }
+fn bare_words<'a>(alloc: Global) -> Result<Command<'a>, AllocError>
+    ensures { IfOk result (λ words. app_of words ≡ bare_app) }
 {
-    command_of(alloc, "abd", help::ABD)
-        .version(help::VERSION)
-        .subcommand_required(true)
-}
-
-/// The words with the command that was made.
-fn with_made<'a>(
-    words: Command<'a>,
-    made: Result<Command<'a>, AllocError>,
-) -> Result<Command<'a>, AllocError>
-    requires { IfOk made (λ command. (fields_of command).has_globals ≡ false) }
-    ensures { (app : App) → IfOk made.entry (λ command. app_of command ≡ app)
-        → IfOk result (λ more. app_of more ≡ with_subcommand (app_of words.entry) app.top) }
-{
-    words.subcommand(made?)
+    let bare = command_of(alloc, "abd", help::ABD, &[])?;
+    Ok(bare.version(help::VERSION).subcommand_required(true))
 }
 
 /// `abd` with its commands.
 pub(crate) fn abd_words<'a>(alloc: Global) -> Result<Command<'a>, AllocError>
     ensures { IfOk result (λ words. app_of words ≡ abd_app) }
 {
-    let words = with_made(bare_words(alloc), check_words(alloc))?;
-    let words = with_made(words, decide_words(alloc))?;
-    let words = with_made(words, draw_words(alloc))?;
-    let words = with_made(words, explain_words(alloc))?;
-    let words = with_made(words, justify_words(alloc))?;
-    let words = with_made(words, simulate_words(alloc))?;
-    let words = with_made(words, trace_words(alloc))?;
-    with_made(words, run_words(alloc))
+    let words = bare_words(alloc)?.subcommand(check_words(alloc)?)?;
+    let words = words.subcommand(decide_words(alloc)?)?;
+    let words = words.subcommand(draw_words(alloc)?)?;
+    let words = words.subcommand(explain_words(alloc)?)?;
+    let words = words.subcommand(justify_words(alloc)?)?;
+    let words = words.subcommand(simulate_words(alloc)?)?;
+    let words = words.subcommand(trace_words(alloc)?)?;
+    words.subcommand(run_words(alloc)?)
 }

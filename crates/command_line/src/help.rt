@@ -10,7 +10,7 @@ pub struct CommandHelp {
 }
 
 /// The version that `abd --version` says.
-pub const VERSION: &str = "0.5.0";
+pub const VERSION: &str = "0.6.0";
 
 /// Of `abd`.
 pub const ABD: CommandHelp = CommandHelp {
@@ -77,14 +77,22 @@ pub const DRAWN_KEY: &str = "The only key to draw";
 
 /// Of the option `--most` of `abd draw`.
 pub const PICTURES: &str =
-    "How many keys have a picture, 0 to 10,000, as far as a page has room: for 20,000 calls";
+    "How many keys have a picture, 0 to 10,000, as far as a page has room: for 20,000 calls [default: 20]";
 
 /// Of the option `--calls`.
 pub const CALLS: &str =
     "How many calls of a key are shown, 1 to 10,000, beside those that show why it is refused";
 
+/// Of the option `--by` of `abd draw`.
+pub const DRAWN_BY: &str =
+    "Without ORDERS: tags: judge the keys by their tags [default]; values: by their values, as `abd decide`";
+
 /// Of the option `--around`.
 pub const AROUND: &str = "The number of a call: the calls around it are shown";
+
+/// Of the option `--whole`.
+pub const WHOLE: &str =
+    "All keys in one picture, with one order of the whole store; without --key and --most";
 
 /// Of `abd draw`.
 pub const DRAW: CommandHelp = CommandHelp {
@@ -93,9 +101,11 @@ pub const DRAW: CommandHelp = CommandHelp {
 Writes one page of HTML, for any browser, with all pictures in it: a table of the keys, refused ones first, and \
 for each key a picture with a lane a client and a bar a call, from its invocation to its response. A `yes` has a point \
 in each bar, in the order that shows it; a `no` has its calls marked, below the sentences of `abd explain`. Without \
-ORDERS the orders that the tags make are drawn. Of a faulty file standard error says why, as `abd explain` does. \
-HISTORY is of version 1 or 2. One of the files may be /dev/stdin, for what is piped in.\nExit status: 0 all yes, 1 a \
-key refused or no such key, 2 usage, 3 a file can't be opened or read as its format, 4 memory or a device.\n\n\
+ORDERS the orders that the tags make are drawn, and with --by values those that `abd decide` finds. With --whole one \
+picture has all keys, with the points of one order of all calls; of a version 2 file each hall has one. Of a faulty \
+file standard error says why, as `abd explain` does. HISTORY is of version 1 or 2. One of the files may be \
+/dev/stdin, for what is piped in.\nExit status: 0 all yes, 1 a key refused or no such key, 2 usage, 3 a file can't be \
+opened or read as its format, 4 memory or a device, 5 by values: none is refused and one is undecided.\n\n\
 Example: abd draw examples/two_calls.history examples/two_calls.orders > two_calls.html",
 };
 
@@ -103,7 +113,7 @@ Example: abd draw examples/two_calls.history examples/two_calls.orders > two_cal
 pub const KEY: &str = "The only key to explain";
 
 /// Of the option `--most` of `abd explain`.
-pub const MOST: &str = "How many refused keys are explained, 0 to 10,000";
+pub const MOST: &str = "How many refused keys are explained, 0 to 10,000 [default: 20]";
 
 /// Of `abd explain`.
 pub const EXPLAIN: CommandHelp = CommandHelp {
@@ -118,20 +128,28 @@ key, 2 usage, 3 a file can't be opened or read as its format, 4 memory or a devi
 Example: abd explain examples/two_calls.history examples/two_calls_refused.orders",
 };
 
+/// Of the option `--by` of `abd justify`.
+pub const MADE_BY: &str =
+    "tags: by the tags of the notes [default]; values: by the values that calls write and answer, as `abd decide`";
+
 /// Of the option `--unchecked`.
-pub const UNCHECKED: &str = "Write the orders that the tags make, without checking them";
+pub const UNCHECKED: &str =
+    "Leave keys without an order out, and don't check the orders that tags make";
 
 /// Of `abd justify`.
 pub const JUSTIFY: CommandHelp = CommandHelp {
-    about: "Make from the notes an order of each key's calls, check it, and write the orders",
+    about: "Make an order of each key's calls, from the notes or from the values, and write the orders",
     after: "\
 Writes an order file, for `abd check`, keys hall by hall, in each in the order in which the \
 history first sees them. HISTORY is of version 1 or 2. Where a key has no such order it writes nothing, and says the \
 first such key on standard error. With --unchecked it leaves out only the keys with a completed call that has no \
 note, and says each on standard error; `abd check` and `abd explain` then show what is wrong with the other orders. \
-HISTORY may be /dev/stdin, for what is piped in.\nExit status: 0 written, 1 a key has no order, 2 usage, 3 the file \
-can't be opened or read as its format, 4 memory or a device.\n\n\
-Example: abd justify examples/new_then_old.history",
+\n\nWith --by values it needs no notes, and writes the orders that `abd decide` finds. The line that `abd decide` \
+prints of a key without an order goes to standard error, and then nothing is written, or with --unchecked the orders of \
+the other keys. HISTORY may be /dev/stdin, for what is piped in.\nExit status: 0 written, 1 a key has no order, 2 \
+usage, 3 the file can't be opened or read as its format, 4 memory or a device, 5 by values: each key has an order or is \
+undecided, and one is.\n\n\
+Examples:\n  abd justify examples/new_then_old.history\n  abd justify --by values docs/using/first_run.history",
 };
 
 /// Of `abd simulate`.

@@ -1,20 +1,26 @@
 //! The words of a command line.
-ghost use Rattle.std.specs.Prelude.{◌≡◌, ◌↔◌, IsTrue, codes, IfOk, IfErr, MatchResult};
-ghost use Rattle.std.specs.Prelude.{map, option_map, string_bytes};
-ghost use Rattle.clap.specs.Words.{first_of, found_of, kind_of, rows_of, subcommand_rows_of};
-ghost use Rattle.command_line.specs.Words.{Asks, AsksAround, AsksForm, AsksKeys, AsksMost};
-ghost use Rattle.command_line.specs.Words.{AsksNothing, AsksNumber, Finds, GivesFlag, HasWords};
+ghost use Rattle.std.specs.Prelude.{◌≡◌, IfErr, IfOk, MatchResult, codes, map, string_bytes};
+ghost use Rattle.clap.specs.Words.{kind_of, subcommand_rows_of};
+ghost use Rattle.command_line.specs.Reading.{Finds, FindsOrLacks, IsNone, rows_in};
+ghost use Rattle.command_line.specs.Words.{Asks, AsksAround, AsksBy, AsksCheck, AsksDecision};
+ghost use Rattle.command_line.specs.Words.{AsksDrawing, AsksDrawnBy, AsksForm, AsksKeys, AsksMost};
+ghost use Rattle.command_line.specs.Words.{AsksNothing, AsksOrders, AsksWhole, HasWords};
 ghost use Rattle.command_line.specs.Words.{IsSaid, IsUsageOf, MakesAs, MakesNothing, MakesOf};
-ghost use Rattle.command_line.specs.Words.{texts_given};
-ghost use Rattle.command_line.specs.declared.asked.Command.{Command};
 
-use crate::asked::{CheckAsked, Command, DecideAsked, DrawAsked, KeysAsked, Usage};
+use crate::asked::{
+    By, CheckAsked, Command, DecideAsked, DrawAsked, JustifyAsked, KeysAsked, Usage,
+};
+use crate::defaults;
+use crate::fault::WordsFault;
 use crate::forms::abd_words;
 use crate::lines::Lines;
+use crate::ranges::{ANY_NUMBER, SHOWN_CALLS, SHOWN_KEYS, WORKERS};
+use crate::reading::{has_flag, needed_in, number_in, text_in, texts_in};
+use crate::run_words::run_in;
 use clap::error::ErrorKind;
 use clap::{ArgMatches, Error};
+use load::ranges::NumberRange;
 use parallel_keys::Workers;
-use run_options::{RunFault, run_in};
 use std::alloc::{AllocError, Global};
 
 /// The text of an error of clap's; if it were empty, where help is.
@@ -44,16 +50,9 @@ fn usage_of(alloc: Global, error: &Error) -> Usage
     }
 }
 
-/// Whether the flag is given.
-fn has_flag(matches: &ArgMatches<'_>, name: &str) -> bool
-    ensures { IsTrue result ↔ GivesFlag name.now (rows_of (found_of matches.now)) }
-{
-    matches.get_one::<bool>(name).unwrap_or(false)
-}
-
 /// The form of the lines that are asked for.
 fn form_in(matches: &ArgMatches<'_>) -> Lines
-    ensures { AsksForm (rows_of (found_of matches.now)) result }
+    ensures { AsksForm (rows_in matches.now) result }
 {
     if has_flag(matches, "json") {
         Lines::Json
@@ -62,103 +61,69 @@ fn form_in(matches: &ArgMatches<'_>) -> Lines
     }
 }
 
-/// The text of that name: what stands in an argument's place, or after an option.
-fn text_in<'a>(matches: &ArgMatches<'a>, name: &str) -> Option<&'a str>
-    ensures { option_map (λ text. text.now) result ≡ first_of name.now (rows_of (found_of matches.now)) }
+/// What the words after `check` ask for.
+fn check_in<'a>(matches: &ArgMatches<'a>) -> Result<CheckAsked<'a>, WordsFault>
+    ensures { Finds result (AsksCheck (rows_in matches.now)) }
 {
-    matches.get_str(name)
-}
-
-/// The number that the option of that name asks for, where it is within the range.
-fn number_in(matches: &ArgMatches<'_>, name: &str, least: u32, most: u32) -> Option<u32>
-    ensures { Finds result (AsksNumber (rows_of (found_of matches.now)) name.now least most) }
-{
-    let number = matches.get_one::<u32>(name)?;
-    if number < least {
-        return None;
-    }
-    if most < number {
-        return None;
-    }
-    Some(number)
-}
-
-/// `check`, of the words after its name.
-fn check_in<'a>(matches: &ArgMatches<'a>) -> Option<Command<'a>>
-    ensures { Finds result (MakesAs (codes "check") (rows_of (found_of matches.now))) }
-{
-    let history = text_in(matches, "HISTORY")?;
-    let orders = text_in(matches, "ORDERS")?;
-    let count = number_in(matches, "workers", 1, 16)?;
-    let workers = Workers::new(count as u8)?;
+    let history = needed_in(matches, "HISTORY")?;
+    let orders = needed_in(matches, "ORDERS")?;
+    let count = number_in(matches, "workers", WORKERS)?;
+    let Some(workers) = Workers::new(count as u8) else {
+        unreachable!()
+    };
     let form = form_in(matches);
-    Some(Command::Check(CheckAsked {
+    Ok(CheckAsked {
         history,
         orders,
         workers,
         form,
-    }))
+    })
 }
 
-/// The texts after each option of that name, in their order.
-fn texts_in<'a>(
-    alloc: Global,
-    matches: &ArgMatches<'a>,
-    name: &str,
-) -> Result<Vec<&'a str>, AllocError>
-    ensures { IfOk result (λ texts. map (λ text. text.now) texts.items
-        ≡ texts_given name.now (rows_of (found_of matches.now))) }
+/// What the words after `decide` ask for.
+fn decide_in<'a>(alloc: Global, matches: &ArgMatches<'a>) -> Result<DecideAsked<'a>, WordsFault>
+    ensures { FindsOrLacks result (AsksDecision (rows_in matches.now)) }
 {
-    match matches.get_strs(name) {
-        Some(texts) => Vec::from_slice(alloc, texts),
-        None => Ok(Vec::new(alloc)),
-    }
-}
-
-/// `decide`, of the words after its name.
-fn decide_in<'a>(alloc: Global, matches: &ArgMatches<'a>) -> Result<Command<'a>, Usage>
-    ensures makes { MatchResult result (MakesAs (codes "decide") (rows_of (found_of matches.now)))
-        (MakesNothing ((command : Command)
-        → MakesAs (codes "decide") (rows_of (found_of matches.now)) command → ⊥)) }
-    ensures said { IfErr result IsSaid }
-{
-    let Some(history) = text_in(matches, "HISTORY") else {
-        return Err(no_command(alloc));
-    };
-    let Some(count) = number_in(matches, "most", 0, 10000) else {
-        return Err(no_command(alloc));
-    };
-    let most = count as u16;
+    let history = needed_in(matches, "HISTORY")?;
+    let most = number_in(matches, "most", SHOWN_KEYS)? as u16;
     let form = form_in(matches);
-    match texts_in(alloc, matches, "key") {
-        Ok(keys) => Ok(Command::Decide(DecideAsked {
-            history,
-            keys,
-            most,
-            form,
-        })),
-        Err(_) => Err(Usage::Memory),
-    }
+    let keys = texts_in(alloc, matches, "key")?;
+    Ok(DecideAsked {
+        history,
+        keys,
+        most,
+        form,
+    })
 }
 
 /// The number of the call that is named, if one is.
-fn around_in(matches: &ArgMatches<'_>) -> Option<Option<u32>>
-    ensures { Finds result (AsksAround (rows_of (found_of matches.now))) }
+fn around_in(matches: &ArgMatches<'_>) -> Result<Option<u32>, WordsFault>
+    ensures { Finds result (AsksAround (rows_in matches.now)) }
 {
     if text_in(matches, "around").is_none() {
-        return Some(None);
+        return Ok(None);
     }
-    let call = number_in(matches, "around", 0, u32::MAX)?;
-    Some(Some(call))
+    let call = number_in(matches, "around", ANY_NUMBER)?;
+    Ok(Some(call))
 }
 
-/// The files, the key and how many keys are asked for by `explain` or `draw`.
-fn keys_in<'a>(matches: &ArgMatches<'a>) -> Option<KeysAsked<'a>>
-    ensures { Finds result (AsksKeys (rows_of (found_of matches.now))) }
+/// How many keys, lines or steps are asked for; the default where the words don't say it.
+fn most_in(matches: &ArgMatches<'_>, range: NumberRange, default: u32) -> Result<u32, WordsFault>
+    ensures { Finds result (AsksMost (rows_in matches.now) range default) }
 {
-    let history = text_in(matches, "HISTORY")?;
-    let most = number_in(matches, "most", 0, 10000)?;
-    Some(KeysAsked {
+    if text_in(matches, "most").is_none() {
+        return Ok(default);
+    }
+    number_in(matches, "most", range)
+}
+
+/// The files, the key and how many keys the words after `explain` or `draw` ask for.
+fn keys_in<'a>(matches: &ArgMatches<'a>) -> Result<KeysAsked<'a>, WordsFault>
+    ensures { Finds result (AsksKeys (rows_in matches.now)) }
+{
+    let history = needed_in(matches, "HISTORY")?;
+    let most = most_in(matches, SHOWN_KEYS, u32::from(defaults::KEYS))?;
+    Ok(KeysAsked {
         history,
         orders: text_in(matches, "ORDERS"),
         key: text_in(matches, "key"),
@@ -166,159 +131,178 @@ fn keys_in<'a>(matches: &ArgMatches<'a>) -> Option<KeysAsked<'a>>
     })
 }
 
-/// `draw`, of the words after its name.
-fn draw_in<'a>(matches: &ArgMatches<'a>) -> Option<Command<'a>>
-    ensures { Finds result (MakesAs (codes "draw") (rows_of (found_of matches.now))) }
+/// What is asked for by `--by`; tags where the words don't say it.
+fn by_in(matches: &ArgMatches<'_>) -> Result<By, WordsFault>
+    ensures { Finds result (AsksBy (rows_in matches.now)) }
+{
+    let Some(text) = text_in(matches, "by") else {
+        return Ok(By::Tags);
+    };
+    if text == "tags" {
+        Ok(By::Tags)
+    } else if text == "values" {
+        Ok(By::Values)
+    } else {
+        Err(WordsFault::By)
+    }
+}
+
+/// The same of `draw`, where it doesn't stand beside orders.
+fn drawn_by(matches: &ArgMatches<'_>) -> Result<By, WordsFault>
+    ensures { Finds result (AsksDrawnBy (rows_in matches.now)) }
+{
+    let by = by_in(matches)?;
+    if text_in(matches, "by").is_some() && text_in(matches, "ORDERS").is_some() {
+        return Err(WordsFault::ByAndOrders);
+    }
+    Ok(by)
+}
+
+/// Whether all keys have one picture, where no keys are chosen beside it.
+fn whole_in(matches: &ArgMatches<'_>) -> Result<bool, WordsFault>
+    ensures { Finds result (AsksWhole (rows_in matches.now)) }
+{
+    let whole = has_flag(matches, "whole");
+    if whole && (text_in(matches, "key").is_some() || text_in(matches, "most").is_some()) {
+        return Err(WordsFault::WholeAndKeys);
+    }
+    Ok(whole)
+}
+
+/// What the words after `draw` ask for.
+fn draw_in<'a>(matches: &ArgMatches<'a>) -> Result<DrawAsked<'a>, WordsFault>
+    ensures { Finds result (AsksDrawing (rows_in matches.now)) }
 {
     let keys = keys_in(matches)?;
-    let calls = number_in(matches, "calls", 1, 10000)?;
+    let by = drawn_by(matches)?;
+    let calls = number_in(matches, "calls", SHOWN_CALLS)?;
     let around = around_in(matches)?;
-    Some(Command::Draw(DrawAsked {
+    let whole = whole_in(matches)?;
+    Ok(DrawAsked {
         keys,
+        by,
         calls: calls as u16,
         around,
-    }))
+        whole,
+    })
 }
 
-/// `explain`, of the words after its name.
-fn explain_in<'a>(matches: &ArgMatches<'a>) -> Option<Command<'a>>
-    ensures { Finds result (MakesAs (codes "explain") (rows_of (found_of matches.now))) }
+/// What the words after `justify` ask for.
+fn justify_in<'a>(matches: &ArgMatches<'a>) -> Result<JustifyAsked<'a>, WordsFault>
+    ensures { Finds result (AsksOrders (rows_in matches.now)) }
 {
-    let keys = keys_in(matches)?;
-    Some(Command::Explain(keys))
-}
-
-/// `justify`, of the words after its name.
-fn justify_in<'a>(matches: &ArgMatches<'a>) -> Option<Command<'a>>
-    ensures { Finds result (MakesAs (codes "justify") (rows_of (found_of matches.now))) }
-{
-    let history = text_in(matches, "HISTORY")?;
+    let history = needed_in(matches, "HISTORY")?;
+    let by = by_in(matches)?;
     let unchecked = has_flag(matches, "unchecked");
-    Some(Command::Justify { history, unchecked })
+    Ok(JustifyAsked {
+        history,
+        by,
+        unchecked,
+    })
 }
 
 /// `simulate`, of the words after its name.
-fn simulate_in<'a>(matches: &ArgMatches<'a>) -> Option<Command<'a>>
-    ensures { Finds result (MakesAs (codes "simulate") (rows_of (found_of matches.now))) }
+fn simulate_in<'a>(matches: &ArgMatches<'a>) -> Result<Command<'a>, WordsFault>
+    ensures { Finds result (MakesAs (codes "simulate") (rows_in matches.now)) }
 {
-    let script = text_in(matches, "SCRIPT")?;
-    Some(Command::Simulate { script })
-}
-
-/// How many lines or steps are asked for; the default where the words don't say it.
-fn most_in(matches: &ArgMatches<'_>, default: u32) -> Option<u32>
-    ensures { Finds result (AsksMost (rows_of (found_of matches.now)) default) }
-{
-    if text_in(matches, "most").is_none() {
-        return Some(default);
-    }
-    let most = number_in(matches, "most", 0, u32::MAX)?;
-    Some(most)
+    let script = needed_in(matches, "SCRIPT")?;
+    Ok(Command::Simulate { script })
 }
 
 /// `trace`, of the words after its name.
-fn trace_in<'a>(matches: &ArgMatches<'a>) -> Option<Command<'a>>
-    ensures { Finds result (MakesAs (codes "trace") (rows_of (found_of matches.now))) }
+fn trace_in<'a>(matches: &ArgMatches<'a>) -> Result<Command<'a>, WordsFault>
+    ensures { Finds result (MakesAs (codes "trace") (rows_in matches.now)) }
 {
-    let script = text_in(matches, "SCRIPT")?;
+    let script = needed_in(matches, "SCRIPT")?;
     if has_flag(matches, "draw") {
-        let asked = most_in(matches, 1000)?;
-        let most = asked.min(10_000);
-        Some(Command::TracePage { script, most })
+        let asked = most_in(matches, ANY_NUMBER, 1000)?;
+        let most = asked.min(SHOWN_KEYS.most);
+        Ok(Command::TracePage { script, most })
     } else {
-        let most = most_in(matches, 10_000)?;
-        Some(Command::Trace { script, most })
+        let most = most_in(matches, ANY_NUMBER, 10_000)?;
+        Ok(Command::Trace { script, most })
     }
 }
 
-/// `run`, of the words after its name.
-fn asked_run<'a>(alloc: Global, matches: &ArgMatches<'a>) -> Result<Command<'a>, Usage>
-    ensures makes { MatchResult result (MakesAs (codes "run") (rows_of (found_of matches.now)))
-        (MakesNothing ((command : Command)
-        → MakesAs (codes "run") (rows_of (found_of matches.now)) command → ⊥)) }
-    ensures said { IfErr result IsSaid }
-{
-    match run_in(alloc, matches) {
-        Ok(asked) => Ok(Command::Run(asked)),
-        Err(RunFault::Memory) => Err(Usage::Memory),
-        Err(fault) => Err(fault_of(alloc, fault)),
-    }
-}
-
-/// The line that says why the words after `run` ask for no load.
-fn run_fault_text(alloc: Global, fault: RunFault) -> Result<String, AllocError>
-    ensures { IfOk result (λ text. HasWords (string_bytes text)) }
-{
-    let mut text = String::from_str(alloc, "abd: ")?;
-    text.push_str(fault.to_string(alloc)?.as_str())?;
-    text.push_str("; see abd run --help\n")?;
-    Ok(text)
-}
-
-/// Says why the words after `run` ask for no load.
-fn fault_of(alloc: Global, fault: RunFault) -> Usage
-    ensures kind { IsUsageOf ErrorKind.MissingSubcommand result }
-    ensures said { IsSaid result }
-{
-    match run_fault_text(alloc, fault) {
-        Ok(text) => Usage::Fault(text),
-        Err(_) => Usage::Memory,
-    }
-}
-
-/// The command of that name, where it is one that reads files.
-fn made_in<'a>(name: &str, matches: &ArgMatches<'a>) -> Option<Command<'a>>
-    requires decides { name.now ≡ codes "decide" → ⊥ }
-    requires runs { name.now ≡ codes "run" → ⊥ }
-    ensures { Finds result (MakesAs name.now (rows_of (found_of matches.now))) }
+/// The command of that name, of the words after it.
+fn made_in<'a>(
+    alloc: Global,
+    name: &str,
+    matches: &ArgMatches<'a>,
+) -> Result<Command<'a>, WordsFault>
+    ensures { FindsOrLacks result (MakesAs name.now (rows_in matches.now)) }
 {
     if name == "check" {
-        check_in(matches)
+        match check_in(matches) {
+            Ok(asked) => Ok(Command::Check(asked)),
+            Err(fault) => Err(fault),
+        }
+    } else if name == "decide" {
+        match decide_in(alloc, matches) {
+            Ok(asked) => Ok(Command::Decide(asked)),
+            Err(fault) => Err(fault),
+        }
     } else if name == "draw" {
-        draw_in(matches)
+        Ok(Command::Draw(draw_in(matches)?))
     } else if name == "explain" {
-        explain_in(matches)
+        Ok(Command::Explain(keys_in(matches)?))
     } else if name == "justify" {
-        justify_in(matches)
+        Ok(Command::Justify(justify_in(matches)?))
     } else if name == "simulate" {
         simulate_in(matches)
     } else if name == "trace" {
         trace_in(matches)
+    } else if name == "run" {
+        Ok(Command::Run(run_in(alloc, matches)?))
     } else {
-        None
+        Err(WordsFault::NoCommand)
     }
 }
 
 /// The command that was met.
-fn command_in<'a>(alloc: Global, matches: &ArgMatches<'a>) -> Result<Command<'a>, Usage>
-    ensures makes { MatchResult result (MakesOf (subcommand_rows_of matches.now))
-        (MakesNothing ((command : Command)
-        → MakesOf (subcommand_rows_of matches.now) command → ⊥)) }
-    ensures said { IfErr result IsSaid }
+fn command_in<'a>(alloc: Global, matches: &ArgMatches<'a>) -> Result<Command<'a>, WordsFault>
+    ensures { FindsOrLacks result (MakesOf (subcommand_rows_of matches.now)) }
 {
-    let Some((name, found)) = matches.subcommand() else {
-        return Err(no_command(alloc));
-    };
-    if name == "decide" {
-        return decide_in(alloc, found);
-    }
-    if name == "run" {
-        return asked_run(alloc, found);
-    }
-    match made_in(name, found) {
-        Some(command) => Ok(command),
-        None => Err(no_command(alloc)),
+    match matches.subcommand() {
+        Some((name, found)) => made_in(alloc, name, found),
+        None => Err(WordsFault::NoCommand),
     }
 }
 
-/// Where clap takes the words and they make no command of ours.
-fn no_command(alloc: Global) -> Usage
+/// The line that says why words make no command.
+fn fault_text(alloc: Global, fault: WordsFault) -> Result<String, AllocError>
+    ensures { IfOk result (λ text. HasWords (string_bytes text)) }
+{
+    let mut text = String::from_str(alloc, "abd: ")?;
+    text.push_str(fault.to_string(alloc)?.as_str())?;
+    text.push_str("\n")?;
+    Ok(text)
+}
+
+/// Says why words make no command.
+fn usage_of_fault(alloc: Global, fault: WordsFault) -> Usage
     ensures kind { IsUsageOf ErrorKind.MissingSubcommand result }
     ensures said { IsSaid result }
+    ensures memory { fault ≡ WordsFault.Memory → result ≡ Usage.Memory }
 {
-    match String::from_str(alloc, "abd: no command; see abd --help\n") {
-        Ok(text) => Usage::Fault(text),
-        Err(_) => Usage::Memory,
+    match fault {
+        WordsFault::Memory => Usage::Memory,
+        _ => match fault_text(alloc, fault) {
+            Ok(text) => Usage::Fault(text),
+            Err(_) => Usage::Memory,
+        },
+    }
+}
+
+/// The command that was met, or what is said if there is none.
+fn answer_to<'a>(alloc: Global, matches: &ArgMatches<'a>) -> Result<Command<'a>, Usage>
+    ensures makes { MatchResult result (MakesOf (subcommand_rows_of matches.now))
+        (MakesNothing (IsNone (MakesOf (subcommand_rows_of matches.now)))) }
+    ensures said { IfErr result IsSaid }
+{
+    match command_in(alloc, matches) {
+        Ok(command) => Ok(command),
+        Err(fault) => Err(usage_of_fault(alloc, fault)),
     }
 }
 
@@ -335,7 +319,7 @@ pub fn command<'a>(alloc: Global, words: &'a [String]) -> Result<Command<'a>, Us
         return Err(Usage::Memory);
     };
     match abd.try_get_matches_from(words) {
-        Ok(matches) => command_in(alloc, &matches),
+        Ok(matches) => answer_to(alloc, &matches),
         Err(error) => Err(usage_of(alloc, &error)),
     }
 }

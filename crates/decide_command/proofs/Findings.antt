@@ -72,7 +72,7 @@ module _ {X : Type 0} (p : X → Bool) where
 -- what was found by values
 module _ (one : CheckedKey) where
   is_atomic : (f : Finding) → IsFinding Values one f → is_refused f ≡ false → is_undecided f ≡ false → IsLinearizable one.part
-  is_atomic finding.Atomic h good decided = h.so
+  is_atomic finding.Atomic h good decided = h.so.ordered
   is_atomic finding.Ordered h good decided = let other = h.by in absurd (cc)
   is_atomic finding.Sound h good decided = let other = h.by in absurd (cc)
   is_atomic (finding.OrderFault fault) h good decided = absurd (cc)

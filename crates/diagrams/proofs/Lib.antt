@@ -1,3 +1,4 @@
 pub mod Counts
 pub mod Rendering
 mod Readable
+mod Hiding

@@ -1,12 +1,11 @@
 -- The arrows of a diagram: from the row where a copy of a message is sent to the row where it
 -- arrives or is lost, and from the lifeline of its sender towards that of its receiver.
 use Rattle.std.specs.Prelude.{ℕ, ◌≡◌, ◌+◌, ◌-◌, ◌/◌, max, Bool, true, false, if◌then◌else◌}
-use Rattle.std.specs.Prelude.{List, [], ◌∷◌}
+use Rattle.std.specs.Prelude.{List}
 use Rattle.markup.specs.Markup.{Markup, nothing, element, both}
-use Rattle.markup.specs.declared.names.AttributeName.TheVariants as name
 use Rattle.markup.specs.declared.names.Element.TheVariants as tag
 use Rattle.labels.specs.declared.labels.Way.{Way}
-use Rattle.labels.specs.Labels.{label_markup, line_markup, title, words_of}
+use Rattle.labels.specs.Labels.{label_markup, line_markup, title}
 use Rattle.labels.specs.Places.{IsNear}
 use Rattle.replica.specs.declared.requests.Request.{Request}
 use Rattle.replica.specs.declared.replies.Reply.{Reply}
@@ -18,11 +17,12 @@ use Rattle.message_scenes.specs.declared.arrows.ArrowEnd.TheVariants as ending
 use Rattle.message_scenes.specs.declared.scene.MessageScene.{MessageScene}
 use Rattle.diagrams.specs.declared.sizes.TheConstants.{ARM, CLIENT_EDGE, CLIENT_WAIT, LABEL_BASE}
 use Rattle.diagrams.specs.declared.sizes.TheConstants.{LABEL_LETTERS, MOMENT, NEAREST, REPLICA_EDGE}
-use Rattle.diagrams.specs.declared.sizes.TheConstants.{REPLICA_WAIT, ROW}
+use Rattle.diagrams.specs.declared.sizes.TheConstants.{REPLICA_WAIT, ROW, STUB}
 use Rattle.diagrams.specs.declared.style.TheConstants.{ARRIVING, CROSS, LABEL, LOST, REPLY, REQUEST}
-use Rattle.diagrams.specs.declared.style.TheConstants.{UNDER_WAY}
-use Rattle.diagrams.specs.Layout.{client_x, down, replica_x, rows_of}
-use Rattle.diagrams.specs.Words.{message_words}
+use Rattle.diagrams.specs.declared.style.TheConstants.{STALE, UNDER_WAY}
+use Rattle.diagrams.specs.Items.{item_attributes}
+use Rattle.diagrams.specs.Layout.{client_x, down, replica_x}
+use Rattle.diagrams.specs.Words.{arrow_title, arrow_words}
 
 -- whether a message is a request, which a client sends to a replica; else it is a reply
 abbrev pub is_request : Message → Bool
@@ -36,8 +36,17 @@ direction_class request = if request then REQUEST.now else REPLY.now
 -- the class of its line by how it ends
 abbrev pub end_class : ArrowEnd → List ℕ
 end_class (ending.Arrives row) = ARRIVING.now
+end_class (ending.Stale row) = STALE.now
 end_class (ending.Lost row) = LOST.now
 end_class ending.Open = UNDER_WAY.now
+
+-- it ends in the row in which it arrives or is lost; one that never arrives is a stub below the row
+-- where it begins
+abbrev pub end_y : ℕ → ArrowEnd → ℕ
+end_y begins (ending.Arrives row) = down MOMENT row
+end_y begins (ending.Stale row) = down MOMENT row
+end_y begins (ending.Lost row) = down MOMENT row
+end_y begins ending.Open = down STUB begins
 
 -- no end of the line stands farther than FARTHEST
 pub record IsNearWay (way : Way) : Type 0 where
@@ -69,14 +78,14 @@ abbrev pub label_x : Bool → Way → ℕ
 label_x request way =
     if request then way.x1 + label_distance way else way.x1 - label_distance way
 
--- what an arrow asks or tells, below the row where it begins
+-- the number of an arrow's message and what it asks or tells, below the row where it begins
 abbrev pub arrow_label : Way → Arrow → Markup
 arrow_label way arrow = label_markup LABEL.now (label_x (is_request arrow.message) way)
-    (down LABEL_BASE arrow.begins) LABEL_LETTERS (message_words arrow.message)
+    (down LABEL_BASE arrow.begins) LABEL_LETTERS (arrow_words arrow)
 
 -- what stands in the element of an arrow that goes there
 abbrev pub in_arrow : Way → Arrow → Markup
-in_arrow way arrow = both (title (message_words arrow.message))
+in_arrow way arrow = both (title (arrow_title arrow))
     (both (line_markup (end_class arrow.end) way)
     (both (cross_of arrow.end way) (arrow_label way arrow)))
 
@@ -111,14 +120,9 @@ module _ (scene : MessageScene) where
   -- sender if it never arrives
   abbrev pub end_x : ArrowEnd → Arrow → ℕ
   end_x (ending.Arrives row) arrow = receiver_x arrow
+  end_x (ending.Stale row) arrow = receiver_x arrow
   end_x (ending.Lost row) arrow = halfway arrow
   end_x ending.Open arrow = waiting_x arrow
-
-  -- it ends in the row in which it arrives or is lost, and else below the last one
-  abbrev pub end_y : ArrowEnd → ℕ
-  end_y (ending.Arrives row) = down MOMENT row
-  end_y (ending.Lost row) = down MOMENT row
-  end_y ending.Open = down MOMENT (rows_of scene)
 
   -- from where to where an arrow goes
   abbrev pub way_of : Arrow → Way
@@ -126,22 +130,24 @@ module _ (scene : MessageScene) where
     x1 = sender_x arrow;
     y1 = down MOMENT arrow.begins;
     x2 = end_x arrow.end arrow;
-    y2 = end_y arrow.end;
+    y2 = end_y arrow.begins arrow.end;
   }
 
   -- an arrow
   abbrev pub arrow_markup : Arrow → Markup
-  arrow_markup arrow = element tag.G
-      (words_of name.Class (direction_class (is_request arrow.message)) ∷ [])
+  arrow_markup arrow = element tag.G (item_attributes (direction_class (is_request arrow.message)))
       (in_arrow (way_of arrow) arrow)
 
 -- an arrow's line begins in the row where its copy is sent, at the lifeline of its sender; if the
--- copy arrives, it ends in the row where it does, at the lifeline of its receiver; and if it is
--- lost, in the row where it is
+-- copy arrives, it ends in the row where it does, at the lifeline of its receiver, a stale reply
+-- too; and if it is lost, it ends in the row where it is
 pub record GoesFromRowToRow (scene : MessageScene) (arrow : Arrow) : Type 0 where
   pub begins : (way_of scene arrow).y1 ≡ down MOMENT arrow.begins
   pub arrives : (row : ℕ) → arrow.end ≡ ending.Arrives row
       → (way_of scene arrow).y2 ≡ down MOMENT row
+  pub stale : (row : ℕ) → arrow.end ≡ ending.Stale row
+      → (way_of scene arrow).y2 ≡ down MOMENT row
+      × (way_of scene arrow).x2 ≡ receiver_x scene arrow
   pub lost : (row : ℕ) → arrow.end ≡ ending.Lost row
       → (way_of scene arrow).y2 ≡ down MOMENT row
   pub request : (row replica : ℕ) (request : Request) → arrow.end ≡ ending.Arrives row

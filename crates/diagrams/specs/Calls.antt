@@ -20,6 +20,7 @@ use Rattle.diagrams.specs.declared.sizes.TheConstants.{BAR_LEFT, BAR_RIGHT, LETT
 use Rattle.diagrams.specs.declared.sizes.TheConstants.{STOP_LEFT, STOP_RIGHT, TEXT_BASE, TEXT_RIGHT}
 use Rattle.diagrams.specs.declared.style.TheConstants.{ASKING, BEGIN, NOTE, OUTCOME, PUTTING}
 use Rattle.diagrams.specs.declared.style.TheConstants.{READING, STOP, STOPPED, WRITING}
+use Rattle.diagrams.specs.Items.{item_attributes}
 use Rattle.diagrams.specs.Layout.{client_x, down, rows_of}
 use Rattle.diagrams.specs.Words.{begin_words, note_words, returned_words}
 
@@ -88,7 +89,7 @@ module _ (scene : MessageScene) where
 
   -- the bar of a call
   abbrev pub bar_markup : CallBar → Markup
-  bar_markup bar = element tag.G (words_of name.Class (action_class bar.action) ∷ [])
+  bar_markup bar = element tag.G (item_attributes (action_class bar.action))
       (both (title (begin_words bar)) (both (parts bar.note bar) (stop_of bar.client bar.end)))
 
   -- words of that class left of the client's lifeline, in a row

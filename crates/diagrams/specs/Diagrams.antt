@@ -1,25 +1,27 @@
 -- The diagram of a scene: a tree of elements with one shape for each row, each lifeline, each
--- arrow, each call, each change and each down time of the scene.
+-- arrow, each call, each reply that is heard, each put and each down time of the scene.
 use Rattle.std.specs.Prelude.{nat_lt, if◌then◌else◌, List, [], ◌∷◌}
 use Rattle.markup.specs.Markup.{Markup, NamedText, nothing, text, empty, element, both, each}
 use Rattle.markup.specs.declared.names.AttributeName.TheVariants as name
 use Rattle.markup.specs.declared.names.Element.TheVariants as tag
 use Rattle.sentences.specs.Words.{numbered}
 use Rattle.labels.specs.Each.{each_from}
-use Rattle.labels.specs.Images.{image_attributes}
 use Rattle.labels.specs.Labels.{label_markup, number_of, title, words_of}
 use Rattle.message_scenes.specs.declared.scene.MessageScene.{MessageScene}
 use Rattle.diagrams.specs.declared.sheet.TheConstants.{LEGEND_WORDS, SHEET}
 use Rattle.diagrams.specs.declared.sizes.TheConstants.{BOTTOM, COMMAND_LEFT, HEAD_MIDDLE, HEAD_SIZE}
 use Rattle.diagrams.specs.declared.sizes.TheConstants.{HEAD_TIP, RIGHT, SENTENCE_LETTERS, TEXT_BASE}
 use Rattle.diagrams.specs.declared.style.TheConstants.{AUTO, HEAD, HEAD_BOX, HEAD_PATH, KEY}
-use Rattle.diagrams.specs.declared.style.TheConstants.{MESSAGES, MORE, OMITTED, TITLE}
+use Rattle.diagrams.specs.declared.style.TheConstants.{MORE, OMITTED, TITLE}
 use Rattle.diagrams.specs.Arrows.{arrow_markup}
 use Rattle.diagrams.specs.Calls.{bar_markup, call_texts}
-use Rattle.diagrams.specs.Layout.{down, replica_x, rows_of}
+use Rattle.diagrams.specs.Curtains.{curtains}
+use Rattle.diagrams.specs.Hearings.{hearing_text}
+use Rattle.diagrams.specs.Items.{box_attributes, list_attributes}
+use Rattle.diagrams.specs.Layout.{down, replica_x, replicas_of, rows_of}
 use Rattle.diagrams.specs.Lifelines.{lifelines}
-use Rattle.diagrams.specs.Replicas.{change_markup, down_markup}
-use Rattle.diagrams.specs.Rows.{row_markup}
+use Rattle.diagrams.specs.Replicas.{down_markup, holding_markup}
+use Rattle.diagrams.specs.Rows.{reason_markup, row_markup}
 use Rattle.diagrams.specs.Sheets.{arrow_samples, bar_samples}
 
 -- the attributes of the head of arrows
@@ -51,26 +53,32 @@ module _ (scene : MessageScene) where
   plane = both (each_from (row_markup scene) 0 scene.rows.items)
       (both (lifelines scene) (each (down_markup scene) scene.downs.items))
 
-  -- the bars of the calls, the arrows above them, and above these the texts
+  -- the bars of the calls, the arrows above them, and above these the texts, and why rows have
+  -- nothing to show
   abbrev pub shapes : Markup
   shapes = both (each (bar_markup scene) scene.calls.items)
       (both (each (arrow_markup scene) scene.arrows.items)
       (both (each (call_texts scene) scene.calls.items)
-      (each (change_markup scene) scene.changes.items)))
+      (both (each (hearing_text scene) scene.hearings.items)
+      (both (each (holding_markup scene) scene.holdings.items)
+      (each_from reason_markup 0 scene.rows.items)))))
 
   -- the size of the diagram
   abbrev pub svg_attributes : List NamedText
   svg_attributes =
-      image_attributes (replica_x scene RIGHT scene.replicas) (down BOTTOM (rows_of scene))
+      list_attributes (replica_x scene RIGHT (replicas_of scene)) (down BOTTOM (rows_of scene))
+
+  -- what stands in the diagram's element: the curtains above all else
+  abbrev pub content : Markup
+  content = both prologue (both plane (both shapes (both omitted_text (curtains scene))))
 
   -- the diagram's element
   abbrev pub svg : Markup
-  svg = element tag.Svg svg_attributes
-      (both prologue (both plane (both shapes omitted_text)))
+  svg = element tag.Svg svg_attributes content
 
   -- the diagram, which scrolls where the window is too narrow
   abbrev pub diagram : Markup
-  diagram = element tag.Div (words_of name.Class MESSAGES.now ∷ []) svg
+  diagram = element tag.Div box_attributes svg
 
 -- ---- what a page of diagrams has once
 

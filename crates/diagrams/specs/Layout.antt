@@ -32,6 +32,10 @@ module _ (scene : MessageScene) where
   abbrev pub replica_x : ℕ → ℕ → ℕ
   replica_x start number = across start (length scene.clients.items + number)
 
+  -- how many replicas there are
+  abbrev pub replicas_of : ℕ
+  replicas_of = length scene.quorums.votes
+
   -- how many rows there are
   abbrev pub rows_of : ℕ
   rows_of = length scene.rows.items

@@ -5,6 +5,9 @@ pub mod Lifelines
 pub mod Rows
 pub mod Arrows
 pub mod Calls
+pub mod Curtains
+pub mod Hearings
+pub mod Items
 pub mod Replicas
 pub mod Sheets
 pub mod Diagrams

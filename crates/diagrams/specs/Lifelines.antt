@@ -6,8 +6,9 @@ use Rattle.labels.specs.Labels.{label_markup, line_markup}
 use Rattle.message_scenes.specs.declared.scene.MessageScene.{MessageScene}
 use Rattle.diagrams.specs.declared.sizes.TheConstants.{CLIENT, FOOT_BASE, LETTERS, LONG, MOMENT}
 use Rattle.diagrams.specs.declared.sizes.TheConstants.{NAMES_BASE, REPLICA, TOP}
-use Rattle.diagrams.specs.declared.style.TheConstants.{CLIENT_WORD, LIFELINE, REPLICA_WORD, WHO}
-use Rattle.diagrams.specs.Layout.{client_x, down, replica_x, rows_of}
+use Rattle.diagrams.specs.declared.style.TheConstants.{CLIENT_WORD, LIFELINE, WHO}
+use Rattle.diagrams.specs.Layout.{client_x, down, replica_x, replicas_of, rows_of}
+use Rattle.diagrams.specs.Words.{replica_words}
 
 -- what is made of each number below a count, one after another
 abbrev pub each_below : (ℕ → Markup) → ℕ → Markup
@@ -38,9 +39,9 @@ module _ (scene : MessageScene) where
   -- the lifeline of the replica of that number
   abbrev pub replica_lifeline : ℕ → Markup
   replica_lifeline number =
-      lifeline (replica_x scene REPLICA number) (numbered REPLICA_WORD.now number)
+      lifeline (replica_x scene REPLICA number) (replica_words scene.quorums number)
 
   -- the lifelines of the clients, and then those of the replicas
   abbrev pub lifelines : Markup
   lifelines = both (each client_lifeline scene.clients.items)
-      (each_below replica_lifeline scene.replicas)
+      (each_below replica_lifeline (replicas_of scene))

@@ -1,17 +1,21 @@
--- What a diagram shows of replicas: when they are down, and what they come to hold.
-use Rattle.std.specs.Prelude.{ℕ, List, Option, Some, None}
+-- What a diagram shows of replicas: when they are down, and what they hold after each put.
+use Rattle.std.specs.Prelude.{ℕ, Bool, List, Option, Some, None, if◌then◌else◌}
 use Rattle.markup.specs.Markup.{Markup, both}
 use Rattle.labels.specs.declared.places.Frame.{Frame}
 use Rattle.labels.specs.Labels.{label_markup}
-use Rattle.message_scenes.specs.declared.replicas.Change.{Change}
+use Rattle.message_scenes.specs.declared.replicas.Holding.{Holding}
 use Rattle.message_scenes.specs.declared.replicas.DownTime.{DownTime}
 use Rattle.message_scenes.specs.declared.scene.MessageScene.{MessageScene}
-use Rattle.diagrams.specs.declared.sizes.TheConstants.{CHANGE_LEFT, DOWN_LEFT, DOWN_RIGHT, LETTERS}
+use Rattle.diagrams.specs.declared.sizes.TheConstants.{DOWN_LEFT, DOWN_RIGHT, HOLDING_LEFT, LETTERS}
 use Rattle.diagrams.specs.declared.sizes.TheConstants.{MOMENT, TEXT_BASE}
-use Rattle.diagrams.specs.declared.style.TheConstants.{DOWN_TIME, DOWN_WORD, HOLDS}
+use Rattle.diagrams.specs.declared.style.TheConstants.{DOWN_TIME, DOWN_WORD, HOLDS, HOLDS_OWN}
 use Rattle.diagrams.specs.Calls.{shut_part}
 use Rattle.diagrams.specs.Layout.{down, replica_x, rows_of}
-use Rattle.diagrams.specs.Words.{change_words}
+use Rattle.diagrams.specs.Words.{holding_words}
+
+-- the class of what a replica holds: of a pair that it takes, or of its own
+abbrev pub holding_class : Bool → List ℕ
+holding_class takes = if takes then HOLDS.now else HOLDS_OWN.now
 
 module _ (scene : MessageScene) where
   -- where a down time that so ends ends, down: in that row, or below the last one
@@ -22,7 +26,7 @@ module _ (scene : MessageScene) where
   -- words of that class right of the replica's lifeline, in a row
   abbrev pub words_beside : List ℕ → ℕ → ℕ → List ℕ → Markup
   words_beside class replica row words = label_markup class
-      (replica_x scene CHANGE_LEFT replica) (down TEXT_BASE row) LETTERS words
+      (replica_x scene HOLDING_LEFT replica) (down TEXT_BASE row) LETTERS words
 
   -- where such a time stands: on the replica's lifeline, from the row where it stops
   abbrev pub frame_of : DownTime → Frame
@@ -38,7 +42,7 @@ module _ (scene : MessageScene) where
   down_markup time = both (shut_part DOWN_TIME.now (frame_of time))
       (words_beside DOWN_TIME.now time.replica time.stops DOWN_WORD.now)
 
-  -- what a replica comes to hold, in the row where it does
-  abbrev pub change_markup : Change → Markup
-  change_markup change =
-      words_beside HOLDS.now change.replica change.row (change_words change)
+  -- what a replica holds after a put, in the row where that comes
+  abbrev pub holding_markup : Holding → Markup
+  holding_markup holding = words_beside (holding_class holding.takes) holding.replica holding.row
+      (holding_words holding)

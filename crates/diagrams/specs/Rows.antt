@@ -1,32 +1,58 @@
 -- The rows of a diagram: each has its line of the script at the left, and a line over all columns.
-use Rattle.std.specs.Prelude.{ℕ}
-use Rattle.markup.specs.Markup.{Markup, both}
+-- Where nothing was done, a band stands over all columns, and in it why.
+use Rattle.std.specs.Prelude.{ℕ, List}
+use Rattle.markup.specs.Markup.{Markup, nothing, both}
 use Rattle.sentences.specs.Words.{numbered}
+use Rattle.labels.specs.declared.places.Frame.{Frame}
 use Rattle.labels.specs.Labels.{label_markup, line_markup}
-use Rattle.world_steps.specs.declared.step.Step.{Step}
-use Rattle.script_runs.specs.declared.origin.CommandKind.{CommandKind}
+use Rattle.traces.specs.Words.{refusal_text, unsettled_text}
+use Rattle.message_scenes.specs.declared.scene.Attempt.{Attempt}
+use Rattle.message_scenes.specs.declared.scene.Attempt.TheVariants as attempt
 use Rattle.message_scenes.specs.declared.scene.MessageScene.{MessageScene}
 use Rattle.message_scenes.specs.declared.scene.StepRow.{StepRow}
-use Rattle.diagrams.specs.declared.sizes.TheConstants.{COMMAND_LEFT, COMMAND_LETTERS, LINE_LETTERS}
-use Rattle.diagrams.specs.declared.sizes.TheConstants.{LINE_RIGHT, MOMENT, RIGHT, STEP_LEFT}
-use Rattle.diagrams.specs.declared.sizes.TheConstants.{TEXT_BASE}
-use Rattle.diagrams.specs.declared.style.TheConstants.{COMMAND, LINE_WORD, SOURCE, STEP}
-use Rattle.diagrams.specs.Layout.{down, replica_x}
-use Rattle.diagrams.specs.Words.{command_words}
+use Rattle.diagrams.specs.declared.sizes.TheConstants.{BAND_BOTTOM, BAND_TOP, COMMAND_LEFT}
+use Rattle.diagrams.specs.declared.sizes.TheConstants.{COMMAND_LETTERS, LINE_LETTERS, LINE_RIGHT}
+use Rattle.diagrams.specs.declared.sizes.TheConstants.{MOMENT, REASON_LEFT, RIGHT, SENTENCE_LETTERS}
+use Rattle.diagrams.specs.declared.sizes.TheConstants.{STEP_LEFT, TEXT_BASE}
+use Rattle.diagrams.specs.declared.style.TheConstants.{BAND, COMMAND, LINE_WORD, REASON, REFUSED}
+use Rattle.diagrams.specs.declared.style.TheConstants.{SOURCE, STEP}
+use Rattle.diagrams.specs.Calls.{shut_part}
+use Rattle.diagrams.specs.Layout.{down, replica_x, replicas_of}
+use Rattle.diagrams.specs.Words.{attempt_words}
 
 -- the number of the line of the script that a row's step belongs to, at that height
 abbrev pub source_at : ℕ → ℕ → Markup
 source_at y line = label_markup SOURCE.now LINE_RIGHT y LINE_LETTERS (numbered LINE_WORD.now line)
 
--- the words of its command
-abbrev pub command_at : ℕ → CommandKind → Step → Markup
-command_at y kind step =
-    label_markup COMMAND.now COMMAND_LEFT y COMMAND_LETTERS (command_words kind step)
+-- the class of these words by what came of it
+abbrev pub attempt_class : Attempt → List ℕ
+attempt_class (attempt.Taken step) = COMMAND.now
+attempt_class other = REFUSED.now
 
--- the line of the script that the step of that index belongs to
+-- the words of what was tried
+abbrev pub command_at : ℕ → Attempt → Markup
+command_at y tried =
+    label_markup (attempt_class tried) COMMAND_LEFT y COMMAND_LETTERS (attempt_words tried)
+
+-- the line of the script that the row of that index belongs to
 abbrev pub row_words : ℕ → StepRow → Markup
 row_words index row = both (source_at (down TEXT_BASE index) row.origin.line)
-    (command_at (down TEXT_BASE index) row.origin.kind row.step)
+    (command_at (down TEXT_BASE index) row.attempt)
+
+-- a reason in the row of that index
+abbrev pub reason_at : ℕ → List ℕ → Markup
+reason_at index words =
+    label_markup REASON.now REASON_LEFT (down TEXT_BASE index) SENTENCE_LETTERS words
+
+-- why nothing was done, if nothing was
+abbrev pub reason_of : ℕ → Attempt → Markup
+reason_of index (attempt.Taken step) = nothing
+reason_of index (attempt.Refused step why) = reason_at index (refusal_text why)
+reason_of index (attempt.Unfinished name why) = reason_at index (unsettled_text why)
+
+-- the reason of the row of that index
+abbrev pub reason_markup : ℕ → StepRow → Markup
+reason_markup index row = reason_of index row.attempt
 
 module _ (scene : MessageScene) where
   -- a line over all columns, in the row of that index
@@ -34,10 +60,25 @@ module _ (scene : MessageScene) where
   row_line index = line_markup STEP.now (record {
     x1 = STEP_LEFT;
     y1 = down MOMENT index;
-    x2 = replica_x scene RIGHT scene.replicas;
+    x2 = replica_x scene RIGHT (replicas_of scene);
     y2 = down MOMENT index;
   })
 
+  -- a band over all columns, in the row of that index
+  abbrev pub band : ℕ → Frame
+  band index = record {
+    left = STEP_LEFT;
+    right = replica_x scene RIGHT (replicas_of scene);
+    top = down BAND_TOP index;
+    bottom = down BAND_BOTTOM index;
+  }
+
+  -- such a band, if nothing was done
+  abbrev pub band_of : ℕ → Attempt → Markup
+  band_of index (attempt.Taken step) = nothing
+  band_of index other = shut_part BAND.now (band index)
+
   -- the row of that index
   abbrev pub row_markup : ℕ → StepRow → Markup
-  row_markup index row = both (row_line index) (row_words index row)
+  row_markup index row =
+      both (row_line index) (both (band_of index row.attempt) (row_words index row))

@@ -4,13 +4,14 @@ use Rattle.labels.specs.Samples.{sample}
 use Rattle.diagrams.specs.declared.style.TheConstants.{ASKING, ASKING_KEY, DOWN_KEY, DOWN_TIME}
 use Rattle.diagrams.specs.declared.style.TheConstants.{LOST, LOST_KEY, PUTTING}
 use Rattle.diagrams.specs.declared.style.TheConstants.{PUTTING_KEY, REPLY, REPLY_KEY, REQUEST}
-use Rattle.diagrams.specs.declared.style.TheConstants.{REQUEST_KEY, UNDER_WAY}
+use Rattle.diagrams.specs.declared.style.TheConstants.{REQUEST_KEY, STALE, STALE_KEY, UNDER_WAY}
 use Rattle.diagrams.specs.declared.style.TheConstants.{UNDER_WAY_KEY}
 
 -- a sample of each kind of arrow
 abbrev pub arrow_samples : Markup
 arrow_samples = both (sample REQUEST.now REQUEST_KEY.now) (both (sample REPLY.now REPLY_KEY.now)
-    (both (sample LOST.now LOST_KEY.now) (sample UNDER_WAY.now UNDER_WAY_KEY.now)))
+    (both (sample STALE.now STALE_KEY.now) (both (sample LOST.now LOST_KEY.now)
+    (sample UNDER_WAY.now UNDER_WAY_KEY.now))))
 
 -- a sample of each part of a bar, and of a down time
 abbrev pub bar_samples : Markup

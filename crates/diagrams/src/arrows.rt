@@ -7,17 +7,19 @@ ghost use Rattle.diagrams.specs.Arrows.{cross_of, direction_class, end_class, en
 ghost use Rattle.diagrams.specs.Arrows.{halfway, in_arrow, is_request, label_distance, label_x};
 ghost use Rattle.diagrams.specs.Arrows.{receiver_x, replica_side, sender_x, waiting_x, way_of};
 ghost use Rattle.diagrams.specs.Layout.{HasClientsInOrder};
-ghost use Rattle.diagrams.specs.Words.{message_words};
+ghost use Rattle.labels.specs.Labels.{title};
+ghost use Rattle.diagrams.specs.Words.{arrow_title};
 
-use crate::layout::{client_x, down, replica_x, rows_of};
+use crate::items::open_item;
+use crate::layout::{client_x, down, replica_x};
 use crate::sizes::{
     ARM, CLIENT_EDGE, CLIENT_WAIT, LABEL_BASE, LABEL_LETTERS, MOMENT, NEAREST, REPLICA_EDGE,
-    REPLICA_WAIT, ROW,
+    REPLICA_WAIT, ROW, STUB,
 };
-use crate::style::{ARRIVING, CROSS, LABEL, LOST, REPLY, REQUEST, UNDER_WAY};
-use crate::words::say_message;
+use crate::style::{ARRIVING, CROSS, LABEL, LOST, REPLY, REQUEST, STALE, UNDER_WAY};
+use crate::words::{say_arrow, say_arrow_title};
 use labels::{Shape, Spot, Way, append_label, append_line, append_title};
-use markup::{Element, append_closing, open_of_class};
+use markup::{Element, append_closing};
 use message_scenes::{Arrow, ArrowEnd, MessageScene};
 use network::Message;
 use std::alloc::Global;
@@ -53,6 +55,7 @@ fn end_class(end: &ArrowEnd) -> &'static str
 {
     match end {
         ArrowEnd::Arrives(_) => ARRIVING,
+        ArrowEnd::Stale(_) => STALE,
         ArrowEnd::Lost(_) => LOST,
         ArrowEnd::Open => UNDER_WAY,
     }
@@ -121,20 +124,22 @@ fn end_x(scene: &MessageScene, arrow: &Arrow) -> u64
 {
     match arrow.end {
         ArrowEnd::Arrives(_) => sides(scene, arrow).1,
+        ArrowEnd::Stale(_) => sides(scene, arrow).1,
         ArrowEnd::Lost(_) => halfway(scene, arrow),
         ArrowEnd::Open => waiting_x(scene, arrow),
     }
 }
 
 /// Where it ends, down.
-fn end_y(scene: &MessageScene, end: ArrowEnd) -> u64
-    ensures ends { result ≡ end_y scene.now end }
+fn end_y(begins: usize, end: ArrowEnd) -> u64
+    ensures ends { result ≡ end_y begins end }
     ensures near { IsNear result }
 {
     match end {
         ArrowEnd::Arrives(row) => down(MOMENT, row),
+        ArrowEnd::Stale(row) => down(MOMENT, row),
         ArrowEnd::Lost(row) => down(MOMENT, row),
-        ArrowEnd::Open => down(MOMENT, rows_of(scene)),
+        ArrowEnd::Open => down(STUB, begins),
     }
 }
 
@@ -148,7 +153,7 @@ fn way_of(scene: &MessageScene, arrow: &Arrow) -> Way
         x1: sides(scene, arrow).0,
         y1: down(MOMENT, arrow.begins),
         x2: end_x(scene, arrow),
-        y2: end_y(scene, arrow.end),
+        y2: end_y(arrow.begins, arrow.end),
     }
 }
 
@@ -210,22 +215,32 @@ fn label_x(request: bool, way: Way) -> u64
     }
 }
 
-/// Adds what it asks or tells, which these words say.
+/// Adds the number of its message, from whom to whom it goes, and what it asks or tells, as a title.
+fn append_arrow_title(alloc: Global, page: &mut Vec<u8>, arrow: &Arrow) -> Result<(), Memory>
+    ensures { OnOk result
+        (page.new.items ≡ page.old.items ++ rendered (title (arrow_title arrow.now))) }
+{
+    let mut words = Vec::new(alloc);
+    say_arrow_title(&mut words, arrow)?;
+    append_title(page, &words)
+}
+
+/// Adds the number of its message, and what it asks or tells.
 fn append_arrow_label(
     alloc: Global,
     page: &mut Vec<u8>,
     way: Way,
     arrow: &Arrow,
-    words: &[u8],
 ) -> Result<(), Memory>
-    requires near { IsNearWay way }
-    requires words { words.now ≡ message_words arrow.now.message }
+    requires { IsNearWay way }
     ensures { OnOk result
         (page.new.items ≡ page.old.items ++ rendered (arrow_label way arrow.now)) }
 {
+    let mut words = Vec::new(alloc);
+    say_arrow(&mut words, arrow)?;
     let x = label_x(is_request(&arrow.message), way);
     let spot = Spot::new(LABEL, x, down(LABEL_BASE, arrow.begins), LABEL_LETTERS);
-    append_label(alloc, page, &spot, words)
+    append_label(alloc, page, &spot, &words)
 }
 
 /// Adds what stands in the element of the arrow.
@@ -233,12 +248,10 @@ fn append_in_arrow(alloc: Global, page: &mut Vec<u8>, way: Way, arrow: &Arrow) -
     requires { IsNearWay way }
     ensures { OnOk result (page.new.items ≡ page.old.items ++ rendered (in_arrow way arrow.now)) }
 {
-    let mut words = Vec::new(alloc);
-    say_message(&mut words, &arrow.message)?;
-    append_title(page, &words)?;
+    append_arrow_title(alloc, page, arrow)?;
     append_line(page, end_class(&arrow.end), way)?;
     append_cross_of(page, arrow.end, way)?;
-    append_arrow_label(alloc, page, way, arrow, &words)
+    append_arrow_label(alloc, page, way, arrow)
 }
 
 impl Shape for Arrows<'_> {
@@ -250,7 +263,7 @@ impl Shape for Arrows<'_> {
 
     fn append(&self, page: &mut Vec<u8>, item: &Arrow) -> Result<(), Memory> {
         let class = direction_class(is_request(&item.message));
-        open_of_class(page, Element::G, class)?;
+        open_item(page, class)?;
         append_in_arrow(self.alloc, page, way_of(self.scene, item), item)?;
         append_closing(page, Element::G)
     }

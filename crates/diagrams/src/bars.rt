@@ -8,12 +8,13 @@ ghost use Rattle.diagrams.specs.Calls.{last_part, open_corners, parts, piece, sh
 ghost use Rattle.diagrams.specs.Layout.{HasClientsInOrder};
 ghost use Rattle.diagrams.specs.Words.{begin_words};
 
+use crate::items::open_item;
 use crate::layout::{client_x, down, rows_of};
 use crate::sizes::{BAR_LEFT, BAR_RIGHT, MOMENT, STOP_LEFT, STOP_RIGHT};
 use crate::style::{ASKING, PUTTING, READING, STOP, WRITING};
 use crate::words::say_begin;
 use labels::{Frame, Shape, Way, append_line, append_polyline, append_title};
-use markup::{Attribute, AttributeName, Element, append_closing, append_empty, open_of_class};
+use markup::{Attribute, AttributeName, Element, append_closing, append_empty};
 use message_scenes::{CallBar, CallEnd, MessageScene, PlacedNote};
 use std::alloc::Global;
 use tag::{Action, ClientId, Memory};
@@ -156,7 +157,7 @@ impl Shape for Bars<'_> {
     ghost shape = { λ bars. bar_markup bars.scene.now };
 
     fn append(&self, page: &mut Vec<u8>, item: &CallBar) -> Result<(), Memory> {
-        open_of_class(page, Element::G, action_class(&item.action))?;
+        open_item(page, action_class(&item.action))?;
         append_call_title(self.alloc, page, item)?;
         append_parts(page, self.scene, item)?;
         append_stop(page, self.scene, item)?;

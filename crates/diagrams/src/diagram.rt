@@ -2,25 +2,26 @@
 ghost use Rattle.std.specs.Prelude.{◌≡◌, ◌++◌, OnOk};
 ghost use Rattle.markup.specs.Markup.{opening_tag, rendered};
 ghost use Rattle.markup.specs.declared.names.Element.TheVariants as tag;
-ghost use Rattle.diagrams.specs.Diagrams.{diagram, head, omitted_text, plane, prologue, shapes};
-ghost use Rattle.diagrams.specs.Diagrams.{svg, svg_attributes};
+ghost use Rattle.diagrams.specs.Diagrams.{content, diagram, head, omitted_text, plane, prologue};
+ghost use Rattle.diagrams.specs.Diagrams.{shapes, svg, svg_attributes};
 ghost use Rattle.diagrams.specs.Layout.{HasClientsInOrder};
 
 use crate::arrows::Arrows;
 use crate::bars::Bars;
-use crate::layout::{down, replica_x, rows_of};
+use crate::curtains::append_curtains;
+use crate::hearings::Hearings;
+use crate::items::{open_box, open_list};
+use crate::layout::{down, replica_x, replicas_of, rows_of};
 use crate::lifelines::append_lifelines;
-use crate::replicas::{Changes, Downs};
-use crate::rows::Rows;
+use crate::replicas::{Downs, Holdings};
+use crate::rows::{Reasons, Rows};
 use crate::sizes::{
     BOTTOM, COMMAND_LEFT, HEAD_MIDDLE, HEAD_SIZE, HEAD_TIP, RIGHT, SENTENCE_LETTERS, TEXT_BASE,
 };
-use crate::style::{AUTO, HEAD, HEAD_BOX, HEAD_PATH, MESSAGES, MORE, OMITTED, TITLE};
+use crate::style::{AUTO, HEAD, HEAD_BOX, HEAD_PATH, MORE, OMITTED, TITLE};
 use crate::texts::CallTexts;
-use labels::{Spot, append_each, append_each_indexed, append_numbered, append_title, open_image};
-use markup::{
-    Attribute, AttributeName, Element, append_closing, append_empty, append_opening, open_of_class,
-};
+use labels::{Spot, append_each, append_each_indexed, append_numbered, append_title};
+use markup::{Attribute, AttributeName, Element, append_closing, append_empty, append_opening};
 use message_scenes::MessageScene;
 use std::alloc::Global;
 use tag::Memory;
@@ -80,15 +81,18 @@ fn append_plane(alloc: Global, page: &mut Vec<u8>, scene: &MessageScene) -> Resu
     append_each(page, &Downs { alloc, scene }, &scene.downs)
 }
 
-/// Adds the bars of the calls, the arrows above them, and above these the texts.
+/// Adds the bars of the calls, the arrows above them, and above these the texts and the reasons.
 fn append_shapes(alloc: Global, page: &mut Vec<u8>, scene: &MessageScene) -> Result<(), Memory>
     requires { HasClientsInOrder scene.now }
     ensures { OnOk result (page.new.items ≡ page.old.items ++ rendered (shapes scene.now)) }
 {
     append_each(page, &Bars { alloc, scene }, &scene.calls)?;
     append_each(page, &Arrows { alloc, scene }, &scene.arrows)?;
-    append_each(page, &CallTexts { alloc, scene }, &scene.calls)?;
-    append_each(page, &Changes { alloc, scene }, &scene.changes)
+    let texts = CallTexts { alloc, scene };
+    append_each(page, &texts, &scene.calls)?;
+    append_each(page, &Hearings { texts }, &scene.hearings)?;
+    append_each(page, &Holdings { alloc, scene }, &scene.holdings)?;
+    append_each_indexed(page, &Reasons { alloc }, &scene.rows)
 }
 
 /// Opens the diagram's element.
@@ -96,8 +100,20 @@ fn open_svg(page: &mut Vec<u8>, scene: &MessageScene) -> Result<(), Memory>
     ensures { OnOk result (page.new.items
         ≡ page.old.items ++ opening_tag tag.Svg (svg_attributes scene.now)) }
 {
-    let width = replica_x(scene, RIGHT, scene.replicas);
-    open_image(page, width, down(BOTTOM, rows_of(scene)))
+    let width = replica_x(scene, RIGHT, replicas_of(scene));
+    open_list(page, width, down(BOTTOM, rows_of(scene)))
+}
+
+/// Adds what stands in the diagram's element.
+fn append_content(alloc: Global, page: &mut Vec<u8>, scene: &MessageScene) -> Result<(), Memory>
+    requires { HasClientsInOrder scene.now }
+    ensures { OnOk result (page.new.items ≡ page.old.items ++ rendered (content scene.now)) }
+{
+    append_prologue(page)?;
+    append_plane(alloc, page, scene)?;
+    append_shapes(alloc, page, scene)?;
+    append_omitted(alloc, page, scene)?;
+    append_curtains(alloc, page, scene)
 }
 
 /// Adds the diagram's element.
@@ -106,22 +122,19 @@ fn append_svg(alloc: Global, page: &mut Vec<u8>, scene: &MessageScene) -> Result
     ensures { OnOk result (page.new.items ≡ page.old.items ++ rendered (svg scene.now)) }
 {
     open_svg(page, scene)?;
-    append_prologue(page)?;
-    append_plane(alloc, page, scene)?;
-    append_shapes(alloc, page, scene)?;
-    append_omitted(alloc, page, scene)?;
+    append_content(alloc, page, scene)?;
     append_closing(page, Element::Svg)
 }
 
-/// Adds the diagram: each row, each lifeline, each arrow, each call, each change and each down time
-/// of the scene. It scrolls where the window is too narrow.
+/// Adds the diagram: each row, each lifeline, each arrow, each call, each reply that is heard, each
+/// put and each down time of the scene. It scrolls where the window is too narrow.
 ///
 /// If it fails, a beginning of that may have been added; so it is with each function here.
 pub fn append_diagram(alloc: Global, page: &mut Vec<u8>, scene: &MessageScene) -> Result<(), Memory>
     requires { HasClientsInOrder scene.now }
     ensures { OnOk result (page.new.items ≡ page.old.items ++ rendered (diagram scene.now)) }
 {
-    open_of_class(page, Element::Div, MESSAGES)?;
+    open_box(page)?;
     append_svg(alloc, page, scene)?;
     append_closing(page, Element::Div)
 }

@@ -9,6 +9,7 @@ ghost use Rattle.labels.specs.Places.{farthest};
 ghost use Rattle.labels.specs.Texts.{all_differ, none_is_empty};
 ghost use Rattle.diagrams.specs.declared.sizes.TheConstants.{CLIENT, COLUMN, REPLICA, ROW};
 ghost use Rattle.diagrams.specs.Arrows.{GoesFromRowToRow};
+ghost use Rattle.diagrams.specs.Curtains.{HidesRowsAfter};
 ghost use Rattle.diagrams.specs.Layout.{HasClientsInOrder, HasColumns, across, client_x, down};
 ghost use Rattle.diagrams.specs.Layout.{replica_x};
 ghost use Rattle.diagrams.specs.Readable.{HasClientEdges, HasReplicaEdges, class_names};
@@ -36,6 +37,11 @@ pub fn rows_go_down()
     ensures rows { (start i j : ℕ) → i < j → down start j < farthest
         → down start i < down start j }
     ensures height { 0 < ROW }
+{}
+
+/// The curtain of a row hides the rows after it, each as a whole, and none up to it.
+pub fn a_curtain_hides_the_rows_after_its_own()
+    ensures { (scene : MessageScene) (row : ℕ) → HidesRowsAfter scene row }
 {}
 
 /// Columns stand from left to right, those of the replicas after those of the clients, unless they

@@ -1,9 +1,10 @@
 //! Where a diagram shows what, in pixels.
 ghost use Rattle.std.specs.Prelude.{◌≡◌, ◌≤◌, length};
 ghost use Rattle.std.specs.List.Sorted.{IsStrictlyIncreasing};
+ghost use Rattle.tag.specs.Limits.{replica_limit};
 ghost use Rattle.labels.specs.Places.{IsNear};
 ghost use Rattle.diagrams.specs.Layout.{HasClientsInOrder, across, client_x, down};
-ghost use Rattle.diagrams.specs.Layout.{names_below, replica_x, rows_of};
+ghost use Rattle.diagrams.specs.Layout.{names_below, replica_x, replicas_of, rows_of};
 
 use crate::sizes::{COLUMN, ROW};
 use labels::pixels;
@@ -50,6 +51,14 @@ pub(crate) fn replica_x(scene: &MessageScene, start: u64, number: u8) -> u64
     ensures near { IsNear result }
 {
     across(start, scene.clients.len() + usize::from(number))
+}
+
+/// How many replicas there are.
+pub(crate) fn replicas_of(scene: &MessageScene) -> u8
+    ensures count { result ≡ replicas_of scene.now }
+    ensures most { result ≤ replica_limit }
+{
+    scene.quorums.replicas()
 }
 
 /// How many rows there are.

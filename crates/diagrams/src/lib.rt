@@ -1,6 +1,6 @@
 //! The diagram of the messages of a script's run, as SVG in a page.
 //!
-//! Time goes down: each step that was taken has a row, and each client and each replica a lifeline.
+//! Time goes down: each step that was tried has a row, and each client and each replica a lifeline.
 //! The diagram is of the scene: each function adds exactly the bytes of a tree of elements that a
 //! definition makes of the scene. An arrow goes from the row where it begins to the row where it
 //! ends; since each step begins at most one, no two words of messages stand over one another.
@@ -11,7 +11,10 @@
 
 mod arrows;
 mod bars;
+mod curtains;
 mod diagram;
+mod hearings;
+mod items;
 pub mod laws;
 mod layout;
 mod lifelines;

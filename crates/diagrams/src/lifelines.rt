@@ -1,18 +1,20 @@
 //! The lifelines of a diagram: one for each client, and one for each replica.
-ghost use Rattle.std.specs.Prelude.{◌≡◌, ◌++◌, OnOk};
+ghost use Rattle.std.specs.Prelude.{◌≡◌, ◌<◌, ◌++◌, OnOk};
 ghost use Rattle.markup.specs.Markup.{rendered};
-ghost use Rattle.diagrams.specs.Layout.{HasClientsInOrder};
+ghost use Rattle.tag.specs.Limits.{replica_limit};
+ghost use Rattle.diagrams.specs.Layout.{HasClientsInOrder, replicas_of};
 ghost use Rattle.diagrams.specs.Lifelines.{client_lifeline, each_below, lifeline, lifelines};
 ghost use Rattle.diagrams.specs.Lifelines.{replica_lifeline};
 
-use crate::layout::{client_x, down, replica_x, rows_of};
+use crate::layout::{client_x, down, replica_x, replicas_of, rows_of};
 use crate::sizes::{CLIENT, FOOT_BASE, LETTERS, LONG, MOMENT, NAMES_BASE, REPLICA, TOP};
-use crate::style::{CLIENT_WORD, LIFELINE, REPLICA_WORD, WHO};
+use crate::style::{CLIENT_WORD, LIFELINE, WHO};
+use crate::words::say_replica;
 use labels::{Shape, Spot, Way, append_each, append_label, append_line};
 use message_scenes::MessageScene;
 use sentences::append_number;
 use std::alloc::Global;
-use tag::{ClientId, Memory};
+use tag::{ClientId, Memory, ReplicaId};
 
 /// The lifelines of a scene: as shapes of a list, those of its clients.
 #[derive(Clone, Copy)]
@@ -40,11 +42,13 @@ impl Lifelines<'_> {
 
     /// Adds the lifeline of the replica of that number.
     fn append_replica(&self, page: &mut Vec<u8>, number: u8) -> Result<(), Memory>
+        requires { number < replica_limit }
         ensures { OnOk result (page.new.items
             ≡ page.old.items ++ rendered (replica_lifeline self.now.scene.now number)) }
     {
+        let replica = ReplicaId::new(number).unwrap();
         let mut name = Vec::new(self.alloc);
-        append_number(&mut name, REPLICA_WORD, u64::from(number))?;
+        say_replica(&mut name, &self.scene.quorums, replica)?;
         self.append_lifeline(page, replica_x(self.scene, REPLICA, number), &name)
     }
 }
@@ -66,10 +70,10 @@ impl Shape for Lifelines<'_> {
 /// Adds the lifelines of the replicas.
 fn append_replicas(alloc: Global, page: &mut Vec<u8>, scene: &MessageScene) -> Result<(), Memory>
     ensures { OnOk result (page.new.items ≡ page.old.items
-        ++ rendered (each_below (replica_lifeline scene.now) scene.now.replicas)) }
+        ++ rendered (each_below (replica_lifeline scene.now) (replicas_of scene.now))) }
 {
     let lifelines = Lifelines { alloc, scene };
-    for number in 0..scene.replicas {
+    for number in 0..replicas_of(scene) {
         lifelines.append_replica(page, number)?;
     }
     Ok(())

@@ -1,14 +1,15 @@
-//! What a diagram shows of replicas: when they are down, and what they come to hold.
+//! What a diagram shows of replicas: when they are down, and what they hold after each put.
 ghost use Rattle.std.specs.Prelude.{◌≡◌};
-ghost use Rattle.diagrams.specs.Replicas.{change_markup, down_markup, frame_of, up_at};
+ghost use Rattle.diagrams.specs.Replicas.{down_markup, frame_of, holding_class, holding_markup};
+ghost use Rattle.diagrams.specs.Replicas.{up_at};
 
 use crate::bars::append_shut;
 use crate::layout::{down, replica_x, rows_of};
-use crate::sizes::{CHANGE_LEFT, DOWN_LEFT, DOWN_RIGHT, LETTERS, MOMENT, TEXT_BASE};
-use crate::style::{DOWN_TIME, DOWN_WORD, HOLDS};
-use crate::words::say_change;
+use crate::sizes::{DOWN_LEFT, DOWN_RIGHT, HOLDING_LEFT, LETTERS, MOMENT, TEXT_BASE};
+use crate::style::{DOWN_TIME, DOWN_WORD, HOLDS, HOLDS_OWN};
+use crate::words::say_holding;
 use labels::{Frame, Shape, Spot, append_label};
-use message_scenes::{Change, DownTime, MessageScene};
+use message_scenes::{DownTime, Holding, MessageScene};
 use std::alloc::Global;
 use tag::Memory;
 
@@ -19,11 +20,18 @@ pub(crate) struct Downs<'a> {
     pub(crate) scene: &'a MessageScene,
 }
 
-/// What a scene's replicas come to hold.
+/// What a scene's replicas hold after each put.
 #[derive(Clone, Copy)]
-pub(crate) struct Changes<'a> {
+pub(crate) struct Holdings<'a> {
     pub(crate) alloc: Global,
     pub(crate) scene: &'a MessageScene,
+}
+
+/// The class of what a replica holds, by whether it takes it.
+fn holding_class(takes: bool) -> &'static str
+    ensures { result.now ≡ holding_class takes }
+{
+    if takes { HOLDS } else { HOLDS_OWN }
 }
 
 /// Where a down time that so ends ends, down.
@@ -57,24 +65,25 @@ impl Shape for Downs<'_> {
 
     fn append(&self, page: &mut Vec<u8>, item: &DownTime) -> Result<(), Memory> {
         append_shut(page, DOWN_TIME, frame_of(self.scene, item))?;
-        let x = replica_x(self.scene, CHANGE_LEFT, item.replica.get());
+        let x = replica_x(self.scene, HOLDING_LEFT, item.replica.get());
         let spot = Spot::new(DOWN_TIME, x, down(TEXT_BASE, item.stops), LETTERS);
         append_label(self.alloc, page, &spot, DOWN_WORD.as_bytes())
     }
 }
 
-impl Shape for Changes<'_> {
-    type Item = Change;
+impl Shape for Holdings<'_> {
+    type Item = Holding;
 
-    ghost can_append = { λ changes. Unit {0} };
+    ghost can_append = { λ holdings. Unit {0} };
 
-    ghost shape = { λ changes. change_markup changes.scene.now };
+    ghost shape = { λ holdings. holding_markup holdings.scene.now };
 
-    fn append(&self, page: &mut Vec<u8>, item: &Change) -> Result<(), Memory> {
-        let x = replica_x(self.scene, CHANGE_LEFT, item.replica.get());
-        let spot = Spot::new(HOLDS, x, down(TEXT_BASE, item.row), LETTERS);
+    fn append(&self, page: &mut Vec<u8>, item: &Holding) -> Result<(), Memory> {
+        let x = replica_x(self.scene, HOLDING_LEFT, item.replica.get());
+        let class = holding_class(item.takes);
+        let spot = Spot::new(class, x, down(TEXT_BASE, item.row), LETTERS);
         let mut words = Vec::new(self.alloc);
-        say_change(&mut words, item)?;
+        say_holding(&mut words, item)?;
         append_label(self.alloc, page, &spot, &words)
     }
 }

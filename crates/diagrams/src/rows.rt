@@ -1,22 +1,94 @@
-//! The rows of a diagram: each has its line of the script at the left, and a line over all columns.
-ghost use Rattle.diagrams.specs.Rows.{row_markup};
+//! The rows of a diagram: each has its line of the script at the left, and a line over all columns;
+//! where nothing was done, a band, and in it why.
+ghost use Rattle.std.specs.Prelude.{◌≡◌, ◌++◌, OnOk};
+ghost use Rattle.markup.specs.Markup.{rendered};
+ghost use Rattle.diagrams.specs.Rows.{attempt_class, band, band_of, reason_at, reason_markup};
+ghost use Rattle.diagrams.specs.Rows.{row_line, row_markup, row_words};
 
-use crate::layout::{down, replica_x};
+use crate::bars::append_shut;
+use crate::layout::{down, replica_x, replicas_of};
 use crate::sizes::{
-    COMMAND_LEFT, COMMAND_LETTERS, LINE_LETTERS, LINE_RIGHT, MOMENT, RIGHT, STEP_LEFT, TEXT_BASE,
+    BAND_BOTTOM, BAND_TOP, COMMAND_LEFT, COMMAND_LETTERS, LINE_LETTERS, LINE_RIGHT, MOMENT,
+    REASON_LEFT, RIGHT, SENTENCE_LETTERS, STEP_LEFT, TEXT_BASE,
 };
-use crate::style::{COMMAND, LINE_WORD, SOURCE, STEP};
-use crate::words::say_command;
-use labels::{IndexedShape, Spot, Way, append_label, append_line, append_numbered};
-use message_scenes::{MessageScene, StepRow};
+use crate::style::{BAND, COMMAND, LINE_WORD, REASON, REFUSED, SOURCE, STEP};
+use crate::words::say_attempt;
+use labels::{Frame, IndexedShape, Spot, Way, append_label, append_line, append_numbered};
+use message_scenes::{Attempt, MessageScene, StepRow};
 use std::alloc::Global;
 use tag::Memory;
+use traces::{append_refusal_reason, append_unsettled};
 
 /// The rows of a scene.
 #[derive(Clone, Copy)]
 pub(crate) struct Rows<'a> {
     pub(crate) alloc: Global,
     pub(crate) scene: &'a MessageScene,
+}
+
+/// Why nothing was done in a scene's rows.
+#[derive(Clone, Copy)]
+pub(crate) struct Reasons {
+    pub(crate) alloc: Global,
+}
+
+/// The class of the words of what was tried.
+fn attempt_class(attempt: &Attempt) -> &'static str
+    ensures { result.now ≡ attempt_class attempt.now }
+{
+    match attempt {
+        Attempt::Taken(_) => COMMAND,
+        _ => REFUSED,
+    }
+}
+
+impl Rows<'_> {
+    /// Adds the line over all columns.
+    fn append_row_line(&self, page: &mut Vec<u8>, index: usize) -> Result<(), Memory>
+        ensures { OnOk result (page.new.items
+            ≡ page.old.items ++ rendered (row_line self.now.scene.now index)) }
+    {
+        let right = replica_x(self.scene, RIGHT, replicas_of(self.scene));
+        append_line(
+            page,
+            STEP,
+            Way::level(down(MOMENT, index), STEP_LEFT, right),
+        )
+    }
+
+    /// Adds a band over all columns, if nothing was done.
+    fn append_band(&self, page: &mut Vec<u8>, index: usize, attempt: &Attempt) -> Result<(), Memory>
+        ensures { OnOk result (page.new.items
+            ≡ page.old.items ++ rendered (band_of self.now.scene.now index attempt.now)) }
+    {
+        match attempt {
+            Attempt::Taken(_) => Ok(()),
+            _ => {
+                let band = Frame {
+                    left: STEP_LEFT,
+                    right: replica_x(self.scene, RIGHT, replicas_of(self.scene)),
+                    top: down(BAND_TOP, index),
+                    bottom: down(BAND_BOTTOM, index),
+                };
+                append_shut(page, BAND, band)
+            }
+        }
+    }
+
+    /// Adds the line of the script, and what was tried.
+    fn append_words(&self, page: &mut Vec<u8>, index: usize, row: &StepRow) -> Result<(), Memory>
+        ensures { OnOk result
+            (page.new.items ≡ page.old.items ++ rendered (row_words index row.now)) }
+    {
+        let y = down(TEXT_BASE, index);
+        let line = Spot::new(SOURCE, LINE_RIGHT, y, LINE_LETTERS);
+        append_numbered(self.alloc, page, &line, LINE_WORD, row.origin.line)?;
+        let mut words = Vec::new(self.alloc);
+        say_attempt(&mut words, &row.attempt)?;
+        let class = attempt_class(&row.attempt);
+        let command = Spot::new(class, COMMAND_LEFT, y, COMMAND_LETTERS);
+        append_label(self.alloc, page, &command, &words)
+    }
 }
 
 impl IndexedShape for Rows<'_> {
@@ -27,18 +99,47 @@ impl IndexedShape for Rows<'_> {
     ghost shape = { λ rows. row_markup rows.scene.now };
 
     fn append(&self, page: &mut Vec<u8>, index: usize, item: &StepRow) -> Result<(), Memory> {
-        let right = replica_x(self.scene, RIGHT, self.scene.replicas);
-        append_line(
-            page,
-            STEP,
-            Way::level(down(MOMENT, index), STEP_LEFT, right),
-        )?;
-        let y = down(TEXT_BASE, index);
-        let line = Spot::new(SOURCE, LINE_RIGHT, y, LINE_LETTERS);
-        append_numbered(self.alloc, page, &line, LINE_WORD, item.origin.line)?;
+        self.append_row_line(page, index)?;
+        self.append_band(page, index, &item.attempt)?;
+        self.append_words(page, index, item)
+    }
+}
+
+impl Reasons {
+    /// Adds the reason in the row of that index.
+    fn append_reason(&self, page: &mut Vec<u8>, index: usize, words: &[u8]) -> Result<(), Memory>
+        ensures { OnOk result
+            (page.new.items ≡ page.old.items ++ rendered (reason_at index words.now)) }
+    {
+        let spot = Spot::new(
+            REASON,
+            REASON_LEFT,
+            down(TEXT_BASE, index),
+            SENTENCE_LETTERS,
+        );
+        append_label(self.alloc, page, &spot, words)
+    }
+}
+
+impl IndexedShape for Reasons {
+    type Item = StepRow;
+
+    ghost can_append = { λ reasons index. Unit {0} };
+
+    ghost shape = { λ reasons. reason_markup };
+
+    fn append(&self, page: &mut Vec<u8>, index: usize, item: &StepRow) -> Result<(), Memory> {
         let mut words = Vec::new(self.alloc);
-        say_command(&mut words, &item.origin.kind, &item.step)?;
-        let command = Spot::new(COMMAND, COMMAND_LEFT, y, COMMAND_LETTERS);
-        append_label(self.alloc, page, &command, &words)
+        match &item.attempt {
+            Attempt::Taken(_) => Ok(()),
+            Attempt::Refused(_, why) => {
+                append_refusal_reason(&mut words, *why)?;
+                self.append_reason(page, index, &words)
+            }
+            Attempt::Unfinished(_, why) => {
+                append_unsettled(&mut words, *why)?;
+                self.append_reason(page, index, &words)
+            }
+        }
     }
 }

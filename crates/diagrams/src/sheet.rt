@@ -6,7 +6,7 @@ ghost use Rattle.diagrams.specs.Sheets.{arrow_samples, bar_samples};
 
 use crate::style::{
     ASKING, ASKING_KEY, DOWN_KEY, DOWN_TIME, KEY, LOST, LOST_KEY, PUTTING, PUTTING_KEY, REPLY,
-    REPLY_KEY, REQUEST, REQUEST_KEY, UNDER_WAY, UNDER_WAY_KEY,
+    REPLY_KEY, REQUEST, REQUEST_KEY, STALE, STALE_KEY, UNDER_WAY, UNDER_WAY_KEY,
 };
 use labels::append_sample;
 use markup::{Element, append_closing, append_plain, append_text, open_of_class};
@@ -23,51 +23,65 @@ pub(crate) const SHEET: &str =
 --read-put:#1f7a50;--write-ask:#1b3160;--write-put:#31569f}}\
 body{margin:8px;color:var(--ink);background:var(--paper);font:15px/1.5 system-ui,sans-serif}\
 h1,h2,p{margin:.5rem 0;overflow-wrap:anywhere}\
-.messages{overflow-x:auto;margin:.5rem 0}\
-.messages svg{display:block;font:10px ui-monospace,monospace}\
+.messages{overflow:auto;max-height:85vh;margin:.5rem 0;border:1px solid var(--faint)}\
+.messages svg{display:block;font:13px ui-monospace,monospace}\
 .messages text{fill:var(--ink)}\
 .lifeline{stroke:var(--soft);stroke-width:1;stroke-opacity:.6}\
 .step{stroke:var(--faint);stroke-width:1;stroke-dasharray:1 3}\
 .messages .who{font-weight:bold;text-anchor:middle}\
 .messages .source{fill:var(--soft);text-anchor:end}\
+.messages .refused,.messages .reason{fill:var(--lost);font-weight:bold}\
+.messages .band{fill:var(--lost);fill-opacity:.1}\
 .request line{stroke:var(--request);stroke-width:1.4}\
 .reply line{stroke:var(--reply);stroke-width:1.4}\
 .messages .under-way{stroke-dasharray:4 4}\
-.messages .arriving{marker-end:url(#message-head)}\
+.messages .arriving,.messages .stale{marker-end:url(#message-head)}\
+.messages .stale{stroke-dasharray:1 3;stroke-opacity:.7}\
+.messages .stale~.label{fill:var(--soft)}\
+.messages .request .under-way~.label{text-anchor:start}.messages .reply .under-way~.label{text-anchor:end}\
 .message-head{fill:var(--ink)}\
 .messages .cross{stroke:var(--lost);stroke-width:2.2}\
 .messages .label{text-anchor:middle}\
 .messages .label,.messages .holds,.messages .begin,.messages .note,.messages .outcome,\
-.messages text.down{paint-order:stroke;stroke:var(--paper);stroke-width:3px;stroke-linejoin:round}\
+.messages .counted,.messages .ignored,.messages .keeps,\
+.messages .reason,.messages text.down{paint-order:stroke;stroke:var(--paper);stroke-width:3px;stroke-linejoin:round}\
 .reading rect,.reading polyline{fill:var(--read-ask);stroke:var(--reply);stroke-width:1.2}\
 .writing rect,.writing polyline{fill:var(--write-ask);stroke:var(--request);stroke-width:1.2}\
 .messages .reading .putting{fill:var(--read-put)}\
 .messages .writing .putting{fill:var(--write-put)}\
 .messages .stop{stroke:var(--lost);stroke-width:2.5}\
 .messages .begin{font-weight:bold;text-anchor:end}\
-.messages .note,.messages .outcome{text-anchor:end}\
+.messages .note,.messages .outcome,.messages .counted,.messages .ignored{text-anchor:end}\
+.messages .counted,.messages .ignored,.messages .keeps{fill:var(--soft)}\
 .messages .holds{font-weight:bold}\
 .messages rect.down{fill:var(--faint);stroke:var(--ink);stroke-dasharray:3 2}\
 .messages .more{fill:var(--soft)}\
+.messages .link{fill:var(--request);text-decoration:underline}\
+.messages .sentence{font-weight:bold}\
+.messages g.curtain{display:none;scroll-margin:50vh}.messages g.curtain:target{display:inline}\
+.messages rect.curtain{fill:var(--paper);fill-opacity:.94;stroke:var(--soft)}\
 .key{color:var(--soft);max-width:60rem}\
 .key span{display:inline-block;padding:0 .6em;margin-right:.4em;color:var(--ink);\
 border:1.5px solid var(--soft)}\
 .key .request{border-color:var(--request);border-style:none none solid}\
 .key .reply{border-color:var(--reply);border-style:none none solid}\
+.key .stale{border-color:var(--reply);border-style:none none dotted}\
 .key .lost{border-color:var(--lost);border-style:none none solid}\
 .key .under-way{border-style:none none dashed}\
 .key .asking{background:var(--write-ask);border-color:var(--request)}\
 .key .putting{background:var(--write-put);border-color:var(--request)}\
 .key .down{background:var(--faint);border-style:dashed}\
-@media print{body{margin:0}.messages{overflow:visible}.messages svg{max-width:100%;height:auto}}";
+@media print{body{margin:0}.messages{overflow:visible;max-height:none;border:0}.messages g.curtain:target{display:none}.messages svg{max-width:100%;height:auto}}";
 
 /// What the legend says after its samples.
 pub(crate) const LEGEND_WORDS: &str =
-    " Time goes down: each step that was taken has a row, with its line of the script at the left. \
-An arrow goes from the row where a message is sent to the row where it arrives; one that is lost \
-ends with a cross in its row, and one that never arrives is dashed. A call is a bar on its client\u{2019}s \
+    " Time goes down: each step that was tried has a row, with its line of the script at the left; a row in \
+red was refused, and says why. \
+An arrow has its message\u{2019}s number, and goes from the row where the message is sent to the row where it \
+arrives; one that is lost ends with a cross in its row, and one that never arrives is a short dashed stub. A call is a bar on its client\u{2019}s \
 lifeline: it asks until its tag is noted, and then it puts; where its client stopped it ends at a \
-line. Right of a replica\u{2019}s lifeline stands what it comes to hold.";
+line. Left of its lifeline stand the votes that it has counted, and where a reply is stale. Right of a \
+replica\u{2019}s lifeline stands what it takes of a put, or which tag it keeps.";
 
 /// Adds the style sheet, which belongs into the page's `head`: for light and dark windows, and for
 /// paper.
@@ -83,6 +97,7 @@ fn append_arrow_samples(page: &mut Vec<u8>) -> Result<(), Memory>
 {
     append_sample(page, REQUEST, REQUEST_KEY)?;
     append_sample(page, REPLY, REPLY_KEY)?;
+    append_sample(page, STALE, STALE_KEY)?;
     append_sample(page, LOST, LOST_KEY)?;
     append_sample(page, UNDER_WAY, UNDER_WAY_KEY)
 }

@@ -14,11 +14,19 @@ pub(crate) const SOURCE: &str = "source";
 
 pub(crate) const COMMAND: &str = "command";
 
+pub(crate) const REFUSED: &str = "refused";
+
+pub(crate) const BAND: &str = "band";
+
+pub(crate) const REASON: &str = "reason";
+
 pub(crate) const REQUEST: &str = "request";
 
 pub(crate) const REPLY: &str = "reply";
 
 pub(crate) const ARRIVING: &str = "arriving";
+
+pub(crate) const STALE: &str = "stale";
 
 pub(crate) const LOST: &str = "lost";
 
@@ -48,12 +56,43 @@ pub(crate) const DOWN_TIME: &str = "down";
 
 pub(crate) const HOLDS: &str = "holds";
 
+pub(crate) const HOLDS_OWN: &str = "keeps";
+
+pub(crate) const COUNTED: &str = "counted";
+
+pub(crate) const IGNORED: &str = "ignored";
+
 pub(crate) const KEY: &str = "key";
 
 pub(crate) const MORE: &str = "more";
 
+pub(crate) const CURTAIN: &str = "curtain";
+
+pub(crate) const LINK: &str = "link";
+
+pub(crate) const SENTENCE: &str = "sentence";
+
 /// The name of the head of arrows that arrive, and its class.
 pub(crate) const HEAD: &str = "message-head";
+
+// ---- places on the page
+
+/// How the id of a curtain begins; its row follows.
+pub(crate) const STEP_ID: &str = "step-";
+
+/// How a link to it begins.
+pub(crate) const STEP_LINK: &str = "#step-";
+
+/// A link to the diagram without a curtain.
+pub(crate) const MESSAGES_LINK: &str = "#messages";
+
+// ---- roles
+
+pub(crate) const REGION: &str = "region";
+
+pub(crate) const LIST: &str = "list";
+
+pub(crate) const ITEM: &str = "listitem";
 
 // ---- words
 
@@ -63,7 +102,7 @@ pub(crate) const CLIENT_WORD: &str = "client ";
 
 pub(crate) const REPLICA_WORD: &str = "replica ";
 
-pub(crate) const LINE_WORD: &str = "line ";
+pub(crate) const LINE_WORD: &str = "script line ";
 
 pub(crate) const JOIN: &str = "join ";
 
@@ -87,9 +126,19 @@ pub(crate) const START_REPLICA: &str = "start replica ";
 
 pub(crate) const FINISH: &str = "finish ";
 
-pub(crate) const RANDOM: &str = "random ";
-
 pub(crate) const BLANK: &str = " ";
+
+pub(crate) const COMMA: &str = ", ";
+
+pub(crate) const MESSAGE_WORD: &str = "message ";
+
+pub(crate) const FROM_CLIENT: &str = ": client ";
+
+pub(crate) const FROM_REPLICA: &str = ": replica ";
+
+pub(crate) const TO_CLIENT: &str = " to client ";
+
+pub(crate) const TO_REPLICA: &str = " to replica ";
 
 pub(crate) const ASKS: &str = "ask ";
 
@@ -115,7 +164,28 @@ pub(crate) const STOPPED: &str = "stopped";
 
 pub(crate) const HOLDS_SIGN: &str = " = ";
 
+pub(crate) const KEEPS: &str = "keeps ";
+
+pub(crate) const OF: &str = " of ";
+
+pub(crate) const VOTES: &str = " votes";
+
+pub(crate) const ENOUGH: &str = "enough votes";
+
+pub(crate) const COUNTS_NOTHING: &str = "stale: counts nothing";
+
 pub(crate) const DOWN_WORD: &str = "down";
+
+pub(crate) const STEP_BY_STEP: &str = "step by step";
+
+pub(crate) const BACK: &str = "back";
+
+pub(crate) const NEXT: &str = "next";
+
+pub(crate) const ALL: &str = "all";
+
+pub(crate) const NO_CURTAINS: &str =
+    "Step by step is for diagrams of up to 1,000 rows; see --most.";
 
 pub(crate) const AUTO: &str = "auto";
 
@@ -129,6 +199,8 @@ pub(crate) const OMITTED: &str = "Steps after these that are not shown: ";
 pub(crate) const REQUEST_KEY: &str = "\u{2192} asks or puts";
 
 pub(crate) const REPLY_KEY: &str = "\u{2190} holds or kept";
+
+pub(crate) const STALE_KEY: &str = "stale reply";
 
 pub(crate) const LOST_KEY: &str = "\u{2715} lost";
 

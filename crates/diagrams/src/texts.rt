@@ -22,7 +22,7 @@ pub(crate) struct CallTexts<'a> {
 
 impl CallTexts<'_> {
     /// Adds the words, in that class, left of the client's lifeline in that row.
-    fn append_text(
+    pub(crate) fn append_text(
         &self,
         page: &mut Vec<u8>,
         class: &'static str,

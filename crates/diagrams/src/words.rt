@@ -1,20 +1,24 @@
 //! What is said in a diagram, in few words.
 ghost use Rattle.std.specs.Prelude.{◌≡◌, ◌++◌, option_copied, OnOk};
-ghost use Rattle.diagrams.specs.Words.{action_words, begin_words, change_words, command_words};
+ghost use Rattle.diagrams.specs.Words.{action_words, arrow_title, arrow_words, attempt_words};
+ghost use Rattle.diagrams.specs.Words.{begin_words, between_words, holding_words, missed_words};
+ghost use Rattle.diagrams.specs.Words.{own_votes, own_words, receiver_words, replica_words};
+ghost use Rattle.diagrams.specs.Words.{votes_words};
 ghost use Rattle.diagrams.specs.Words.{message_words, note_words, pair_words, reply_words};
 ghost use Rattle.diagrams.specs.Words.{request_words, returned_words, step_words};
 
 use crate::style::{
-    ANSWERS, ASKS, BLANK, CALL_SIGN, DELIVER, DONE, FINISH, HELD, HOLDS_SIGN, INVOKE, JOIN, KEPT,
-    LOSE, NOTES, PUTS, RANDOM, READS, REPEAT, RESPOND, SEND, START_REPLICA, STOP_CLIENT,
-    STOP_REPLICA, WRITES,
+    ANSWERS, ASKS, BLANK, CALL_SIGN, COMMA, DELIVER, DONE, FINISH, FROM_CLIENT, FROM_REPLICA, HELD,
+    HOLDS_SIGN, INVOKE, JOIN, KEEPS, KEPT, LOSE, MESSAGE_WORD, NOTES, OF, PUTS, READS, REPEAT,
+    REPLICA_WORD, RESPOND, SEND, START_REPLICA, STOP_CLIENT, STOP_REPLICA, TO_CLIENT, TO_REPLICA,
+    VOTES, WRITES,
 };
-use message_scenes::{CallBar, Change};
+use message_scenes::{Arrow, ArrowEnd, Attempt, CallBar, Holding};
 use network::Message;
+use quorum::{Quorums, ReplicaSet};
 use replica::{Reply, Request};
-use script_runs::CommandKind;
 use sentences::{append, append_number, append_tag, append_value};
-use tag::{Action, Key, Memory, Returned, Tag, Value};
+use tag::{Action, ClientId, Key, Memory, ReplicaId, Returned, Tag, Value};
 use world_steps::Step;
 
 /// Adds the first words of a step.
@@ -43,23 +47,14 @@ fn say_step(words: &mut Vec<u8>, step: &Step) -> Result<(), Memory>
     }
 }
 
-/// Adds the first words of the command that a step belongs to.
-#[tactic(auto, unfolding(crate::specs::Words::command_words))]
-pub(crate) fn say_command(
-    words: &mut Vec<u8>,
-    kind: &CommandKind,
-    step: &Step,
-) -> Result<(), Memory>
-    ensures { OnOk result
-        (words.new.items ≡ words.old.items ++ command_words kind.now step.now) }
+/// Adds the first words of what was tried.
+pub(crate) fn say_attempt(words: &mut Vec<u8>, attempt: &Attempt) -> Result<(), Memory>
+    ensures { OnOk result (words.new.items ≡ words.old.items ++ attempt_words attempt.now) }
 {
-    match kind {
-        CommandKind::Step => say_step(words, step),
-        CommandKind::Finish(client) => append_number(words, FINISH, u64::from(client.get())),
-        CommandKind::Random { seed, count } => {
-            append_number(words, RANDOM, *seed)?;
-            append_number(words, BLANK, u64::from(*count))
-        }
+    match attempt {
+        Attempt::Taken(step) => say_step(words, step),
+        Attempt::Refused(step, _) => say_step(words, step),
+        Attempt::Unfinished(client, _) => append_number(words, FINISH, u64::from(client.get())),
     }
 }
 
@@ -112,13 +107,85 @@ fn say_reply(words: &mut Vec<u8>, reply: &Reply) -> Result<(), Memory>
 }
 
 /// Adds what the message asks or tells.
-pub(crate) fn say_message(words: &mut Vec<u8>, message: &Message) -> Result<(), Memory>
+fn say_message(words: &mut Vec<u8>, message: &Message) -> Result<(), Memory>
     ensures { OnOk result (words.new.items ≡ words.old.items ++ message_words message.now) }
 {
     match message {
         Message::ToReplica(_, request) => say_request(words, request),
         Message::ToClient(_, reply) => say_reply(words, reply),
     }
+}
+
+/// Adds from whom to whom the message goes.
+fn say_between(
+    words: &mut Vec<u8>,
+    client: ClientId,
+    replica: ReplicaId,
+    message: &Message,
+) -> Result<(), Memory>
+    ensures { OnOk result (words.new.items
+        ≡ words.old.items ++ between_words client replica message.now) }
+{
+    let (client, replica) = (u64::from(client.get()), u64::from(replica.get()));
+    match message {
+        Message::ToReplica(_, _) => {
+            append_number(words, FROM_CLIENT, client)?;
+            append_number(words, TO_REPLICA, replica)
+        }
+        Message::ToClient(_, _) => {
+            append_number(words, FROM_REPLICA, replica)?;
+            append_number(words, TO_CLIENT, client)
+        }
+    }
+}
+
+/// Adds to whom the arrow's message goes.
+fn say_receiver(words: &mut Vec<u8>, arrow: &Arrow) -> Result<(), Memory>
+    ensures { OnOk result (words.new.items ≡ words.old.items
+        ++ receiver_words arrow.now.client arrow.now.replica arrow.now.message) }
+{
+    match &arrow.message {
+        Message::ToReplica(_, _) => append_number(
+            words,
+            TO_REPLICA,
+            u64::from(arrow.replica.get()),
+        ),
+        Message::ToClient(_, _) => append_number(words, TO_CLIENT, u64::from(arrow.client.get())),
+    }
+}
+
+/// Adds to whom the arrow's message goes, if it doesn't arrive.
+fn say_missed(words: &mut Vec<u8>, arrow: &Arrow) -> Result<(), Memory>
+    ensures { OnOk result (words.new.items ≡ words.old.items
+        ++ missed_words arrow.now.end arrow.now.client arrow.now.replica arrow.now.message) }
+{
+    match arrow.end {
+        ArrowEnd::Arrives(_) | ArrowEnd::Stale(_) => Ok(()),
+        ArrowEnd::Lost(_) | ArrowEnd::Open => say_receiver(words, arrow),
+    }
+}
+
+/// Adds the number of the arrow's message, and what it asks or tells; if it doesn't arrive, to whom
+/// it goes.
+#[tactic(auto, unfolding(crate::specs::Words::arrow_words))]
+pub(crate) fn say_arrow(words: &mut Vec<u8>, arrow: &Arrow) -> Result<(), Memory>
+    ensures { OnOk result (words.new.items ≡ words.old.items ++ arrow_words arrow.now) }
+{
+    append_number(words, "", u64::from(arrow.flight))?;
+    append(words, BLANK)?;
+    say_message(words, &arrow.message)?;
+    say_missed(words, arrow)
+}
+
+/// Adds the number of the arrow's message, from whom to whom it goes, and what it asks or tells.
+#[tactic(auto, unfolding(crate::specs::Words::arrow_title))]
+pub(crate) fn say_arrow_title(words: &mut Vec<u8>, arrow: &Arrow) -> Result<(), Memory>
+    ensures { OnOk result (words.new.items ≡ words.old.items ++ arrow_title arrow.now) }
+{
+    append_number(words, MESSAGE_WORD, u64::from(arrow.flight))?;
+    say_between(words, arrow.client, arrow.replica, &arrow.message)?;
+    append(words, COMMA)?;
+    say_message(words, &arrow.message)
 }
 
 /// Adds what a call of that action does to the key.
@@ -171,11 +238,58 @@ pub(crate) fn say_returned(words: &mut Vec<u8>, returned: &Returned) -> Result<(
     }
 }
 
-/// Adds what a replica comes to hold.
-pub(crate) fn say_change(words: &mut Vec<u8>, change: &Change) -> Result<(), Memory>
-    ensures { OnOk result (words.new.items ≡ words.old.items ++ change_words change.now) }
+/// The votes that the replica has by itself.
+fn own_votes(quorums: &Quorums, replica: ReplicaId) -> u8
+    ensures { result ≡ own_votes quorums.now replica }
 {
-    append(words, change.key.as_str())?;
-    append(words, HOLDS_SIGN)?;
-    say_pair(words, change.tag, change.value.as_ref())
+    let mut alone = ReplicaSet::empty();
+    alone.add(replica);
+    quorums.votes(&alone)
+}
+
+/// Adds so many votes, unless it is one.
+fn say_own(words: &mut Vec<u8>, votes: u8) -> Result<(), Memory>
+    ensures { OnOk result (words.new.items ≡ words.old.items ++ own_words votes) }
+{
+    if votes == 1 {
+        return Ok(());
+    }
+    append_number(words, COMMA, u64::from(votes))?;
+    append(words, VOTES)
+}
+
+/// Adds the name of the replica, with its votes.
+pub(crate) fn say_replica(
+    words: &mut Vec<u8>,
+    quorums: &Quorums,
+    replica: ReplicaId,
+) -> Result<(), Memory>
+    ensures { OnOk result
+        (words.new.items ≡ words.old.items ++ replica_words quorums.now replica) }
+{
+    append_number(words, REPLICA_WORD, u64::from(replica.get()))?;
+    say_own(words, own_votes(quorums, replica))
+}
+
+/// Adds so many votes, of so many that are needed.
+pub(crate) fn say_votes(words: &mut Vec<u8>, votes: u8, needed: u8) -> Result<(), Memory>
+    ensures { OnOk result (words.new.items ≡ words.old.items ++ votes_words votes needed) }
+{
+    append_number(words, "", u64::from(votes))?;
+    append_number(words, OF, u64::from(needed))?;
+    append(words, VOTES)
+}
+
+/// Adds what a replica holds after a put.
+pub(crate) fn say_holding(words: &mut Vec<u8>, holding: &Holding) -> Result<(), Memory>
+    ensures { OnOk result (words.new.items ≡ words.old.items ++ holding_words holding.now) }
+{
+    if holding.takes {
+        append(words, holding.key.as_str())?;
+        append(words, HOLDS_SIGN)?;
+        say_pair(words, holding.tag, holding.value.as_ref())
+    } else {
+        append(words, KEEPS)?;
+        append_tag(words, holding.tag)
+    }
 }

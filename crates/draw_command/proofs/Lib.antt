@@ -2,4 +2,5 @@ pub mod Adding
 pub mod Framing
 mod Apart
 mod SceneOrder
+mod FoundOrders
 mod Fitting

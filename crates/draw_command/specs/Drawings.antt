@@ -1,8 +1,10 @@
 -- What is drawn of a key: the calls that are shown, the linearization points of a key that isn't
 -- refused, and of a refused one the calls that show why, with the sentences that say it.
-use Rattle.std.specs.Prelude.{ℕ, ◌≡◌, List, [], ◌∷◌, Option, None, Some, nat_lt, slice_get}
+use Rattle.std.specs.Prelude.{ℕ, ◌≡◌, Bool, List, [], ◌∷◌, Option, None, Some, nat_lt, slice_get}
 use Rattle.std.specs.Prelude.{unwrap_or, if◌then◌else◌}
 use Rattle.command_line.specs.Forms.{default_calls, default_most}
+use Rattle.command_line.specs.declared.asked.By.{By}
+use Rattle.command_line.specs.declared.asked.By.TheVariants as by
 use Rattle.tag.specs.declared.numbers.OpId.{OpId}
 use Rattle.recorder.specs.declared.part.Call.{Call}
 use Rattle.recorder.specs.Sound.{IsByTag}
@@ -20,10 +22,12 @@ use Rattle.scenes.specs.Windows.{IsToShow, IsWindowAround}
 use Rattle.scenes.specs.declared.scene.Scene.{Scene}
 use Rattle.scenes.specs.declared.windows.Window.{Window}
 use Rattle.judged_keys.specs.Findings.{IsSo}
+use Rattle.judged_keys.specs.FoundOrders.{IsFoundOrder}
 use Rattle.judged_keys.specs.Judgements.{Judgement}
-use Rattle.judged_keys.specs.Selected.{names_of}
+use Rattle.judged_keys.specs.Selected.{judged_without_values, names_of}
 use Rattle.judged_keys.specs.declared.finding.Finding.{Finding}
 use Rattle.judged_keys.specs.declared.finding.Finding.TheVariants as finding
+use Rattle.judged_keys.specs.declared.judged.Judged.{Judged}
 use Rattle.judged_keys.specs.declared.judged.Judged.TheVariants as judged
 use Rattle.explain_command.specs.Reasons.{IsReason, reason_text}
 use Rattle.explain_command.specs.declared.reason.Reason.{Reason}
@@ -31,6 +35,12 @@ use Rattle.explain_command.specs.declared.reason.Reason.TheVariants as reason
 use Rattle.draw_command.specs.declared.drawn.Drawn.{Drawn}
 use Rattle.draw_command.specs.declared.key_scene.DrawnOrder.{DrawnOrder}
 use Rattle.draw_command.specs.declared.key_scene.DrawnOrder.TheVariants as drawn_order
+
+-- what keys are judged by: by their values if that is asked for, else by orders, if there are some,
+-- or by their tags
+abbrev pub drawn_by : By → Bool → Judged
+drawn_by by.Values orders = judged.Values
+drawn_by by.Tags orders = judged_without_values orders
 
 -- what is drawn where nothing else is asked for
 pub record IsDefault (drawn : Drawn) : Type 0 where
@@ -117,11 +127,14 @@ order_in (drawn_order.Made order) = Some order
 order_in drawn_order.Nothing = None
 
 -- the order that is drawn of a key of which that was found: the key's own, which is one of its
--- calls, or the one that its sound tags make; of any other key none
+-- calls, the one that its sound tags make, or the one that is found by its values; of any other
+-- key none
 abbrev pub IsDrawnOrder : CheckedKey → Finding → Option (List OpId) → Type 0
 IsDrawnOrder one finding.Ordered drawn = drawn ≡ Some one.order
 IsDrawnOrder one finding.Sound drawn =
     (order : List OpId) × IsByTag one.part order × (drawn ≡ Some order)
+IsDrawnOrder one finding.Atomic drawn =
+    (order : List OpId) × IsFoundOrder one.part order × (drawn ≡ Some order)
 IsDrawnOrder one f drawn = drawn ≡ None
 
 -- the linearization points of the order that is drawn; of none no points

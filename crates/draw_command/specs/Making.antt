@@ -4,8 +4,9 @@ use Rattle.markup.specs.Markup.{Markup, page_text, rendered}
 use Rattle.history_file.specs.declared.numbered_format.NumberedHistories.{NumberedHistories}
 use Rattle.parallel_keys.specs.CheckedKeys.{CheckedKey}
 use Rattle.cli.specs.declared.outcome.Outcome.{Outcome}
+use Rattle.judged_keys.specs.Notes.{judges_no_notes}
 use Rattle.draw_command.specs.HistoryPictures.{IsJudgedContent}
-use Rattle.draw_command.specs.Pages.{IsFramed, page_markup}
+use Rattle.draw_command.specs.Pages.{IsBelowHint, IsFramed, page_markup}
 use Rattle.draw_command.specs.declared.drawn.Drawn.{Drawn}
 
 -- something of which that holds was added to the page
@@ -16,6 +17,7 @@ Adds Is old new = (markup : Markup) × Is markup × (new ≡ old ++ rendered mar
 pub record IsMadeOf (drawn : Drawn) (numbered : NumberedHistories) (all : List CheckedKey)
     (outcome : Outcome) : Type 0 where
   pub page : Markup
-  pub page_is : IsFramed page_markup (IsJudgedContent numbered drawn all outcome.found) page
+  pub page_is : IsFramed page_markup (IsBelowHint (judges_no_notes drawn.selection.judged all)
+      (IsJudgedContent numbered drawn all outcome.found)) page
   pub text : outcome.text.items ≡ page_text page
   pub quiet : outcome.notes.items ≡ []

@@ -1,5 +1,5 @@
 -- The page: a table of the keys, and for each of the first of them a section with its picture.
-use Rattle.std.specs.Prelude.{ℕ, zero, suc, ◌≡◌, ◌+◌, ◌-◌, List, [], ◌∷◌, ◌++◌}
+use Rattle.std.specs.Prelude.{ℕ, zero, suc, ◌≡◌, ◌+◌, ◌-◌, Bool, true, false, List, [], ◌∷◌, ◌++◌}
 use Rattle.std.specs.Prelude.{cond, decimal, length, nat_lt, take}
 use Rattle.std.specs.Str.Lines.{lines}
 use Rattle.std.specs.Str.Lossy.{utf8_lossy}
@@ -11,8 +11,10 @@ use Rattle.history_file.specs.declared.numbered_format.NumberedHistories.{Number
 use Rattle.pictures.specs.Pictures.{picture_markup}
 use Rattle.pictures.specs.Sheets.{legend, style}
 use Rattle.pictures.specs.Tables.{table_markup as call_table}
+use Rattle.pictures.specs.declared.keys.CallKeys.{CallKeys}
+use Rattle.pictures.specs.declared.keys.CallKeys.TheVariants as keys
 use Rattle.pictures.specs.declared.picture.Picture.{Picture}
-use Rattle.judged_keys.specs.Findings.{is_refused}
+use Rattle.judged_keys.specs.Findings.{is_refused, is_undecided}
 use Rattle.judged_keys.specs.Halls.{IsHallOfKey}
 use Rattle.judged_keys.specs.Judgements.{Judgement}
 use Rattle.judged_keys.specs.declared.finding.Finding.{Finding}
@@ -44,9 +46,10 @@ said words = each (λ line. text line) (lines (utf8_lossy words))
 abbrev pub finding_said : Judgement → Markup
 finding_said key = said (finding_line key.one.key key.finding)
 
--- the class of a key that is refused, and of any other
+-- the class of a key that is refused, of one that is undecided, and of any other
 abbrev pub verdict_class : Finding → List ℕ
-verdict_class finding = cond (is_refused finding) word.NO.now word.YES.now
+verdict_class finding = cond (is_refused finding) word.NO.now
+    (cond (is_undecided finding) word.UNDECIDED.now word.YES.now)
 
 -- ---- the table
 
@@ -166,6 +169,16 @@ front_markup count refused missing = both
     (counted word.SUM.now word.KEYS_JUDGED.now count word.REFUSED.now refused)
     (each missing_line missing)
 
+-- the sentence that says that values judge a history without notes, if that is to be said
+abbrev pub hint_markup : Bool → Markup
+hint_markup true = worded tag.P word.HINT.now word.NO_NOTES.now
+hint_markup false = nothing
+
+-- something of which that holds, below that sentence
+abbrev pub IsBelowHint : Bool → (Markup → Type 0) → Markup → Type 0
+IsBelowHint hinted Is markup =
+    (below : Markup) × Is below × (markup ≡ both (hint_markup hinted) below)
+
 -- the page around what it says and shows of keys
 abbrev pub page_markup : Markup → Markup
 page_markup content = page_frame word.TITLE.now styles_markup content
@@ -190,11 +203,16 @@ abbrev pub IsTableOf : ℕ → List Judgement → Markup → Type 0
 IsTableOf drawn keys table =
     IsFramed table_markup (IsEach (IsRowOf drawn) 0 (take table_size keys)) table
 
+-- the calls are on that key
+abbrev pub IsOne : CallKeys → List ℕ → Type 0
+IsOne (keys.One own) key = own.now ≡ key
+IsOne keys.Recorded key = ⊥
+
 module _ (numbered : NumberedHistories) (drawn : Drawn) where
   -- the picture of a key's scene, in which the calls are marked that show why the key is refused;
   -- the words say why
   pub record IsPictureOf (key : Judgement) (words : List ℕ) (picture : Picture) : Type 0 where
-    pub of_key : picture.key.now ≡ key.one.key
+    pub of_key : IsOne picture.keys key.one.key
     pub of_part : picture.part.now ≡ key.one.part
     pub hall : IsHallOfKey numbered key.one.key picture.hall
     pub why : IsWhy picture.hall key words picture.faulty.now

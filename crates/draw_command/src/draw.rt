@@ -1,6 +1,7 @@
 //! `abd draw`: the keys of a history, and pictures of their calls.
 use crate::drawn::Drawn;
 use crate::frame::{append_styles, begin_content, begin_page, end_page};
+use crate::front::append_hint;
 use crate::history_pictures::add_keys;
 use crate::section::Task;
 use crate::words;
@@ -34,6 +35,7 @@ impl Presentation for Drawn<'_> {
         begin_page(&mut page, words::TITLE)?;
         append_styles(&mut page)?;
         begin_content(&mut page, words::TITLE)?;
+        append_hint(&mut page, self.selection.judges_no_notes(keys.as_slice()))?;
         let found = add_keys(alloc, &mut page, &task, keys)?;
         end_page(&mut page)?;
         Ok(Outcome::of_text(alloc, page, found))

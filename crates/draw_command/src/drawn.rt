@@ -1,9 +1,9 @@
 //! Which keys are drawn, and how much of each.
 ghost use Rattle.std.specs.Prelude.{◌≡◌, is_some, option_map, option_to_list};
-ghost use Rattle.judged_keys.specs.Selected.{judged_without_values, names_of};
-ghost use Rattle.draw_command.specs.Drawings.{IsDefault, center, numbered_call};
+ghost use Rattle.judged_keys.specs.Selected.{names_of};
+ghost use Rattle.draw_command.specs.Drawings.{IsDefault, center, drawn_by, numbered_call};
 
-use command_line::DrawAsked;
+use command_line::{By, DrawAsked, defaults};
 use judged_keys::{Judged, Names, Selection};
 use tag::OpId;
 
@@ -18,6 +18,16 @@ pub struct Drawn<'a> {
     pub around: Option<u64>,
 }
 
+/// What the words ask keys to be judged by.
+fn judged_by(asked: &DrawAsked<'_>) -> Judged
+    ensures { result ≡ drawn_by asked.now.by (is_some asked.now.keys.orders) }
+{
+    match asked.by {
+        By::Values => Judged::Values,
+        By::Tags => Selection::of(&asked.keys).judged,
+    }
+}
+
 impl<'a> Drawn<'a> {
     /// What is drawn where nothing else is asked for: what `abd draw` draws without options.
     pub fn by_default() -> Drawn<'a>
@@ -27,9 +37,9 @@ impl<'a> Drawn<'a> {
             selection: Selection {
                 judged: Judged::Tags,
                 keys: Names::of(None),
-                most: 20,
+                most: defaults::KEYS,
             },
-            calls: 200,
+            calls: u32::from(defaults::CALLS),
             around: None,
         }
     }
@@ -37,7 +47,7 @@ impl<'a> Drawn<'a> {
     /// What the words ask for.
     pub fn of(asked: &DrawAsked<'a>) -> Drawn<'a>
         ensures judged { result.selection.judged
-            ≡ judged_without_values (is_some asked.now.keys.orders) }
+            ≡ drawn_by asked.now.by (is_some asked.now.keys.orders) }
         ensures keys { names_of result.selection
             ≡ option_to_list (option_map (λ name. name.now) asked.now.keys.key) }
         ensures most { result.selection.most ≡ asked.now.keys.most }
@@ -49,14 +59,17 @@ impl<'a> Drawn<'a> {
             Some(call) => Some(u64::from(call)),
         };
         Drawn {
-            selection: Selection::of(&asked.keys),
+            selection: Selection {
+                judged: judged_by(asked),
+                ..Selection::of(&asked.keys)
+            },
             calls: u32::from(asked.calls),
             around,
         }
     }
 
     /// The call around which calls are shown.
-    pub(crate) fn center(&self, faulty: &[OpId]) -> Option<OpId>
+    pub fn center(&self, faulty: &[OpId]) -> Option<OpId>
         ensures { result ≡ center self.now.around faulty.now }
     {
         match self.around {

@@ -2,13 +2,13 @@
 ghost use Rattle.std.specs.Prelude.{◌≡◌, ◌++◌, length, map, OnOk};
 ghost use Rattle.markup.specs.Markup.{each, rendered};
 ghost use Rattle.explain_command.specs.Lines.{missing_text};
-ghost use Rattle.draw_command.specs.Pages.{front_markup, missing_line, said};
+ghost use Rattle.draw_command.specs.Pages.{front_markup, hint_markup, missing_line, said};
 
 use crate::texts::{append_counted, append_said};
 use crate::words;
 use explain_command::append_missing as append_name_missing;
 use judged_keys::Findings;
-use markup::{Attribute, AttributeName, Element, append_closing, append_opening};
+use markup::{Attribute, AttributeName, Element, append_closing, append_opening, append_worded};
 use std::alloc::Global;
 use tag::Memory;
 
@@ -43,6 +43,18 @@ fn append_missing(alloc: Global, page: &mut Vec<u8>, names: &[&str]) -> Result<(
         append_name(alloc, page, name)?;
     }
     Ok(())
+}
+
+/// Says that values judge a history without notes, if that is to be said.
+#[tactic(auto, unfolding(markup::specs::Markup::rendered))]
+pub fn append_hint(page: &mut Vec<u8>, hinted: bool) -> Result<(), Memory>
+    ensures { OnOk result (page.new.items ≡ page.old.items ++ rendered (hint_markup hinted)) }
+{
+    if hinted {
+        append_worded(page, Element::P, words::HINT, words::NO_NOTES)
+    } else {
+        Ok(())
+    }
 }
 
 /// Adds how many keys were judged and how many of them are refused, and the names that no key has.

@@ -1,30 +1,32 @@
 //! The scene of a key.
-ghost use Rattle.std.specs.Option.{ForSome};
+ghost use Rattle.std.specs.Option.{ForSome, option_map};
 ghost use Rattle.std.specs.Prelude.{◌≡◌, [], IfOk, IfSome, unwrap_or};
 ghost use Rattle.recorder.specs.Orders.{IsOrder};
 ghost use Rattle.recorder.specs.Sound.{IsByTag, TagSound};
 ghost use Rattle.linearization_points.specs.Points.{AreApart};
-ghost use Rattle.judged_keys.specs.Findings.{IsSo};
+ghost use Rattle.judged_keys.specs.Findings.{IsAtomic, IsSo};
+ghost use Rattle.judged_keys.specs.FoundOrders.{IsFoundOrder};
 ghost use Rattle.judged_keys.specs.Judgements.{judgement_of};
 ghost use Rattle.draw_command.specs.Drawings.{AreDrawnPoints, IsDrawable, IsDrawnOrder, IsKeyScene};
 ghost use Rattle.draw_command.specs.Drawings.{order_in};
 
 use crate::drawn::Drawn;
 use explanations::HallRows;
-use judged_keys::{Finding, JudgedKey};
+use judged_keys::{Finding, JudgedKey, decide_key};
 use linearization_points::points_of;
 use recorder::{Order, Part};
 use scenes::{Scene, scene_of, shown_calls, window_around};
 use std::alloc::Global;
 use tag::{Memory, OpId};
+use value_order::Decision;
 use witness_order::{WitnessError, order_of};
 
 /// The order whose points are drawn.
 #[derive(Drop)]
-pub(crate) enum DrawnOrder<'a> {
+pub enum DrawnOrder<'a> {
     /// The one that is the key's.
     Given(&'a [OpId]),
-    /// The one that its tags make.
+    /// The one that its tags make, or that is found by its values.
     Made(Order),
     /// None.
     Nothing,
@@ -39,6 +41,17 @@ impl DrawnOrder<'_> {
             DrawnOrder::Given(order) => order,
             DrawnOrder::Made(order) => order.as_slice(),
             DrawnOrder::Nothing => &[],
+        }
+    }
+
+    /// Its calls, if it is one.
+    pub fn given(&self) -> Option<&[OpId]>
+        ensures { option_map (λ calls. calls.now) result ≡ order_in self.now }
+    {
+        match self {
+            DrawnOrder::Given(order) => Some(order),
+            DrawnOrder::Made(order) => Some(order.as_slice()),
+            DrawnOrder::Nothing => None,
         }
     }
 
@@ -70,8 +83,21 @@ fn tag_order(alloc: Global, part: &Part<'_>) -> Result<Order, Memory>
     }
 }
 
-/// The order whose points are drawn of the key: of one that isn't a yes, or is one by its values, none.
-fn drawn_order<'a>(alloc: Global, key: &JudgedKey<'a>) -> Result<DrawnOrder<'a>, Memory>
+/// The order that is found of these calls by their values.
+fn found_order(alloc: Global, part: &Part<'_>) -> Result<Order, Memory>
+    requires { IsAtomic part.now }
+    ensures found { IfOk result (λ order. IsFoundOrder part.now order) }
+    ensures order { IfOk result (λ order. IsOrder part.now order) }
+{
+    match decide_key(alloc, part)? {
+        Decision::Atomic(order) => Ok(order),
+        Decision::NotAtomic(_) => unreachable!(),
+        Decision::Undecided(_) => unreachable!(),
+    }
+}
+
+/// The order whose points are drawn of the key: of one that is refused or undecided none.
+pub fn drawn_order<'a>(alloc: Global, key: &JudgedKey<'a>) -> Result<DrawnOrder<'a>, Memory>
     requires { let j = judgement_of key.now in IsSo j.one j.finding }
     ensures chosen { IfOk result (λ drawn. let j = judgement_of key.now in
         IsDrawnOrder j.one j.finding (order_in drawn)) }
@@ -81,6 +107,7 @@ fn drawn_order<'a>(alloc: Global, key: &JudgedKey<'a>) -> Result<DrawnOrder<'a>,
     match key.finding {
         Finding::Ordered => Ok(DrawnOrder::Given(key.one.order)),
         Finding::Sound => Ok(DrawnOrder::Made(tag_order(alloc, &key.one.part)?)),
+        Finding::Atomic => Ok(DrawnOrder::Made(found_order(alloc, &key.one.part)?)),
         _ => Ok(DrawnOrder::Nothing),
     }
 }

@@ -22,4 +22,9 @@ mod words;
 
 pub use drawn::Drawn;
 pub use frame::{append_styles, begin_content, begin_page, end_page};
+pub use front::append_hint;
 pub use history_pictures::add_history_pictures;
+pub use key_scene::{DrawnOrder, drawn_order};
+pub use section::{append_showing, append_why};
+pub use texts::append_finding;
+pub use why::{Why, why_of};

@@ -18,7 +18,7 @@ use crate::words;
 use history_file::NumberedHistories;
 use judged_keys::{JudgedKey, hall_of};
 use markup::{Attribute, AttributeName, Element, append_closing, append_opening, append_worded};
-use pictures::{Picture, append_call_table, append_picture};
+use pictures::{CallKeys, Picture, append_call_table, append_picture};
 use std::alloc::Global;
 use tag::Memory;
 
@@ -30,7 +30,7 @@ pub(crate) struct Task<'a> {
 }
 
 /// Adds a paragraph for each line of the sentences.
-fn append_why(alloc: Global, page: &mut Vec<u8>, text: &[u8]) -> Result<(), Memory>
+pub fn append_why(alloc: Global, page: &mut Vec<u8>, text: &[u8]) -> Result<(), Memory>
     ensures { OnOk result (page.new.items ≡ page.old.items ++ rendered (why_markup text.now)) }
 {
     let words = String::from_utf8_lossy(alloc, text)?;
@@ -75,7 +75,11 @@ fn append_shown(page: &mut Vec<u8>, picture: &Picture<'_>) -> Result<(), Memory>
 }
 
 /// Adds that, the picture, and the calls as a table.
-fn append_showing(alloc: Global, page: &mut Vec<u8>, picture: &Picture<'_>) -> Result<(), Memory>
+pub fn append_showing(
+    alloc: Global,
+    page: &mut Vec<u8>,
+    picture: &Picture<'_>,
+) -> Result<(), Memory>
     requires { IsInOrder picture.now.scene.now }
     ensures { OnOk result (page.new.items
         ≡ page.old.items ++ rendered (showing_markup picture.now)) }
@@ -125,7 +129,7 @@ fn add_section(
     let faulty = why.faulty.as_slice();
     let scene = scene_of_key(alloc, &task.drawn, &hall, key, faulty)?;
     let picture = Picture {
-        key: key.one.key,
+        keys: CallKeys::One(key.one.key),
         hall,
         part: &key.one.part,
         scene: &scene,

@@ -30,6 +30,8 @@ pub(crate) fn verdict_class(finding: Finding) -> &'static str
 {
     if finding.is_refused() {
         words::NO
+    } else if finding.is_undecided() {
+        words::UNDECIDED
     } else {
         words::YES
     }

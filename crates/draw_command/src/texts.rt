@@ -54,11 +54,7 @@ pub(crate) fn append_said(alloc: Global, page: &mut Vec<u8>, bytes: &[u8]) -> Re
 }
 
 /// Adds what was found of the key.
-pub(crate) fn append_finding(
-    alloc: Global,
-    page: &mut Vec<u8>,
-    key: &JudgedKey<'_>,
-) -> Result<(), Memory>
+pub fn append_finding(alloc: Global, page: &mut Vec<u8>, key: &JudgedKey<'_>) -> Result<(), Memory>
     ensures { OnOk result (page.new.items
         ≡ page.old.items ++ rendered (finding_said (judgement_of key.now))) }
 {

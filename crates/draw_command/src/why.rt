@@ -16,11 +16,11 @@ use value_explanations::ValueReason;
 
 /// Why a key is refused.
 #[derive(Drop)]
-pub(crate) struct Why {
+pub struct Why {
     /// The sentences.
-    pub(crate) text: Vec<u8>,
+    pub text: Vec<u8>,
     /// The calls that they name.
-    pub(crate) faulty: Vec<OpId>,
+    pub faulty: Vec<OpId>,
 }
 
 /// The calls, and after them the write, if there is one.
@@ -121,7 +121,7 @@ fn reason_calls(alloc: Global, reason: &Reason<'_>) -> Result<Vec<OpId>, Memory>
 }
 
 /// Why the key is refused; nothing if it isn't.
-pub(crate) fn why_of(alloc: Global, hall: &HallRows<'_>, key: &JudgedKey<'_>) -> Result<Why, Memory>
+pub fn why_of(alloc: Global, hall: &HallRows<'_>, key: &JudgedKey<'_>) -> Result<Why, Memory>
     requires { let j = judgement_of key.now in IsSo j.one j.finding }
     ensures { IfOk result (λ why.
         IsWhy hall.now (judgement_of key.now) why.text.items why.faulty.items) }

@@ -7,6 +7,8 @@ pub(crate) const YES: &str = "yes";
 
 pub(crate) const NO: &str = "no";
 
+pub(crate) const UNDECIDED: &str = "undecided";
+
 pub(crate) const COUNT: &str = "count";
 
 pub(crate) const KEYS: &str = "keys";
@@ -20,6 +22,8 @@ pub(crate) const WHY: &str = "why";
 pub(crate) const SHOWN: &str = "shown";
 
 pub(crate) const MISSING: &str = "missing";
+
+pub(crate) const HINT: &str = "hint";
 /// The key of that number in the table.
 pub(crate) const KEY_ID: &str = "key-";
 /// A link to it.
@@ -63,6 +67,10 @@ pub(crate) const UNDRAWN: &str =
     "Keys that are not drawn (--most says how many are, up to 20,000 calls on a page; --key draws one): ";
 
 pub(crate) const MORE_REFUSED: &str = ", refused ones among them: ";
+
+pub(crate) const NO_NOTES: &str =
+    "No call has a note: abd decide judges the history by its values, and abd draw \
+--by values draws it so.";
 
 pub(crate) const CALLS_SHOWN: &str = "Calls shown: ";
 

@@ -1,6 +1,6 @@
 -- Orders are explained as they are checked.
 use Rattle.std.proofs.Common.{ℕ, zero, suc, ◌≡◌, ◌≤◌, false, true, List, [], ◌∷◌, Some, map, refl, sym, ap, subst, ◌∙◌}
-use Rattle.std.specs.List.{All, Contains, slice_get}
+use Rattle.std.specs.List.{All, slice_get}
 use Rattle.std.proofs.lemmas.List.Elements.{All-contains, All-head, All-tail}
 use Rattle.std.proofs.lemmas.Option.{same_Some}
 use Rattle.tag.proofs.Lists.{item_at}
@@ -17,7 +17,7 @@ use Rattle.parallel_keys.specs.Histories.{AreOn, KeyVerdicts}
 use Rattle.cli.proofs.EachKey.{status_is}
 use Rattle.cli.proofs.HallParts.{have_parts}
 use Rattle.cli.specs.Checks.{IsStatusOf}
-use Rattle.cli.specs.VerdictStatuses.{IsRefusedAt, SaysAll}
+use Rattle.cli.specs.VerdictStatuses.{SaysAll}
 use Rattle.cli.specs.declared.status.Status.{Status}
 use Rattle.cli.specs.declared.status.Status.TheVariants.{Good, Refused}
 use Rattle.judged_keys.specs.Files.{HaveKeys}

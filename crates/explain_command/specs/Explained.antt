@@ -6,11 +6,12 @@ use Rattle.parallel_keys.specs.CheckedKeys.{CheckedKey}
 use Rattle.cli.specs.declared.outcome.Outcome.{Outcome}
 use Rattle.judged_keys.specs.Halls.{IsHallOfKey}
 use Rattle.judged_keys.specs.Judgements.{Judgement}
+use Rattle.judged_keys.specs.Notes.{judges_no_notes}
 use Rattle.judged_keys.specs.Tellings.{TellsKeys}
 use Rattle.judged_keys.specs.Words.{Words}
 use Rattle.judged_keys.specs.declared.judged.Judged.{Judged}
 use Rattle.judged_keys.specs.declared.selection.Selection.{Selection}
-use Rattle.explain_command.specs.Lines.{finding_line, left_out_line, missing_text}
+use Rattle.explain_command.specs.Lines.{finding_line, hint_line, left_out_line, missing_text}
 use Rattle.explain_command.specs.Reasons.{IsReason, reason_text}
 use Rattle.explain_command.specs.declared.explaining.Explaining.{Explaining}
 use Rattle.explain_command.specs.declared.reason.Reason.{Reason}
@@ -53,7 +54,13 @@ selection_of explaining = explaining.selection
 abbrev pub explained_words : Explaining → Words
 explained_words explaining = plain_words explaining.selection.judged
 
--- the selected ones of the keys are explained
-abbrev pub ExplainsKeys : Explaining → NumberedHistories → List CheckedKey → Outcome → Type 0
-ExplainsKeys explaining numbered keys outcome =
-    TellsKeys (explained_words explaining) explaining.selection numbered keys outcome
+-- the selected ones of the keys are explained; and if their tags are judged, and no key has any, it
+-- is said what judges them
+pub record ExplainsKeys (explaining : Explaining) (numbered : NumberedHistories)
+    (keys : List CheckedKey) (outcome : Outcome) : Type 0 where
+  pub told : Outcome
+  pub tells : TellsKeys (explained_words explaining) explaining.selection numbered keys told
+  pub is : outcome.found ≡ told.found
+  pub text : outcome.text.items
+      ≡ told.text.items ++ hint_line (judges_no_notes explaining.selection.judged keys)
+  pub quiet : outcome.notes.items ≡ []

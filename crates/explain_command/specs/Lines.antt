@@ -1,5 +1,5 @@
 -- The lines on keys, for people.
-use Rattle.std.specs.Prelude.{ℕ, zero, suc, List, [], ◌++◌, codes, decimal}
+use Rattle.std.specs.Prelude.{ℕ, zero, suc, Bool, true, false, List, [], ◌++◌, codes, decimal}
 use Rattle.sentences.specs.Words.{quoted_text}
 use Rattle.certificate_check.specs.Texts.{verdict_text}
 use Rattle.certificate_check.specs.declared.verdict.Verdict.TheVariants as verdict
@@ -39,6 +39,11 @@ abbrev pub left_out_line : Judged → ℕ → List ℕ
 left_out_line judged zero = []
 left_out_line judged (suc count) =
     left_out_words judged ++ decimal (suc count) ++ codes "; --most N says how many are\n"
+
+-- the line that says that values judge a history without notes, if that is to be said
+abbrev pub hint_line : Bool → List ℕ
+hint_line true = codes "no call has a note; abd decide judges the history by its values\n"
+hint_line false = []
 
 -- the line that says how many of the reads are stale
 unfoldable pub stale_line : ℕ → ℕ → List ℕ

@@ -6,7 +6,7 @@ ghost use Rattle.judged_keys.specs.Judgements.{judgement_of};
 ghost use Rattle.explain_command.specs.Explained.{ExplainsKeys, GivesReason, IsExplained};
 ghost use Rattle.explain_command.specs.Explained.{explained_words, selection_of};
 
-use crate::lines::{append_finding, append_left_out, append_missing};
+use crate::lines::{append_finding, append_hint, append_left_out, append_missing};
 use crate::reason::{append_reason, reason_of};
 use cli::Made;
 use history_file::NumberedHistories;
@@ -95,7 +95,8 @@ impl Wording for Explaining<'_> {
 /// that of `abd check`, on its tags `KEY: yes` or `KEY: no tags RULE`; below the first refused ones, up to
 /// that many, why: each call that shows the fault or breaks the rule, with the lines of the history on which
 /// it stands. Then it is said which of the names that were given no key has, and how many refused keys have
-/// no reason there, if any has none.
+/// no reason there, if any has none. If tags are judged and no call of the history has a note, a last line says
+/// what judges it.
 impl Presentation for Explaining<'_> {
     ghost Presents = { ExplainsKeys };
 
@@ -105,6 +106,9 @@ impl Presentation for Explaining<'_> {
         numbered: &NumberedHistories,
         keys: Vec<KeyToCheck<'_>>,
     ) -> Made<'static> {
-        Ok(tell_keys(alloc, self, numbered, keys)?)
+        let hinted = self.selection.judges_no_notes(keys.as_slice());
+        let mut outcome = tell_keys(alloc, self, numbered, keys)?;
+        append_hint(&mut outcome.text, hinted)?;
+        Ok(outcome)
     }
 }

@@ -1,7 +1,7 @@
 //! The lines on keys, for people.
 ghost use Rattle.std.specs.Prelude.{◌≡◌, ◌++◌, OnOk};
 ghost use Rattle.explain_command.specs.Lines.{finding_line, found_text, left_out_line};
-ghost use Rattle.explain_command.specs.Lines.{left_out_words, missing_text};
+ghost use Rattle.explain_command.specs.Lines.{hint_line, left_out_words, missing_text};
 
 use certificate_check::Verdict;
 use cli::{append, append_number, append_verdict};
@@ -53,6 +53,20 @@ pub fn append_missing(text: &mut Vec<u8>, name: &str) -> Result<(), Memory>
     append(text, "no such key ")?;
     append_quoted(text, name)?;
     append(text, "\n")
+}
+
+/// Adds the line that says that values judge a history without notes, if that is to be said.
+pub(crate) fn append_hint(text: &mut Vec<u8>, hinted: bool) -> Result<(), Memory>
+    ensures { OnOk result (text.new.items ≡ text.old.items ++ hint_line hinted) }
+{
+    if hinted {
+        append(
+            text,
+            "no call has a note; abd decide judges the history by its values\n",
+        )
+    } else {
+        Ok(())
+    }
 }
 
 /// The words before the number of refused keys without a reason.

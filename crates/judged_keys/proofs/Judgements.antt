@@ -1,13 +1,13 @@
 -- Judged keys, one more at the end, and those first that are refused.
-use Rattle.std.proofs.Common.{ℕ, ◌≡◌, ◌≤◌, ◌+◌, ◌||◌, Bool, true, false, cond, not, List, [], ◌∷◌, ◌++◌, All, filter, length, map, refl, sym, ap, ap₂, ◌∙◌, arith, length-append}
+use Rattle.std.proofs.Common.{◌≡◌, ◌≤◌, ◌+◌, ◌||◌, Bool, true, false, cond, not, List, [], ◌∷◌, ◌++◌, All, length, map, refl, sym, ap, ap₂, ◌∙◌, arith, length-append}
 use Rattle.std.specs.List.{Contains}
 use Rattle.cli.proofs.Entries.{contains_head, contains_tail}
-use Rattle.std.proofs.lemmas.List.{length-map, map-append}
+use Rattle.std.proofs.lemmas.List.{map-append}
 use Rattle.std.proofs.lemmas.List.Elements.{All-append, All-cons, All-nil, filter-append}
 use Rattle.std.proofs.lemmas.List.Folds.{list_any-append}
 use Rattle.parallel_keys.specs.CheckedKeys.{CheckedKey}
 use Rattle.judged_keys.specs.Findings.{IsFinding, is_refused, is_undecided}
-use Rattle.judged_keys.specs.Judgements.{AreJudged, Judgement, has_undecided, judgement_of, others_of, refused_count, refused_first, refused_of}
+use Rattle.judged_keys.specs.Judgements.{AreJudged, Judgement, has_undecided, judgement_of, others_of, refused_count, refused_of}
 use Rattle.judged_keys.specs.declared.finding.JudgedKey.{JudgedKey}
 use Rattle.judged_keys.specs.declared.judged.Judged.{Judged}
 

@@ -1,6 +1,6 @@
 -- What judging a key finds: by its order, by the tags of its calls, or by their values, and where
 -- these leave it open by the order that its tags make.
-use Rattle.std.specs.Prelude.{◌≡◌, Bool, true, false, List, None, Some}
+use Rattle.std.specs.Prelude.{◌≡◌, ◌⊎◌, Bool, true, false, List, None, Some}
 use Rattle.tag.specs.declared.numbers.OpId.{OpId}
 use Rattle.recorder.specs.declared.part.Call.{Call}
 use Rattle.recorder.specs.Orders.{IsLinearizable, IsOrder}
@@ -12,6 +12,7 @@ use Rattle.value_order.specs.declared.decision.Doubt.{Doubt}
 use Rattle.value_order.specs.declared.decision.ValueFault.{ValueFault}
 use Rattle.value_order.specs.Decisions.{IsFault, LacksFaults, LacksFaultsBefore}
 use Rattle.value_order.specs.Doubts.{IsLeastDoubt}
+use Rattle.value_order.specs.FamilyOrders.{IsSure}
 use Rattle.value_order.specs.Writers.{IsInDoubt}
 use Rattle.parallel_keys.specs.CheckedKeys.{CheckedKey}
 use Rattle.judged_keys.specs.declared.finding.Finding.{Finding}
@@ -23,6 +24,15 @@ module _ (part : List Call) where
   -- no order by the calls' tags is one
   abbrev pub HasNoTagOrder : Type 0
   HasNoTagOrder = (order : List OpId) → IsByTag part order → IsOrder part order → ⊥
+
+  -- an order by the calls' tags is one
+  abbrev pub HasTagOrder : Type 0
+  HasTagOrder = (order : List OpId) × IsByTag part order × IsOrder part order
+
+  -- the calls have an order, by their values if no read is in doubt, or else by their tags
+  pub record IsAtomic : Type 0 where
+    pub ordered : IsLinearizable part
+    pub found : IsSure part ⊎ HasTagOrder
 
   -- the calls have that fault and none before it, and no order
   pub record IsRefuted (fault : ValueFault) : Type 0 where
@@ -46,7 +56,7 @@ IsSo one finding.Ordered = IsVerdict one.part one.order verdict.Yes
 IsSo one (finding.OrderFault fault) = IsVerdict one.part one.order (verdict.No fault)
 IsSo one finding.Sound = IsTagVerdict one.part None
 IsSo one (finding.TagFault rule) = IsTagVerdict one.part (Some rule)
-IsSo one finding.Atomic = IsLinearizable one.part
+IsSo one finding.Atomic = IsAtomic one.part
 IsSo one (finding.ValueFault fault) = IsRefuted one.part fault
 IsSo one (finding.Undecided doubt) = IsUndecided one.part doubt
 

@@ -1,6 +1,8 @@
 pub mod Findings
+pub mod FoundOrders
 pub mod Judgements
 pub mod Selected
+pub mod Notes
 pub mod Halls
 pub mod Files
 pub mod Words

@@ -1,10 +1,12 @@
 //! Which keys are judged.
 ghost use Rattle.std.specs.Prelude.{◌≡◌, IfOk, filter, is_some, map, option_map, option_to_list};
 ghost use Rattle.parallel_keys.specs.KeysToCheck.{what_of};
+ghost use Rattle.judged_keys.specs.Notes.{judges_no_notes};
 ghost use Rattle.judged_keys.specs.Selected.{is_selected, judged_without_values, missing_names, names_of};
 
 use crate::judged::Judged;
 use crate::names::Names;
+use crate::notes::lack_notes;
 use command_line::KeysAsked;
 use parallel_keys::KeyToCheck;
 use std::alloc::Global;
@@ -37,6 +39,16 @@ impl<'a> Selection<'a> {
             judged,
             keys: Names::of(asked.key),
             most: asked.most,
+        }
+    }
+
+    /// Whether keys are judged by their tags, and none of these, the keys of a history, has any.
+    pub fn judges_no_notes(&self, keys: &[KeyToCheck<'_>]) -> bool
+        ensures { result ≡ judges_no_notes self.now.judged (map what_of keys.now) }
+    {
+        match self.judged {
+            Judged::Tags => lack_notes(keys),
+            Judged::Orders | Judged::Values => false,
         }
     }
 

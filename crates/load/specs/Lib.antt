@@ -1,5 +1,4 @@
-pub mod Callers
-pub mod LoadErrors
-pub mod LoadStores
+pub mod Laws
 pub mod Loads
-pub mod Passes
+pub mod Ranges
+pub mod Turns

@@ -1,15 +1,13 @@
-//! A running store under a load.
+//! A load of a store: how large it may be, and which call each of its callers makes at each turn.
 //!
-//! `run_load` starts a store whose parcels are lost and doubled by count, has callers call it, each in a
-//! thread of its own, and closes it. What each caller's log says is the workload's calls, in order.
+//! A `Load` is within the ranges of `ranges`. The key `k0` has one writer, caller 1. Nothing here starts a
+//! thread.
 #![tactic(auto)]
 
-mod callers;
-mod error;
-mod gate;
-mod load_run;
+pub mod laws;
+mod load;
+pub mod ranges;
+mod turns;
 
-pub use callers::Called;
-pub use error::LoadError;
-pub use gate::{CountingGate, NoWatch, Watch, pass_at, pass_of};
-pub use load_run::{LoadOutcome, Refused, run_load, world_of};
+pub use load::{Load, LoadOptions};
+pub use turns::{Turn, call_at};

@@ -10,3 +10,5 @@ pub mod Chain
 pub mod ShownCopies
 pub mod More
 pub mod ShownCalls
+pub mod EachRow
+pub mod Heard

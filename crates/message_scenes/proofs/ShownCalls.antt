@@ -36,13 +36,13 @@ use Rattle.script_runs.specs.declared.origin.Origin.{Origin}
 use Rattle.message_scenes.specs.CallBars.{ShowCalls, invocation_of, is_invocation, recorded_after}
 use Rattle.message_scenes.specs.Calls.{calls_after, calls_with, closed, is_of_call, is_pending_of, noted}
 use Rattle.message_scenes.specs.Lists.{change_first}
-use Rattle.message_scenes.specs.Shapes.{Shapes, no_shapes, with_step, with_steps}
-use Rattle.message_scenes.specs.Taken.{TakenStep, TakesAll, taken_step}
+use Rattle.message_scenes.specs.Shapes.{Shapes, no_shapes, with_row, with_rows, with_step}
+use Rattle.message_scenes.specs.Tried.{Tried, TriesAll, refused, taken_step, unfinished}
 use Rattle.message_scenes.specs.declared.calls.CallBar.{CallBar}
 use Rattle.message_scenes.specs.declared.calls.CallEnd.TheVariants as ending
 use Rattle.message_scenes.proofs.Changed.{heads}
 use Rattle.message_scenes.proofs.Chain.{AreChained, chain_all, chain_first}
-use Rattle.message_scenes.proofs.Chain.AreChained.{begins, ends}
+use Rattle.message_scenes.proofs.Chain.AreChained.{begins, ends, leaves, refuses}
 
 -- ---- a bar that is changed shows the same call
 module _ (test : CallBar → Bool) (f : CallBar → CallBar) (same : (bar : CallBar) → invocation_of (f bar) ≡ invocation_of bar) where
@@ -181,15 +181,19 @@ step_on : (origin : Origin) (s : System) (x : Step) (shapes : Shapes) → ShowCa
 unfolding with_step
 step_on origin s x shapes shown = calls_on (length shapes.rows) origin s shapes.calls x shown
 
-all_on : (s last : System) (taken : List TakenStep) (shapes : Shapes) → AreChained s taken last → ShowCalls s.history.rows shapes.calls
-    → ShowCalls (recorded_after s.history.rows taken) (with_steps shapes taken).calls
-all_on s last taken shapes (ends a) shown = shown
-all_on s last taken shapes (begins origin a x others end none rest) shown =
+all_on : (s last : System) (tried : List Tried) (shapes : Shapes) → AreChained s tried last → ShowCalls s.history.rows shapes.calls
+    → ShowCalls (recorded_after s.history.rows tried) (with_rows shapes tried).calls
+all_on s last tried shapes (ends a) shown = shown
+all_on s last tried shapes (begins origin a x others end none rest) shown =
     all_on (system_after a x) end others (with_step shapes (taken_step origin a x)) rest (step_on origin a x shapes shown)
+all_on s last tried shapes (refuses origin a x why others end rest) shown =
+    all_on a end others (with_row shapes (refused origin x why)) rest shown
+all_on s last tried shapes (leaves line name why a others end rest) shown =
+    all_on a end others (with_row shapes (unfinished line name why)) rest shown
 
-pub calls_shown : (config : Config) (commands : List NumberedCommand) (last : System) (taken : List TakenStep) (most : ℕ)
-    → TakesAll (opening config) commands last taken
-    → ShowCalls (recorded_after [] (take most taken)) (with_steps no_shapes (take most taken)).calls
-calls_shown config commands last taken most takes =
-    let (mid, chained) = chain_first most (opening config) last taken (chain_all (opening config) last commands taken takes) in
-    all_on (opening config) mid (take most taken) no_shapes chained refl
+pub calls_shown : (config : Config) (commands : List NumberedCommand) (last : System) (tried : List Tried) (most : ℕ)
+    → TriesAll (opening config) commands last tried
+    → ShowCalls (recorded_after [] (take most tried)) (with_rows no_shapes (take most tried)).calls
+calls_shown config commands last tried most all =
+    let (mid, chained) = chain_first most (opening config) last tried (chain_all (opening config) last commands tried all) in
+    all_on (opening config) mid (take most tried) no_shapes chained refl

@@ -19,7 +19,7 @@ use Rattle.network.specs.declared.messages.Message.TheVariants.{ToReplica, ToCli
 use Rattle.network.proofs.Lookups.{get_other, get_same, none_of, removed_other}
 use Rattle.recorder.specs.Histories.{caller_of}
 use Rattle.world_steps.specs.Refusals.{arrival_refusals, first_of, refusal_of}
-use Rattle.world_steps.specs.Systems.{deliver, handle, invoke, op_of, respond, send, send_to, set_up, stop, system_after, take}
+use Rattle.world_steps.specs.Systems.{deliver, effect_of, handle, invoke, op_of, respond, send, send_to, set_up, stop, system_after, take}
 use Rattle.world_steps.specs.declared.nodes.Node.{Node}
 use Rattle.world_steps.specs.declared.refusal.Refusal.TheVariants as refusal
 use Rattle.world_steps.specs.declared.step.Step.{Step}
@@ -27,13 +27,42 @@ use Rattle.world_steps.specs.declared.step.Step.TheVariants as step
 use Rattle.world_steps.specs.declared.system.System.{System}
 use Rattle.world_steps.proofs.Passed.{passed, send_passed}
 use Rattle.script_runs.specs.declared.origin.Origin.{Origin}
-use Rattle.message_scenes.specs.Arrows.{arrows_by, copy_arrow, end_flight, replier, reply_arrow, request_arrow}
-use Rattle.message_scenes.specs.Taken.{TakenStep}
+use Rattle.client_phases.specs.declared.outcomes.Taken.TheVariants as outcome
+use Rattle.world_steps.specs.declared.effect.Effect.{Effect}
+use Rattle.world_steps.specs.declared.effect.Effect.TheVariants as effect
+use Rattle.message_scenes.specs.Arrows.{arrival, arrows_by, is_open, copy_arrow, end_flight, replier, reply_arrow, request_arrow}
+use Rattle.message_scenes.specs.Tried.{TakenStep, Tried, took}
 use Rattle.message_scenes.specs.declared.arrows.Arrow.{Arrow}
+use Rattle.message_scenes.specs.Copies.{IsAfter}
+use Rattle.message_scenes.specs.declared.arrows.ArrowEnd.{ArrowEnd}
 use Rattle.message_scenes.specs.declared.arrows.ArrowEnd.TheVariants as ending
 use Rattle.message_scenes.proofs.Agreeing.{some_under}
 use Rattle.message_scenes.proofs.Copying.{Shown, answered_on, copied_on, ended_on, next_if_more, none_if_same, quiet_on, sent_on}
 use Rattle.message_scenes.proofs.Underway.{found, under_flight, under_open}
+
+-- ---- how a delivery ends a copy
+arrival_so : (P : ArrowEnd → Type 0) (row : ℕ) → P (ending.Stale row) → P (ending.Arrives row) → (caused : Option Effect) → P (arrival row caused)
+arrival_so P row stale fresh None = fresh
+arrival_so P row stale fresh (Some (effect.Taken outcome.Stale)) = stale
+arrival_so P row stale fresh (Some (effect.Taken outcome.Counted)) = fresh
+arrival_so P row stale fresh (Some (effect.Taken (outcome.Noted tag))) = fresh
+arrival_so P row stale fresh (Some (effect.Taken (outcome.Agreed tag))) = fresh
+arrival_so P row stale fresh (Some (effect.Taken outcome.Ready)) = fresh
+arrival_so P row stale fresh (Some effect.Joined) = fresh
+arrival_so P row stale fresh (Some (effect.Invoked op)) = fresh
+arrival_so P row stale fresh (Some (effect.Sent flight)) = fresh
+arrival_so P row stale fresh (Some (effect.Answered flight)) = fresh
+arrival_so P row stale fresh (Some effect.Lost) = fresh
+arrival_so P row stale fresh (Some effect.Repeated) = fresh
+arrival_so P row stale fresh (Some (effect.Responded op)) = fresh
+arrival_so P row stale fresh (Some effect.Stopped) = fresh
+arrival_so P row stale fresh (Some effect.Started) = fresh
+
+arrival_closed : (row : ℕ) (caused : Option Effect) → is_open (arrival row caused) ≡ false
+arrival_closed row caused = arrival_so (λ there. is_open there ≡ false) row refl refl caused
+
+arrival_after : (row : ℕ) (caused : Option Effect) (n : ℕ) → n < row → IsAfter n (arrival row caused)
+arrival_after row caused n less = arrival_so (IsAfter n) row less less caused
 
 -- ---- what steps leave in the network
 invoke_pool : (s : System) (name : ℕ) (key : List ℕ) (action : Action) (client : Option Client) → (invoke s name key action client).pool ≡ s.pool
@@ -87,18 +116,22 @@ abbrev reply_from : ℕ → ℕ → ℕ → Reply → Arrow
 reply_from row flight name reply =
     record { flight = flight; client = name; replica = replier reply; message = ToClient name reply; begins = row; end = ending.Open }
 
-module _ (earlier : List TakenStep) (row : ℕ) (origin : Origin) (s : System) (arrows : List Arrow) (so_far : Shown earlier row s.pool arrows) where
+module _ (earlier : List Tried) (row : ℕ) (origin : Origin) (s : System) (arrows : List Arrow) (so_far : Shown earlier row s.pool arrows) where
   -- a step, taken
   abbrev taken : Step → System → TakenStep
   taken step after = record { origin = origin; before = s; step = step; after = after }
 
   -- the arrows after it
   abbrev arrows_then : Step → System → List Arrow
-  arrows_then step after = arrows_by row step s.pool.sent (message_of after.pool.flights s.pool.sent) arrows
+  arrows_then step after = arrows_by row step (effect_of s step) s.pool.sent (message_of after.pool.flights s.pool.sent) arrows
 
   -- they are shown
   abbrev Goes : Step → System → Type 0
-  Goes step after = Shown (earlier ++ taken step after ∷ []) (row + 1) after.pool (arrows_then step after)
+  Goes step after = Shown (earlier ++ took (taken step after) ∷ []) (row + 1) after.pool (arrows_then step after)
+
+  -- how the copy ends that a delivery takes
+  abbrev arrives_so : ℕ → ArrowEnd
+  arrives_so flight = arrival row (effect_of s (step.Deliver flight))
 
   none_given : (after : Pool) → after ≡ s.pool → message_of after.flights s.pool.sent ≡ None
   none_given after same =
@@ -118,7 +151,7 @@ module _ (earlier : List TakenStep) (row : ℕ) (origin : Origin) (s : System) (
       ap (λ (p : Pool). message_of p.flights s.pool.sent) goes
       ∙ ap (option_map (λ (x : Flight). x.message)) (get_same s.pool.flights s.pool.sent (record { message = m; copies = 1 })) in
       let a : Arrow = request_from row name replica s.pool.sent m in
-      subst (λ (found : Option Message). Shown (earlier ++ taken (step.Send name replica) after ∷ []) (row + 1) after.pool
+      subst (λ (found : Option Message). Shown (earlier ++ took (taken (step.Send name replica) after) ∷ []) (row + 1) after.pool
       (arrows ++ request_arrow row name replica s.pool.sent found)) (sym there)
       (sent_on earlier row (taken (step.Send name replica) after) arrows so_far m a refl refl refl goes
       (λ n. next_if_more n ((row, n) ∷ [])) refl)
@@ -134,7 +167,7 @@ module _ (earlier : List TakenStep) (row : ℕ) (origin : Origin) (s : System) (
       let (x, is) = some_from_is_none (finite.get s.pool.flights flight) (passed _ _ _ none).0 in
       let (a, first, under) = found flight arrows (some_under s.pool.sent s.pool.flights arrows so_far.agrees flight x is) in
       let after : System = system_after s (step.Repeat flight) in
-      subst (λ (like : Option Arrow). Shown (earlier ++ taken (step.Repeat flight) after ∷ []) (row + 1) after.pool (arrows ++ copy_arrow row like)) (sym first)
+      subst (λ (like : Option Arrow). Shown (earlier ++ took (taken (step.Repeat flight) after) ∷ []) (row + 1) after.pool (arrows ++ copy_arrow row like)) (sym first)
       (copied_on earlier row (taken (step.Repeat flight) after) arrows so_far flight x (record a { begins = row }) refl
       (under_flight flight a under) (under_open flight a under) is refl refl)
 
@@ -149,12 +182,13 @@ module _ (earlier : List TakenStep) (row : ℕ) (origin : Origin) (s : System) (
       ap (λ (p : Pool). message_of p.flights sent) lost
       ∙ ap (option_map (λ (y : Flight). y.message)) (less_apart s.pool.flights flight sent (finite.get s.pool.flights flight) apart)
       ∙ none_given s.pool refl in
-      let all = ended_on earlier row (taken (step.Deliver flight) after) arrows so_far flight (ending.Arrives row) x refl (λ n h. h) is refl
+      let all = ended_on earlier row (taken (step.Deliver flight) after) arrows so_far flight (arrives_so flight) x
+      (arrival_closed row (effect_of s (step.Deliver flight))) (arrival_after row (effect_of s (step.Deliver flight))) is refl
       lost (λ n. none_if_same n ((row, n) ∷ [])) in
-      subst (λ (found : Option Message). Shown (earlier ++ taken (step.Deliver flight) after ∷ []) (row + 1) after.pool
-      (end_flight flight (ending.Arrives row) arrows ++ reply_arrow row sent found)) (sym none)
-      (subst (Shown (earlier ++ taken (step.Deliver flight) after ∷ []) (row + 1) after.pool)
-      (sym (append-nil (end_flight flight (ending.Arrives row) arrows))) all)
+      subst (λ (found : Option Message). Shown (earlier ++ took (taken (step.Deliver flight) after) ∷ []) (row + 1) after.pool
+      (end_flight flight (arrives_so flight) arrows ++ reply_arrow row sent found)) (sym none)
+      (subst (Shown (earlier ++ took (taken (step.Deliver flight) after) ∷ []) (row + 1) after.pool)
+      (sym (append-nil (end_flight flight (arrives_so flight) arrows))) all)
 
   -- a delivery that is answered
   answers : (flight : ℕ) (x : Flight) (after : System) (name : ℕ) (reply : Reply) → finite.get s.pool.flights flight ≡ Some x
@@ -169,9 +203,10 @@ module _ (earlier : List TakenStep) (row : ℕ) (origin : Origin) (s : System) (
       ap (λ (p : Pool). message_of p.flights sent) goes
       ∙ ap (option_map (λ (y : Flight). y.message)) (less_apart more flight sent (finite.get more flight) apart)
       ∙ ap (option_map (λ (y : Flight). y.message)) (get_same s.pool.flights sent (record { message = m; copies = 1 })) in
-      subst (λ (found : Option Message). Shown (earlier ++ taken (step.Deliver flight) after ∷ []) (row + 1) after.pool
-      (end_flight flight (ending.Arrives row) arrows ++ reply_arrow row sent found)) (sym there)
-      (answered_on earlier row (taken (step.Deliver flight) after) arrows so_far flight (ending.Arrives row) x refl (λ n h. h) is refl
+      subst (λ (found : Option Message). Shown (earlier ++ took (taken (step.Deliver flight) after) ∷ []) (row + 1) after.pool
+      (end_flight flight (arrives_so flight) arrows ++ reply_arrow row sent found)) (sym there)
+      (answered_on earlier row (taken (step.Deliver flight) after) arrows so_far flight (arrives_so flight) x
+      (arrival_closed row (effect_of s (step.Deliver flight))) (arrival_after row (effect_of s (step.Deliver flight))) is refl
       m (reply_from row sent name reply) refl refl refl goes (λ n. next_if_more n ((row, n) ∷ [])))
 
   handled : (flight : ℕ) (x : Flight) (number : ℕ) (request : Request) (node : Option Node) (caller : Option ℕ)

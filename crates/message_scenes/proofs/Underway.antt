@@ -25,12 +25,14 @@ BeginBefore row (a ∷ arrows) = (a.begins < row) × BeginBefore row arrows
 -- an end that is there
 closed_end : (flight : ℕ) (there : ArrowEnd) → is_open there ≡ false → end_of flight there ≡ (flight, there) ∷ []
 closed_end flight (ending.Arrives row) e = refl
+closed_end flight (ending.Stale row) e = refl
 closed_end flight (ending.Lost row) e = refl
 closed_end flight ending.Open e = absurd cc
 
 -- one that isn't there
 open_end : (flight : ℕ) (there : ArrowEnd) → is_open there ≡ true → end_of flight there ≡ []
 open_end flight (ending.Arrives row) e = absurd cc
+open_end flight (ending.Stale row) e = absurd cc
 open_end flight (ending.Lost row) e = absurd cc
 open_end flight ending.Open e = refl
 
@@ -167,6 +169,7 @@ before_next row (x ∷ arrows) (first, all) = (omega (arith, first), before_next
 -- an end that isn't there comes after nothing
 later_open : (begins : ℕ) (there : ArrowEnd) → is_open there ≡ true → IsAfter begins there
 later_open begins (ending.Arrives row) e = absurd cc
+later_open begins (ending.Stale row) e = absurd cc
 later_open begins (ending.Lost row) e = absurd cc
 later_open begins ending.Open e = tt
 

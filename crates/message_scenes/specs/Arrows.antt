@@ -8,10 +8,14 @@ use Rattle.replica.specs.declared.replies.Reply.TheVariants.{Held, Kept}
 use Rattle.network.specs.Flights.{message_of}
 use Rattle.network.specs.declared.messages.Message.{Message}
 use Rattle.network.specs.declared.messages.Message.TheVariants.{ToClient}
+use Rattle.client_phases.specs.declared.outcomes.Taken.TheVariants as outcome
+use Rattle.world_steps.specs.Systems.{effect_of}
+use Rattle.world_steps.specs.declared.effect.Effect.{Effect}
+use Rattle.world_steps.specs.declared.effect.Effect.TheVariants as effect
 use Rattle.world_steps.specs.declared.step.Step.{Step}
 use Rattle.world_steps.specs.declared.step.Step.TheVariants as step
 use Rattle.message_scenes.specs.Lists.{change_first}
-use Rattle.message_scenes.specs.Taken.{TakenStep}
+use Rattle.message_scenes.specs.Tried.{TakenStep}
 use Rattle.message_scenes.specs.declared.arrows.Arrow.{Arrow}
 use Rattle.message_scenes.specs.declared.arrows.ArrowEnd.{ArrowEnd}
 use Rattle.message_scenes.specs.declared.arrows.ArrowEnd.TheVariants as ending
@@ -32,6 +36,12 @@ ended there arrow = record arrow { end = there }
 -- the copy of the flight that was sent first, of those under way, ends there
 abbrev pub end_flight : ℕ → ArrowEnd → List Arrow → List Arrow
 end_flight flight there arrows = change_first (is_under_way flight) (ended there) arrows
+
+-- how a copy ends that arrives by the step of a row with that effect: of a stale reply its client
+-- counts nothing
+abbrev pub arrival : ℕ → Option Effect → ArrowEnd
+arrival row (Some (effect.Taken outcome.Stale)) = ending.Stale row
+arrival row other = ending.Arrives row
 
 -- the replica that a reply is from
 abbrev pub replier : Reply → ℕ
@@ -67,19 +77,22 @@ abbrev pub copy_arrow : ℕ → Option Arrow → List Arrow
 copy_arrow row (Some arrow) = record arrow { begins = row } ∷ []
 copy_arrow row None = []
 
--- the arrows after the step of a row, which may have sent a message under the next flight number
-abbrev pub arrows_by : ℕ → Step → ℕ → Option Message → List Arrow → List Arrow
-arrows_by row (step.Send name replica) flight sent arrows =
+-- the arrows after the step of a row with that effect, which may have sent a message under the next
+-- flight number
+abbrev pub arrows_by : ℕ → Step → Option Effect → ℕ → Option Message → List Arrow → List Arrow
+arrows_by row (step.Send name replica) its_effect flight sent arrows =
     arrows ++ request_arrow row name replica flight sent
-arrows_by row (step.Deliver number) flight sent arrows =
-    end_flight number (ending.Arrives row) arrows ++ reply_arrow row flight sent
-arrows_by row (step.Lose number) flight sent arrows = end_flight number (ending.Lost row) arrows
-arrows_by row (step.Repeat number) flight sent arrows =
+arrows_by row (step.Deliver number) its_effect flight sent arrows =
+    end_flight number (arrival row its_effect) arrows ++ reply_arrow row flight sent
+arrows_by row (step.Lose number) its_effect flight sent arrows =
+    end_flight number (ending.Lost row) arrows
+arrows_by row (step.Repeat number) its_effect flight sent arrows =
     arrows ++ copy_arrow row (find (is_under_way number) arrows)
-arrows_by row other flight sent arrows = arrows
+arrows_by row other its_effect flight sent arrows = arrows
 
 -- the arrows after a step that was taken
 unfoldable pub arrows_after : ℕ → TakenStep → List Arrow → List Arrow
 arrows_after row t arrows =
     let flight = t.before.pool.sent in
-    arrows_by row t.step flight (message_of t.after.pool.flights flight) arrows
+    arrows_by row t.step (effect_of t.before t.step) flight
+    (message_of t.after.pool.flights flight) arrows

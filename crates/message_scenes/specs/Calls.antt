@@ -9,7 +9,7 @@ use Rattle.recorder.specs.declared.row.Row.TheVariants.{Invoke, Note, Respond}
 use Rattle.world_steps.specs.declared.step.Step.{Step}
 use Rattle.world_steps.specs.declared.step.Step.TheVariants as step
 use Rattle.message_scenes.specs.Lists.{change_first}
-use Rattle.message_scenes.specs.Taken.{TakenStep}
+use Rattle.message_scenes.specs.Tried.{TakenStep}
 use Rattle.message_scenes.specs.declared.calls.CallBar.{CallBar}
 use Rattle.message_scenes.specs.declared.calls.CallEnd.{CallEnd}
 use Rattle.message_scenes.specs.declared.calls.CallEnd.TheVariants as ending

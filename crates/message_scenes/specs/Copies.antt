@@ -2,10 +2,14 @@
 -- message, to the row of the step that delivered that copy or lost it. Copies of one message are
 -- alike, so that any of them may be the one that is delivered.
 use Rattle.std.specs.Prelude.{ℕ, ◌≡◌, ◌<◌, ◌+◌, ◌==◌, List, [], ◌∷◌, ◌++◌, map, if◌then◌else◌}
+use Rattle.std.specs.Prelude.{Option}
 use Rattle.std.specs.List.Sorted.{IsPermutation}
+use Rattle.message_scenes.specs.Arrows.{arrival}
+use Rattle.world_steps.specs.Systems.{effect_of}
+use Rattle.world_steps.specs.declared.effect.Effect.{Effect}
 use Rattle.world_steps.specs.declared.step.Step.{Step}
 use Rattle.world_steps.specs.declared.step.Step.TheVariants as step
-use Rattle.message_scenes.specs.Taken.{TakenStep}
+use Rattle.message_scenes.specs.Tried.{Tried, took}
 use Rattle.message_scenes.specs.declared.arrows.Arrow.{Arrow}
 use Rattle.message_scenes.specs.declared.arrows.ArrowEnd.{ArrowEnd}
 use Rattle.message_scenes.specs.declared.arrows.ArrowEnd.TheVariants as ending
@@ -18,22 +22,32 @@ abbrev pub begun_by : ℕ → Step → ℕ → ℕ → List (ℕ × ℕ)
 begun_by row (step.Repeat flight) before after = (row, flight) ∷ []
 begun_by row other before after = if before == after then [] else (row, before) ∷ []
 
--- the copies that steps begin, each by its row and its flight; the first step has that row
-abbrev pub begun_copies : ℕ → List TakenStep → List (ℕ × ℕ)
+-- the copy that begins with what is tried in a row: none if it is refused
+abbrev pub begun_in : ℕ → Tried → List (ℕ × ℕ)
+begun_in row (took t) = begun_by row t.step t.before.pool.sent t.after.pool.sent
+begun_in row other = []
+
+-- the copies that begin, each by its row and its flight; what is tried first has that row
+abbrev pub begun_copies : ℕ → List Tried → List (ℕ × ℕ)
 begun_copies row [] = []
-begun_copies row (t ∷ taken) =
-    begun_by row t.step t.before.pool.sent t.after.pool.sent ++ begun_copies (row + 1) taken
+begun_copies row (one ∷ tried) = begun_in row one ++ begun_copies (row + 1) tried
 
--- the copy that the step of a row ends: of the flight that it delivers or loses
-abbrev pub ended_by : ℕ → Step → List (ℕ × ArrowEnd)
-ended_by row (step.Deliver flight) = (flight, ending.Arrives row) ∷ []
-ended_by row (step.Lose flight) = (flight, ending.Lost row) ∷ []
-ended_by row other = []
+-- the copy that the step of a row ends, which has that effect: of the flight that it delivers or
+-- loses
+abbrev pub ended_by : ℕ → Step → Option Effect → List (ℕ × ArrowEnd)
+ended_by row (step.Deliver flight) its_effect = (flight, arrival row its_effect) ∷ []
+ended_by row (step.Lose flight) its_effect = (flight, ending.Lost row) ∷ []
+ended_by row other its_effect = []
 
--- the copies that steps end, each by its flight and how it ends; the first step has that row
-abbrev pub ended_copies : ℕ → List TakenStep → List (ℕ × ArrowEnd)
+-- the copy that ends with what is tried in a row: none if it is refused
+abbrev pub ended_in : ℕ → Tried → List (ℕ × ArrowEnd)
+ended_in row (took t) = ended_by row t.step (effect_of t.before t.step)
+ended_in row other = []
+
+-- the copies that end, each by its flight and how it ends; what is tried first has that row
+abbrev pub ended_copies : ℕ → List Tried → List (ℕ × ArrowEnd)
 ended_copies row [] = []
-ended_copies row (t ∷ taken) = ended_by row t.step ++ ended_copies (row + 1) taken
+ended_copies row (one ∷ tried) = ended_in row one ++ ended_copies (row + 1) tried
 
 -- ---- what arrows show of copies
 
@@ -45,6 +59,7 @@ begin_of arrow = (arrow.begins, arrow.flight)
 abbrev pub end_of : ℕ → ArrowEnd → List (ℕ × ArrowEnd)
 end_of flight ending.Open = []
 end_of flight (ending.Arrives row) = (flight, ending.Arrives row) ∷ []
+end_of flight (ending.Stale row) = (flight, ending.Stale row) ∷ []
 end_of flight (ending.Lost row) = (flight, ending.Lost row) ∷ []
 
 -- where arrows end, those that do
@@ -56,6 +71,7 @@ ends_of (arrow ∷ arrows) = end_of arrow.flight arrow.end ++ ends_of arrows
 abbrev pub IsAfter : ℕ → ArrowEnd → Type 0
 IsAfter begins ending.Open = Unit {0}
 IsAfter begins (ending.Arrives row) = begins < row
+IsAfter begins (ending.Stale row) = begins < row
 IsAfter begins (ending.Lost row) = begins < row
 
 -- each of the arrows ends after it begins
@@ -65,7 +81,7 @@ EndLater (arrow ∷ arrows) = IsAfter arrow.begins arrow.end × EndLater arrows
 
 -- the arrows are those of the copies that the steps begin, in the order of the steps; where they
 -- end are the copies that the steps end, each once; and each ends after it begins
-pub record ShowCopies (taken : List TakenStep) (arrows : List Arrow) : Type 0 where
-  pub begins : map begin_of arrows ≡ begun_copies 0 taken
-  pub ends : IsPermutation (ends_of arrows) (ended_copies 0 taken)
+pub record ShowCopies (tried : List Tried) (arrows : List Arrow) : Type 0 where
+  pub begins : map begin_of arrows ≡ begun_copies 0 tried
+  pub ends : IsPermutation (ends_of arrows) (ended_copies 0 tried)
   pub later : EndLater arrows

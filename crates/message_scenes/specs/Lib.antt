@@ -2,7 +2,8 @@ pub mod Lists
 pub mod Arrows
 pub mod Calls
 pub mod Replicas
-pub mod Taken
+pub mod Tried
+pub mod Hearings
 pub mod Shapes
 pub mod Sketches
 pub mod Scenes

@@ -1,6 +1,6 @@
--- What a diagram of messages shows of replicas: where what they hold changes, and when they are
+-- What a diagram of messages shows of replicas: what they hold after each put, and when they are
 -- down.
-use Rattle.std.specs.Prelude.{ℕ, ◌==◌, ◌&&◌, Bool, List, [], ◌∷◌, ◌++◌}
+use Rattle.std.specs.Prelude.{ℕ, ◌==◌, ◌&&◌, Bool, true, false, List, [], ◌∷◌, ◌++◌}
 use Rattle.std.specs.Prelude.{Option, None, Some, slice_get, is_none}
 use Rattle.std.specs.Prelude.{if◌then◌else◌}
 use Rattle.std.specs.Ordering.{is_lt}
@@ -16,27 +16,42 @@ use Rattle.world_steps.specs.declared.step.Step.{Step}
 use Rattle.world_steps.specs.declared.step.Step.TheVariants as step
 use Rattle.world_steps.specs.declared.system.System.{System}
 use Rattle.message_scenes.specs.Lists.{change_first}
-use Rattle.message_scenes.specs.declared.replicas.Change.{Change}
+use Rattle.message_scenes.specs.declared.replicas.Holding.{Holding}
 use Rattle.message_scenes.specs.declared.replicas.DownTime.{DownTime}
 
--- what the replica of that number comes to hold by a request: a pair of a greater tag than its own
-abbrev pub change_by : ℕ → ℕ → Option Node → Request → Option Change
-change_by row number (Some node) (Put op key tag value) =
+-- what the replica of that number holds after a put: it takes a pair of a greater tag than its own,
+-- and else keeps its own
+abbrev pub holding_by : ℕ → ℕ → Option Node → Request → Option Holding
+holding_by row number (Some node) (Put op key tag value) =
     if is_lt (tag_cmp (pair_of node.replica.pairs key).tag tag)
-    then Some (record { row = row; replica = number; key = key; tag = tag; value = value })
-    else None
-change_by row number _ request = None
+    then Some (record {
+      row = row;
+      replica = number;
+      key = key;
+      tag = tag;
+      value = value;
+      takes = true;
+    })
+    else Some (record {
+      row = row;
+      replica = number;
+      key = key;
+      tag = (pair_of node.replica.pairs key).tag;
+      value = (pair_of node.replica.pairs key).value;
+      takes = false;
+    })
+holding_by row number _ request = None
 
 -- the same, by a message that arrives
-abbrev pub change_with : ℕ → System → Option Message → Option Change
-change_with row s (Some (ToReplica number request)) =
-    change_by row number (slice_get s.nodes number) request
-change_with row s _ = None
+abbrev pub holding_with : ℕ → System → Option Message → Option Holding
+holding_with row s (Some (ToReplica number request)) =
+    holding_by row number (slice_get s.nodes number) request
+holding_with row s _ = None
 
--- what a replica comes to hold by the step of a row, which is taken in the system
-unfoldable pub change_of : ℕ → System → Step → Option Change
-change_of row s (step.Deliver flight) = change_with row s (message_of s.pool.flights flight)
-change_of row s other = None
+-- what a replica holds after the put that comes by the step of a row, which is taken in the system
+unfoldable pub holding_of : ℕ → System → Step → Option Holding
+holding_of row s (step.Deliver flight) = holding_with row s (message_of s.pool.flights flight)
+holding_of row s other = None
 
 -- whether it is a time for which the replica is down, and isn't over
 abbrev pub is_down_time_of : ℕ → DownTime → Bool

@@ -9,8 +9,8 @@ use Rattle.world_steps.specs.Systems.{opening}
 use Rattle.world_steps.specs.declared.system.System.{System}
 use Rattle.script_runs.specs.declared.command.Script.{Script}
 use Rattle.script_runs.specs.Quotas.{last_count}
-use Rattle.message_scenes.specs.Shapes.{Shapes, no_shapes, with_steps}
-use Rattle.message_scenes.specs.Taken.{TakenStep, TakesAll}
+use Rattle.message_scenes.specs.Shapes.{Shapes, no_shapes, with_rows}
+use Rattle.message_scenes.specs.Tried.{Tried, TriesAll}
 use Rattle.message_scenes.specs.declared.scene.MessageScene.{MessageScene}
 
 -- the names in rising order, each once
@@ -24,18 +24,19 @@ pub record Shows (shapes : Shapes) (scene : MessageScene) : Type 0 where
   pub clients : IsRisingOf shapes.joined scene.clients.items
   pub arrows : scene.arrows.items ≡ shapes.arrows
   pub calls : scene.calls.items ≡ shapes.calls
-  pub changes : scene.changes.items ≡ shapes.changes
+  pub hearings : scene.hearings.items ≡ shapes.hearings
+  pub holdings : scene.holdings.items ≡ shapes.holdings
   pub downs : scene.downs.items ≡ shapes.downs
 
--- the scene is that of a run of the script which leaves that system: it shows at most so many of
--- the steps that were taken, and says how many it leaves out
+-- the scene is that of a run of the script which leaves that system: it has a row for each thing
+-- that was tried, at most so many, and says how many it leaves out
 pub record IsSceneOf (script : Script) (most : ℕ) (last : System) (scene : MessageScene) : Type 0
   where
-    pub taken : List TakenStep
-    pub takes : TakesAll (opening script.config) script.commands.items last taken
-    pub replicas : scene.replicas ≡ length script.config.quorums.votes
-    pub shows : Shows (with_steps no_shapes (take most taken)) scene
-    pub omitted : scene.omitted ≡ min (length taken - most) last_count
+    pub tried : List Tried
+    pub tries : TriesAll (opening script.config) script.commands.items last tried
+    pub quorums : scene.quorums ≡ script.config.quorums
+    pub shows : Shows (with_rows no_shapes (take most tried)) scene
+    pub omitted : scene.omitted ≡ min (length tried - most) last_count
 
 -- the scene is that of a run of the script, and the history is what that run records; the tags of
 -- each of its parts are sound

@@ -1,6 +1,6 @@
--- A scene under way: of the steps that were taken the first ones are drawn, and those after them
--- are counted.
+-- A scene under way: of what was tried the first rows are drawn, and those after them are counted.
 use Rattle.std.specs.Prelude.{ℕ, ◌≡◌, List, [], ◌∷◌, ◌++◌, length, Option, Some, None}
+use Rattle.quorum.specs.Quorums.{Quorums}
 use Rattle.world_steps.specs.declared.step.Step.{Step}
 use Rattle.world_steps.specs.declared.system.System.{System}
 use Rattle.script_runs.specs.declared.command.Script.{Script}
@@ -8,10 +8,12 @@ use Rattle.script_runs.specs.Events.{Event}
 use Rattle.script_runs.specs.Observing.{Adds, ObservesRun}
 use Rattle.script_runs.specs.Quotas.{GoesOn, HasRoom, IsFull, ShowsFirst}
 use Rattle.script_runs.specs.declared.origin.Origin.{Origin}
-use Rattle.message_scenes.specs.Replicas.{change_of}
+use Rattle.traces.specs.Sentences.{begun_of}
+use Rattle.message_scenes.specs.Hearings.{receiver_of}
+use Rattle.message_scenes.specs.Replicas.{holding_of}
 use Rattle.message_scenes.specs.Scenes.{IsSceneOf}
-use Rattle.message_scenes.specs.Shapes.{Shapes, no_shapes, with_steps}
-use Rattle.message_scenes.specs.Taken.{TakenStep, taken_in}
+use Rattle.message_scenes.specs.Shapes.{Shapes, no_shapes, with_rows}
+use Rattle.message_scenes.specs.Tried.{Tried, tried_in}
 use Rattle.message_scenes.specs.declared.scene.ComingStep.{ComingStep}
 use Rattle.message_scenes.specs.declared.scene.MessageScene.{MessageScene}
 use Rattle.message_scenes.specs.declared.sketch.Sketch.{Sketch}
@@ -23,43 +25,46 @@ shapes_of scene = record {
   joined = scene.clients.items;
   arrows = scene.arrows.items;
   calls = scene.calls.items;
-  changes = scene.changes.items;
+  hearings = scene.hearings.items;
+  holdings = scene.holdings.items;
   downs = scene.downs.items;
 }
 
--- the scene has that count of replicas, and the shapes of the steps
-pub record IsDrawing (replicas : ℕ) (scene : MessageScene) (taken : List TakenStep) : Type 0 where
-  pub count : scene.replicas ≡ replicas
-  pub shapes : shapes_of scene ≡ with_steps no_shapes taken
+-- the scene has those quorums, and the rows and shapes of what was tried
+pub record IsDrawing (quorums : Quorums) (scene : MessageScene) (tried : List Tried) : Type 0 where
+  pub same : scene.quorums ≡ quorums
+  pub shapes : shapes_of scene ≡ with_rows no_shapes tried
 
--- how many replicas there are, and how many steps are drawn at most
+-- the quorums of the run, and how many rows are drawn at most
 pub record Frame : Type 0 where
-  pub replicas : ℕ
+  pub quorums : Quorums
   pub most : ℕ
 
--- the frame of a script's scene with at most so many steps
+-- the frame of a script's scene with at most so many rows
 abbrev pub frame_of : Script → ℕ → Frame
-frame_of script most = record { replicas = length script.config.quorums.votes; most = most }
+frame_of script most = record { quorums = script.config.quorums; most = most }
 
--- of the steps the first ones are drawn in the frame, and those after them are counted
-abbrev pub IsSketched : Frame → List TakenStep → Sketch → Type 0
-IsSketched frame taken sketch =
-    ShowsFirst (IsDrawing frame.replicas sketch.scene) frame.most taken sketch.quota
+-- of what was tried the first rows are drawn in the frame, and those after them are counted
+abbrev pub IsSketched : Frame → List Tried → Sketch → Type 0
+IsSketched frame tried sketch =
+    ShowsFirst (IsDrawing frame.quorums sketch.scene) frame.most tried sketch.quota
 
--- what the first sketch is of steps, the second is of these and that step
-abbrev pub Draws : Sketch → TakenStep → Sketch → Type 0
-Draws old t new = (frame : Frame) (taken : List TakenStep) → IsSketched frame taken old
-    → IsSketched frame (taken ++ t ∷ []) new
+-- what the first sketch is of what was tried, the second is of that and one more
+abbrev pub Draws : Sketch → Tried → Sketch → Type 0
+Draws old one new = (frame : Frame) (tried : List Tried) → IsSketched frame tried old
+    → IsSketched frame (tried ++ one ∷ []) new
 
--- the sketch goes on by the step that is tried, if it is taken
+-- the sketch goes on by what is tried
 abbrev pub DrawsOn : Sketch → Event → Sketch → Type 0
-DrawsOn = Adds IsSketched taken_in
+DrawsOn = Adds IsSketched tried_in
 
 -- ---- a step that is about to be taken
 
 -- it is the next row, as the system stands
 pub record IsComing (row : ℕ) (s : System) (coming : ComingStep) : Type 0 where
-  pub change : coming.change ≡ change_of row s coming.step
+  pub told : coming.told ≡ begun_of s coming.step
+  pub receiver : coming.receiver ≡ receiver_of s coming.step
+  pub holding : coming.holding ≡ holding_of row s coming.step
   pub sent : coming.sent ≡ s.pool.sent
   pub recorded : coming.recorded ≡ length s.history.rows
 

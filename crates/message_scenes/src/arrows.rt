@@ -1,20 +1,24 @@
 //! Arrows: each copy of a message has one.
-ghost use Rattle.std.specs.Prelude.{◌≡◌, ◌++◌, IfOk, OnOk, option_copied, option_to_list};
+ghost use Rattle.std.specs.Prelude.{◌≡◌, ◌++◌, IfOk, OnOk, Some, option_copied, option_to_list};
 ghost use Rattle.std.specs.List.{find};
-ghost use Rattle.message_scenes.specs.Arrows.{arrows_by, copy_arrow, is_open, is_under_way};
+ghost use Rattle.message_scenes.specs.Arrows.{arrival, arrows_by, copy_arrow, is_open};
+ghost use Rattle.message_scenes.specs.Arrows.{is_under_way};
 ghost use Rattle.message_scenes.specs.Arrows.{replier, reply_arrow, request_arrow};
 
 use crate::lists::{end_first, first_of};
+use client_phases::Taken;
 use network::Message;
 use replica::Reply;
 use tag::{ClientId, Memory, ReplicaId};
-use world_steps::Step;
+use world_steps::{Effect, Step};
 
 /// Where a copy of a message ends.
 #[derive(Clone, Copy, Debug, PartialEq, Eq)]
 pub enum ArrowEnd {
     /// It arrives by the step of that row.
     Arrives(usize),
+    /// It arrives by the step of that row, and its client counts nothing of it.
+    Stale(usize),
     /// It is lost by the step of that row.
     Lost(usize),
     /// It is still under way after the last row.
@@ -136,23 +140,35 @@ fn add_copy(arrows: &mut Vec<Arrow>, row: usize, flight: u32) -> Result<(), Memo
     Ok(())
 }
 
-/// Adds and ends arrows by the step of the row, which may have sent a message as that flight.
+/// How a copy ends that arrives by the step of the row, which had that effect.
+fn arrival(row: usize, effect: &Effect) -> ArrowEnd
+    ensures { result ≡ arrival row (Some effect.now) }
+{
+    match effect {
+        Effect::Taken(Taken::Stale) => ArrowEnd::Stale(row),
+        _ => ArrowEnd::Arrives(row),
+    }
+}
+
+/// Adds and ends arrows by the step of the row, which had that effect and may have sent a message as
+/// that flight.
 pub(crate) fn add_arrows(
     arrows: &mut Vec<Arrow>,
     row: usize,
     step: &Step,
+    effect: &Effect,
     flight: u32,
     sent: Option<&Message>,
 ) -> Result<(), Memory>
-    ensures { OnOk result (arrows.new.items
-        ≡ arrows_by row step.now flight (option_copied sent.entry) arrows.old.items) }
+    ensures { OnOk result (arrows.new.items ≡ arrows_by row step.now (Some effect.now) flight
+        (option_copied sent.entry) arrows.old.items) }
 {
     match step {
         Step::Send { client, replica } => {
             add_request(arrows, row, *client, *replica, flight, sent)
         }
         Step::Deliver { flight: number } => {
-            end_first(arrows, *number, ArrowEnd::Arrives(row));
+            end_first(arrows, *number, arrival(row, effect));
             add_reply(arrows, row, flight, sent)
         }
         Step::Lose { flight: number } => {

@@ -1,6 +1,6 @@
-//! Replicas: where what they hold changes, and when they are down.
+//! Replicas: what they hold after each put, and when they are down.
 ghost use Rattle.std.specs.Prelude.{◌≡◌, IfOk, OnOk, slice_get};
-ghost use Rattle.message_scenes.specs.Replicas.{change_by, change_of, downs_after};
+ghost use Rattle.message_scenes.specs.Replicas.{holding_by, holding_of, downs_after};
 
 use crate::lists::end_first;
 use network::Message;
@@ -8,14 +8,16 @@ use replica::Request;
 use tag::{Key, Memory, ReplicaId, Tag, Value};
 use world_steps::{Step, World};
 
-/// What a replica comes to hold for a key by the step of a row.
+/// What a replica holds for a key after a put that comes by the step of a row.
 #[derive(Debug, Drop)]
-pub struct Change {
+pub struct Holding {
     pub row: usize,
     pub replica: ReplicaId,
     pub key: Key,
     pub tag: Tag,
     pub value: Option<Value>,
+    /// Whether it takes the pair that is put; else it keeps its own.
+    pub takes: bool,
 }
 
 /// A time for which a replica is down.
@@ -28,15 +30,15 @@ pub struct DownTime {
     pub starts: Option<usize>,
 }
 
-/// What the replica of that number comes to hold by the request.
-fn change_by(
+/// What the replica of that number holds after the request, if it is a put.
+fn holding_by(
     world: &World,
     row: usize,
     number: ReplicaId,
     request: &Request,
-) -> Result<Option<Change>, Memory>
-    ensures { IfOk result (λ change.
-        change ≡ change_by row number (slice_get world.now.nodes number) request.now) }
+) -> Result<Option<Holding>, Memory>
+    ensures { IfOk result (λ holding.
+        holding ≡ holding_by row number (slice_get world.now.nodes number) request.now) }
 {
     let (
         Some(replica),
@@ -50,28 +52,28 @@ fn change_by(
     else {
         return Ok(None);
     };
-    if replica.held(key).0 >= *tag {
-        return Ok(None);
-    }
-    Ok(Some(Change {
+    let (own, kept) = replica.held(key);
+    let takes = own < *tag;
+    Ok(Some(Holding {
         row,
         replica: number,
         key: key.copy()?,
-        tag: *tag,
-        value: Value::copy_of(value.as_ref())?,
+        tag: if takes { *tag } else { own },
+        value: Value::copy_of(if takes { value.as_ref() } else { kept })?,
+        takes,
     }))
 }
 
-/// What a replica comes to hold by the step, which isn't taken yet.
-#[tactic(auto, unfolding(crate::specs::Replicas::change_of))]
-pub(crate) fn change_of(world: &World, row: usize, step: &Step) -> Result<Option<Change>, Memory>
-    ensures { IfOk result (λ change. change ≡ change_of row world.now step.now) }
+/// What a replica holds after the put that comes by the step, which isn't taken yet.
+#[tactic(auto, unfolding(crate::specs::Replicas::holding_of))]
+pub(crate) fn holding_of(world: &World, row: usize, step: &Step) -> Result<Option<Holding>, Memory>
+    ensures { IfOk result (λ holding. holding ≡ holding_of row world.now step.now) }
 {
     let Step::Deliver { flight } = step else {
         return Ok(None);
     };
     match world.pool().look(*flight) {
-        Some(Message::ToReplica(number, request)) => change_by(world, row, *number, request),
+        Some(Message::ToReplica(number, request)) => holding_by(world, row, *number, request),
         _ => Ok(None),
     }
 }

@@ -1,4 +1,5 @@
 pub mod Layout
+pub mod Keys
 pub mod Words
 pub mod Ground
 pub mod Dots

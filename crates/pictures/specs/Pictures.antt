@@ -1,4 +1,4 @@
--- The picture of a key's calls: the ground, the line along the order, the bars and the dots.
+-- The picture of calls: the ground, the line along the order, the bars and the dots.
 use Rattle.std.specs.Prelude.{ℕ, ◌==◌, Bool, nat_lt, if◌then◌else◌, List, [], ◌∷◌, length}
 use Rattle.std.specs.Prelude.{Option}
 use Rattle.std.specs.List.{find, list_any}
@@ -15,6 +15,7 @@ use Rattle.recorder.specs.declared.part.Call.{Call}
 use Rattle.explanations.specs.Sentences.{call_text}
 use Rattle.scenes.specs.declared.scene.Bar.{Bar}
 use Rattle.scenes.specs.declared.scene.Scene.{Scene}
+use Rattle.pictures.specs.declared.keys.CallKeys.{CallKeys}
 use Rattle.pictures.specs.declared.picture.Picture.{Picture}
 use Rattle.pictures.specs.declared.sizes.TheConstants.{BOTTOM, FOOT_BASE, LONG, NAMES_BASE, RIGHT}
 use Rattle.pictures.specs.declared.style.TheConstants.{FAULTY_READ, FAULTY_WRITE, PICTURE, READ}
@@ -23,6 +24,7 @@ use Rattle.pictures.specs.Layout.{across, down, rows_of}
 use Rattle.pictures.specs.Ground.{client_name, lane_markup, tick_markup}
 use Rattle.pictures.specs.Dots.{dot_markup, path_markup}
 use Rattle.pictures.specs.Frames.{corner_of, shape}
+use Rattle.pictures.specs.Keys.{key_of, said_key, title_words}
 use Rattle.pictures.specs.Texts.{if_any, texts}
 
 -- ---- calls
@@ -36,9 +38,9 @@ abbrev pub class_of : Action → Bool → List ℕ
 class_of Read faulty = if faulty then FAULTY_READ.now else READ.now
 class_of (Write value) faulty = if faulty then FAULTY_WRITE.now else WRITE.now
 
--- the title of the picture of that key
-abbrev pub picture_title : List ℕ → Markup
-picture_title key = element tag.Title [] (both (text TITLE.now) (text key))
+-- the title of the picture of calls on those keys
+abbrev pub picture_title : CallKeys → Markup
+picture_title keys = element tag.Title [] (both (text TITLE.now) (text (title_words keys)))
 
 module _ (scene : Scene) where
   -- the names of the clients below the rows, in a long picture
@@ -53,27 +55,34 @@ module _ (scene : Scene) where
       (down BOTTOM (rows_of scene))
 
 module _ (p : Picture) where
-  -- the call shows why the key is refused
+  -- the call shows why a key is refused
   abbrev pub is_faulty : OpId → Bool
   is_faulty op = list_any (λ other. other.0 == op.0) p.faulty.now
 
   -- the call's sentence, as a title
-  abbrev pub sentence : Call → Markup
-  sentence call = title (call_text p.key.now p.hall call)
+  abbrev pub sentence : List ℕ → Call → Markup
+  sentence key call = title (call_text key p.hall call)
 
-  -- what stands in the element of a call's bar: its sentence, its shape, and its texts
-  abbrev pub in_bar : Bar → Call → Markup
-  in_bar bar call = both (sentence call)
-      (both (shape p.scene.now bar (corner_of call.action)) (texts p.scene.now bar call))
+  -- what stands in the element of the bar of a call on that key: its sentence, its shape, and its
+  -- texts
+  abbrev pub in_bar : Bar → Call → List ℕ → Markup
+  in_bar bar call key = both (sentence key call)
+      (both (shape p.scene.now bar (corner_of call.action))
+      (texts p.scene.now bar (said_key p.keys key) call))
 
-  -- the bar of a call, in the class of what it does
-  abbrev pub call_bar : Bar → Call → Markup
-  call_bar bar call = element tag.G
-      (words_of name.Class (class_of call.action (is_faulty call.op)) ∷ []) (in_bar bar call)
+  -- the bar of a call on that key, in the class of what it does
+  abbrev pub call_bar : Bar → Call → List ℕ → Markup
+  call_bar bar call key = element tag.G
+      (words_of name.Class (class_of call.action (is_faulty call.op)) ∷ []) (in_bar bar call key)
+
+  -- the key that the call is on
+  abbrev pub own_key : Call → Option (List ℕ)
+  own_key call = key_of p.keys p.hall.history.now.rows call
 
   -- a bar, with the call of its number
   abbrev pub bar_markup : Bar → Markup
-  bar_markup bar = if_any (call_bar bar) (call_of p.part.now bar.call)
+  bar_markup bar = if_any (λ call. if_any (call_bar bar call) (own_key call))
+      (call_of p.part.now bar.call)
 
   -- what bars stand on: the clients' names, the lanes, and the ticks
   abbrev pub ground : Markup
@@ -89,7 +98,7 @@ module _ (p : Picture) where
   -- the picture's element: its title, the ground, and the calls
   abbrev pub svg : Markup
   svg = element tag.Svg (svg_attributes p.scene.now)
-      (both (picture_title p.key.now) (both ground calls_markup))
+      (both (picture_title p.keys) (both ground calls_markup))
 
   -- the picture
   abbrev pub picture_markup : Markup

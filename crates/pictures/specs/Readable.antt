@@ -5,7 +5,8 @@ use Rattle.labels.specs.Places.{farthest}
 use Rattle.scenes.specs.declared.scene.Bar.{Bar}
 use Rattle.scenes.specs.declared.scene.Scene.{Scene}
 use Rattle.pictures.specs.declared.sizes.TheConstants.{DOT_RADIUS, LETTER, TEXT_LEFT}
-use Rattle.pictures.specs.declared.style.TheConstants.{ANSWER, ANSWERS, BEGINS_HEADING, CALLS}
+use Rattle.pictures.specs.declared.style.TheConstants.{ALL_KEYS, ANSWER, ANSWERS}
+use Rattle.pictures.specs.declared.style.TheConstants.{BEGINS_HEADING, CALLS}
 use Rattle.pictures.specs.declared.style.TheConstants.{ANSWERED_HEADING, ANSWER_HEADING}
 use Rattle.pictures.specs.declared.style.TheConstants.{CALL_HEADING, CALL_SIGN, CLIENT}
 use Rattle.pictures.specs.declared.style.TheConstants.{CLIENT_HEADING, CLIENT_WORD, DOES}
@@ -58,4 +59,5 @@ call_phrases = READS.now ∷ WRITES.now ∷ NOTES.now ∷ ANSWER.now ∷ DONE.no
 
 -- other words of a picture
 abbrev pub other_words : List (List ℕ)
-other_words = TITLE.now ∷ CLIENT_WORD.now ∷ LINE_WORD.now ∷ CALL_SIGN.now ∷ TABLE_TITLE.now ∷ []
+other_words = TITLE.now ∷ ALL_KEYS.now ∷ CLIENT_WORD.now ∷ LINE_WORD.now ∷ CALL_SIGN.now
+    ∷ TABLE_TITLE.now ∷ []

@@ -1,5 +1,5 @@
 -- The table of the calls of a picture: a row for each bar.
-use Rattle.std.specs.Prelude.{ℕ, false, List, [], ◌∷◌, Some, decimal}
+use Rattle.std.specs.Prelude.{ℕ, false, List, [], ◌∷◌, ◌++◌, Some, decimal}
 use Rattle.markup.specs.Markup.{Markup, text, element, both, each}
 use Rattle.markup.specs.declared.names.AttributeName.TheVariants as name
 use Rattle.markup.specs.declared.names.Element.TheVariants as tag
@@ -15,9 +15,11 @@ use Rattle.pictures.specs.declared.style.TheConstants.{ANSWERED_HEADING, ANSWER_
 use Rattle.pictures.specs.declared.style.TheConstants.{BEGINS_HEADING, CALL_HEADING, CLIENT_HEADING}
 use Rattle.pictures.specs.declared.style.TheConstants.{COLUMN, DOES_HEADING, NOTED_HEADING}
 use Rattle.pictures.specs.declared.style.TheConstants.{NOTE_HEADING, TABLE_TITLE}
-use Rattle.pictures.specs.Pictures.{call_of, class_of, is_faulty}
+use Rattle.pictures.specs.Keys.{said_key}
+use Rattle.pictures.specs.Pictures.{call_of, class_of, is_faulty, own_key}
 use Rattle.pictures.specs.Texts.{if_any}
-use Rattle.pictures.specs.Words.{action_words, line_words, note_words, response_words}
+use Rattle.pictures.specs.Words.{action_words, line_words, name_words, note_words}
+use Rattle.pictures.specs.Words.{response_words}
 
 -- a cell with those words
 abbrev pub cell : List ℕ → Markup
@@ -26,7 +28,7 @@ cell words = element tag.Td [] (text (text_of words))
 -- what a cell with that content says
 abbrev pub content_words : Content → List ℕ
 content_words (content.Number number) = decimal number
-content_words (content.Does action) = action_words false action.now
+content_words (content.Does name action) = name_words name.now ++ action_words false action.now
 content_words (content.Answers response) = response_words response.now
 
 -- the heading of a column
@@ -42,10 +44,11 @@ columns = CALL_HEADING.now ∷ CLIENT_HEADING.now ∷ DOES_HEADING.now ∷ ANSWE
 abbrev pub headings : Markup
 headings = element tag.Tr [] (each heading columns)
 
--- what a call does: its number, its client, its action, and what it answers
-abbrev pub call_cells : Call → Markup
-call_cells call = both (cell (decimal call.op.0)) (both (cell (decimal call.client))
-    (both (cell (action_words false call.action)) (cell (response_words call.response))))
+-- what a call does: its number, its client, its key's name and its action, and what it answers
+abbrev pub call_cells : List ℕ → Call → Markup
+call_cells name call = both (cell (decimal call.op.0)) (both (cell (decimal call.client))
+    (both (cell (name_words name ++ action_words false call.action))
+    (cell (response_words call.response))))
 
 -- where it stands in the history: its note, and the lines of its bar's places
 abbrev pub line_cells : HallRows → Bar → Call → Markup
@@ -58,15 +61,16 @@ abbrev pub summary : Markup
 summary = element tag.Summary [] (text TABLE_TITLE.now)
 
 module _ (p : Picture) where
-  -- the row of a call, in the class of what it does
-  abbrev pub call_row : Bar → Call → Markup
-  call_row bar call = element tag.Tr
+  -- the row of a call on that key, in the class of what it does
+  abbrev pub call_row : Bar → Call → List ℕ → Markup
+  call_row bar call key = element tag.Tr
       (words_of name.Class (class_of call.action (is_faulty p call.op)) ∷ [])
-      (both (call_cells call) (line_cells p.hall bar call))
+      (both (call_cells (said_key p.keys key) call) (line_cells p.hall bar call))
 
   -- the row of a bar, with the call of its number
   abbrev pub row_markup : Bar → Markup
-  row_markup bar = if_any (call_row bar) (call_of p.part.now bar.call)
+  row_markup bar = if_any (λ call. if_any (call_row bar call) (own_key p call))
+      (call_of p.part.now bar.call)
 
   -- the table
   abbrev pub rows_table : Markup

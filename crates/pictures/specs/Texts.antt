@@ -23,21 +23,22 @@ text_class bar_text.Begin = DOES.now
 text_class bar_text.Note = NOTED.now
 text_class bar_text.Answer = ANSWERS.now
 
--- what it says of the bar's call: its number and what it does, its tag, or what it answers
-abbrev pub text_words : BarText → Bool → Call → List ℕ
-text_words bar_text.Begin briefly call = begin_words briefly call
-text_words bar_text.Note briefly call = unless briefly NOTES.now ++ note_words call.note
-text_words bar_text.Answer briefly call = end_words briefly call.response
+-- what it says of the bar's call: its number, the name of its key, and what it does; its tag; or
+-- what it answers
+abbrev pub text_words : BarText → Bool → List ℕ → Call → List ℕ
+text_words bar_text.Begin briefly name call = begin_words briefly name call
+text_words bar_text.Note briefly name call = unless briefly NOTES.now ++ note_words call.note
+text_words bar_text.Answer briefly name call = end_words briefly call.response
 
 module _ (scene : Scene) where
   -- such a text in a lane's column, in the row of a place
-  abbrev pub text_at : BarText → ℕ → Call → ℕ → Markup
-  text_at text lane call place = label_markup (text_class text) (across scene TEXT_LEFT lane)
+  abbrev pub text_at : BarText → ℕ → List ℕ → Call → ℕ → Markup
+  text_at text lane name call place = label_markup (text_class text) (across scene TEXT_LEFT lane)
       (down TEXT_BASE (row_of_place scene place)) (room_of scene)
-      (text_words text (is_narrow scene) call)
+      (text_words text (is_narrow scene) name call)
 
   -- the texts of a bar: where its call begins, and where it notes and answers, if it does
-  abbrev pub texts : Bar → Call → Markup
-  texts bar call = both (text_at bar_text.Begin bar.lane call bar.begins)
-      (both (if_any (text_at bar_text.Note bar.lane call) bar.note)
-      (if_any (text_at bar_text.Answer bar.lane call) bar.ends))
+  abbrev pub texts : Bar → List ℕ → Call → Markup
+  texts bar name call = both (text_at bar_text.Begin bar.lane name call bar.begins)
+      (both (if_any (text_at bar_text.Note bar.lane name call) bar.note)
+      (if_any (text_at bar_text.Answer bar.lane name call) bar.ends))

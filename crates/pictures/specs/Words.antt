@@ -1,6 +1,6 @@
 -- What is said of a call, in few words. A value stands as a JSON text.
-use Rattle.std.specs.Prelude.{ℕ, Bool, true, false, ◌||◌, if◌then◌else◌, List, [], ◌++◌, decimal}
-use Rattle.std.specs.Prelude.{Option, Some, None}
+use Rattle.std.specs.Prelude.{ℕ, Bool, true, false, ◌||◌, if◌then◌else◌, List, [], ◌∷◌, ◌++◌}
+use Rattle.std.specs.Prelude.{Option, Some, None, decimal}
 use Rattle.tag.specs.declared.actions.Action.{Action}
 use Rattle.tag.specs.declared.actions.Action.TheVariants.{Read, Write}
 use Rattle.tag.specs.declared.actions.Returned.{Returned}
@@ -11,8 +11,8 @@ use Rattle.recorder.specs.declared.part.Response.{Response}
 use Rattle.sentences.specs.Words.{tag_text, value_text}
 use Rattle.explanations.specs.Sentences.{line_at}
 use Rattle.explanations.specs.declared.hall_rows.HallRows.{HallRows}
-use Rattle.pictures.specs.declared.style.TheConstants.{ANSWER, BLANK, CALL_SIGN, DONE, NOT_ANSWERED}
-use Rattle.pictures.specs.declared.style.TheConstants.{READS, WRITES}
+use Rattle.pictures.specs.declared.style.TheConstants.{ANSWER, BLANK, CALL_SIGN, COLON, DONE}
+use Rattle.pictures.specs.declared.style.TheConstants.{NOT_ANSWERED, READS, WRITES}
 
 -- words that are left out where there is little room
 abbrev pub unless : Bool → List ℕ → List ℕ
@@ -23,10 +23,15 @@ abbrev pub action_words : Bool → Action → List ℕ
 action_words briefly Read = READS.now
 action_words briefly (Write value) = unless briefly WRITES.now ++ value_text (Some value)
 
--- a call's number, and what it does
-abbrev pub begin_words : Bool → Call → List ℕ
-begin_words briefly call =
-    CALL_SIGN.now ++ decimal call.op.0 ++ BLANK.now ++ action_words briefly call.action
+-- the name and a colon, if there is one
+abbrev pub name_words : List ℕ → List ℕ
+name_words [] = []
+name_words (byte ∷ name) = (byte ∷ name) ++ COLON.now
+
+-- a call's number, the name of its key, and what it does
+abbrev pub begin_words : Bool → List ℕ → Call → List ℕ
+begin_words briefly name call = CALL_SIGN.now ++ decimal call.op.0 ++ BLANK.now ++ name_words name
+    ++ action_words briefly call.action
 
 -- what a response answers
 abbrev pub returned_words : Returned → List ℕ

@@ -13,9 +13,9 @@ use markup::{Element, append_closing, open_of_class};
 use recorder::Call;
 use scenes::Bar;
 use std::alloc::Global;
-use tag::Memory;
+use tag::{Key, Memory};
 
-/// The bars of a picture, each if the part has its call.
+/// The bars of a picture, each if its call and the call's key are known.
 #[derive(Clone, Copy)]
 pub(crate) struct Bars<'a> {
     pub(crate) alloc: Global,
@@ -27,13 +27,14 @@ fn append_sentence(
     alloc: Global,
     page: &mut Vec<u8>,
     picture: &Picture<'_>,
+    key: &Key,
     call: &Call<'_>,
 ) -> Result<(), Memory>
     ensures { OnOk result
-        (page.new.items ≡ page.old.items ++ rendered (sentence picture.now call.now)) }
+        (page.new.items ≡ page.old.items ++ rendered (sentence picture.now key.now call.now)) }
 {
     let mut words = Vec::new(alloc);
-    append_call(&mut words, picture.key, &picture.hall, call)?;
+    append_call(&mut words, key, &picture.hall, call)?;
     append_title(page, &words)
 }
 
@@ -48,10 +49,14 @@ impl Shape for Bars<'_> {
         let Some(call) = self.picture.call_of(item.call) else {
             return Ok(());
         };
+        let Some(key) = self.picture.key_of(&call) else {
+            return Ok(());
+        };
         open_of_class(page, Element::G, self.picture.class_of(&call))?;
-        append_sentence(self.alloc, page, self.picture, &call)?;
+        append_sentence(self.alloc, page, self.picture, key, &call)?;
         append_shape(page, self.picture.scene, item, corner_of(&call.action))?;
-        append_texts(self.alloc, page, self.picture.scene, item, &call)?;
+        let name = self.picture.keys.said_key(key);
+        append_texts(self.alloc, page, self.picture.scene, item, name, &call)?;
         append_closing(page, Element::G)
     }
 }

@@ -5,7 +5,7 @@ ghost use Rattle.pictures.specs.Tables.{cell, content_words, heading};
 ghost use Rattle.pictures.specs.Words.{line_words};
 
 use crate::style::COLUMN;
-use crate::words::{say_action, say_line, say_response};
+use crate::words::{say_action, say_line, say_name, say_response};
 use explanations::HallRows;
 use labels::text_of;
 use markup::{
@@ -20,8 +20,8 @@ use tag::Memory;
 #[derive(Clone, Copy)]
 pub(crate) enum Content<'a> {
     Number(u64),
-    /// What a call of that action does.
-    Does(&'a ActionRef<'a>),
+    /// What a call of that action does, on the key of that name.
+    Does(&'a str, &'a ActionRef<'a>),
     /// What that response answers.
     Answers(&'a Option<Response<'a>>),
 }
@@ -49,7 +49,10 @@ fn say_content(words: &mut Vec<u8>, content: &Content<'_>) -> Result<(), Memory>
 {
     match *content {
         Content::Number(number) => append_number(words, "", number),
-        Content::Does(action) => say_action(words, action, false),
+        Content::Does(name, action) => {
+            say_name(words, name)?;
+            say_action(words, action, false)
+        }
         Content::Answers(response) => say_response(words, response),
     }
 }

@@ -1,4 +1,4 @@
-//! The picture of one key's calls, as SVG in a page, and the table of the same calls.
+//! The picture of the calls on one key, or on all, as SVG in a page, and the table of the same calls.
 //!
 //! Time goes down: each client has a column, each place at which a shown call begins, is noted or
 //! is answered has a row, and each linearization point has a row of its own, so that no words stand
@@ -14,6 +14,7 @@ mod cells;
 mod dots;
 mod frames;
 mod ground;
+mod keys;
 pub mod laws;
 mod layout;
 mod path;
@@ -25,6 +26,7 @@ mod table;
 mod texts;
 mod words;
 
+pub use keys::CallKeys;
 pub use picture::{Picture, append_picture};
 pub use sheet::{append_legend, append_style};
 pub use table::append_call_table;

@@ -1,14 +1,15 @@
-//! The picture of one key's calls.
-ghost use Rattle.std.specs.Prelude.{◌≡◌, ◌++◌, OnOk};
+//! The picture of calls.
+ghost use Rattle.std.specs.Prelude.{◌≡◌, ◌++◌, OnOk, option_map};
 ghost use Rattle.markup.specs.Markup.{opening_tag, rendered};
 ghost use Rattle.markup.specs.declared.names.Element.TheVariants as tag;
 ghost use Rattle.pictures.specs.Layout.{IsInOrder};
 ghost use Rattle.pictures.specs.Pictures.{call_of, calls_markup, class_of, foot, ground, is_faulty};
-ghost use Rattle.pictures.specs.Pictures.{picture_markup, picture_title, svg_attributes};
+ghost use Rattle.pictures.specs.Pictures.{own_key, picture_markup, picture_title, svg_attributes};
 
 use crate::bars::Bars;
 use crate::dots::Dots;
 use crate::ground::{Guides, Names, Ticks};
+use crate::keys::CallKeys;
 use crate::layout::{across, down, rows_of};
 use crate::path::append_path;
 use crate::sizes::{BOTTOM, FOOT_BASE, LONG, NAMES_BASE, RIGHT};
@@ -22,21 +23,21 @@ use scenes::Scene;
 use std::alloc::Global;
 use tag::{Key, Memory, OpId};
 
-/// What a picture shows: the calls of a key, as a scene of them has them.
+/// What a picture shows: calls, as a scene of them has them.
 #[derive(Clone, Copy)]
 pub struct Picture<'a> {
-    pub key: &'a Key,
-    /// The rows of the key's hall, and the line of each.
+    pub keys: CallKeys<'a>,
+    /// The rows of the calls' hall, and the line of each.
     pub hall: HallRows<'a>,
-    /// The calls on the key.
+    /// The calls.
     pub part: &'a Part<'a>,
     pub scene: &'a Scene,
-    /// The calls that show why the key is refused.
+    /// The calls that show why a key is refused.
     pub faulty: &'a [OpId],
 }
 
 impl<'a> Picture<'a> {
-    /// Whether the call shows why the key is refused.
+    /// Whether the call shows why a key is refused.
     pub(crate) fn is_faulty(&self, op: OpId) -> bool
         ensures { result ≡ is_faulty self.now op }
     {
@@ -54,6 +55,13 @@ impl<'a> Picture<'a> {
         }
     }
 
+    /// The key that the call is on.
+    pub(crate) fn key_of(&self, call: &Call<'_>) -> Option<&'a Key>
+        ensures { option_map (λ key. key.now) result ≡ own_key self.now call.now }
+    {
+        self.keys.key_of(self.hall.history, call)
+    }
+
     /// The call of that number, if the part has it.
     pub(crate) fn call_of(&self, op: OpId) -> Option<Call<'a>>
         ensures { result ≡ call_of self.now.part.now op }
@@ -67,12 +75,12 @@ impl<'a> Picture<'a> {
 }
 
 /// Adds the picture's title.
-fn append_name(page: &mut Vec<u8>, key: &Key) -> Result<(), Memory>
-    ensures { OnOk result (page.new.items ≡ page.old.items ++ rendered (picture_title key.now)) }
+fn append_name(page: &mut Vec<u8>, keys: CallKeys<'_>) -> Result<(), Memory>
+    ensures { OnOk result (page.new.items ≡ page.old.items ++ rendered (picture_title keys.entry)) }
 {
     append_opening(page, Element::Title, &[])?;
     append_text(page, TITLE)?;
-    append_text(page, key.as_str())?;
+    append_text(page, keys.title_words())?;
     append_closing(page, Element::Title)
 }
 
@@ -138,7 +146,7 @@ pub fn append_picture(
 {
     open_of_class(page, Element::Div, PICTURE)?;
     open_svg(page, picture.scene)?;
-    append_name(page, picture.key)?;
+    append_name(page, picture.keys)?;
     append_ground(alloc, page, picture)?;
     append_calls(alloc, page, picture)?;
     append_closing(page, Element::Svg)?;

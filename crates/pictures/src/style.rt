@@ -42,6 +42,8 @@ pub(crate) const CALLS: &str = "calls";
 
 pub(crate) const TITLE: &str = "The calls on ";
 
+pub(crate) const ALL_KEYS: &str = "all keys";
+
 pub(crate) const CLIENT_WORD: &str = "client ";
 
 pub(crate) const LINE_WORD: &str = "line ";
@@ -49,6 +51,8 @@ pub(crate) const LINE_WORD: &str = "line ";
 pub(crate) const CALL_SIGN: &str = "#";
 
 pub(crate) const BLANK: &str = " ";
+
+pub(crate) const COLON: &str = ": ";
 
 pub(crate) const READS: &str = "reads";
 

@@ -19,7 +19,7 @@ use scenes::Bar;
 use std::alloc::Global;
 use tag::Memory;
 
-/// The rows of a picture's table, each if the part has its call.
+/// The rows of a picture's table, each if its call and the call's key are known.
 #[derive(Clone, Copy)]
 struct Rows<'a> {
     alloc: Global,
@@ -56,13 +56,19 @@ fn append_headings(page: &mut Vec<u8>) -> Result<(), Memory>
     append_closing(page, Element::Tr)
 }
 
-/// Adds the cells that say what the call does.
-fn append_call_cells(alloc: Global, page: &mut Vec<u8>, call: &Call<'_>) -> Result<(), Memory>
-    ensures { OnOk result (page.new.items ≡ page.old.items ++ rendered (call_cells call.now)) }
+/// Adds the cells that say what the call does, with that name of its key.
+fn append_call_cells(
+    alloc: Global,
+    page: &mut Vec<u8>,
+    name: &str,
+    call: &Call<'_>,
+) -> Result<(), Memory>
+    ensures { OnOk result
+        (page.new.items ≡ page.old.items ++ rendered (call_cells name.now call.now)) }
 {
     append_cell(alloc, page, &Content::Number(u64::from(call.op.0)))?;
     append_cell(alloc, page, &Content::Number(u64::from(call.client.get())))?;
-    append_cell(alloc, page, &Content::Does(&call.action))?;
+    append_cell(alloc, page, &Content::Does(name, &call.action))?;
     append_cell(alloc, page, &Content::Answers(&call.response))
 }
 
@@ -96,8 +102,11 @@ impl Shape for Rows<'_> {
         let Some(call) = self.picture.call_of(item.call) else {
             return Ok(());
         };
+        let Some(key) = self.picture.key_of(&call) else {
+            return Ok(());
+        };
         open_of_class(page, Element::Tr, self.picture.class_of(&call))?;
-        append_call_cells(self.alloc, page, &call)?;
+        append_call_cells(self.alloc, page, self.picture.keys.said_key(key), &call)?;
         append_line_cells(self.alloc, page, &self.picture.hall, item, &call)?;
         append_closing(page, Element::Tr)
     }

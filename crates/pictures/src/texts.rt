@@ -40,14 +40,15 @@ fn text_class(text: BarText) -> &'static str
 fn say_text(
     words: &mut Vec<u8>,
     text: BarText,
+    name: &str,
     call: &Call<'_>,
     briefly: bool,
 ) -> Result<(), Memory>
     ensures { OnOk result
-        (words.new.items ≡ words.old.items ++ text_words text briefly call.now) }
+        (words.new.items ≡ words.old.items ++ text_words text briefly name.now call.now) }
 {
     match text {
-        BarText::Begin => say_begin(words, call, briefly),
+        BarText::Begin => say_begin(words, name, call, briefly),
         BarText::Note => {
             say_unless(words, briefly, NOTES)?;
             say_note(words, call.note)
@@ -62,13 +63,14 @@ fn append_text(
     page: &mut Vec<u8>,
     scene: &Scene,
     lane: usize,
+    name: &str,
     call: &Call<'_>,
     text: BarText,
     place: Option<usize>,
 ) -> Result<(), Memory>
     requires { IsInOrder scene.now }
     ensures { OnOk result (page.new.items ≡ page.old.items
-        ++ rendered (if_any (text_at scene.now text lane call.now) place)) }
+        ++ rendered (if_any (text_at scene.now text lane name.now call.now) place)) }
 {
     let Some(place) = place else {
         return Ok(());
@@ -77,32 +79,44 @@ fn append_text(
     let y = down(TEXT_BASE, row_of_place(scene, place));
     let spot = Spot::new(text_class(text), x, y, room_of(scene));
     let mut words = Vec::new(alloc);
-    say_text(&mut words, text, call, is_narrow(scene))?;
+    say_text(&mut words, text, name, call, is_narrow(scene))?;
     append_label(alloc, page, &spot, &words)
 }
 
-/// Adds the texts of the call's bar.
+/// Adds the texts of the call's bar, with that name of its key.
 pub(crate) fn append_texts(
     alloc: Global,
     page: &mut Vec<u8>,
     scene: &Scene,
     bar: &Bar,
+    name: &str,
     call: &Call<'_>,
 ) -> Result<(), Memory>
     requires { IsInOrder scene.now }
-    ensures { OnOk result
-        (page.new.items ≡ page.old.items ++ rendered (texts scene.now bar.now call.now)) }
+    ensures { OnOk result (page.new.items
+        ≡ page.old.items ++ rendered (texts scene.now bar.now name.now call.now)) }
 {
     let lane = bar.lane;
+    let begins = Some(bar.begins);
+    append_text(alloc, page, scene, lane, name, call, BarText::Begin, begins)?;
     append_text(
         alloc,
         page,
         scene,
         lane,
+        name,
         call,
-        BarText::Begin,
-        Some(bar.begins),
+        BarText::Note,
+        bar.note,
     )?;
-    append_text(alloc, page, scene, lane, call, BarText::Note, bar.note)?;
-    append_text(alloc, page, scene, lane, call, BarText::Answer, bar.ends)
+    append_text(
+        alloc,
+        page,
+        scene,
+        lane,
+        name,
+        call,
+        BarText::Answer,
+        bar.ends,
+    )
 }

@@ -1,10 +1,10 @@
 //! What is said of a call, in few words.
 ghost use Rattle.std.specs.Prelude.{◌≡◌, ◌++◌, OnOk};
 ghost use Rattle.pictures.specs.Words.{action_words, begin_words, end_words, is_written};
-ghost use Rattle.pictures.specs.Words.{line_words, note_words, response_words, returned_words};
-ghost use Rattle.pictures.specs.Words.{unless};
+ghost use Rattle.pictures.specs.Words.{line_words, name_words, note_words, response_words};
+ghost use Rattle.pictures.specs.Words.{returned_words, unless};
 
-use crate::style::{ANSWER, BLANK, CALL_SIGN, DONE, NOT_ANSWERED, READS, WRITES};
+use crate::style::{ANSWER, BLANK, CALL_SIGN, COLON, DONE, NOT_ANSWERED, READS, WRITES};
 use explanations::{HallRows, append_value};
 use recorder::{ActionRef, Call, Response, ReturnedRef};
 use sentences::{append, append_number, append_tag};
@@ -34,12 +34,30 @@ pub(crate) fn say_action(
     }
 }
 
-/// Adds the call's number, and what it does.
-pub(crate) fn say_begin(words: &mut Vec<u8>, call: &Call<'_>, briefly: bool) -> Result<(), Memory>
-    ensures { OnOk result (words.new.items ≡ words.old.items ++ begin_words briefly call.now) }
+/// Adds the name of a key and a colon, if there is one.
+pub(crate) fn say_name(words: &mut Vec<u8>, name: &str) -> Result<(), Memory>
+    ensures { OnOk result (words.new.items ≡ words.old.items ++ name_words name.now) }
+{
+    if name.is_empty() {
+        return Ok(());
+    }
+    append(words, name)?;
+    append(words, COLON)
+}
+
+/// Adds the call's number, the name of its key, and what it does.
+pub(crate) fn say_begin(
+    words: &mut Vec<u8>,
+    name: &str,
+    call: &Call<'_>,
+    briefly: bool,
+) -> Result<(), Memory>
+    ensures { OnOk result
+        (words.new.items ≡ words.old.items ++ begin_words briefly name.now call.now) }
 {
     append_number(words, CALL_SIGN, u64::from(call.op.0))?;
     append(words, BLANK)?;
+    say_name(words, name)?;
     say_action(words, &call.action, briefly)
 }
 

@@ -7,8 +7,8 @@ use Rattle.cli.specs.declared.status.Status.TheVariants as status
 use Rattle.node_threads.specs.declared.closing.ClosedHall.{ClosedHall}
 use Rattle.node_threads.specs.declared.errors.CloseError.{CloseError}
 use Rattle.node_threads.specs.declared.errors.CloseError.TheVariants as close
-use Rattle.run_options.specs.declared.asked.RunAsked.{RunAsked}
-use Rattle.load.specs.declared.error.LoadError.{LoadError}
+use Rattle.command_line.specs.declared.asked.RunAsked.{RunAsked}
+use Rattle.load_run.specs.declared.error.LoadError.{LoadError}
 use Rattle.run_command.specs.Messages.{load_line}
 use Rattle.run_command.specs.RecordVerdicts.{IsFirstNoOfHalls}
 use Rattle.run_command.specs.Runs.{EndsClosedHalls, EndsClosed, EndsRun, IsUnclosed, OfShownText, status_of_close, status_of_check}

@@ -13,7 +13,7 @@ use Rattle.cli.specs.declared.status.Status.TheVariants as status
 use Rattle.node_threads.specs.Numbers.{close_error_name, close_error_number}
 use Rattle.node_threads.specs.declared.errors.CloseError.{CloseError}
 use Rattle.seats.specs.Numbers.{call_error_name, call_error_number}
-use Rattle.load.specs.declared.load_run.Refused.{Refused}
+use Rattle.load_run.specs.declared.load_run.Refused.{Refused}
 use Rattle.run_command.specs.Messages.{TellsKey, close_line, refusal_line}
 use Rattle.run_command.specs.declared.check_record.RefusedKey.{RefusedKey}
 

@@ -14,9 +14,9 @@ use Rattle.node_threads.specs.declared.errors.CloseError.{CloseError}
 use Rattle.seats.specs.Numbers.{call_error_name, call_error_number}
 use Rattle.parallel_keys.specs.declared.error.CheckError.{CheckError}
 use Rattle.parallel_keys.specs.declared.error.CheckError.TheVariants as check
-use Rattle.load.specs.declared.error.LoadError.{LoadError}
-use Rattle.load.specs.declared.error.LoadError.TheVariants as load
-use Rattle.load.specs.declared.load_run.Refused.{Refused}
+use Rattle.load_run.specs.declared.error.LoadError.{LoadError}
+use Rattle.load_run.specs.declared.error.LoadError.TheVariants as load
+use Rattle.load_run.specs.declared.load_run.Refused.{Refused}
 use Rattle.run_command.specs.RecordVerdicts.{IsFirstNoOfHalls}
 use Rattle.run_command.specs.declared.check_record.RefusedKey.{RefusedKey}
 use Rattle.run_command.specs.declared.shown.NoText.{NoText}

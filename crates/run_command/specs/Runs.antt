@@ -8,11 +8,11 @@ use Rattle.node_threads.specs.declared.closing.Closed.{Closed}
 use Rattle.node_threads.specs.declared.closing.ClosedHall.{ClosedHall}
 use Rattle.node_threads.specs.declared.errors.CloseError.{CloseError}
 use Rattle.node_threads.specs.declared.errors.CloseError.TheVariants as close
-use Rattle.run_options.specs.declared.asked.RunAsked.{RunAsked}
-use Rattle.load.specs.LoadStores.{world_of}
-use Rattle.load.specs.Loads.{IsLoaded}
-use Rattle.load.specs.declared.error.LoadError.{LoadError}
-use Rattle.load.specs.declared.load_run.LoadOutcome.{LoadOutcome}
+use Rattle.command_line.specs.declared.asked.RunAsked.{RunAsked}
+use Rattle.load_run.specs.LoadStores.{world_of}
+use Rattle.load_run.specs.Loads.{IsLoaded}
+use Rattle.load_run.specs.declared.error.LoadError.{LoadError}
+use Rattle.load_run.specs.declared.load_run.LoadOutcome.{LoadOutcome}
 use Rattle.run_command.specs.Messages.{AreEnding, ReceivesLines, close_line, load_line}
 use Rattle.run_command.specs.Messages.{refusal_lines}
 use Rattle.run_command.specs.RecordVerdicts.{IsFirstNoOfHalls}

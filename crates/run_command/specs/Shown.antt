@@ -3,8 +3,8 @@ use Rattle.std.specs.Prelude.{ℕ, ◌≡◌, List, Some, slice_get}
 use Rattle.file_format.specs.Texts.{histories_text, history_text}
 use Rattle.recorder.specs.Halls.{RecordedHalls}
 use Rattle.recorder.specs.Histories.{Recorded}
-use Rattle.run_options.specs.declared.asked.Shown.{Shown}
-use Rattle.run_options.specs.declared.asked.Shown.TheVariants as shown
+use Rattle.command_line.specs.declared.asked.Shown.{Shown}
+use Rattle.command_line.specs.declared.asked.Shown.TheVariants as shown
 
 -- the history of the hall that is shown, or those of all halls with the quorums, by hall
 abbrev pub IsShownText : RecordedHalls → Shown → List ℕ → Type 0

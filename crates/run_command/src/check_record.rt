@@ -4,23 +4,13 @@ ghost use Rattle.parallel_keys.specs.CheckedKeys.{AreDistinct};
 ghost use Rattle.run_command.specs.RecordVerdicts.{IsFirstNo, IsFirstNoOfRecord, is_yes};
 
 use certificate_check::{Fault, Verdict};
-use load::NoWatch;
+use load_run::Watch;
 use parallel_keys::{CheckError, NoGate, Workers, check_histories};
 use recorder::{Histories, KeyOrder};
 use std::alloc::Global;
 use std::sync::Wait;
 use std::thread::Threads;
 use tag::{Key, Memory};
-
-/// Watches the check of a run's keys.
-pub trait KeyWatch {
-    /// So many keys were checked, and the order of so many of them is one.
-    fn checked(&self, keys: usize, yes: usize);
-}
-
-impl KeyWatch for NoWatch {
-    fn checked(&self, _keys: usize, _yes: usize) {}
-}
 
 /// A key whose order is refused.
 #[derive(Debug, Drop)]
@@ -72,7 +62,7 @@ pub fn first_refused<R: Threads + Wait>(
     alloc: Global,
     histories: &Histories,
     orders: &[KeyOrder],
-    watch: &impl KeyWatch,
+    watch: &impl Watch,
 ) -> Result<Option<RefusedKey>, CheckError>
     requires { AreDistinct orders.now }
     ensures { IfOk result (IsFirstNoOfRecord histories.now.halls orders.now) }

@@ -10,6 +10,6 @@ mod run;
 mod shown;
 mod telling;
 
-pub use check_record::{KeyWatch, RefusedKey, first_refused};
-pub use load::{NoWatch, Watch};
+pub use check_record::{RefusedKey, first_refused};
+pub use load_run::{NoWatch, Watch};
 pub use run::run_command;

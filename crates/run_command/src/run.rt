@@ -6,17 +6,17 @@ ghost use Rattle.node_threads.specs.Closings.{AreClosed};
 ghost use Rattle.run_command.specs.Messages.{SaysEnding};
 ghost use Rattle.run_command.specs.Runs.{EndsClosedHalls, EndsRun};
 
-use crate::check_record::{KeyWatch, first_refused};
+use crate::check_record::first_refused;
 use crate::join_halls::{ClosedRecord, closed_record};
 use crate::shown::shown_text;
 use crate::telling::{
     tell_check, tell_close, tell_load, tell_no_text, tell_refusals, tell_refused_key,
 };
 use cli::{Failure, Status};
+use command_line::RunAsked;
 use counted_devices::{CountedWrite, write_text};
-use load::{LoadOutcome, Watch, run_load, world_of};
+use load_run::{LoadOutcome, Watch, run_load, world_of};
 use node_threads::ClosedHall;
-use run_options::RunAsked;
 use std::alloc::Global;
 use std::sync::Wait;
 use std::thread::Threads;
@@ -28,7 +28,7 @@ fn finish<R: Threads + Wait, W: CountedWrite, E: CountedWrite>(
     alloc: Global,
     asked: RunAsked,
     halls: Vec<ClosedHall>,
-    key_watch: &impl KeyWatch,
+    watch: &impl Watch,
     out: &mut W,
     errors: &mut E,
 ) -> Status
@@ -46,7 +46,7 @@ fn finish<R: Threads + Wait, W: CountedWrite, E: CountedWrite>(
         Ok(record) => record,
         Err(error) => return tell_no_text(error, errors),
     };
-    let first = match first_refused(rt, alloc, &histories, orders.as_slice(), key_watch) {
+    let first = match first_refused(rt, alloc, &histories, orders.as_slice(), watch) {
         Ok(first) => first,
         Err(error) => return tell_check(error, errors),
     };
@@ -73,14 +73,13 @@ fn finish<R: Threads + Wait, W: CountedWrite, E: CountedWrite>(
 /// was asked for, or memory ran out. On `errors` is said, in this order: which callers' calls were
 /// refused, why the store wasn't closed, the first key that is refused, a failure. The watch is
 /// told of each call that is about to be answered, on its caller's thread, and of none once any of
-/// this is said; the other watch, how many keys were checked, and how many of them are yes.
+/// this is said; then how many keys were checked, and how many of them are yes.
 #[tactic(auto, using(crate::proofs::Ending::ends_closed, crate::proofs::Ending::ends_open))]
 pub fn run_command<R, L, W: CountedWrite, E: CountedWrite>(
     rt: &R,
     alloc: Global,
     asked: RunAsked,
-    watch: L,
-    key_watch: &impl KeyWatch,
+    watch: &L,
     out: &mut W,
     errors: &mut E,
 ) -> Status
@@ -100,7 +99,7 @@ where
     let LoadOutcome { refusals, closed } = loaded;
     tell_refusals(refusals.as_slice(), errors);
     match closed {
-        Ok(closed) => finish(rt, alloc, asked, closed.halls, key_watch, out, errors),
+        Ok(closed) => finish(rt, alloc, asked, closed.halls, watch, out, errors),
         Err(error) => tell_close(error, errors),
     }
 }

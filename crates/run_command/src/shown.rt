@@ -1,13 +1,13 @@
 //! The text that a run writes: the history of one hall, or the histories of all.
 ghost use Rattle.std.specs.Prelude.{◌≡◌, IfOk};
 ghost use Rattle.run_command.specs.declared.shown.NoText.{NoText};
-ghost use Rattle.run_options.specs.declared.asked.Shown.{Shown};
+ghost use Rattle.command_line.specs.declared.asked.Shown.{Shown};
 ghost use Rattle.run_command.specs.Shown.{IsShownText};
 
+use command_line::Shown;
 use counted_devices::Counting;
 use file_format::{history_text, write_histories};
 use recorder::Histories;
-use run_options::Shown;
 use std::alloc::Global;
 use tag::Memory;
 

@@ -12,7 +12,7 @@ use crate::shown::NoText;
 use cli::{Failure, Status, Unjustified, say};
 use counted_devices::CountedWrite;
 use itoa::Buffer;
-use load::{LoadError, Refused};
+use load_run::{LoadError, Refused};
 use node_threads::CloseError;
 use parallel_keys::CheckError;
 use std::alloc::Global;

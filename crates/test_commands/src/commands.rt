@@ -4,6 +4,7 @@ use crate::asked::Asked;
 use crate::notation::bytes_of;
 use crate::running::{ALL_KEYS, Input, WELL, Way, run};
 use cli::{Lines, Status};
+use command_line::By;
 use std::alloc::{AllocError, Global};
 use std::sync::Wait;
 use std::thread::Threads;
@@ -32,10 +33,14 @@ fn say_command(
     }
 }
 
-/// A justification and, where it is good, the check of its orders.
+/// A justification and, where it is good, the check of its orders; of orders by values also where keys are
+/// left out.
 fn say_justified(rt: &(impl Threads + Wait + Sync), out: &mut Answer, input: Input<'_>, way: Way) {
-    if let Some(orders) = say_command(rt, out, "justify", input, way) {
-        let orders = orders.as_slice();
+    let said = run(rt, out.alloc(), "justify", input, way);
+    say_said(out, "justify", &said);
+    let are_some = way.by == By::Values && !said.out.is_empty();
+    if said.status == Status::Good || are_some {
+        let orders = said.out.as_slice();
         say_command(rt, out, "check", Input { orders, ..input }, WELL);
     }
 }
@@ -101,16 +106,24 @@ fn say_extents(answer: &mut Answer, said: &Said<Status>, whole: &Said<Status>, w
 }
 
 /// The way of a row with devices that do all that is asked of them: with `json`, `unchecked` and `most` the
-/// commands have those options.
+/// commands have those options, with `values` a justification makes orders by values, and with `people` it speaks
+/// to people.
 fn well(asked: Asked<'_>) -> Way {
     let form = if asked.has("json") {
         Lines::Json
     } else {
         Lines::Plain
     };
+    let by = if asked.has("values") {
+        By::Values
+    } else {
+        By::Tags
+    };
     Way {
         form,
+        by,
         unchecked: asked.has("unchecked"),
+        people: asked.has("people"),
         most: asked.lines_told(),
         ..WELL
     }

@@ -1,9 +1,11 @@
 //! Runs of single commands.
 use crate::formats::Counting;
 use cli::{Lines, Source, Status, check_command, justify_command, simulate_command};
+use command_line::By;
 use decide_command::Deciding;
 use explain_command::Explaining;
 use judged_keys::{Judged, Names, Selection, judge_history_command, judge_orders_command};
+use justify_by_values::Justifying;
 use parallel_keys::Workers;
 use std::alloc::{AllocError, Global};
 use std::io::ErrorKind;
@@ -31,8 +33,8 @@ pub const ALL_KEYS: Selection<'static> = Selection {
 
 /// How the devices are: the size of pieces, how the first file's reader fails at its end, if it
 /// does, and the room of the standard output and of standard error. How many workers there are, in which
-/// form a check prints its lines, whether a justification leaves the check out, and how many lines of a trace
-/// are told.
+/// form a check prints its lines, what a justification makes orders by, whether it leaves keys or the check out and
+/// speaks to people, and how many lines of a trace are told.
 #[derive(Clone, Copy)]
 pub struct Way {
     pub size: usize,
@@ -41,7 +43,9 @@ pub struct Way {
     pub errors: usize,
     pub workers: u8,
     pub form: Lines,
+    pub by: By,
     pub unchecked: bool,
+    pub people: bool,
     pub most: u32,
 }
 
@@ -53,7 +57,9 @@ pub const WELL: Way = Way {
     errors: AMPLE,
     workers: 1,
     form: Lines::Plain,
+    by: By::Tags,
     unchecked: false,
+    people: false,
     most: 10_000,
 };
 
@@ -110,7 +116,17 @@ pub fn run(
     let status = match name {
         "simulate" => simulate_command(rt, alloc, &mut first, out, errors),
         "trace" => trace_command(rt, alloc, &mut first, way.most, out, errors),
-        "justify" => justify_command(rt, alloc, &mut first, way.unchecked, out, errors),
+        "justify" => match way.by {
+            By::Tags => {
+                let (unchecked, people) = (way.unchecked, way.people);
+                justify_command(rt, alloc, &mut first, unchecked, people, out, errors)
+            }
+            By::Values => {
+                let unchecked = way.unchecked;
+                let justifying = Justifying { unchecked };
+                judge_history_command(rt, alloc, &mut first, &justifying, out, errors)
+            }
+        },
         "explain" => {
             judge_orders_command(rt, alloc, &mut first, &mut orders, &explaining, out, errors)
         }

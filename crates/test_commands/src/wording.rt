@@ -1,7 +1,9 @@
 //! Rows of command lines.
 use client_phases::ReadMode;
-use command_line::{CheckAsked, Command, DecideAsked, DrawAsked, KeysAsked, Lines, Usage, command};
-use run_options::{RunAsked, Shown};
+use command_line::{
+    By, CheckAsked, Command, DecideAsked, DrawAsked, JustifyAsked, KeysAsked, Lines, RunAsked,
+    Shown, Usage, command,
+};
 use std::alloc::{AllocError, Global};
 use test_rows::{Answer, text_said, words_of};
 
@@ -64,15 +66,33 @@ fn say_keys(out: &mut Answer, name: &str, asked: &KeysAsked<'_>) {
     )
 }
 
+/// What keys are judged by, or orders made by.
+fn by_said(by: By) -> &'static str {
+    match by {
+        By::Tags => "",
+        By::Values => ", by values",
+    }
+}
+
 /// What is drawn: which keys, how many calls, and the call among them.
 fn say_drawing(out: &mut Answer, asked: &DrawAsked<'_>) {
     say_keys(out, "draw", &asked.keys);
-    let calls = asked.calls;
-    write!(out, ", calls {calls}");
+    let (by, calls) = (by_said(asked.by), asked.calls);
+    write!(out, "{by}, calls {calls}");
     if let Some(call) = asked.around {
         write!(out, ", around {call}");
     }
+    if asked.whole {
+        out.push(", whole");
+    }
     out.push("\n");
+}
+
+/// Which history is justified, and how.
+fn say_justification(out: &mut Answer, asked: &JustifyAsked<'_>) {
+    let (history, by) = (asked.history, by_said(asked.by));
+    let way = if asked.unchecked { ", unchecked" } else { "" };
+    write!(out, "justify of [{history}]{by}{way}\n");
 }
 
 /// Which keys are decided, how many of them are explained, and in which form.
@@ -96,10 +116,7 @@ fn say_asked(out: &mut Answer, asked: &Command<'_>) {
             say_keys(out, "explain", asked);
             out.push("\n");
         }
-        Command::Justify { history, unchecked } => {
-            let way = if *unchecked { ", unchecked" } else { "" };
-            write!(out, "justify of [{history}]{way}\n")
-        }
+        Command::Justify(asked) => say_justification(out, asked),
         Command::Simulate { script } => write!(out, "simulate of [{script}]\n"),
         Command::Trace { script, most } => write!(out, "trace of [{script}], most {most}\n"),
         Command::TracePage { script, most } => write!(out, "page of [{script}], most {most}\n"),

@@ -89,7 +89,7 @@ fn say_stop(out: &mut Answer, picture: Picture<'_>, tag: Tag<'_>) {
 /// Says a line of a picture, if it is more than a guide for the eye.
 fn say_stroke(out: &mut Answer, picture: Picture<'_>, tag: Tag<'_>) {
     match tag.class() {
-        "arriving" | "lost" | "under-way" => say_arrow(out, picture, tag),
+        "arriving" | "stale" | "lost" | "under-way" => say_arrow(out, picture, tag),
         "stop" => say_stop(out, picture, tag),
         _ => {}
     }
@@ -100,11 +100,12 @@ fn say_placed(out: &mut Answer, picture: Picture<'_>, tag: Tag<'_>) {
     let line = picture.line_of_text(tag.number("y"));
     match tag.class() {
         "does" | "noted" | "answers" => write!(out, "; {line} "),
-        "begin" | "note" | "outcome" | "holds" | "down" => {
+        "begin" | "note" | "outcome" | "counted" | "ignored" | "holds" | "keeps" | "down" => {
             let name = picture.name_near(tag.number("x"));
             write!(out, "\n{name} {line}: ");
         }
-        "command" => write!(out, "\n{line}: "),
+        "command" | "refused" => write!(out, "\n{line}: "),
+        "reason" => write!(out, "\n{line}"),
         "label" => out.push(", "),
         "more" => out.push("\nmore: "),
         _ => return,
@@ -116,6 +117,7 @@ fn say_placed(out: &mut Answer, picture: Picture<'_>, tag: Tag<'_>) {
 fn say_mark(out: &mut Answer, picture: Picture<'_>, tag: Tag<'_>) {
     match tag.name {
         "title" => say_text(out, tag.text),
+        "g" | "rect" if tag.class() == "curtain" || tag.class() == "band" => {}
         "g" => say_line(out, tag.class(), ""),
         "polyline" if tag.class() == "path" => say_path(out, picture, tag.value("points")),
         "rect" | "polyline" => say_bar(out, picture, tag),

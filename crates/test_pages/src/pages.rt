@@ -38,7 +38,7 @@ fn say_frame(out: &mut Answer, tag: Tag<'_>) {
 
 /// Whether the tag begins the row of a key in the table of the keys.
 fn is_key(tag: Tag<'_>) -> bool {
-    tag.is("tr", "yes") || tag.is("tr", "no")
+    tag.is("tr", "yes") || tag.is("tr", "no") || tag.is("tr", "undecided")
 }
 
 /// Whether the tag belongs to the row of a key.

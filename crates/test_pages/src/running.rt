@@ -3,15 +3,37 @@ use crate::notation::written;
 use cli::{Counting, Source, Status};
 use command_line::{Command, DrawAsked, command};
 use draw_command::Drawn;
-use judged_keys::{judge_history_command, judge_orders_command};
+use judged_keys::{Presentation, judge_history_command, judge_orders_command};
 use std::alloc::Global;
 use std::thread::Threads;
 use test_rows::{AMPLE, Answer, Outputs, Pieces, Said, words_of};
 use trace_command::trace_page_command;
+use whole_pictures::Whole;
 
 /// A file of that name and text.
 fn file<'a>(name: &'a str, text: &'a str) -> Source<'a, Counting<Pieces<'a>>> {
     Source::new(name, Counting::new(Pieces::whole(text.as_bytes())))
+}
+
+/// What comes of `abd draw` of those files, with a page that shows them so.
+fn shown(
+    rt: &(impl Threads + Sync),
+    alloc: Global,
+    asked: &DrawAsked<'_>,
+    shown: &impl Presentation,
+    history: &str,
+    orders: &str,
+) -> Said<Status> {
+    let mut outputs = Outputs::new(alloc, AMPLE, AMPLE);
+    let mut history = file("h", history);
+    let (out, errors) = (&mut outputs.out, &mut outputs.errors);
+    let status = if asked.keys.orders.is_some() {
+        let mut orders = file("o", orders);
+        judge_orders_command(rt, alloc, &mut history, &mut orders, shown, out, errors)
+    } else {
+        judge_history_command(rt, alloc, &mut history, shown, out, errors)
+    };
+    outputs.said(status)
 }
 
 /// What comes of `abd draw` of those files.
@@ -22,17 +44,11 @@ fn drawn(
     history: &str,
     orders: &str,
 ) -> Said<Status> {
-    let mut outputs = Outputs::new(alloc, AMPLE, AMPLE);
-    let shown = Drawn::of(asked);
-    let mut history = file("h", history);
-    let (out, errors) = (&mut outputs.out, &mut outputs.errors);
-    let status = if asked.keys.orders.is_some() {
-        let mut orders = file("o", orders);
-        judge_orders_command(rt, alloc, &mut history, &mut orders, &shown, out, errors)
+    if asked.whole {
+        shown(rt, alloc, asked, &Whole::of(asked), history, orders)
     } else {
-        judge_history_command(rt, alloc, &mut history, &shown, out, errors)
-    };
-    outputs.said(status)
+        shown(rt, alloc, asked, &Drawn::of(asked), history, orders)
+    }
 }
 
 /// What comes of `abd trace --draw` of that script.

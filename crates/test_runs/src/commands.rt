@@ -1,9 +1,8 @@
 //! The commands, over texts in memory.
 use cli::{Counting, Lines, Source, Status, check_command, justify_command};
-use command_line::{Command, command};
+use command_line::{Command, RunAsked, command};
 use parallel_keys::Workers;
 use run_command::{NoWatch, run_command};
-use run_options::RunAsked;
 use std::alloc::Global;
 use std::sync::Wait;
 use std::thread::Threads;
@@ -39,7 +38,7 @@ where
 {
     let mut outputs = Outputs::new(alloc, room, AMPLE);
     let (out, errors) = (&mut outputs.out, &mut outputs.errors);
-    let status = run_command(rt, alloc, asked, NoWatch, &NoWatch, out, errors);
+    let status = run_command(rt, alloc, asked, &NoWatch, out, errors);
     outputs.said(status)
 }
 
@@ -53,7 +52,7 @@ pub fn justified(rt: &(impl Threads + Wait + Sync), alloc: Global, history: &[u8
     let mut outputs = Outputs::new(alloc, AMPLE, AMPLE);
     let mut history = file_of(history);
     let (out, errors) = (&mut outputs.out, &mut outputs.errors);
-    let status = justify_command(rt, alloc, &mut history, false, out, errors);
+    let status = justify_command(rt, alloc, &mut history, false, false, out, errors);
     outputs.said(status)
 }
 

@@ -1,9 +1,9 @@
 //! Rows of runs: what goes out, and what comes of it in `justify` and `check`.
 use crate::commands::{asked_of, checked, justified, ran};
 use cli::{Counting, Status};
+use command_line::RunAsked;
 use history_file::read_histories;
 use recorder::{Histories, History, Row};
-use run_options::RunAsked;
 use std::alloc::{AllocError, Global};
 use std::sync::Wait;
 use std::thread::Threads;

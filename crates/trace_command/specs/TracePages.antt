@@ -4,8 +4,9 @@ use Rattle.std.specs.Prelude.{ℕ, zero, suc, ◌≡◌, List, [], ◌∷◌, No
 use Rattle.std.specs.Str.Lines.{lines}
 use Rattle.std.specs.Str.Lossy.{utf8_lossy}
 use Rattle.recorder.specs.Histories.{Recorded}
-use Rattle.markup.specs.Markup.{Markup, nothing, text, line_end, element, both, each}
+use Rattle.markup.specs.Markup.{Markup, NamedText, nothing, text, line_end, element, both, each}
 use Rattle.markup.specs.Texts.{of_class, plain}
+use Rattle.markup.specs.declared.names.AttributeName.TheVariants as name
 use Rattle.markup.specs.declared.names.Element.TheVariants as tag
 use Rattle.file_format.specs.Texts.{rows_from}
 use Rattle.history_file.specs.NumberedRows.{lines_of}
@@ -51,10 +52,16 @@ told_line line = both (text line) line_end
 abbrev pub told_lines : List ℕ → Markup
 told_lines trace = each told_line (lines (utf8_lossy trace))
 
+-- the box of the trace, which has a name and can have the focus
+abbrev pub told_box : List NamedText
+told_box = record { name = name.Role; value = word.REGION.now }
+    ∷ record { name = name.AriaLabel; value = word.EACH_STEP.now }
+    ∷ record { name = name.Tabindex; value = decimal 0 } ∷ []
+
 -- the trace, folded away
 abbrev pub trace_markup : List ℕ → Markup
 trace_markup trace = element tag.Details (of_class word.TOLD.now)
-    (both (plain tag.Summary word.EACH_STEP.now) (element tag.Pre [] (told_lines trace)))
+    (both (plain tag.Summary word.EACH_STEP.now) (element tag.Pre told_box (told_lines trace)))
 
 -- what is said and shown of the run, and the heading of its history
 abbrev pub run_markup : MessageScene → List ℕ → Markup

@@ -24,7 +24,7 @@ pub(crate) fn observe_run(alloc: Global, script: Script, most: u32) -> Result<Ob
     ensures scene { IfOk result (λ run. IsRecordedScene script most run.scene run.history) }
     ensures trace { IfOk result (λ run. IsTraceText script most run.trace.items) }
 {
-    let sketch = Sketch::new(alloc, script.config.replicas(), most);
+    let sketch = Sketch::new(alloc, script.config.quorums(), most);
     let run = observe_both(alloc, script, sketch, Telling::new(alloc, most))?;
     Ok(Observed {
         scene: run.observer.first.into_scene(),

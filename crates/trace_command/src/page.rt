@@ -1,11 +1,12 @@
 //! The page of a script's run.
 ghost use Rattle.std.specs.Prelude.{◌≡◌, ◌++◌, IfOk, OnOk};
-ghost use Rattle.markup.specs.Markup.{Markup, page_text, rendered};
+ghost use Rattle.markup.specs.Markup.{Markup, opening_tag, page_text, rendered};
+ghost use Rattle.markup.specs.declared.names.Element.TheVariants as tag;
 ghost use Rattle.diagrams.specs.Layout.{HasClientsInOrder};
 ghost use Rattle.judged_keys.specs.Halls.{HasLinesOfEach};
 ghost use Rattle.trace_command.specs.TracePages.{IsPageOf, all_styles, left_out};
 ghost use Rattle.trace_command.specs.TracePages.{messages_markup, run_markup, steps_line};
-ghost use Rattle.trace_command.specs.TracePages.{trace_markup};
+ghost use Rattle.trace_command.specs.TracePages.{told_box, trace_markup};
 
 use crate::texts::append_told;
 use crate::words;
@@ -77,6 +78,19 @@ fn append_messages(alloc: Global, page: &mut Vec<u8>, scene: &MessageScene) -> R
     append_diagram(alloc, page, scene)
 }
 
+/// Opens the box of the trace.
+#[tactic(auto, unfolding(markup::specs::Markup::rendered))]
+fn open_told(page: &mut Vec<u8>) -> Result<(), Memory>
+    ensures { OnOk result (page.new.items ≡ page.old.items ++ opening_tag tag.Pre told_box) }
+{
+    let attributes = [
+        Attribute::Words(AttributeName::Role, words::REGION),
+        Attribute::Words(AttributeName::AriaLabel, words::EACH_STEP),
+        Attribute::Number(AttributeName::Tabindex, 0),
+    ];
+    append_opening(page, Element::Pre, &attributes)
+}
+
 /// Adds the trace.
 #[tactic(auto, unfolding(markup::specs::Markup::rendered))]
 fn append_trace(alloc: Global, page: &mut Vec<u8>, trace: &[u8]) -> Result<(), Memory>
@@ -85,7 +99,7 @@ fn append_trace(alloc: Global, page: &mut Vec<u8>, trace: &[u8]) -> Result<(), M
     let class = Attribute::Words(AttributeName::Class, words::TOLD);
     append_opening(page, Element::Details, &[class])?;
     append_plain(page, Element::Summary, words::EACH_STEP)?;
-    append_opening(page, Element::Pre, &[])?;
+    open_told(page)?;
     append_told(alloc, page, trace)?;
     append_closing(page, Element::Pre)?;
     append_closing(page, Element::Details)

@@ -7,6 +7,8 @@ pub(crate) const STEPS: &str = "sum";
 
 pub(crate) const TOLD: &str = "told";
 
+pub(crate) const REGION: &str = "region";
+
 // ---- words
 
 pub(crate) const TITLE: &str = "abd trace";
@@ -23,6 +25,6 @@ pub(crate) const HISTORY: &str = "The history that the run records";
 
 /// Beside those of diagrams and pictures: without quotation marks and other marks of HTML, so that
 /// it stands as it is.
-pub(crate) const STYLE: &str = ".told summary{cursor:pointer;color:var(--soft)}\
-.told pre{overflow-x:auto;margin:.5rem 0 2rem;font-family:ui-monospace,monospace;font-size:13px}\
+pub(crate) const STYLE: &str = "main{max-width:none}.told summary{cursor:pointer;color:var(--soft)}\
+.told pre{overflow:auto;max-height:85vh;margin:.5rem 0 2rem;font-family:ui-monospace,monospace;font-size:13px}\
 .told+h2{border-top:1px solid var(--faint);margin-top:2rem;padding-top:.5rem}";

@@ -2,3 +2,4 @@ pub mod Words
 pub mod StepLines
 pub mod Traces
 pub mod Running
+pub mod Sentences

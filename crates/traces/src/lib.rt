@@ -10,10 +10,13 @@ mod acts;
 mod counts;
 mod effects;
 mod script_trace;
+mod step_sentences;
 mod step_words;
 mod steps;
 mod telling;
 mod words;
 
 pub use script_trace::trace_text;
+pub use step_sentences::{BegunSentence, StepSentence};
+pub use step_words::{append_refusal_reason, append_unsettled};
 pub use telling::Telling;

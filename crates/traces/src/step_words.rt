@@ -115,17 +115,24 @@ fn unsettled_sentence(why: SettleError) -> &'static str
     }
 }
 
+/// Adds why a step is refused: the number of the reason, its name, and a sentence.
+pub fn append_refusal_reason(text: &mut Vec<u8>, why: Refusal) -> Result<(), Memory>
+    ensures { OnOk result (text.new.items ≡ text.old.items ++ refusal_text why) }
+{
+    append_reason(text, why.number(), why.name(), refusal_sentence(why))
+}
+
 /// Adds the step's words, and why it is refused.
 pub(crate) fn append_refused(text: &mut Vec<u8>, step: &Step, why: Refusal) -> Result<(), Memory>
     ensures { OnOk result
         (text.new.items ≡ text.old.items ++ step_words step.now ++ refusal_text why) }
 {
     append_words(text, step)?;
-    append_reason(text, why.number(), why.name(), refusal_sentence(why))
+    append_refusal_reason(text, why)
 }
 
-/// Adds why a call can't be finished.
-pub(crate) fn append_unsettled(text: &mut Vec<u8>, why: SettleError) -> Result<(), Memory>
+/// Adds why a call can't be finished: the number of the reason, its name, and a sentence.
+pub fn append_unsettled(text: &mut Vec<u8>, why: SettleError) -> Result<(), Memory>
     ensures { OnOk result (text.new.items ≡ text.old.items ++ unsettled_text why) }
 {
     append_reason(text, why.number(), why.name(), unsettled_sentence(why))

@@ -40,12 +40,12 @@ met app is words found r none same makes =
 pub returns-in-Ok-try_get_matches_from-clause-asked : goal.returns-in-Ok-try_get_matches_from-clause-asked
 returns-in-Ok-try_get_matches_from-clause-asked c =
     let clap = c.in-Ok-try_get_matches_from.ensures in
-    (met (app_of c.in-Ok.abd) c.in-Ok.ensures (map string_bytes c.args.words.now) _ c.command_in.result clap.kinds (λ simple. (clap.matches simple).1) c.command_in.ensures.makes).0
+    (met (app_of c.in-Ok.abd) c.in-Ok.ensures (map string_bytes c.args.words.now) _ c.answer_to.result clap.kinds (λ simple. (clap.matches simple).1) c.answer_to.ensures.makes).0
 
 pub returns-in-Ok-try_get_matches_from-clause-not_asked : goal.returns-in-Ok-try_get_matches_from-clause-not_asked
 returns-in-Ok-try_get_matches_from-clause-not_asked c =
     let clap = c.in-Ok-try_get_matches_from.ensures in
-    (met (app_of c.in-Ok.abd) c.in-Ok.ensures (map string_bytes c.args.words.now) _ c.command_in.result clap.kinds (λ simple. (clap.matches simple).1) c.command_in.ensures.makes).1
+    (met (app_of c.in-Ok.abd) c.in-Ok.ensures (map string_bytes c.args.words.now) _ c.answer_to.result clap.kinds (λ simple. (clap.matches simple).1) c.answer_to.ensures.makes).1
 
 pub returns-in-Err-clause-not_asked : goal.returns-in-Err-clause-not_asked
 returns-in-Err-clause-not_asked c =

@@ -11,8 +11,9 @@ returns c = λ scene arrow.
     let to = λ (m : Message). cond (is_request m) (replica_side scene arrow) (client_side scene arrow) in
     record {
       begins = refl;
-      arrives = λ row is. ap (λ (e : ArrowEnd). end_y scene e) is;
-      lost = λ row is. ap (λ (e : ArrowEnd). end_y scene e) is;
+      arrives = λ row is. ap (λ (e : ArrowEnd). end_y arrow.begins e) is;
+      stale = λ row is. (ap (λ (e : ArrowEnd). end_y arrow.begins e) is, ap (λ (e : ArrowEnd). end_x scene e arrow) is);
+      lost = λ row is. ap (λ (e : ArrowEnd). end_y arrow.begins e) is;
       request = λ row replica request is sent. (ap from sent, ap (λ (e : ArrowEnd). end_x scene e arrow) is ∙ ap to sent);
       reply = λ row name reply is sent. (ap from sent, ap (λ (e : ArrowEnd). end_x scene e arrow) is ∙ ap to sent);
     }

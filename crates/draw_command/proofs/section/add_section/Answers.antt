@@ -1,6 +1,7 @@
 use Rattle.std.proofs.Common.{ℕ, List, refl, subst, sym}
 use Rattle.std.proofs.lemmas.Result.{on_ok_weaker}
 use Rattle.tag.specs.declared.numbers.OpId.{OpId}
+use Rattle.pictures.specs.declared.keys.CallKeys.TheVariants as keys
 use Rattle.draw_command.specs.Drawings.{IsWhy}
 use Rattle.judged_keys.specs.Judgements.{judgement_of}
 use Rattle.draw_command.proofs.Framing.{section_added}
@@ -19,7 +20,7 @@ returns c =
     let key = c.args.key.now in
     on_ok_weaker c.append_section.result
     (section_added task.numbered.now task.drawn c.args.n (judgement_of key) c.as_slice.result.now
-    (record { key = key.one.now.key; hall = hall; part = record { ref_ptr = (0, 0); now = key.one.now.part }; scene = record { ref_ptr = (0, 0); now = c.in_ok-scene.scene }; faulty = c.as_slice-faulty.result })
+    (record { keys = keys.One key.one.now.key; hall = hall; part = record { ref_ptr = (0, 0); now = key.one.now.part }; scene = record { ref_ptr = (0, 0); now = c.in_ok-scene.scene }; faulty = c.as_slice-faulty.result })
     (record {
       of_key = refl;
       of_part = refl;

@@ -1,4 +1,4 @@
-use Rattle.std.proofs.Common.{◌+◌, ◌||◌, Bool, ◌∙◌, ap, map, take}
+use Rattle.std.proofs.Common.{◌+◌, ◌||◌, Bool, ap, map, take}
 use Rattle.parallel_keys.proofs.Fronts.{mapped_more}
 use Rattle.parallel_keys.specs.KeysToCheck.{what_of}
 use Rattle.judged_keys.proofs.Judgements.{parted_more}

@@ -2,7 +2,6 @@ use Rattle.std.proofs.Common.{Option, List, ◌≡◌, refl, sym, subst, ap, ◌
 use Rattle.quorum.specs.Quorums.{Quorums}
 use Rattle.recorder.specs.Halls.{AreHalls}
 use Rattle.recorder.specs.Histories.{Recorded}
-use Rattle.node_threads.specs.declared.closing.ClosedHall.{ClosedHall}
 use Rattle.parallel_keys.specs.CheckedKeys.{AreDistinct}
 use Rattle.run_command.specs.Records.{quorums_in, record_of}
 use Rattle.run_command.proofs.Distinct.{joined_distinct}

@@ -1,7 +1,7 @@
 use Rattle.std.proofs.Common.{List, ◌∷◌, [], refl, sym, subst}
 use Rattle.counted_devices.specs.DeviceStates.{DeviceStates, states}
 use Rattle.cli.specs.declared.status.Status.{Status}
-use Rattle.load.specs.declared.load_run.Refused.{Refused}
+use Rattle.load_run.specs.declared.load_run.Refused.{Refused}
 use Rattle.run_command.specs.Messages.{ReceivesLines, close_line, refusal_lines}
 use Rattle.run_command.specs.Runs.{EndsRun}
 use Rattle.run_command.proofs.Ending.{ends_closed, ends_open}

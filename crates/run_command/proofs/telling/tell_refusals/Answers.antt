@@ -1,6 +1,6 @@
 use Rattle.std.proofs.Common.{List, ◌+◌, ◌≡◌, ◌∷◌, ap, drop, subst, sym, ◌∙◌}
 use Rattle.std.proofs.lemmas.List.{drop_more}
-use Rattle.load.specs.declared.load_run.Refused.{Refused}
+use Rattle.load_run.specs.declared.load_run.Refused.{Refused}
 use Rattle.run_command.specs.Messages.{ReceivesLines, refusal_lines}
 use Rattle.run_command.proofs.Saying.{between}
 use Rattle.run_command.proofs.telling.tell_refusals.Goals as goal

@@ -1,7 +1,6 @@
-use Rattle.std.proofs.Common.{ℕ, [], subst}
+use Rattle.std.proofs.Common.{subst}
 use Rattle.recorder.specs.Histories.{Recorded}
 use Rattle.recorder.specs.Records.{IsPart}
-use Rattle.message_scenes.specs.Sketches.{IsSketched}
 use Rattle.trace_command.proofs.observed.observe_run.Goals as goal
 
 pub returns-clause-scene : goal.returns-clause-scene
@@ -12,7 +11,7 @@ returns-clause-scene c =
     record {
       last = run.world;
       scene_is = c.into_scene.ensures c.args.script c.args.most run.world sketch
-          (subst (λ (n : ℕ). IsSketched (record { replicas = n; most = c.args.most }) [] sketch) c.replicas.ensures.count c.new-sketch.ensures)
+          (rw c.quorums.ensures at c.new-sketch.ensures)
           c.in_ok-run.ensures.first;
       recorded = history.history;
       sound = λ key part is. history.parts key part (subst (λ (h : Recorded). IsPart h.rows key part) history.history is);

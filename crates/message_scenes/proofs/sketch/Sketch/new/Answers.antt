@@ -4,5 +4,5 @@ use Rattle.message_scenes.proofs.sketch.Sketch.new.Goals as goal
 
 pub returns : goal.returns
 returns c =
-    none_shown (IsDrawing c.args.replicas c.new.result) c.args.most c.new-2.result
-    (record { count = c.new.ensures.replicas; shapes = c.new.ensures.shapes }) c.new-2.ensures
+    none_shown (IsDrawing c.args.quorums c.new.result) c.args.most c.new-2.result
+    (record { same = c.new.ensures.quorums; shapes = c.new.ensures.shapes }) c.new-2.ensures

@@ -1,4 +1,4 @@
-use Rattle.std.proofs.Common.{refl}
+use Rattle.std.proofs.Common.{Some, refl}
 use Rattle.message_scenes.specs.declared.sketch.Sketch.{Sketch}
 use Rattle.message_scenes.proofs.Drawing.{step_added, step_left_out}
 use Rattle.message_scenes.proofs.sketch.SketchObserver.after.Goals as goal
@@ -8,8 +8,9 @@ returns-in_ok-add-in-Some c =
     let old = c.args.self.now in
     let new : Sketch = record { scene = c.add.new.self; quota = old.quota } in
     let h = c.in_ok-add-in-Some.ensures in
-    rw c.in-Some.is (λ first origin s step will steps. step_added first old new origin s c.args.world.now step c.in-Some.coming will (h.shapes s)
-    h.replicas refl steps.0 steps.2)
+    rw c.in-Some.is (λ first origin s step will steps. step_added first old new origin s c.args.world.now step c.in-Some.coming will (Some c.args.effect.now) steps.1
+    (h.shapes s)
+    h.quorums refl steps.0 steps.2)
 
 pub returns-in-None : goal.returns-in-None
 returns-in-None c =

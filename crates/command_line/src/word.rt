@@ -1,0 +1,126 @@
+//! The words of a command, as clap takes them.
+ghost use Rattle.std.specs.Prelude.{◌≡◌, [], None, codes, false, map, IfOk};
+ghost use Rattle.clap.specs.Words.{rule_of};
+ghost use Rattle.command_line.specs.CommandWords.{IsForm, command_app, rule_by, rule_of_word};
+
+use crate::help::CommandHelp;
+use crate::word::Takes::{Argument, FreeArgument, Nothing, Number, Text, Texts};
+use clap::builder::ValueParser;
+use clap::{Arg, ArgAction, Command};
+use load::ranges::NumberRange;
+use std::alloc::{AllocError, Global};
+
+/// What a word is, and what stands in its place or after it.
+#[derive(Clone, Copy)]
+pub(crate) enum Takes {
+    /// An argument, which has to be there.
+    Argument,
+    /// An argument, which may be missing.
+    FreeArgument,
+    /// An option, after which nothing stands.
+    Nothing,
+    /// An option, after which a text stands.
+    Text,
+    /// Such an option, which may be given more than once.
+    Texts,
+    /// An option, after which one of these numbers stands.
+    Number(NumberRange),
+}
+
+/// A word of a command.
+#[derive(Clone, Copy)]
+pub(crate) struct Word<'a> {
+    /// Its name.
+    name: &'a str,
+    /// What help calls what stands after it; nothing of an argument.
+    value: &'a str,
+    /// What stands there if it isn't given; `None` if nothing does.
+    default: Option<&'a str>,
+    /// What it is, and what stands in its place or after it.
+    takes: Takes,
+    /// What help says of it.
+    help: &'a str,
+}
+
+impl<'a> Word<'a> {
+    /// The argument, or the option after which nothing stands, of that name.
+    pub(crate) fn new(name: &'a str, takes: Takes, help: &'a str) -> Word<'a>
+        ensures name { result.name ≡ name.entry }
+        ensures takes { result.takes ≡ takes }
+        ensures default { result.default ≡ None }
+    {
+        Word::option(name, "", None, takes, help)
+    }
+
+    /// The option of that name, after which something stands that help calls so.
+    pub(crate) fn option(
+        name: &'a str,
+        value: &'a str,
+        default: Option<&'a str>,
+        takes: Takes,
+        help: &'a str,
+    ) -> Word<'a>
+        ensures name { result.name ≡ name.entry }
+        ensures takes { result.takes ≡ takes }
+        ensures default { result.default ≡ default.entry }
+    {
+        Word {
+            name,
+            value,
+            default,
+            takes,
+            help,
+        }
+    }
+
+    /// The word without its default.
+    fn bare(&self, alloc: Global) -> Arg<'a>
+        ensures rule { rule_of result ≡ rule_by self.now.takes self.now.name.now }
+        ensures local { result.global ≡ false }
+    {
+        let named = Arg::new(alloc, self.name).help(self.help);
+        match self.takes {
+            Argument => named.required(true),
+            FreeArgument => named,
+            Nothing => named.long(self.name).action(ArgAction::SetTrue),
+            Text => named.long(self.name).value_name(self.value),
+            Texts => named
+                .long(self.name)
+                .value_name(self.value)
+                .action(ArgAction::Append),
+            Number(range) => named.long(self.name).value_name(self.value).value_parser(
+                ValueParser::signed(i64::from(range.least), i64::from(range.most)),
+            ),
+        }
+    }
+
+    /// The word as clap takes it.
+    fn argument(&self, alloc: Global) -> Arg<'a>
+        ensures rule { rule_of result ≡ rule_of_word self.now }
+        ensures local { result.global ≡ false }
+    {
+        let bare = self.bare(alloc);
+        match self.default {
+            Some(default) => bare.default_value(default),
+            None => bare,
+        }
+    }
+}
+
+/// The command of that name, with what help says of it, and its words, in their order.
+pub(crate) fn command_of<'a>(
+    alloc: Global,
+    name: &'a str,
+    says: CommandHelp,
+    words: &[Word<'a>],
+) -> Result<Command<'a>, AllocError>
+    ensures { IfOk result (IsForm (command_app name.entry.now (map rule_of_word words.now))) }
+{
+    let mut made = Command::new(alloc, name)
+        .about(says.about)
+        .after_help(says.after);
+    for word in words {
+        made = made.arg(word.argument(alloc))?;
+    }
+    Ok(made)
+}

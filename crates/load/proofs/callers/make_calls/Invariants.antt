@@ -1,5 +1,0 @@
-use Rattle.load.specs.Callers.{HasMade, IsOpenSeat}
-use Rattle.load.proofs.callers.make_calls.Given as goal
-
-abbrev pub invariant-loop-number : goal.invariant-loop-number
-invariant-loop-number g l = record { made : HasMade l.work l.number l.seat; open_seat : IsOpenSeat l.store.config l.seat }

@@ -1,0 +1,5 @@
+pub mod Callers
+pub mod LoadErrors
+pub mod LoadStores
+pub mod Loads
+pub mod Passes

@@ -1,0 +1,5 @@
+mod Zips
+mod Judging
+mod Showing
+mod Halls
+mod Paging

@@ -1,0 +1,3 @@
+pub mod Together
+pub mod WholeScenes
+pub mod WholePages

@@ -1,0 +1,82 @@
+//! What a page says and shows of histories.
+ghost use Rattle.std.specs.Prelude.{◌≡◌, ◌<◌, IfOk, List, Some, length, map, slice_get};
+ghost use Rattle.recorder.specs.Histories.{Recorded};
+ghost use Rattle.recorder.specs.Records.{AreParts};
+ghost use Rattle.recorder.specs.declared.order.KeyOrder.{KeyOrder};
+ghost use Rattle.parallel_keys.specs.CheckedKeys.{KeyParts};
+ghost use Rattle.parallel_keys.specs.KeysToCheck.{what_of};
+ghost use Rattle.judged_keys.specs.Files.{HaveKeys};
+ghost use Rattle.judged_keys.specs.Halls.{HasLinesOfEach};
+ghost use Rattle.draw_command.specs.Making.{Adds};
+ghost use Rattle.whole_pictures.specs.Together.{found_with};
+ghost use Rattle.whole_pictures.specs.WholePages.{IsWholeContent};
+
+use crate::section::{add_others, add_section, hall_at};
+use crate::together::Together;
+use crate::whole::Task;
+use cli::Found;
+use parallel_keys::KeyToCheck;
+use pictures::append_legend;
+use recorder::laws::the_parts_are_one_list;
+use std::alloc::Global;
+use tag::Memory;
+
+/// What was found of all, after one more.
+fn with(found: Found, together: &Together<'_>) -> Found
+    ensures { result ≡ found_with found together.now }
+{
+    match together {
+        Together::Ordered(_) => found,
+        Together::Refused(_) => Found::Refused,
+        Together::Undecided(_) => match found {
+            Found::Refused => Found::Refused,
+            Found::Good => Found::Undecided,
+            Found::Undecided => Found::Undecided,
+        },
+    }
+}
+
+/// How many keys the hall of that number has.
+fn key_count(task: &Task<'_>, number: usize) -> Result<usize, Memory>
+    requires lines { HasLinesOfEach task.now.numbered.now }
+    requires number { number < length task.now.numbered.now.histories.halls }
+    ensures { IfOk result (λ count. (history : Recorded) (parts : KeyParts)
+        → slice_get task.now.numbered.now.histories.halls number ≡ Some history
+        → AreParts history.rows parts → count ≡ length parts) }
+{
+    the_parts_are_one_list();
+    let hall = hall_at(task.numbered, number);
+    let parts = hall.history.parts()?;
+    Ok(parts.len())
+}
+
+/// Adds a section for each hall, and one of the keys without calls if one of them is refused. What was
+/// found of all.
+pub(crate) fn add_halls(
+    alloc: Global,
+    page: &mut Vec<u8>,
+    task: &Task<'_>,
+    keys: &[KeyToCheck<'_>],
+) -> Result<Found, Memory>
+    requires lines { HasLinesOfEach task.now.numbered.now }
+    requires keys { (orders : List KeyOrder)
+        × HaveKeys task.now.numbered.now.histories orders (map what_of keys.now) }
+    ensures { IfOk result (λ found. Adds (IsWholeContent task.now.numbered.now task.now.drawn
+        (map what_of keys.now) found) page.old.items page.new.items) }
+{
+    append_legend(page)?;
+    let halls = task.numbered.histories.halls().len();
+    let mut found = Found::Good;
+    let mut from = 0usize;
+    for number in 0..halls {
+        let count = key_count(task, number)?;
+        let (_earlier, left) = keys.split_at(from);
+        let (own, _later) = left.split_at(count);
+        let together = add_section(alloc, page, task, number, own)?;
+        found = with(found, &together);
+        from += count;
+    }
+    let (_of_halls, rest) = keys.split_at(from);
+    let together = add_others(alloc, page, task, rest)?;
+    Ok(with(found, &together))
+}
