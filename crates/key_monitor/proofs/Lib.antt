@@ -1,0 +1,11 @@
+pub mod Meaning
+pub mod Growing
+pub mod Answering
+pub mod Judging
+pub mod Showing
+pub mod Passing
+pub mod Candidates
+pub mod Keeping
+pub mod Opens
+pub mod AllRead
+pub mod Following

@@ -1,0 +1,16 @@
+use Rattle.std.proofs.Common.{refl}
+use Rattle.kept_zones.specs.Overwriting.{last_of}
+use Rattle.key_monitor.proofs.Opens.{some_of}
+use Rattle.key_monitor.proofs.Passing.{all_kept, one_gone}
+use Rattle.key_monitor.proofs.forgetting.forget_one.Goals as goal
+
+pub returns-in-Some : goal.returns-in-Some
+returns-in-Some c =
+    let s = some_of (last_of c.args.zones.now.zones c.in-Some.end) c.in-Some.ensures.0 in (
+      c.remove.ensures.zones,
+      λ part source row k. one_gone part source row c.args.place c.args.zones.now k c.in-Some.end s.0
+          c.remove.new.self s.1 c.in-Some.ensures.1 c.remove.ensures.zones (c.remove.ensures.floor s.0 s.1),
+    )
+
+pub returns-in-None : goal.returns-in-None
+returns-in-None c = (refl, λ part source row k. all_kept part source row c.args.place c.args.zones.now k c.in-None.ensures)
