@@ -8,10 +8,10 @@ their time, so that many are under way at once. Each run has to end within 10 se
 docs/FORMATS.md names. What is said of one refused allocation below holds there too, but for test_store: any row may come out otherwise,
 and the lines may end.
 
-- abd: a check, an explain and a draw with orders and one each without, two decides, a draw by values, a justify of each kind, a simulate, a
-  trace and its page. With a refusal a run has the very answer of a run without one, or status 4, nothing on standard output and one line on standard error, which names memory
-  and a line of the file, or the number after its last if all lines were read. The first line that is named is line 1, and a later
-  allocation never names an earlier line.
+- abd: a check, an explain and a draw with orders and one each without, two decides, a draw by values, two draws of all keys together, a
+  justify of each kind, a simulate, a trace and its page. With a refusal a run has the very answer of a run without one, or status 4, nothing
+  on standard output and one line on standard error, which names memory and a line of the file, or the number after its last if all lines
+  were read. The first line that is named is line 1, and a later allocation never names an earlier line.
 - abd run: with a refusal it writes a history that justify and check say yes of, and of its callers no more is said than that a call
   was refused, or that one was unavailable (a replica's thread may have met the refusal); or status 4, nothing on standard output, and
   after such lines one that names memory or a thread.
@@ -143,6 +143,8 @@ COMMANDS = [
     ["draw", "two_calls.history", "two_calls_refused.orders"],
     ["draw", "new_then_old.history"],
     ["draw", "--by", "values", "skipped_write_back.history"],
+    ["draw", "--whole", "two_calls.history", "two_calls_refused.orders"],
+    ["draw", "--whole", "--by", "values", "new_then_old.history"],
     ["justify", "new_then_old.history"],
     ["justify", "--by", "values", "new_then_old.history"],
     ["simulate", "new_then_old.script"],
