@@ -1,0 +1,13 @@
+pub mod Rows
+pub mod Standing
+pub mod GoingOn
+pub mod NextCall
+pub mod NextParts
+pub mod Without
+pub mod Leaving
+pub mod Staying
+pub mod Beginning
+pub mod Answering
+pub mod Empty
+pub mod Places
+pub mod Orders

@@ -1,0 +1,3 @@
+pub mod PartsWithout
+pub mod Nothing
+pub mod NextRows
