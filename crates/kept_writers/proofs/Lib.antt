@@ -2,3 +2,4 @@ pub mod Overwriters
 pub mod Greatest
 pub mod Choosing
 pub mod Standing
+mod Emptiness

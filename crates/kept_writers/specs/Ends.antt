@@ -19,3 +19,14 @@ abbrev pub IsGreatestBefore : List (ℕ × ℕ) → ℕ → Option ℕ → Type 
 IsGreatestBefore ends place None = (other : ℕ) → other < place → number_at ends other ≡ None
 IsGreatestBefore ends place (Some end) = (end < place) × IsSome (number_at ends end)
     × ((other number : ℕ) → other < place → number_at ends other ≡ Some number → other ≤ end)
+
+-- the least end, with its number
+abbrev pub IsLeastEnd : List (ℕ × ℕ) → Option (ℕ × ℕ) → Type 0
+IsLeastEnd ends None = (other : ℕ) → number_at ends other ≡ None
+IsLeastEnd ends (Some e) = (number_at ends e.0 ≡ Some e.1)
+    × ((other number : ℕ) → number_at ends other ≡ Some number → e.0 ≤ other)
+
+-- the least end after that one, with its number
+abbrev pub IsLeastEndAfter : List (ℕ × ℕ) → ℕ → Option (ℕ × ℕ) → Type 0
+IsLeastEndAfter ends end None = (other : ℕ) → end < other → number_at ends other ≡ None
+IsLeastEndAfter ends end (Some e) = (end < e.0) × (number_at ends e.0 ≡ Some e.1)

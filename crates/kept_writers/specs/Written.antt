@@ -1,5 +1,5 @@
 -- The kept writes of one value, and how they change.
-use Rattle.std.specs.Prelude.{ℕ, ◌≡◌, ◌≢◌, List, Some, None}
+use Rattle.std.specs.Prelude.{ℕ, ◌≡◌, ◌≢◌, ◌⊎◌, List, Some, None, IsSome}
 use Rattle.kept_writers.specs.Candidates.{begin_at}
 use Rattle.kept_writers.specs.Ends.{number_at}
 
@@ -8,6 +8,16 @@ use Rattle.kept_writers.specs.Ends.{number_at}
 pub record Written : Type 0 where
   pub begins : List (ℕ × ℕ)
   pub ends : List (ℕ × ℕ)
+
+-- there are none
+pub record AreNone (written : Written) : Type 0 where
+  pub begins : (number : ℕ) → begin_at written.begins number ≡ None
+  pub ends : (end : ℕ) → number_at written.ends end ≡ None
+
+-- there is one
+abbrev pub AreSome : Written → Type 0
+AreSome written = ((number : ℕ) × IsSome (begin_at written.begins number))
+    ⊎ ((end : ℕ) × IsSome (number_at written.ends end))
 
 -- none of them has that number
 pub record IsNew (written : Written) (number : ℕ) : Type 0 where

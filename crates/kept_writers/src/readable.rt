@@ -21,7 +21,7 @@ pub enum Candidates {
 }
 
 /// The least number.
-fn least(begins: &Begins) -> Option<u32>
+pub(crate) fn least(begins: &Begins) -> Option<u32>
     ensures { IsLeast begins.now.entries result }
 {
     match begins.first_key_value() {

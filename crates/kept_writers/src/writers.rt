@@ -1,11 +1,11 @@
 //! The kept writes of one value.
-ghost use Rattle.std.specs.Prelude.{◌≡◌, ◌≤◌, ℕ, [], Some, None, IsSome, OnOk, OnErr};
+ghost use Rattle.std.specs.Prelude.{◌≡◌, ◌≤◌, ℕ, [], Some, None, IsSome, MatchBool, OnOk, OnErr};
 ghost use Rattle.kept_writers.specs.Candidates.{AreCandidates, begin_at};
-ghost use Rattle.kept_writers.specs.Ends.{number_at};
-ghost use Rattle.kept_writers.specs.Written.{HasBegin, HasEnd, IsNew, LacksEnd};
+ghost use Rattle.kept_writers.specs.Ends.{IsLeastEnd, IsLeastEndAfter, number_at};
+ghost use Rattle.kept_writers.specs.Written.{AreNone, AreSome, HasBegin, HasEnd, IsNew, LacksEnd};
 
-use crate::ends::Ends;
-use crate::readable::{Begins, Candidates, readable_writes};
+use crate::ends::{Ends, first_end, first_end_after};
+use crate::readable::{Begins, Candidates, least, readable_writes};
 use kept_zones::Zones;
 use std::alloc::Global;
 use std::collections::BTreeMap;
@@ -70,6 +70,27 @@ impl Writers {
         ensures { LacksEnd self.old end self.new }
     {
         self.ends.remove(&end);
+    }
+
+    /// Whether there is none.
+    pub fn is_empty(&self) -> bool
+        ensures { MatchBool result (AreNone self.now) (AreSome self.now) }
+    {
+        least(&self.begins).is_none() && first_end(&self.ends).is_none()
+    }
+
+    /// The first end, with the number of its write.
+    pub fn first_ended(&self) -> Option<(u64, u32)>
+        ensures { IsLeastEnd self.now.ends result }
+    {
+        first_end(&self.ends)
+    }
+
+    /// The first end after that one, with the number of its write.
+    pub fn next_ended(&self, end: u64) -> Option<(u64, u32)>
+        ensures { IsLeastEndAfter self.now.ends end result }
+    {
+        first_end_after(&self.ends, end)
     }
 
     /// Which of the writes a read that began at the place may have read.

@@ -1,0 +1,11 @@
+mod Maps
+mod Indexing
+mod Finding
+mod Fresh
+mod Standing
+mod Following
+mod Rows
+mod Passing
+mod Nothing
+mod Seen
+mod FirstCalls

@@ -1,0 +1,12 @@
+pub mod Maps
+pub mod Indexes
+pub mod Indexed
+pub mod Readable
+pub mod Together
+pub mod Held
+pub mod Kept
+pub mod Followed
+pub mod Verdicts
+pub mod Changes
+pub mod Passes
+pub mod FirstCalls

@@ -1,0 +1,16 @@
+//! What a monitor knows of one key, which judges the key's calls by their values while they come.
+//!
+//! It forgets what no later call can touch. A row takes about the logarithm of what is kept, and a kept write has its
+//! value's text twice.
+#![tactic(auto)]
+
+mod by_value;
+mod judged;
+mod kept;
+pub mod laws;
+mod monitored_key;
+mod write;
+mod writes;
+
+pub use judged::{Judged, Refusal};
+pub use monitored_key::MonitoredKey;
